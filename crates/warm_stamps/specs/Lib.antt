@@ -1,0 +1,3 @@
+pub mod Buckets
+pub mod Distinct
+pub mod Stamps

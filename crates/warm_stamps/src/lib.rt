@@ -1,0 +1,167 @@
+//! Stamps, pages, references and buckets: the small values that every other crate speaks of.
+//!
+//! A *page* is a block of a numbered device. A *stamp* says when, by the clock of whoever reports
+//! it, and at which replica a page was referenced. A *reference* is a page with a stamp; the same
+//! page with the same stamp, reported twice, is one reference. A *bucket* is one of 64 classes of
+//! pages, by which replicas exchange what they know in parts.
+//!
+//! The order of each type is total, and only equal values tie; `specs/Stamps.antt` defines it.
+//! Nothing here takes memory.
+#![tactic(auto)]
+
+ghost use Rattle.std.specs.Prelude.{◌≡◌, ℕ, ◌+◌, ◌<◌, ◌≤◌, ◌↔◌, IfOk, IfSome, IsOk, IsSome};
+ghost use Rattle.warm_stamps.specs.Buckets.{page_bucket};
+
+use std::marker::Model;
+
+/// The number of a replica, from 1 to 64.
+#[derive(Debug, Clone, Copy, PartialEq, Eq, PartialOrd, Ord)]
+pub struct ReplicaId {
+    number: u16,
+}
+
+impl Model for ReplicaId {
+    ghost use Rattle.std.specs.Prelude.{ℕ, ◌<◌, ◌≤◌};
+
+    ghost Value = { ℕ };
+
+    ghost view = { λ replica. replica.number };
+
+    ghost invariant = { λ replica. (0 < replica.number) × (replica.number ≤ 64) };
+
+    ghost inverse = { λ number. record { number = number } };
+}
+
+/// A number that names no replica: 0, or one above 64.
+#[derive(Debug, Clone, Copy, PartialEq, Eq)]
+pub struct BadReplica;
+
+impl ReplicaId {
+    /// The replica of this number. `BadReplica` comes exactly for a number outside 1 to 64.
+    pub fn new(number: u16) -> Result<ReplicaId, BadReplica>
+        ensures value { IfOk result (λ replica. replica ≡ number) }
+        ensures taken { IsOk result ↔ ((0 < number) × (number ≤ 64)) }
+    {
+        if number == 0 || number > 64 {
+            return Err(BadReplica);
+        }
+        Ok(ReplicaId { number })
+    }
+
+    /// The replica's number.
+    pub fn get(self) -> u16
+        ensures value { result ≡ self }
+        ensures low { 0 < result }
+        ensures high { result ≤ 64 }
+    {
+        self.number
+    }
+}
+
+/// When a page was referenced, and at which replica. Stamps are ordered by time, then replica.
+#[derive(Debug, Clone, Copy, PartialEq, Eq, PartialOrd, Ord)]
+pub struct Stamp {
+    /// The time of the reference, in units of the caller's own clock.
+    pub time: u64,
+    /// The replica that saw it.
+    pub replica: ReplicaId,
+}
+
+/// A page: its device and its number there. Pages are ordered by device, then number.
+#[derive(Debug, Clone, Copy, PartialEq, Eq, PartialOrd, Ord)]
+pub struct PageId {
+    /// The device's number.
+    pub dev: u16,
+    /// The page's number on the device.
+    pub no: u32,
+}
+
+/// One reference: a page with a stamp. References are ordered by page, then stamp.
+#[derive(Debug, Clone, Copy, PartialEq, Eq, PartialOrd, Ord)]
+pub struct Reference {
+    /// The page that was referenced.
+    pub page: PageId,
+    /// When and where.
+    pub stamp: Stamp,
+}
+
+/// One of the 64 classes, 0 to 63, into which pages fall.
+#[derive(Debug, Clone, Copy, PartialEq, Eq, PartialOrd, Ord)]
+pub struct Bucket {
+    index: u8,
+}
+
+impl Model for Bucket {
+    ghost use Rattle.std.specs.Prelude.{ℕ, ◌<◌};
+
+    ghost Value = { ℕ };
+
+    ghost view = { λ bucket. bucket.index };
+
+    ghost invariant = { λ bucket. bucket.index < 64 };
+
+    ghost inverse = { λ index. record { index = index } };
+}
+
+impl Bucket {
+    /// The bucket of this number. `None` comes exactly for a number above 63.
+    pub fn new(number: u8) -> Option<Bucket>
+        ensures value { IfSome result (λ bucket. bucket ≡ number) }
+        ensures taken { IsSome result ↔ (number < 64) }
+    {
+        if number < 64 {
+            Some(Bucket { index: number })
+        } else {
+            None
+        }
+    }
+
+    /// The bucket's number.
+    pub fn get(self) -> u8
+        ensures value { result ≡ self }
+        ensures below { result < 64 }
+    {
+        self.index
+    }
+}
+
+/// The bucket of a page: its device's number plus its own, modulo 64. The sum doesn't wrap.
+pub fn bucket_of(page: PageId) -> Bucket
+    ensures { result ≡ page_bucket page }
+{
+    let sum = u64::from(page.dev) + u64::from(page.no);
+    Bucket {
+        index: (sum % 64) as u8,
+    }
+}
+
+#[cfg(test)]
+mod tests {
+    use super::*;
+
+    #[test]
+    fn replicas_are_numbered_from_1_to_64(rt: HostRuntime) {
+        assert_eq!(rt; ReplicaId::new(0), Err(BadReplica));
+        assert_eq!(rt; ReplicaId::new(65), Err(BadReplica));
+        assert_eq!(rt; ReplicaId::new(1).map(|replica| replica.get()), Ok(1));
+        assert_eq!(rt; ReplicaId::new(64).map(|replica| replica.get()), Ok(64));
+    }
+
+    #[test]
+    fn buckets_are_numbered_from_0_to_63(rt: HostRuntime) {
+        assert_eq!(rt; Bucket::new(0).map(|bucket| bucket.get()), Some(0));
+        assert_eq!(rt; Bucket::new(63).map(|bucket| bucket.get()), Some(63));
+        assert_eq!(rt; Bucket::new(64), None);
+    }
+
+    #[test]
+    fn a_page_falls_into_the_bucket_of_its_sum(rt: HostRuntime) {
+        for (dev, no, want) in [(0, 1, 1), (0, 65, 1), (1, 0, 1), (65535, 4294967295, 62)] {
+            assert_eq!(rt;
+                bucket_of(PageId { dev, no }).get(),
+                want,
+                "page {dev}:{no}"
+            );
+        }
+    }
+}
