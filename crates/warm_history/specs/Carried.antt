@@ -1,0 +1,26 @@
+-- What a replica sends of a bucket at a time.
+use Rattle.std.specs.Prelude.{ℕ, ◌==◌, ◌&&◌, Bool, true, List, filter, take, Option, Some, None}
+use Rattle.std.specs.List.{list_any}
+use Rattle.std.specs.Ordering.{is_eq, is_lt}
+use Rattle.warm_stamps.specs.declared.PageId.{PageId}
+use Rattle.warm_stamps.specs.declared.Reference.{Reference}
+use Rattle.warm_stamps.specs.Buckets.{page_bucket}
+use Rattle.warm_stamps.specs.Stamps.{page_cmp}
+use Rattle.warm_history.specs.Histories.{pages}
+
+-- the page p is greater than the one given, if one is
+abbrev pub comes_after : Option PageId → PageId → Bool
+comes_after None p = true
+comes_after (Some last) p = is_lt (page_cmp last p)
+
+-- the page is in the bucket, and after the one given
+abbrev pub is_chosen : ℕ → Option PageId → PageId → Bool
+is_chosen bucket after p = (page_bucket p == bucket) && comes_after after p
+
+-- the first pages of S, at most limit, of those in the bucket that come after the one given
+abbrev pub pages_carried : List Reference → ℕ → Option PageId → ℕ → List PageId
+pages_carried S bucket after limit = take limit (filter (is_chosen bucket after) (pages S))
+
+-- the references of S to these pages
+abbrev pub carried : List Reference → ℕ → Option PageId → ℕ → List Reference
+carried S bucket after limit = filter (λ r. list_any (λ p. is_eq (page_cmp p r.page)) (pages_carried S bucket after limit)) S

@@ -1,0 +1,6 @@
+pub mod Histories
+pub mod Carried
+pub mod Laws
+pub mod Places
+pub mod References
+pub mod LatestTwo

@@ -1,0 +1,121 @@
+//! The history of one page.
+ghost use Rattle.std.specs.Prelude.{◌≡◌, [], ◌∷◌, ◌++◌};
+ghost use Rattle.warm_history.specs.Histories.{latest_of, stamps_held, held};
+ghost use Rattle.warm_stamps.specs.Stamps.{stamp_cmp};
+
+use std::cmp::Ordering;
+use std::marker::Model;
+use warm_stamps::{PageId, Stamp};
+
+/// Two stamps of a page, of which `prev` is the older.
+#[derive(Debug, Clone, Copy, PartialEq, Eq)]
+pub struct Two {
+    last: Stamp,
+    prev: Stamp,
+}
+
+impl Model for Two {
+    ghost use Rattle.std.specs.Prelude.{◌≡◌};
+    ghost use Rattle.std.specs.declared.cmp.Ordering.TheVariants.{Less};
+    ghost use Rattle.warm_stamps.specs.Stamps.{stamp_cmp};
+    ghost use Rattle.warm_history.specs.LatestTwo.{LatestTwo};
+
+    ghost Value = { LatestTwo };
+
+    ghost view = { λ two. record { last = two.last; prev = two.prev } };
+
+    ghost invariant = { λ two. stamp_cmp two.prev two.last ≡ Less };
+
+    ghost inverse = { λ two. record { last = two.last; prev = two.prev } };
+}
+
+impl Two {
+    /// The two stamps.
+    pub fn new(last: Stamp, prev: Stamp) -> Two
+        requires { stamp_cmp prev last ≡ Ordering.Less }
+        ensures { result ≡ record { last = last; prev = prev } }
+    {
+        Two { last, prev }
+    }
+
+    pub fn last(self) -> Stamp
+        ensures { result ≡ self.last }
+    {
+        self.last
+    }
+
+    pub fn prev(self) -> Stamp
+        ensures value { result ≡ self.prev }
+        ensures older { stamp_cmp result self.last ≡ Ordering.Less }
+    {
+        self.prev
+    }
+
+    /// The two latest of these stamps and one more.
+    pub fn with(self, stamp: Stamp) -> Two
+        ensures { Some (PageHist.Twice result) ≡ latest_of (stamp ∷ self.last ∷ self.prev ∷ []) }
+    {
+        let last = self.last();
+        let prev = self.prev();
+        if last < stamp {
+            Two::new(stamp, last)
+        } else if stamp < last && prev < stamp {
+            Two::new(last, stamp)
+        } else {
+            self
+        }
+    }
+}
+
+/// The latest stamps of a page: one, or two.
+#[derive(Debug, Clone, Copy, PartialEq, Eq)]
+pub enum PageHist {
+    Once(Stamp),
+    Twice(Two),
+}
+
+/// A page with its latest stamps.
+#[derive(Debug, Clone, Copy, PartialEq, Eq)]
+pub struct Entry {
+    pub page: PageId,
+    pub hist: PageHist,
+}
+
+impl PageHist {
+    /// The two latest of these stamps and one more.
+    pub(crate) fn with(self, stamp: Stamp) -> PageHist
+        ensures { Some result ≡ latest_of (stamp ∷ stamps_held self) }
+    {
+        match self {
+            PageHist::Once(last) => match stamp.cmp(&last) {
+                Ordering::Less => PageHist::Twice(Two::new(last, stamp)),
+                Ordering::Equal => PageHist::Once(last),
+                Ordering::Greater => PageHist::Twice(Two::new(stamp, last)),
+            },
+            PageHist::Twice(two) => PageHist::Twice(two.with(stamp)),
+        }
+    }
+}
+
+/// The two latest stamps of both.
+pub fn join_hist(a: PageHist, b: PageHist) -> PageHist
+    ensures { Some result ≡ latest_of (stamps_held a ++ stamps_held b) }
+{
+    match a {
+        PageHist::Once(last) => b.with(last),
+        PageHist::Twice(two) => b.with(two.prev()).with(two.last()),
+    }
+}
+
+/// The two latest stamps of what is known of a page and of more.
+pub(crate) fn join_known(known: Option<PageHist>, more: PageHist) -> PageHist
+    ensures { Some result ≡ latest_of (stamps_held more ++ held known) }
+{
+    match known {
+        None => match more {
+            PageHist::Once(last) => PageHist::Once(last),
+            PageHist::Twice(two) => PageHist::Once(two.prev()).with(two.last()),
+        },
+        Some(known) => join_hist(more, known),
+    }
+}
