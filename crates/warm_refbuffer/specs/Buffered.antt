@@ -1,0 +1,24 @@
+-- What waits in a buffer, and how its refusals are numbered.
+use Rattle.std.specs.Prelude.{ℕ, ◌≤◌, List, codes}
+use Rattle.warm_stamps.specs.declared.Reference.{Reference}
+use Rattle.warm_refbuffer.specs.declared.BufferFault.{BufferFault}
+use Rattle.warm_refbuffer.specs.declared.BufferFault.TheVariants.{Memory, BadCapacity}
+
+-- the references that wait, the oldest first, and the most that the buffer holds
+pub record Buffered : Type 0 where
+  pub refs : List Reference
+  pub cap : ℕ
+
+-- a capacity that a buffer can have
+pub record IsCapacity (cap : ℕ) : Type 0 where
+  pub from_one : 1 ≤ cap
+  pub in_range : cap ≤ 1024
+
+-- the number and the name of each refusal
+abbrev pub code_of : BufferFault → ℕ
+code_of Memory = 1
+code_of BadCapacity = 2
+
+abbrev pub name_of : BufferFault → List ℕ
+name_of Memory = codes "Memory"
+name_of BadCapacity = codes "BadCapacity"

@@ -1,0 +1,224 @@
+//! A worker's buffer of references.
+//!
+//! A worker that references pages puts each reference into a buffer of its own, and the buffer moves to
+//! the replica's history in one piece. A buffer takes all its room when it is made, so that putting a
+//! reference into it takes no memory.
+#![tactic(auto)]
+
+ghost use Rattle.std.specs.Prelude.{◌≡◌, ◌≤◌, ◌<◌, [], ◌∷◌, ◌++◌, length, IsOk, IfOk, IsTrue, ◌↔◌, codes};
+ghost use Rattle.warm_refbuffer.specs.Buffered.{IsCapacity, code_of, name_of};
+
+use std::alloc::Global;
+use std::marker::Model;
+use warm_stamps::Reference;
+
+/// The most references that a buffer may be made for.
+const MOST: usize = 1024;
+
+/// The references that a worker has made since its buffer was last cleared, oldest first, and how many
+/// the buffer holds (1 to 1024). Contracts see `Buffered`: the list `refs` and the number `cap`.
+#[derive(Debug, Drop)]
+pub struct RefBuffer {
+    refs: Vec<Reference>,
+    cap: usize,
+}
+
+impl Model for RefBuffer {
+    ghost use Rattle.std.specs.Prelude.{◌≤◌, length, vec_capacity};
+    ghost use Rattle.warm_refbuffer.specs.Buffered.{Buffered, IsCapacity};
+
+    ghost Value = { Buffered };
+
+    ghost view = { λ b. record { refs = b.refs.items; cap = b.cap } };
+
+    ghost invariant = { λ b. IsCapacity b.cap × (length b.refs.items ≤ b.cap) × (b.cap ≤ vec_capacity b.refs) };
+}
+
+/// Why no buffer was made.
+#[derive(Clone, Copy, Debug, PartialEq, Eq)]
+pub enum BufferFault {
+    /// 1: there was no memory for the room.
+    Memory,
+    /// 2: the capacity is outside 1 to 1024.
+    BadCapacity,
+}
+
+impl BufferFault {
+    /// The number of the refusal: 1 or 2.
+    pub fn code(self) -> u8
+        ensures { result ≡ code_of self }
+    {
+        match self {
+            BufferFault::Memory => 1,
+            BufferFault::BadCapacity => 2,
+        }
+    }
+
+    /// Its name, as the variant is written.
+    pub fn name(self) -> &'static str
+        ensures { result.now ≡ name_of self }
+    {
+        match self {
+            BufferFault::Memory => "Memory",
+            BufferFault::BadCapacity => "BadCapacity",
+        }
+    }
+}
+
+/// 3: the buffer is full. The reference that it could not take comes back.
+#[derive(Clone, Copy, Debug, PartialEq, Eq)]
+pub struct Full(pub Reference);
+
+impl Full {
+    /// The number of the refusal: 3.
+    pub fn code(self) -> u8
+        ensures { result ≡ 3 }
+    {
+        3
+    }
+
+    /// Its name: `Full`.
+    pub fn name(self) -> &'static str
+        ensures { result.now ≡ codes "Full" }
+    {
+        "Full"
+    }
+}
+
+impl RefBuffer {
+    /// An empty buffer for `cap` references, whose room is taken here.
+    ///
+    /// Refused as `BadCapacity` where `cap` is outside 1 to 1024, and else as `Memory` where the room is
+    /// refused.
+    pub fn new(alloc: Global, cap: usize) -> Result<RefBuffer, BufferFault>
+        ensures value { IfOk result (λ b. b ≡ record { refs = []; cap = cap }) }
+        ensures capacity { IsOk result → IsCapacity cap }
+        ensures bad { (result ≡ Err BufferFault.BadCapacity) ↔ (¬ IsCapacity cap) }
+    {
+        if cap < 1 || cap > MOST {
+            return Err(BufferFault::BadCapacity);
+        }
+        match Vec::with_capacity(alloc, cap) {
+            Ok(refs) => Ok(RefBuffer { refs, cap }),
+            Err(_) => Err(BufferFault::Memory),
+        }
+    }
+
+    /// The references that wait, oldest first.
+    pub fn refs(&self) -> &[Reference]
+        ensures { result.now ≡ self.now.refs }
+    {
+        self.refs.as_slice()
+    }
+
+    /// How many references wait.
+    pub fn len(&self) -> usize
+        ensures value { result ≡ length self.now.refs }
+        ensures bound { result ≤ self.now.cap }
+    {
+        self.refs.len()
+    }
+
+    /// Whether nothing waits.
+    pub fn is_empty(&self) -> bool
+        ensures { IsTrue result ↔ (self.now.refs ≡ []) }
+    {
+        self.refs.is_empty()
+    }
+
+    /// How many references the buffer holds at most.
+    pub fn cap(&self) -> usize
+        ensures value { result ≡ self.now.cap }
+        ensures capacity { IsCapacity result }
+    {
+        self.cap
+    }
+
+    /// Whether the next reference would be refused.
+    pub fn is_full(&self) -> bool
+        ensures { IsTrue result ↔ (self.now.cap ≤ length self.now.refs) }
+    {
+        self.cap <= self.refs.len()
+    }
+
+    /// Puts a reference last. It takes no memory. A full buffer hands the reference back and stays as
+    /// it was.
+    pub fn touch(&mut self, reference: Reference) -> Result<(), Full>
+        ensures taken { length self.old.refs < self.old.cap
+            → IsOk result × (self.new ≡ record self.old { refs = self.old.refs ++ reference ∷ [] }) }
+        ensures full { self.old.cap ≤ length self.old.refs
+            → (result ≡ Err (record { 0 = reference })) × (self.new ≡ self.old) }
+    {
+        if self.refs.len() < self.cap {
+            self.refs.push_reserved(reference);
+            return Ok(());
+        }
+        Err(Full(reference))
+    }
+
+    /// Empties the buffer, and keeps its room.
+    pub fn clear(&mut self)
+        ensures { self.new ≡ record self.old { refs = [] } }
+    {
+        self.refs.clear();
+    }
+}
+
+#[cfg(test)]
+mod tests {
+    use super::*;
+    use std::test::Fail;
+    use warm_stamps::{PageId, ReplicaId, Stamp};
+
+    fn reference(replica: ReplicaId, time: u64) -> Reference {
+        Reference {
+            page: PageId { dev: 0, no: 1 },
+            stamp: Stamp { time, replica },
+        }
+    }
+
+    #[test]
+    fn takes_as_many_as_it_holds(rt: HostRuntime) -> Result<(), Fail> {
+        let Ok(replica) = ReplicaId::new(1) else {
+            panic!(rt; "1 is a replica");
+        };
+        let Ok(mut buffer) = RefBuffer::new(rt.alloc(), 64) else {
+            panic!(rt; "64 references have room");
+        };
+        assert!(rt; buffer.is_empty());
+        for time in 1..=64u64 {
+            assert_eq!(rt; buffer.touch(reference(replica, time)), Ok(()));
+        }
+        assert!(rt; buffer.is_full());
+        let Err(full) = buffer.touch(reference(replica, 65)) else {
+            panic!(rt; "the buffer took one more than it holds");
+        };
+        assert_eq!(rt; full, Full(reference(replica, 65)));
+        assert_eq!(rt; (full.code(), full.name()), (3, "Full"));
+        assert_eq!(rt; (buffer.len(), buffer.cap()), (64, 64));
+        assert_eq!(rt; buffer.refs().first().copied(), Some(reference(replica, 1)));
+        assert_eq!(rt; buffer.refs().last().copied(), Some(reference(replica, 64)));
+        buffer.clear();
+        assert_eq!(rt; (buffer.len(), buffer.cap()), (0, 64));
+        Ok(())
+    }
+
+    #[test]
+    fn refuses_other_capacities(rt: HostRuntime) {
+        for cap in [0, 1025] {
+            let Err(fault) = RefBuffer::new(rt.alloc(), cap) else {
+                panic!(rt; "a capacity of {cap} was taken");
+            };
+            assert_eq!(rt; fault, BufferFault::BadCapacity);
+            assert_eq!(rt; (fault.code(), fault.name()), (2, "BadCapacity"));
+        }
+        for cap in [1, 1024] {
+            let Ok(buffer) = RefBuffer::new(rt.alloc(), cap) else {
+                panic!(rt; "a capacity of {cap} was refused");
+            };
+            assert_eq!(rt; buffer.cap(), cap);
+        }
+        let memory = BufferFault::Memory;
+        assert_eq!(rt; (memory.code(), memory.name()), (1, "Memory"));
+    }
+}
