@@ -1,0 +1,118 @@
+-- Distances, the order in which pages leave, victims and warm-up lists, computed on small lists of references.
+use Rattle.std.proofs.Common.{◌≡◌, ◌≢◌, ℕ, zero, suc, List, [], ◌∷◌, refl, sym, subst, Some, None, arith}
+use Rattle.std.specs.List.{Contains}
+use Rattle.std.specs.declared.cmp.Ordering.TheVariants.{Less}
+use Rattle.warm_stamps.specs.declared.PageId.{PageId}
+use Rattle.warm_stamps.specs.declared.Reference.{Reference}
+use Rattle.warm_rank.specs.Ranking.{dist, leaving_cmp, IsBefore, IsVictim, warm}
+
+-- the page 0:n
+abbrev page : ℕ → PageId
+page n = record { dev = 0; no = n }
+
+-- a reference to the page 0:n at a time, at replica 1
+abbrev seen : ℕ → ℕ → Reference
+seen n time = record { page = page n; stamp = record { time = time; replica = 1 } }
+
+-- ---- a page that was referenced twice, and then a scan of two pages
+
+abbrev scan : List Reference
+scan = seen 1 1 ∷ seen 1 2 ∷ seen 5 10 ∷ seen 6 11 ∷ []
+
+scan_distance : dist scan (page 1) ≡ Some 3
+scan_distance = refl
+
+scan_first_infinite : dist scan (page 5) ≡ None
+scan_first_infinite = refl
+
+scan_second_infinite : dist scan (page 6) ≡ None
+scan_second_infinite = refl
+
+-- a reference that is told twice counts once
+told_twice : dist (seen 5 10 ∷ seen 1 2 ∷ scan) (page 1) ≡ Some 3
+told_twice = refl
+
+-- the scan leaves first, its older page before the other
+scan_leaves : leaving_cmp scan (page 6) (page 1) ≡ Less
+unfolding leaving_cmp
+scan_leaves = refl
+
+older_leaves : leaving_cmp scan (page 5) (page 6) ≡ Less
+unfolding leaving_cmp
+older_leaves = refl
+
+-- a page without a reference leaves before them, and of two such pages the lesser
+unknown_leaves : leaving_cmp scan (page 7) (page 5) ≡ Less
+unfolding leaving_cmp
+unknown_leaves = refl
+
+lesser_unknown_leaves : leaving_cmp scan (page 7) (page 8) ≡ Less
+unfolding leaving_cmp
+lesser_unknown_leaves = refl
+
+scan_victim : IsVictim scan (page 1 ∷ page 5 ∷ page 6 ∷ []) (Some (page 5))
+unfolding leaving_cmp
+scan_victim = ((1, omega arith, refl), before)
+  where
+    before : (q : PageId) → Contains (page 1 ∷ page 5 ∷ page 6 ∷ []) q → q ≢ page 5 → IsBefore scan (page 5) q
+    before q (zero, lt, is) differ = subst (IsBefore scan (page 5)) is refl
+    before q (suc zero, lt, is) differ = absurd (differ (sym is))
+    before q (suc (suc zero), lt, is) differ = subst (IsBefore scan (page 5)) is refl
+    before q (suc (suc (suc k)), lt, is) differ = absurd (omega arith)
+
+-- ---- two pages that were referenced twice: the one whose references lie farther apart leaves, though it was referenced last
+
+abbrev apart : List Reference
+apart = seen 1 1 ∷ seen 1 100 ∷ seen 2 50 ∷ seen 2 60 ∷ []
+
+apart_distance_1 : dist apart (page 1) ≡ Some 3
+apart_distance_1 = refl
+
+apart_distance_2 : dist apart (page 2) ≡ Some 2
+apart_distance_2 = refl
+
+farther_leaves : leaving_cmp apart (page 1) (page 2) ≡ Less
+unfolding leaving_cmp
+farther_leaves = refl
+
+apart_victim : IsVictim apart (page 1 ∷ page 2 ∷ []) (Some (page 1))
+unfolding leaving_cmp
+apart_victim = ((0, omega arith, refl), before)
+  where
+    before : (q : PageId) → Contains (page 1 ∷ page 2 ∷ []) q → q ≢ page 1 → IsBefore apart (page 1) q
+    before q (zero, lt, is) differ = absurd (differ (sym is))
+    before q (suc zero, lt, is) differ = subst (IsBefore apart (page 1)) is refl
+    before q (suc (suc k), lt, is) differ = absurd (omega arith)
+
+-- ---- the hottest pages, the hottest first
+
+abbrev heated : List Reference
+heated = seen 5 1 ∷ seen 2 2 ∷ seen 2 3 ∷ seen 9 4 ∷ seen 9 5 ∷ []
+
+heated_distance_5 : dist heated (page 5) ≡ None
+heated_distance_5 = refl
+
+heated_distance_2 : dist heated (page 2) ≡ Some 3
+heated_distance_2 = refl
+
+heated_distance_9 : dist heated (page 9) ≡ Some 1
+heated_distance_9 = refl
+
+heated_first : leaving_cmp heated (page 5) (page 2) ≡ Less
+unfolding leaving_cmp
+heated_first = refl
+
+heated_second : leaving_cmp heated (page 2) (page 9) ≡ Less
+unfolding leaving_cmp
+heated_second = refl
+
+warm_three : warm heated 3 ≡ page 9 ∷ page 2 ∷ page 5 ∷ []
+unfolding leaving_cmp
+warm_three = refl
+
+warm_two : warm heated 2 ≡ page 9 ∷ page 2 ∷ []
+unfolding leaving_cmp
+warm_two = refl
+
+warm_none : warm heated 0 ≡ []
+warm_none = refl

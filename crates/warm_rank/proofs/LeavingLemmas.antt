@@ -1,0 +1,60 @@
+-- The order in which pages leave.
+use Rattle.std.proofs.Common.{◌≡◌, take, sym, ap, ◌∙◌, inl, inr, List}
+use Rattle.std.specs.Cmp.Lexicographic.{options_total}
+use Rattle.std.specs.Ordering.{flip_args, ordering_then}
+use Rattle.std.specs.declared.cmp.Ordering.TheVariants.{Less, Equal, Greater}
+use Rattle.std.proofs.lemmas.Cmp.{tied_itself, then_total, on_total, back_total, nat_cmp_total}
+use Rattle.warm_stamps.specs.declared.PageId.{PageId}
+use Rattle.warm_stamps.specs.declared.Reference.{Reference}
+use Rattle.warm_stamps.specs.Stamps.{page_cmp}
+use Rattle.warm_stamps.specs.Distinct.{distinct}
+use Rattle.warm_stamps.proofs.DistinctLemmas.{IsStrictOrder, by_cases, flipped}
+use Rattle.warm_stamps.proofs.StampLemmas.{both_tie, stamp_order, page_order}
+use Rattle.warm_history.specs.Histories.{hist, pages, refs}
+use Rattle.warm_history.proofs.HistoryLemmas.{hist_refs-history, pages_alike}
+use Rattle.warm_history.proofs.SetLemmas.{hist_of_set}
+use Rattle.warm_rank.specs.Keys.{rank_key, key_cmp}
+use Rattle.warm_rank.specs.Ranking.{dist, latest, leaving_cmp, farther_cmp, older_cmp}
+use Rattle.warm_rank.specs.Laws.{LeavingIsOrder, OrderKept, RankAlike, SameReferencesRankAlike}
+use Rattle.warm_rank.proofs.KeyLemmas.{keys_rank}
+
+pub leaving_order : (S : List Reference) → IsStrictOrder (leaving_cmp S)
+unfolding leaving_cmp
+leaving_order S = record {
+  total = then_total (on_total (dist S) (options_total (back_total nat_cmp_total))) (then_total (on_total (latest S) (options_total stamp_order.total)) page_order.total);
+  same = λ p q e.
+      let last = both_tie (farther_cmp (dist S p) (dist S q)) (ordering_then (older_cmp (latest S p) (latest S q)) (page_cmp p q)) e in
+      page_order.same p q (both_tie (older_cmp (latest S p) (latest S q)) (page_cmp p q) last.1).1;
+}
+
+pub leaving_is_order : LeavingIsOrder
+leaving_is_order S =
+    let order = leaving_order S in
+    record {
+      total = λ p q differ. by_cases (leaving_cmp S p q) _ (λ less. inl less) (λ tied. absurd (differ (order.same p q tied))) (λ more. inr (flipped (leaving_cmp S) order p q Greater more));
+      transitive = order.total.trans;
+      irreflexive = λ p less. let no_less : Less ≡ Equal = sym less ∙ tied_itself order.total p in absurd (cc);
+    }
+
+-- ---- lists that say the same of each page rank pages alike
+
+leave_alike : (S T : List Reference) → ((p : PageId) → hist S p ≡ hist T p) → (p q : PageId) → leaving_cmp S p q ≡ leaving_cmp T p q
+leave_alike S T alike p q =
+    sym (keys_rank S p q)
+    ∙ ap (λ x. key_cmp (rank_key p x) (rank_key q (hist S q))) (alike p)
+    ∙ ap (λ x. key_cmp (rank_key p (hist T p)) (rank_key q x)) (alike q)
+    ∙ keys_rank T p q
+
+pub rank_alike : (S T : List Reference) → ((p : PageId) → hist S p ≡ hist T p) → RankAlike S T
+rank_alike S T alike =
+    let order : leaving_cmp S ≡ leaving_cmp T = λ i p q. leave_alike S T alike p q i in
+    record {
+      leave_alike = leave_alike S T alike;
+      warm_alike = λ n. ap (λ c. take n (distinct (flip_args c) (pages S))) order ∙ ap (λ ps. take n (distinct (flip_args (leaving_cmp T)) ps)) (pages_alike S T alike);
+    }
+
+pub order_kept : OrderKept
+order_kept h S stands = rank_alike (refs h) S (λ p. ap (λ g. hist (refs g) p) stands ∙ hist_refs-history S p)
+
+pub same_references_rank_alike : SameReferencesRankAlike
+same_references_rank_alike S T same = rank_alike S T (hist_of_set S T same)

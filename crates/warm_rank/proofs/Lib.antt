@@ -1,0 +1,7 @@
+pub mod Counting
+mod Examples
+pub mod KeyLemmas
+pub mod LeavingLemmas
+pub mod SlotLemmas
+pub mod SortLemmas
+pub mod WarmUpLemmas

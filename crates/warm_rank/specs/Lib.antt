@@ -1,0 +1,5 @@
+pub mod Greatest
+pub mod Keys
+pub mod Laws
+pub mod Ranking
+pub mod Slots

@@ -1,0 +1,59 @@
+-- In which order pages leave: by backward 2-distance, counted over a list of references.
+use Rattle.std.specs.Prelude.{◌≡◌, ◌≢◌, ℕ, List, [], ◌∷◌, Option, Some, None, count_by, take, Contains, MatchOption}
+use Rattle.std.specs.Option.{option_cmp}
+use Rattle.std.specs.Ordering.{is_lt, nat_cmp, on, then_cmp, flip_args}
+use Rattle.std.specs.declared.cmp.Ordering.{Ordering}
+use Rattle.std.specs.declared.cmp.Ordering.TheVariants.{Less}
+use Rattle.warm_stamps.specs.declared.Stamp.{Stamp}
+use Rattle.warm_stamps.specs.declared.PageId.{PageId}
+use Rattle.warm_stamps.specs.declared.Reference.{Reference}
+use Rattle.warm_stamps.specs.Stamps.{stamp_cmp, page_cmp, reference_cmp}
+use Rattle.warm_stamps.specs.Distinct.{distinct}
+use Rattle.warm_history.specs.Histories.{stamps, pages}
+
+-- how many references of S, each counted once, are later than the stamp s
+abbrev pub count_later : List Reference → Stamp → ℕ
+count_later S s = count_by (λ r. is_lt (stamp_cmp s r.stamp)) (distinct reference_cmp S)
+
+-- how many references of S are later than the second of these stamps, none where there is no second
+abbrev pub distance_from : List Reference → List Stamp → Option ℕ
+distance_from S [] = None
+distance_from S (last ∷ []) = None
+distance_from S (last ∷ prev ∷ older) = Some (count_later S prev)
+
+-- the backward 2-distance of the page p over S, none where it is infinite
+abbrev pub dist : List Reference → PageId → Option ℕ
+dist S p = distance_from S (stamps S p)
+
+-- the first of a list of stamps, if there is one
+abbrev pub first : List Stamp → Option Stamp
+first [] = None
+first (last ∷ older) = Some last
+
+-- the latest stamp of the page p in S, if it has one
+abbrev pub latest : List Reference → PageId → Option Stamp
+latest S p = first (stamps S p)
+
+-- the greater distance first, and an infinite one before all others
+abbrev pub farther_cmp : Option ℕ → Option ℕ → Ordering
+farther_cmp = option_cmp (flip_args nat_cmp)
+
+-- the older stamp first, and none before all others
+abbrev pub older_cmp : Option Stamp → Option Stamp → Ordering
+older_cmp = option_cmp stamp_cmp
+
+-- the order in which pages leave: the greatest distance first, of equal ones the oldest latest stamp, then the least page
+unfoldable pub leaving_cmp : List Reference → PageId → PageId → Ordering
+leaving_cmp S = then_cmp (on (dist S) farther_cmp) (then_cmp (on (latest S) older_cmp) page_cmp)
+
+-- the page p leaves before the page q
+abbrev pub IsBefore : List Reference → PageId → PageId → Type 0
+IsBefore S p q = leaving_cmp S p q ≡ Less
+
+-- the page of U that leaves before every other page of U, none where U is empty
+abbrev pub IsVictim : List Reference → List PageId → Option PageId → Type 0
+IsVictim S U victim = MatchOption victim (U ≡ []) (λ p. Contains U p × ((q : PageId) → Contains U q → q ≢ p → IsBefore S p q))
+
+-- the n pages named in S that leave last, the last of all first
+abbrev pub warm : List Reference → ℕ → List PageId
+warm S n = take n (distinct (flip_args (leaving_cmp S)) (pages S))

@@ -1,0 +1,37 @@
+//! The laws of the order in which pages leave. Each is a function without a body, whose contract is the law.
+ghost use Rattle.std.specs.Prelude.{◌≡◌};
+ghost use Rattle.warm_rank.specs.declared.RankKey.{RankKey};
+ghost use Rattle.warm_rank.specs.Keys.{key_cmp};
+ghost use Rattle.warm_rank.specs.Laws.{KeysRank, LeavingIsOrder, LeastKeyIsVictim, OrderKept, SameReferencesRankAlike};
+
+use crate::RankKey;
+
+/// The order of `RankKey` in Rust is the order of keys of which the other laws speak.
+pub fn keys_compare()
+    ensures { (j k : RankKey) → ⟦<RankKey as Ord>⟧.cmp j k ≡ key_cmp j k }
+{}
+
+/// Keys compare as their pages leave: of two pages, the one with the lesser key leaves first.
+pub fn keys_rank()
+    ensures { KeysRank }
+{}
+
+/// The order in which pages leave is total on pages that differ.
+pub fn leaving_is_order()
+    ensures { LeavingIsOrder }
+{}
+
+/// The page in the slot of the least key is the victim among the pages in the slots.
+pub fn least_key_is_victim()
+    ensures { LeastKeyIsVictim }
+{}
+
+/// The two stamps of each page that a history keeps rank pages, and list them for a warm-up, as all references do.
+pub fn order_kept()
+    ensures { OrderKept }
+{}
+
+/// Lists of the same references rank pages alike and have the same warm-up lists.
+pub fn same_references_rank_alike()
+    ensures { SameReferencesRankAlike }
+{}

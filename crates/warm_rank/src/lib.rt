@@ -1,0 +1,106 @@
+//! Ranks: in which order pages leave a buffer pool, and which pages to load first after a failover.
+//!
+//! The policy is LRU-2 (O'Neil, O'Neil, Weikum, "The LRU-K Page Replacement Algorithm For Database Disk Buffering",
+//! SIGMOD 1993): the page of the greatest backward 2-distance leaves first. The definitions count that distance over a
+//! list of references; the code compares a [`RankKey`] made of the two stamps that a history keeps, and the laws show
+//! that the two orders are one.
+//!
+//! - [`key_of`] gives the key of a page, [`leaving_order`] compares two pages.
+//! - [`Contest`] keeps a key for each slot of a pool and finds the slot of the least.
+//! - [`warm_list`] lists the pages that leave last, the hottest first.
+#![tactic(auto)]
+
+ghost use Rattle.std.specs.Prelude.{◌≡◌, List, Some};
+ghost use Rattle.warm_stamps.specs.declared.Reference.{Reference};
+ghost use Rattle.warm_history.specs.Histories.{StandsFor};
+ghost use Rattle.warm_rank.specs.Keys.{rank_key, page_of};
+ghost use Rattle.warm_rank.specs.Ranking.{leaving_cmp};
+
+pub mod laws;
+mod page_list;
+mod slots;
+#[cfg(test)]
+mod tests;
+mod warm_up;
+
+pub use page_list::PageList;
+pub use slots::Contest;
+use std::cmp::Ordering;
+use warm_history::hist::PageHist;
+use warm_history::history::History;
+use warm_stamps::{PageId, Stamp};
+pub use warm_up::warm_list;
+
+/// The rank of a page, by its two latest stamps. Of two pages, the one with the lesser key leaves first.
+///
+/// The derived order is the eviction order: pages that were never referenced, by page; then pages that were referenced
+/// once, by that stamp, then page; then pages that were referenced twice or more, by the second latest stamp, then the
+/// latest, then page. [`key_of`] makes the key of a page.
+#[derive(Debug, Clone, Copy, PartialEq, Eq, PartialOrd, Ord)]
+pub enum RankKey {
+    /// A page without a known reference.
+    Never {
+        page: PageId,
+    },
+    /// A page with one known reference: its distance is infinite.
+    Once {
+        last: Stamp,
+        page: PageId,
+    },
+    /// A page with two known references or more: its latest stamp, and the one before it.
+    Twice {
+        prev: Stamp,
+        last: Stamp,
+        page: PageId,
+    },
+}
+
+impl RankKey {
+    /// The page whose rank this is.
+    pub fn page(self) -> PageId
+        ensures { result ≡ page_of self }
+    {
+        match self {
+            RankKey::Never { page } => page,
+            RankKey::Once { last: _, page } => page,
+            RankKey::Twice {
+                prev: _,
+                last: _,
+                page,
+            } => page,
+        }
+    }
+}
+
+/// The key of a page, from what a history says of it. Takes no memory.
+pub fn key_of(page: PageId, hist: Option<PageHist>) -> RankKey
+    ensures { result ≡ rank_key page hist }
+{
+    match hist {
+        None => RankKey::Never { page },
+        Some(hist) => key_of_referenced(page, hist),
+    }
+}
+
+fn key_of_referenced(page: PageId, hist: PageHist) -> RankKey
+    ensures { result ≡ rank_key page (Some hist) }
+{
+    match hist {
+        PageHist::Once(last) => RankKey::Once { last, page },
+        PageHist::Twice(two) => {
+            let prev = two.prev();
+            let last = two.last();
+            RankKey::Twice { prev, last, page }
+        }
+    }
+}
+
+/// Which of two pages leaves first: `Less` where `page` does, `Greater` where `other` does, `Equal` where they are one
+/// page. Takes no memory.
+pub fn leaving_order(history: &History, page: PageId, other: PageId) -> Ordering
+    ensures { (S : List Reference) → StandsFor history.now S → result ≡ leaving_cmp S page other }
+{
+    let key = key_of(page, history.get(page));
+    let other_key = key_of(other, history.get(other));
+    key.cmp(&other_key)
+}

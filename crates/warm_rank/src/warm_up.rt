@@ -1,0 +1,75 @@
+//! The pages to load first.
+ghost use Rattle.std.specs.Prelude.{◌≡◌, ◌<◌, List, length, map, reverse, IfOk, IsPermutation, IsSorted};
+ghost use Rattle.warm_stamps.specs.declared.Reference.{Reference};
+ghost use Rattle.warm_history.specs.Histories.{StandsFor, history};
+ghost use Rattle.warm_rank.specs.Greatest.{AreGreatest};
+ghost use Rattle.warm_rank.specs.Keys.{entry_key, key_cmp, page_of};
+ghost use Rattle.warm_rank.specs.Ranking.{warm};
+
+use crate::{RankKey, key_of};
+use std::alloc::{AllocError, Global};
+use warm_history::hist::Entry;
+use warm_history::history::History;
+use warm_stamps::PageId;
+
+/// The warm-up list: the `n` pages of a history that leave last, the hottest first; all pages where it has fewer.
+///
+/// Time grows with the number of pages, and with `n log n`.
+///
+/// # Errors
+/// `AllocError` where there is no memory for a key of each page and for the list.
+pub fn warm_list(alloc: Global, history: &History, n: usize) -> Result<Vec<PageId>, AllocError>
+    ensures { (S : List Reference) → StandsFor history.now S → IfOk result (λ pages. pages.items ≡ warm S n) }
+{
+    let mut keys = keys_of(alloc, history)?;
+    let pages = hottest_pages(alloc, &mut keys, n)?;
+    Ok(pages)
+}
+
+// The keys of all entries.
+fn keys_of(alloc: Global, history: &History) -> Result<Vec<RankKey>, AllocError>
+    ensures { IfOk result (λ keys. keys.items ≡ map entry_key history.now) }
+{
+    let mut keys = Vec::with_capacity(alloc, history.len())?;
+    for entry in history.iter() {
+        keys.push(key_of_entry(entry))?;
+    }
+    Ok(keys)
+}
+
+fn key_of_entry(entry: Entry) -> RankKey
+    ensures { result ≡ entry_key entry }
+{
+    key_of(entry.page, Some(entry.hist))
+}
+
+// The warm-up list from the keys of a history's entries, in any order. Where only some are asked for, the rest is set
+// apart first and never sorted.
+fn hottest_pages(alloc: Global, keys: &mut [RankKey], n: usize) -> Result<Vec<PageId>, AllocError>
+    ensures { (S : List Reference) → keys.old ≡ map entry_key (history S) → IfOk result (λ pages. pages.items ≡ warm S n) }
+{
+    if n < keys.len() {
+        return falling_pages(alloc, greatest(keys, n));
+    }
+    falling_pages(alloc, keys)
+}
+
+// The n greatest items, in any order.
+fn greatest<K: Ord>(items: &mut [K], n: usize) -> &mut [K]
+    requires { n < length items.old }
+    ensures { AreGreatest K.cmp items.old n result.now }
+{
+    let next = items.len() - 1 - n;
+    let (_, _, top) = items.select_nth_unstable(next);
+    top
+}
+
+// The pages of keys, that of the greatest first; the keys are sorted.
+fn falling_pages(alloc: Global, keys: &mut [RankKey]) -> Result<Vec<PageId>, AllocError>
+    ensures same_keys { IsPermutation keys.old keys.new }
+    ensures sorted { IsSorted key_cmp keys.new }
+    ensures pages { IfOk result (λ pages. pages.items ≡ map page_of (reverse keys.new)) }
+{
+    keys.sort_unstable();
+    keys.iter().rev().map(|key| key.page()).collect(alloc)
+}
