@@ -1,0 +1,6 @@
+pub mod Pairs
+pub mod Replicas
+pub mod Worlds
+pub mod Agreement
+pub mod Runs
+pub mod Examples

@@ -1,0 +1,43 @@
+use Rattle.std.proofs.Common.{◌≡◌, ℕ, ◌+◌, ◌<◌, ◌≤◌, subst, length, get_or, [], ap, refl, arith, inl, inr, true, false}
+use Rattle.std.proofs.lemmas.Bool.{cases_lt}
+use Rattle.warm_refbuffer.specs.Buffered.{Buffered}
+use Rattle.warm_world.specs.States.{pending, flushed, put_last}
+use Rattle.warm_world.specs.Next.{stamped}
+use Rattle.warm_world.specs.Stands.{buffered, ReplicaStands}
+use Rattle.warm_world.proofs.Replicas.{buffer_is, referred_when_full, referred_with_room, flushed_is_empty}
+use Rattle.warm_world.proofs.world.Replica.refer.Goals as goal
+
+pub returns-then-is_full-clause-ok : goal.returns-then-is_full-clause-ok
+returns-then-is_full-clause-ok c = λ room place m st.
+    let k = c.args.worker in
+    let was : c.index.result.now ≡ buffered room (get_or m.pending c.args.worker []) =
+    buffer_is room c.args.self.now.buffers.items m.pending k c.index.result.now st.buffers_are c.requires c.index.ensures in
+    let refs : length c.index.result.now.refs ≡ length (pending m c.args.worker) = ap (λ (b : Buffered). length b.refs) was in
+    let cap : c.index.result.now.cap ≡ room = ap (λ (b : Buffered). b.cap) was in
+    let seen : c.index.result.now.cap ≤ length c.index.result.now.refs = c.if-is_full.ensures.0 refl in
+    let full : room ≤ length (pending m c.args.worker) = omega arith in
+    let empty : length (pending (flushed c.args.worker m) c.args.worker) ≡ 0 =
+    ap length (flushed_is_empty room k c.args.self.now.buffers.items m st.buffers_are c.requires) in
+    let few : length (pending (flushed c.args.worker m) c.args.worker) < room = omega (arith, empty, st.has_room) in
+    let P : ℕ → Type 0 = λ i. ReplicaStands room place c.put.new.self (put_last k (stamped i c.args.page c.args.time) (flushed k m)) in
+    rw (referred_when_full room k (stamped (place + 1) c.args.page c.args.time) m full)
+    (subst P st.id (c.put.ensures room place (flushed k m) (c.in_ok-flush.ensures.ok room place m st) few))
+
+pub returns-clause-ok : goal.returns-clause-ok
+returns-clause-ok c = λ room place m st.
+    let k = c.args.worker in
+    let was : c.index.result.now ≡ buffered room (get_or m.pending c.args.worker []) =
+    buffer_is room c.args.self.now.buffers.items m.pending k c.index.result.now st.buffers_are c.requires c.index.ensures in
+    let refs : length c.index.result.now.refs ≡ length (pending m c.args.worker) = ap (λ (b : Buffered). length b.refs) was in
+    let cap : c.index.result.now.cap ≡ room = ap (λ (b : Buffered). b.cap) was in
+    let few : length (pending m c.args.worker) < room =
+    elim (cases_lt (length (pending m c.args.worker)) room) [
+      | inl lt ↦ lt
+      | inr le ↦
+          let seen : c.index.result.now.cap ≤ length c.index.result.now.refs = omega arith in
+          let never : false ≡ true = c.if-is_full.ensures.1 seen in
+          cc
+    ] in
+    let P : ℕ → Type 0 = λ i. ReplicaStands room place c.put-2.new.self (put_last k (stamped i c.args.page c.args.time) m) in
+    rw (referred_with_room room k (stamped (place + 1) c.args.page c.args.time) m few)
+    (subst P st.id (c.put-2.ensures room place m st few))

@@ -1,0 +1,74 @@
+-- A world stands for what its replicas were told.
+use Rattle.std.specs.Prelude.{◌≡◌, ℕ, ◌+◌, ◌<◌, List, [], length, map, slice_index_or}
+use Rattle.warm_stamps.specs.declared.Reference.{Reference}
+use Rattle.warm_history.specs.declared.hist.Entry.{Entry}
+use Rattle.warm_history.specs.Histories.{history}
+use Rattle.warm_history.specs.References.{HoldSame}
+use Rattle.warm_rank.specs.Laws.{RankAlike}
+use Rattle.warm_refbuffer.specs.Buffered.{Buffered}
+use Rattle.warm_world.specs.declared.world.World.{World}
+use Rattle.warm_world.specs.declared.world.Replica.{Replica}
+use Rattle.warm_world.specs.declared.world.Frame.{Frame}
+use Rattle.warm_world.specs.declared.event.Event.{Event}
+use Rattle.warm_world.specs.declared.event.Answer.{Answer}
+use Rattle.warm_world.specs.Lists.{Pairwise, IsNumber, place}
+use Rattle.warm_world.specs.States.{ModelState, ReplicaState, FrameRecord, References, reach_of}
+use Rattle.warm_world.specs.Next.{Next, Run, Shape}
+
+-- a buffer that holds these references
+abbrev pub buffered : ℕ → List Reference → Buffered
+buffered room refs = record { refs = refs; cap = room }
+
+-- a replica, by its place, has the history of what reached it, and in its buffers what waits
+pub record ReplicaStands (room place : ℕ) (r : Replica) (m : ReplicaState) : Type 0 where
+  pub has_room : 0 < room
+  pub id : r.id ≡ place + 1
+  pub history_is : r.history ≡ history m.reach
+  pub buffers_are : r.buffers.items ≡ map (buffered room) m.pending
+
+-- a kept frame has the sender of its record, and the page histories of the references that the record brings
+abbrev pub Spells : Frame → FrameRecord → Type 0
+Spells f (References sender refs) = (f.sender ≡ sender) × (f.entries.items ≡ history refs)
+
+-- the world stands for the model state: replica by replica, and frame by frame
+pub record StandsFor (w : World) (m : ModelState) : Type 0 where
+  pub replicas : Pairwise (ReplicaStands m.room) w.replicas.items m.replicas
+  pub frames : Pairwise (λ _. Spells) w.frames.items m.records
+
+-- what there is to be named in a world
+abbrev pub seen_shape : World → Shape
+seen_shape w = record { workers = map (λ r. length r.buffers.items) w.replicas.items; frames = length w.frames.items }
+
+-- the event leads to a state that the world stands for
+pub record Stepped (old : ModelState) (event : Event) (answer : Answer) (w : World) : Type 0 where
+  pub new : ModelState
+  pub next : Next old event answer new
+  pub stands : StandsFor w new
+
+-- the history of the replica of a number
+abbrev pub history_of : World → ℕ → List Entry
+history_of w i = slice_index_or (map (λ r. r.history) w.replicas.items) (place i) []
+
+-- each replica's history is exactly the two latest stamps of every page among the references that reached it
+abbrev pub HistoriesAreExact : World → ModelState → Type 0
+HistoriesAreExact w m = (i : ℕ) → IsNumber i (length m.replicas) → history_of w i ≡ history (reach_of m i)
+
+-- two replicas have one history, and the references that reached them rank pages alike: any two pages leave in the same
+-- order, and the warm-up lists of any length are the same
+pub record Agree (w : World) (m : ModelState) (i j : ℕ) : Type 0 where
+  pub histories : history_of w i ≡ history_of w j
+  pub ranking : RankAlike (reach_of m i) (reach_of m j)
+
+-- replicas that the same references reached agree
+abbrev pub ReplicasAgree : World → ModelState → Type 0
+ReplicasAgree w m = (i j : ℕ) → IsNumber i (length m.replicas) → IsNumber j (length m.replicas)
+    → HoldSame (reach_of m i) (reach_of m j) → Agree w m i j
+
+-- The events were answered so, one after another, and led to a state that the world stands for; so each history is
+-- exact, and replicas that the same references reached agree.
+pub record Ran (old : ModelState) (events : List Event) (answers : List Answer) (w : World) : Type 0 where
+  pub new : ModelState
+  pub run : Run old events answers new
+  pub stands : StandsFor w new
+  pub exact : HistoriesAreExact w new
+  pub agree : ReplicasAgree w new

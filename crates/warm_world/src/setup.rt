@@ -1,0 +1,140 @@
+//! How large a world is.
+ghost use Rattle.std.specs.Prelude.{◌≡◌, ◌↔◌, IsOk, IfOk, IsTrue};
+ghost use Rattle.warm_world.specs.Limits.{IsWithin};
+ghost use Rattle.warm_world.specs.Sizes.{IsSetup};
+
+use std::marker::Model;
+
+/// How large a world is. Contracts see `Sizes`, the five numbers, each within its limits.
+#[derive(Clone, Copy, Debug, PartialEq, Eq)]
+pub struct Setup {
+    replicas: u16,
+    workers: u16,
+    buffer: u16,
+    frames: u32,
+    page_size: u32,
+}
+
+impl Model for Setup {
+    ghost use Rattle.warm_world.specs.Sizes.{Sizes, IsSetup};
+
+    ghost Value = { Sizes };
+
+    ghost view = { λ s. record {
+      replicas = s.replicas;
+      workers = s.workers;
+      buffer = s.buffer;
+      frames = s.frames;
+      page_size = s.page_size;
+    } };
+
+    ghost invariant = { λ s. IsSetup (record {
+      replicas = s.replicas;
+      workers = s.workers;
+      buffer = s.buffer;
+      frames = s.frames;
+      page_size = s.page_size;
+    }) };
+
+    ghost inverse = { λ s. record {
+      replicas = s.replicas;
+      workers = s.workers;
+      buffer = s.buffer;
+      frames = s.frames;
+      page_size = s.page_size;
+    } };
+}
+
+/// One of the numbers is outside its limits.
+#[derive(Clone, Copy, Debug, PartialEq, Eq)]
+pub struct BadSetup;
+
+fn is_within(most: u32, n: u32) -> bool
+    ensures { IsTrue result ↔ IsWithin most n }
+{
+    1 <= n && n <= most
+}
+
+impl Setup {
+    /// A setup of `replicas` (1 to 64), `workers` of each (1 to 16), references that the `buffer` of a
+    /// worker holds (1 to 1024), `frames` of each replica's pool (1 to 65,536), and bytes of a page
+    /// (`page_size`, 1 to 65,536). `BadSetup` exactly where one of them is outside these limits.
+    pub fn new(
+        replicas: u16,
+        workers: u16,
+        buffer: u16,
+        frames: u32,
+        page_size: u32,
+    ) -> Result<Setup, BadSetup>
+        ensures taken { IsOk result ↔ IsSetup (record {
+          replicas = replicas;
+          workers = workers;
+          buffer = buffer;
+          frames = frames;
+          page_size = page_size;
+        }) }
+        ensures value { IfOk result (λ setup. setup ≡ record {
+          replicas = replicas;
+          workers = workers;
+          buffer = buffer;
+          frames = frames;
+          page_size = page_size;
+        }) }
+    {
+        if is_within(64, u32::from(replicas))
+            && is_within(16, u32::from(workers))
+            && is_within(1024, u32::from(buffer))
+            && is_within(65536, frames)
+            && is_within(65536, page_size)
+        {
+            return Ok(Setup {
+                replicas,
+                workers,
+                buffer,
+                frames,
+                page_size,
+            });
+        }
+        Err(BadSetup)
+    }
+
+    /// How many replicas there are: 1 to 64.
+    pub fn replicas(self) -> u16
+        ensures value { result ≡ self.replicas }
+        ensures limits { IsWithin 64 result }
+    {
+        self.replicas
+    }
+
+    /// How many workers each replica has: 1 to 16.
+    pub fn workers(self) -> u16
+        ensures value { result ≡ self.workers }
+        ensures limits { IsWithin 16 result }
+    {
+        self.workers
+    }
+
+    /// How many references the buffer of a worker holds: 1 to 1024.
+    pub fn buffer(self) -> u16
+        ensures value { result ≡ self.buffer }
+        ensures limits { IsWithin 1024 result }
+    {
+        self.buffer
+    }
+
+    /// How many frames the pool of each replica has: 1 to 65,536.
+    pub fn frames(self) -> u32
+        ensures value { result ≡ self.frames }
+        ensures limits { IsWithin 65536 result }
+    {
+        self.frames
+    }
+
+    /// How many bytes a page has: 1 to 65,536.
+    pub fn page_size(self) -> u32
+        ensures value { result ≡ self.page_size }
+        ensures limits { IsWithin 65536 result }
+    {
+        self.page_size
+    }
+}

@@ -1,0 +1,325 @@
+//! The world: its replicas, their workers' buffers, and the frames that were sent.
+ghost use Rattle.std.specs.Prelude.{◌≡◌, ℕ, ◌+◌, ◌<◌, ◌≤◌, List, [], ◌++◌, length, OnOk, OnErr, IfOk, IfErr, IsTrue, ◌↔◌, replicate};
+ghost use Rattle.warm_stamps.specs.declared.Reference.{Reference};
+ghost use Rattle.warm_history.specs.Histories.{history};
+ghost use Rattle.warm_refbuffer.specs.Buffered.{IsCapacity};
+ghost use Rattle.warm_world.specs.Lists.{IsNumber};
+ghost use Rattle.warm_world.specs.States.{ModelState, ReplicaState, pending, flushed, put_last, referred, received, restarted, opening, fresh};
+ghost use Rattle.warm_world.specs.Next.{IsNamed, IsMissing, stamped};
+ghost use Rattle.warm_world.specs.Stands.{ReplicaStands, StandsFor, seen_shape, Stepped, Ran, buffered};
+
+use crate::event::{Answer, Event, WorldFault};
+use crate::setup::Setup;
+use std::alloc::{AllocError, Global};
+use warm_history::hist::Entry;
+use warm_history::history::History;
+use warm_rank::{PageList, warm_list};
+use warm_refbuffer::{BufferFault, RefBuffer};
+use warm_stamps::{Bucket, PageId, Reference, ReplicaId, Stamp};
+
+/// The most entries that a frame has.
+const MOST_ENTRIES: usize = 1000;
+
+#[derive(Debug, Drop)]
+struct Replica {
+    id: ReplicaId,
+    history: History,
+    buffers: Vec<RefBuffer>,
+}
+
+// What a replica sent.
+#[derive(Debug, Drop)]
+struct Frame {
+    sender: ReplicaId,
+    entries: Vec<Entry>,
+}
+
+/// Replicas, their workers' buffers, and every frame that was sent.
+///
+/// Contracts tell of a world by the model states that it stands for (`StandsFor`): lists of all
+/// references that reached each replica, that wait in each buffer, and that each kept frame brings.
+/// A kept frame stays for as long as the world does, so memory grows with what is sent.
+#[derive(Debug, Drop)]
+pub struct World {
+    alloc: Global,
+    replicas: Vec<Replica>,
+    frames: Vec<Frame>,
+}
+
+fn is_number(number: u64, count: usize) -> bool
+    ensures { IsTrue result ↔ IsNumber number count }
+{
+    0 < number && number <= count as u64
+}
+
+// A buffer's capacity is within its limits, so only memory can be refused.
+fn empty_buffer(alloc: Global, room: usize) -> Result<RefBuffer, AllocError>
+    requires { IsCapacity room }
+    ensures { IfOk result (λ b. b ≡ buffered room []) }
+{
+    match RefBuffer::new(alloc, room) {
+        Ok(buffer) => Ok(buffer),
+        Err(BufferFault::Memory) => Err(AllocError),
+        Err(BufferFault::BadCapacity) => unreachable!(),
+    }
+}
+
+fn empty_buffers(alloc: Global, workers: u16, room: usize) -> Result<Vec<RefBuffer>, AllocError>
+    requires { IsCapacity room }
+    ensures { IfOk result (λ v. v.items ≡ replicate workers (buffered room [])) }
+{
+    let mut buffers = Vec::with_capacity(alloc, workers as usize)?;
+    for _worker in 0..workers {
+        buffers.push(empty_buffer(alloc, room)?)?;
+    }
+    Ok(buffers)
+}
+
+impl Replica {
+    fn new(alloc: Global, id: ReplicaId, workers: u16, room: usize) -> Result<Self, AllocError>
+        requires { IsCapacity room }
+        ensures { IfOk result (λ r. (place : ℕ) → id ≡ place + 1 → ReplicaStands room place r (fresh workers)) }
+    {
+        Ok(Replica {
+            id,
+            history: History::new(alloc),
+            buffers: empty_buffers(alloc, workers, room)?,
+        })
+    }
+
+    fn flush(&mut self, worker: usize) -> Result<(), AllocError>
+        requires { worker < length self.old.buffers.items }
+        ensures ok { (room place : ℕ) (m : ReplicaState) → ReplicaStands room place self.old m
+            → OnOk result (ReplicaStands room place self.new (flushed worker m)) }
+        ensures err { OnErr result (self.new ≡ self.old) }
+        ensures same { length self.new.buffers.items ≡ length self.old.buffers.items }
+    {
+        self.history.absorb(self.buffers[worker].refs())?;
+        self.buffers[worker].clear();
+        Ok(())
+    }
+
+    // Puts a reference into a buffer that has room.
+    fn put(&mut self, worker: usize, reference: Reference)
+        requires { worker < length self.old.buffers.items }
+        ensures { (room place : ℕ) (m : ReplicaState) → ReplicaStands room place self.old m
+            → length (pending m worker) < room
+            → ReplicaStands room place self.new (put_last worker reference m) }
+    {
+        let _ = self.buffers[worker].touch(reference);
+    }
+
+    fn refer(&mut self, worker: usize, page: PageId, time: u64) -> Result<(), AllocError>
+        requires { worker < length self.old.buffers.items }
+        ensures ok { (room place : ℕ) (m : ReplicaState) → ReplicaStands room place self.old m
+            → OnOk result (ReplicaStands room place self.new (referred room worker (stamped (place + 1) page time) m)) }
+        ensures err { OnErr result (self.new ≡ self.old) }
+        ensures full { (room place : ℕ) (m : ReplicaState) → ReplicaStands room place self.old m
+            → OnErr result (room ≤ length (pending m worker)) }
+    {
+        let stamp = Stamp {
+            time,
+            replica: self.id,
+        };
+        let reference = Reference { page, stamp };
+        if self.buffers[worker].is_full() {
+            self.flush(worker)?;
+            self.put(worker, reference);
+            return Ok(());
+        }
+        self.put(worker, reference);
+        Ok(())
+    }
+
+    fn receive(&mut self, entries: &[Entry]) -> Result<(), AllocError>
+        ensures ok { (room place : ℕ) (m : ReplicaState) (refs : List Reference) → ReplicaStands room place self.old m
+            → entries.now ≡ history refs → OnOk result (ReplicaStands room place self.new (received refs m)) }
+        ensures err { OnErr result (self.new ≡ self.old) }
+    {
+        self.history.join_entries(entries)?;
+        Ok(())
+    }
+
+    fn restart(&mut self, alloc: Global)
+        ensures { (room place : ℕ) (m : ReplicaState) → ReplicaStands room place self.old m
+            → ReplicaStands room place self.new (restarted m) }
+    {
+        self.history = History::new(alloc);
+        for buffer in self.buffers.iter_mut() {
+            buffer.clear();
+        }
+    }
+}
+
+impl World {
+    /// A world in which nothing has happened: no replica has heard of a page, nothing waits, and no
+    /// frame was sent. The room of every buffer is taken here.
+    ///
+    /// Refused where there is no memory for that.
+    pub fn new(alloc: Global, setup: Setup) -> Result<Self, AllocError>
+        ensures { IfOk result (λ w. StandsFor w (opening setup.replicas setup.workers setup.buffer)) }
+    {
+        let count = setup.replicas();
+        let workers = setup.workers();
+        let room = setup.buffer() as usize;
+        let mut replicas = Vec::with_capacity(alloc, count as usize)?;
+        for i in 0..count {
+            let Ok(id) = ReplicaId::new(i + 1) else {
+                unreachable!()
+            };
+            replicas.push(Replica::new(alloc, id, workers, room)?)?;
+        }
+        Ok(World {
+            alloc,
+            replicas,
+            frames: Vec::new(alloc),
+        })
+    }
+
+    // Whether all that an event names is there.
+    fn check(&self, event: &Event) -> Result<(), WorldFault>
+        ensures named { OnOk result (IsNamed (seen_shape self.now) event.now) }
+        ensures missing { IfErr result (λ fault. IsMissing (seen_shape self.now) event.now fault) }
+    {
+        let i = event.replica();
+        if !is_number(i as u64, self.replicas.len()) {
+            return Err(WorldFault::NoSuchReplica);
+        }
+        if let Some(w) = event.worker() {
+            let replica = &self.replicas[i as usize - 1];
+            if !is_number(w as u64, replica.buffers.len()) {
+                return Err(WorldFault::NoSuchWorker);
+            }
+        }
+        if let Some(k) = event.frame() {
+            if !is_number(k, self.frames.len()) {
+                return Err(WorldFault::NoSuchFrame);
+            }
+        }
+        Ok(())
+    }
+
+    fn refer(&mut self, i: u16, w: u16, page: PageId, time: u64) -> Answer
+        requires { IsNamed (seen_shape self.old) (Event.Refer i w page time) }
+        ensures { (m : ModelState) → StandsFor self.old m → Stepped m (Event.Refer i w page time) result self.new }
+    {
+        let worker = w as usize - 1;
+        match self.replicas[i as usize - 1].refer(worker, page, time) {
+            Ok(()) => Answer::Done,
+            Err(_) => Answer::Refused(WorldFault::Memory),
+        }
+    }
+
+    fn flush(&mut self, i: u16, w: u16) -> Answer
+        requires { IsNamed (seen_shape self.old) (Event.Flush i w) }
+        ensures { (m : ModelState) → StandsFor self.old m → Stepped m (Event.Flush i w) result self.new }
+    {
+        let worker = w as usize - 1;
+        match self.replicas[i as usize - 1].flush(worker) {
+            Ok(()) => Answer::Done,
+            Err(_) => Answer::Refused(WorldFault::Memory),
+        }
+    }
+
+    fn send(&mut self, i: u16, bucket: Bucket, after: Option<PageId>) -> Answer
+        requires { IsNamed (seen_shape self.old) (Event.Send i bucket after) }
+        ensures { (m : ModelState) → StandsFor self.old m → Stepped m (Event.Send i bucket after) result self.new }
+    {
+        let replica = &self.replicas[i as usize - 1];
+        let sender = replica.id;
+        let Ok(entries) = replica.history.entries(bucket, after, MOST_ENTRIES) else {
+            return Answer::Refused(WorldFault::Memory);
+        };
+        let Ok(()) = self.frames.push(Frame { sender, entries }) else {
+            return Answer::Refused(WorldFault::Memory);
+        };
+        Answer::FrameNo(self.frames.len() as u64)
+    }
+
+    fn deliver(&mut self, j: u16, k: u64) -> Answer
+        requires { IsNamed (seen_shape self.old) (Event.Deliver j k) }
+        ensures { (m : ModelState) → StandsFor self.old m → Stepped m (Event.Deliver j k) result self.new }
+    {
+        let frame = &self.frames[k as usize - 1];
+        match self.replicas[j as usize - 1].receive(frame.entries.as_slice()) {
+            Ok(()) => Answer::Took { count: 0, first: 0 },
+            Err(_) => Answer::Refused(WorldFault::Memory),
+        }
+    }
+
+    fn warm(&self, i: u16, n: u32) -> Answer
+        requires { IsNamed (seen_shape self.now) (Event.Warm i n) }
+        ensures { (m : ModelState) → StandsFor self.now m → Stepped m (Event.Warm i n) result self.now }
+    {
+        let replica = &self.replicas[i as usize - 1];
+        match warm_list(self.alloc, &replica.history, n as usize) {
+            Ok(pages) => Answer::Pages(PageList::from_vec(pages)),
+            Err(_) => Answer::Refused(WorldFault::Memory),
+        }
+    }
+
+    fn restart(&mut self, i: u16) -> Answer
+        requires { IsNamed (seen_shape self.old) (Event.Restart i) }
+        ensures { (m : ModelState) → StandsFor self.old m → Stepped m (Event.Restart i) result self.new }
+    {
+        self.replicas[i as usize - 1].restart(self.alloc);
+        Answer::Done
+    }
+
+    fn show(&self, i: u16) -> Answer
+        requires { IsNamed (seen_shape self.now) (Event.Show i) }
+        ensures { (m : ModelState) → StandsFor self.now m → Stepped m (Event.Show i) result self.now }
+    {
+        match self.replicas[i as usize - 1].history.copy() {
+            Ok(history) => Answer::Shown(history),
+            Err(_) => Answer::Refused(WorldFault::Memory),
+        }
+    }
+
+    /// Answers one event. Whatever model state the world stands for, `Next` leads from it, by the event
+    /// and its answer, to one that the world stands for afterwards. A refused event changes nothing.
+    pub fn step(&mut self, event: Event) -> Answer
+        ensures { (m : ModelState) → StandsFor self.old m → Stepped m event result self.new }
+    {
+        if let Err(fault) = self.check(&event) {
+            return Answer::Refused(fault);
+        }
+        match event {
+            Event::Refer(i, w, page, time) => self.refer(i, w, page, time),
+            Event::Flush(i, w) => self.flush(i, w),
+            Event::Send(i, bucket, after) => self.send(i, bucket, after),
+            Event::Deliver(j, k) => self.deliver(j, k),
+            Event::Warm(i, n) => self.warm(i, n),
+            Event::Restart(i) => self.restart(i),
+            Event::Show(i) => self.show(i),
+        }
+    }
+
+    /// Answers a list of events, one after another. Whatever model state the world stands for, `Run` leads
+    /// from it, by the events and their answers, to one that the world stands for afterwards. In words:
+    ///
+    /// After any list of references, buffer flushes, gossip sends, losses, repeats, reorderings and
+    /// restarts, each replica's history is exactly the two latest stamps of every page among all
+    /// references that reached it, directly or through others, since its restart; replicas reached by
+    /// the same references agree on history, ranking and warm-up list.
+    ///
+    /// Room for the answers is taken before the first event. Where there is none the events come back,
+    /// and nothing has happened.
+    pub fn run(&mut self, events: Vec<Event>) -> Result<Vec<Answer>, Vec<Event>>
+        ensures ran { (m : ModelState) → StandsFor self.old m
+            → IfOk result (λ answers. Ran m events.items answers.items self.new) }
+        ensures refused { IfErr result (λ back. (back ≡ events) × (self.new ≡ self.old)) }
+    {
+        let Ok(mut answers) = Vec::with_capacity(self.alloc, events.len()) else {
+            return Err(events);
+        };
+        for event in events {
+            let answer = self.step(event);
+            answers.push_reserved(answer);
+        }
+        Ok(answers)
+    }
+}
+
+#[cfg(test)]
+mod tests;
