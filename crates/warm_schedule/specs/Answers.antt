@@ -1,0 +1,50 @@
+-- What is printed for an answer of the world. Numbers are in decimal, and each line ends with byte 0A.
+use Rattle.std.specs.Prelude.{ℕ, zero, suc, List, ◌++◌, length, flat_map, codes, decimal}
+use Rattle.warm_stamps.specs.declared.PageId.{PageId}
+use Rattle.warm_stamps.specs.declared.Stamp.{Stamp}
+use Rattle.warm_history.specs.declared.hist.Entry.{Entry}
+use Rattle.warm_history.specs.declared.hist.PageHist.{PageHist}
+use Rattle.warm_history.specs.declared.hist.PageHist.TheVariants.{Once, Twice}
+use Rattle.warm_world.specs.declared.event.Answer.{Answer}
+use Rattle.warm_world.specs.declared.event.Answer.TheVariants.{Done, Shown, FrameNo, Took, Pages, Refused}
+use Rattle.warm_world.specs.Faults.{code_of, name_of}
+
+-- DEVICE:NUMBER
+abbrev pub page_text : PageId → List ℕ
+page_text page = decimal page.dev ++ codes ":" ++ decimal page.no
+
+-- TIME@REPLICA
+abbrev pub stamp_text : Stamp → List ℕ
+stamp_text stamp = decimal stamp.time ++ codes "@" ++ decimal stamp.replica
+
+abbrev pub hist_text : PageHist → List ℕ
+hist_text (Once last) = codes " last " ++ stamp_text last
+hist_text (Twice two) = codes " last " ++ stamp_text two.last ++ codes " prev " ++ stamp_text two.prev
+
+-- the line of a page with its latest stamps
+abbrev pub entry_text : Entry → List ℕ
+entry_text entry = page_text entry.page ++ hist_text entry.hist ++ codes "\n"
+
+abbrev pub shown_text : List Entry → List ℕ
+shown_text entries = flat_map entry_text entries ++ (codes "end " ++ decimal (length entries) ++ codes "\n")
+
+-- how many frames were answered, and the first one's number where there is one
+abbrev pub took_text : ℕ → ℕ → List ℕ
+took_text zero first = codes "took 0\n"
+took_text (suc n) first = codes "took " ++ decimal (suc n) ++ codes " from " ++ decimal first ++ codes "\n"
+
+-- a page of a list, after a space
+abbrev pub listed_text : PageId → List ℕ
+listed_text page = codes " " ++ page_text page
+
+abbrev pub answer_text : Answer → List ℕ
+answer_text Done = codes "ok\n"
+answer_text (Shown entries) = shown_text entries
+answer_text (FrameNo k) = codes "frame " ++ decimal k ++ codes "\n"
+answer_text (Took count first) = took_text count first
+answer_text (Pages pages) = codes "pages" ++ flat_map listed_text pages ++ codes "\n"
+answer_text (Refused fault) = codes "refused " ++ decimal (code_of fault) ++ codes " " ++ name_of fault ++ codes "\n"
+
+-- what is printed for a bad line
+abbrev pub bad_line : ℕ → List ℕ
+bad_line number = codes "bad line " ++ decimal number ++ codes "\n"

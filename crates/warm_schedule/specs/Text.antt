@@ -1,0 +1,24 @@
+-- Bytes parted by a separator: the lines of a schedule, and the words of a line.
+use Rattle.std.specs.Prelude.{ℕ, List, [], ◌∷◌, ◌==◌, if◌then◌else◌, Bool, true, false, filter}
+
+-- a byte put before the first piece
+abbrev pub onto_first : ℕ → List (List ℕ) → List (List ℕ)
+onto_first c [] = (c ∷ []) ∷ []
+onto_first c (piece ∷ pieces) = (c ∷ piece) ∷ pieces
+
+-- the pieces between the bytes that are `separator`, empty pieces too
+abbrev pub split : ℕ → List ℕ → List (List ℕ)
+split separator [] = [] ∷ []
+split separator (c ∷ cs) = if c == separator then [] ∷ split separator cs else onto_first c (split separator cs)
+
+-- a line ends with byte 0A or with the text
+abbrev pub lines : List ℕ → List (List ℕ)
+lines text = split 10 text
+
+abbrev pub has_bytes : List ℕ → Bool
+has_bytes [] = false
+has_bytes (c ∷ cs) = true
+
+-- words are parted by one or more spaces; no other byte is a space
+unfoldable pub words : List ℕ → List (List ℕ)
+words line = filter has_bytes (split 32 line)
