@@ -103,4 +103,4 @@ history-carried S bucket after limit =
     ap (take limit) (filter-entries (hist S) chosen (pages S))
     ∙ take-entries (hist S) limit (filter chosen (pages S)) (all_filter (λ p. is_some (hist S p) ≡ true) chosen (pages S) (all_said S))
     ∙ sym (history-among S (pages_carried S bucket after limit)
-        (rising_take page_cmp limit (filter chosen (pages S)) (rising_filter page_cmp chosen (pages S) (distinct_rises page_cmp page_order (map (λ (r : Reference). r.page) S)))))
+    (rising_take page_cmp limit (filter chosen (pages S)) (rising_filter page_cmp chosen (pages S) (distinct_rises page_cmp page_order (map (λ (r : Reference). r.page) S)))))

@@ -1,11 +1,12 @@
 -- The definitions, computed on small lists of references.
-use Rattle.std.proofs.Common.{◌≡◌, ℕ, [], ◌∷◌, refl}
+use Rattle.std.proofs.Common.{◌≡◌, ℕ, List, [], ◌∷◌, ◌++◌, Option, Some, None, refl}
 use Rattle.warm_stamps.specs.declared.Stamp.{Stamp}
 use Rattle.warm_stamps.specs.declared.PageId.{PageId}
 use Rattle.warm_stamps.specs.declared.Reference.{Reference}
 use Rattle.warm_history.specs.declared.hist.PageHist.TheVariants.{Once, Twice}
 use Rattle.warm_history.specs.declared.hist.Entry.{Entry}
-use Rattle.warm_history.specs.Histories.{history, join}
+use Rattle.warm_history.specs.Histories.{history, refs, join}
+use Rattle.warm_history.specs.Carried.{carried}
 
 abbrev pub page : ℕ → ℕ → PageId
 page dev n = record { dev = dev; no = n }
@@ -13,7 +14,7 @@ page dev n = record { dev = dev; no = n }
 abbrev pub at : ℕ → ℕ → Stamp
 at time replica = record { time = time; replica = replica }
 
--- the page 0:no, referenced at a time at a replica
+-- the page 0:n, referenced at a time at a replica
 abbrev pub seen : ℕ → ℕ → ℕ → Reference
 seen n time replica = record { page = page 0 n; stamp = at time replica }
 
@@ -22,6 +23,8 @@ once n s = record { page = page 0 n; hist = Once s }
 
 abbrev pub twice : ℕ → Stamp → Stamp → Entry
 twice n last prev = record { page = page 0 n; hist = Twice (record { last = last; prev = prev }) }
+
+-- ---- what is kept of references
 
 -- the two latest of three
 three_times : history (seen 1 10 1 ∷ seen 1 20 1 ∷ seen 1 30 1 ∷ []) ≡ twice 1 (at 30 1) (at 20 1) ∷ []
@@ -48,12 +51,48 @@ greatest_time : history (seen 1 18446744073709551615 1 ∷ seen 1 18446744073709
 unfolding history
 greatest_time = refl
 
--- the join takes the two latest of all four, not the greater of each
-joined : join (twice 1 (at 20 1) (at 10 1) ∷ []) (twice 1 (at 30 2) (at 15 2) ∷ []) ≡ twice 1 (at 30 2) (at 20 1) ∷ []
-unfolding history
-joined = refl
-
 -- the entries rise by page
 in_page_order : history (seen 7 1 1 ∷ seen 2 2 1 ∷ seen 7 3 1 ∷ []) ≡ once 2 (at 2 1) ∷ twice 7 (at 3 1) (at 1 1) ∷ []
 unfolding history
 in_page_order = refl
+
+-- ---- joins
+
+-- the two latest of all four, and not the greater of each place
+joined : join (twice 1 (at 20 1) (at 10 1) ∷ []) (twice 1 (at 30 2) (at 15 2) ∷ []) ≡ twice 1 (at 30 2) (at 20 1) ∷ []
+unfolding history
+joined = refl
+
+-- the other way round too
+joined_back : join (twice 1 (at 30 2) (at 15 2) ∷ []) (twice 1 (at 20 1) (at 10 1) ∷ []) ≡ twice 1 (at 30 2) (at 20 1) ∷ []
+unfolding history
+joined_back = refl
+
+-- entries that fall by page join as they would in order
+any_order : join [] (once 2 (at 7 1) ∷ once 1 (at 8 1) ∷ []) ≡ once 1 (at 8 1) ∷ once 2 (at 7 1) ∷ []
+unfolding history
+any_order = refl
+
+-- ---- what is carried: 0:1, 0:65 and 1:0 are all pages of bucket 1
+
+one_bucket : List Reference
+one_bucket = record { page = page 1 0; stamp = at 3 1 } ∷ seen 65 2 1 ∷ seen 1 1 1 ∷ []
+
+-- the first two of the bucket
+from_the_start : history (carried one_bucket 1 None 2) ≡ once 1 (at 1 1) ∷ once 65 (at 2 1) ∷ []
+unfolding history one_bucket
+from_the_start = refl
+
+-- those after a page
+after_a_page : history (carried one_bucket 1 (Some (page 0 65)) 2) ≡ record { page = page 1 0; hist = Once (at 3 1) } ∷ []
+unfolding history one_bucket
+after_a_page = refl
+
+-- none after the last page, and none of another bucket
+after_the_last : history (carried one_bucket 1 (Some (page 1 0)) 2) ≡ []
+unfolding history one_bucket
+after_the_last = refl
+
+another_bucket : history (carried one_bucket 2 None 2) ≡ []
+unfolding history one_bucket
+another_bucket = refl

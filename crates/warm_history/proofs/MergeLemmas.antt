@@ -209,7 +209,7 @@ copies_on out all i e new rising in_range is_e is goes =
     let left : drop i all ≡ e ∷ drop (i + 1) all = drop_more all i e in_range ∙ ap (λ x. x ∷ drop (i + 1) all) (sym is_e) in
     let rise : PagesRise (e ∷ drop (i + 1) all) = subst PagesRise left (rising_drop all i rising) in
     append_one out (record { page = e.page; hist = new }) (history (refs (drop (i + 1) all))) (history (refs (drop i all))) (history (refs all))
-      (ap (λ h. history (refs h)) left ∙ history-first e (drop (i + 1) all) new rise is) goes
+    (ap (λ h. history (refs h)) left ∙ history-first e (drop (i + 1) all) new rise is) goes
   where
     drop_more : (xs : List Entry) (i : ℕ) (d : Entry) → i < length xs → drop i xs ≡ get_or xs i d ∷ drop (i + 1) xs
     drop_more xs i d lt = rw add-one (drop-cons xs i d lt)

@@ -26,7 +26,7 @@ told_is_in (r ∷ S) p s has = cases (told_is_in S p s) (is_eq (page_cmp r.page 
     cases : (Has (told S p) s → IsIn (record { page = p; stamp = s }) S) → (b : Bool) → is_eq (page_cmp r.page p) ≡ b → IsIn (record { page = p; stamp = s }) (r ∷ S)
     cases rest true here =
         let page : r.page ≡ p = page_order.same r.page p (is_equal (page_cmp r.page p) here) in
-        elim (rw here at has) [ | inl e ↦ inl (λ i. record { page = page i; stamp = e i }) | inr there ↦ inr (rest there) ]
+        elim (rw here at has) [ inl e ↦ inl (λ i. record { page = page i; stamp = e i }) | inr there ↦ inr (rest there) ]
     cases rest false other = inr (rest (rw other at has))
 
 told_has : (S : List Reference) (p : PageId) (s : Stamp) → IsIn (record { page = p; stamp = s }) S → Has (told S p) s

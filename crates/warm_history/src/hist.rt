@@ -1,4 +1,4 @@
-//! The history of one page.
+//! The history of one page: its latest stamp, or its two latest.
 ghost use Rattle.std.specs.Prelude.{◌≡◌, [], ◌∷◌, ◌++◌};
 ghost use Rattle.warm_history.specs.Histories.{latest_of, stamps_held, held};
 ghost use Rattle.warm_stamps.specs.Stamps.{stamp_cmp};
@@ -7,7 +7,7 @@ use std::cmp::Ordering;
 use std::marker::Model;
 use warm_stamps::{PageId, Stamp};
 
-/// Two stamps of a page, of which `prev` is the older.
+/// The two latest stamps of a page. `prev` is older than `last`: the type keeps it so.
 #[derive(Debug, Clone, Copy, PartialEq, Eq)]
 pub struct Two {
     last: Stamp,
@@ -30,7 +30,7 @@ impl Model for Two {
 }
 
 impl Two {
-    /// The two stamps.
+    /// The latest stamp and the one before it, which has to be older.
     pub fn new(last: Stamp, prev: Stamp) -> Two
         requires { stamp_cmp prev last ≡ Ordering.Less }
         ensures { result ≡ record { last = last; prev = prev } }
@@ -38,12 +38,14 @@ impl Two {
         Two { last, prev }
     }
 
+    /// The latest stamp.
     pub fn last(self) -> Stamp
         ensures { result ≡ self.last }
     {
         self.last
     }
 
+    /// The latest stamp but one.
     pub fn prev(self) -> Stamp
         ensures value { result ≡ self.prev }
         ensures older { stamp_cmp result self.last ≡ Ordering.Less }
@@ -51,7 +53,7 @@ impl Two {
         self.prev
     }
 
-    /// The two latest of these stamps and one more.
+    /// The two latest of these stamps and one more, which may be one of them.
     pub fn with(self, stamp: Stamp) -> Two
         ensures { Some (PageHist.Twice result) ≡ latest_of (stamp ∷ self.last ∷ self.prev ∷ []) }
     {
@@ -67,22 +69,27 @@ impl Two {
     }
 }
 
-/// The latest stamps of a page: one, or two.
+/// What is kept of a page that was referenced: enough for LRU-2 (O'Neil, O'Neil, Weikum, SIGMOD
+/// 1993), which ranks pages by their latest reference but one.
 #[derive(Debug, Clone, Copy, PartialEq, Eq)]
 pub enum PageHist {
+    /// The page was referenced with one stamp alone, this one.
     Once(Stamp),
+    /// The page was referenced with two stamps or more, of which these are the latest.
     Twice(Two),
 }
 
-/// A page with its latest stamps.
+/// A page with what is kept of it.
 #[derive(Debug, Clone, Copy, PartialEq, Eq)]
 pub struct Entry {
+    /// The page.
     pub page: PageId,
+    /// Its latest stamp, or its two latest.
     pub hist: PageHist,
 }
 
 impl PageHist {
-    /// The two latest of these stamps and one more.
+    // The two latest of these stamps and one more.
     pub(crate) fn with(self, stamp: Stamp) -> PageHist
         ensures { Some result ≡ latest_of (stamp ∷ stamps_held self) }
     {
@@ -97,7 +104,8 @@ impl PageHist {
     }
 }
 
-/// The two latest stamps of both.
+/// What is kept of a page of which two histories know: the two latest distinct stamps of both
+/// together. Takes no memory.
 pub fn join_hist(a: PageHist, b: PageHist) -> PageHist
     ensures { Some result ≡ latest_of (stamps_held a ++ stamps_held b) }
 {
@@ -107,7 +115,7 @@ pub fn join_hist(a: PageHist, b: PageHist) -> PageHist
     }
 }
 
-/// The two latest stamps of what is known of a page and of more.
+// The two latest stamps of what is known of a page, if anything is, and of more.
 pub(crate) fn join_known(known: Option<PageHist>, more: PageHist) -> PageHist
     ensures { Some result ≡ latest_of (stamps_held more ++ held known) }
 {

@@ -1,5 +1,5 @@
 -- The language and the answers, computed on lines and answers worked out by hand.
-use Rattle.std.proofs.Common.{◌≡◌, ◌<◌, List, ℕ, [], ◌∷◌, Some, None, refl, arith}
+use Rattle.std.proofs.Common.{◌≡◌, ◌<◌, List, ℕ, [], ◌∷◌, Option, Some, None, refl, arith}
 use Rattle.std.specs.Fmt.{digits}
 use Rattle.std.specs.Prelude.{codes}
 use Rattle.warm_stamps.specs.declared.PageId.{PageId}
@@ -9,10 +9,13 @@ use Rattle.warm_history.specs.Histories.{history}
 use Rattle.warm_world.specs.Lists.{IsNumber}
 use Rattle.warm_world.specs.States.{ModelState, opening}
 use Rattle.warm_schedule.specs.Printed.{meaning, Printed}
+use Rattle.warm_history.specs.declared.hist.Entry.{Entry}
 use Rattle.warm_history.specs.declared.hist.PageHist.TheVariants.{Once, Twice}
+use Rattle.warm_world.specs.declared.event.Event.{Event}
 use Rattle.warm_world.specs.declared.event.Event.TheVariants.{Refer, Flush, Send, Deliver, Warm, Restart, Show}
 use Rattle.warm_world.specs.declared.event.Answer.TheVariants.{Done, Shown, FrameNo, Took, Pages, Refused}
 use Rattle.warm_world.specs.declared.event.WorldFault.TheVariants.{NoSuchReplica, NoSuchWorker}
+use Rattle.warm_schedule.specs.declared.parse.Line.{Line}
 use Rattle.warm_schedule.specs.declared.parse.Line.TheVariants.{Nothing, Act}
 use Rattle.warm_schedule.specs.Text.{lines, words}
 use Rattle.warm_schedule.specs.Grammar.{line_of, number_up_to, page_of, number_field, page_field, after_field, refer_of, flush_of, send_of, deliver_of, warm_of, restart_of, show_of}
@@ -132,12 +135,35 @@ too_many above is = absurd (omega (arith, above, is.in_range))
 refusals : Printed (opening 1 2 64) (codes "ref 2 1 0:1 5\nflush 1 3\n# x\nbad\n") (codes "refused 14 NoSuchReplica\nrefused 15 NoSuchWorker\nbad line 4\n")
 unfolding meaning line_of words number_up_to page_of number_field page_field refer_of flush_of digits
 refusals =
-    let start : ModelState = opening 1 2 64 in
-    (codes "refused 14 NoSuchReplica\n", codes "refused 15 NoSuchWorker\nbad line 4\n", start, (Refused NoSuchReplica, (too_many (omega arith), refl), refl),
-    (codes "refused 15 NoSuchWorker\n", codes "bad line 4\n", start, (Refused NoSuchWorker, ((record { from_one = omega arith; in_range = omega arith }, too_many (omega arith)), refl), refl),
-    ([], codes "bad line 4\n", start, (refl, refl),
-    (codes "bad line 4\n", [], start, (refl, refl),
-    ([], [], start, (refl, refl), refl, refl), refl), refl), refl), refl)
+    let start : ModelState = opening 1 2 64 in (
+      codes "refused 14 NoSuchReplica\n",
+      codes "refused 15 NoSuchWorker\nbad line 4\n",
+      start,
+      (Refused NoSuchReplica, (too_many (omega arith), refl), refl),
+      (
+        codes "refused 15 NoSuchWorker\n",
+        codes "bad line 4\n",
+        start,
+        (Refused NoSuchWorker, ((record { from_one = omega arith; in_range = omega arith }, too_many (omega arith)), refl), refl),
+        (
+          [],
+          codes "bad line 4\n",
+          start,
+          (refl, refl),
+          (
+            codes "bad line 4\n",
+            [],
+            start,
+            (refl, refl),
+            ([], [], start, (refl, refl), refl, refl),
+            refl,
+          ),
+          refl,
+        ),
+        refl,
+      ),
+      refl,
+    )
 
 first : (count : ℕ) → 0 < count → IsNumber 1 count
 first count some = record { from_one = omega arith; in_range = omega arith }
@@ -152,9 +178,32 @@ told reach waiting = record { room = 64; replicas = record { reach = reach; pend
 -- a reference waits, reaches the history, and is shown
 reference : Printed (opening 1 2 64) (codes "ref 1 1 0:1 10\nshow 1\nflush 1 1\nshow 1\n") (codes "ok\nend 0\nok\n0:1 last 10@1\nend 1\n")
 unfolding meaning line_of words number_up_to page_of number_field page_field refer_of flush_of show_of history digits
-reference =
-    (codes "ok\n", codes "end 0\nok\n0:1 last 10@1\nend 1\n", told [] (seen ∷ []), (Done, (record { replica_there = first _ (omega arith); worker_there = first _ (omega arith); frame_there = tt }, refl), refl),
-    (codes "end 0\n", codes "ok\n0:1 last 10@1\nend 1\n", told [] (seen ∷ []), (Shown [], (record { replica_there = first _ (omega arith); worker_there = tt; frame_there = tt }, (refl, refl)), refl),
-    (codes "ok\n", codes "0:1 last 10@1\nend 1\n", told (seen ∷ []) [], (Done, (record { replica_there = first _ (omega arith); worker_there = first _ (omega arith); frame_there = tt }, refl), refl),
-    (codes "0:1 last 10@1\nend 1\n", [], told (seen ∷ []) [], (Shown (record { page = page 0 1; hist = Once (stamp 10 1) } ∷ []), (record { replica_there = first _ (omega arith); worker_there = tt; frame_there = tt }, (refl, refl)), refl),
-    ([], [], told (seen ∷ []) [], (refl, refl), refl, refl), refl), refl), refl), refl)
+reference = (
+  codes "ok\n",
+  codes "end 0\nok\n0:1 last 10@1\nend 1\n",
+  told [] (seen ∷ []),
+  (Done, (record { replica_there = first _ (omega arith); worker_there = first _ (omega arith); frame_there = tt }, refl), refl),
+  (
+    codes "end 0\n",
+    codes "ok\n0:1 last 10@1\nend 1\n",
+    told [] (seen ∷ []),
+    (Shown [], (record { replica_there = first _ (omega arith); worker_there = tt; frame_there = tt }, (refl, refl)), refl),
+    (
+      codes "ok\n",
+      codes "0:1 last 10@1\nend 1\n",
+      told (seen ∷ []) [],
+      (Done, (record { replica_there = first _ (omega arith); worker_there = first _ (omega arith); frame_there = tt }, refl), refl),
+      (
+        codes "0:1 last 10@1\nend 1\n",
+        [],
+        told (seen ∷ []) [],
+        (Shown (record { page = page 0 1; hist = Once (stamp 10 1) } ∷ []), (record { replica_there = first _ (omega arith); worker_there = tt; frame_there = tt }, (refl, refl)), refl),
+        ([], [], told (seen ∷ []) [], (refl, refl), refl, refl),
+        refl,
+      ),
+      refl,
+    ),
+    refl,
+  ),
+  refl,
+)

@@ -377,6 +377,10 @@ const GROWING: &str =
     "ref 1 1 0:1 10\nref 1 1 0:2 11\nref 1 1 0:3 12\nflush 1 1\nsend 1 1\nsend 1 2\ndeliver 2 1\ndeliver 2 2\nref 2 1 0:1 13\n\
     flush 2 1\nsend 2 1\ndeliver 3 3\nwarm 1 9\nwarm 3 9\nrestart 1\ndeliver 1 1\nshow 1\nshow 2\nshow 3\n";
 
+const GROWN: &str =
+    "ok\nok\nok\nok\nframe 1\nframe 2\ntook 0\ntook 0\nok\nok\nframe 3\ntook 0\npages 0:3 0:2 0:1\npages 0:1\nok\ntook 0\n\
+    0:1 last 10@1\nend 1\n0:1 last 13@2 prev 10@1\n0:2 last 11@1\nend 2\n0:1 last 13@2 prev 10@1\nend 1";
+
 // Whether the next answer is that memory was refused. The lines of a history begin with a digit, and belong to the
 // answer that the line after them ends.
 fn is_refused(answers: &mut str::Lines<'_>) -> bool {
@@ -388,8 +392,8 @@ fn is_refused(answers: &mut str::Lines<'_>) -> bool {
     false
 }
 
-// `rt try --test --fail-alloc 1..` runs it with each growth refused in turn. A line whose growth was refused says so, and
-// all others are answered as if it had been a comment.
+// `rt try --test --fail-alloc N -- a_refused_growth` refuses the Nth growth. Either the play ends with the fault Memory, or
+// the line says so whose growth was refused, and all others are answered as if it had been a comment.
 #[test]
 fn a_refused_growth_is_as_a_comment(rt: HostRuntime) -> Result<(), Fail> {
     let mut answers = [b' '; 1024];
@@ -400,9 +404,14 @@ fn a_refused_growth_is_as_a_comment(rt: HostRuntime) -> Result<(), Fail> {
         return Ok(());
     }
     played?;
+    let answers = str::from_utf8(&answers)?.trim_end();
+    if !answers.contains(WANT_OF_MEMORY) {
+        assert_eq!(rt; answers, GROWN);
+        return Ok(());
+    }
     let mut without = [b' '; 1024];
     let mut writer = without.as_mut_slice();
-    let mut lines = str::from_utf8(&answers)?.lines();
+    let mut lines = answers.lines();
     for line in GROWING.lines() {
         if is_refused(&mut lines) {
             writeln!(&mut writer, "#")?;
@@ -414,12 +423,13 @@ fn a_refused_growth_is_as_a_comment(rt: HostRuntime) -> Result<(), Fail> {
     let mut writer = again.as_mut_slice();
     let mut reader = without.as_slice();
     play(rt.alloc(), &mut reader, &mut writer, default_setup())?;
-    let mut lines = str::from_utf8(&again)?.lines();
-    for line in str::from_utf8(&answers)?.lines() {
+    let mut lines = str::from_utf8(&again)?.trim_end().lines();
+    for line in answers.lines() {
         if line != WANT_OF_MEMORY {
             assert_eq!(rt; lines.next(), Some(line));
         }
     }
+    assert_eq!(rt; lines.next(), None);
     Ok(())
 }
 

@@ -37,5 +37,5 @@ returns-then-not-branch-clause-printed g c =
     let goes = Goes-then c.in-Ok-new.session c.loop.session c.read_some.new.self so_far.0 next.0 so_far.1 next.1 so_far.4 next.4 in
     let whole : Printed state seen (out ++ last.0) = Goes-whole c.in-Ok-new.session c.read_some.new.self state seen out last.0 goes last.2 c.loop.invariant.fresh c.loop.invariant.first in
     if_some_map (g.R.Read.remaining c.args.reader.now) (λ text. text ≡ seen) _
-      (λ text e. (out ++ last.0, Appends-then _ _ _ out last.0 (Appends-then _ _ _ so_far.1 next.1 so_far.3 next.3) last.1, subst (λ (t : List ℕ). Printed state t (out ++ last.0)) (sym e) whole))
-      (Consumes-all _ _ seen (Consumes-then _ _ _ so_far.0 next.0 so_far.2 next.2) at_end)
+    (λ text e. (out ++ last.0, Appends-then _ _ _ out last.0 (Appends-then _ _ _ so_far.1 next.1 so_far.3 next.3) last.1, subst (λ (t : List ℕ). Printed state t (out ++ last.0)) (sym e) whole))
+    (Consumes-all _ _ seen (Consumes-then _ _ _ so_far.0 next.0 so_far.2 next.2) at_end)

@@ -12,7 +12,10 @@ returns-in_ok-map_err-in-Some-Act-clause-answered g c =
     let answer = c.step-answer.result in
     let event = c.in-Some-Act.event in
     let said : (line : List ℕ) → HoldsLine c.args.self.now.line.items c.args.self.now.is_long line → Some (Act event) ≡ meaning line =
-        λ line begun. ap (λ (l : Line). Some l) (sym c.in-Some-Act.field-0-is) ∙ sym c.in-Some-Act.is ∙ c.meaning.ensures line begun in
-    (answer_text answer, done c.print_answer.result c.in_ok-map_err-in-Some-Act.ensures.variant c.print_answer.ensures, λ state line h.
-      let stepped = c.step-answer.ensures state h.stands in
-      (stepped.new, stepped.stands, answers_event state c.args.self.now.number (meaning line) event answer stepped.new (said line h.begun) stepped.next))
+    λ line begun. ap (λ (l : Line). Some l) (sym c.in-Some-Act.field-0-is) ∙ sym c.in-Some-Act.is ∙ c.meaning.ensures line begun in (
+      answer_text answer,
+      done c.print_answer.result c.in_ok-map_err-in-Some-Act.ensures.variant c.print_answer.ensures,
+      λ state line h.
+          let stepped = c.step-answer.ensures state h.stands in
+          (stepped.new, stepped.stands, answers_event state c.args.self.now.number (meaning line) event answer stepped.new (said line h.begun) stepped.next),
+    )

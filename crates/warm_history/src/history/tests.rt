@@ -1,0 +1,243 @@
+//! The worked examples, and calls that memory is refused to.
+//!
+//! With `rt try --test --fail-alloc N`, for N from 1 on, each growth is refused in turn: the call
+//! is then made a second time, and the test passes only where the refused one changed nothing.
+use super::*;
+use crate::hist::{Two, join_hist};
+use std::process::Abort;
+use std::test::Fail;
+use warm_stamps::{BadReplica, ReplicaId, Stamp};
+
+fn page(dev: u16, no: u32) -> PageId {
+    PageId { dev, no }
+}
+
+fn stamp(time: u64, replica: u16) -> Result<Stamp, BadReplica> {
+    let replica = ReplicaId::new(replica)?;
+    Ok(Stamp { time, replica })
+}
+
+fn seen(page: PageId, time: u64, replica: u16) -> Result<Reference, BadReplica> {
+    let stamp = stamp(time, replica)?;
+    Ok(Reference { page, stamp })
+}
+
+fn once(time: u64, replica: u16) -> Result<PageHist, BadReplica> {
+    let last = stamp(time, replica)?;
+    Ok(PageHist::Once(last))
+}
+
+fn entry(no: u32, hist: PageHist) -> Entry {
+    Entry {
+        page: page(0, no),
+        hist,
+    }
+}
+
+fn twice(rt: &impl Abort, last: Stamp, prev: Stamp) -> PageHist {
+    assert!(rt; prev < last);
+    PageHist::Twice(Two::new(last, prev))
+}
+
+fn are_equal(a: &History, b: &History) -> bool {
+    if a.len() != b.len() {
+        return false;
+    }
+    for i in 0..a.len() {
+        if a.at(i) != b.at(i) {
+            return false;
+        }
+    }
+    true
+}
+
+fn copy_twice(history: &History) -> Result<History, AllocError> {
+    match history.copy() {
+        Ok(copied) => Ok(copied),
+        Err(_) => history.copy(),
+    }
+}
+
+// Takes references in; where memory is refused, sees that nothing changed, and tries again.
+fn absorb_twice(
+    rt: &impl Abort,
+    history: &mut History,
+    batch: &[Reference],
+) -> Result<(), AllocError> {
+    let before = copy_twice(history)?;
+    if history.absorb(batch).is_ok() {
+        return Ok(());
+    }
+    assert!(rt;
+        are_equal(history, &before),
+        "a refused batch left something"
+    );
+    history.absorb(batch)
+}
+
+#[test]
+fn keeps_the_two_latest_stamps(rt: HostRuntime) -> Result<(), Fail> {
+    let first = page(0, 1);
+    let rising = [
+        seen(first, 10, 1)?,
+        seen(first, 20, 1)?,
+        seen(first, 30, 1)?,
+    ];
+    let mut here = History::new(rt.alloc());
+    assert_eq!(rt; here.len(), 0);
+    absorb_twice(&rt, &mut here, &rising)?;
+    let latest = twice(&rt, stamp(30, 1)?, stamp(20, 1)?);
+    assert_eq!(rt; here.get(first), Some(latest));
+    assert_eq!(rt;
+        here.at(0),
+        Some(Entry {
+            page: first,
+            hist: latest
+        })
+    );
+    assert_eq!(rt; here.at(1), None);
+
+    let mut late = History::new(rt.alloc());
+    absorb_twice(&rt, &mut late, &[seen(first, 30, 1)?, seen(first, 20, 1)?])?;
+    absorb_twice(&rt, &mut late, &[seen(first, 10, 1)?])?;
+    assert!(rt; are_equal(&late, &here));
+
+    let mut repeated = History::new(rt.alloc());
+    absorb_twice(
+        &rt,
+        &mut repeated,
+        &[seen(first, 10, 1)?, seen(first, 10, 1)?],
+    )?;
+    assert_eq!(rt; repeated.get(first), Some(once(10, 1)?));
+    assert_eq!(rt; repeated.get(page(0, 2)), None);
+    Ok(())
+}
+
+#[test]
+fn tells_replicas_apart(rt: HostRuntime) -> Result<(), Fail> {
+    for time in [5, u64::MAX] {
+        let mut here = History::new(rt.alloc());
+        let batch = [seen(page(0, 1), time, 1)?, seen(page(0, 1), time, 2)?];
+        absorb_twice(&rt, &mut here, &batch)?;
+        let latest = twice(&rt, stamp(time, 2)?, stamp(time, 1)?);
+        assert_eq!(rt; here.get(page(0, 1)), Some(latest));
+    }
+    Ok(())
+}
+
+#[test]
+fn joins_the_two_latest_of_both(rt: HostRuntime) -> Result<(), Fail> {
+    let first = page(0, 1);
+    let mut here = History::new(rt.alloc());
+    let batch = [
+        seen(first, 10, 1)?,
+        seen(first, 20, 1)?,
+        seen(page(0, 3), 1, 1)?,
+    ];
+    absorb_twice(&rt, &mut here, &batch)?;
+    let mut there = History::new(rt.alloc());
+    let batch = [
+        seen(first, 15, 2)?,
+        seen(first, 30, 2)?,
+        seen(page(0, 2), 2, 2)?,
+    ];
+    absorb_twice(&rt, &mut there, &batch)?;
+
+    let before = copy_twice(&here)?;
+    if here.join(&there).is_err() {
+        assert!(rt; are_equal(&here, &before), "a refused join left something");
+        here.join(&there)?;
+    }
+    if there.join(&before).is_err() {
+        there.join(&before)?;
+    }
+    assert!(rt; are_equal(&here, &there), "both ways give one history");
+    assert_eq!(rt; here.len(), 3);
+    let latest = twice(&rt, stamp(30, 2)?, stamp(20, 1)?);
+    assert_eq!(rt; here.get(first), Some(latest));
+    assert_eq!(rt; here.get(page(0, 2)), Some(once(2, 2)?));
+    assert_eq!(rt; here.get(page(0, 3)), Some(once(1, 1)?));
+    Ok(())
+}
+
+// Joins entries to the empty history; where memory is refused, sees that it is still empty.
+fn joined_to_none(rt: &impl Abort, alloc: Global, more: &[Entry]) -> Result<History, AllocError> {
+    let mut here = History::new(alloc);
+    if here.join_entries(more).is_err() {
+        assert_eq!(rt; here.len(), 0, "refused entries left something");
+        here.join_entries(more)?;
+    }
+    Ok(here)
+}
+
+#[test]
+fn joins_entries_in_any_order(rt: HostRuntime) -> Result<(), Fail> {
+    let rising = [entry(1, once(8, 1)?), entry(2, once(7, 1)?)];
+    let falling = [entry(2, once(7, 1)?), entry(1, once(8, 1)?)];
+    let here = joined_to_none(&rt, rt.alloc(), &rising)?;
+    assert_eq!(rt; here.len(), 2);
+    assert_eq!(rt; here.at(0), Some(entry(1, once(8, 1)?)));
+    assert_eq!(rt; here.at(1), Some(entry(2, once(7, 1)?)));
+    let there = joined_to_none(&rt, rt.alloc(), &falling)?;
+    assert!(rt; are_equal(&here, &there));
+    Ok(())
+}
+
+#[test]
+fn gives_the_entries_of_a_bucket(rt: HostRuntime) -> Result<(), Fail> {
+    let mut here = History::new(rt.alloc());
+    let batch = [
+        seen(page(1, 0), 3, 1)?,
+        seen(page(0, 65), 2, 1)?,
+        seen(page(0, 1), 1, 1)?,
+    ];
+    absorb_twice(&rt, &mut here, &batch)?;
+    let rows = [
+        (1, None, Some(page(0, 1)), Some(page(0, 65))),
+        (1, Some(page(0, 65)), Some(page(1, 0)), None),
+        (1, Some(page(1, 0)), None, None),
+        (2, None, None, None),
+    ];
+    for (number, after, first, second) in rows {
+        let bucket = Bucket::new(number).ok_or("no bucket")?;
+        let found = match here.entries(bucket, after, 2) {
+            Ok(found) => found,
+            Err(_) => here.entries(bucket, after, 2)?,
+        };
+        assert_eq!(rt; found.get(0).map(|entry| entry.page), first, "of {number}");
+        assert_eq!(rt; found.get(1).map(|entry| entry.page), second, "of {number}");
+        assert!(rt; found.len() <= 2);
+    }
+    Ok(())
+}
+
+#[test]
+fn goes_over_pages_in_order(rt: HostRuntime) -> Result<(), Fail> {
+    let mut here = History::new(rt.alloc());
+    absorb_twice(
+        &rt,
+        &mut here,
+        &[seen(page(0, 9), 4, 1)?, seen(page(0, 2), 5, 1)?],
+    )?;
+    let mut entries = here.iter();
+    assert_eq!(rt; entries.next(), here.at(0));
+    assert_eq!(rt; entries.next(), here.at(1));
+    assert_eq!(rt; entries.next(), None);
+    assert_eq!(rt; here.get(page(0, 2)), Some(once(5, 1)?));
+    Ok(())
+}
+
+#[test]
+fn joins_what_is_kept_of_a_page(rt: HostRuntime) -> Result<(), Fail> {
+    let five = stamp(5, 1)?;
+    let six = stamp(6, 1)?;
+    let seven = stamp(7, 1)?;
+    assert!(rt; five < six && six < seven);
+    let two = Two::new(six, five);
+    assert_eq!(rt; two.with(seven), Two::new(seven, six));
+    assert_eq!(rt; two.with(six), two);
+    assert_eq!(rt; (two.last(), two.prev()), (six, five));
+    let joined = join_hist(PageHist::Twice(two), PageHist::Once(seven));
+    assert_eq!(rt; joined, PageHist::Twice(Two::new(seven, six)));
+    Ok(())
+}
