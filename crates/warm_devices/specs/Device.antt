@@ -1,0 +1,61 @@
+-- What a page device is to a proof, and what its calls do to it.
+use Rattle.std.specs.Prelude.{◌≡◌, ◌≢◌, ◌⊎◌, ℕ, ◌+◌, ◌-◌, ◌^◌, ◌<◌, ◌≤◌, min, Bool, true, false, IsTrue, List, [], length, slice_index_or, replicate, Result, MatchResult, OnOk, OnErr}
+use Rattle.warm_devices.specs.declared.fault.DeviceFault.{DeviceFault}
+
+-- A device as plain data: what its pages hold, whether a page was written since the last flush, how many calls failed, and what it
+-- says of itself. An honest device gives back the bytes last written; an unfailing one refuses nothing.
+pub record DeviceState : Type 0 where
+  pub pages : ℕ
+  pub page_size : ℕ
+  pub contents : List (List ℕ)
+  pub waiting : Bool
+  pub failures : ℕ
+  pub honest : Bool
+  pub unfailing : Bool
+
+-- the bytes of one page
+abbrev pub page_at : List (List ℕ) → ℕ → List ℕ
+page_at contents k = slice_index_or contents k []
+
+-- a count of failures that has grown by one, or stays at the greatest `u64`
+abbrev pub one_more : ℕ → ℕ
+one_more n = min (n + 1) (2 ^ 64 - 1)
+
+-- the number and the size of the pages and what the device claims of itself
+pub record SameShape (old new : DeviceState) : Type 0 where
+  pub pages : new.pages ≡ old.pages
+  pub page_size : new.page_size ≡ old.page_size
+  pub honest : new.honest ≡ old.honest
+  pub unfailing : new.unfailing ≡ old.unfailing
+
+-- a fault is of this kind alone, and comes exactly where the count of failures grew
+abbrev pub CountsFault : {T : Type 0} → DeviceFault → Result T DeviceFault → DeviceState → DeviceState → Type 0
+CountsFault kind result old new =
+    MatchResult result (λ _. new.failures ≡ old.failures) (λ fault. (fault ≡ kind) × (new.failures ≡ one_more old.failures))
+
+-- nothing waits, or something waited and the flush of it failed
+abbrev pub Settles : DeviceState → DeviceState → Type 0
+Settles old new =
+    ((new.waiting ≡ false) × (new.failures ≡ old.failures))
+    ⊎ ((old.waiting ≡ true) × (new.waiting ≡ true) × (new.failures ≡ one_more old.failures))
+
+-- no page but this one has changed
+pub record ChangesPage (page : ℕ) (old new : List (List ℕ)) : Type 0 where
+  pub count : length new ≡ length old
+  pub others : (k : ℕ) → k ≢ page → page_at new k ≡ page_at old k
+
+-- a device of zero pages in memory: it never fails and gives back what was written
+abbrev pub zeroed : ℕ → ℕ → DeviceState
+zeroed pages page_size = record {
+  pages = pages;
+  page_size = page_size;
+  contents = replicate pages (replicate page_size 0);
+  waiting = false;
+  failures = 0;
+  honest = true;
+  unfailing = true;
+}
+
+-- each page has this size
+abbrev pub AllSized : ℕ → List (List ℕ) → Type 0
+AllSized size contents = (k : ℕ) → k < length contents → length (page_at contents k) ≡ size

@@ -1,0 +1,24 @@
+-- The numbers and names of the faults.
+use Rattle.std.specs.Prelude.{ℕ, List, codes}
+use Rattle.warm_devices.specs.declared.fault.DeviceFault.{DeviceFault}
+use Rattle.warm_devices.specs.declared.fault.DeviceFault.TheVariants.{Read, Write, Flush}
+use Rattle.warm_devices.specs.declared.fault.OpenFault.{OpenFault}
+use Rattle.warm_devices.specs.declared.fault.OpenFault.TheVariants.{Memory, Open}
+
+abbrev pub device_fault_code : DeviceFault → ℕ
+device_fault_code Read = 1
+device_fault_code Write = 2
+device_fault_code Flush = 3
+
+abbrev pub device_fault_name : DeviceFault → List ℕ
+device_fault_name Read = codes "Read"
+device_fault_name Write = codes "Write"
+device_fault_name Flush = codes "Flush"
+
+abbrev pub open_fault_code : OpenFault → ℕ
+open_fault_code Memory = 1
+open_fault_code Open = 2
+
+abbrev pub open_fault_name : OpenFault → List ℕ
+open_fault_name Memory = codes "Memory"
+open_fault_name Open = codes "Open"

@@ -1,0 +1,15 @@
+-- What a `FileDevice` shows: its contents are unknown, and it claims nothing of them.
+use Rattle.std.specs.Prelude.{ℕ, false, []}
+use Rattle.warm_devices.specs.Device.{DeviceState}
+use Rattle.warm_devices.specs.declared.file.FileDevice.{FileDevice}
+
+abbrev pub file_state : FileDevice → DeviceState
+file_state f = record {
+  pages = f.pages;
+  page_size = f.page_size;
+  contents = [];
+  waiting = f.waiting;
+  failures = f.failures;
+  honest = false;
+  unfailing = false;
+}

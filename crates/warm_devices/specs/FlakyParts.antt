@@ -1,0 +1,27 @@
+-- What a `Flaky` shows.
+use Rattle.std.specs.Prelude.{◌≡◌, ◌≢◌, ℕ, ◌+◌, ◌-◌, ◌^◌, min, false, IsTrue, IsOk, Result, Err, Bool, if◌then◌else◌}
+use Rattle.warm_devices.specs.Device.{DeviceState}
+use Rattle.warm_devices.specs.declared.fault.DeviceFault.{DeviceFault}
+use Rattle.warm_devices.specs.declared.device.PageDevice.{Ghosts}
+use Rattle.warm_devices.specs.declared.flaky.Flaky.{Flaky}
+
+-- the device that calls are passed on to
+abbrev pub inner_of : {D : Type 0} {g : Ghosts D} → Flaky D g → D
+inner_of f = f.inner
+
+-- how many calls there are up to the one that fails, or 0 where none is to fail
+abbrev pub calls_left : {D : Type 0} {g : Ghosts D} → Flaky D g → ℕ
+calls_left f = f.calls_left
+
+-- the inner device, with the failures that were made here counted too
+abbrev pub flaky_state : {D : Type 0} {g : Ghosts D} → Flaky D g → DeviceState
+flaky_state {D} {g} f = record (g.state f.inner) {
+  failures = min ((g.state f.inner).failures + f.failed) (2 ^ 64 - 1);
+  unfailing = false;
+}
+
+-- The call with number 1 of those left fails; over an unfailing device no other does. Each call counts.
+pub record FailsWhenDue {D : Type 0} {g : Ghosts D} (kind : DeviceFault) (result : Result (Unit {0}) DeviceFault) (old new : Flaky D g) : Type 0 where
+  pub counted : calls_left new ≡ calls_left old - 1
+  pub due : calls_left old ≡ 1 → result ≡ Err kind
+  pub passed_on : calls_left old ≢ 1 → IsTrue (g.state old.inner).unfailing → IsOk result

@@ -1,0 +1,4 @@
+pub mod Device
+pub mod Faults
+pub mod FlakyParts
+pub mod FileParts

@@ -1,0 +1,72 @@
+//! Why a device could not be opened, and why a call of one failed.
+ghost use Rattle.std.specs.Prelude.{◌≡◌};
+ghost use Rattle.warm_devices.specs.Faults.{device_fault_code, device_fault_name, open_fault_code, open_fault_name};
+
+/// Why a call of a device failed: a read answers `Read` alone, a write `Write`, and a flush `Flush`.
+///
+/// Each comes only where the device's count of failures grew by one in that call. Want of memory is none of them, since a device
+/// takes no memory in these calls.
+#[derive(Clone, Copy, PartialEq, Eq, Debug)]
+pub enum DeviceFault {
+    /// 1: the page could not be read; contents are as before.
+    Read,
+    /// 2: the page could not be written, and may hold any bytes; all other pages are as before.
+    Write,
+    /// 3: what waits could not be put down; it still waits, and contents are as read before.
+    Flush,
+}
+
+impl DeviceFault {
+    /// The fault's number, 1 to 3.
+    pub fn code(self) -> u8
+        ensures { result ≡ device_fault_code self }
+    {
+        match self {
+            DeviceFault::Read => 1,
+            DeviceFault::Write => 2,
+            DeviceFault::Flush => 3,
+        }
+    }
+
+    /// The fault's name, as it is printed.
+    pub fn name(self) -> &'static str
+        ensures { result.now ≡ device_fault_name self }
+    {
+        match self {
+            DeviceFault::Read => "Read",
+            DeviceFault::Write => "Write",
+            DeviceFault::Flush => "Flush",
+        }
+    }
+}
+
+/// Why a file was not opened as a device.
+#[derive(Clone, Copy, PartialEq, Eq, Debug)]
+pub enum OpenFault {
+    /// 1: the system or the allocator had no memory.
+    Memory,
+    /// 2: the file could not be opened, made or extended, or its bytes would exceed what a file's offsets can name.
+    Open,
+}
+
+impl OpenFault {
+    /// The fault's number, 1 or 2.
+    pub fn code(self) -> u8
+        ensures { result ≡ open_fault_code self }
+    {
+        match self {
+            OpenFault::Memory => 1,
+            OpenFault::Open => 2,
+        }
+    }
+
+    /// The fault's name, as it is printed.
+    pub fn name(self) -> &'static str
+        ensures { result.now ≡ open_fault_name self }
+    {
+        match self {
+            OpenFault::Memory => "Memory",
+            OpenFault::Open => "Open",
+        }
+    }
+}

@@ -1,0 +1,151 @@
+//! A device over a file of the operating system. What the file holds is nothing that a contract can say.
+ghost use Rattle.std.specs.Prelude.{◌≡◌, ◌*◌, ◌^◌, ◌<◌, ◌≤◌, Err, IfOk, false, []};
+ghost use Rattle.warm_devices.specs.declared.fault.OpenFault.TheVariants.{Open};
+ghost use Rattle.warm_devices.specs.Device.{DeviceState};
+
+use crate::{DeviceFault, OpenFault, PageDevice};
+use std::fs::{File, Files, OpenOptions};
+use std::io;
+use std::os::unix::fs::FileExt;
+
+/// Pages in a file, one after another from its start. A flush syncs the file.
+///
+/// The device is safe whatever the file gives, and it counts its failures. Of the bytes it claims nothing.
+pub struct FileDevice {
+    file: File,
+    pages: u32,
+    page_size: usize,
+    waiting: bool,
+    failures: u64,
+    ghost fits: { pages * page_size < 2 ^ 63 },
+}
+
+fn fault_of(error: io::Error) -> OpenFault {
+    match error.kind() {
+        io::ErrorKind::OutOfMemory => OpenFault::Memory,
+        _ => OpenFault::Open,
+    }
+}
+
+fn open_sized<R: Files<File = File>>(files: &R, path: &str, len: u64) -> io::Result<File> {
+    let file = OpenOptions::new()
+        .read(true)
+        .write(true)
+        .create(true)
+        .open(files, path)?;
+    if file.metadata()?.len() < len {
+        file.set_len(len)?;
+    }
+    Ok(file)
+}
+
+impl FileDevice {
+    ghost use Rattle.warm_devices.specs.FileParts.{file_state};
+
+    /// Opens the file at `path` as a device of `pages` pages of `page_size` bytes, makes it where it isn't there, and extends a short
+    /// one with zeros. A longer one keeps its length.
+    ///
+    /// # Errors
+    /// `Open` where the system refuses to open, make or extend the file, or where the pages do not fit into 2^63 - 1 bytes, which is
+    /// found before the system is asked; `Memory` where the system or the allocator had none.
+    pub fn open<R: Files<File = File>>(
+        files: &R,
+        path: &str,
+        pages: u32,
+        page_size: usize,
+    ) -> Result<FileDevice, OpenFault>
+        ensures opened { IfOk result (λ device. file_state device ≡ record {
+          pages = pages;
+          page_size = page_size;
+          contents = [];
+          waiting = false;
+          failures = 0;
+          honest = false;
+          unfailing = false;
+        }) }
+        ensures too_large { 2 ^ 63 ≤ pages * page_size → result ≡ Err Open }
+    {
+        let len = match u64::from(pages).checked_mul(page_size as u64) {
+            Some(len) if len < 1 << 63 => len,
+            _ => return Err(OpenFault::Open),
+        };
+        let file = open_sized(files, path, len).map_err(fault_of)?;
+        Ok(FileDevice {
+            file,
+            pages,
+            page_size,
+            waiting: false,
+            failures: 0,
+        })
+    }
+}
+
+impl PageDevice for FileDevice {
+    ghost use Rattle.warm_devices.specs.FileParts.{file_state};
+
+    ghost state = { file_state };
+
+    fn pages(&self) -> u32 {
+        self.pages
+    }
+
+    fn page_size(&self) -> usize {
+        self.page_size
+    }
+
+    fn waiting(&self) -> bool {
+        self.waiting
+    }
+
+    fn failures(&self) -> u64 {
+        self.failures
+    }
+
+    fn read(&mut self, no: u32, into: &mut [u8]) -> Result<(), DeviceFault> {
+        let at = u64::from(no) * self.page_size as u64;
+        if self.file.read_exact_at(into, at).is_err() {
+            self.failures = self.failures.saturating_add(1);
+            return Err(DeviceFault::Read);
+        }
+        Ok(())
+    }
+
+    fn write(&mut self, no: u32, bytes: &[u8]) -> Result<(), DeviceFault> {
+        self.waiting = true;
+        let at = u64::from(no) * self.page_size as u64;
+        if self.file.write_all_at(bytes, at).is_err() {
+            self.failures = self.failures.saturating_add(1);
+            return Err(DeviceFault::Write);
+        }
+        Ok(())
+    }
+
+    fn flush(&mut self) -> Result<(), DeviceFault> {
+        if self.file.sync_all().is_err() {
+            self.failures = self.failures.saturating_add(1);
+            return Err(DeviceFault::Flush);
+        }
+        self.waiting = false;
+        Ok(())
+    }
+
+    fn settle(&mut self) {
+        if self.waiting {
+            let _ = self.flush();
+        }
+    }
+}
+
+impl Drop for FileDevice {
+    fn drop(mut self) {
+        self.settle();
+        let FileDevice {
+            file,
+            pages: _,
+            page_size: _,
+            waiting: _,
+            failures: _,
+        } = self;
+        drop(file);
+    }
+}

@@ -1,0 +1,168 @@
+//! A device that fails one chosen call, to show what stands above it what a failing device does.
+ghost use Rattle.std.specs.Prelude.{◌≡◌, ◌+◌, ◌-◌, ◌^◌, ◌<◌, ◌≤◌, ◌==◌, min, ℕ, IsTrue, IsOk, OnOk, OnErr, length, replicate, true, false, if◌then◌else◌};
+ghost use Rattle.warm_devices.specs.Device.{DeviceState};
+ghost use Rattle.warm_devices.specs.declared.flaky.TheConstants.{MAX_PAGE};
+
+use crate::{DeviceFault, PageDevice};
+
+/// The largest page, in bytes.
+pub const MAX_PAGE: usize = 65536;
+
+/// The bytes of torn pages.
+static TORN: [u8; MAX_PAGE] = [0xEE; MAX_PAGE];
+
+/// A device held by value, of whose reads, writes and flushes one is made to fail.
+///
+/// The calls made through it are counted from 1, and the n-th fails once; after it nothing is counted, and with an n of 0 none fails.
+/// A failed read or flush does not reach the inner device. A failed write fills the page with bytes EE (hexadecimal).
+pub struct Flaky<D: PageDevice> {
+    inner: D,
+    /// How many calls there are up to the one that fails; 0 once it has failed, or where none is to fail.
+    calls_left: u64,
+    failed: u64,
+    ghost fits: { (D.PageDevice.state inner).page_size ≤ MAX_PAGE },
+}
+
+impl<D: PageDevice> Flaky<D> {
+    ghost use Rattle.warm_devices.specs.FlakyParts.{inner_of, calls_left, flaky_state};
+
+    /// Passes calls on to `inner` and fails the `n`-th, or none where `n` is 0. The pages have at most `MAX_PAGE` bytes.
+    pub fn new(inner: D, n: u64) -> Flaky<D>
+        requires { (D.PageDevice.state inner).page_size ≤ MAX_PAGE }
+        ensures inner { inner_of result ≡ inner }
+        ensures calls { calls_left result ≡ n }
+        ensures state { flaky_state result ≡ record (D.PageDevice.state inner) { failures = min (D.PageDevice.state inner).failures (2 ^ 64 - 1); unfailing = false } }
+    {
+        Flaky {
+            inner,
+            calls_left: n,
+            failed: 0,
+        }
+    }
+}
+
+/// Counts a call down, and says whether it is the one that fails.
+fn is_due(calls_left: &mut u64) -> bool
+    ensures due { result ≡ (calls_left.old == 1) }
+    ensures left { calls_left.new ≡ calls_left.old - 1 }
+{
+    let due = *calls_left == 1;
+    *calls_left = calls_left.saturating_sub(1);
+    due
+}
+
+/// What a failed write leaves in a page of `len` bytes.
+fn torn_page(len: usize) -> &'static [u8]
+    requires { len ≤ MAX_PAGE }
+    ensures { result.now ≡ replicate len 0xEE }
+{
+    &TORN[..len]
+}
+
+impl<D: PageDevice> PageDevice for Flaky<D> {
+    ghost use Rattle.std.specs.Prelude.{◌≡◌, ◌-◌, ◌<◌, IsTrue, IsOk, OnOk, OnErr, length, replicate, true, false, if◌then◌else◌};
+    ghost use Rattle.warm_devices.specs.Device.{DeviceState, SameShape, CountsFault, ChangesPage, Settles, page_at};
+    ghost use Rattle.warm_devices.specs.FlakyParts.{inner_of, calls_left, flaky_state, FailsWhenDue};
+    ghost use Rattle.warm_devices.specs.declared.fault.DeviceFault.TheVariants.{Read, Write, Flush};
+
+    ghost state = { flaky_state };
+
+    fn pages(&self) -> u32 {
+        self.inner.pages()
+    }
+
+    fn page_size(&self) -> usize {
+        self.inner.page_size()
+    }
+
+    fn waiting(&self) -> bool {
+        self.inner.waiting()
+    }
+
+    fn failures(&self) -> u64 {
+        self.inner.failures().saturating_add(self.failed)
+    }
+
+    fn read(&mut self, no: u32, into: &mut [u8]) -> Result<(), DeviceFault>
+        requires known { no < (flaky_state self.old).pages }
+        requires sized { length into.old ≡ (flaky_state self.old).page_size }
+        ensures shape { SameShape (flaky_state self.old) (flaky_state self.new) }
+        ensures faults { CountsFault Read result (flaky_state self.old) (flaky_state self.new) }
+        ensures unfailing { IsTrue (flaky_state self.old).unfailing → IsOk result }
+        ensures waiting { (flaky_state self.new).waiting ≡ (flaky_state self.old).waiting }
+        ensures contents { (flaky_state self.new).contents ≡ (flaky_state self.old).contents }
+        ensures bytes { OnOk result (IsTrue (flaky_state self.old).honest → into.new ≡ page_at (flaky_state self.old).contents no) }
+        ensures chosen { FailsWhenDue Read result self.old self.new }
+    {
+        if is_due(&mut self.calls_left) {
+            self.failed = self.failed.saturating_add(1);
+            return Err(DeviceFault::Read);
+        }
+        self.inner.read(no, into)
+    }
+
+    fn write(&mut self, no: u32, bytes: &[u8]) -> Result<(), DeviceFault>
+        requires known { no < (flaky_state self.old).pages }
+        requires sized { length bytes.now ≡ (flaky_state self.old).page_size }
+        ensures shape { SameShape (flaky_state self.old) (flaky_state self.new) }
+        ensures faults { CountsFault Write result (flaky_state self.old) (flaky_state self.new) }
+        ensures unfailing { IsTrue (flaky_state self.old).unfailing → IsOk result }
+        ensures waiting { (flaky_state self.new).waiting ≡ true }
+        ensures others { ChangesPage no (flaky_state self.old).contents (flaky_state self.new).contents }
+        ensures bytes { OnOk result (IsTrue (flaky_state self.old).honest → page_at (flaky_state self.new).contents no ≡ bytes.now) }
+        ensures chosen { FailsWhenDue Write result self.old self.new }
+        ensures torn { calls_left self.old ≡ 1 → IsTrue (D.PageDevice.state (inner_of self.old)).unfailing → IsTrue (flaky_state self.old).honest
+            → page_at (flaky_state self.new).contents no ≡ replicate (flaky_state self.old).page_size 0xEE }
+    {
+        if is_due(&mut self.calls_left) {
+            // A failure of the inner write has been counted by it.
+            if self.inner.write(no, torn_page(bytes.len())).is_ok() {
+                self.failed = self.failed.saturating_add(1);
+            }
+            return Err(DeviceFault::Write);
+        }
+        self.inner.write(no, bytes)
+    }
+
+    fn flush(&mut self) -> Result<(), DeviceFault>
+        ensures shape { SameShape (flaky_state self.old) (flaky_state self.new) }
+        ensures faults { CountsFault Flush result (flaky_state self.old) (flaky_state self.new) }
+        ensures unfailing { IsTrue (flaky_state self.old).unfailing → IsOk result }
+        ensures flushed { OnOk result ((flaky_state self.new).waiting ≡ false) }
+        ensures failed { OnErr result ((flaky_state self.new).waiting ≡ (flaky_state self.old).waiting) }
+        ensures contents { (flaky_state self.new).contents ≡ (flaky_state self.old).contents }
+        ensures chosen { FailsWhenDue Flush result self.old self.new }
+    {
+        if is_due(&mut self.calls_left) {
+            self.failed = self.failed.saturating_add(1);
+            return Err(DeviceFault::Flush);
+        }
+        self.inner.flush()
+    }
+
+    /// A flush that this makes counts as one of the calls.
+    fn settle(&mut self)
+        ensures shape { SameShape (flaky_state self.old) (flaky_state self.new) }
+        ensures settled { Settles (flaky_state self.old) (flaky_state self.new) }
+        ensures unfailing { IsTrue (flaky_state self.old).unfailing → (flaky_state self.new).waiting ≡ false }
+        ensures contents { (flaky_state self.new).contents ≡ (flaky_state self.old).contents }
+        ensures counted { calls_left self.new ≡ (if (flaky_state self.old).waiting then calls_left self.old - 1 else calls_left self.old) }
+        ensures due { calls_left self.old ≡ 1 → (flaky_state self.new).waiting ≡ (flaky_state self.old).waiting }
+    {
+        if self.waiting() {
+            let _ = self.flush();
+        }
+    }
+}
+
+impl<D: PageDevice> Drop for Flaky<D> {
+    fn drop(mut self) {
+        self.settle();
+        let Flaky {
+            inner,
+            calls_left: _,
+            failed: _,
+        } = self;
+        drop(inner);
+    }
+}
