@@ -1,0 +1,375 @@
+-- The second pass of the rule: each step keeps one legal history, in which the calls of each pass stand once.
+use Rattle.std.proofs.Common.{◌≡◌, ◌≢◌, ℕ, zero, suc, ◌+◌, ◌≤◌, eqb, List, [], ◌∷◌, ◌++◌, length, set, Option, Some, true, false, refl, sym, ap, ◌∙◌, subst, ⊎_elim, arith, length-set, eq-eqb, ne_eqb, length-append, append-nil}
+use mathlib.Core.Option.{some, some-injective, some-ne-none}
+use mathlib.Core.Option as maybe
+use mathlib.Core.List.{IsPrefix}
+use lib.ListN.{get_elem?}
+use prog.Atomic.{either}
+use Rattle.atomic_table.proofs.Lists.{at_longer, set_again, set_else, set_here}
+use Rattle.warm_turn.specs.declared.board.Entry.{Entry}
+use Rattle.warm_turn.specs.declared.board.Ended.{Ended}
+use Rattle.warm_turn.specs.declared.board.View.{View}
+use Rattle.warm_turn.specs.declared.board.Held.{Held}
+use Rattle.warm_turn.specs.Turns.{nobody, calls_by, NoRepeat, Runs, IsNote, IsPass, first_pass, note_of, new_pass, learned, as_ended, joined, settled}
+use Rattle.warm_turn.specs.Steps.{server, after_call}
+use Rattle.warm_turn.specs.Rule.{IsGone, IsRecorded, OneHistory}
+use Rattle.warm_turn.proofs.Lists.{off, Some_same, inside, same_at, now_at, at_end, at_either, one_member, each_set, IsPrefix-self, IsPrefix-append, calls_by-mine, calls_by-other, calls_by-prefix, NoRepeat-join, NoRepeat-one, Runs-push, Runs-front}
+
+module _ {X C R : Type 0} where
+  -- a seat that sees is not spent
+  pub apart_of : (vs : List (View X C R)) (me n : ℕ) (v : View X C R) → get_elem? vs me ≡ some v → v.sees ≡ true → IsGone vs n → n ≢ me
+  apart_of vs me n v at sees g e = off sees (ap (λ (u : View X C R). u.sees) (same_at vs me v g.0 at (subst (λ k. get_elem? vs k ≡ some g.0) e g.1)) ∙ g.2)
+
+  gone_set : (vs : List (View X C R)) (me : ℕ) (v w : View X C R) → get_elem? vs me ≡ some v → v.sees ≡ true → (n : ℕ) → IsGone vs n → IsGone (set vs me w) n
+  gone_set vs me v w at sees n g = (g.0, set_else vs me n w (apart_of vs me n v at sees g) ∙ g.1, g.2, g.3)
+
+  gone_longer : (vs ws : List (View X C R)) (n : ℕ) → IsGone vs n → IsGone (vs ++ ws) n
+  gone_longer vs ws n g = (g.0, at_longer vs ws n g.0 g.1, g.2, g.3)
+
+  -- where more seats are spent, what the history says of a seat stays
+  more_gone : (o : X) (log : List (Entry C R)) (x : X) (owner : ℕ → ℕ) (vs vs' : List (View X C R)) (j : ℕ) (u : View X C R)
+      → ((m : ℕ) → IsGone vs m → IsGone vs' m) → IsRecorded o log x owner vs j u → IsRecorded o log x owner vs' j u
+  more_gone o log x owner vs vs' j u more f = record {
+    sight = f.sight;
+    unused = f.unused;
+    own = f.own;
+    others = λ h a e at. let z = f.others h a e at in (z.0, z.1, more e.number z.2);
+    apart = f.apart;
+    serving = f.serving;
+  }
+
+  -- what the history says of a spent seat
+  nobody_recorded : (o : X) (log : List (Entry C R)) (x : X) (owner : ℕ → ℕ) (vs : List (View X C R)) (j : ℕ) → IsRecorded o log x owner vs j nobody
+  nobody_recorded o log x owner vs j = record {
+    sight = λ h. off h refl;
+    unused = λ h. off h refl;
+    own = λ h. off h refl;
+    others = λ h. off h refl;
+    apart = λ h. off h refl;
+    serving = λ h. off h refl;
+  }
+
+  -- what the history says of a seat does not rest on its ticket or its marks
+  pub same_recorded : (o : X) (log : List (Entry C R)) (x : X) (owner : ℕ → ℕ) (vs : List (View X C R)) (me : ℕ) (v w : View X C R)
+      → get_elem? vs me ≡ some v → v.sees ≡ true → w.sees ≡ v.sees → w.owns ≡ v.owns → w.serves ≡ v.serves → w.number ≡ v.number → w.opening ≡ v.opening → w.state ≡ v.state → w.seen ≡ v.seen → w.also ≡ v.also → w.mine ≡ v.mine → w.ended ≡ v.ended
+      → IsRecorded o log x owner vs me v → IsRecorded o log x owner (set vs me w) me w
+  same_recorded o log x owner vs me v w at sees sees' owns serves number opening state seen also mine ended f = record {
+    sight = λ h. let z = f.sight sees in (opening ∙ z.0, subst (λ l. IsPrefix l log) (sym seen) z.1, subst (λ l. IsPrefix l log) (sym also) z.2);
+    unused = λ h no. f.unused sees (sym owns ∙ no);
+    own = λ h. let z = f.own (sym owns ∙ h) in (sees' ∙ z.0, number ∙ z.1, z.2 ∙ sym mine);
+    others = λ h a e here. let z = f.others (sym owns ∙ h) a e (subst (λ (l : List (Ended C R)). get_elem? l a ≡ some e) ended here) in (z.0, z.1, gone_set vs me v w at sees e.number z.2);
+    apart = λ h. subst (λ (l : List (Ended C R)). NoRepeat l) (sym ended) (f.apart (sym owns ∙ h));
+    serving = λ h. let z = f.serving (sym serves ∙ h) in (seen ∙ z.0, state ∙ z.1);
+  }
+
+module _ {M X C R : Type 0} (meaning : M → X) (goes : X → C → R → X → Type 0) (o : X) where
+  abbrev V : Type 0
+  V = View X C R
+
+  abbrev H : Type 0
+  H = Held M C R
+
+  abbrev Homes : Type 0
+  Homes = List (maybe.Option (Option H))
+
+  abbrev One : Homes → List V → Type 0
+  One = OneHistory meaning goes o
+
+  -- a step that changes a view alone
+  pub stays : (homes : Homes) (vs : List V) (r : One homes vs) (me : ℕ) (v w : V) → get_elem? vs me ≡ some v → v.sees ≡ true → IsRecorded o r.log r.state r.owner (set vs me w) me w → One homes (set vs me w)
+  stays homes vs r me v w at sees mine = record {
+    log = r.log;
+    state = r.state;
+    owner = r.owner;
+    legal = r.legal;
+    home = r.home;
+    each = each_set (IsRecorded o r.log r.state r.owner (set vs me w)) vs me w mine
+        (λ j u n e. more_gone o r.log r.state r.owner vs (set vs me w) j u (gone_set vs me v w at sees) (r.each j u e));
+    unborn = λ j le. r.unborn j (subst (λ k. k ≤ j) (length-set vs me w) le);
+  }
+
+  -- an idle pass sees the history so far
+  pub settles : (homes : Homes) (vs : List V) (r : One homes vs) (me : ℕ) (v : V) → get_elem? vs me ≡ some v → v.owns ≡ true → v.waits ≡ false → v.serves ≡ false
+      → IsRecorded o r.log r.state r.owner (set vs me (settled v r.log)) me (settled v r.log) × IsPass goes (settled v r.log)
+  settles homes vs r me v at owns idle rests =
+      let f = r.each me v at in
+      let sees = (f.own owns).0 in
+      let w = settled v r.log in (
+        record {
+          sight = λ h. ((f.sight sees).0, IsPrefix-self r.log, (r.log, refl));
+          unused = f.unused;
+          own = f.own;
+          others = λ h a e at'. let z = f.others owns a e at' in (z.0, z.1, gone_set vs me v w at sees e.number z.2);
+          apart = f.apart;
+          serving = λ h. off h rests;
+        },
+        record {
+          alive = (sees, owns);
+          idle = (idle, rests, refl);
+          legal = (o, r.state, (f.sight sees).0, r.legal);
+          own = ap (λ k. calls_by k r.log) ((f.own owns).1) ∙ (f.own owns).2;
+          others = λ a e at'. let z = f.others owns a e at' in (z.1, (λ same. apart_of vs me e.number v at sees z.2 (same ∙ (f.own owns).1)));
+          apart = f.apart owns;
+        },
+      )
+
+  -- a note becomes a pass of a number that has no entry
+  pub becomes : (homes : Homes) (vs : List V) (r : One homes vs) (me : ℕ) (v : V) → get_elem? vs me ≡ some v → v.sees ≡ true → v.owns ≡ false
+      → IsRecorded o r.log r.state r.owner (set vs me (new_pass v me)) me (new_pass v me) × IsPass goes (new_pass v me)
+  becomes homes vs r me v at sees not_yet =
+      let f = r.each me v at in
+      let none_yet = f.unused sees not_yet in
+      let here = f.sight sees in
+      let front = Runs-front goes o r.state v.seen here.1.0 (subst (λ l. Runs goes o l r.state) (sym here.1.1) r.legal) in (
+        record {
+          sight = λ h. (here.0, here.1, (r.log, refl));
+          unused = λ _ h. off refl h;
+          own = λ h. (refl, refl, none_yet);
+          others = λ h a e at'. absurd (some-ne-none e (sym at'));
+          apart = λ h a b e g p. absurd (some-ne-none e (sym p));
+          serving = λ h. off h refl;
+        },
+        record {
+          alive = (refl, refl);
+          idle = (refl, refl, refl);
+          legal = (o, front.0, here.0, front.1);
+          own = calls_by-prefix me v.seen r.log here.1 none_yet;
+          others = λ a e at'. absurd (some-ne-none e (sym at'));
+          apart = λ a b e g p. absurd (some-ne-none e (sym p));
+        },
+      )
+
+  -- a pass takes the machine, and sees the history so far
+  pub takes_machine : (homes : Homes) (vs : List V) (r : One homes vs) (me : ℕ) (v : V) (h : H) → get_elem? vs me ≡ some v → v.owns ≡ true → get_elem? homes 0 ≡ some (some (Some h))
+      → One (set homes 0 maybe.none) (set vs me (server v r.log (meaning h.machine)))
+  takes_machine homes vs r me v h at owns home =
+      let w : V = server v r.log (meaning h.machine) in
+      let ws : List V = set vs me w in
+      let f = r.each me v at in
+      let sees = (f.own owns).0 in
+      record {
+        log = r.log;
+        state = r.state;
+        owner = r.owner;
+        legal = r.legal;
+        home = λ k there. absurd (some-ne-none (Some k) (sym (same_at (set homes 0 maybe.none) 0 maybe.none (some (Some k)) (now_at homes 0 (some (Some h)) maybe.none home) there)));
+        each = each_set (IsRecorded o r.log r.state r.owner ws) vs me w
+            record {
+              sight = λ _. ((f.sight sees).0, IsPrefix-self r.log, (f.sight sees).2);
+              unused = f.unused;
+              own = f.own;
+              others = λ h' b e at'. let z = f.others h' b e at' in (z.0, z.1, gone_set vs me v w at sees e.number z.2);
+              apart = f.apart;
+              serving = λ _. (refl, ap Some (r.home h home));
+            }
+            (λ j u other e. more_gone o r.log r.state r.owner vs ws j u (gone_set vs me v w at sees) (r.each j u e));
+        unborn = λ j le. r.unborn j (subst (λ z. z ≤ j) (length-set vs me w) le);
+      }
+
+  -- the pass that has the machine adds its call to the history and gives the machine back. It has then seen the whole history, and is idle
+  pub passes_on : (homes : Homes) (vs : List V) (r : One homes vs) (me : ℕ) (v : V) (h : H) (x : X) (e : Entry C R) → get_elem? vs me ≡ some v → v.owns ≡ true → v.serves ≡ true → v.also ≡ [] → v.state ≡ Some x
+      → length homes ≡ 1 → ((j : ℕ) (u : V) → j ≢ me → get_elem? vs j ≡ some u → u.serves ≡ true → ⊥) → e.by ≡ v.number → goes x e.call e.reply (meaning h.machine)
+      → One (set homes 0 (some (Some h))) (set vs me (after_call v e)) × IsPass goes (after_call v e)
+  passes_on homes vs r me v h x e at owns serves also state one alone by did =
+      let f = r.each me v at in
+      let a = f.serving serves in
+      let sees = (f.own owns).0 in
+      let number : e.by ≡ me = by ∙ (f.own owns).1 in
+      let w : V = after_call v e in
+      let log : List (Entry C R) = r.log ++ e ∷ [] in
+      let y : X = meaning h.machine in
+      let ws : List V = set vs me w in
+      let same : x ≡ r.state = Some_same x r.state (sym state ∙ a.1) in
+      let legal : Runs goes o log y = Runs-push goes o r.state y r.log e r.legal (subst (λ z. goes z e.call e.reply y) same did) in
+      let grown : v.seen ++ e ∷ [] ≡ log = ap (λ l. l ++ e ∷ []) a.0 in
+      let elsewhere : (j : ℕ) → j ≢ me → e.by ≢ j = λ j other here. other (sym here ∙ number) in
+      let own' : calls_by me log ≡ v.mine ++ e ∷ [] = calls_by-mine me r.log e number ∙ ap (λ l. l ++ e ∷ []) ((f.own owns).2) in
+      let sight' = f.sight sees in
+      let others' : (b : ℕ) (c : Ended C R) → get_elem? v.ended b ≡ some c → (calls_by c.number log ≡ c.calls) × (c.number ≢ me) =
+      λ b c at'. let z = f.others owns b c at' in let not = apart_of vs me c.number v at sees z.2 in (calls_by-other c.number r.log e (elsewhere c.number not) ∙ z.1, not) in (
+        record {
+          log = log;
+          state = y;
+          owner = r.owner;
+          legal = legal;
+          home = λ k there. ap (λ (z : H). meaning z.machine) (sym (Some_same h k (some-injective (Some h) (Some k) (some-injective (some (Some h)) (some (Some k)) (sym (set_here homes 0 (some (Some h)) (omega arith)) ∙ there)))));
+          each = each_set (IsRecorded o log y r.owner ws) vs me w
+              record {
+                sight = λ _. (sight'.0, ([], append-nil (v.seen ++ e ∷ []) ∙ grown), IsPrefix-append v.also r.log (e ∷ []) sight'.2);
+                unused = λ _ no. off owns no;
+                own = λ _. (sees, (f.own owns).1, own');
+                others = λ _ b c at'. let z = f.others owns b c at' in (z.0, (others' b c at').0, gone_set vs me v w at sees c.number z.2);
+                apart = f.apart;
+                serving = λ no. off no refl;
+              }
+              (λ j u other at'.
+              let g = r.each j u at' in
+              record {
+                sight = λ sees'. let z = g.sight sees' in (z.0, IsPrefix-append u.seen r.log (e ∷ []) z.1, IsPrefix-append u.also r.log (e ∷ []) z.2);
+                unused = λ sees' no. calls_by-other j r.log e (elsewhere j other) ∙ g.unused sees' no;
+                own = λ owns'. let z = g.own owns' in (z.0, z.1, calls_by-other j r.log e (elsewhere j other) ∙ z.2);
+                others = λ owns' b c at''. let z = g.others owns' b c at'' in let not = apart_of vs me c.number v at sees z.2 in
+                    (z.0, calls_by-other c.number r.log e (elsewhere c.number not) ∙ z.1, gone_set vs me v w at sees c.number z.2);
+                apart = g.apart;
+                serving = λ serves'. absurd (alone j u other at' serves');
+              });
+          unborn = λ j le'. let long : length vs ≤ j = subst (λ z. z ≤ j) (length-set vs me w) le' in let here = inside vs me v at in
+              calls_by-other j r.log e (elsewhere j (λ q. omega arith)) ∙ r.unborn j long;
+        },
+        record {
+          alive = (sees, owns);
+          idle = (refl, refl, also);
+          legal = (o, y, sight'.0, subst (λ l. Runs goes o l y) (sym grown) legal);
+          own = ap (λ l. calls_by v.number l) grown ∙ (ap (λ z. calls_by z log) ((f.own owns).1) ∙ own');
+          others = λ b c at'. let z = others' b c at' in (ap (calls_by c.number) grown ∙ z.0, (λ q. z.1 (q ∙ (f.own owns).1)));
+          apart = f.apart owns;
+        },
+      )
+
+  -- a new seat has seen what the old one has, and no entry has its number
+  pub splits : (homes : Homes) (vs : List V) (r : One homes vs) (me : ℕ) (v : V) → get_elem? vs me ≡ some v → v.sees ≡ true → One homes (set vs me v ++ note_of v ∷ [])
+  splits homes vs r me v at sees =
+      let w : V = note_of v in
+      let ws : List V = vs ++ w ∷ [] in
+      let f = r.each me v at in
+      subst (λ (l : List V). One homes (l ++ w ∷ [])) (sym (set_again vs me v at)) record {
+        log = r.log;
+        state = r.state;
+        owner = r.owner;
+        legal = r.legal;
+        home = r.home;
+        each = λ j u e. ⊎_elim
+            (λ (old : get_elem? vs j ≡ some u). more_gone o r.log r.state r.owner vs ws j u (gone_longer vs (w ∷ [])) (r.each j u old))
+            (λ (new : (j ≡ length vs) × (w ≡ u)).
+            subst (λ (z : V). IsRecorded o r.log r.state r.owner ws j z) new.1 record {
+              sight = λ _. ((f.sight sees).0, (f.sight sees).1, (r.log, refl));
+              unused = λ _ _. let here = new.0 in r.unborn j (omega arith);
+              own = λ no. off no refl;
+              others = λ no. off no refl;
+              apart = λ no. off no refl;
+              serving = λ no. off no refl;
+            })
+            (at_end vs w u j e);
+        unborn = λ j le. let long = length-append vs (w ∷ []) in r.unborn j (omega arith);
+      }
+
+  -- a seat is spent, and another takes what it knows and holds
+  merges : (homes : Homes) (vs : List V) (r : One homes vs) (me other : ℕ) (w : V) (owner : ℕ → ℕ)
+      → IsRecorded o r.log r.state owner (set (set vs me w) other nobody) me w
+      → ((j : ℕ) (z : V) → j ≢ me → j ≢ other → get_elem? vs j ≡ some z → IsRecorded o r.log r.state owner (set (set vs me w) other nobody) j z)
+      → One homes (set (set vs me w) other nobody)
+  merges homes vs r me other w owner mine others =
+      let us : List V = set (set vs me w) other nobody in
+      let F = IsRecorded o r.log r.state owner us in
+      record {
+        log = r.log;
+        state = r.state;
+        owner = owner;
+        legal = r.legal;
+        home = r.home;
+        each = each_set F (set vs me w) other nobody (nobody_recorded o r.log r.state owner us other)
+            (λ j z n e. each_set (λ i y. i ≢ other → F i y) vs me w (λ _. mine) (λ i y n' e' n''. others i y n' n'' e') j z e n);
+        unborn = λ j le. r.unborn j (subst (λ k. k ≤ j) (length-set (set vs me w) other nobody ∙ length-set vs me w) le);
+      }
+
+  -- seats that are spent stay so, and the other is
+  gone_both : (vs : List V) (me other : ℕ) (v u w : V) → get_elem? vs me ≡ some v → get_elem? (set vs me w) other ≡ some u → v.sees ≡ true → u.sees ≡ true
+      → (n : ℕ) → IsGone vs n → IsGone (set (set vs me w) other nobody) n
+  gone_both vs me other v u w at there sees sees' n g = gone_set (set vs me w) other u nobody there sees' n (gone_set vs me v w at sees n g)
+
+  -- a pass learns what a note says
+  pub learns : (homes : Homes) (vs : List V) (r : One homes vs) (me other : ℕ) (v u : V) → get_elem? vs me ≡ some v → other ≢ me → get_elem? (set vs me (learned v u)) other ≡ some u → v.owns ≡ true → IsNote u
+      → One homes (set (set vs me (learned v u)) other nobody)
+  learns homes vs r me other v u at apart there owns note =
+      let w : V = learned v u in
+      let f = r.each me v at in
+      let sees = (f.own owns).0 in
+      let g = r.each other u (sym (set_else vs me other w apart) ∙ there) in
+      let more = gone_both vs me other v u w at there sees note.0 in
+      merges homes vs r me other w r.owner
+      record {
+        sight = λ _. ((f.sight sees).0, (f.sight sees).1, (g.sight note.0).1);
+        unused = f.unused;
+        own = f.own;
+        others = λ h a e at'. let z = f.others h a e at' in (z.0, z.1, more e.number z.2);
+        apart = f.apart;
+        serving = f.serving;
+      }
+      (λ j z _ _ e. more_gone o r.log r.state r.owner vs (set (set vs me w) other nobody) j z more (r.each j z e))
+
+  -- a pass is ended into another
+  pub ends : (homes : Homes) (vs : List V) (r : One homes vs) (me other : ℕ) (v u : V) → get_elem? vs me ≡ some v → other ≢ me → get_elem? (set vs me (joined v u)) other ≡ some u → v.owns ≡ true → u.owns ≡ true
+      → One homes (set (set vs me (joined v u)) other nobody)
+  ends homes vs r me other v u at apart there owns owns' =
+      let w : V = joined v u in
+      let f = r.each me v at in
+      let sees = (f.own owns).0 in
+      let there' : get_elem? vs other ≡ some u = sym (set_else vs me other w apart) ∙ there in
+      let g = r.each other u there' in
+      let sees' = (g.own owns').0 in
+      let number : u.number ≡ other = (g.own owns').1 in
+      let more = gone_both vs me other v u w at there sees sees' in
+      let us : List V = set (set vs me w) other nobody in
+      let owner : ℕ → ℕ = λ n. either (eqb n other) me (either (eqb (r.owner n) other) me (r.owner n)) in
+      let owner_other : (n : ℕ) → n ≡ other → owner n ≡ me = λ n e. ap (λ b. either b me (either (eqb (r.owner n) other) me (r.owner n))) (eq-eqb n other e) in
+      let owner_else : (n : ℕ) → n ≢ other → owner n ≡ either (eqb (r.owner n) other) me (r.owner n) = λ n e. ap (λ b. either b me (either (eqb (r.owner n) other) me (r.owner n))) (ne_eqb n other e) in
+      let owner_moved : (n : ℕ) → n ≢ other → r.owner n ≡ other → owner n ≡ me = λ n e h. owner_else n e ∙ ap (λ b. either b me (r.owner n)) (eq-eqb (r.owner n) other h) in
+      let owner_kept : (n j : ℕ) → n ≢ other → r.owner n ≡ j → j ≢ other → owner n ≡ j = λ n j e h k. owner_else n e ∙ (ap (λ b. either b me (r.owner n)) (ne_eqb (r.owner n) other (λ q. k (sym h ∙ q))) ∙ h) in
+      let alive : (n : ℕ) → IsGone vs n → n ≢ other = λ n gone. apart_of vs other n u there' sees' gone in
+      let held : (a : ℕ) (e : Ended C R) → get_elem? w.ended a ≡ some e → (owner e.number ≡ me) × (calls_by e.number r.log ≡ e.calls) × IsGone us e.number =
+      λ a e at'. ⊎_elim
+      (λ (x : get_elem? v.ended a ≡ some e). let z = f.others owns a e x in (owner_kept e.number me (alive e.number z.2) z.0 (λ q. apart (sym q)), z.1, more e.number z.2))
+      (λ (x : (b : ℕ) × (a ≡ length v.ended + b) × (get_elem? (as_ended u ∷ u.ended) b ≡ some e)). ⊎_elim
+      (λ (y : get_elem? (as_ended u ∷ []) x.0 ≡ some e).
+      subst (λ (c : Ended C R). (owner c.number ≡ me) × (calls_by c.number r.log ≡ c.calls) × IsGone us c.number) (one_member (as_ended u) e x.0 y)
+      (owner_other u.number number, ap (λ k. calls_by k r.log) number ∙ (g.own owns').2, subst (λ k. IsGone us k) (sym number) (nobody, now_at (set vs me w) other u nobody there, refl, refl)))
+      (λ (y : (b : ℕ) × (x.0 ≡ 1 + b) × (get_elem? u.ended b ≡ some e)). let z = g.others owns' y.0 e y.2 in (owner_moved e.number (alive e.number z.2) z.0, z.1, more e.number z.2))
+      (at_either (as_ended u ∷ []) u.ended x.0 e x.2))
+      (at_either v.ended (as_ended u ∷ u.ended) a e at') in
+      merges homes vs r me other w owner
+      record {
+        sight = λ _. ((f.sight sees).0, (f.sight sees).1, (g.sight sees').1);
+        unused = f.unused;
+        own = f.own;
+        others = λ _. held;
+        apart = λ _. NoRepeat-join v.ended (as_ended u ∷ u.ended) (f.apart owns)
+            (NoRepeat-join (as_ended u ∷ []) u.ended (NoRepeat-one (as_ended u)) (g.apart owns')
+            (λ a b e c p q same. let z = g.others owns' b c q in alive c.number z.2 (sym same ∙ (ap (λ (k : Ended C R). k.number) (sym (one_member (as_ended u) e a p)) ∙ number))))
+            (λ a b e c p q same. let z = f.others owns a e p in ⊎_elim
+            (λ (y : get_elem? (as_ended u ∷ []) b ≡ some c). alive e.number z.2 (same ∙ (ap (λ (k : Ended C R). k.number) (sym (one_member (as_ended u) c b y)) ∙ number)))
+            (λ (y : (d : ℕ) × (b ≡ 1 + d) × (get_elem? u.ended d ≡ some c)). let x = g.others owns' y.0 c y.2 in apart (sym x.0 ∙ (ap r.owner (sym same) ∙ z.0)))
+            (at_either (as_ended u ∷ []) u.ended b c q));
+        serving = f.serving;
+      }
+      (λ j z _ k e.
+      let i = r.each j z e in
+      record {
+        sight = i.sight;
+        unused = i.unused;
+        own = i.own;
+        others = λ h a c at'. let x = i.others h a c at' in (owner_kept c.number j (alive c.number x.2) x.0 k, x.1, more c.number x.2);
+        apart = i.apart;
+        serving = i.serving;
+      })
+
+  pub begins : (h : H) → meaning h.machine ≡ o → One (some (Some h) ∷ []) (first_pass o ∷ [])
+  begins h is = record {
+    log = [];
+    state = o;
+    owner = λ _. 0;
+    legal = refl;
+    home = λ k there. ap (λ (z : H). meaning z.machine) (sym (Some_same h k (some-injective (Some h) (Some k) (some-injective (some (Some h)) (some (Some k)) there)))) ∙ is;
+    each = λ j u e. subst (λ (z : V). IsRecorded o [] o (λ _. 0) (first_pass o ∷ []) j z) (one_member (first_pass o) u j e) record {
+      sight = λ _. (refl, ([], refl), ([], refl));
+      unused = λ _ no. off refl no;
+      own = λ _. (refl, number_of j u e, refl);
+      others = λ _ a c at'. absurd (some-ne-none c (sym at'));
+      apart = λ _ a b c d p. absurd (some-ne-none c (sym p));
+      serving = λ no. off no refl;
+    };
+    unborn = λ j le. refl;
+  }
+    where
+      number_of : (j : ℕ) (u : V) → get_elem? (first_pass o ∷ []) j ≡ some u → 0 ≡ j
+      number_of zero u e = refl
+      number_of (suc j) u e = absurd (some-ne-none u (sym e))

@@ -1,0 +1,34 @@
+use Rattle.std.proofs.Common.{◌≡◌, ◌+◌, ◌^◌, sym, ap, ◌∙◌, subst}
+use Rattle.warm_turn.specs.Turns.{IsLast}
+use Rattle.warm_turn.proofs.Lists.{word_of}
+use Rattle.warm_turn.proofs.Keeps.{closes, mark_at_end}
+use Rattle.warm_turn.proofs.turn.Turn.close.Goals as goal
+
+pub machine_of-requires : goal.machine_of-requires
+machine_of-requires g c =
+    let even = word_of _ 0 _ c.word-ticket.ensures ∙ (c.if-ticket-serving.false ∙ sym (word_of _ 1 _ c.word-serving.ensures)) in
+    let t = closes g.M.Machine.meaning g.M.Machine.is_fit g.M.Machine.goes _ _ c.pass.inside.place.me.0 _ _ c.pass.invariant.1 c.close_with-closed.ensures.values.2 even _ c.take-slot.ensures.value in
+    (t.0, t.1)
+
+pub returns-clause-last : goal.returns-clause-last
+returns-clause-last g c =
+    let even = word_of _ 0 _ c.word-ticket.ensures ∙ (c.if-ticket-serving.false ∙ sym (word_of _ 1 _ c.word-serving.ensures)) in
+    let t = closes g.M.Machine.meaning g.M.Machine.is_fit g.M.Machine.goes _ _ c.pass.inside.place.me.0 _ _ c.pass.invariant.1 c.close_with-closed.ensures.values.2 even _ c.take-slot.ensures.value in
+    let same = c.machine_of.ensures t.0 t.1 in
+    let goes = g.M.Machine.goes in
+    let meaning = g.M.Machine.meaning in
+    let o = meaning c.self.inside.table.shared.key.value in
+    let here = subst (λ m. IsLast goes o c.pass.inside.place.me.0 (meaning m)) (sym same) t.2 in
+    let seen = subst (λ v. IsLast goes o v (meaning c.machine_of.result)) (ap (λ p. p.view) c.pass.view_is) here in
+    subst (λ x. IsLast goes x c.args.pass.view (meaning c.machine_of.result)) (ap (λ s. s.opening) c.self.view_is) seen
+
+pub returns-clause-fit : goal.returns-clause-fit
+returns-clause-fit g c =
+    let even = word_of _ 0 _ c.word-ticket.ensures ∙ (c.if-ticket-serving.false ∙ sym (word_of _ 1 _ c.word-serving.ensures)) in
+    let t = closes g.M.Machine.meaning g.M.Machine.is_fit g.M.Machine.goes _ _ c.pass.inside.place.me.0 _ _ c.pass.invariant.1 c.close_with-closed.ensures.values.2 even _ c.take-slot.ensures.value in
+    subst g.M.Machine.is_fit (sym (c.machine_of.ensures t.0 t.1)) t.3
+
+pub returns-then-ticket-serving-clause-mark : goal.returns-then-ticket-serving-clause-mark
+returns-then-ticket-serving-clause-mark g c mark =
+    let found = ap (λ p. p.view.found_last) c.pass.view_is ∙ mark in
+    subst (λ z. z + 1 ≡ 2 ^ 64) (word_of _ 0 _ c.word-ticket.ensures) (mark_at_end g.M.Machine.meaning g.M.Machine.is_fit g.M.Machine.goes _ _ c.pass.inside.place.me.0 _ _ c.close_with-closed.ensures.values.2 found)

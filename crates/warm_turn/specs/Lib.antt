@@ -1,0 +1,5 @@
+pub mod Turns
+pub mod Rule
+pub mod Steps
+pub mod Laws
+pub mod Counting

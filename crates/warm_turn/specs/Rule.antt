@@ -1,0 +1,76 @@
+-- The rule of the turn, in two passes. It holds between any two steps of any threads.
+-- Word 0 is the ticket word, the next ticket. Word 1 is the serving word, the ticket whose holder may have the machine. The slot holds the machine.
+use Rattle.std.specs.Prelude.{◌≡◌, ◌⊎◌, ℕ, ◌+◌, ◌^◌, ◌<◌, ◌≤◌, List, [], length, slice_index, true, false, Option, Some}
+use mathlib.Core.Option.{some}
+use mathlib.Core.Option as maybe
+use mathlib.Core.List.{IsPrefix}
+use lib.ListN.{get_elem?}
+use Rattle.atomic_table.specs.Table.{State}
+use Rattle.warm_turn.specs.declared.board.Entry.{Entry}
+use Rattle.warm_turn.specs.declared.board.Ended.{Ended}
+use Rattle.warm_turn.specs.declared.board.View.{View}
+use Rattle.warm_turn.specs.declared.board.Held.{Held}
+use Rattle.warm_turn.specs.Turns.{calls_by, NoRepeat, Runs}
+
+abbrev pub ticket_word : {S V : Type 0} → State S V → ℕ
+ticket_word s = slice_index s.words 0
+
+abbrev pub serving_word : {S V : Type 0} → State S V → ℕ
+serving_word s = slice_index s.words 1
+
+-- The first pass: the words and the slot
+
+module _ {X C R : Type 0} where
+  -- what the words say of the seat j with the view v, where `turn` is the seat that took each ticket
+  pub record IsQueued (next served : ℕ) (turn : ℕ → ℕ) (j : ℕ) (v : View X C R) : Type 0 where
+    pub ticket : v.waits ≡ true → (v.owns ≡ true) × (served ≤ v.ticket) × (v.ticket < next) × (turn v.ticket ≡ j)
+    pub serving : v.serves ≡ true → (v.waits ≡ true) × (v.ticket ≡ served)
+    pub full : v.found_last ≡ true → next + 1 ≡ 2 ^ 64
+
+module _ {M X C R : Type 0} where
+  -- the machine is at home and fit, or out with this seat
+  abbrev pub HomeOrOut : (M → Type 0) → ℕ → List (maybe.Option (Option (Held M C R))) → List (View X C R) → Type 0
+  HomeOrOut fit seat homes views =
+      ((h : Held M C R) × (get_elem? homes 0 ≡ some (some (Some h))) × fit h.machine)
+      ⊎ ((v : View X C R) × (get_elem? homes 0 ≡ some maybe.none) × (get_elem? views seat ≡ some v) × (v.serves ≡ true))
+
+  -- tickets are served in the order in which they were taken, and the machine is out only with the holder of the served ticket
+  pub record InTurn (fit : M → Type 0) (s : State (Option (Held M C R)) (View X C R)) : Type 0 where
+    pub turn : ℕ → ℕ
+    pub two : length s.words ≡ 2
+    pub one : length s.homes ≡ 1
+    pub order : serving_word s ≤ ticket_word s
+    pub small : ticket_word s < 2 ^ 64
+    pub home : HomeOrOut fit (turn (serving_word s)) s.homes s.views
+    pub each : (j : ℕ) (v : View X C R) → get_elem? s.views j ≡ some v → IsQueued (ticket_word s) (serving_word s) turn j v
+
+-- The second pass: entries, old lists, numbers and own calls
+
+module _ {X C R : Type 0} where
+  -- the seat of this number is spent
+  abbrev pub IsGone : List (View X C R) → ℕ → Type 0
+  IsGone views n = (u : View X C R) × (get_elem? views n ≡ some u) × (u.sees ≡ false) × (u.owns ≡ false)
+
+  -- what the history says of the seat j with the view v, where `owner` is the pass that each ended pass was ended into
+  pub record IsRecorded (opening : X) (log : List (Entry C R)) (state : X) (owner : ℕ → ℕ) (views : List (View X C R)) (j : ℕ) (v : View X C R) : Type 0 where
+    pub sight : v.sees ≡ true → (v.opening ≡ Some opening) × IsPrefix v.seen log × IsPrefix v.also log
+    pub unused : v.sees ≡ true → v.owns ≡ false → calls_by j log ≡ []
+    pub own : v.owns ≡ true → (v.sees ≡ true) × (v.number ≡ j) × (calls_by j log ≡ v.mine)
+    pub others : v.owns ≡ true → (a : ℕ) (e : Ended C R) → get_elem? v.ended a ≡ some e → (owner e.number ≡ j) × (calls_by e.number log ≡ e.calls) × IsGone views e.number
+    pub apart : v.owns ≡ true → NoRepeat v.ended
+    pub serving : v.serves ≡ true → (v.seen ≡ log) × (v.state ≡ Some state)
+
+-- there is one legal history, in which the calls of each pass stand once. A machine at home is in the state that it reaches
+pub record OneHistory {M X C R : Type 0} (meaning : M → X) (goes : X → C → R → X → Type 0) (opening : X) (homes : List (maybe.Option (Option (Held M C R)))) (views : List (View X C R)) : Type 0 where
+  pub log : List (Entry C R)
+  pub state : X
+  pub owner : ℕ → ℕ
+  pub legal : Runs goes opening log state
+  pub home : (h : Held M C R) → get_elem? homes 0 ≡ some (some (Some h)) → meaning h.machine ≡ state
+  pub each : (j : ℕ) (v : View X C R) → get_elem? views j ≡ some v → IsRecorded opening log state owner views j v
+  pub unborn : (j : ℕ) → length views ≤ j → calls_by j log ≡ []
+
+-- The rule
+pub record Kept {M X C R : Type 0} (meaning : M → X) (fit : M → Type 0) (goes : X → C → R → X → Type 0) (opening : X) (s : State (Option (Held M C R)) (View X C R)) : Type 0 where
+  pub turns : InTurn fit s
+  pub history : OneHistory meaning goes opening s.homes s.views

@@ -1,0 +1,74 @@
+-- What each step at the table tells the seat that makes it.
+use Rattle.std.specs.Prelude.{◌≡◌, ◌≢◌, ℕ, ◌+◌, ◌^◌, List, [], ◌∷◌, ◌++◌, true, false, Option, Some, None}
+use mathlib.Core.List.{IsPrefix}
+use Rattle.atomic_table.specs.Table.{Me, Step}
+use Rattle.warm_turn.specs.declared.board.Entry.{Entry}
+use Rattle.warm_turn.specs.declared.board.View.{View}
+use Rattle.warm_turn.specs.declared.board.Made.{Made}
+use Rattle.warm_turn.specs.declared.board.Held.{Held}
+use Rattle.warm_turn.specs.Turns.{entry, IsPass, marked, new_pass, settled}
+
+-- a seat: its view, and the slots that it has taken
+abbrev pub Sat : Type 0 → Type 0 → Type 0 → Type 0 → Type 0
+Sat M X C R = Me (Option (Held M C R)) (View X C R)
+
+abbrev At : Type 0 → Type 0 → Type 0 → Type 0
+At M C R = Step (Option (Held M C R))
+
+module _ {X C R : Type 0} where
+  -- the pass has this ticket
+  abbrev pub waiting : View X C R → ℕ → View X C R
+  waiting v k = record v { waits = true; ticket = k }
+
+  -- the pass whose ticket is served, with the machine in this state
+  abbrev pub server : View X C R → List (Entry C R) → X → View X C R
+  server v log x = record v { serves = true; seen = log; state = Some x }
+
+  -- the pass after this entry of its own
+  abbrev pub after_call : View X C R → Entry C R → View X C R
+  after_call v e = record v { waits = false; serves = false; ticket = 0; state = None; seen = v.seen ++ e ∷ []; mine = v.mine ++ e ∷ [] }
+
+module _ {M X C R : Type 0} where
+  -- a ticket was taken, or the last number was found, or neither
+  abbrev pub took : At M C R → Sat M X C R → ℕ → Sat M X C R → Type 0
+  took st m found m' =
+      (found ≡ st.first → m' ≡ (waiting m.0 found, m.1))
+      × (found ≢ st.first → found + 1 ≡ 2 ^ 64 → m' ≡ (marked m.0, m.1))
+      × (found ≢ st.first → found + 1 ≢ 2 ^ 64 → m' ≡ m)
+
+  -- at its turn the seat takes the machine, and has seen the history so far
+  abbrev pub looked : (M → X) → (M → Type 0) → At M C R → Sat M X C R → ℕ → Sat M X C R → Type 0
+  looked meaning fit st m found m' =
+      (found ≢ m.0.ticket → m' ≡ m)
+      × (found ≡ m.0.ticket → (log : List (Entry C R)) × (h : Held M C R) × (m' ≡ (server m.0 log (meaning h.machine), (0, Some h) ∷ m.1)) × IsPrefix m.0.seen log × fit h.machine)
+
+  -- the call that the slot names was added to the history, and the machine is at home
+  abbrev pub passed : (X → C → R → X → Type 0) → At M C R → Sat M X C R → ℕ → Sat M X C R → Type 0
+  passed goes st m found m' =
+      (h : Held M C R) (d : Made C R) → m.1 ≡ (0, Some h) ∷ [] → h.made ≡ Some d
+      → (m' ≡ (after_call m.0 (entry m.0.number d.call.value d.reply.value), [])) × IsPass goes m'.0
+
+  -- the seat has seen the history so far, in which what it knew stands
+  abbrev pub caught_up : (X → C → R → X → Type 0) → At M C R → Sat M X C R → ℕ → Sat M X C R → Type 0
+  caught_up goes st m found m' =
+      (log : List (Entry C R)) × (m' ≡ (settled m.0 log, m.1)) × IsPrefix m.0.seen log × IsPrefix m.0.also log × IsPass goes (settled m.0 log)
+
+  -- a note's seat becomes a pass, with a number of its own
+  abbrev pub became_pass : (X → C → R → X → Type 0) → At M C R → Sat M X C R → ℕ → Sat M X C R → Type 0
+  became_pass goes st m found m' = (n : ℕ) × (m' ≡ (new_pass m.0 n, m.1)) × IsPass goes (new_pass m.0 n)
+
+  -- the seat has the machine, in the state that the list which it has now seen reaches
+  abbrev pub HasMachine : (M → X) → (M → Type 0) → View X C R → Sat M X C R → Type 0
+  HasMachine meaning fit v m' = (log : List (Entry C R)) × (h : Held M C R) × (m' ≡ (server v log (meaning h.machine), (0, Some h) ∷ [])) × IsPrefix v.seen log × fit h.machine
+
+  -- the machine answered this call, and the slot says so
+  abbrev pub Served : (M → X) → (M → Type 0) → (X → C → R → X → Type 0) → Sat M X C R → C → R → Sat M X C R → Type 0
+  Served meaning fit goes m c r m' =
+      (h : Held M C R) → m.1 ≡ (0, Some h) ∷ []
+      → (k : Held M C R) × (d : Made C R) × (m' ≡ (m.0, (0, Some k) ∷ [])) × (k.made ≡ Some d) × (d.call.value ≡ c) × (d.reply.value ≡ r) × goes (meaning h.machine) c r (meaning k.machine) × fit k.machine
+
+  -- the slot says which call the machine answered, and the history may be gone on with it
+  abbrev pub IsMade : (M → X) → (M → Type 0) → (X → C → R → X → Type 0) → Sat M X C R → C → R → Type 0
+  IsMade meaning fit goes m c r =
+      (h : Held M C R) × (d : Made C R) × (x : X) × (m.1 ≡ (0, Some h) ∷ []) × (m.0.serves ≡ true) × (m.0.also ≡ []) × (m.0.state ≡ Some x) × (h.made ≡ Some d)
+      × (d.call.value ≡ c) × (d.reply.value ≡ r) × goes x c r (meaning h.machine) × fit h.machine

@@ -1,0 +1,108 @@
+//! The table that the passes share: two words and a slot.
+//!
+//! Word 0 is the next ticket, and word 1 the ticket that is served. The slot holds the machine.
+use crate::machine::Machine;
+use atomic_table::{Seat, Shared, Table, TableRule};
+use std::alloc::Global;
+use std::collections::LinkedList;
+use std::marker::PhantomData;
+use std::snapshot::Snapshot;
+
+/// One entry of a history. No value of it is made.
+pub struct Entry<C, R> {
+    /// The number of the pass that called.
+    pub by: u64,
+    /// What it asked.
+    pub call: C,
+    /// What the machine answered.
+    pub reply: R,
+}
+
+/// What is kept of a pass that was ended. No value of it is made.
+pub struct Ended<C, R> {
+    /// Its number.
+    pub number: u64,
+    /// Its calls, in their order.
+    pub calls: LinkedList<Entry<C, R>>,
+}
+
+/// What a seat at the table knows. No value of it is made.
+pub struct View<X, C, R> {
+    /// False for a seat that was spent.
+    pub sees: bool,
+    /// True for a pass, and false for a note.
+    pub owns: bool,
+    /// A ticket was taken and is not passed on yet.
+    pub waits: bool,
+    /// The machine is out with this seat.
+    pub serves: bool,
+    /// The last number, `u64::MAX`, was found in the ticket word.
+    pub found_last: bool,
+    /// The number of the pass, which no other pass of the turn has.
+    pub number: u64,
+    /// The ticket, where one was taken.
+    pub ticket: u64,
+    /// The state that the turn opened with.
+    pub opening: Option<X>,
+    /// The state of the machine that is out with this seat.
+    pub state: Option<X>,
+    /// A beginning of the history, as it was seen.
+    pub seen: LinkedList<Entry<C, R>>,
+    /// A beginning that was learned, and is not looked up yet.
+    pub also: LinkedList<Entry<C, R>>,
+    /// The pass's own calls, in their order.
+    pub mine: LinkedList<Entry<C, R>>,
+    /// The passes that were ended into this one, and those that they held.
+    pub ended: LinkedList<Ended<C, R>>,
+}
+
+/// A call and its reply, as clauses see them. It has no bytes.
+#[derive(Drop)]
+pub struct Made<C, R> {
+    /// What was asked.
+    pub call: Snapshot<C>,
+    /// What was answered.
+    pub reply: Snapshot<R>,
+}
+
+/// What lies in the slot.
+#[derive(Drop)]
+pub struct Held<M, C, R> {
+    /// The machine.
+    pub machine: M,
+    /// The last call that it answered.
+    pub made: Option<Made<C, R>>,
+}
+
+/// The rule of the table, `Kept` of `specs/Rule.antt`. Its key is the machine that the turn opened with.
+pub struct Turns<M> {
+    machine: PhantomData<M>,
+}
+
+impl<M: Machine> TableRule<
+    Option<Held<M, M::Call, M::Reply>>,
+    View<M::State, M::Call, M::Reply>,
+    Snapshot<M>,
+> for Turns<M> {
+    ghost use Rattle.warm_turn.specs.Rule.{Kept};
+    ghost use Rattle.warm_turn.specs.Turns.{first_pass};
+
+    ghost holds = { λ key. Kept M.meaning M.is_fit M.goes (M.meaning key.value) };
+
+    ghost first = { λ key. first_pass (M.meaning key.value) };
+}
+
+/// What the slot of a turn over `M` has.
+pub type Slot<M> = Option<Held<M, <M as Machine>::Call, <M as Machine>::Reply>>;
+
+/// What a seat of a turn over `M` knows.
+pub type ViewOf<M> = View<<M as Machine>::State, <M as Machine>::Call, <M as Machine>::Reply>;
+
+/// A seat at the table of a turn over `M`.
+pub type Place<M> = Seat<Slot<M>, ViewOf<M>>;
+
+/// What all threads reach of the table of a turn over `M`.
+pub type Top<M> = Shared<Slot<M>, ViewOf<M>, Snapshot<M>, Turns<M>>;
+
+/// The table of a turn over `M`.
+pub type Board<M> = Table<Slot<M>, ViewOf<M>, Snapshot<M>, Turns<M>, Global>;

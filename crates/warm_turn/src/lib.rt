@@ -1,0 +1,39 @@
+//! A machine that threads share by tickets, so that every call has its place in one history.
+//!
+//! A [`Machine`] answers calls one after the other. A [`Turn`] lets any number of threads call one
+//! machine: each call takes the next ticket, waits until it is served, has the machine alone, and
+//! passes the turn on. A thread calls with a [`Pass`] of its own, in which contracts see what it
+//! knows: a list of calls and replies that some run of the machine has from the opening state, in
+//! which the pass's own calls stand once each, in their order, with the replies that were given.
+//!
+//! - [`Turn::new`] gives the turn and its first pass, and [`Turn::pass`] splits a pass off another.
+//! - [`Turn::call`] makes a call. Its list begins with all that the pass had seen and ends with it.
+//! - [`Turn::note`] and [`Turn::learn`] tell one pass what another has seen, and [`Turn::end`] ends
+//!   a pass into another. Both lists begin the new one.
+//! - [`Turn::close`] gives the machine back, in a state that such a history reaches.
+//!
+//! It is a ticket lock (D. P. Reed and R. K. Kanodia, "Synchronization with Eventcounts and
+//! Sequencers", CACM 1979; J. M. Mellor-Crummey and M. L. Scott, "Algorithms for Scalable
+//! Synchronization on Shared-Memory Multiprocessors", ACM TOCS 1991), proved for any machine. What
+//! is promised is linearizability as one legal history (M. P. Herlihy and J. M. Wing, ACM TOPLAS
+//! 1990) without the order in time between callers that never met. Nothing is said of progress,
+//! fairness or how long a call waits, and an entry is no proof that its caller still runs.
+//!
+//! Passes, notes and turns may cross threads where the machine may: for a function that is generic
+//! in `M: Machine + Send` the lemmas are in `proofs/Sent.antt`. Lemmas on what calls, notes and ends
+//! say of a pass are in `proofs/Passes.antt`.
+#![tactic(auto)]
+
+mod board;
+pub mod counter;
+mod fault;
+pub mod laws;
+mod machine;
+mod plays;
+#[cfg(test)]
+mod tests;
+mod turn;
+
+pub use fault::{Busy, Memory, TurnsSpent};
+pub use machine::Machine;
+pub use turn::{Note, Pass, Turn};

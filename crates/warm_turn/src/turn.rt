@@ -1,0 +1,350 @@
+//! The turn, its passes and notes.
+ghost use Rattle.std.specs.Prelude.{◌≡◌, ◌≢◌, ℕ, ◌+◌, ◌^◌, ◌<◌, true, false, [], ◌∷◌, Some, IfOk, IfErr, IfSome, IfNone};
+ghost use Rattle.warm_turn.specs.declared.board.Held.{Held};
+ghost use Rattle.warm_turn.specs.Turns.{entry, calls_by, first_pass, new_pass, note_of, marked, IsPass, IsStep, IsLast, Called, Learned, Joined};
+ghost use Rattle.warm_turn.specs.Steps.{waiting, after_call, HasMachine, IsMade, Served};
+
+use crate::board::{Board, Held, Made, Place, Top};
+use crate::fault::{Busy, Memory, TurnsSpent};
+use crate::machine::Machine;
+use crate::plays::{Become, CatchUp, End, Learn, Look, PassOn, Take, Tell};
+use atomic_table::{Refused, Table};
+use std::alloc::{AllocFailed, Global};
+use std::marker::Model;
+use std::snapshot::Snapshot;
+use std::sync::Wait;
+
+/// A machine that threads share: they call it through a `&`, each with a [`Pass`] of its own.
+///
+/// Contracts see which table it is, and the state that it opened with.
+#[derive(Drop)]
+pub struct Turn<M: Machine> {
+    table: Board<M>,
+}
+
+impl<M: Machine> Model for Turn<M> {
+    ghost use Rattle.std.specs.Prelude.{◌≡◌};
+    ghost use Rattle.warm_turn.specs.Turns.{Shape};
+
+    ghost Value = { Shape M.State };
+
+    ghost view = { λ t. record { table = t.table.shared.table_id; opening = M.meaning t.table.shared.key.value } };
+
+    ghost invariant = { λ t. (t.table.shared.table_id.words ≡ 2) × (t.table.shared.table_id.slots ≡ 1) };
+}
+
+/// The right of one caller to call, of no bytes. It belongs to the turn that made it, which each
+/// call requires (`table`), and may go to another thread.
+///
+/// Contracts see what it knows (`view`): the list `seen`, a beginning of the turn's history that is
+/// legal from the opening state; its `number`; its own calls, `mine`; and the numbers and calls of
+/// the passes that were ended into it, `ended`. The entries that `seen` has of each of these numbers
+/// are just that pass's calls, each once, in their order, and no number stands twice.
+///
+/// A pass that is dropped leaves its calls in the history, and its number to nobody.
+#[derive(Drop)]
+pub struct Pass<M: Machine> {
+    place: Place<M>,
+}
+
+impl<M: Machine> Model for Pass<M> {
+    ghost use Rattle.std.specs.Prelude.{◌≡◌, []};
+    ghost use Rattle.warm_turn.specs.Turns.{Sight, IsPass};
+
+    ghost Value = { Sight M.State M.Call M.Reply };
+
+    ghost view = { λ p. record { table = p.place.table_id; view = p.place.me.0 } };
+
+    ghost invariant = { λ p. (p.place.me.1 ≡ []) × IsPass M.goes p.place.me.0 };
+}
+
+/// What a pass had seen, for another to learn, of no bytes. It has no calls, and may go to another
+/// thread.
+#[derive(Drop)]
+pub struct Note<M: Machine> {
+    place: Place<M>,
+}
+
+impl<M: Machine> Model for Note<M> {
+    ghost use Rattle.std.specs.Prelude.{◌≡◌, []};
+    ghost use Rattle.warm_turn.specs.Turns.{Sight, IsNote};
+
+    ghost Value = { Sight M.State M.Call M.Reply };
+
+    ghost view = { λ p. record { table = p.place.table_id; view = p.place.me.0 } };
+
+    ghost invariant = { λ p. (p.place.me.1 ≡ []) × IsNote p.place.me.0 };
+}
+
+// Takes a ticket, or finds that the last number stands in the ticket word.
+fn take_ticket<M: Machine, R: Wait>(rt: &R, top: &Top<M>, place: &mut Place<M>) -> Option<u64>
+    requires table { (place.old.table_id ≡ top.now.table_id) × (top.now.table_id.words ≡ 2) }
+    requires idle { IsPass M.goes place.old.me.0 }
+    ensures table { (place.new.table_id ≡ place.old.table_id) × (place.new.id ≡ place.old.id) }
+    ensures some { IfSome result (λ k. (place.new.me ≡ (waiting place.old.me.0 k, place.old.me.1))) }
+    ensures none { IfNone result (place.new.me ≡ (marked place.old.me.0, place.old.me.1)) }
+{
+    let mut expected = 0;
+    for _ in rt.forever() {
+        let found = top.compare_exchange::<Take>(place, 0, expected, expected + 1);
+        if found == expected {
+            return Some(found);
+        }
+        if found == u64::MAX {
+            return None;
+        }
+        expected = found;
+    }
+    unreachable!()
+}
+
+// Waits until the ticket is served. Then the seat has the machine.
+fn wait_turn<M: Machine, R: Wait>(rt: &R, top: &Top<M>, place: &mut Place<M>, ticket: u64)
+    requires table { (place.old.table_id ≡ top.now.table_id) × (top.now.table_id.words ≡ 2)
+        × (top.now.table_id.slots ≡ 1) }
+    requires waits { (place.old.me.1 ≡ []) × (place.old.me.0.waits ≡ true)
+        × (place.old.me.0.serves ≡ false) × (place.old.me.0.ticket ≡ ticket) }
+    ensures table { (place.new.table_id ≡ place.old.table_id) × (place.new.id ≡ place.old.id) }
+    ensures serves { HasMachine M.meaning M.is_fit place.old.me.0 place.new.me }
+{
+    for _ in rt.forever() {
+        if top.load::<Look>(place, 1) == ticket {
+            return;
+        }
+        std::thread::yield_now();
+    }
+}
+
+// Makes the call on the machine in the slot.
+fn serve<M: Machine>(top: &Top<M>, place: &mut Place<M>, call: M::Call) -> M::Reply
+    requires table { place.old.table_id ≡ top.now.table_id }
+    requires has { (h : Held M M.Call M.Reply) × (place.old.me.1 ≡ (0, Some h) ∷ [])
+        × M.is_fit h.machine }
+    ensures table { (place.new.table_id ≡ place.old.table_id) × (place.new.id ≡ place.old.id) }
+    ensures made { Served M.meaning M.is_fit M.goes place.old.me call result place.new.me }
+{
+    let asked = Snapshot::of(&call);
+    let out = top.exchange(place, 0, None);
+    let Some(held) = out else { unreachable!() };
+    let Held {
+        mut machine,
+        made: _,
+    } = held;
+    let reply = machine.call(call);
+    let made = Some(Made {
+        call: asked,
+        reply: Snapshot::of(&reply),
+    });
+    let empty = top.exchange(place, 0, Some(Held { machine, made }));
+    let None = empty else { unreachable!() };
+    reply
+}
+
+// Adds the call to the history, and puts the machine home for the next ticket.
+fn pass_on<M: Machine>(
+    top: &Top<M>,
+    place: &mut Place<M>,
+    call: Snapshot<M::Call>,
+    reply: &M::Reply,
+)
+    requires table { (place.old.table_id ≡ top.now.table_id) × (top.now.table_id.words ≡ 2)
+        × (top.now.table_id.slots ≡ 1) }
+    requires made { IsMade M.meaning M.is_fit M.goes place.old.me call.value reply.now }
+    ensures table { (place.new.table_id ≡ place.old.table_id) × (place.new.id ≡ place.old.id) }
+    ensures added { (place.new.me ≡ (after_call place.old.me.0 (entry place.old.me.0.number call.value reply.now), []))
+        × IsPass M.goes place.new.me.0 }
+{
+    let _ = (call, reply);
+    top.fetch_add::<PassOn>(place, 1, 1);
+}
+
+// Takes a ticket, waits for its turn, makes the call and passes the turn on.
+fn make_call<M: Machine, R: Wait>(
+    rt: &R,
+    top: &Top<M>,
+    place: &mut Place<M>,
+    call: M::Call,
+) -> Result<M::Reply, M::Call>
+    requires table { (place.old.table_id ≡ top.now.table_id) × (top.now.table_id.words ≡ 2)
+        × (top.now.table_id.slots ≡ 1) }
+    requires idle { (place.old.me.1 ≡ []) × IsPass M.goes place.old.me.0 }
+    ensures table { (place.new.table_id ≡ place.old.table_id) × (place.new.id ≡ place.old.id)
+        × (place.new.me.1 ≡ []) }
+    ensures ok { IfOk result (λ r. Called M.goes place.old.me.0 call r place.new.me.0) }
+    ensures step { IfOk result (λ r. IsStep M.goes call r) }
+    ensures err { IfErr result (λ c. (c ≡ call) × (place.new.me.0 ≡ marked place.old.me.0)) }
+{
+    let Some(ticket) = take_ticket(rt, top, place) else {
+        return Err(call);
+    };
+    wait_turn(rt, top, place, ticket);
+    let asked = Snapshot::of(&call);
+    let reply = serve(top, place, call);
+    pass_on(top, place, asked, &reply);
+    Ok(reply)
+}
+
+// The machine in what came out of the slot.
+fn machine_of<M: Machine>(slot: Option<Held<M, M::Call, M::Reply>>) -> M
+    requires { (h : Held M M.Call M.Reply) × (slot ≡ Some h) }
+    ensures { (h : Held M M.Call M.Reply) → slot ≡ Some h → result ≡ h.machine }
+{
+    let Some(held) = slot else { unreachable!() };
+    let Held { machine, made: _ } = held;
+    machine
+}
+
+impl<M: Machine> Pass<M> {
+    /// A theorem, for a caller that needs it later: the pass's list is legal from the opening state,
+    /// and has of each number that the pass holds just that pass's calls. Nothing is done.
+    pub fn is_legal(&self)
+        ensures { IsPass M.goes self.now.view }
+    {
+        let _place = &self.place;
+    }
+}
+
+impl<M: Machine> Turn<M> {
+    /// A turn over the machine, and its first pass, which has seen nothing and made no call. The
+    /// turn opens with the machine's state. `Memory`, which comes only where a growth was refused,
+    /// hands the machine back as it was.
+    pub fn new(alloc: Global, machine: M) -> Result<(Turn<M>, Pass<M>), Memory<M>>
+        requires fit { M.is_fit machine }
+        ensures table { IfOk result (λ t. t.1.table ≡ t.0.table) }
+        ensures opening { IfOk result (λ t. t.0.opening ≡ M.meaning machine) }
+        ensures first { IfOk result (λ t. t.1.view ≡ first_pass (M.meaning machine)) }
+        ensures legal { IfOk result (λ t. IsPass M.goes t.1.view) }
+        ensures err { IfErr result (λ e. e.machine ≡ machine) }
+    {
+        let about = Snapshot::of(&machine);
+        let mut slots = Vec::new(alloc);
+        if let Err(failed) = slots.push(Some(Held {
+            machine,
+            made: None,
+        })) {
+            let AllocFailed { value } = failed;
+            slots.destroy_empty();
+            return Err(Memory {
+                machine: machine_of(value),
+            });
+        }
+        match Table::new(alloc, &[0, 0], slots, &about) {
+            Ok((table, place)) => Ok((Turn { table }, Pass { place })),
+            Err(Refused { mut slots }) => {
+                let Some(slot) = slots.pop() else {
+                    unreachable!()
+                };
+                slots.destroy_empty();
+                Err(Memory {
+                    machine: machine_of(slot),
+                })
+            }
+        }
+    }
+
+    /// A new pass, which has seen what this one has. It has a number of its own, of which that list
+    /// has no entry, and no calls, and no pass was ended into it. This pass stays as it was.
+    pub fn pass(&self, pass: &mut Pass<M>) -> Pass<M>
+        requires { pass.old.table ≡ self.now.table }
+        ensures same { pass.new ≡ pass.old }
+        ensures table { result.table ≡ self.now.table }
+        ensures given { (n : ℕ) × (result.view ≡ new_pass pass.old.view n)
+            × (calls_by n pass.old.view.seen ≡ []) }
+        ensures legal { IsPass M.goes result.view }
+    {
+        let mut place = self.table.shared.split_seat::<Tell>(&mut pass.place);
+        self.table.shared.load::<Become>(&mut place, 0);
+        Pass { place }
+    }
+
+    /// What the pass has seen, for another to learn. The pass stays as it was.
+    pub fn note(&self, pass: &mut Pass<M>) -> Note<M>
+        requires { pass.old.table ≡ self.now.table }
+        ensures same { pass.new ≡ pass.old }
+        ensures table { result.table ≡ self.now.table }
+        ensures given { result.view ≡ note_of pass.old.view }
+    {
+        let place = self.table.shared.split_seat::<Tell>(&mut pass.place);
+        Note { place }
+    }
+
+    /// Learns what the note says. From now on the pass's list begins with what it had seen and with
+    /// what the note says, and may have further entries of other passes. Its own calls, and those
+    /// that it holds, stay.
+    pub fn learn(&self, pass: &mut Pass<M>, note: Note<M>)
+        requires { (pass.old.table ≡ self.now.table) × (note.table ≡ self.now.table) }
+        ensures table { pass.new.table ≡ self.now.table }
+        ensures seen { Learned M.goes pass.old.view note.view pass.new.view }
+    {
+        let Note { place } = note;
+        self.table.shared.join_seat::<Learn>(&mut pass.place, place);
+        self.table.shared.load::<CatchUp>(&mut pass.place, 0);
+    }
+
+    /// Ends the other pass into this one. This pass's list then begins with what both had seen, and
+    /// it holds the other's number and calls, and those that the other held. All these numbers
+    /// differ. Its own calls stay.
+    pub fn end(&self, pass: &mut Pass<M>, other: Pass<M>)
+        requires { (pass.old.table ≡ self.now.table) × (other.table ≡ self.now.table) }
+        ensures table { pass.new.table ≡ self.now.table }
+        ensures seen { Joined M.goes pass.old.view other.view pass.new.view }
+    {
+        let Pass { place } = other;
+        self.table.shared.join_seat::<End>(&mut pass.place, place);
+        self.table.shared.load::<CatchUp>(&mut pass.place, 0);
+    }
+
+    /// Takes the next ticket, waits until it is served, calls the machine and passes the turn on.
+    ///
+    /// The reply is the machine's at this point of the history: the pass's list begins with the list
+    /// that it had and ends with the call and its reply, which is one more of its own calls.
+    /// `TurnsSpent`, which comes only where this pass found `u64::MAX` in the ticket word, hands the
+    /// call back and adds no entry. Nothing says how long a call waits: it may be forever, as where
+    /// an earlier call of the machine never returns.
+    pub fn call<R: Wait>(
+        &self,
+        rt: &R,
+        pass: &mut Pass<M>,
+        call: M::Call,
+    ) -> Result<M::Reply, TurnsSpent<M::Call>>
+        requires { pass.old.table ≡ self.now.table }
+        ensures table { pass.new.table ≡ self.now.table }
+        ensures called { IfOk result (λ r. Called M.goes pass.old.view call r pass.new.view) }
+        ensures step { IfOk result (λ r. IsStep M.goes call r) }
+        ensures spent { IfErr result (λ e. pass.new.view ≡ marked pass.old.view) }
+        ensures given_back { IfErr result (λ e. e.call ≡ call) }
+    {
+        match make_call(rt, &self.table.shared, &mut pass.place, call) {
+            Ok(reply) => Ok(reply),
+            Err(call) => Err(TurnsSpent { call }),
+        }
+    }
+
+    /// Gives the machine back. Its state is one that a legal history reaches from the opening state.
+    /// That history begins with the pass's list, and has no further entry of any number that the
+    /// pass holds: the calls of the passes that were ended into it are all there.
+    ///
+    /// `Busy` comes only where fewer tickets were served than were taken. The turn is used up then,
+    /// and a machine that is at home in it is dropped.
+    pub fn close(self, pass: Pass<M>) -> Result<M, Busy>
+    where
+        M: Drop,
+        requires { pass.table ≡ self.table }
+        ensures last { IfOk result (λ m. IsLast M.goes self.opening pass.view (M.meaning m)) }
+        ensures fit { IfOk result M.is_fit }
+        ensures busy { IfErr result (λ b. b.serving < b.ticket) }
+        ensures mark { IfErr result (λ b. pass.view.found_last ≡ true → b.ticket + 1 ≡ 2 ^ 64) }
+    {
+        let Turn { table } = self;
+        let Pass { place } = pass;
+        let mut closed = table.close_with(place);
+        let ticket = closed.word(0);
+        let serving = closed.word(1);
+        let slot = closed.take(0);
+        closed.free();
+        if ticket != serving {
+            return Err(Busy { ticket, serving });
+        }
+        Ok(machine_of(slot))
+    }
+}
