@@ -1,7 +1,6 @@
 //! Whole schedules through `play`, over readers and writers of the tests' own. The expected answers were worked out by
 //! hand from the definition of a page's history; none was taken from the player.
 use super::*;
-use crate::outcome::{play_status, print_play_fault};
 use crate::parse::LineFault;
 use std::test::Fail;
 use std::{io, str};
@@ -434,20 +433,14 @@ fn a_refused_growth_is_as_a_comment(rt: HostRuntime) -> Result<(), Fail> {
 }
 
 #[test]
-fn faults_have_numbers_names_and_statuses(rt: HostRuntime) -> Result<(), Fail> {
-    for (fault, code, line) in [
-        (PlayFault::Memory, 1, "warmplay: Memory\n"),
-        (PlayFault::ReadFault, 2, "warmplay: ReadFault\n"),
-        (PlayFault::WriteFault, 3, "warmplay: WriteFault\n"),
+fn faults_have_numbers_and_names(rt: HostRuntime) {
+    for (fault, code, name) in [
+        (PlayFault::Memory, 1, "Memory"),
+        (PlayFault::ReadFault, 2, "ReadFault"),
+        (PlayFault::WriteFault, 3, "WriteFault"),
     ] {
-        let mut written = Vec::new(rt.alloc());
-        print_play_fault(&mut written, fault)?;
-        assert_eq!(rt; str::from_utf8(written.as_slice())?, line);
-        assert_eq!(rt; fault.code(), code);
-        assert_eq!(rt; play_status(Err(fault)), 1);
+        assert_eq!(rt; (fault.code(), fault.name()), (code, name));
     }
-    assert_eq!(rt; play_status(Ok(())), 0);
     assert_eq!(rt; parse_line(b"foo"), Err(LineFault::Bad));
     assert_eq!(rt; (LineFault::Bad.code(), LineFault::Bad.name()), (2, "Bad"));
-    Ok(())
 }
