@@ -138,7 +138,8 @@ impl History {
     }
 
     /// The first `limit` entries, in page order, of those in the bucket whose page is greater
-    /// than `after`; of all in the bucket, where `after` is `None`.
+    /// than `after`; of all in the bucket, where `after` is `None`. They are a history themselves: their
+    /// pages rise, and the stamps of each page fall.
     ///
     /// `AllocError` comes only where room for them was refused.
     pub fn entries(
@@ -147,7 +148,9 @@ impl History {
         after: Option<PageId>,
         limit: usize,
     ) -> Result<Vec<Entry>, AllocError>
-        ensures { (S : List Reference) → StandsFor self.now S → IfOk result (λ es. es.items ≡ history (carried S bucket after limit)) }
+        ensures carried { (S : List Reference) → StandsFor self.now S → IfOk result (λ es. es.items ≡ history (carried S bucket after limit)) }
+        ensures whole { IfOk result (λ es. IsHistory es.items) }
+        ensures limited { IfOk result (λ es. length es.items ≤ limit) }
     {
         chosen(self.alloc, self.iter(), bucket, after, limit)
     }
