@@ -5,11 +5,13 @@ use Rattle.std.proofs.lemmas.List.{set-get_or, length-map}
 use Rattle.std.specs.Vec.{with_item}
 use Rattle.std.specs.declared.vec.Vec.{Vec}
 use Rattle.std.specs.declared.alloc.Global.{Global}
+use Rattle.warm_history.specs.declared.hist.Entry.{Entry}
 use Rattle.warm_history.specs.Histories.{history}
+use Rattle.warm_frames.specs.declared.frame.Frame.TheVariants.{Entries}
+use Rattle.warm_frames.specs.Spelling.{Spells}
 use Rattle.warm_stamps.specs.declared.Reference.{Reference}
 use Rattle.warm_world.specs.declared.world.World.{World}
 use Rattle.warm_world.specs.declared.world.Replica.{Replica}
-use Rattle.warm_world.specs.declared.world.Frame.{Frame}
 use Rattle.warm_world.specs.declared.event.Event.{Event}
 use Rattle.warm_world.specs.declared.event.Answer.{Answer}
 use Rattle.warm_world.specs.declared.event.Answer.TheVariants.{Refused}
@@ -18,7 +20,7 @@ use Rattle.warm_world.specs.declared.event.WorldFault.TheVariants.{Memory, NoSuc
 use Rattle.warm_world.specs.Lists.{Pairwise, place}
 use Rattle.warm_world.specs.States.{ModelState, ReplicaState, FrameRecord, References, replica, set_replica, record_at, add_record, received, nobody}
 use Rattle.warm_world.specs.Next.{Shape, shape, replica_of, IsNamed, IsMissing, IsRefused, Next, Delivered}
-use Rattle.warm_world.specs.Stands.{StandsFor, ReplicaStands, Spells, Stepped, seen_shape, buffered}
+use Rattle.warm_world.specs.Stands.{StandsFor, ReplicaStands, SpellsRecord, Stepped, seen_shape, buffered}
 use Rattle.warm_world.proofs.Pairs.{Pairwise-set, Pairwise-push, Pairwise-map}
 
 -- the world with another replica at a place
@@ -43,16 +45,17 @@ pub stands_at : (w : World) (m : ModelState) (k : ℕ) (x : Replica) → StandsF
 stands_at w m k x st lt is = rw is (st.replicas.each k x nobody lt)
 
 -- the frame at a place spells the record there
-pub frame_at : (w : World) (m : ModelState) (k : ℕ) (f : Frame) → StandsFor w m → k < length w.frames.items → f ≡ get_or w.frames.items k f → Spells f (record_at m k)
+pub frame_at : (w : World) (m : ModelState) (k : ℕ) (f : Vec ℕ Global) → StandsFor w m → k < length w.frames.items → f ≡ get_or w.frames.items k f → SpellsRecord f.items (record_at m k)
 frame_at w m k f st lt is =
-    let P : Frame → Type 0 = λ g. Spells g (record_at m k) in
+    let P : Vec ℕ Global → Type 0 = λ g. SpellsRecord g.items (record_at m k) in
     subst P (sym is) (st.frames.each k f (References 0 []) lt)
 
 -- a frame is sent
-pub frame_joins : (w : World) (m : ModelState) (frames : Vec Frame Global) (f : Frame) (kept : FrameRecord) → StandsFor w m → frames.items ≡ w.frames.items ++ f ∷ [] → Spells f kept → StandsFor (record w { frames = frames }) (add_record m kept)
+pub frame_joins : (w : World) (m : ModelState) (frames : Vec (Vec ℕ Global) Global) (f : Vec ℕ Global) (kept : FrameRecord) → StandsFor w m → frames.items ≡ w.frames.items ++ f ∷ [] → SpellsRecord f.items kept → StandsFor (record w { frames = frames }) (add_record m kept)
 frame_joins w m frames f kept st is spells =
-    let P : List Frame → Type 0 = λ fs. Pairwise (λ _. Spells) fs (m.records ++ kept ∷ []) in
-    record { replicas = st.replicas; frames = subst P (sym is) (Pairwise-push (λ _. Spells) w.frames.items m.records f kept st.frames spells) }
+    let R : ℕ → Vec ℕ Global → FrameRecord → Type 0 = λ _ bytes r. SpellsRecord bytes.items r in
+    let P : List (Vec ℕ Global) → Type 0 = λ fs. Pairwise R fs (m.records ++ kept ∷ []) in
+    record { replicas = st.replicas; frames = subst P (sym is) (Pairwise-push R w.frames.items m.records f kept st.frames spells) }
 
 -- as many replicas, workers and frames
 pub same_shape : (w : World) (m : ModelState) → StandsFor w m → seen_shape w ≡ shape m
@@ -83,6 +86,6 @@ refuses w w' m event fault refused st = record { new = m; next = (refused, refl)
 pub changes : (w : World) (m : ModelState) (event : Event) (answer : Answer) (k : ℕ) (x : Replica) (r : ReplicaState) → StandsFor w m → k < length w.replicas.items → ReplicaStands m.room k x r → Next m event answer (set_replica m k r) → Stepped m event answer (changed w k x)
 changes w m event answer k x r st lt here next = record { new = set_replica m k r; next = next; stands = replica_changes w m k x r st lt here }
 
--- a frame that spells references comes
-pub delivered : (m : ModelState) (j : ℕ) (f : Frame) (kept : FrameRecord) (x : Replica) → Spells f kept → ((refs : List Reference) → f.entries.items ≡ history refs → ReplicaStands m.room (place j) x (received refs (replica m (place j)))) → (r : ReplicaState) × ReplicaStands m.room (place j) x r × Delivered m j kept 0 0 (set_replica m (place j) r)
-delivered m j f (References sender refs) x spells there = (received refs (replica m (place j)), there refs spells.1, (refl, refl, refl))
+-- a frame that spells references comes, and its entries were found
+pub delivered : (m : ModelState) (j : ℕ) (bytes : List ℕ) (found : List Entry) (kept : FrameRecord) (x : Replica) → SpellsRecord bytes kept → ((sender : ℕ) (entries : List Entry) → Spells bytes (Entries sender entries) → found ≡ entries) → ((refs : List Reference) → found ≡ history refs → ReplicaStands m.room (place j) x (received refs (replica m (place j)))) → (r : ReplicaState) × ReplicaStands m.room (place j) x r × Delivered m j kept 0 0 (set_replica m (place j) r)
+delivered m j bytes found (References sender refs) x spells finds there = (received refs (replica m (place j)), there refs (finds sender (history refs) spells), (refl, refl, refl))

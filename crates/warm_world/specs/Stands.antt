@@ -4,11 +4,12 @@ use Rattle.warm_stamps.specs.declared.Reference.{Reference}
 use Rattle.warm_history.specs.declared.hist.Entry.{Entry}
 use Rattle.warm_history.specs.Histories.{history}
 use Rattle.warm_history.specs.References.{HoldSame}
+use Rattle.warm_frames.specs.declared.frame.Frame.TheVariants.{Entries}
+use Rattle.warm_frames.specs.Spelling.{Spells}
 use Rattle.warm_rank.specs.Laws.{RankAlike}
 use Rattle.warm_refbuffer.specs.Buffered.{Buffered}
 use Rattle.warm_world.specs.declared.world.World.{World}
 use Rattle.warm_world.specs.declared.world.Replica.{Replica}
-use Rattle.warm_world.specs.declared.world.Frame.{Frame}
 use Rattle.warm_world.specs.declared.event.Event.{Event}
 use Rattle.warm_world.specs.declared.event.Answer.{Answer}
 use Rattle.warm_world.specs.Lists.{Pairwise, IsNumber, place}
@@ -26,14 +27,14 @@ pub record ReplicaStands (room place : ℕ) (r : Replica) (m : ReplicaState) : T
   pub history_is : r.history ≡ history m.reach
   pub buffers_are : r.buffers.items ≡ map (buffered room) m.pending
 
--- a kept frame has the sender of its record, and the page histories of the references that the record brings
-abbrev pub Spells : Frame → FrameRecord → Type 0
-Spells f (References sender refs) = (f.sender ≡ sender) × (f.entries.items ≡ history refs)
+-- the bytes of a kept frame spell its record: entries from the sender, the page histories of the references that it brings
+abbrev pub SpellsRecord : List ℕ → FrameRecord → Type 0
+SpellsRecord bytes (References sender refs) = Spells bytes (Entries sender (history refs))
 
 -- the world stands for the model state: replica by replica, and frame by frame
 pub record StandsFor (w : World) (m : ModelState) : Type 0 where
   pub replicas : Pairwise (ReplicaStands m.room) w.replicas.items m.replicas
-  pub frames : Pairwise (λ _. Spells) w.frames.items m.records
+  pub frames : Pairwise (λ _ bytes record. SpellsRecord bytes.items record) w.frames.items m.records
 
 -- what there is to be named in a world
 abbrev pub seen_shape : World → Shape

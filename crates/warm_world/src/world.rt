@@ -2,6 +2,9 @@
 ghost use Rattle.std.specs.Prelude.{◌≡◌, ℕ, ◌+◌, ◌<◌, ◌≤◌, List, [], ◌++◌, length, OnOk, OnErr, IfOk, IfErr, IsTrue, ◌↔◌, replicate};
 ghost use Rattle.warm_stamps.specs.declared.Reference.{Reference};
 ghost use Rattle.warm_history.specs.Histories.{history};
+ghost use Rattle.warm_history.specs.declared.hist.Entry.{Entry};
+ghost use Rattle.warm_frames.specs.declared.frame.Frame.TheVariants.{Entries};
+ghost use Rattle.warm_frames.specs.Spelling.{Spells};
 ghost use Rattle.warm_refbuffer.specs.Buffered.{IsCapacity};
 ghost use Rattle.warm_world.specs.Lists.{IsNumber};
 ghost use Rattle.warm_world.specs.States.{ModelState, ReplicaState, pending, flushed, put_last, referred, received, restarted, opening, fresh};
@@ -11,6 +14,9 @@ ghost use Rattle.warm_world.specs.Stands.{ReplicaStands, StandsFor, seen_shape, 
 use crate::event::{Answer, Event, WorldFault};
 use crate::setup::Setup;
 use std::alloc::{AllocError, Global};
+use warm_frames::entries::EntryList;
+use warm_frames::fault::FrameFault;
+use warm_frames::frame::{Frame, decode, encode};
 use warm_history::hist::Entry;
 use warm_history::history::History;
 use warm_rank::{PageList, warm_list};
@@ -27,13 +33,6 @@ struct Replica {
     buffers: Vec<RefBuffer>,
 }
 
-// What a replica sent.
-#[derive(Debug, Drop)]
-struct Frame {
-    sender: ReplicaId,
-    entries: Vec<Entry>,
-}
-
 /// Replicas, their workers' buffers, and every frame that was sent.
 ///
 /// Contracts tell of a world by the model states that it stands for (`StandsFor`): lists of all
@@ -43,7 +42,7 @@ struct Frame {
 pub struct World {
     alloc: Global,
     replicas: Vec<Replica>,
-    frames: Vec<Frame>,
+    frames: Vec<Vec<u8>>,
 }
 
 fn is_number(number: u64, count: usize) -> bool
@@ -73,6 +72,17 @@ fn empty_buffers(alloc: Global, workers: u16, room: usize) -> Result<Vec<RefBuff
         buffers.push(empty_buffer(alloc, room)?)?;
     }
     Ok(buffers)
+}
+
+// The entries that a kept frame spells. Send keeps frames of entries alone, so any other frame brings none.
+fn entries_in(alloc: Global, bytes: &[u8]) -> Result<EntryList, AllocError>
+    ensures { (sender : ℕ) (entries : List Entry) → Spells bytes.now (Entries sender entries) → IfOk result (λ found. found ≡ entries) }
+{
+    match decode(alloc, bytes) {
+        Ok(Frame::Entries { entries, .. }) => Ok(entries),
+        Err(FrameFault::Memory) => Err(AllocError),
+        _ => EntryList::of(Vec::new(alloc)).map_err(|_| AllocError),
+    }
 }
 
 impl Replica {
@@ -230,7 +240,13 @@ impl World {
         let Ok(entries) = replica.history.entries(bucket, after, MOST_ENTRIES) else {
             return Answer::Refused(WorldFault::Memory);
         };
-        let Ok(()) = self.frames.push(Frame { sender, entries }) else {
+        let Ok(entries) = EntryList::of(entries) else {
+            unreachable!()
+        };
+        let Ok(bytes) = encode(self.alloc, &Frame::Entries { sender, entries }) else {
+            return Answer::Refused(WorldFault::Memory);
+        };
+        let Ok(()) = self.frames.push(bytes) else {
             return Answer::Refused(WorldFault::Memory);
         };
         Answer::FrameNo(self.frames.len() as u64)
@@ -240,8 +256,10 @@ impl World {
         requires { IsNamed (seen_shape self.old) (Event.Deliver j k) }
         ensures { (m : ModelState) → StandsFor self.old m → Stepped m (Event.Deliver j k) result self.new }
     {
-        let frame = &self.frames[k as usize - 1];
-        match self.replicas[j as usize - 1].receive(frame.entries.as_slice()) {
+        let Ok(entries) = entries_in(self.alloc, &self.frames[k as usize - 1]) else {
+            return Answer::Refused(WorldFault::Memory);
+        };
+        match self.replicas[j as usize - 1].receive(entries.as_slice()) {
             Ok(()) => Answer::Took { count: 0, first: 0 },
             Err(_) => Answer::Refused(WorldFault::Memory),
         }

@@ -1,7 +1,6 @@
 use Rattle.std.proofs.Common.{◌≡◌, ◌-◌, ◌++◌, ◌∷◌, [], length, ◌∙◌, refl, arith}
 use Rattle.warm_world.specs.declared.event.Event.TheVariants.{Send}
 use Rattle.warm_world.specs.States.{replica, add_record, References}
-use Rattle.warm_world.specs.declared.world.Frame.{Frame}
 use Rattle.warm_history.specs.Histories.{history}
 use Rattle.warm_history.specs.Carried.{carried}
 use Rattle.std.proofs.lemmas.List.{length-append}
