@@ -172,10 +172,13 @@ read_frame bytes = do
   frame_of start.0 start.1 body
 
 -- how many entries of a body room is taken for
-abbrev pub room_in : Kind → List ℕ → Result ℕ FrameFault
-room_in kinds.Entries body = do
+abbrev pub entries_room : List ℕ → Result ℕ FrameFault
+entries_room body = do
   count ← count_at body
   Ok count.0
+
+abbrev pub room_in : Kind → List ℕ → Result ℕ FrameFault
+room_in kinds.Entries body = entries_room body
 room_in kinds.Digest body = Ok 0
 room_in kinds.Want body = Ok 0
 
@@ -186,6 +189,7 @@ room_of bytes = do
   body ← body_at start.0 start.2
   room_in start.0 body
 
+-- room is taken, for one entry at least
 abbrev pub TakesRoom : Result ℕ FrameFault → Type 0
 TakesRoom room = (n : ℕ) × (0 < n) × (room ≡ Ok n)
 

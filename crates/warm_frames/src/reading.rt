@@ -2,9 +2,13 @@
 ghost use Rattle.std.specs.Prelude.{◌≡◌, ◌≤◌, [], None, length, vec_capacity};
 ghost use Rattle.std.specs.Int.{w16, w32, w64};
 ghost use Rattle.warm_history.specs.Carried.{comes_after};
-ghost use Rattle.warm_frames.specs.Reading.{Reads, number_at, byte_at, kind_of, may_have, start_at, body_at, front_at, stamp_in, two_in, hist_at, entry_at, entries_at, count_at};
+ghost use Rattle.warm_frames.specs.Reading.{Reads, number_at, byte_at, kind_of, may_have, start_at, body_at, front_at, stamp_in, two_in, hist_at, entry_at, entries_at, count_at, all_entries, entries_of, sums_of, read_frame, room_of, entries_room, Gives};
 
+use crate::entries::EntryList;
 use crate::fault::FrameFault;
+use crate::frame::Frame;
+use crate::sums::SumTable;
+use std::alloc::Global;
 use warm_history::hist::{Entry, PageHist, Two};
 use warm_stamps::{PageId, ReplicaId, Stamp, page_from, stamp_from};
 
@@ -224,4 +228,68 @@ fn count_at(body: &[u8]) -> Result<(u32, &[u8]), FrameFault>
         return Err(FrameFault::BadCount);
     }
     Ok((count, rest))
+}
+
+// All of these bytes as entries, in a vector that has room for them.
+#[tactic(auto, unfolding(crate::specs::Reading::all_entries))]
+fn all_entries(mut entries: Vec<Entry>, count: u32, bytes: &[u8]) -> Result<Vec<Entry>, FrameFault>
+    requires empty { entries.items ≡ [] }
+    requires room { count ≤ vec_capacity entries }
+    ensures { Reads (λ all. all.items) result (all_entries count bytes.now) }
+{
+    let rest = entries_at(&mut entries, count, bytes)?;
+    if !rest.is_empty() {
+        return Err(FrameFault::BadLength);
+    }
+    Ok(entries)
+}
+
+// The entries of a body. Room for them is taken once.
+#[tactic(auto, unfolding(crate::specs::Reading::entries_of))]
+fn entries_of(alloc: Global, body: &[u8]) -> Result<EntryList, FrameFault>
+    ensures { Gives result (entries_of body.now) (entries_room body.now) }
+{
+    let (count, rest) = count_at(body)?;
+    let Ok(entries) = Vec::with_capacity(alloc, count as usize) else {
+        return Err(FrameFault::Memory);
+    };
+    let entries = all_entries(entries, count, rest)?;
+    Ok(EntryList::whole(entries))
+}
+
+#[tactic(auto, unfolding(crate::specs::Reading::sums_of))]
+fn sums_of(body: &[u8]) -> Result<SumTable, FrameFault>
+    ensures { result ≡ sums_of body.now }
+{
+    let (sums, rest) = body.as_chunks::<32>();
+    match sums.as_array::<64>() {
+        Some(sums) if rest.is_empty() => Ok(SumTable::of(*sums)),
+        _ => Err(FrameFault::BadLength),
+    }
+}
+
+/// The frame that the bytes spell, or the first fault.
+#[tactic(auto, unfolding(crate::specs::Reading::read_frame, crate::specs::Reading::frame_of, crate::specs::Reading::room_of))]
+pub(crate) fn frame_in(alloc: Global, bytes: &[u8]) -> Result<Frame, FrameFault>
+    ensures { Gives result (read_frame bytes.now) (room_of bytes.now) }
+{
+    let (kind, sender, rest) = match start_at(bytes) {
+        Ok(start) => start,
+        Err(fault) => return Err(fault),
+    };
+    let body = body_at(kind, rest)?;
+    match kind {
+        Kind::Entries => {
+            let entries = entries_of(alloc, body)?;
+            Ok(Frame::Entries { sender, entries })
+        }
+        Kind::Digest => {
+            let sums = sums_of(body)?;
+            Ok(Frame::Digest { sender, sums })
+        }
+        Kind::Want => {
+            let (mask, _) = u64_at(body, FrameFault::BadLength)?;
+            Ok(Frame::Want { sender, mask })
+        }
+    }
 }
