@@ -1,10 +1,29 @@
--- Entries as bytes.
-use Rattle.std.specs.Prelude.{ℕ, List, ◌∷◌, ◌++◌}
-use Rattle.std.specs.List.{flat_map}
-use Rattle.warm_stamps.specs.Bytes.{bytes_of_stamp, bytes_of_page}
+-- Lists of entries, and entries as bytes.
+use Rattle.std.specs.Prelude.{◌≡◌, ℕ, ◌≤◌, List, ◌∷◌, ◌++◌, length}
+use Rattle.std.specs.List.{AllByRecursion, flat_map}
+use Rattle.std.specs.declared.cmp.Ordering.TheVariants.{Less}
+use Rattle.warm_stamps.specs.Bytes.{bytes_of_stamp, bytes_of_page, IsStamp, IsPage}
+use Rattle.warm_stamps.specs.Stamps.{stamp_cmp}
 use Rattle.warm_history.specs.declared.hist.PageHist.{PageHist}
 use Rattle.warm_history.specs.declared.hist.PageHist.TheVariants.{Once, Twice}
 use Rattle.warm_history.specs.declared.hist.Entry.{Entry}
+use Rattle.warm_history.specs.Histories.{PagesRise}
+
+-- the stamps of an entry are stamps, and of two the second is older
+abbrev pub IsHist : PageHist → Type 0
+IsHist (Once last) = IsStamp last
+IsHist (Twice two) = IsStamp two.last × IsStamp two.prev × (stamp_cmp two.prev two.last ≡ Less)
+
+-- the entries that there are
+pub record IsEntry (e : Entry) : Type 0 where
+  pub page : IsPage e.page
+  pub hist : IsHist e.hist
+
+-- at most 1000 entries, whose pages rise
+pub record IsEntryList (es : List Entry) : Type 0 where
+  pub pages_rise : PagesRise es
+  pub at_most : length es ≤ 1000
+  pub each : AllByRecursion IsEntry es
 
 -- a tag, which is the number of stamps, and the stamps, the later one first
 abbrev pub hist_bytes : PageHist → List ℕ

@@ -1,2 +1,5 @@
 pub mod Entries
+pub mod Faults
+pub mod Reading
+pub mod Spelling
 pub mod Sums

@@ -1,5 +1,5 @@
 -- Stamps and pages as bytes: their fields one after the other, each with its highest byte first.
-use Rattle.std.specs.Prelude.{ℕ, ◌<◌, ◌≤◌, List, ◌++◌, take, drop}
+use Rattle.std.specs.Prelude.{ℕ, ◌<◌, ◌≤◌, ◌^◌, List, ◌++◌, take, drop}
 use Rattle.std.specs.Int.{w16, w32, w64, to_be_bytes, from_be_bytes}
 use Rattle.warm_stamps.specs.declared.Stamp.{Stamp}
 use Rattle.warm_stamps.specs.declared.PageId.{PageId}
@@ -23,3 +23,12 @@ page_of bytes = record { dev = from_be_bytes w16 (take 2 bytes); no = from_be_by
 -- the numbers of replicas
 abbrev pub IsReplica : ℕ → Type 0
 IsReplica n = (0 < n) × (n ≤ 64)
+
+-- the stamps and the pages that there are
+pub record IsStamp (s : Stamp) : Type 0 where
+  pub time : s.time < 2 ^ 64
+  pub replica : IsReplica s.replica
+
+pub record IsPage (p : PageId) : Type 0 where
+  pub dev : p.dev < 2 ^ 16
+  pub no : p.no < 2 ^ 32

@@ -1,0 +1,112 @@
+//! Lists of entries, as frames carry them.
+ghost use Rattle.std.specs.Prelude.{◌≡◌, ◌≤◌, ◌↔◌, length, IfOk, IfErr, IsOk, IsTrue};
+ghost use Rattle.std.specs.List.{AllByRecursion};
+ghost use Rattle.warm_history.specs.Histories.{PagesRise};
+ghost use Rattle.warm_frames.specs.Entries.{IsHist, IsEntry, IsEntryList};
+
+use std::cmp::Ordering;
+use std::marker::Model;
+use warm_history::hist::{Entry, PageHist};
+
+/// The most entries that a frame carries.
+pub const MOST: usize = 1000;
+
+/// At most 1000 entries, whose pages rise. Contracts see the list of the entries.
+#[derive(Debug, Drop)]
+pub struct EntryList {
+    entries: Vec<Entry>,
+}
+
+impl Model for EntryList {
+    ghost use Rattle.std.specs.Prelude.{List};
+    ghost use Rattle.warm_history.specs.declared.hist.Entry.{Entry};
+    ghost use Rattle.warm_frames.specs.Entries.{IsEntryList};
+
+    ghost Value = { List Entry };
+
+    ghost view = { λ list. list.entries.items };
+
+    ghost invariant = { λ list. IsEntryList list.entries.items };
+}
+
+impl EntryList {
+    /// The entries as a list that a frame may carry. Takes no memory.
+    ///
+    /// They are handed back where their pages don't rise, each above the one before it, or where there
+    /// are more than 1000.
+    pub fn of(entries: Vec<Entry>) -> Result<EntryList, Vec<Entry>>
+        ensures value { IfOk result (λ list. list ≡ entries.items) }
+        ensures back { IfErr result (λ back. back ≡ entries) }
+        ensures taken { IsOk result ↔ (PagesRise entries.items × (length entries.items ≤ 1000)) }
+    {
+        if entries.len() > MOST || !rises(&entries) {
+            return Err(entries);
+        }
+        are_entries(&entries);
+        Ok(EntryList { entries })
+    }
+
+    // A list that was read.
+    pub(crate) fn whole(entries: Vec<Entry>) -> EntryList
+        requires { IsEntryList entries.items }
+        ensures { result ≡ entries.items }
+    {
+        EntryList { entries }
+    }
+
+    /// The entries, in rising page order. Takes no memory.
+    pub fn as_slice(&self) -> &[Entry]
+        ensures value { result.now ≡ self.now }
+        ensures whole { IsEntryList self.now }
+    {
+        &self.entries
+    }
+
+    /// The entries, in rising page order. Takes no memory.
+    pub fn into_entries(self) -> Vec<Entry>
+        ensures value { result.items ≡ self }
+        ensures whole { IsEntryList self }
+    {
+        self.entries
+    }
+}
+
+// Whether the pages of the entries rise, each above the one before it.
+fn rises(entries: &[Entry]) -> bool
+    ensures { IsTrue result ↔ PagesRise entries.now }
+{
+    let Some((mut last, mut rest)) = entries.split_first() else {
+        return true;
+    };
+    while let Some((next, later)) = rest.split_first() {
+        let Ordering::Less = last.page.cmp(&next.page) else {
+            return false;
+        };
+        last = next;
+        rest = later;
+    }
+    true
+}
+
+// What the types of entries say of them. Nothing is done.
+fn are_entries(entries: &[Entry])
+    ensures { AllByRecursion IsEntry entries.now }
+{
+    for entry in entries {
+        is_entry(*entry);
+    }
+}
+
+fn is_entry(entry: Entry)
+    ensures { IsEntry entry }
+{
+    is_hist(entry.hist);
+}
+
+fn is_hist(hist: PageHist)
+    ensures { IsHist hist }
+{
+    if let PageHist::Twice(two) = hist {
+        let _prev = two.prev();
+    }
+}

@@ -1,0 +1,295 @@
+//! Reading frames, field by field. Each reader gives what the function of `specs/Reading.antt` gives.
+ghost use Rattle.std.specs.Prelude.{◌≡◌, ◌≤◌, [], None, length, vec_capacity};
+ghost use Rattle.std.specs.Int.{w16, w32, w64};
+ghost use Rattle.warm_history.specs.Carried.{comes_after};
+ghost use Rattle.warm_frames.specs.Reading.{Reads, number_at, byte_at, kind_of, may_have, start_at, body_at, front_at, stamp_in, two_in, hist_at, entry_at, entries_at, count_at, all_entries, entries_of, sums_of, read_frame, room_of, entries_room, Gives};
+
+use crate::entries::EntryList;
+use crate::fault::FrameFault;
+use crate::frame::Frame;
+use crate::sums::SumTable;
+use std::alloc::Global;
+use warm_history::hist::{Entry, PageHist, Two};
+use warm_stamps::{PageId, ReplicaId, Stamp, page_from, stamp_from};
+
+const MAGIC: u32 = 0x4C32_4731;
+
+// The kinds of frames, numbered from 1.
+#[derive(Clone, Copy)]
+enum Kind {
+    Entries,
+    Digest,
+    Want,
+}
+
+fn u16_at(bytes: &[u8], short: FrameFault) -> Result<(u16, &[u8]), FrameFault>
+    ensures { Reads (λ x. (x.0, x.1.now)) result (number_at w16 short bytes.now) }
+{
+    match bytes.split_first_chunk::<2>() {
+        Some((front, rest)) => Ok((u16::from_be_bytes(*front), rest)),
+        None => Err(short),
+    }
+}
+
+fn u32_at(bytes: &[u8], short: FrameFault) -> Result<(u32, &[u8]), FrameFault>
+    ensures { Reads (λ x. (x.0, x.1.now)) result (number_at w32 short bytes.now) }
+{
+    match bytes.split_first_chunk::<4>() {
+        Some((front, rest)) => Ok((u32::from_be_bytes(*front), rest)),
+        None => Err(short),
+    }
+}
+
+fn u64_at(bytes: &[u8], short: FrameFault) -> Result<(u64, &[u8]), FrameFault>
+    ensures { Reads (λ x. (x.0, x.1.now)) result (number_at w64 short bytes.now) }
+{
+    match bytes.split_first_chunk::<8>() {
+        Some((front, rest)) => Ok((u64::from_be_bytes(*front), rest)),
+        None => Err(short),
+    }
+}
+
+fn ten_at(bytes: &[u8]) -> Result<(&[u8; 10], &[u8]), FrameFault>
+    ensures { Reads (λ x. (x.0.now, x.1.now)) result (front_at 10 FrameFault.BadLength bytes.now) }
+{
+    match bytes.split_first_chunk::<10>() {
+        Some((front, rest)) => Ok((front, rest)),
+        None => Err(FrameFault::BadLength),
+    }
+}
+
+fn u8_at(bytes: &[u8], short: FrameFault) -> Result<(u8, &[u8]), FrameFault>
+    ensures { Reads (λ x. (x.0, x.1.now)) result (byte_at short bytes.now) }
+{
+    match bytes.split_first() {
+        Some((byte, rest)) => Ok((*byte, rest)),
+        None => Err(short),
+    }
+}
+
+fn kind_of(number: u8) -> Result<Kind, FrameFault>
+    ensures { result ≡ kind_of number }
+{
+    match number {
+        1 => Ok(Kind::Entries),
+        2 => Ok(Kind::Digest),
+        3 => Ok(Kind::Want),
+        _ => Err(FrameFault::BadKind),
+    }
+}
+
+fn may_have(kind: Kind, len: usize) -> bool
+    ensures { result ≡ may_have kind len }
+{
+    match kind {
+        Kind::Entries => 4 <= len && len <= 27_004,
+        Kind::Digest => len == 2048,
+        Kind::Want => len == 8,
+    }
+}
+
+// The header as far as the sender.
+#[tactic(auto, unfolding(crate::specs::Reading::start_at))]
+fn start_at(bytes: &[u8]) -> Result<(Kind, ReplicaId, &[u8]), FrameFault>
+    ensures { Reads (λ x. (x.0, x.1, x.2.now)) result (start_at bytes.now) }
+{
+    let (letters, rest) = u32_at(bytes, FrameFault::Truncated)?;
+    if letters != MAGIC {
+        return Err(FrameFault::BadMagic);
+    }
+    let (number, rest) = u8_at(rest, FrameFault::Truncated)?;
+    let kind = kind_of(number)?;
+    let (sender, rest) = u16_at(rest, FrameFault::Truncated)?;
+    match ReplicaId::new(sender) {
+        Ok(sender) => Ok((kind, sender, rest)),
+        Err(_) => Err(FrameFault::BadSender),
+    }
+}
+
+// The length and the body.
+#[tactic(auto, unfolding(crate::specs::Reading::body_at))]
+fn body_at(kind: Kind, bytes: &[u8]) -> Result<&[u8], FrameFault>
+    ensures { Reads (λ body. body.now) result (body_at kind bytes.now) }
+{
+    let (len, body) = u32_at(bytes, FrameFault::Truncated)?;
+    let len = len as usize;
+    if !may_have(kind, len) {
+        return Err(FrameFault::BadLength);
+    }
+    if body.len() < len {
+        return Err(FrameFault::Truncated);
+    }
+    if len < body.len() {
+        return Err(FrameFault::BadLength);
+    }
+    Ok(body)
+}
+
+fn stamp_in(bytes: &[u8; 10]) -> Result<Stamp, FrameFault>
+    ensures { result ≡ stamp_in bytes.now }
+{
+    match stamp_from(bytes) {
+        Ok(stamp) => Ok(stamp),
+        Err(_) => Err(FrameFault::BadStamp),
+    }
+}
+
+#[tactic(auto, unfolding(crate::specs::Reading::two_in))]
+fn two_in(later: &[u8; 10], earlier: &[u8; 10]) -> Result<PageHist, FrameFault>
+    ensures { result ≡ two_in later.now earlier.now }
+{
+    let last = stamp_in(later)?;
+    let prev = stamp_in(earlier)?;
+    if prev < last {
+        Ok(PageHist::Twice(Two::new(last, prev)))
+    } else {
+        Err(FrameFault::BadStamp)
+    }
+}
+
+#[tactic(auto, unfolding(crate::specs::Reading::hist_at))]
+fn hist_at(tag: u8, bytes: &[u8]) -> Result<(PageHist, &[u8]), FrameFault>
+    ensures { Reads (λ x. (x.0, x.1.now)) result (hist_at tag bytes.now) }
+{
+    match tag {
+        1 => {
+            let (last, rest) = ten_at(bytes)?;
+            let last = stamp_in(last)?;
+            Ok((PageHist::Once(last), rest))
+        }
+        2 => {
+            let (last, rest) = ten_at(bytes)?;
+            let (prev, rest) = ten_at(rest)?;
+            let two = two_in(last, prev)?;
+            Ok((two, rest))
+        }
+        _ => Err(FrameFault::BadTag),
+    }
+}
+
+fn comes_after(before: Option<PageId>, page: PageId) -> bool
+    ensures { result ≡ comes_after before page }
+{
+    match before {
+        None => true,
+        Some(last) => last < page,
+    }
+}
+
+#[tactic(auto, unfolding(crate::specs::Reading::entry_at))]
+fn entry_at(before: Option<PageId>, bytes: &[u8]) -> Result<(Entry, &[u8]), FrameFault>
+    ensures { Reads (λ x. (x.0, x.1.now)) result (entry_at before bytes.now) }
+{
+    let Some((front, rest)) = bytes.split_first_chunk::<6>() else {
+        return Err(FrameFault::BadLength);
+    };
+    let page = page_from(front);
+    if !comes_after(before, page) {
+        return Err(FrameFault::BadOrder);
+    }
+    let (tag, rest) = u8_at(rest, FrameFault::BadLength)?;
+    match hist_at(tag, rest) {
+        Ok((hist, rest)) => Ok((Entry { page, hist }, rest)),
+        Err(fault) => Err(fault),
+    }
+}
+
+// The entries one after the other, which are put at the end of those read before.
+fn entries_at<'a>(
+    entries: &mut Vec<Entry>,
+    count: u32,
+    bytes: &'a [u8],
+) -> Result<&'a [u8], FrameFault>
+    requires empty { entries.old.items ≡ [] }
+    requires room { count ≤ vec_capacity entries.old }
+    ensures { Reads (λ rest. (entries.new.items, rest.now)) result (entries_at count None bytes.now) }
+{
+    let mut before = None;
+    let mut rest = bytes;
+    for _ in 0..count {
+        match entry_at(before, rest) {
+            Ok((entry, after)) => {
+                before = Some(entry.page);
+                entries.push_reserved(entry);
+                rest = after;
+            }
+            Err(fault) => return Err(fault),
+        }
+    }
+    Ok(rest)
+}
+
+#[tactic(auto, unfolding(crate::specs::Reading::count_at))]
+fn count_at(body: &[u8]) -> Result<(u32, &[u8]), FrameFault>
+    ensures { Reads (λ x. (x.0, x.1.now)) result (count_at body.now) }
+{
+    let (count, rest) = u32_at(body, FrameFault::BadLength)?;
+    if count > 1000 {
+        return Err(FrameFault::BadCount);
+    }
+    Ok((count, rest))
+}
+
+// All of these bytes as entries, in a vector that has room for them.
+#[tactic(auto, unfolding(crate::specs::Reading::all_entries))]
+fn all_entries(mut entries: Vec<Entry>, count: u32, bytes: &[u8]) -> Result<Vec<Entry>, FrameFault>
+    requires empty { entries.items ≡ [] }
+    requires room { count ≤ vec_capacity entries }
+    ensures { Reads (λ all. all.items) result (all_entries count bytes.now) }
+{
+    let rest = entries_at(&mut entries, count, bytes)?;
+    if !rest.is_empty() {
+        return Err(FrameFault::BadLength);
+    }
+    Ok(entries)
+}
+
+// The entries of a body. Room for them is taken once.
+#[tactic(auto, unfolding(crate::specs::Reading::entries_of))]
+fn entries_of(alloc: Global, body: &[u8]) -> Result<EntryList, FrameFault>
+    ensures { Gives result (entries_of body.now) (entries_room body.now) }
+{
+    let (count, rest) = count_at(body)?;
+    let Ok(entries) = Vec::with_capacity(alloc, count as usize) else {
+        return Err(FrameFault::Memory);
+    };
+    let entries = all_entries(entries, count, rest)?;
+    Ok(EntryList::whole(entries))
+}
+
+#[tactic(auto, unfolding(crate::specs::Reading::sums_of))]
+fn sums_of(body: &[u8]) -> Result<SumTable, FrameFault>
+    ensures { result ≡ sums_of body.now }
+{
+    let (sums, rest) = body.as_chunks::<32>();
+    match sums.as_array::<64>() {
+        Some(sums) if rest.is_empty() => Ok(SumTable::of(*sums)),
+        _ => Err(FrameFault::BadLength),
+    }
+}
+
+/// The frame that the bytes spell, or the first fault.
+#[tactic(auto, unfolding(crate::specs::Reading::read_frame, crate::specs::Reading::frame_of, crate::specs::Reading::room_of))]
+pub(crate) fn frame_in(alloc: Global, bytes: &[u8]) -> Result<Frame, FrameFault>
+    ensures { Gives result (read_frame bytes.now) (room_of bytes.now) }
+{
+    let (kind, sender, rest) = match start_at(bytes) {
+        Ok(start) => start,
+        Err(fault) => return Err(fault),
+    };
+    let body = body_at(kind, rest)?;
+    match kind {
+        Kind::Entries => {
+            let entries = entries_of(alloc, body)?;
+            Ok(Frame::Entries { sender, entries })
+        }
+        Kind::Digest => {
+            let sums = sums_of(body)?;
+            Ok(Frame::Digest { sender, sums })
+        }
+        Kind::Want => {
+            let (mask, _) = u64_at(body, FrameFault::BadLength)?;
+            Ok(Frame::Want { sender, mask })
+        }
+    }
+}
