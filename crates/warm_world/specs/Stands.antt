@@ -34,7 +34,7 @@ SpellsRecord bytes (References sender refs) = Spells bytes (Entries sender (hist
 -- the world stands for the model state: replica by replica, and frame by frame
 pub record StandsFor (w : World) (m : ModelState) : Type 0 where
   pub replicas : Pairwise (ReplicaStands m.room) w.replicas.items m.replicas
-  pub frames : Pairwise (λ _ bytes record. SpellsRecord bytes.items record) w.frames.items m.records
+  pub frames : Pairwise (λ _ bytes kept. SpellsRecord bytes.items kept) w.frames.items m.records
 
 -- what there is to be named in a world
 abbrev pub seen_shape : World → Shape

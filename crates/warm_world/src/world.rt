@@ -80,9 +80,17 @@ fn entries_in(alloc: Global, bytes: &[u8]) -> Result<EntryList, AllocError>
 {
     match decode(alloc, bytes) {
         Ok(Frame::Entries { entries, .. }) => Ok(entries),
+        Ok(_) => Ok(no_entries(alloc)),
         Err(FrameFault::Memory) => Err(AllocError),
-        _ => EntryList::of(Vec::new(alloc)).map_err(|_| AllocError),
+        Err(_) => Ok(no_entries(alloc)),
     }
+}
+
+fn no_entries(alloc: Global) -> EntryList {
+    let Ok(none) = EntryList::of(Vec::new(alloc)) else {
+        unreachable!()
+    };
+    none
 }
 
 impl Replica {

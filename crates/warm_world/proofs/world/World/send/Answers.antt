@@ -1,6 +1,8 @@
-use Rattle.std.proofs.Common.{◌≡◌, ◌-◌, ◌++◌, ◌∷◌, [], length, ◌∙◌, refl, arith}
+use Rattle.std.proofs.Common.{◌≡◌, ◌-◌, ◌++◌, ◌∷◌, [], length, ◌∙◌, refl, ap, sym, subst, arith}
 use Rattle.warm_world.specs.declared.event.Event.TheVariants.{Send}
 use Rattle.warm_world.specs.States.{replica, add_record, References}
+use Rattle.warm_frames.specs.declared.frame.Frame.TheVariants.{Entries}
+use Rattle.warm_frames.specs.Spelling.{Spells}
 use Rattle.warm_history.specs.Histories.{history}
 use Rattle.warm_history.specs.Carried.{carried}
 use Rattle.std.proofs.lemmas.List.{length-append}
@@ -16,14 +18,17 @@ returns c = λ m st.
     let lt = place_in w event c.requires in
     let here = stands_at w m k c.index-replica.result.now st lt c.index-replica.ensures in
     let refs = carried (replica m k).reach c.args.bucket c.args.after 1000 in
-    let spelled : c.in-Ok.entries.items ≡ history refs = c.in-Ok.ensures (replica m k).reach here.history_is in
     let kept = References c.args.i refs in
+    let bytes = c.in-Ok-encode.bytes in
     let sender : c.index-replica.result.now.id ≡ c.args.i = here.id ∙ (omega (arith, c.requires.replica_there.from_one)) in
-    let frame : Frame = record { sender = c.index-replica.result.now.id; entries = c.in-Ok.entries } in
+    let entries = c.in-Ok-of.ensures.value ∙ c.in-Ok.ensures.carried (replica m k).reach here.history_is in
+    let spells : Spells bytes.items (Entries c.args.i (history refs)) =
+    subst (λ s. Spells bytes.items (Entries s (history refs))) sender
+    (subst (λ es. Spells bytes.items (Entries c.index-replica.result.now.id es)) entries c.in-Ok-encode.ensures) in
     let number : c.len.result ≡ length (m.records ++ kept ∷ []) =
     omega (arith, c.len.ensures, c.in-Ok-push.ensures.len, c.args.self.now.frames.ok.0, st.frames.same_length, length-append m.records (kept ∷ [])) in
     record {
       new = add_record m kept;
       next = (named, (number, refl));
-      stands = frame_joins w m c.push.new.self frame kept st c.in-Ok-push.ensures.items (sender, spelled);
+      stands = frame_joins w m c.push.new.self bytes kept st c.in-Ok-push.ensures.items spells;
     }
