@@ -1,1 +1,4 @@
+pub mod BodyLemmas
 pub mod EntryLemmas
+pub mod FieldLemmas
+pub mod FrameLemmas
