@@ -167,7 +167,7 @@ frame_again (frames.Entries sender entries) fits = rw (body_again entries fits.1
 frame_again (frames.Digest sender sums) fits = rw (sums_again sums fits.1) refl
 frame_again (frames.Want sender mask) fits =
     let whole : number_at w64 BadLength (to_be_bytes w64 mask) ≡ Ok (mask, []) = ap (number_at w64 BadLength) (sym (append-nil (to_be_bytes w64 mask))) ∙ number_again w64 (2 ^ 64) BadLength wide64 mask [] fits.1 in
-    rw whole refl
+    ap (λ (r : Result (ℕ × List ℕ) FrameFault). r >>= λ m. Ok (frames.Want sender m.0)) whole
 
 good_sender : (f : Frame) → IsFrame f → IsReplica (frame_sender f)
 good_sender (frames.Entries sender entries) fits = fits.0
