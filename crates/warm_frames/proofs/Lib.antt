@@ -1,1 +1,5 @@
+pub mod BodyLemmas
+pub mod DecodeLemmas
 pub mod EntryLemmas
+pub mod FieldLemmas
+pub mod FrameLemmas

@@ -1,5 +1,6 @@
 pub mod Entries
 pub mod Faults
+pub mod Laws
 pub mod Reading
 pub mod Spelling
 pub mod Sums

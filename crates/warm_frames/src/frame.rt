@@ -1,8 +1,14 @@
 //! Frames, and their spelling.
+ghost use Rattle.std.specs.Prelude.{◌≡◌, Ok, IfOk};
+ghost use Rattle.warm_frames.specs.Spelling.{Spells};
+ghost use Rattle.warm_frames.specs.Reading.{Gives, read_frame, room_of};
 
 use crate::entries::EntryList;
+use crate::fault::FrameFault;
+use crate::reading::frame_in;
 
 use crate::sums::SumTable;
+use std::alloc::Global;
 
 use warm_stamps::ReplicaId;
 
@@ -32,3 +38,28 @@ pub enum Frame {
     },
 }
 
+/// The frame that the bytes spell, all of them.
+///
+/// Refused by the first fault from left to right:
+/// - `Truncated`: fewer than 4 bytes, then `BadMagic`: others than `L2G1`;
+/// - `Truncated`: no byte for the kind, then `BadKind`: none of 1, 2 and 3;
+/// - `Truncated`: fewer than 2 bytes for the sender, then `BadSender`: outside 1 to 64;
+/// - `Truncated`: fewer than 4 bytes for the length, then `BadLength`: not 4 to 27,004 for entries, 2048
+///   for sums, 8 for a wish;
+/// - `Truncated`: fewer bytes follow than the length says, then `BadLength`: more;
+/// - `BadCount`: more than 1000 entries;
+/// - `Memory`: room for the entries was refused. It is taken here, once, and only where there are any;
+/// - for each entry `BadLength`: fewer than 6 bytes for the page, `BadOrder`: a page not above the one
+///   before, `BadLength`: no byte for the tag, `BadTag`: neither 1 nor 2, `BadLength`: fewer than 10 or
+///   20 bytes for the stamps, `BadStamp`: a replica outside 1 to 64, or a second stamp not older;
+/// - `BadLength`: bytes after the last entry.
+pub fn decode(alloc: Global, bytes: &[u8]) -> Result<Frame, FrameFault>
+    // What is decoded is spelled so.
+    ensures found { IfOk result (λ frame. Spells bytes.now frame) }
+    // What is spelled so is decoded, unless there is no memory.
+    ensures only { (frame : Frame) → Spells bytes.now frame → Gives result (Ok frame) (room_of bytes.now) }
+    // Which fault it is.
+    ensures first { Gives result (read_frame bytes.now) (room_of bytes.now) }
+{
+    frame_in(alloc, bytes)
+}

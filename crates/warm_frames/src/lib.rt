@@ -8,6 +8,7 @@
 pub mod entries;
 pub mod fault;
 pub mod frame;
+pub mod laws;
 mod reading;
 pub mod sums;
 

@@ -1,0 +1,206 @@
+-- Bodies: entries one after the other, and tables of sums.
+use Rattle.std.proofs.Common.{◌≡◌, ℕ, zero, suc, ◌+◌, ◌*◌, ◌^◌, ◌<◌, ◌≤◌, Bool, true, false, cond, eqb, leb, List, [], ◌∷◌, ◌++◌, length, take, drop, Option, Some, None, Result, Ok, Err, refl, sym, ap, subst, ◌∙◌, append_assoc, arith}
+use Rattle.std.specs.Int.{w32, to_be_bytes}
+use Rattle.std.specs.List.{AllByRecursion, flat_map}
+use Rattle.std.specs.Simd.{first_chunks}
+use Rattle.std.specs.declared.cmp.Ordering.TheVariants.{Less}
+use Rattle.std.proofs.lemmas.Bool.{eqb-true}
+use Rattle.std.proofs.lemmas.Bool.Decides.{nat_tests}
+use Rattle.std.proofs.lemmas.List.{append-nil, nil_from_length, take_at, drop_at, take-append-drop, length-append, length-take, length-drop}
+use Rattle.std.proofs.lemmas.List.Concat.{flat_map-cons}
+use Rattle.warm_stamps.specs.declared.PageId.{PageId}
+use Rattle.warm_stamps.specs.Stamps.{page_cmp}
+use Rattle.warm_stamps.specs.Bytes.{bytes_of_page}
+use Rattle.warm_stamps.proofs.ByteLemmas.{IsBytes}
+use Rattle.warm_history.specs.declared.hist.PageHist.{PageHist}
+use Rattle.warm_history.specs.declared.hist.PageHist.TheVariants.{Once, Twice}
+use Rattle.warm_history.specs.declared.hist.Entry.{Entry}
+use Rattle.warm_history.specs.Carried.{comes_after}
+use Rattle.warm_history.specs.Histories.{PagesRise}
+use Rattle.warm_history.proofs.MergeLemmas.{rises_on}
+use Rattle.warm_frames.specs.declared.fault.FrameFault.{FrameFault}
+use Rattle.warm_frames.specs.declared.fault.FrameFault.TheVariants.{BadLength, BadCount}
+use Rattle.warm_frames.specs.Entries.{hist_bytes, entry_bytes, entries_bytes, IsEntry, IsEntryList}
+use Rattle.warm_frames.specs.Sums.{IsSumTable}
+use Rattle.warm_frames.specs.Reading.{◌>>=◌, number_at, want, entry_at, entries_at, count_at, all_entries, entries_of, sums_of}
+use Rattle.warm_frames.proofs.FieldLemmas.{bind_ok, want_ok, chosen_ok, ok_is, Takes, Takes-then, wide32, number_takes, number_again, entry_takes, entry_again, less_is, less_true}
+
+-- ---- entries
+
+-- each page comes after the one before, and the first after the one given
+abbrev pub RiseFrom : Option PageId → List Entry → Type 0
+RiseFrom before [] = Unit {0}
+RiseFrom before (e ∷ es) = (comes_after before e.page ≡ true) × RiseFrom (Some e.page) es
+
+rise_all : (before : Option PageId) (es : List Entry) → RiseFrom before es → PagesRise es
+rise_all before [] rise = tt
+rise_all before (e ∷ []) rise = (tt, tt)
+rise_all before (e ∷ f ∷ es) rise = rises_on e f es (rise_all (Some e.page) (f ∷ es) rise.1) (less_is _ rise.1.0)
+
+rise_after : (e : Entry) (es : List Entry) → PagesRise (e ∷ es) → RiseFrom (Some e.page) es
+rise_after e [] rise = tt
+rise_after e (f ∷ es) rise = (less_true _ rise.0.0, rise_after f es rise.1)
+
+rise_from : (es : List Entry) → PagesRise es → RiseFrom None es
+rise_from [] rise = tt
+rise_from (e ∷ es) rise = (refl, rise_after e es rise)
+
+pub record TakesEntries (n : ℕ) (before : Option PageId) (bytes : List ℕ) (x : List Entry × List ℕ) : Type 0 where
+  pub taken : Takes bytes (entries_bytes x.0) x.1
+  pub count : length x.0 ≡ n
+  pub each : AllByRecursion IsEntry x.0
+  pub rise : RiseFrom before x.0
+
+entries_take : (n : ℕ) (before : Option PageId) (bytes : List ℕ) (x : List Entry × List ℕ) → IsBytes bytes → entries_at n before bytes ≡ Ok x → TakesEntries n before bytes x
+unfolding entries_at
+entries_take zero before bytes x fits e =
+    subst (TakesEntries 0 before bytes) (ok_is ([], bytes) x e) (record { taken = record { parts = refl; rest_fits = fits }; count = refl; each = tt; rise = tt })
+entries_take (suc n) before bytes x fits e =
+    let a = bind_ok (entry_at before bytes) (λ first. entries_at n (Some first.0.page) first.1 >>= λ later. Ok (first.0 ∷ later.0, later.1)) x e in
+    let b = bind_ok (entries_at n (Some a.0.0.page) a.0.1) (λ later. Ok (a.0.0 ∷ later.0, later.1)) x a.2 in
+    let first = entry_takes before bytes a.0 fits a.1 in
+    let later = entries_take n (Some a.0.0.page) a.0.1 b.0 first.taken.rest_fits b.1 in
+    let both = Takes-then bytes (entry_bytes a.0.0) a.0.1 (entries_bytes b.0.0) b.0.1 first.taken later.taken in
+    let made : List Entry × List ℕ = (a.0.0 ∷ b.0.0, b.0.1) in
+    subst (TakesEntries (suc n) before bytes) (ok_is made x b.2) (record {
+      taken = record { parts = both.parts ∙ ap (λ (w : List ℕ). w ++ b.0.1) (sym (flat_map-cons entry_bytes a.0.0 b.0.0)); rest_fits = both.rest_fits };
+      count = ap suc later.count;
+      each = (first.fits, later.each);
+      rise = (first.greater, later.rise);
+    })
+
+entries_again : (es : List Entry) (before : Option PageId) (rest : List ℕ) → AllByRecursion IsEntry es → RiseFrom before es → entries_at (length es) before (entries_bytes es ++ rest) ≡ Ok (es, rest)
+unfolding entries_at
+entries_again [] before rest fits rise = refl
+entries_again (e ∷ es) before rest fits rise =
+    let regrouped : entries_bytes (e ∷ es) ++ rest ≡ entry_bytes e ++ (entries_bytes es ++ rest) = ap (λ (w : List ℕ). w ++ rest) (flat_map-cons entry_bytes e es) ∙ append_assoc (entry_bytes e) (entries_bytes es) rest in
+    ap (entries_at (suc (length es)) before) regrouped ∙ rw (entry_again before e (entries_bytes es ++ rest) fits.0 rise.0, entries_again es (Some e.page) rest fits.1 rise.1) refl
+
+pub record CountsEntries (body : List ℕ) (x : ℕ × List ℕ) : Type 0 where
+  pub taken : Takes body (to_be_bytes w32 x.0) x.1
+  pub few : x.0 ≤ 1000
+
+pub count_takes : (body : List ℕ) (x : ℕ × List ℕ) → IsBytes body → count_at body ≡ Ok x → CountsEntries body x
+unfolding count_at
+count_takes body x fits e =
+    let a = bind_ok (number_at w32 BadLength body) (λ count. want (leb count.0 1000) BadCount >>= λ few. Ok count) x e in
+    let g = want_ok (leb a.0.0 1000) BadCount (λ few. Ok a.0) x a.2 in
+    let t = number_takes w32 (2 ^ 32) BadLength wide32 body a.0 fits a.1 in
+    let few : a.0.0 ≤ 1000 = grind (arith, nat_tests, g.0) in
+    subst (CountsEntries body) (ok_is a.0 x g.1) (record { taken = t.0; few = few })
+
+pub record AreEntries (count : ℕ) (bytes : List ℕ) (es : List Entry) : Type 0 where
+  pub text : bytes ≡ entries_bytes es
+  pub as_many : length es ≡ count
+  pub each : AllByRecursion IsEntry es
+  pub rise : PagesRise es
+
+-- all bytes after a count are the entries
+pub all_take : (count : ℕ) (bytes : List ℕ) (es : List Entry) → IsBytes bytes → all_entries count bytes ≡ Ok es → AreEntries count bytes es
+unfolding all_entries
+all_take count bytes es fits e =
+    let a = bind_ok (entries_at count None bytes) (λ entries. want (eqb (length entries.1) 0) BadLength >>= λ ended. Ok entries.0) es e in
+    let g = want_ok (eqb (length a.0.1) 0) BadLength (λ ended. Ok a.0.0) es a.2 in
+    let t = entries_take count None bytes a.0 fits a.1 in
+    let nothing : a.0.1 ≡ [] = nil_from_length a.0.1 (eqb-true _ _ g.0) in
+    subst (AreEntries count bytes) (ok_is a.0.0 es g.1) (record {
+      text = t.taken.parts ∙ ap (λ (r : List ℕ). entries_bytes a.0.0 ++ r) nothing ∙ append-nil (entries_bytes a.0.0);
+      as_many = t.count;
+      each = t.each;
+      rise = rise_all None a.0.0 t.rise;
+    })
+
+-- what is read after a count is a list for a frame
+pub all_listed : (body : List ℕ) (count : ℕ) (rest : List ℕ) (es : List Entry) → IsBytes body → count_at body ≡ Ok (count, rest) → all_entries count rest ≡ Ok es → IsEntryList es
+all_listed body count rest es fits h e =
+    let c = count_takes body (count, rest) fits h in
+    let t = all_take count rest es c.taken.rest_fits e in
+    record { pages_rise = t.rise; at_most = rw t.as_many c.few; each = t.each }
+
+pub record ListsEntries (body : List ℕ) (es : List Entry) : Type 0 where
+  pub text : body ≡ to_be_bytes w32 (length es) ++ entries_bytes es
+  pub listed : IsEntryList es
+
+pub entries_body : (body : List ℕ) (es : List Entry) → IsBytes body → entries_of body ≡ Ok es → ListsEntries body es
+unfolding entries_of
+entries_body body es fits e =
+    let a = bind_ok (count_at body) (λ count. all_entries count.0 count.1) es e in
+    let c = count_takes body a.0 fits a.1 in
+    let t = all_take a.0.0 a.0.1 es c.taken.rest_fits a.2 in
+    record {
+      text = c.taken.parts ∙ ap (λ (w : List ℕ). to_be_bytes w32 a.0.0 ++ w) t.text ∙ ap (λ (n : ℕ). to_be_bytes w32 n ++ entries_bytes es) (sym t.as_many);
+      listed = record { pages_rise = t.rise; at_most = rw t.as_many c.few; each = t.each };
+    }
+
+pub body_again : (es : List Entry) → IsEntryList es → entries_of (to_be_bytes w32 (length es) ++ entries_bytes es) ≡ Ok es
+unfolding entries_of count_at all_entries
+body_again es listed =
+    let few : leb (length es) 1000 ≡ true = let h = listed.at_most in grind (arith, nat_tests) in
+    let count = number_again w32 (2 ^ 32) BadLength wide32 (length es) (entries_bytes es) (let h = listed.at_most in omega arith) in
+    let rest : entries_at (length es) None (entries_bytes es) ≡ Ok (es, []) = ap (entries_at (length es) None) (sym (append-nil (entries_bytes es))) ∙ entries_again es None [] listed.each (rise_from es listed.pages_rise) in
+    rw (count, few, rest) refl
+
+-- ---- the length of entries
+
+short_hist : (h : PageHist) → length (hist_bytes h) ≤ 21
+short_hist (Once last) = omega arith
+short_hist (Twice two) = omega arith
+
+pub short_entries : (es : List Entry) → length (entries_bytes es) ≤ 27 * length es
+short_entries [] = omega arith
+short_entries (e ∷ es) =
+    let whole : length (entries_bytes (e ∷ es)) ≡ length (entry_bytes e) + length (entries_bytes es) = ap length (flat_map-cons entry_bytes e es) ∙ length-append (entry_bytes e) (entries_bytes es) in
+    let own : length (entry_bytes e) ≡ 6 + length (hist_bytes e.hist) = length-append (bytes_of_page e.page) (hist_bytes e.hist) in
+    omega (arith, whole, own, short_hist e.hist, short_entries es)
+
+-- ---- tables of sums
+
+joined_chunks : (n k : ℕ) (xs : List ℕ) → length xs ≡ n * k → flat_map (λ x. x) (first_chunks n k xs) ≡ xs
+joined_chunks n zero xs len = sym (nil_from_length xs (omega (arith, len)))
+joined_chunks n (suc k) xs len =
+    let e : n * suc k ≡ n + n * k = grind arith in
+    let later = joined_chunks n k (drop n xs) (omega (arith, e, length-drop n xs)) in
+    rw (flat_map-cons, later) (take-append-drop n xs)
+
+chunks_long : (n k : ℕ) (xs : List ℕ) → length xs ≡ n * k → AllByRecursion (λ sum. length sum ≡ n) (first_chunks n k xs)
+chunks_long n zero xs len = tt
+chunks_long n (suc k) xs len =
+    let e : n * suc k ≡ n + n * k = grind arith in
+    (omega (arith, e, length-take n xs), chunks_long n k (drop n xs) (omega (arith, e, length-drop n xs)))
+
+length-chunks : (n k : ℕ) (xs : List ℕ) → length (first_chunks n k xs) ≡ k
+length-chunks n zero xs = refl
+length-chunks n (suc k) xs = ap suc (length-chunks n k (drop n xs))
+
+chunks_joined : (n : ℕ) (sums : List (List ℕ)) → AllByRecursion (λ sum. length sum ≡ n) sums → first_chunks n (length sums) (flat_map (λ x. x) sums) ≡ sums
+chunks_joined n [] all = refl
+chunks_joined n (s ∷ sums) all =
+    rw (flat_map-cons, take_at s (flat_map (λ x. x) sums) n all.0, drop_at s (flat_map (λ x. x) sums) n all.0, chunks_joined n sums all.1) refl
+
+length-joined : (n : ℕ) (sums : List (List ℕ)) → AllByRecursion (λ sum. length sum ≡ n) sums → length (flat_map (λ x. x) sums) ≡ n * length sums
+length-joined n [] all = omega arith
+length-joined n (s ∷ sums) all =
+    let e : n * suc (length sums) ≡ n + n * length sums = grind arith in
+    let later = length-joined n sums all.1 in
+    let whole : length (flat_map (λ x. x) (s ∷ sums)) ≡ length s + length (flat_map (λ x. x) sums) = ap length (flat_map-cons (λ x. x) s sums) ∙ length-append s (flat_map (λ x. x) sums) in
+    omega (arith, e, later, all.0, whole)
+
+pub length-sums : (sums : List (List ℕ)) → IsSumTable sums → length (flat_map (λ x. x) sums) ≡ 2048
+length-sums sums table = omega (arith, length-joined 32 sums table.each, table.count)
+
+pub record HoldsSums (body : List ℕ) (sums : List (List ℕ)) : Type 0 where
+  pub text : body ≡ flat_map (λ x. x) sums
+  pub table : IsSumTable sums
+
+pub sums_body : (body : List ℕ) (sums : List (List ℕ)) → sums_of body ≡ Ok sums → HoldsSums body sums
+unfolding sums_of
+sums_body body sums e =
+    let g = chosen_ok (eqb (length body) 2048) BadLength (first_chunks 32 64 body) sums e in
+    let len : length body ≡ 2048 = eqb-true _ _ g.0 in
+    subst (HoldsSums body) g.1 (record { text = sym (joined_chunks 32 64 body len); table = record { count = length-chunks 32 64 body; each = chunks_long 32 64 body len } })
+
+pub sums_again : (sums : List (List ℕ)) → IsSumTable sums → sums_of (flat_map (λ x. x) sums) ≡ Ok sums
+unfolding sums_of
+sums_again sums table =
+    let again : first_chunks 32 64 (flat_map (λ x. x) sums) ≡ sums = subst (λ (k : ℕ). first_chunks 32 k (flat_map (λ x. x) sums) ≡ sums) table.count (chunks_joined 32 sums table.each) in
+    rw (length-sums sums table, again) refl
