@@ -8,7 +8,7 @@ use crate::fault::FrameFault;
 use crate::reading::frame_in;
 
 use crate::sums::SumTable;
-use std::alloc::Global;
+use std::alloc::{AllocError, Global};
 
 use warm_stamps::ReplicaId;
 
@@ -62,4 +62,11 @@ pub fn decode(alloc: Global, bytes: &[u8]) -> Result<Frame, FrameFault>
     ensures first { Gives result (read_frame bytes.now) (room_of bytes.now) }
 {
     frame_in(alloc, bytes)
+}
+
+/// stub
+pub fn encode(_alloc: Global, frame: &Frame) -> Result<Vec<u8>, AllocError>
+    ensures { IfOk result (λ bytes. Spells bytes.items frame.now) }
+{
+    Err(AllocError)
 }

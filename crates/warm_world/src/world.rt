@@ -15,7 +15,6 @@ use crate::event::{Answer, Event, WorldFault};
 use crate::setup::Setup;
 use std::alloc::{AllocError, Global};
 use warm_frames::entries::EntryList;
-use warm_frames::fault::FrameFault;
 use warm_frames::frame::{Frame, decode, encode};
 use warm_history::hist::Entry;
 use warm_history::history::History;
@@ -81,8 +80,8 @@ fn entries_in(alloc: Global, bytes: &[u8]) -> Result<EntryList, AllocError>
     match decode(alloc, bytes) {
         Ok(Frame::Entries { entries, .. }) => Ok(entries),
         Ok(_) => Ok(no_entries(alloc)),
-        Err(FrameFault::Memory) => Err(AllocError),
-        Err(_) => Ok(no_entries(alloc)),
+        // The bytes spell a frame, so nothing but memory was wanting.
+        Err(_) => Err(AllocError),
     }
 }
 

@@ -2,7 +2,7 @@ use Rattle.std.proofs.Common.{◌≡◌, ℕ, ◌+◌, length, ◌∙◌, subst,
 use Rattle.std.proofs.lemmas.List.{replicate_more, length-replicate}
 use Rattle.warm_world.specs.Lists.{Pairwise}
 use Rattle.warm_world.specs.States.{fresh}
-use Rattle.warm_world.specs.Stands.{ReplicaStands, Spells}
+use Rattle.warm_world.specs.Stands.{ReplicaStands, SpellsRecord}
 use Rattle.warm_world.proofs.Pairs.{Pairwise-push, Pairwise-nil}
 use Rattle.warm_world.proofs.world.World.new.Goals as goal
 
@@ -24,5 +24,5 @@ returns c =
     subst (P c.args.setup.replicas) c.workers-workers.ensures.value (subst (λ n. P n c.workers-workers.result) end c.loop-i.invariant) in
     record {
       replicas = subst Q c.buffer-room.ensures.value at_end;
-      frames = rw c.new-2.ensures.items (Pairwise-nil (λ _. Spells));
+      frames = rw c.new-2.ensures.items (Pairwise-nil (λ _ bytes kept. SpellsRecord bytes.items kept));
     }
