@@ -1,3 +1,4 @@
 pub mod Buckets
+pub mod Bytes
 pub mod Distinct
 pub mod Stamps

@@ -1,0 +1,39 @@
+//! The 64 sums by which two replicas find the buckets that differ.
+ghost use Rattle.std.specs.Prelude.{◌≡◌};
+ghost use Rattle.warm_frames.specs.Sums.{sum_at};
+
+use std::marker::Model;
+use warm_stamps::Bucket;
+
+/// A sum of 32 bytes for each of the 64 buckets. Contracts see the list of the sums, that of bucket 0
+/// first, each as the list of its bytes. Takes no memory.
+#[derive(Debug, Clone, Copy, PartialEq, Eq)]
+pub struct SumTable {
+    sums: [[u8; 32]; 64],
+}
+
+impl Model for SumTable {
+    ghost use Rattle.std.specs.Prelude.{ℕ, List};
+
+    ghost Value = { List (List ℕ) };
+
+    ghost view = { λ table. table.sums };
+
+    ghost inverse = { λ sums. record { sums = sums } };
+}
+
+impl SumTable {
+    /// The table of these sums, that of bucket 0 first.
+    pub fn of(sums: [[u8; 32]; 64]) -> SumTable
+        ensures { result ≡ sums }
+    {
+        SumTable { sums }
+    }
+
+    /// The sum of the bucket.
+    pub fn sum(&self, bucket: Bucket) -> [u8; 32]
+        ensures { result ≡ sum_at self.now bucket }
+    {
+        self.sums[usize::from(bucket.get())]
+    }
+}
