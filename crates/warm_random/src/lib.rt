@@ -23,13 +23,24 @@ pub enum Line {
         time: u64,
     },
     /// `flush REPLICA WORKER`
-    Flush { replica: u64, worker: u64 },
+    Flush {
+        replica: u64,
+        worker: u64,
+    },
     /// `send REPLICA BUCKET`: a bucket from 0 to 63.
-    Send { replica: u64, bucket: u64 },
+    Send {
+        replica: u64,
+        bucket: u64,
+    },
     /// `deliver REPLICA FRAME`: a frame that was sent by then, or the next.
-    Deliver { replica: u64, frame: u64 },
+    Deliver {
+        replica: u64,
+        frame: u64,
+    },
     /// `show REPLICA`
-    Show { replica: u64 },
+    Show {
+        replica: u64,
+    },
 }
 
 impl Line {
@@ -124,13 +135,17 @@ pub fn write_schedule<W: Write>(
     ensures { OnOk result (Appends (W.contents writer.old) (W.contents writer.new) (schedule_text seed events replicas workers)) }
 {
     let mut words = Lcg64Xsh32::new(seed, 1);
-    let mut sends = 0;
+    let mut sends: u64 = 0;
     for before in 0..u64::from(events) {
-        let line = draw_line(&mut words, u64::from(replicas), u64::from(workers), before + 1, sends);
-        if line.is_send() {
-            sends += 1;
-        }
+        let line = draw_line(
+            &mut words,
+            u64::from(replicas),
+            u64::from(workers),
+            before + 1,
+            sends,
+        );
         line.write_to(writer)?;
+        sends += u64::from(line.is_send());
     }
     Ok(())
 }
