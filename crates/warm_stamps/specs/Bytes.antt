@@ -1,6 +1,6 @@
 -- Stamps and pages as bytes: their fields one after the other, each with its highest byte first.
-use Rattle.std.specs.Prelude.{ℕ, List, ◌++◌}
-use Rattle.std.specs.Int.{w16, w32, w64, to_be_bytes}
+use Rattle.std.specs.Prelude.{ℕ, ◌<◌, ◌≤◌, List, ◌++◌, take, drop}
+use Rattle.std.specs.Int.{w16, w32, w64, to_be_bytes, from_be_bytes}
 use Rattle.warm_stamps.specs.declared.Stamp.{Stamp}
 use Rattle.warm_stamps.specs.declared.PageId.{PageId}
 
@@ -8,6 +8,18 @@ use Rattle.warm_stamps.specs.declared.PageId.{PageId}
 abbrev pub bytes_of_stamp : Stamp → List ℕ
 bytes_of_stamp s = to_be_bytes w64 s.time ++ to_be_bytes w16 s.replica
 
+-- the stamp that ten bytes spell, where its replica's number is one
+abbrev pub stamp_of : List ℕ → Stamp
+stamp_of bytes = record { time = from_be_bytes w64 (take 8 bytes); replica = from_be_bytes w16 (drop 8 bytes) }
+
 -- two bytes of the device's number, and four of the page's own
 abbrev pub bytes_of_page : PageId → List ℕ
 bytes_of_page p = to_be_bytes w16 p.dev ++ to_be_bytes w32 p.no
+
+-- the page that six bytes spell
+abbrev pub page_of : List ℕ → PageId
+page_of bytes = record { dev = from_be_bytes w16 (take 2 bytes); no = from_be_bytes w32 (drop 2 bytes) }
+
+-- the numbers of replicas
+abbrev pub IsReplica : ℕ → Type 0
+IsReplica n = (0 < n) × (n ≤ 64)

@@ -14,6 +14,10 @@ ghost use Rattle.warm_stamps.specs.Buckets.{page_bucket};
 
 use std::marker::Model;
 
+mod bytes;
+
+pub use bytes::{page_bytes, page_from, stamp_bytes, stamp_from};
+
 /// The number of a replica, from 1 to 64.
 #[derive(Debug, Clone, Copy, PartialEq, Eq, PartialOrd, Ord)]
 pub struct ReplicaId {

@@ -1,0 +1,75 @@
+//! Stamps and pages as bytes, the highest byte of each number first.
+ghost use Rattle.std.specs.Prelude.{◌≡◌, ◌↔◌, IfOk, IsOk};
+ghost use Rattle.warm_stamps.specs.Bytes.{bytes_of_stamp, stamp_of, bytes_of_page, page_of, IsReplica};
+
+use crate::{BadReplica, PageId, ReplicaId, Stamp};
+
+/// The ten bytes of a stamp: eight of its time, then two of its replica's number.
+pub fn stamp_bytes(stamp: Stamp) -> [u8; 10]
+    ensures spelled { result ≡ bytes_of_stamp stamp }
+    ensures back { stamp_of result ≡ stamp }
+{
+    let [a, b, c, d, e, f, g, h] = stamp.time.to_be_bytes();
+    let [high, low] = stamp.replica.get().to_be_bytes();
+    [a, b, c, d, e, f, g, h, high, low]
+}
+
+/// The stamp of these ten bytes. `BadReplica` comes exactly where the last two are no replica's number.
+pub fn stamp_from(bytes: &[u8; 10]) -> Result<Stamp, BadReplica>
+    ensures value { IfOk result (λ stamp. stamp ≡ stamp_of bytes.now) }
+    ensures spelled { IfOk result (λ stamp. bytes_of_stamp stamp ≡ bytes.now) }
+    ensures taken { IsOk result ↔ IsReplica (stamp_of bytes.now).replica }
+{
+    let [a, b, c, d, e, f, g, h, high, low] = *bytes;
+    let replica = ReplicaId::new(u16::from_be_bytes([high, low]))?;
+    Ok(Stamp {
+        time: u64::from_be_bytes([a, b, c, d, e, f, g, h]),
+        replica,
+    })
+}
+
+/// The six bytes of a page: two of its device's number, then four of its own.
+pub fn page_bytes(page: PageId) -> [u8; 6]
+    ensures spelled { result ≡ bytes_of_page page }
+    ensures back { page_of result ≡ page }
+{
+    let [high, low] = page.dev.to_be_bytes();
+    let [a, b, c, d] = page.no.to_be_bytes();
+    [high, low, a, b, c, d]
+}
+
+/// The page of these six bytes.
+pub fn page_from(bytes: &[u8; 6]) -> PageId
+    ensures value { result ≡ page_of bytes.now }
+    ensures spelled { bytes_of_page result ≡ bytes.now }
+{
+    let [high, low, a, b, c, d] = *bytes;
+    PageId {
+        dev: u16::from_be_bytes([high, low]),
+        no: u32::from_be_bytes([a, b, c, d]),
+    }
+}
+
+#[cfg(test)]
+mod tests {
+    use super::*;
+
+    // 20@1, as ten bytes.
+    const STAMP: [u8; 10] = [0, 0, 0, 0, 0, 0, 0, 0x14, 0, 1];
+
+    // 258:50462976, whose bytes all differ.
+    const PAGE: [u8; 6] = [1, 2, 3, 2, 1, 0];
+
+    #[test]
+    fn stamps_have_ten_bytes(rt: HostRuntime) {
+        assert_eq!(rt; stamp_from(&STAMP).map(stamp_bytes), Ok(STAMP));
+        assert_eq!(rt; stamp_from(&STAMP).map(|stamp| stamp.time), Ok(20));
+        assert_eq!(rt; stamp_from(&[0; 10]), Err(BadReplica));
+    }
+
+    #[test]
+    fn pages_have_six_bytes(rt: HostRuntime) {
+        assert_eq!(rt; page_bytes(PageId { dev: 258, no: 50462976 }), PAGE);
+        assert_eq!(rt; page_from(&PAGE), PageId { dev: 258, no: 50462976 });
+    }
+}
