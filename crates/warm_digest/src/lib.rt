@@ -8,7 +8,7 @@ ghost use Rattle.std.specs.Prelude.{◌≡◌, ◌≢◌, ◌↔◌, ◌<◌, �
 ghost use Rattle.std.specs.Int.{bit_at};
 ghost use Rattle.sha2.specs.Hashers.{Holds256};
 ghost use Rattle.warm_history.specs.declared.hist.Entry.{Entry};
-ghost use Rattle.warm_frames.specs.Entries.{entry_bytes};
+ghost use Rattle.warm_frames.specs.Entries.{hist_bytes, entry_bytes};
 ghost use Rattle.warm_frames.specs.Sums.{sum_at};
 ghost use Rattle.warm_digest.specs.BucketSums.{sums_of};
 ghost use Rattle.warm_digest.specs.Hashing.{HaveTaken};
@@ -22,12 +22,10 @@ use warm_stamps::{Bucket, bucket_of, page_bytes, stamp_bytes};
 
 const BUCKETS: usize = 64;
 
-// Feeds the bytes of an entry to a hasher.
-fn take_entry(hasher: &mut Sha256, entry: Entry)
-    ensures { (m : List ℕ) → Holds256 hasher.old m → Holds256 hasher.new (m ++ entry_bytes entry) }
+fn take_hist(hasher: &mut Sha256, hist: PageHist)
+    ensures { (m : List ℕ) → Holds256 hasher.old m → Holds256 hasher.new (m ++ hist_bytes hist) }
 {
-    hasher.update(page_bytes(entry.page));
-    match entry.hist {
+    match hist {
         PageHist::Once(last) => {
             hasher.update([1]);
             hasher.update(stamp_bytes(last));
@@ -40,6 +38,14 @@ fn take_entry(hasher: &mut Sha256, entry: Entry)
             hasher.update(stamp_bytes(prev));
         }
     }
+}
+
+// Feeds the bytes of an entry to a hasher.
+fn take_entry(hasher: &mut Sha256, entry: Entry)
+    ensures { (m : List ℕ) → Holds256 hasher.old m → Holds256 hasher.new (m ++ entry_bytes entry) }
+{
+    hasher.update(page_bytes(entry.page));
+    take_hist(hasher, entry.hist);
 }
 
 // A hasher for each bucket, none of which has taken anything.
@@ -64,13 +70,13 @@ fn take_into(hashers: &mut Vec<Sha256>, entry: Entry)
 }
 
 // What the hashers have come to.
-fn digests(hashers: Vec<Sha256>) -> [[u8; 32]; 64]
+fn digests(mut hashers: Vec<Sha256>) -> [[u8; 32]; 64]
     requires { length hashers.items ≡ 64 }
     ensures { (taken : List Entry) → HaveTaken hashers.items taken → result ≡ sums_of taken }
 {
     let mut sums = [[0; 32]; BUCKETS];
-    for (bucket, hasher) in hashers.into_iter().enumerate() {
-        sums[bucket] = hasher.finalize();
+    while let Some(hasher) = hashers.pop() {
+        sums[hashers.len()] = hasher.finalize();
     }
     sums
 }

@@ -1,5 +1,5 @@
 -- Words in which clap's definition has no fault ask for `play` or `random`: a subcommand is wanted, and `help` is a fault.
-use Rattle.std.proofs.Common.{◌≡◌, ℕ, List, [], ◌∷◌, Bool, true, false, not, ◌&&◌, ◌||◌, cond, zero, suc, drop, subst, Option, Some, None, is_some, option_map, codes, refl, sym, ap, ◌⊎◌, inl, inr, ◌∙◌, true≢false}
+use Rattle.std.proofs.Common.{◌≡◌, Err, ℕ, List, [], ◌∷◌, Bool, true, false, not, ◌&&◌, ◌||◌, cond, zero, suc, drop, subst, Option, Some, None, is_some, option_map, codes, refl, sym, ap, ◌⊎◌, inl, inr, ◌∙◌, true≢false}
 use Rattle.std.specs.Prelude.{bytes_eq, option_and_then, fold}
 use Rattle.std.proofs.lemmas.Slice.Eq.{bytes_eq-Decides}
 use Rattle.clap.specs.Lexer.{long_of, short_of}
@@ -8,8 +8,10 @@ use Rattle.clap.specs.declared.error.kind.ErrorKind.{ErrorKind}
 use Rattle.clap.specs.Walk.{Held, Names, Outcome, done, waits, plain, refused, Row, Rule, Step, next, trailing, subcommand, value, Text, Waiting, idle, option, positional, Walk, after_flag, after_step, long_or_other, nothing_held, plain_word, short_or_plain, subcommand_met, subcommand_or_other, walk, walk_from, walked, walked_from, word_met, arg_by_index, to_positional, finished}
 use Rattle.clap.specs.Simple.{Shape, built, entered, names_of, rows_at, subcommand_of}
 use Rattle.clap.specs.Faults.{check_fault, entered_fault, fault_of, other_fault, step_fault, turn_fault, walk_fault, word_fault}
-use Rattle.warm_schedule.specs.declared.command.Cmd.{Cmd}
-use Rattle.warm_schedule.specs.Words.{LacksNumber, command_by, command_in, play, warmplay}
+use Rattle.clap.specs.declared.error.kind.ErrorKind.TheVariants.{ValueValidation}
+use Rattle.warm_schedule.specs.declared.command.CmdFault.{CmdFault}
+use Rattle.warm_schedule.specs.declared.command.CmdFault.TheVariants.{Memory, Refused}
+use Rattle.warm_schedule.specs.Words.{Answers, IsRefusal, LacksNumber, command_by, command_in, play, warmplay}
 
 both_empty : (first rest : Kinds) → or_else first rest ≡ [] → (first ≡ []) × (rest ≡ [])
 both_empty [] rest e = (refl, e)
@@ -149,6 +151,10 @@ is_asked words e =
 -- no fault, and no command: a number is wanted
 pub lacks_number : (words : List Text) → fault_of warmplay words ≡ [] → None ≡ command_in words → LacksNumber words
 lacks_number words e none = elim (is_asked words e) [
-    | inl there ↦ absurd (true≢false (sym (ap is_some none ∙ there)))
-    | inr random ↦ (e, random, sym none)
-  ]
+  | inl there ↦ absurd (true≢false (sym (ap is_some none ∙ there)))
+  | inr random ↦ (e, random, sym none)
+]
+
+pub refused_for_number : (words : List Text) (fault : CmdFault) → LacksNumber words → IsRefusal ValueValidation fault → Answers words (Err fault)
+refused_for_number words Memory lacks is = tt
+refused_for_number words (Refused error) lacks is = inr (lacks, is)

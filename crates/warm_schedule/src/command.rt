@@ -1,11 +1,11 @@
 //! The command line: `warmplay play [FILE] [--setup FILE]` and `warmplay random --seed S --events N [--setup FILE]`.
 
-ghost use Rattle.std.specs.Prelude.{◌≡◌, IfOk, Some, map, option_map, option_and_then, List, ℕ, false};
-ghost use Rattle.clap.specs.Words.{app_of, rule_of, subcommand_of, subcommand_rows_of, FailsBy};
+ghost use Rattle.std.specs.Prelude.{◌≡◌, IfOk, Some, map, option_map, option_and_then, codes, List, ℕ, ◌-◌, ◌^◌, false};
+ghost use Rattle.clap.specs.Words.{app_of, found_of, rows_of, rule_of, subcommand_of, subcommand_rows_of, FailsBy};
 ghost use Rattle.clap.specs.Faults.{fault_of};
 ghost use Rattle.clap.specs.declared.builder.Command.TheViews.{out-Command};
 ghost use Rattle.warm_schedule.specs.Endings.{command_fault_code, command_fault_name};
-ghost use Rattle.warm_schedule.specs.Words.{setup, play, random, warmplay, command_by, Answers, IsRefusal};
+ghost use Rattle.warm_schedule.specs.Words.{setup, number, number_of, play, random, random_by, warmplay, command_by, Answers, IsRefusal};
 ghost use Rattle.warm_schedule.specs.WordsSeen.{command_for, IsFaultOf};
 
 use crate::setup::PathText;
@@ -96,23 +96,25 @@ fn play_command<'a>(alloc: Global) -> Result<Command<'a>, AllocError>
     play.arg(file)?.arg(setup_argument(alloc))
 }
 
-// Its numbers are tested by clap, so that a refusal names the number and its limits.
+// A number up to `most`, which clap tests, so that a refusal names the argument and its limits.
+fn number_argument<'a>(alloc: Global, name: &'a str, help: &'a str, most: u64) -> Arg<'a>
+    ensures rule { rule_of result ≡ number name.entry.now most }
+    ensures local { result.global ≡ false }
+{
+    Arg::new(alloc, name)
+        .value_name("N")
+        .help(help)
+        .long(name)
+        .required(true)
+        .value_parser(ValueParser::unsigned(0, most))
+}
+
 fn random_command<'a>(alloc: Global) -> Result<Command<'a>, AllocError>
     ensures app { IfOk result (λ c. app_of c ≡ random) }
     ensures local { IfOk result (λ c. (out-Command c).has_globals ≡ false) }
 {
-    let seed = Arg::new(alloc, "seed")
-        .value_name("S")
-        .help("The seed, a number below 2^64")
-        .long("seed")
-        .required(true)
-        .value_parser(ValueParser::unsigned(0, u64::MAX));
-    let events = Arg::new(alloc, "events")
-        .value_name("N")
-        .help("How many lines, 0 to 1000000")
-        .long("events")
-        .required(true)
-        .value_parser(ValueParser::unsigned(0, 1000000));
+    let seed = number_argument(alloc, "seed", "What the schedule is drawn from", u64::MAX);
+    let events = number_argument(alloc, "events", "How many lines it has", 1000000);
     let random = Command::new(alloc, "random").about(
         "Write a schedule drawn at random, the same for the same seed",
     );
@@ -141,6 +143,26 @@ fn matches_of<'a, S: AsStr>(alloc: Global, words: &'a [S]) -> Result<ArgMatches<
     command.try_get_matches_from(words)
 }
 
+fn seed_in(found: &ArgMatches<'_>) -> Option<u64>
+    ensures { result ≡ number_of (2 ^ 64 - 1) (codes "seed") (rows_of (found_of found.now)) }
+{
+    found.get_one("seed")
+}
+
+fn events_in(found: &ArgMatches<'_>) -> Option<u32>
+    ensures { result ≡ number_of (2 ^ 32 - 1) (codes "events") (rows_of (found_of found.now)) }
+{
+    found.get_one("events")
+}
+
+fn random_in<'a>(found: &ArgMatches<'a>) -> Option<Asked<'a>>
+    ensures { option_map command_for result ≡ random_by (rows_of (found_of found.now)) }
+{
+    let seed = seed_in(found)?;
+    let events = events_in(found)?;
+    Some(Asked::Random(seed, events, found.get_str("setup")))
+}
+
 fn asked_in<'a>(matches: &ArgMatches<'a>) -> Option<Asked<'a>>
     ensures { option_map command_for result ≡ option_and_then command_by (subcommand_rows_of matches.now) }
 {
@@ -151,9 +173,7 @@ fn asked_in<'a>(matches: &ArgMatches<'a>) -> Option<Asked<'a>>
         return Some(Asked::Play(file, setup));
     }
     if name == "random" {
-        let seed = found.get_one::<u64>("seed")?;
-        let events = found.get_one::<u32>("events")?;
-        return Some(Asked::Random(seed, events, setup));
+        return random_in(found);
     }
     None
 }
