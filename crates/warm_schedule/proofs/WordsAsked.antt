@@ -1,15 +1,17 @@
--- Words in which clap's definition has no fault ask for a command of the program: one is wanted, and `help` is a fault.
-use Rattle.std.proofs.Common.{◌≡◌, ℕ, List, [], ◌∷◌, Bool, true, false, not, ◌&&◌, ◌||◌, cond, zero, suc, drop, subst, Option, Some, None, is_some, option_map, codes, refl, sym, ap, ◌∙◌, true≢false}
+-- Words in which clap's definition has no fault ask for `play` or `random`: a subcommand is wanted, and `help` is a fault.
+use Rattle.std.proofs.Common.{◌≡◌, Err, ℕ, List, [], ◌∷◌, Bool, true, false, not, ◌&&◌, ◌||◌, cond, zero, suc, drop, subst, Option, Some, None, is_some, option_map, codes, refl, sym, ap, ◌⊎◌, inl, inr, ◌∙◌, true≢false}
 use Rattle.std.specs.Prelude.{bytes_eq, option_and_then, fold}
 use Rattle.std.proofs.lemmas.Slice.Eq.{bytes_eq-Decides}
 use Rattle.clap.specs.Lexer.{long_of, short_of}
 use Rattle.clap.specs.Kinds.{Kinds, or_else, check_kinds}
 use Rattle.clap.specs.declared.error.kind.ErrorKind.{ErrorKind}
 use Rattle.clap.specs.Walk.{Held, Names, Outcome, done, waits, plain, refused, Row, Rule, Step, next, trailing, subcommand, value, Text, Waiting, idle, option, positional, Walk, after_flag, after_step, long_or_other, nothing_held, plain_word, short_or_plain, subcommand_met, subcommand_or_other, walk, walk_from, walked, walked_from, word_met, arg_by_index, to_positional, finished}
-use Rattle.clap.specs.Simple.{Shape, built, entered, names_of, rows_at}
+use Rattle.clap.specs.Simple.{Shape, built, entered, names_of, rows_at, subcommand_of}
 use Rattle.clap.specs.Faults.{check_fault, entered_fault, fault_of, other_fault, step_fault, turn_fault, walk_fault, word_fault}
-use Rattle.warm_schedule.specs.declared.command.Cmd.{Cmd}
-use Rattle.warm_schedule.specs.Words.{command_by, command_in, play, warmplay}
+use Rattle.clap.specs.declared.error.kind.ErrorKind.TheVariants.{ValueValidation}
+use Rattle.warm_schedule.specs.declared.command.CmdFault.{CmdFault}
+use Rattle.warm_schedule.specs.declared.command.CmdFault.TheVariants.{Memory, Refused}
+use Rattle.warm_schedule.specs.Words.{Answers, IsRefusal, LacksNumber, command_by, command_in, play, warmplay}
 
 both_empty : (first rest : Kinds) → or_else first rest ≡ [] → (first ≡ []) × (rest ≡ [])
 both_empty [] rest e = (refl, e)
@@ -110,28 +112,31 @@ help_other name other =
       | false ↦ λ differs. refl
     ] refl
 
--- the command for the subcommand at which the words stop
-abbrev asked_at : Option (Text × List Text) → Option Cmd
-asked_at stop = option_and_then command_by (entered (built warmplay) stop)
+-- a command, or the subcommand that lacks a number
+abbrev pub IsAsked : Option (Text × List Row) → Type 0
+IsAsked found = (is_some (option_and_then command_by found) ≡ true) ⊎ (option_map (λ f. bytes_eq f.0 (codes "random")) found ≡ Some true)
 
 abbrev shape_at : ℕ → List Shape → Shape
 shape_at n [] = play.top
 shape_at zero (s ∷ rest) = s
 shape_at (suc n) (s ∷ rest) = shape_at n rest
 
-abbrev entered_by : Bool → Bool → List Text → Option (Text × List Row)
-entered_by is_play is_help rest = option_map (λ s. rows_at s rest) (cond (is_play || false) (Some (shape_at 0 (built warmplay).subs)) (cond (is_help || false) (Some (shape_at 1 (built warmplay).subs)) None))
+-- the first of the three subcommands whose name is that of the words
+abbrev entered_by : Bool → Bool → Bool → List Text → Option (Text × List Row)
+entered_by is_play is_random is_help rest = option_map (λ s. rows_at s rest)
+    (cond (is_play || false) (Some (shape_at 0 (built warmplay).subs)) (cond (is_random || false) (Some (shape_at 1 (built warmplay).subs)) (cond (is_help || false) (Some (shape_at 2 (built warmplay).subs)) None)))
 
-only_play : (is_play is_help : Bool) (rest : List Text) → is_help ≡ false → is_some (entered_by is_play is_help rest) ≡ true → is_some (option_and_then command_by (entered_by is_play is_help rest)) ≡ true
-only_play true is_help rest other there = refl
-only_play false false rest other there = absurd (true≢false (sym there))
-only_play false true rest other there = absurd (true≢false other)
+play_or_random : (is_play is_random is_help : Bool) (rest : List Text) → is_help ≡ false → is_some (entered_by is_play is_random is_help rest) ≡ true → IsAsked (entered_by is_play is_random is_help rest)
+play_or_random true is_random is_help rest other there = inl refl
+play_or_random false true is_help rest other there = inr refl
+play_or_random false false false rest other there = absurd (true≢false (sym there))
+play_or_random false false true rest other there = absurd (true≢false other)
 
-is_play : (stop : Option (Text × List Text)) → StopsAtNoHelp stop → is_some (entered (built warmplay) stop) ≡ true → is_some (asked_at stop) ≡ true
-is_play None kept there = absurd (true≢false (sym there))
-is_play (Some p) kept there = only_play (bytes_eq (codes "play") p.0) (bytes_eq (codes "help") p.0) p.1 (help_other p.0 kept) there
+asked_at : (stop : Option (Text × List Text)) → StopsAtNoHelp stop → is_some (entered (built warmplay) stop) ≡ true → IsAsked (entered (built warmplay) stop)
+asked_at None kept there = absurd (true≢false (sym there))
+asked_at (Some p) kept there = play_or_random (bytes_eq (codes "play") p.0) (bytes_eq (codes "random") p.0) (bytes_eq (codes "help") p.0) p.1 (help_other p.0 kept) there
 
-pub is_asked : (words : List Text) → fault_of warmplay words ≡ [] → is_some (command_in words) ≡ true
+pub is_asked : (words : List Text) → fault_of warmplay words ≡ [] → IsAsked (subcommand_of warmplay words)
 is_asked words e =
     let rest = drop 1 words in
     let top = (built warmplay).top in
@@ -141,4 +146,15 @@ is_asked words e =
     let enters = both_empty (entered_fault (built warmplay) stop) _ walks.1 in
     let settles = both_empty _ _ enters.1 in
     let fills = both_empty _ _ settles.1 in
-    is_play stop (by_walk top refl names (walk_from nothing_held) rest walks.0 tt) (wanted top (finished top.rules (walk top.rules names nothing_held rest).held) (is_some (entered (built warmplay) stop)) refl fills.1)
+    asked_at stop (by_walk top refl names (walk_from nothing_held) rest walks.0 tt) (wanted top (finished top.rules (walk top.rules names nothing_held rest).held) (is_some (entered (built warmplay) stop)) refl fills.1)
+
+-- no fault, and no command: a number is wanted
+pub lacks_number : (words : List Text) → fault_of warmplay words ≡ [] → None ≡ command_in words → LacksNumber words
+lacks_number words e none = elim (is_asked words e) [
+  | inl there ↦ absurd (true≢false (sym (ap is_some none ∙ there)))
+  | inr random ↦ (e, random, sym none)
+]
+
+pub refused_for_number : (words : List Text) (fault : CmdFault) → LacksNumber words → IsRefusal ValueValidation fault → Answers words (Err fault)
+refused_for_number words Memory lacks is = tt
+refused_for_number words (Refused error) lacks is = inr (lacks, is)

@@ -1,4 +1,5 @@
 //! `warmplay play [FILE] [--setup FILE]` plays a schedule, from a file or from standard input, to standard output.
+//! `warmplay random --seed S --events N [--setup FILE]` writes a schedule drawn at random.
 #![tactic(auto)]
 
 use std::alloc::Global;
@@ -9,6 +10,7 @@ use std::process::ExitCode;
 use warm_schedule::command::{Cmd, CmdFault, command_of, not_text};
 use warm_schedule::outcome::{RunFault, outcome_of};
 use warm_schedule::play::{PlayFault, play};
+use warm_schedule::random::random_schedule;
 use warm_schedule::setup::{DeviceSpec, PathText, SetupFault, read_setup, read_setup_file};
 use warm_world::Setup;
 
@@ -65,10 +67,8 @@ fn play_buffered<R: Read, W: Write + Drop>(
     play(alloc, reader, &mut buffered, setup).map_err(RunFault::Play)
 }
 
-// Faults are found in this order: the command line, the setup file, its text, the schedule's file, the play.
-fn run(rt: &HostRuntime) -> Result<(), RunFault> {
-    let Cmd::Play { file, setup } = asked(rt)?;
-    let (setup, _devices) = setup_in(rt, setup)?;
+// Plays the file, or standard input where there is none.
+fn run_play(rt: &HostRuntime, file: Option<PathText>, setup: Setup) -> Result<(), RunFault> {
     let Some(path) = file else {
         return play_buffered(rt.alloc(), &mut rt.stdin(), rt.stdout(), setup);
     };
@@ -76,6 +76,32 @@ fn run(rt: &HostRuntime) -> Result<(), RunFault> {
         return Err(RunFault::CannotOpen(path));
     };
     play_buffered(rt.alloc(), &mut schedule, rt.stdout(), setup)
+}
+
+// Writes a schedule drawn at random through a buffer, which `random_schedule` flushes at the end.
+fn run_random(rt: &HostRuntime, seed: u64, events: u32, setup: Setup) -> Result<(), RunFault> {
+    let Ok(mut buffered) = BufWriter::with_capacity(rt.alloc(), GATHERED, rt.stdout()) else {
+        return Err(RunFault::Play(PlayFault::Memory));
+    };
+    random_schedule(&mut buffered, seed, events, &setup).map_err(RunFault::Play)
+}
+
+// Faults are found in this order: the command line, the setup file, its text, the schedule's file, the play.
+fn run(rt: &HostRuntime) -> Result<(), RunFault> {
+    match asked(rt)? {
+        Cmd::Play { file, setup } => {
+            let (setup, _devices) = setup_in(rt, setup)?;
+            run_play(rt, file, setup)
+        }
+        Cmd::Random {
+            seed,
+            events,
+            setup,
+        } => {
+            let (setup, _devices) = setup_in(rt, setup)?;
+            run_random(rt, seed, events, setup)
+        }
+    }
 }
 
 // Prints clap's own text where there is one: `true` where help was asked for, and could not be written.

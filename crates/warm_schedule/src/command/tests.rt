@@ -4,7 +4,20 @@ use super::*;
 fn play_texts(read: &Result<Cmd, CmdFault>) -> Option<(Option<&str>, Option<&str>)> {
     match read {
         Ok(Cmd::Play { file, setup }) => Some((shown(file), shown(setup))),
-        Err(_) => None,
+        _ => None,
+    }
+}
+
+fn random_values(read: &Result<Cmd, CmdFault>) -> Option<(u64, u32, Option<&str>)> {
+    match read {
+        Ok(
+            Cmd::Random {
+                seed,
+                events,
+                setup,
+            },
+        ) => Some((*seed, *events, shown(setup))),
+        _ => None,
     }
 }
 
@@ -31,6 +44,34 @@ fn play_takes_a_file_and_a_setup(rt: HostRuntime) {
     assert_eq!(rt; play_texts(&read), Some((Some("--setup"), None)));
 }
 
+#[test]
+fn random_takes_two_numbers_and_a_setup(rt: HostRuntime) {
+    let words = [
+        "warmplay",
+        "random",
+        "--seed",
+        "18446744073709551615",
+        "--events",
+        "1000000",
+    ];
+    let read = command_of(rt.alloc(), words.as_slice());
+    assert_eq!(rt;
+        random_values(&read),
+        Some((18446744073709551615, 1000000, None))
+    );
+    let words = [
+        "warmplay",
+        "random",
+        "--events=0",
+        "--setup",
+        "b",
+        "--seed",
+        "007",
+    ];
+    let read = command_of(rt.alloc(), words.as_slice());
+    assert_eq!(rt; random_values(&read), Some((7, 0, Some("b"))));
+}
+
 fn kind_of_words(rt: &HostRuntime, words: &[&str]) -> Option<ErrorKind> {
     match command_of(rt.alloc(), words) {
         Err(CmdFault::Refused(error)) => Some(error.kind()),
@@ -46,11 +87,6 @@ fn other_words_are_refused(rt: HostRuntime) {
         Some(ErrorKind::MissingSubcommand)
     );
     let words = ["warmplay", "threads"];
-    assert_eq!(rt;
-        kind_of_words(&rt, words.as_slice()),
-        Some(ErrorKind::InvalidSubcommand)
-    );
-    let words = ["warmplay", "random", "--seed", "1", "--events", "1000001"];
     assert_eq!(rt;
         kind_of_words(&rt, words.as_slice()),
         Some(ErrorKind::InvalidSubcommand)
@@ -74,6 +110,30 @@ fn other_words_are_refused(rt: HostRuntime) {
     assert_eq!(rt;
         kind_of_words(&rt, words.as_slice()),
         Some(ErrorKind::UnknownArgument)
+    );
+}
+
+#[test]
+fn numbers_out_of_range_are_refused(rt: HostRuntime) {
+    for (seed, events) in [
+        ("1", "1000001"),
+        ("18446744073709551616", "1"),
+        ("-1", "1"),
+        ("1", "x"),
+        ("", "1"),
+    ] {
+        let words = ["warmplay", "random", "--seed", seed, "--events", events];
+        assert!(rt; kind_of_words(&rt, words.as_slice()).is_some());
+    }
+    let words = ["warmplay", "random", "--seed", "1", "--events", "1000001"];
+    assert_eq!(rt;
+        kind_of_words(&rt, words.as_slice()),
+        Some(ErrorKind::ValueValidation)
+    );
+    let words = ["warmplay", "random", "--seed", "1"];
+    assert_eq!(rt;
+        kind_of_words(&rt, words.as_slice()),
+        Some(ErrorKind::MissingRequiredArgument)
     );
 }
 

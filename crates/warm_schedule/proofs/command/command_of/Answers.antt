@@ -1,8 +1,11 @@
-use Rattle.std.proofs.Common.{◌∙◌, sym, ap, map, is_some, true≢false}
+use Rattle.std.proofs.Common.{◌∙◌, ap, map}
 use Rattle.std.specs.Prelude.{option_and_then}
 use Rattle.warm_schedule.specs.Words.{command_by}
-use Rattle.warm_schedule.proofs.WordsAsked.{is_asked}
+use Rattle.warm_schedule.proofs.WordsAsked.{lacks_number, refused_for_number}
 use Rattle.warm_schedule.proofs.command.command_of.Goals as goal
 
-pub unreachable-requires : goal.unreachable-requires
-unreachable-requires g c = true≢false (sym (is_asked (map g.S.AsStr.text c.args.words.now) c.in-Ok.ensures.kinds) ∙ ap (λ found. is_some (option_and_then command_by found)) (sym c.in-Ok.ensures.rows) ∙ ap is_some (sym c.in_default.ensures))
+pub returns-in_default : goal.returns-in_default
+returns-in_default g c =
+    refused_for_number (map g.S.AsStr.text c.args.words.now) c.refused.result
+    (lacks_number (map g.S.AsStr.text c.args.words.now) c.in-Ok.ensures.kinds (c.in_default.ensures ∙ ap (option_and_then command_by) c.in-Ok.ensures.rows))
+    c.refused.ensures

@@ -1,0 +1,143 @@
+//! Encodes and decodes a full frame, and sums the buckets of a history of 100,000 pages.
+//!
+//! With no argument each is done once, and what came out is printed. With a number each is done so many times, and the
+//! nanoseconds are printed too, for `bench/frames/measure.py`.
+#![tactic(auto)]
+
+use anyhow::{Context, Result, bail};
+use std::alloc::Global;
+use std::env;
+use std::time::Instant;
+use warm_digest::sums;
+use warm_frames::entries::EntryList;
+use warm_frames::frame::{Frame, decode, encode};
+use warm_history::history::History;
+use warm_stamps::{Bucket, PageId, Reference, ReplicaId, Stamp};
+
+// How many pages a full frame has, and how many the history that is summed.
+const FULL: u32 = 1000;
+const MANY: u32 = 100_000;
+
+// A history of so many pages, whose numbers are so far apart, with two stamps each.
+fn history_of(alloc: Global, replica: ReplicaId, pages: u32, apart: u32) -> Result<History> {
+    let Ok(mut batch) = Vec::with_capacity(alloc, 2 * pages as usize) else {
+        bail!("no memory")
+    };
+    for i in 0..pages {
+        let page = PageId {
+            dev: 0,
+            no: i.wrapping_mul(apart),
+        };
+        for time in [u64::from(i), u64::from(i) + 7] {
+            let stamp = Stamp { time, replica };
+            if batch.push(Reference { page, stamp }).is_err() {
+                bail!("no memory")
+            }
+        }
+    }
+    let mut history = History::new(alloc);
+    if history.absorb(&batch).is_err() {
+        bail!("no memory")
+    }
+    Ok(history)
+}
+
+// A frame of the first 1000 pages of bucket 0.
+fn full_frame(alloc: Global, sender: ReplicaId) -> Result<Frame> {
+    let history = history_of(alloc, sender, FULL, 64)?;
+    let Some(bucket) = Bucket::new(0) else {
+        bail!("0 is a bucket")
+    };
+    let Ok(entries) = history.entries(bucket, None, FULL as usize) else {
+        bail!("no memory")
+    };
+    match EntryList::of(entries) {
+        Ok(entries) => Ok(Frame::Entries { sender, entries }),
+        Err(_) => bail!("the pages rise"),
+    }
+}
+
+// The sum of bytes, so that what was made is seen.
+fn check_sum(bytes: &[u8]) -> u64 {
+    let mut sum = 0u64;
+    for byte in bytes {
+        sum = sum.wrapping_mul(31).wrapping_add(u64::from(*byte));
+    }
+    sum
+}
+
+fn encoded(alloc: Global, frame: &Frame) -> Result<Vec<u8>> {
+    match encode(alloc, frame) {
+        Ok(bytes) => Ok(bytes),
+        Err(_) => bail!("no memory"),
+    }
+}
+
+// The bytes of so many encodings, one after the other.
+fn encode_often(alloc: Global, frame: &Frame, rounds: u64) -> Result<Vec<u8>> {
+    let mut bytes = encoded(alloc, frame)?;
+    for _ in 1..rounds {
+        bytes = encoded(alloc, frame)?;
+    }
+    Ok(bytes)
+}
+
+// How many entries were decoded in so many rounds.
+fn decode_often(alloc: Global, bytes: &[u8], rounds: u64) -> Result<u64> {
+    let mut count = 0u64;
+    for _ in 0..rounds {
+        match decode(alloc, bytes) {
+            Ok(Frame::Entries { entries, .. }) => {
+                count = count.wrapping_add(entries.as_slice().len() as u64);
+            }
+            _ => bail!("the frame is one of entries"),
+        }
+    }
+    Ok(count)
+}
+
+// The sum of bucket 0, taken in so many rounds.
+fn sum_often(alloc: Global, history: &History, rounds: u64) -> Result<[u8; 32]> {
+    let Some(bucket) = Bucket::new(0) else {
+        bail!("0 is a bucket")
+    };
+    let mut first = [0u8; 32];
+    for _ in 0..rounds {
+        match sums(alloc, history) {
+            Ok(table) => first = table.sum(bucket),
+            Err(_) => bail!("no memory"),
+        }
+    }
+    Ok(first)
+}
+
+fn main(rt: HostRuntime) -> Result<()> {
+    let asked = env::args(&rt)?.nth(1);
+    let rounds = match &asked {
+        None => 1,
+        Some(word) => word.parse::<u64>().context("how often each is done")?,
+    };
+    let Ok(sender) = ReplicaId::new(1) else {
+        bail!("1 is a replica")
+    };
+    let frame = full_frame(rt.alloc(), sender)?;
+    let history = history_of(rt.alloc(), sender, MANY, 1)?;
+
+    let start = Instant::now(&rt)?;
+    let bytes = encode_often(rt.alloc(), &frame, rounds)?;
+    let encoding = start.elapsed(&rt)?;
+    let start = Instant::now(&rt)?;
+    let count = decode_often(rt.alloc(), &bytes, rounds)?;
+    let decoding = start.elapsed(&rt)?;
+    let start = Instant::now(&rt)?;
+    let first = sum_often(rt.alloc(), &history, rounds)?;
+    let summing = start.elapsed(&rt)?;
+
+    println!(rt; "encode: {} bytes {}", bytes.len(), check_sum(&bytes))?;
+    println!(rt; "decode: {} entries", count)?;
+    println!(rt; "sums: {}", check_sum(&first))?;
+    if asked.is_some() {
+        println!(rt; "{} {} {} ns", encoding.as_nanos(), decoding.as_nanos(), summing.as_nanos())?;
+    }
+    Ok(())
+}

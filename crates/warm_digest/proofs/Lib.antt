@@ -1,0 +1,2 @@
+mod Hashers
+mod Masks

@@ -1,0 +1,10 @@
+use Rattle.std.proofs.Common.{◌≡◌, ◌++◌, length}
+use Rattle.warm_digest.specs.Hashing.{HaveTaken}
+use Rattle.warm_digest.proofs.sums.Given as goal
+
+abbrev pub invariant-loop-entry : goal.invariant-loop-entry
+invariant-loop-entry l = record {
+  split : l.yielded ++ l.entry-iterator ≡ l.history;
+  all : length l.hashers.items ≡ 64;
+  taken : HaveTaken l.hashers.items l.yielded;
+}

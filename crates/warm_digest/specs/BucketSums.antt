@@ -1,0 +1,19 @@
+-- The sums by which replicas compare histories bucket by bucket.
+use Rattle.std.specs.Prelude.{ℕ, ◌==◌, List, map, filter}
+use Rattle.std.specs.List.{range_with_len}
+use Rattle.sha2.specs.Sha256.{sha256}
+use Rattle.warm_stamps.specs.Buckets.{page_bucket}
+use Rattle.warm_history.specs.declared.hist.Entry.{Entry}
+use Rattle.warm_frames.specs.Entries.{entries_bytes}
+
+-- the entries of a bucket, in the order in which they are given
+abbrev pub bucket_entries : ℕ → List Entry → List Entry
+bucket_entries bucket = filter (λ e. page_bucket e.page == bucket)
+
+-- the SHA-256 digest of a bucket's entries, one after the other
+abbrev pub bucket_sum : List Entry → ℕ → List ℕ
+bucket_sum h bucket = sha256 (entries_bytes (bucket_entries bucket h))
+
+-- the sums of a history, that of bucket 0 first
+abbrev pub sums_of : List Entry → List (List ℕ)
+sums_of h = map (bucket_sum h) (range_with_len 0 64)

@@ -1,0 +1,2 @@
+pub mod BucketSums
+pub mod Hashing

@@ -1,0 +1,67 @@
+-- What has been drawn and written, line by line.
+use Rattle.std.proofs.Common.{◌≡◌, ℕ, ◌+◌, ◌≤◌, Bool, true, false, cond, List, [], ◌∷◌, ◌++◌, Option, Some, None, refl, sym, ap, arith, ◌∙◌, append_assoc, add-one, count_by, flat_map}
+use Rattle.std.specs.Prelude.{nat_le}
+use Rattle.std.specs.Io.KnownBytes.{Appends}
+use Rattle.std.proofs.lemmas.List.{append-nil}
+use Rattle.std.proofs.lemmas.Grind.{flat_map-append}
+use Rattle.std.proofs.lemmas.List.Concat.{flat_map-cons}
+use Rattle.std.proofs.lemmas.List.Sums.{sum_by-append}
+use Rattle.std.specs.Int.{from_bool}
+use Rattle.rand_pcg.specs.Lcg.{Lcg}
+use Rattle.warm_random.specs.Drawing.{Draw, ◌>>=◌, always, below, up_to, fields, line, is_send, lines, line_text}
+use Rattle.warm_random.specs.declared.Line.{Line}
+use Rattle.warm_random.specs.declared.Line.TheVariants.{Ref}
+
+pub Appends-none : (old : Option (List ℕ)) → Appends old old []
+Appends-none None = tt
+Appends-none (Some xs) = sym (append-nil xs)
+
+pub Appends-then : (a b c : Option (List ℕ)) (x y : List ℕ) → Appends a b x → Appends b c y → Appends a c (x ++ y)
+Appends-then None b c x y h k = tt
+Appends-then (Some xs) None c x y h k = absurd h
+Appends-then (Some xs) (Some ys) None x y h k = absurd k
+Appends-then (Some xs) (Some ys) (Some zs) x y h k = k ∙ ap (λ (t : List ℕ). t ++ y) h ∙ append_assoc xs x y
+
+-- what is drawn first, and then the rest
+drawn_then : {A B : Type 0} (first : Draw A) (next : A → Draw B) (a : A) (g g1 : Lcg) (rest : B × Lcg) → (a, g1) ≡ first g → rest ≡ next a g1 → rest ≡ (first >>= next) g
+drawn_then first next a g g1 rest e more = more ∙ ap (λ x. next x.0 x.1) e
+
+-- a word that is 0 to 3 modulo 8 begins a reference
+pub ref_drawn : (replicas workers time sends kind i w p : ℕ) (g g1 g2 g3 g4 : Lcg) → (kind, g1) ≡ below 8 g → nat_le kind 3 ≡ true
+    → (i, g2) ≡ up_to replicas g1 → (w, g3) ≡ up_to workers g2 → (p, g4) ≡ below 256 g3 → (Ref i w p time, g4) ≡ line replicas workers time sends g
+ref_drawn replicas workers time sends kind i w p g g1 g2 g3 g4 e is_ref e1 e2 e3 =
+    let page : ℕ → ℕ → ℕ → Draw Line = λ i w p. always (Ref i w p time) in
+    let worker : ℕ → ℕ → Draw Line = λ i w. below 256 >>= page i w in
+    let replica : ℕ → Draw Line = λ i. up_to workers >>= worker i in
+    let drawn_page : (Ref i w p time, g4) ≡ worker i w g3 = drawn_then (below 256) (page i w) p g3 g4 (Ref i w p time, g4) e3 refl in
+    let drawn_worker : (Ref i w p time, g4) ≡ replica i g2 = drawn_then (up_to workers) (worker i) w g2 g3 (Ref i w p time, g4) e2 drawn_page in
+    let drawn_replica : (Ref i w p time, g4) ≡ (up_to replicas >>= replica) g1 = drawn_then (up_to replicas) replica i g1 g2 (Ref i w p time, g4) e1 drawn_worker in
+    drawn_then (below 8) (fields replicas workers time sends) kind g g1 (Ref i w p time, g4) e (rw is_ref drawn_replica)
+
+-- ---- one line more
+
+pub draws_more : (replicas workers n sends : ℕ) (next : Line) (g g1 g2 : Lcg) → g1 ≡ (lines replicas workers n g).1 → sends ≡ count_by is_send (lines replicas workers n g).0
+    → (next, g2) ≡ line replicas workers (n + 1) sends g1 → ((lines replicas workers n g).0 ++ next ∷ [], g2) ≡ lines replicas workers (n + 1) g
+unfolding lines
+draws_more replicas workers n sends next g g1 g2 is counts e =
+    rw (add-one, ← is, ← counts) (ap (λ (x : Line × Lcg). ((lines replicas workers n g).0 ++ x.0 ∷ [], x.1)) e)
+
+pub one_if : (b : Bool) (n : ℕ) → n ≡ from_bool b → n ≡ cond b 1 0
+one_if true n e = e
+one_if false n e = e
+
+pub one_at_most : (next : Line) (n : ℕ) → n ≡ cond (is_send next) 1 0 → n ≤ 1
+one_at_most next n e = elim (is_send next) as (λ (b : Bool). n ≡ cond b 1 0 → n ≤ 1) [
+  | true ↦ λ is. omega (arith, is)
+  | false ↦ λ is. omega (arith, is)
+] e
+
+count_one_more : (before : List Line) (next : Line) → count_by is_send (before ++ next ∷ []) ≡ count_by is_send before + cond (is_send next) 1 0
+count_one_more before next = sum_by-append (λ x. cond (is_send x) 1 0) before (next ∷ []) ∙ omega arith
+
+pub sends_more : (before : List Line) (next : Line) (sends more : ℕ) → sends ≡ count_by is_send before → more ≡ cond (is_send next) 1 0 → sends + more ≡ count_by is_send (before ++ next ∷ [])
+sends_more before next sends more counts is =
+    rw (count_one_more before next, counts, is) refl
+
+pub text_more : (before : List Line) (next : Line) → flat_map line_text before ++ line_text next ≡ flat_map line_text (before ++ next ∷ [])
+text_more before next = sym (flat_map-append line_text before (next ∷ []) ∙ ap (λ (t : List ℕ). flat_map line_text before ++ t) (flat_map-cons line_text next [] ∙ append-nil (line_text next)))

@@ -1,0 +1,74 @@
+-- Schedules drawn at random: which lines a seed gives, and their text.
+use Rattle.std.specs.Prelude.{ℕ, zero, suc, ◌+◌, ◌%◌, ◌==◌, List, [], ◌∷◌, ◌++◌, Bool, true, false, nat_le, count_by, flat_map, codes, decimal, if◌then◌else◌}
+use Rattle.rand_pcg.specs.Lcg.{Lcg, started, increment_of}
+use Rattle.rand_pcg.specs.Pcg.{multiplier_64, pcg32}
+use Rattle.warm_random.specs.declared.Line.{Line}
+use Rattle.warm_random.specs.declared.Line.TheVariants.{Ref, Flush, Send, Deliver, Show}
+
+-- ---- drawing
+
+-- the generator of a seed, in its stream 1
+abbrev pub seeded : ℕ → Lcg
+seeded seed = started 64 multiplier_64 seed (increment_of 64 1)
+
+-- what is drawn, and the generator after it
+abbrev pub Draw : Type 0 → Type 0
+Draw A = Lcg → A × Lcg
+
+abbrev pub always : {A : Type 0} → A → Draw A
+always a = λ g. (a, g)
+
+infixl 10 ◌>>=◌
+abbrev pub ◌>>=◌ : {A B : Type 0} → Draw A → (A → Draw B) → Draw B
+first >>= next = λ g. next (first g).0 (first g).1
+
+-- each use draws a word of 32 bits anew
+abbrev pub word : Draw ℕ
+word = pcg32
+
+-- a number below n
+abbrev pub below : ℕ → Draw ℕ
+below n = word >>= λ r. always (r % n)
+
+-- a number from 1 to n
+abbrev pub up_to : ℕ → Draw ℕ
+up_to n = word >>= λ r. always (1 + r % n)
+
+-- ---- lines
+
+-- The fields of a line, in the order in which they stand. `replicas` and `workers` are how many there are, `time` the
+-- line's number, `sends` how many of the lines before it are sends.
+abbrev pub fields : ℕ → ℕ → ℕ → ℕ → ℕ → Draw Line
+fields replicas workers time sends kind =
+    if nat_le kind 3 then (up_to replicas >>= λ i. up_to workers >>= λ w. below 256 >>= λ p. always (Ref i w p time))
+    else (if kind == 4 then (up_to replicas >>= λ i. up_to workers >>= λ w. always (Flush i w))
+    else (if kind == 5 then (up_to replicas >>= λ i. below 64 >>= λ b. always (Send i b))
+    else (if kind == 6 then (up_to replicas >>= λ i. up_to (sends + 1) >>= λ k. always (Deliver i k))
+    else (up_to replicas >>= λ i. always (Show i)))))
+
+-- a word picks what line it is
+abbrev pub line : ℕ → ℕ → ℕ → ℕ → Draw Line
+line replicas workers time sends = below 8 >>= fields replicas workers time sends
+
+abbrev pub is_send : Line → Bool
+is_send (Send i b) = true
+is_send _ = false
+
+-- the first n lines
+unfoldable pub lines : ℕ → ℕ → ℕ → Draw (List Line)
+lines replicas workers zero = always []
+lines replicas workers (suc n) =
+    lines replicas workers n >>= λ before. line replicas workers (n + 1) (count_by is_send before) >>= λ next. always (before ++ next ∷ [])
+
+-- ---- text
+
+abbrev pub line_text : Line → List ℕ
+line_text (Ref i w p time) = codes "ref " ++ decimal i ++ codes " " ++ decimal w ++ codes " 0:" ++ decimal p ++ codes " " ++ decimal time ++ codes "\n"
+line_text (Flush i w) = codes "flush " ++ decimal i ++ codes " " ++ decimal w ++ codes "\n"
+line_text (Send i b) = codes "send " ++ decimal i ++ codes " " ++ decimal b ++ codes "\n"
+line_text (Deliver i k) = codes "deliver " ++ decimal i ++ codes " " ++ decimal k ++ codes "\n"
+line_text (Show i) = codes "show " ++ decimal i ++ codes "\n"
+
+-- the schedule of a seed, of so many lines
+abbrev pub schedule_text : ℕ → ℕ → ℕ → ℕ → List ℕ
+schedule_text seed events replicas workers = flat_map line_text (lines replicas workers events (seeded seed)).0

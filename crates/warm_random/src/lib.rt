@@ -1,0 +1,154 @@
+//! Schedules drawn at random: the same lines for the same seed, everywhere.
+//!
+//! The words are those of the generator PCG32 (`Lcg64Xsh32` of the crate `rand_pcg`), which takes the seed as its state
+//! and 1 as its stream. docs/FORMATS.md has the table of the lines and the order in which their fields are drawn.
+#![tactic(auto)]
+
+ghost use Rattle.std.specs.Prelude.{◌≡◌, ◌≤◌, ◌<◌, ◌+◌, ◌^◌, OnOk};
+ghost use Rattle.std.specs.Io.KnownBytes.{Appends};
+ghost use Rattle.warm_random.specs.Drawing.{below, up_to, line, is_send, line_text, schedule_text};
+
+use rand_core::utils::NextWord;
+use rand_pcg::Lcg64Xsh32;
+use std::io::{self, Write};
+
+/// A line of a schedule. Its fields are the numbers that it shows.
+#[derive(Clone, Copy, Debug, PartialEq, Eq)]
+pub enum Line {
+    /// `ref REPLICA WORKER 0:PAGE TIME`: a page from 0 to 255 of device 0.
+    Ref {
+        replica: u64,
+        worker: u64,
+        page: u64,
+        time: u64,
+    },
+    /// `flush REPLICA WORKER`
+    Flush {
+        replica: u64,
+        worker: u64,
+    },
+    /// `send REPLICA BUCKET`: a bucket from 0 to 63.
+    Send {
+        replica: u64,
+        bucket: u64,
+    },
+    /// `deliver REPLICA FRAME`: a frame that was sent by then, or the next.
+    Deliver {
+        replica: u64,
+        frame: u64,
+    },
+    /// `show REPLICA`
+    Show {
+        replica: u64,
+    },
+}
+
+impl Line {
+    fn is_send(self) -> bool
+        ensures { result ≡ is_send self }
+    {
+        match self {
+            Line::Send { .. } => true,
+            _ => false,
+        }
+    }
+
+    // Writes the line and its end.
+    fn write_to<W: Write>(self, writer: &mut W) -> io::Result<()>
+        ensures { OnOk result (Appends (W.contents writer.old) (W.contents writer.new) (line_text self)) }
+    {
+        match self {
+            Line::Ref {
+                replica,
+                worker,
+                page,
+                time,
+            } => writeln!(writer, "ref {replica} {worker} 0:{page} {time}"),
+            Line::Flush { replica, worker } => writeln!(writer, "flush {replica} {worker}"),
+            Line::Send { replica, bucket } => writeln!(writer, "send {replica} {bucket}"),
+            Line::Deliver { replica, frame } => writeln!(writer, "deliver {replica} {frame}"),
+            Line::Show { replica } => writeln!(writer, "show {replica}"),
+        }
+    }
+}
+
+fn below(words: &mut Lcg64Xsh32, bound: u64) -> u64
+    requires { 0 < bound }
+    ensures value { (result, words.new) ≡ below bound words.old }
+    ensures limit { result < bound }
+{
+    u64::from(words.next_word()) % bound
+}
+
+fn up_to(words: &mut Lcg64Xsh32, most: u64) -> u64
+    requires { 0 < most }
+    ensures { (result, words.new) ≡ up_to most words.old }
+{
+    1 + below(words, most)
+}
+
+// The next line, with the line's number as the time of a reference, after so many sends.
+fn draw_line(words: &mut Lcg64Xsh32, replicas: u64, workers: u64, time: u64, sends: u64) -> Line
+    requires replicas { 0 < replicas }
+    requires workers { 0 < workers }
+    requires sends { sends + 1 < 2 ^ 64 }
+    ensures { (result, words.new) ≡ line replicas workers time sends words.old }
+{
+    match below(words, 8) {
+        0..=3 => Line::Ref {
+            replica: up_to(words, replicas),
+            worker: up_to(words, workers),
+            page: below(words, 256),
+            time,
+        },
+        4 => Line::Flush {
+            replica: up_to(words, replicas),
+            worker: up_to(words, workers),
+        },
+        5 => Line::Send {
+            replica: up_to(words, replicas),
+            bucket: below(words, 64),
+        },
+        6 => Line::Deliver {
+            replica: up_to(words, replicas),
+            frame: up_to(words, sends + 1),
+        },
+        _ => Line::Show {
+            replica: up_to(words, replicas),
+        },
+    }
+}
+
+/// Writes the schedule of `events` lines that this seed gives for worlds of so many replicas, with so many workers each.
+/// With no events it writes nothing. It keeps one line at a time, and takes no memory.
+///
+/// An error is the writer's own; after it nothing is said of how much was written.
+pub fn write_schedule<W: Write>(
+    writer: &mut W,
+    seed: u64,
+    events: u32,
+    replicas: u16,
+    workers: u16,
+) -> io::Result<()>
+    requires replicas { 0 < replicas }
+    requires workers { 0 < workers }
+    ensures { OnOk result (Appends (W.contents writer.old) (W.contents writer.new) (schedule_text seed events replicas workers)) }
+{
+    let mut words = Lcg64Xsh32::new(seed, 1);
+    let mut sends: u64 = 0;
+    for before in 0..u64::from(events) {
+        let line = draw_line(
+            &mut words,
+            u64::from(replicas),
+            u64::from(workers),
+            before + 1,
+            sends,
+        );
+        line.write_to(writer)?;
+        sends += u64::from(line.is_send());
+    }
+    Ok(())
+}
+
+#[cfg(test)]
+mod tests;

@@ -1,0 +1,33 @@
+//! Schedules drawn at random.
+ghost use Rattle.std.specs.Prelude.{◌≡◌, OnOk, IfErr};
+ghost use Rattle.std.specs.Io.KnownBytes.{Appends};
+ghost use Rattle.warm_random.specs.Drawing.{schedule_text};
+
+use crate::play::PlayFault;
+use std::io::Write;
+use warm_random::write_schedule;
+use warm_world::Setup;
+
+/// Writes the schedule of `events` lines that the seed gives for worlds of this setup, and flushes the writer. The same
+/// seed, count and setup give the same bytes; no events give none. It takes no memory.
+///
+/// The error is [`PlayFault::WriteFault`] alone, where the writer failed. Nothing is said of how much it took by then.
+pub fn random_schedule<W: Write>(
+    writer: &mut W,
+    seed: u64,
+    events: u32,
+    setup: &Setup,
+) -> Result<(), PlayFault>
+    ensures written { OnOk result (Appends (W.contents writer.old) (W.contents writer.new) (schedule_text seed events setup.now.replicas setup.now.workers)) }
+    ensures fault { IfErr result (λ fault. fault ≡ PlayFault.WriteFault) }
+{
+    let setup = *setup;
+    write_schedule(writer, seed, events, setup.replicas(), setup.workers()).map_err(
+        |_| PlayFault::WriteFault,
+    )?;
+    writer.flush().map_err(|_| PlayFault::WriteFault)?;
+    Ok(())
+}
+
+#[cfg(test)]
+mod tests;
