@@ -6,10 +6,9 @@ ghost use Rattle.warm_frames.specs.Reading.{Gives, read_frame, room_of};
 use crate::entries::EntryList;
 use crate::fault::FrameFault;
 use crate::reading::frame_in;
-
 use crate::sums::SumTable;
-use std::alloc::Global;
-
+use crate::writing::{digest_text, entries_text, want_text};
+use std::alloc::{AllocError, Global};
 use warm_stamps::ReplicaId;
 
 /// What one replica sends another.
@@ -36,6 +35,17 @@ pub enum Frame {
         /// The buckets: bit b, of value 2^b, asks for bucket b.
         mask: u64,
     },
+}
+
+/// The bytes that spell the frame. `AllocError` comes only where room for them was refused.
+pub fn encode(alloc: Global, frame: &Frame) -> Result<Vec<u8>, AllocError>
+    ensures { IfOk result (λ bytes. Spells bytes.items frame.now) }
+{
+    match frame {
+        Frame::Entries { sender, entries } => entries_text(alloc, *sender, entries),
+        Frame::Digest { sender, sums } => digest_text(alloc, *sender, sums),
+        Frame::Want { sender, mask } => want_text(alloc, *sender, *mask),
+    }
 }
 
 /// The frame that the bytes spell, all of them.
