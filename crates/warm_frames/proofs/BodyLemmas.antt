@@ -1,15 +1,13 @@
 -- Bodies: entries one after the other, and tables of sums.
-use Rattle.std.proofs.Common.{◌≡◌, ℕ, zero, suc, ◌+◌, ◌*◌, ◌^◌, ◌<◌, ◌≤◌, Bool, true, false, cond, eqb, leb, List, [], ◌∷◌, ◌++◌, length, take, drop, Option, Some, None, Result, Ok, Err, refl, sym, ap, subst, ◌∙◌, append_assoc, arith}
+use Rattle.std.proofs.Common.{◌≡◌, ℕ, zero, suc, ◌+◌, ◌*◌, ◌^◌, ◌<◌, ◌≤◌, true, eqb, leb, List, [], ◌∷◌, ◌++◌, length, get_or, drop, Option, Some, None, Ok, refl, sym, ap, subst, ◌∙◌, append_assoc, arith}
 use Rattle.std.specs.Int.{w32, to_be_bytes}
 use Rattle.std.specs.List.{AllByRecursion, flat_map}
 use Rattle.std.specs.Simd.{first_chunks}
-use Rattle.std.specs.declared.cmp.Ordering.TheVariants.{Less}
 use Rattle.std.proofs.lemmas.Bool.{eqb-true}
 use Rattle.std.proofs.lemmas.Bool.Decides.{nat_tests}
 use Rattle.std.proofs.lemmas.List.{append-nil, nil_from_length, take_at, drop_at, take-append-drop, length-append, length-take, length-drop}
 use Rattle.std.proofs.lemmas.List.Concat.{flat_map-cons}
 use Rattle.warm_stamps.specs.declared.PageId.{PageId}
-use Rattle.warm_stamps.specs.Stamps.{page_cmp}
 use Rattle.warm_stamps.specs.Bytes.{bytes_of_page}
 use Rattle.warm_stamps.proofs.ByteLemmas.{IsBytes}
 use Rattle.warm_history.specs.declared.hist.PageHist.{PageHist}
@@ -18,7 +16,6 @@ use Rattle.warm_history.specs.declared.hist.Entry.{Entry}
 use Rattle.warm_history.specs.Carried.{comes_after}
 use Rattle.warm_history.specs.Histories.{PagesRise}
 use Rattle.warm_history.proofs.MergeLemmas.{rises_on}
-use Rattle.warm_frames.specs.declared.fault.FrameFault.{FrameFault}
 use Rattle.warm_frames.specs.declared.fault.FrameFault.TheVariants.{BadLength, BadCount}
 use Rattle.warm_frames.specs.Entries.{hist_bytes, entry_bytes, entries_bytes, IsEntry, IsEntryList}
 use Rattle.warm_frames.specs.Sums.{IsSumTable}
@@ -184,6 +181,11 @@ length-joined n (s ∷ sums) all =
     let later = length-joined n sums all.1 in
     let whole : length (flat_map (λ x. x) (s ∷ sums)) ≡ length s + length (flat_map (λ x. x) sums) = ap length (flat_map-cons (λ x. x) s sums) ∙ length-append s (flat_map (λ x. x) sums) in
     omega (arith, e, later, all.0, whole)
+
+-- sums of 32 bytes each, place by place
+pub sums_long : (sums : List (List ℕ)) → ((i : ℕ) → i < length sums → length (get_or sums i []) ≡ 32) → AllByRecursion (λ sum. length sum ≡ 32) sums
+sums_long [] each = tt
+sums_long (s ∷ sums) each = (each 0 (omega arith), sums_long sums (λ i lt. each (suc i) (omega (arith, lt))))
 
 pub length-sums : (sums : List (List ℕ)) → IsSumTable sums → length (flat_map (λ x. x) sums) ≡ 2048
 length-sums sums table = omega (arith, length-joined 32 sums table.each, table.count)

@@ -1,12 +1,11 @@
 -- What an answer of decode says of the bytes.
-use Rattle.std.proofs.Common.{◌≡◌, ◌⊎◌, ℕ, ◌<◌, List, Result, Ok, Err, refl, sym, ap, subst, ◌∙◌, inl, inr}
+use Rattle.std.proofs.Common.{ℕ, List, Result, Ok, Err, sym, subst, inl, inr}
 use Rattle.std.specs.Prelude.{IfOk}
 use Rattle.warm_stamps.proofs.ByteLemmas.{IsBytes}
 use Rattle.warm_frames.specs.declared.fault.FrameFault.{FrameFault}
-use Rattle.warm_frames.specs.declared.fault.FrameFault.TheVariants.{Memory}
 use Rattle.warm_frames.specs.declared.frame.Frame.{Frame}
 use Rattle.warm_frames.specs.Spelling.{Spells}
-use Rattle.warm_frames.specs.Reading.{Gives, TakesRoom, read_frame, room_of}
+use Rattle.warm_frames.specs.Reading.{Gives, read_frame}
 use Rattle.warm_frames.proofs.FrameLemmas.{frame_spelled, frame_read}
 
 -- a frame that was answered is spelled so

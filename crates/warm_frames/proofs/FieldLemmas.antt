@@ -1,5 +1,5 @@
 -- A field that is read is the field that was written, and what was written is read again.
-use Rattle.std.proofs.Common.{◌≡◌, ℕ, zero, suc, ◌+◌, ◌^◌, ◌<◌, ◌≤◌, Bool, true, false, cond, ltb, leb, List, [], ◌∷◌, ◌++◌, length, get_or, take, drop, Option, Some, None, Result, Ok, Err, refl, sym, ap, subst, ◌∙◌, append_assoc, arith}
+use Rattle.std.proofs.Common.{◌≡◌, ℕ, zero, suc, ◌^◌, ◌<◌, ◌≤◌, Bool, true, false, cond, ltb, List, [], ◌∷◌, ◌++◌, length, take, drop, Option, Result, Ok, Err, refl, sym, ap, subst, ◌∙◌, append_assoc, arith}
 use Rattle.std.specs.Int.{Width, w16, w32, w64, byte_len, from_be_bytes, to_be_bytes}
 use Rattle.std.specs.Ordering.{is_lt}
 use Rattle.std.specs.declared.cmp.Ordering.{Ordering}
@@ -10,7 +10,7 @@ use Rattle.std.proofs.lemmas.List.{take_at, drop_at, take-append-drop, length-ap
 use Rattle.std.proofs.lemmas.Nat.{be_bytes_2, be_bytes_4, be_bytes_8, from_be_bytes-to_be_bytes_2, from_be_bytes-to_be_bytes_4, from_be_bytes-to_be_bytes_8}
 use Rattle.warm_stamps.specs.declared.Stamp.{Stamp}
 use Rattle.warm_stamps.specs.declared.PageId.{PageId}
-use Rattle.warm_stamps.specs.Bytes.{bytes_of_stamp, stamp_of, bytes_of_page, page_of, IsReplica, IsStamp, IsPage}
+use Rattle.warm_stamps.specs.Bytes.{bytes_of_stamp, stamp_of, bytes_of_page, page_of, IsReplica, IsStamp}
 use Rattle.warm_stamps.specs.Stamps.{stamp_cmp}
 use Rattle.warm_stamps.proofs.ByteLemmas.{IsBytes, IsBytes-take, IsBytes-drop, stamp_again, stamp_spelled, IsStamp-of, page_again, page_spelled, IsPage-of}
 use Rattle.warm_history.specs.declared.hist.PageHist.{PageHist}
@@ -18,7 +18,7 @@ use Rattle.warm_history.specs.declared.hist.PageHist.TheVariants.{Once, Twice}
 use Rattle.warm_history.specs.declared.hist.Entry.{Entry}
 use Rattle.warm_history.specs.Carried.{comes_after}
 use Rattle.warm_frames.specs.declared.fault.FrameFault.{FrameFault}
-use Rattle.warm_frames.specs.declared.fault.FrameFault.TheVariants.{BadLength, BadTag, BadStamp, BadOrder}
+use Rattle.warm_frames.specs.declared.fault.FrameFault.TheVariants.{BadLength, BadStamp, BadOrder}
 use Rattle.warm_frames.specs.Entries.{hist_bytes, entry_bytes, IsHist, IsEntry}
 use Rattle.warm_frames.specs.Reading.{◌>>=◌, front_at, number_at, byte_at, want, is_replica, stamp_in, two_in, hist_at, entry_at}
 

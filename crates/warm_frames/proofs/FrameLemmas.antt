@@ -1,22 +1,20 @@
 -- Frames: what is read is spelled so, and what is spelled so is read.
-use Rattle.std.proofs.Common.{◌≡◌, ℕ, zero, suc, ◌+◌, ◌*◌, ◌^◌, ◌<◌, ◌≤◌, Bool, true, false, cond, eqb, leb, ltb, List, [], ◌∷◌, ◌++◌, length, Result, Ok, Err, refl, sym, ap, subst, ◌∙◌, append_assoc, arith}
-use Rattle.std.specs.Int.{w16, w32, w64, byte_len, to_be_bytes}
+use Rattle.std.proofs.Common.{◌≡◌, ℕ, zero, suc, ◌+◌, ◌^◌, ◌<◌, ◌≤◌, true, eqb, leb, List, [], ◌∷◌, ◌++◌, length, Result, Ok, refl, sym, ap, subst, ◌∙◌, append_assoc, arith}
+use Rattle.std.specs.Int.{w16, w32, w64, to_be_bytes}
 use Rattle.std.specs.List.{flat_map}
 use Rattle.std.proofs.lemmas.Bool.{eqb-true}
 use Rattle.std.proofs.lemmas.Bool.Decides.{nat_tests}
 use Rattle.std.proofs.lemmas.List.{append-nil, nil_from_length, length-append}
 use Rattle.warm_stamps.specs.Bytes.{IsReplica}
 use Rattle.warm_stamps.proofs.ByteLemmas.{IsBytes}
-use Rattle.warm_history.specs.declared.hist.Entry.{Entry}
 use Rattle.warm_frames.specs.declared.fault.FrameFault.{FrameFault}
-use Rattle.warm_frames.specs.declared.fault.FrameFault.TheVariants.{Truncated, BadMagic, BadKind, BadSender, BadLength}
+use Rattle.warm_frames.specs.declared.fault.FrameFault.TheVariants.{Truncated, BadMagic, BadSender, BadLength}
 use Rattle.warm_frames.specs.declared.frame.Frame.{Frame}
 use Rattle.warm_frames.specs.declared.frame.Frame.TheVariants as frames
 use Rattle.warm_frames.specs.declared.reading.Kind.{Kind}
 use Rattle.warm_frames.specs.declared.reading.Kind.TheVariants as kinds
-use Rattle.warm_frames.specs.Entries.{entries_bytes, IsEntryList}
-use Rattle.warm_frames.specs.Sums.{IsSumTable}
-use Rattle.warm_frames.specs.Spelling.{IsFrame, magic, framed, spelling, Spells}
+use Rattle.warm_frames.specs.Entries.{entries_bytes}
+use Rattle.warm_frames.specs.Spelling.{IsFrame, magic, spelling, Spells}
 use Rattle.warm_frames.specs.Reading.{◌>>=◌, number_at, byte_at, want, is_replica, kind_of, may_have, start_at, body_at, entries_of, sums_of, frame_of, read_frame}
 use Rattle.warm_frames.proofs.FieldLemmas.{bind_ok, want_ok, ok_is, Takes, Takes-then, byte_takes, wide16, wide32, wide64, number_takes, number_again, replica_is, replica_true}
 use Rattle.warm_frames.proofs.BodyLemmas.{entries_body, body_again, short_entries, sums_body, sums_again, length-sums}

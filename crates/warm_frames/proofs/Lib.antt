@@ -3,3 +3,4 @@ pub mod DecodeLemmas
 pub mod EntryLemmas
 pub mod FieldLemmas
 pub mod FrameLemmas
+pub mod WritingLemmas

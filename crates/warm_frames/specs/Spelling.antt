@@ -1,5 +1,5 @@
 -- The one spelling of a frame.
-use Rattle.std.specs.Prelude.{◌≡◌, ℕ, ◌<◌, ◌^◌, List, [], ◌∷◌, ◌++◌, length}
+use Rattle.std.specs.Prelude.{◌≡◌, ℕ, ◌<◌, ◌^◌, List, ◌∷◌, ◌++◌, length}
 use Rattle.std.specs.List.{flat_map}
 use Rattle.std.specs.Int.{w16, w32, w64, to_be_bytes}
 use Rattle.warm_stamps.specs.Bytes.{IsReplica}
@@ -18,9 +18,13 @@ IsFrame (Want sender mask) = IsReplica sender × (mask < 2 ^ 64)
 abbrev pub magic : ℕ
 magic = 0x4C324731
 
--- the magic number, the kind, the sender, the length of the body, and the body
+-- the magic number, the kind, the sender and the length of the body
+abbrev pub header_bytes : ℕ → ℕ → ℕ → List ℕ
+header_bytes kind sender len = to_be_bytes w32 magic ++ (kind ∷ (to_be_bytes w16 sender ++ to_be_bytes w32 len))
+
+-- a header and the body
 abbrev pub framed : ℕ → ℕ → List ℕ → List ℕ
-framed kind sender body = to_be_bytes w32 magic ++ (kind ∷ (to_be_bytes w16 sender ++ (to_be_bytes w32 (length body) ++ body)))
+framed kind sender body = header_bytes kind sender (length body) ++ body
 
 -- the body of a frame of entries: their count, and the entries
 abbrev pub spelling : Frame → List ℕ

@@ -6,10 +6,9 @@ ghost use Rattle.warm_frames.specs.Reading.{Gives, read_frame, room_of};
 use crate::entries::EntryList;
 use crate::fault::FrameFault;
 use crate::reading::frame_in;
-
 use crate::sums::SumTable;
+use crate::writing::{digest_text, entries_text, want_text};
 use std::alloc::{AllocError, Global};
-
 use warm_stamps::ReplicaId;
 
 /// What one replica sends another.
@@ -38,6 +37,17 @@ pub enum Frame {
     },
 }
 
+/// The bytes that spell the frame. `AllocError` comes only where room for them was refused.
+pub fn encode(alloc: Global, frame: &Frame) -> Result<Vec<u8>, AllocError>
+    ensures { IfOk result (λ bytes. Spells bytes.items frame.now) }
+{
+    match frame {
+        Frame::Entries { sender, entries } => entries_text(alloc, *sender, entries),
+        Frame::Digest { sender, sums } => digest_text(alloc, *sender, sums),
+        Frame::Want { sender, mask } => want_text(alloc, *sender, *mask),
+    }
+}
+
 /// The frame that the bytes spell, all of them.
 ///
 /// Refused by the first fault from left to right:
@@ -62,11 +72,4 @@ pub fn decode(alloc: Global, bytes: &[u8]) -> Result<Frame, FrameFault>
     ensures first { Gives result (read_frame bytes.now) (room_of bytes.now) }
 {
     frame_in(alloc, bytes)
-}
-
-/// stub
-pub fn encode(_alloc: Global, frame: &Frame) -> Result<Vec<u8>, AllocError>
-    ensures { IfOk result (λ bytes. Spells bytes.items frame.now) }
-{
-    Err(AllocError)
 }

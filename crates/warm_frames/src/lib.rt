@@ -11,4 +11,5 @@ pub mod frame;
 pub mod laws;
 mod reading;
 pub mod sums;
+mod writing;
 

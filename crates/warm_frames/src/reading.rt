@@ -12,7 +12,7 @@ use std::alloc::Global;
 use warm_history::hist::{Entry, PageHist, Two};
 use warm_stamps::{PageId, ReplicaId, Stamp, page_from, stamp_from};
 
-const MAGIC: u32 = 0x4C32_4731;
+pub(crate) const MAGIC: u32 = 0x4C32_4731;
 
 // The kinds of frames, numbered from 1.
 #[derive(Clone, Copy)]

@@ -1,6 +1,7 @@
 //! The 64 sums by which two replicas find the buckets that differ.
-ghost use Rattle.std.specs.Prelude.{◌≡◌};
-ghost use Rattle.warm_frames.specs.Sums.{sum_at};
+ghost use Rattle.std.specs.Prelude.{◌≡◌, length};
+ghost use Rattle.std.specs.List.{AllByRecursion, flat_map};
+ghost use Rattle.warm_frames.specs.Sums.{IsSumTable, sum_at};
 
 use std::marker::Model;
 use warm_stamps::Bucket;
@@ -14,10 +15,13 @@ pub struct SumTable {
 
 impl Model for SumTable {
     ghost use Rattle.std.specs.Prelude.{ℕ, List};
+    ghost use Rattle.warm_frames.specs.Sums.{IsSumTable};
 
     ghost Value = { List (List ℕ) };
 
     ghost view = { λ table. table.sums };
+
+    ghost invariant = { λ table. IsSumTable table.sums };
 
     ghost inverse = { λ sums. record { sums = sums } };
 }
@@ -27,6 +31,7 @@ impl SumTable {
     pub fn of(sums: [[u8; 32]; 64]) -> SumTable
         ensures { result ≡ sums }
     {
+        are_sums(&sums);
         SumTable { sums }
     }
 
@@ -36,4 +41,18 @@ impl SumTable {
     {
         self.sums[usize::from(bucket.get())]
     }
+
+    // The sums, one after the other.
+    pub(crate) fn as_bytes(&self) -> &[u8]
+        ensures value { result.now ≡ flat_map (λ sum. sum) self.now }
+        ensures table { IsSumTable self.now }
+    {
+        self.sums.as_flattened()
+    }
+}
+
+// What the type of sums says of them. Nothing is done.
+fn are_sums(sums: &[[u8; 32]])
+    ensures { AllByRecursion (λ sum. length sum ≡ 32) sums.now }
+{
 }

@@ -1,0 +1,63 @@
+-- What is written, piece by piece.
+use Rattle.std.proofs.Common.{◌≡◌, ℕ, ◌+◌, ◌<◌, ◌≤◌, List, [], ◌∷◌, ◌++◌, length, take, get_or, sym, ap, ◌∙◌, append_assoc, arith}
+use Rattle.std.specs.Int.{w32, to_be_bytes}
+use Rattle.std.specs.List.{flat_map}
+use Rattle.std.proofs.lemmas.List.{append-nil, take_more, take_all, length-append}
+use Rattle.std.proofs.lemmas.List.Concat.{flat_map-append}
+use Rattle.warm_stamps.specs.declared.Stamp.{Stamp}
+use Rattle.warm_stamps.specs.Bytes.{bytes_of_stamp, bytes_of_page, IsReplica}
+use Rattle.warm_history.specs.declared.hist.Entry.{Entry}
+use Rattle.warm_history.specs.declared.hist.PageHist.{PageHist}
+use Rattle.warm_history.specs.declared.hist.PageHist.TheVariants.{Once, Twice}
+use Rattle.warm_history.specs.LatestTwo.{LatestTwo}
+use Rattle.warm_frames.specs.declared.frame.Frame.TheVariants as frames
+use Rattle.warm_frames.specs.Entries.{hist_bytes, entry_bytes, entries_bytes, IsEntryList}
+use Rattle.warm_frames.specs.Sums.{IsSumTable}
+use Rattle.warm_frames.specs.Spelling.{header_bytes, Spells}
+use Rattle.warm_frames.proofs.BodyLemmas.{length-sums}
+
+-- the bytes of one entry more come last
+pub entries_and_one : (es : List Entry) (i : ℕ) (e : Entry) → i < length es → e ≡ get_or es i e → entries_bytes (take (i + 1) es) ≡ entries_bytes (take i es) ++ entry_bytes e
+entries_and_one es i e lt is =
+    rw (take_more es i e lt, ← is) (flat_map-append entry_bytes (take i es) (e ∷ []) ∙ ap (λ (w : List ℕ). entries_bytes (take i es) ++ w) (append-nil (entry_bytes e)))
+
+-- the length of one entry more
+pub length_and_one : (es : List Entry) (i len more : ℕ) (e : Entry) → i < length es → e ≡ get_or es i e → more ≡ length (hist_bytes e.hist) → len ≡ length (entries_bytes (take i es)) → len + (6 + more) ≡ length (entries_bytes (take (i + 1) es))
+length_and_one es i len more e lt is one so_far =
+    let own : length (entry_bytes e) ≡ 6 + length (hist_bytes e.hist) = length-append (bytes_of_page e.page) (hist_bytes e.hist) in
+    let whole : length (entries_bytes (take (i + 1) es)) ≡ length (entries_bytes (take i es)) + length (entry_bytes e) = ap length (entries_and_one es i e lt is) ∙ length-append (entries_bytes (take i es)) (entry_bytes e) in
+    omega (arith, own, whole)
+
+-- a tag and a stamp
+pub put_once : (old mid new text : List ℕ) (last : Stamp) (h : PageHist) → mid ≡ old ++ 1 ∷ [] → text ≡ bytes_of_stamp last → new ≡ mid ++ text → h ≡ Once last → new ≡ old ++ hist_bytes h
+put_once old mid new text last h tag stamp put is =
+    put ∙ (λ i. tag i ++ stamp i) ∙ append_assoc old (1 ∷ []) (bytes_of_stamp last) ∙ ap (λ (k : PageHist). old ++ hist_bytes k) (sym is)
+
+-- a tag and two stamps
+pub put_twice : (old tagged mid new first second : List ℕ) (last prev : Stamp) (two : LatestTwo) (h : PageHist) → tagged ≡ old ++ 2 ∷ [] → first ≡ bytes_of_stamp last → mid ≡ tagged ++ first → second ≡ bytes_of_stamp prev → new ≡ mid ++ second
+    → last ≡ two.last → prev ≡ two.prev → h ≡ Twice two → new ≡ old ++ hist_bytes h
+put_twice old tagged mid new first second last prev two h tag later put_later earlier put_earlier is_last is_prev is =
+    let stamps : first ++ second ≡ bytes_of_stamp two.last ++ bytes_of_stamp two.prev = (λ i. later i ++ earlier i) ∙ (λ i. bytes_of_stamp (is_last i) ++ bytes_of_stamp (is_prev i)) in
+    put_earlier ∙ ap (λ (w : List ℕ). w ++ second) (put_later ∙ ap (λ (w : List ℕ). w ++ first) tag) ∙ append_assoc (old ++ 2 ∷ []) first second ∙ ap (λ (w : List ℕ). (old ++ 2 ∷ []) ++ w) stamps
+    ∙ append_assoc old (2 ∷ []) (bytes_of_stamp two.last ++ bytes_of_stamp two.prev) ∙ ap (λ (k : PageHist). old ++ hist_bytes k) (sym is)
+
+-- what was written comes first, and the bytes of one entry more come last
+pub put_next : (head old new : List ℕ) (es : List Entry) (i : ℕ) (e : Entry) → i < length es → e ≡ get_or es i e → new ≡ old ++ entry_bytes e → old ≡ head ++ entries_bytes (take i es) → new ≡ head ++ entries_bytes (take (i + 1) es)
+put_next head old new es i e lt is put so_far =
+    put ∙ ap (λ (w : List ℕ). w ++ entry_bytes e) so_far ∙ append_assoc head (entries_bytes (take i es)) (entry_bytes e) ∙ ap (λ (w : List ℕ). head ++ w) (sym (entries_and_one es i e lt is))
+
+pub entries_spelled : (text : List ℕ) (sender len i : ℕ) (es : List Entry) → IsReplica sender → IsEntryList es → len ≡ 4 + length (entries_bytes es) → length es ≤ i
+    → text ≡ (header_bytes 1 sender len ++ to_be_bytes w32 (length es)) ++ entries_bytes (take i es) → Spells text (frames.Entries sender es)
+entries_spelled text sender len i es good listed e le is =
+    let whole : len ≡ length (to_be_bytes w32 (length es) ++ entries_bytes es) = e ∙ sym (length-append (to_be_bytes w32 (length es)) (entries_bytes es)) in
+    record {
+      fits = (good, listed);
+      text = is ∙ ap (λ (xs : List Entry). (header_bytes 1 sender len ++ to_be_bytes w32 (length es)) ++ entries_bytes xs) (take_all i es le)
+          ∙ ap (λ (n : ℕ). (header_bytes 1 sender n ++ to_be_bytes w32 (length es)) ++ entries_bytes es) whole;
+    }
+
+pub digest_spelled : (text : List ℕ) (sender : ℕ) (sums : List (List ℕ)) → IsReplica sender → IsSumTable sums → text ≡ header_bytes 2 sender 2048 ++ flat_map (λ sum. sum) sums → Spells text (frames.Digest sender sums)
+digest_spelled text sender sums good table is = record {
+  fits = (good, table);
+  text = is ∙ ap (λ (n : ℕ). header_bytes 2 sender n ++ flat_map (λ sum. sum) sums) (sym (length-sums sums table));
+}

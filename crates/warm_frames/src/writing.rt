@@ -1,0 +1,115 @@
+//! Writing frames. The room for all bytes is taken first.
+ghost use Rattle.std.specs.Prelude.{◌≡◌, ◌≤◌, ◌++◌, length, IfOk, OnOk};
+ghost use Rattle.warm_stamps.specs.Bytes.{IsReplica};
+ghost use Rattle.warm_frames.specs.declared.frame.Frame.TheVariants as frames;
+ghost use Rattle.warm_frames.specs.Entries.{hist_bytes, entry_bytes, entries_bytes};
+ghost use Rattle.warm_frames.specs.Spelling.{header_bytes, Spells};
+
+use crate::entries::EntryList;
+use crate::reading::MAGIC;
+use crate::sums::SumTable;
+use std::alloc::{AllocError, Global};
+use warm_history::hist::{Entry, PageHist};
+use warm_stamps::{ReplicaId, page_bytes, stamp_bytes};
+
+// The header of a frame, with room for a body of this length.
+fn header(alloc: Global, kind: u8, sender: ReplicaId, len: u32) -> Result<Vec<u8>, AllocError>
+    ensures text { IfOk result (λ text. text.items ≡ header_bytes kind sender len) }
+    ensures sender { IsReplica sender }
+{
+    let mut text = Vec::with_capacity(alloc, 11 + len as usize)?;
+    text.extend_from_slice(&MAGIC.to_be_bytes())?;
+    text.push(kind)?;
+    text.extend_from_slice(&sender.get().to_be_bytes())?;
+    text.extend_from_slice(&len.to_be_bytes())?;
+    Ok(text)
+}
+
+fn put_hist(text: &mut Vec<u8>, hist: PageHist) -> Result<(), AllocError>
+    ensures { OnOk result (text.new.items ≡ text.old.items ++ hist_bytes hist) }
+{
+    match hist {
+        PageHist::Once(last) => {
+            text.push(1)?;
+            text.extend_from_slice(&stamp_bytes(last))?;
+        }
+        PageHist::Twice(two) => {
+            let last = two.last();
+            let prev = two.prev();
+            text.push(2)?;
+            text.extend_from_slice(&stamp_bytes(last))?;
+            text.extend_from_slice(&stamp_bytes(prev))?;
+        }
+    }
+    Ok(())
+}
+
+fn put_entry(text: &mut Vec<u8>, entry: &Entry) -> Result<(), AllocError>
+    ensures { OnOk result (text.new.items ≡ text.old.items ++ entry_bytes entry.now) }
+{
+    text.extend_from_slice(&page_bytes(entry.page))?;
+    put_hist(text, entry.hist)
+}
+
+fn hist_len(hist: PageHist) -> u32
+    ensures value { result ≡ length (hist_bytes hist) }
+    ensures most { result ≤ 21 }
+{
+    match hist {
+        PageHist::Once(_) => 11,
+        PageHist::Twice(_) => 21,
+    }
+}
+
+// How many bytes the entries take.
+fn entries_len(entries: &[Entry]) -> u32
+    requires { length entries.now ≤ 1000 }
+    ensures value { result ≡ length (entries_bytes entries.now) }
+    ensures most { result ≤ 27000 }
+{
+    let mut len = 0;
+    for entry in entries {
+        len += 6 + hist_len(entry.hist);
+    }
+    len
+}
+
+pub(crate) fn entries_text(
+    alloc: Global,
+    sender: ReplicaId,
+    entries: &EntryList,
+) -> Result<Vec<u8>, AllocError>
+    ensures { IfOk result (λ text. Spells text.items (frames.Entries sender entries.now)) }
+{
+    let entries = entries.as_slice();
+    let mut text = header(alloc, 1, sender, 4 + entries_len(entries))?;
+    text.extend_from_slice(&(entries.len() as u32).to_be_bytes())?;
+    for entry in entries {
+        put_entry(&mut text, entry)?;
+    }
+    Ok(text)
+}
+
+pub(crate) fn digest_text(
+    alloc: Global,
+    sender: ReplicaId,
+    sums: &SumTable,
+) -> Result<Vec<u8>, AllocError>
+    ensures { IfOk result (λ text. Spells text.items (frames.Digest sender sums.now)) }
+{
+    let mut text = header(alloc, 2, sender, 2048)?;
+    text.extend_from_slice(sums.as_bytes())?;
+    Ok(text)
+}
+
+pub(crate) fn want_text(
+    alloc: Global,
+    sender: ReplicaId,
+    mask: u64,
+) -> Result<Vec<u8>, AllocError>
+    ensures { IfOk result (λ text. Spells text.items (frames.Want sender mask)) }
+{
+    let mut text = header(alloc, 3, sender, 8)?;
+    text.extend_from_slice(&mask.to_be_bytes())?;
+    Ok(text)
+}
