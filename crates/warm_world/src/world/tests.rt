@@ -201,6 +201,67 @@ fn a_restart_forgets_and_hears_again(rt: HostRuntime) {
     assert_eq!(rt; shown(&rt, &mut world, 1), (10, 1, None));
 }
 
+// The frame of page 0:7 with 20@1 and 10@1, from replica 1.
+const FRAME: [u8; 42] = [
+    0x4C, 0x32, 0x47, 0x31, 1, 0, 1, 0, 0, 0, 0x1F, 0, 0, 0, 1, 0, 0, 0, 0, 0, 7, 2, 0, 0, 0, 0, 0,
+    0, 0, 0x14, 0, 1, 0, 0, 0, 0, 0, 0, 0, 0x0A, 0, 1,
+];
+
+#[test]
+fn frames_are_kept_as_bytes(rt: HostRuntime) {
+    let mut world = opened(&rt, rt.alloc(), 2);
+    for time in [10, 20] {
+        done(
+            &rt,
+            &mut world,
+            Event::Refer(1, 1, PageId { dev: 0, no: 7 }, time),
+        );
+    }
+    done(&rt, &mut world, Event::Flush(1, 1));
+    let Some(seven) = Bucket::new(7) else {
+        panic!(rt; "7 is a bucket");
+    };
+    let Answer::FrameNo(1) = world.step(Event::Send(1, seven, None)) else {
+        panic!(rt; "the first frame has number 1");
+    };
+    let kept = world.frames.first().map(|bytes| bytes.as_slice());
+    assert_eq!(rt; kept, Some(FRAME.as_slice()));
+}
+
+// 1001 pages of bucket 0 take two frames: 1000 entries of 17 bytes after a header of 11 and a count of 4, and one entry.
+#[test]
+fn a_bucket_of_1001_pages_takes_two_frames(rt: HostRuntime) {
+    let mut world = opened(&rt, rt.alloc(), 2);
+    for page in 0..1001u32 {
+        let page = PageId {
+            dev: 0,
+            no: page.wrapping_mul(64),
+        };
+        done(&rt, &mut world, Event::Refer(1, 1, page, 1));
+    }
+    done(&rt, &mut world, Event::Flush(1, 1));
+    let Some(zero) = Bucket::new(0) else {
+        panic!(rt; "0 is a bucket");
+    };
+    for (after, length, known) in [
+        (None, 17_015, 1000),
+        (Some(PageId { dev: 0, no: 63936 }), 32, 1001),
+    ] {
+        let Answer::FrameNo(number) = world.step(Event::Send(1, zero, after)) else {
+            panic!(rt; "a frame is sent");
+        };
+        let kept = world.frames.iter().last().map(|bytes| bytes.len());
+        assert_eq!(rt; kept, Some(length));
+        let Answer::Took { count: 0, first: 0 } = world.step(Event::Deliver(2, number)) else {
+            panic!(rt; "the frame is delivered");
+        };
+        let Answer::Shown(history) = world.step(Event::Show(2)) else {
+            panic!(rt; "the replica is shown");
+        };
+        assert_eq!(rt; history.len(), known);
+    }
+}
+
 #[test]
 fn warms_the_hottest_first(rt: HostRuntime) {
     let mut world = opened(&rt, rt.alloc(), 1);
@@ -248,9 +309,11 @@ impl World {
                 .zip(other.replicas.iter())
                 .all(|(left, right)| left.is_same(right));
         let frames = self.frames.len() == other.frames.len()
-            && self.frames.iter().zip(other.frames.iter()).all(|(left, right)| {
-                left.sender == right.sender && left.entries.as_slice() == right.entries.as_slice()
-            });
+            && self
+                .frames
+                .iter()
+                .zip(other.frames.iter())
+                .all(|(left, right)| left.as_slice() == right.as_slice());
         replicas && frames
     }
 }
