@@ -1,5 +1,5 @@
 -- Hashers that have each taken the bytes of their bucket's entries.
-use Rattle.std.proofs.Common.{◌≡◌, ◌≢◌, ◌<◌, ◌+◌, ℕ, Bool, true, false, cond, List, [], ◌∷◌, ◌++◌, length, filter, flat_map, refl, sym, ap, subst, ◌∙◌, append_assoc, arith, ⊎_elim}
+use Rattle.std.proofs.Common.{◌≡◌, ◌≢◌, ◌<◌, ℕ, Bool, cond, List, [], ◌∷◌, ◌++◌, length, filter, refl, sym, ap, subst, ◌∙◌, append_assoc, ⊎_elim}
 use Rattle.std.specs.Prelude.{slice_index_or, slice_set, ◌==◌}
 use Rattle.std.proofs.lemmas.Bool.{cases_eq, eq-eqb, ne_eqb}
 use Rattle.std.proofs.lemmas.List.{append-nil, length-set, get_or-set_same, get_or-set_other}
@@ -50,13 +50,13 @@ taken_more old next before e inside takes taken b other low =
     let here = page_bucket e.page in
     let was : b < length old = subst (λ (n : ℕ). b < n) (length-set old here next) low in
     ⊎_elim (λ same.
-        let own : Holds256 next (entries_bytes (bucket_entries here (before ++ e ∷ []))) =
-            subst (Holds256 next) (sym (ap entries_bytes (own_more before e) ∙ bytes_more (bucket_entries here before) e)) (takes other _ (taken here other inside)) in
-        subst (λ (k : ℕ). Holds256 (slice_index_or (slice_set old here next) k other) (entries_bytes (bucket_entries k (before ++ e ∷ [])))) same
-            (subst (λ (h : Sha256). Holds256 h (entries_bytes (bucket_entries here (before ++ e ∷ [])))) (sym (get_or-set_same old here next other inside)) own))
+    let own : Holds256 next (entries_bytes (bucket_entries here (before ++ e ∷ []))) =
+    subst (Holds256 next) (sym (ap entries_bytes (own_more before e) ∙ bytes_more (bucket_entries here before) e)) (takes other _ (taken here other inside)) in
+    subst (λ (k : ℕ). Holds256 (slice_index_or (slice_set old here next) k other) (entries_bytes (bucket_entries k (before ++ e ∷ [])))) same
+    (subst (λ (h : Sha256). Holds256 h (entries_bytes (bucket_entries here (before ++ e ∷ [])))) (sym (get_or-set_same old here next other inside)) own))
     (λ differs.
-        subst (λ (h : Sha256). Holds256 h (entries_bytes (bucket_entries b (before ++ e ∷ [])))) (sym (get_or-set_other old here b next other (λ k. differs (sym k))))
-            (subst (λ (es : List Entry). Holds256 (slice_index_or old b other) (entries_bytes es)) (sym (other_same before e b differs)) (taken b other was)))
+    subst (λ (h : Sha256). Holds256 h (entries_bytes (bucket_entries b (before ++ e ∷ [])))) (sym (get_or-set_other old here b next other (λ k. differs (sym k))))
+    (subst (λ (es : List Entry). Holds256 (slice_index_or old b other) (entries_bytes es)) (sym (other_same before e b differs)) (taken b other was)))
     (cases_eq here b)
 
 -- the digests are the sums

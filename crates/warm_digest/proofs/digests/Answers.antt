@@ -1,4 +1,4 @@
-use Rattle.std.proofs.Common.{◌≡◌, ℕ, ◌≤◌, length, arith}
+use Rattle.std.proofs.Common.{◌≡◌, length, arith}
 use Rattle.warm_digest.proofs.Hashers.{all_done}
 use Rattle.warm_digest.proofs.digests.Goals as goal
 

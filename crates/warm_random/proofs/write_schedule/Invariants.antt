@@ -1,4 +1,4 @@
-use Rattle.std.proofs.Common.{◌≡◌, ◌≤◌, OnOk, ℕ, count_by, flat_map}
+use Rattle.std.proofs.Common.{◌≡◌, ◌≤◌, count_by, flat_map}
 use Rattle.std.specs.Io.KnownBytes.{Appends}
 use Rattle.warm_random.specs.Drawing.{is_send, line_text, lines, seeded}
 use Rattle.warm_random.proofs.write_schedule.Given as goal
