@@ -13,3 +13,6 @@ mod reading;
 pub mod sums;
 mod writing;
 
+
+#[cfg(test)]
+mod tests;

@@ -1,0 +1,113 @@
+-- The definitions, computed on small frames.
+use Rattle.std.proofs.Common.{◌≡◌, ℕ, List, [], ◌∷◌, ◌++◌, take, drop, Result, Ok, Err, refl}
+use Rattle.warm_stamps.specs.declared.Stamp.{Stamp}
+use Rattle.warm_history.specs.declared.hist.PageHist.TheVariants.{Once, Twice}
+use Rattle.warm_history.specs.declared.hist.Entry.{Entry}
+use Rattle.warm_frames.specs.declared.fault.FrameFault.TheVariants.{Truncated, BadMagic, BadKind, BadSender, BadLength, BadCount, BadTag, BadStamp, BadOrder}
+use Rattle.warm_frames.specs.declared.frame.Frame.{Frame}
+use Rattle.warm_frames.specs.declared.frame.Frame.TheVariants.{Entries, Want}
+use Rattle.warm_frames.specs.Spelling.{spelling}
+use Rattle.warm_frames.specs.Reading.{start_at, body_at, two_in, hist_at, entry_at, entries_at, count_at, all_entries, entries_of, frame_of, read_frame}
+
+abbrev at : ℕ → ℕ → Stamp
+at time replica = record { time = time; replica = replica }
+
+-- the page 0:n, with one stamp or two
+abbrev once : ℕ → Stamp → Entry
+once n s = record { page = record { dev = 0; no = n }; hist = Once s }
+
+abbrev twice : ℕ → Stamp → Stamp → Entry
+twice n last prev = record { page = record { dev = 0; no = n }; hist = Twice (record { last = last; prev = prev }) }
+
+-- ---- spellings
+
+abbrev letters : List ℕ
+letters = 0x4C ∷ 0x32 ∷ 0x47 ∷ 0x31 ∷ []
+
+-- 20@1 and 10@1
+abbrev twenty : List ℕ
+twenty = 0 ∷ 0 ∷ 0 ∷ 0 ∷ 0 ∷ 0 ∷ 0 ∷ 0x14 ∷ 0 ∷ 1 ∷ []
+
+abbrev ten : List ℕ
+ten = 0 ∷ 0 ∷ 0 ∷ 0 ∷ 0 ∷ 0 ∷ 0 ∷ 0x0A ∷ 0 ∷ 1 ∷ []
+
+-- the page 0:n
+abbrev page : ℕ → List ℕ
+page n = 0 ∷ 0 ∷ 0 ∷ 0 ∷ 0 ∷ n ∷ []
+
+-- a frame of entries: the sender, the length, the count, and the entries
+abbrev entries_frame : ℕ → ℕ → ℕ → List ℕ → List ℕ
+entries_frame sender len count text = letters ++ 1 ∷ 0 ∷ sender ∷ 0 ∷ 0 ∷ 0 ∷ len ∷ 0 ∷ 0 ∷ 0 ∷ count ∷ text
+
+nothing_spelled : spelling (Entries 3 []) ≡ letters ++ 1 ∷ 0 ∷ 3 ∷ 0 ∷ 0 ∷ 0 ∷ 4 ∷ 0 ∷ 0 ∷ 0 ∷ 0 ∷ []
+nothing_spelled = refl
+
+two_stamps_spelled : spelling (Entries 1 (twice 7 (at 20 1) (at 10 1) ∷ [])) ≡ entries_frame 1 0x1F 1 (page 7 ++ 2 ∷ (twenty ++ ten))
+two_stamps_spelled = refl
+
+wish_spelled : spelling (Want 2 6) ≡ letters ++ 3 ∷ 0 ∷ 2 ∷ 0 ∷ 0 ∷ 0 ∷ 8 ∷ 0 ∷ 0 ∷ 0 ∷ 0 ∷ 0 ∷ 0 ∷ 0 ∷ 6 ∷ []
+wish_spelled = refl
+
+-- ---- readings
+
+two_stamps_read : read_frame (entries_frame 1 0x1F 1 (page 7 ++ 2 ∷ (twenty ++ ten))) ≡ Ok (Entries 1 (twice 7 (at 20 1) (at 10 1) ∷ []))
+unfolding read_frame start_at body_at frame_of entries_of count_at all_entries entries_at entry_at hist_at two_in
+two_stamps_read = refl
+
+rising_read : read_frame (entries_frame 1 0x26 2 (page 7 ++ 1 ∷ (twenty ++ page 8 ++ 1 ∷ ten))) ≡ Ok (Entries 1 (once 7 (at 20 1) ∷ once 8 (at 10 1) ∷ []))
+unfolding read_frame start_at body_at frame_of entries_of count_at all_entries entries_at entry_at hist_at
+rising_read = refl
+
+nothing_read : read_frame (spelling (Entries 3 [])) ≡ Ok (Entries 3 [])
+unfolding read_frame start_at body_at frame_of entries_of count_at all_entries entries_at
+nothing_read = refl
+
+wish_read : read_frame (spelling (Want 2 6)) ≡ Ok (Want 2 6)
+unfolding read_frame start_at body_at frame_of
+wish_read = refl
+
+-- ---- first faults
+
+no_bytes : read_frame [] ≡ Err Truncated
+unfolding read_frame start_at
+no_bytes = refl
+
+other_letters : read_frame (0x4D ∷ 0x32 ∷ 0x47 ∷ 0x31 ∷ []) ≡ Err BadMagic
+unfolding read_frame start_at
+other_letters = refl
+
+kind_4 : read_frame (letters ++ 4 ∷ []) ≡ Err BadKind
+unfolding read_frame start_at
+kind_4 = refl
+
+sender_65 : read_frame (letters ++ 1 ∷ 0 ∷ 65 ∷ []) ≡ Err BadSender
+unfolding read_frame start_at
+sender_65 = refl
+
+cut_short : read_frame (entries_frame 1 0x1F 1 (page 7 ++ 2 ∷ (twenty ++ take 9 ten))) ≡ Err Truncated
+unfolding read_frame start_at body_at
+cut_short = refl
+
+a_byte_more : read_frame (entries_frame 1 0x1F 1 (page 7 ++ 2 ∷ (twenty ++ ten ++ 0 ∷ []))) ≡ Err BadLength
+unfolding read_frame start_at body_at
+a_byte_more = refl
+
+count_1001 : read_frame (letters ++ 1 ∷ 0 ∷ 1 ∷ 0 ∷ 0 ∷ 0 ∷ 4 ∷ 0 ∷ 0 ∷ 3 ∷ 0xE9 ∷ []) ≡ Err BadCount
+unfolding read_frame start_at body_at frame_of entries_of count_at
+count_1001 = refl
+
+count_2 : read_frame (entries_frame 1 0x1F 2 (page 7 ++ 2 ∷ (twenty ++ ten))) ≡ Err BadLength
+unfolding read_frame start_at body_at frame_of entries_of count_at all_entries entries_at entry_at hist_at two_in
+count_2 = refl
+
+tag_3 : read_frame (entries_frame 1 0x1F 1 (page 7 ++ 3 ∷ (twenty ++ ten))) ≡ Err BadTag
+unfolding read_frame start_at body_at frame_of entries_of count_at all_entries entries_at entry_at hist_at
+tag_3 = refl
+
+equal_stamps : read_frame (entries_frame 1 0x1F 1 (page 7 ++ 2 ∷ (twenty ++ twenty))) ≡ Err BadStamp
+unfolding read_frame start_at body_at frame_of entries_of count_at all_entries entries_at entry_at hist_at two_in
+equal_stamps = refl
+
+equal_pages : read_frame (entries_frame 1 0x26 2 (page 7 ++ 1 ∷ (twenty ++ page 7 ++ 1 ∷ ten))) ≡ Err BadOrder
+unfolding read_frame start_at body_at frame_of entries_of count_at all_entries entries_at entry_at hist_at
+equal_pages = refl
