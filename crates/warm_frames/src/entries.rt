@@ -1,12 +1,12 @@
 //! Lists of entries, as frames carry them.
-ghost use Rattle.std.specs.Prelude.{◌≡◌, ◌≤◌, ◌↔◌, length, IfOk, IfErr, IsOk, IsTrue};
+ghost use Rattle.std.specs.Prelude.{◌≡◌, ◌≤◌, ◌↔◌, length, IfOk, IfErr, IsOk};
 ghost use Rattle.std.specs.List.{AllByRecursion};
 ghost use Rattle.warm_history.specs.Histories.{PagesRise};
 ghost use Rattle.warm_frames.specs.Entries.{IsHist, IsEntry, IsEntryList};
 
-use std::cmp::Ordering;
 use std::marker::Model;
 use warm_history::hist::{Entry, PageHist};
+use warm_history::pages_rise;
 
 /// The most entries that a frame carries.
 pub const MOST: usize = 1000;
@@ -39,7 +39,7 @@ impl EntryList {
         ensures back { IfErr result (λ back. back ≡ entries) }
         ensures taken { IsOk result ↔ (PagesRise entries.items × (length entries.items ≤ 1000)) }
     {
-        if entries.len() > MOST || !rises(&entries) {
+        if entries.len() > MOST || !pages_rise(&entries) {
             return Err(entries);
         }
         are_entries(&entries);
@@ -69,23 +69,6 @@ impl EntryList {
     {
         self.entries
     }
-}
-
-// Whether the pages of the entries rise, each above the one before it.
-fn rises(entries: &[Entry]) -> bool
-    ensures { IsTrue result ↔ PagesRise entries.now }
-{
-    let Some((mut last, mut rest)) = entries.split_first() else {
-        return true;
-    };
-    while let Some((next, later)) = rest.split_first() {
-        let Ordering::Less = last.page.cmp(&next.page) else {
-            return false;
-        };
-        last = next;
-        rest = later;
-    }
-    true
 }
 
 // What the types of entries say of them. Nothing is done.

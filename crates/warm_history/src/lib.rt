@@ -14,3 +14,5 @@ pub mod hist;
 pub mod history;
 pub mod laws;
 mod merge;
+
+pub use merge::pages_rise;

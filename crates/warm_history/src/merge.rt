@@ -50,7 +50,7 @@ pub(crate) fn merged(
 pub(crate) fn gathered(alloc: Global, entries: &[Entry]) -> Result<Vec<Entry>, AllocError>
     ensures { IfOk result (λ all. all.items ≡ history (refs entries.now)) }
 {
-    if rises(entries) {
+    if pages_rise(entries) {
         return copied(alloc, entries);
     }
     let (front, back) = entries.split_at(entries.len() / 2);
@@ -59,8 +59,8 @@ pub(crate) fn gathered(alloc: Global, entries: &[Entry]) -> Result<Vec<Entry>, A
     merged(alloc, &front, &back)
 }
 
-// Whether the pages of the entries rise, each above the one before it.
-fn rises(entries: &[Entry]) -> bool
+/// Whether the pages of the entries rise, each above the one before it. Takes no memory.
+pub fn pages_rise(entries: &[Entry]) -> bool
     ensures { IsTrue result ↔ PagesRise entries.now }
 {
     let Some((mut last, mut rest)) = entries.split_first() else {

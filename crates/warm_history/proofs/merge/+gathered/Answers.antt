@@ -10,7 +10,7 @@ use Rattle.warm_history.proofs.merge.+gathered.Goals as goal
 -- entries that don't rise are at least two, so each half is shorter
 pub gathered-requires-2 : goal.gathered-requires-2
 gathered-requires-2 t c =
-    let long : 2 ≤ length c.args.entries.now = long_unless_rising c.args.entries.now (λ rising. let no : true ≡ false = sym (c.rises.ensures.1 rising) ∙ c.if-rises.false in cc) in
+    let long : 2 ≤ length c.args.entries.now = long_unless_rising c.args.entries.now (λ rising. let no : true ≡ false = sym (c.pages_rise.ensures.1 rising) ∙ c.if-pages_rise.false in cc) in
     (omega (arith, c.decreases), tt)
 
 pub merged-requires-clause-here : goal.merged-requires-clause-here

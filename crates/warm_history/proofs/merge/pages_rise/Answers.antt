@@ -1,7 +1,7 @@
 use Rattle.std.proofs.Common.{◌∷◌, sym, subst}
 use Rattle.warm_history.specs.Histories.{PagesRise}
 use Rattle.warm_history.proofs.MergeLemmas.{rises_on}
-use Rattle.warm_frames.proofs.entries.rises.Goals as goal
+use Rattle.warm_history.proofs.merge.pages_rise.Goals as goal
 
 -- the last page seen is below the next
 pub loop-next-preserved : goal.loop-next-preserved

@@ -1,6 +1,6 @@
 use Rattle.std.proofs.Common.{◌∷◌, length}
 use Rattle.warm_history.specs.Histories.{PagesRise}
-use Rattle.warm_history.proofs.merge.rises.Given as goal
+use Rattle.warm_history.proofs.merge.pages_rise.Given as goal
 
 -- all of them rise exactly where the last one seen and those that are left do
 abbrev pub invariant-loop-next : goal.invariant-loop-next
