@@ -16,6 +16,7 @@ use warm_stamps::{Bucket, PageId, Reference, ReplicaId, Stamp};
 
 // How many pages a full frame has, and how many the history that is summed.
 const FULL: u32 = 1000;
+
 const MANY: u32 = 100_000;
 
 // A history of so many pages, whose numbers are so far apart, with two stamps each.
@@ -137,7 +138,12 @@ fn main(rt: HostRuntime) -> Result<()> {
     println!(rt; "decode: {} entries", count)?;
     println!(rt; "sums: {}", check_sum(&first))?;
     if asked.is_some() {
-        println!(rt; "{} {} {} ns", encoding.as_nanos(), decoding.as_nanos(), summing.as_nanos())?;
+        println!(rt;
+            "{} {} {} ns",
+            encoding.as_nanos(),
+            decoding.as_nanos(),
+            summing.as_nanos()
+        )?;
     }
     Ok(())
 }

@@ -175,7 +175,7 @@ two_takes later earlier h len1 len2 fits1 fits2 e =
     let both : later ++ earlier ≡ bytes_of_stamp a.0 ++ bytes_of_stamp b.0 = λ i. t1.0 i ++ t2.0 i in
     let made : PageHist = Twice (record { last = a.0; prev = b.0 }) in
     subst (λ (k : PageHist). (2 ∷ (later ++ earlier) ≡ hist_bytes k) × IsHist k) (ok_is made h g.1)
-      (ap (λ (w : List ℕ). 2 ∷ w) both, (t1.1, t2.1, less_is _ g.0))
+    (ap (λ (w : List ℕ). 2 ∷ w) both, (t1.1, t2.1, less_is _ g.0))
 
 pub record TakesHist (tag : ℕ) (bytes : List ℕ) (x : PageHist × List ℕ) : Type 0 where
   pub taken : Takes (tag ∷ bytes) (hist_bytes x.0) x.1

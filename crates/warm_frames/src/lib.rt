@@ -11,8 +11,6 @@ pub mod frame;
 pub mod laws;
 mod reading;
 pub mod sums;
-mod writing;
-
-
 #[cfg(test)]
 mod tests;
+mod writing;

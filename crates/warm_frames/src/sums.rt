@@ -54,5 +54,4 @@ impl SumTable {
 // What the type of sums says of them. Nothing is done.
 fn are_sums(sums: &[[u8; 32]])
     ensures { AllByRecursion (λ sum. length sum ≡ 32) sums.now }
-{
-}
+{}

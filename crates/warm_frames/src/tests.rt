@@ -83,7 +83,10 @@ fn entries_have_one_spelling(rt: HostRuntime) -> Result<(), Fail> {
 #[test]
 fn nothing_and_wishes_take_no_memory(rt: HostRuntime) -> Result<(), Fail> {
     let nothing = decode(rt.alloc(), &NOTHING)?;
-    assert_eq!(rt; encoded(rt.alloc(), &nothing)?.as_slice(), NOTHING.as_slice());
+    assert_eq!(rt;
+        encoded(rt.alloc(), &nothing)?.as_slice(),
+        NOTHING.as_slice()
+    );
     let Frame::Entries { sender, entries } = nothing else {
         return Err("another kind".into());
     };
@@ -112,7 +115,10 @@ fn sums_stand_bucket_0_first(rt: HostRuntime) -> Result<(), Fail> {
     let header = [0x4C, 0x32, 0x47, 0x31, 2, 0, 64, 0, 0, 8, 0];
     assert_eq!(rt; bytes.len(), 2059);
     assert!(rt; bytes.as_slice().starts_with(&header));
-    assert_eq!(rt; (bytes[11], bytes[42], bytes[43], bytes[2058]), (7, 7, 0, 9));
+    assert_eq!(rt;
+        (bytes[11], bytes[42], bytes[43], bytes[2058]),
+        (7, 7, 0, 9)
+    );
 
     let Frame::Digest { sender, sums: read } = decode(rt.alloc(), &bytes)? else {
         return Err("another kind".into());
@@ -166,7 +172,11 @@ fn pages_have_to_rise(rt: HostRuntime) -> Result<(), Fail> {
     for no in [6, 7] {
         let mut bytes = RISING;
         bytes[37] = no;
-        assert_eq!(rt; fault(rt.alloc(), &bytes), Some(FrameFault::BadOrder), "0:{no}");
+        assert_eq!(rt;
+            fault(rt.alloc(), &bytes),
+            Some(FrameFault::BadOrder),
+            "0:{no}"
+        );
     }
     Ok(())
 }

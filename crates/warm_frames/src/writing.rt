@@ -102,11 +102,7 @@ pub(crate) fn digest_text(
     Ok(text)
 }
 
-pub(crate) fn want_text(
-    alloc: Global,
-    sender: ReplicaId,
-    mask: u64,
-) -> Result<Vec<u8>, AllocError>
+pub(crate) fn want_text(alloc: Global, sender: ReplicaId, mask: u64) -> Result<Vec<u8>, AllocError>
     ensures { IfOk result (λ text. Spells text.items (frames.Want sender mask)) }
 {
     let mut text = header(alloc, 3, sender, 8)?;
