@@ -69,7 +69,19 @@ mod tests {
 
     #[test]
     fn pages_have_six_bytes(rt: HostRuntime) {
-        assert_eq!(rt; page_bytes(PageId { dev: 258, no: 50462976 }), PAGE);
-        assert_eq!(rt; page_from(&PAGE), PageId { dev: 258, no: 50462976 });
+        assert_eq!(rt;
+            page_bytes(PageId {
+                dev: 258,
+                no: 50462976
+            }),
+            PAGE
+        );
+        assert_eq!(rt;
+            page_from(&PAGE),
+            PageId {
+                dev: 258,
+                no: 50462976
+            }
+        );
     }
 }
