@@ -1,0 +1,4 @@
+use Rattle.warm_pool.proofs.frames.Frames.rank.Goals as goal
+
+pub invariant_of-self : goal.invariant_of-self
+invariant_of-self c = ?
