@@ -127,10 +127,10 @@ abbrev pub pool_from : FramesState → ℕ → List DeviceState → PoolState
 pool_from frames spare devices = record { page_size = frames.page_size; spare = spare; frames = frames.frames; devices = devices }
 
 -- A step that changes one frame, but neither its page nor its bytes.
-module _ (old new : FramesState) (spare : ℕ) (devices : List DeviceState) (i : ℕ) (g : FrameState)
+module _ (old new : FramesState) {spare : ℕ} {devices : List DeviceState} (w : IsPool (pool_from old spare devices)) (i : ℕ) (g : FrameState)
     (is : new ≡ record old { frames = set old.frames i g }) (there : i < length old.frames) (alike : IsAlike (nth_frame old.frames i) g) where
-  pub step_pool : IsPool (pool_from old spare devices) → IsPool (pool_from new spare devices)
-  step_pool w = subst (λ x. IsPool (pool_from x spare devices)) (sym is)
+  pub step_pool : IsPool (pool_from new spare devices)
+  step_pool = subst (λ x. IsPool (pool_from x spare devices)) (sym is)
       (set_keeps_pool (pool_from old spare devices) i g (alike_fits (pool_from old spare devices) i g there alike w) w)
 
   pub step_ranked : g.key ≡ (nth_frame old.frames i).key → (h : List Entry) → RankedBy (pool_from old spare devices) h → RankedBy (pool_from new spare devices) h
@@ -140,19 +140,19 @@ module _ (old new : FramesState) (spare : ℕ) (devices : List DeviceState) (i :
   pub step_view : view_of (pool_from new spare devices) ≡ record (view_of (pool_from old spare devices)) { frames = set (view_of (pool_from old spare devices)).frames i (frame_view g) }
   step_view = ap (λ x. view_of (pool_from x spare devices)) is ∙ view-set (pool_from old spare devices) i g alike.page alike.bytes
 
--- a slot that a pool holds
-pub held_there : (s : PoolState) (slot : Slot) → Holds (view_of s) slot → slot.index < length s.frames
-held_there s slot h = subst (λ n. slot.index < n) (length-map s.frames frame_view) h.there
+-- the page of a held slot, less or more fixes on it
+pub held_there : {s : PoolState} → IsPool s → (slot : Slot) → Holds (view_of s) slot → slot.index < length s.frames
+held_there {s} w slot h = subst (λ n. slot.index < n) (length-map s.frames frame_view) h.there
 
-pub held_fixed : (s : PoolState) (slot : Slot) → Holds (view_of s) slot → 0 < (nth_frame s.frames slot.index).fixes
-held_fixed s slot h = subst (λ f. 0 < f.fixes) (frame_seen s slot.index) h.fixed
+pub held_fixed : {s : PoolState} → IsPool s → (slot : Slot) → Holds (view_of s) slot → 0 < (nth_frame s.frames slot.index).fixes
+held_fixed {s} w slot h = subst (λ f. 0 < f.fixes) (frame_seen s slot.index) h.fixed
 
 -- what a frame without a fix less or more is
-pub alike_fixes : (s : PoolState) (i n : ℕ) → IsPool s → (nth_frame s.frames i).page ≢ None → IsAlike (nth_frame s.frames i) (record (nth_frame s.frames i) { fixes = n })
-alike_fixes s i n w some = record { page = refl; bytes = refl; dirty = refl; bare = λ e. absurd (some e) }
+pub alike_fixes : {s : PoolState} → IsPool s → (i n : ℕ) → (nth_frame s.frames i).page ≢ None → IsAlike (nth_frame s.frames i) (record (nth_frame s.frames i) { fixes = n })
+alike_fixes {s} w i n some = record { page = refl; bytes = refl; dirty = refl; bare = λ e. absurd (some e) }
 
-pub fixed_some : (s : PoolState) (i : ℕ) → IsPool s → 0 < (nth_frame s.frames i).fixes → (nth_frame s.frames i).page ≢ None
-fixed_some s i w fixed e = let none : (nth_frame s.frames i).fixes ≡ 0 = (w.bare i e).1 in absurd (omega arith)
+pub fixed_some : {s : PoolState} → IsPool s → (i : ℕ) → 0 < (nth_frame s.frames i).fixes → (nth_frame s.frames i).page ≢ None
+fixed_some {s} w i fixed e = let none : (nth_frame s.frames i).fixes ≡ 0 = (w.bare i e).1 in absurd (omega arith)
 
-pub seen_unpinned : (s : PoolState) (slot : Slot) → record (view_of s) { frames = set (view_of s).frames slot.index (frame_view (record (nth_frame s.frames slot.index) { fixes = (nth_frame s.frames slot.index).fixes - 1 })) } ≡ unpinned (view_of s) slot
-seen_unpinned s slot = ap (λ (x : FrameView). let v : PoolView = record (view_of s) { frames = set (view_of s).frames slot.index (record x { fixes = x.fixes - 1 }) } in v) (sym (frame_seen s slot.index))
+pub seen_unpinned : {s : PoolState} → IsPool s → (slot : Slot) → record (view_of s) { frames = set (view_of s).frames slot.index (frame_view (record (nth_frame s.frames slot.index) { fixes = (nth_frame s.frames slot.index).fixes - 1 })) } ≡ unpinned (view_of s) slot
+seen_unpinned {s} w slot = ap (λ (x : FrameView). let v : PoolView = record (view_of s) { frames = set (view_of s).frames slot.index (record x { fixes = x.fixes - 1 }) } in v) (sym (frame_seen s slot.index))

@@ -1,10 +1,11 @@
 -- One frame or one device of a list, after one of them changed.
-use Rattle.std.proofs.Common.{◌≡◌, ◌≢◌, ◌⊎◌, ℕ, zero, suc, ◌+◌, ◌<◌, ◌≤◌, List, [], ◌∷◌, length, map, set, get_or, replicate, Option, Some, None, refl, sym, ◌∙◌, ap, subst, inl, inr, arith}
-use Rattle.std.proofs.lemmas.Bool.{cases_eq, cases_lt}
+use Rattle.std.proofs.Common.{◌≡◌, ◌≢◌, ◌⊎◌, ℕ, zero, suc, ◌+◌, ◌<◌, ◌≤◌, ◌==◌, Bool, true, false, List, [], ◌∷◌, length, map, set, get_or, replicate, cond, Option, Some, None, refl, sym, ◌∙◌, ap, subst, inl, inr, arith}
+use Rattle.std.proofs.lemmas.Bool.{cases_eq, cases_lt, eq-eqb, ne_eqb}
 use Rattle.std.proofs.lemmas.List.{length-set, get_or-set_same, get_or-set_other, get_or_past, get_or_read, map-set, length-map, set-get_or}
 use Rattle.std.proofs.lemmas.List.{ext_get_or}
 use Rattle.std.proofs.Math.ListN.{get_or-map as mapped}
-use Rattle.warm_pool.specs.Frames.{FrameState, nth_frame, AreTied, leaving_key}
+use Rattle.warm_rank.specs.declared.RankKey.{RankKey}
+use Rattle.warm_pool.specs.Frames.{FrameState, FramesState, nth_frame, fresh_frame, AreTied, leaving_key}
 
 -- a list with one item changed to another that a function can't tell from it
 pub map-set_same : {A B : Type 0} (f : A → B) (xs : List A) (i : ℕ) (d x : A) → i < length xs → f x ≡ f (get_or xs i d) → map f (set xs i x) ≡ map f xs
@@ -53,3 +54,35 @@ pub same_maps : {A B : Type 0} (f : A → B) (d : A) (xs ys : List A) → length
 same_maps f d xs ys count same =
     ext_get_or (f d) (map f xs) (map f ys) (length-map xs f ∙ count ∙ sym (length-map ys f))
         (λ i _. mapped f xs i d ∙ same i ∙ sym (mapped f ys i d))
+
+-- the frame that a read gave
+pub frame_is : (frames : List FrameState) (i : ℕ) (f x : FrameState) → i < length frames → f ≡ x → x ≡ get_or frames i x → f ≡ nth_frame frames i
+frame_is frames i f x h e r = e ∙ get_or_read frames i x h r (fresh_frame [])
+
+pub there_inside : (i : ℕ) (a b : FramesState) → a ≡ b → i < length b.frames → i < length a.frames
+there_inside i a b e h = subst (λ v. i < length v.frames) (sym e) h
+
+-- a fixed page doesn't compete, and neither does a frame without a rank
+pub fixed_key : (n : ℕ) (key : Option RankKey) → cond ((n + 1) == 0) key None ≡ None
+fixed_key n key = ap (λ t. cond t key None) (ne_eqb (n + 1) 0 (λ e. absurd (omega arith)))
+
+pub bare_key : (n : ℕ) (none : Option RankKey) → cond (n == 0) none none ≡ none
+bare_key n none = elim (n == 0) as (λ t. cond t none none ≡ none) [ true ↦ refl | false ↦ refl ]
+
+pub unfixed_key : (f : FrameState) → f.fixes ≡ 0 → leaving_key f ≡ f.key
+unfixed_key f e = ap (λ t. cond t f.key None) (eq-eqb f.fixes 0 e)
+
+-- frames without a page
+mapped_replicate : {A B : Type 0} (f : A → B) (n : ℕ) (x : A) → map f (replicate n x) ≡ replicate n (f x)
+mapped_replicate f zero x = refl
+mapped_replicate f (suc n) x = ap (λ xs. f x ∷ xs) (mapped_replicate f n x)
+
+pub tied_fresh : (frames : List FrameState) (n m : ℕ) (bytes : List ℕ) (residents : _) (contest : _)
+    → frames ≡ replicate m (fresh_frame bytes) → m ≤ n → n ≤ m → residents ≡ replicate n None → contest ≡ replicate n None → AreTied frames residents contest
+tied_fresh frames n m bytes residents contest e below above r c =
+    let same : m ≡ n = omega arith in
+    let fs : frames ≡ replicate n (fresh_frame bytes) = e ∙ ap (λ k. replicate k (fresh_frame bytes)) same in
+    record {
+      residents_are = r ∙ sym (mapped_replicate (λ (f : FrameState). f.page) n (fresh_frame bytes)) ∙ ap (map (λ (f : FrameState). f.page)) (sym fs);
+      contest_is = c ∙ sym (mapped_replicate leaving_key n (fresh_frame bytes)) ∙ ap (map leaving_key) (sym fs);
+    }
