@@ -1,0 +1,4 @@
+//! A buffer pool.
+#![tactic(auto)]
+
+mod residents;
