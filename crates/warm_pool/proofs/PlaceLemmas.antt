@@ -3,9 +3,9 @@ use Rattle.std.proofs.Common.{◌++◌, ◌≡◌, ◌≢◌, ℕ, zero, suc, �
 use Rattle.std.proofs.lemmas.List.{length-set, length-map, length-replicate, get_or-map, get_or-replicate, get_or_read, map-set}
 use Rattle.std.proofs.lemmas.Bool.{cases_eq, cases_lt}
 use Rattle.warm_stamps.specs.declared.PageId.{PageId}
-use Rattle.warm_pool.specs.Chains.{IsFirstFrom, AreChains, AreInTurn, AreLinked, bucket, buckets}
+use Rattle.warm_pool.specs.Chains.{IsFirstFrom, AreChains, AreInTurn, AreLinked, bucket, buckets, page_in}
 use Rattle.warm_pool.proofs.ChainLemmas.{link_first}
-use Rattle.warm_pool.specs.Residents.{page_in, IsPlaceOf, IsFirstFree}
+use Rattle.warm_pool.specs.Residents.{IsFirstFree}
 
 pub count_buckets : (pages : List (Option PageId)) → length (buckets pages) ≡ length pages
 count_buckets pages = length-map pages (bucket (length pages))

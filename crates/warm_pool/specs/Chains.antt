@@ -1,6 +1,10 @@
 -- Frames in chains: those of one bucket, each followed by the next in rising order. The number of frames ends a chain.
-use Rattle.std.specs.Prelude.{◌≡◌, ◌≢◌, ℕ, suc, ◌+◌, ◌*◌, ◌/◌, ◌%◌, ◌<◌, ◌≤◌, List, length, map, set, Option, Some, None, slice_index}
+use Rattle.std.specs.Prelude.{◌≡◌, ◌≢◌, ℕ, suc, ◌+◌, ◌*◌, ◌/◌, ◌%◌, ◌<◌, ◌≤◌, List, length, map, set, Option, Some, None, slice_index, slice_index_or}
 use Rattle.warm_stamps.specs.declared.PageId.{PageId}
+
+-- what a frame holds
+abbrev pub page_in : List (Option PageId) → ℕ → Option PageId
+page_in pages frame = slice_index_or pages frame None
 
 -- the bucket of what a frame holds, of n and one: pages are spread over the first n, and the frames without a page have the last
 unfoldable pub bucket : ℕ → Option PageId → ℕ

@@ -4,7 +4,7 @@
 //! and the number of frames ends a chain. All room is taken when the frames are made.
 ghost use Rattle.std.specs.Prelude.{◌≡◌, ℕ, List, ◌+◌, ◌<◌, ◌≤◌, length, replicate, set, slice_index, IfOk, IsTrue, None, Some, ◌↔◌};
 ghost use Rattle.warm_pool.specs.Chains.{AreChains, AreInTurn, AreLinked, IsLastBelow, after, bucket, buckets, heads_led, next_led};
-ghost use Rattle.warm_pool.specs.Residents.{IsFirstFree, IsPlaceOf, page_in};
+ghost use Rattle.warm_pool.specs.Residents.{IsFirstFree, IsPlaceOf};
 
 use std::alloc::{AllocError, Global};
 use std::marker::Model;
@@ -12,7 +12,7 @@ use warm_stamps::PageId;
 
 /// The page of each frame, where it holds one. Contracts see the list of them.
 #[derive(Drop)]
-pub struct Residents {
+pub(crate) struct Residents {
     pages: Vec<Option<PageId>>,
     heads: Vec<u32>,
     next: Vec<u32>,
@@ -35,7 +35,7 @@ impl Residents {
     ///
     /// # Errors
     /// `AllocError` where there is no memory for them.
-    pub fn new(alloc: Global, frames: usize) -> Result<Residents, AllocError>
+    pub(crate) fn new(alloc: Global, frames: usize) -> Result<Residents, AllocError>
         requires few { frames ≤ 65536 }
         ensures { IfOk result (λ residents. residents ≡ replicate frames None) }
     {
@@ -45,30 +45,15 @@ impl Residents {
         Ok(Residents { pages, heads, next })
     }
 
-    /// How many frames there are.
-    pub fn len(&self) -> usize
-        ensures { result ≡ length self.now }
-    {
-        self.pages.len()
-    }
-
-    /// The page that a frame holds.
-    pub fn page_in(&self, frame: usize) -> Option<PageId>
-        requires { frame < length self.now }
-        ensures { result ≡ page_in self.now frame }
-    {
-        self.pages[frame]
-    }
-
     /// The frame that holds a page, if one does.
-    pub fn find(&self, page: PageId) -> Option<usize>
+    pub(crate) fn find(&self, page: PageId) -> Option<usize>
         ensures { IsPlaceOf self.now page result }
     {
         find_in(&self.pages, &self.heads, &self.next, page)
     }
 
     /// The first frame without a page, if there is one.
-    pub fn first_free(&self) -> Option<usize>
+    pub(crate) fn first_free(&self) -> Option<usize>
         ensures { IsFirstFree self.now result }
     {
         let frames = self.pages.len();
@@ -77,7 +62,7 @@ impl Residents {
     }
 
     /// Puts a page into a frame, or takes out the one that it holds. Takes no memory.
-    pub fn set(&mut self, frame: usize, page: Option<PageId>)
+    pub(crate) fn set(&mut self, frame: usize, page: Option<PageId>)
         requires { frame < length self.old }
         ensures { self.new ≡ set self.old frame page }
     {
