@@ -1,0 +1,1 @@
+-- The steps by which a page comes into a frame.
