@@ -3,7 +3,7 @@ use Rattle.std.proofs.Common.{◌≡◌, ◌≢◌, ◌⊎◌, ℕ, ◌+◌, ◌
 use Rattle.std.proofs.Math.Path.{ap₂}
 use Rattle.std.specs.Option.{option_map}
 use Rattle.std.proofs.lemmas.Bool.{cases_eq, cases_lt}
-use Rattle.std.proofs.lemmas.List.{length-set, length-map, map-set}
+use Rattle.std.proofs.lemmas.List.{length-set, length-map, map-set, get_or-set_same}
 use Rattle.warm_stamps.specs.declared.PageId.{PageId}
 use Rattle.warm_history.specs.declared.hist.Entry.{Entry}
 use Rattle.warm_history.specs.Histories.{hist, refs}
@@ -12,7 +12,7 @@ use Rattle.warm_devices.specs.Device.{DeviceState, SameShape, page_at}
 use Rattle.warm_pool.specs.declared.slot.Slot.{Slot}
 use Rattle.warm_pool.specs.Frames.{FrameState, FramesState, nth_frame, fresh_frame}
 use Rattle.warm_pool.specs.State.{PoolState, IsPool, RankedBy, IsNowhere, no_device, nth_device, stored, bytes_of, contents_of, frame_view, device_view, view_of}
-use Rattle.warm_pool.specs.View.{PoolView, FrameView, Holds}
+use Rattle.warm_pool.specs.View.{PoolView, FrameView, Holds, frame_at}
 use Rattle.warm_pool.specs.Calls.{unpinned}
 use Rattle.warm_pool.specs.Steps.{KeptDevices}
 use Rattle.warm_pool.proofs.Slots.{at_set, same_maps}
@@ -140,6 +140,19 @@ module _ (old new : FramesState) {spare : ℕ} {devices : List DeviceState} (w :
   pub step_view : view_of (pool_from new spare devices) ≡ record (view_of (pool_from old spare devices)) { frames = set (view_of (pool_from old spare devices)).frames i (frame_view g) }
   step_view = ap (λ x. view_of (pool_from x spare devices)) is ∙ view-set (pool_from old spare devices) i g alike.page alike.bytes
 
+  step_frame : nth_frame new.frames i ≡ g
+  step_frame = ap (λ x. nth_frame x.frames i) is ∙ get_or-set_same old.frames i g (fresh_frame []) there
+
+  pub step_holds : (slot : Slot) → slot.index ≡ i → slot.generation ≡ g.generation → 0 < g.fixes → Holds (view_of (pool_from new spare devices)) slot
+  step_holds slot at current fixed =
+      let seen : frame_at (view_of (pool_from new spare devices)) slot.index ≡ frame_view g =
+          ap (frame_at (view_of (pool_from new spare devices))) at ∙ frame_seen (pool_from new spare devices) i ∙ ap frame_view step_frame in
+      record {
+        there = subst (λ n. slot.index < n) (sym (length-map new.frames frame_view ∙ ap (λ x. length x.frames) is ∙ length-set old.frames i g)) (subst (λ n. n < length old.frames) (sym at) there);
+        current = current ∙ sym (ap (λ f. f.generation) seen);
+        fixed = subst (λ f. 0 < f.fixes) (sym seen) fixed;
+      }
+
 -- the page of a held slot, less or more fixes on it
 pub held_there : {s : PoolState} → IsPool s → (slot : Slot) → Holds (view_of s) slot → slot.index < length s.frames
 held_there {s} w slot h = subst (λ n. slot.index < n) (length-map s.frames frame_view) h.there
@@ -153,6 +166,10 @@ alike_fixes {s} w i n some = record { page = refl; bytes = refl; dirty = refl; b
 
 pub fixed_some : {s : PoolState} → IsPool s → (i : ℕ) → 0 < (nth_frame s.frames i).fixes → (nth_frame s.frames i).page ≢ None
 fixed_some {s} w i fixed e = let none : (nth_frame s.frames i).fixes ≡ 0 = (w.bare i e).1 in absurd (omega arith)
+
+pub seen_fixed : {s : PoolState} → IsPool s → (i : ℕ) → record (view_of s) { frames = set (view_of s).frames i (frame_view (record (nth_frame s.frames i) { fixes = (nth_frame s.frames i).fixes + 1 })) }
+    ≡ record (view_of s) { frames = set (view_of s).frames i (record (frame_at (view_of s) i) { fixes = (frame_at (view_of s) i).fixes + 1 }) }
+seen_fixed {s} w i = ap (λ (x : FrameView). let v : PoolView = record (view_of s) { frames = set (view_of s).frames i (record x { fixes = x.fixes + 1 }) } in v) (sym (frame_seen s i))
 
 pub seen_unpinned : {s : PoolState} → IsPool s → (slot : Slot) → record (view_of s) { frames = set (view_of s).frames slot.index (frame_view (record (nth_frame s.frames slot.index) { fixes = (nth_frame s.frames slot.index).fixes - 1 })) } ≡ unpinned (view_of s) slot
 seen_unpinned {s} w slot = ap (λ (x : FrameView). let v : PoolView = record (view_of s) { frames = set (view_of s).frames slot.index (record x { fixes = x.fixes - 1 }) } in v) (sym (frame_seen s slot.index))
