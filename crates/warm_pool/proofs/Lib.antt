@@ -6,3 +6,6 @@ pub mod Bytes
 pub mod Keeps
 pub mod DeviceSteps
 pub mod PoolSteps
+pub mod Loads
+pub mod WriteBacks
+pub mod Arrivals

@@ -389,7 +389,9 @@ impl Pool {
         if !frame.dirty {
             return Ok(());
         }
-        write_page(&mut self.devices, page, &frame.bytes)?;
+        if write_page(&mut self.devices, page, &frame.bytes).is_err() {
+            return Err(DeviceFault::Write);
+        }
         self.frames.clean(at);
         Ok(())
     }
