@@ -1,5 +1,5 @@
 -- A page comes into a frame: it was read, the page in the frame was written back, and then the two changed places.
-use Rattle.std.proofs.Common.{◌≡◌, ◌≢◌, ◌⊎◌, ℕ, ◌+◌, ◌<◌, ◌≤◌, cond, Bool, true, false, IsTrue, List, [], length, map, set, get_or, Option, Some, None, Result, Ok, Err, OnOk, IsOk, is_err, MatchResult, refl, sym, ◌∙◌, ap, subst, inl, inr, arith}
+use Rattle.std.proofs.Common.{◌≡◌, ◌≢◌, ◌⊎◌, ℕ, ◌+◌, ◌<◌, ◌≤◌, cond, Bool, true, false, IsTrue, List, [], length, map, set, get_or, Option, Some, None, Result, Ok, Err, OnOk, OnErr, IsOk, is_err, MatchResult, refl, sym, ◌∙◌, ap, subst, inl, inr, arith}
 use Rattle.std.proofs.Math.Path.{ap₂}
 use Rattle.std.proofs.lemmas.Bool.{cases_eq, cases_lt}
 use Rattle.std.proofs.lemmas.Option.{same_Some}
@@ -43,6 +43,9 @@ contents_absent s q lies away = elim (cases_lt q.no (nth_device s.devices q.dev)
   | inr ge ↦ contents_beyond s q ge
 ]
 
+pub on_err : {P : Type 0} (r : Result (Unit {0}) DeviceFault) → Failed r → OnErr r P → P
+on_err {P} r f h = subst (λ q. OnErr q P) f.is h
+
 -- a page that is in no frame comes into one whose page is on its device
 pub record PutsPage (s : PoolState) (i : ℕ) (g : FrameState) (p : PageId) : Type 0 where
   pub fits : Fits s i g
@@ -58,7 +61,7 @@ module _ (s : PoolState) (i : ℕ) (g : FrameState) (p : PageId) (w : IsPool s) 
   other_g : (j : ℕ) → j ≢ i → nth_frame (set s.frames i g) j ≡ nth_frame s.frames j
   other_g j ne = get_or-set_other s.frames i j g (fresh_frame []) ne
 
-  put_pool : IsPool (record s { frames = set s.frames i g })
+  pub put_pool : IsPool (record s { frames = set s.frames i g })
   put_pool = set_keeps_pool s i g h.fits w
 
   put_here : (q : PageId) → q ≡ p → IsTrue (nth_device s.devices q.dev).honest → g.bytes ≡ stored s.devices q
@@ -99,7 +102,7 @@ module _ (s : PoolState) (i : ℕ) (g : FrameState) (p : PageId) (w : IsPool s) 
         ∙ sym (bytes_held s k q (stored s.devices q) w was)
   ]
 
-  put_keeps : KeepsContents (view_of s) (view_of (record s { frames = set s.frames i g }))
+  pub put_keeps : KeepsContents (view_of s) (view_of (record s { frames = set s.frames i g }))
   put_keeps = record {
     honest = λ q has o.
         let d : q.dev < length s.devices = subst (λ n. q.dev < n) (length-map s.devices device_view) has.device in
