@@ -46,8 +46,8 @@ spare_keeps s n e w = record {
 }
 
 -- the frame after the page came into it
-abbrev pub arrival : List FrameState → ℕ → PageId → RankKey → List ℕ → FrameState
-arrival frames i p key bytes = record { page = Some p; key = Some key; generation = (nth_frame frames i).generation + 1; fixes = 0; dirty = false; bytes = bytes }
+abbrev pub arrival : List FrameState → ℕ → PageId → RankKey → ℕ → List ℕ → FrameState
+arrival frames i p key fixes bytes = record { page = Some p; key = Some key; generation = (nth_frame frames i).generation + 1; fixes = fixes; dirty = false; bytes = bytes }
 
 module _ {s : PoolState} {ds : List DeviceState} {p : PageId} {bytes : List ℕ} {result : Result (Unit {0}) DeviceFault} (h : Fetched s ds p bytes result) where
   kept : KeptDevices s.frames s.devices ds
@@ -81,9 +81,6 @@ module _ {s : PoolState} {ds : List DeviceState} {p : PageId} {bytes : List ℕ}
       pub still_there : i < length fs.frames
       still_there = subst (λ k. i < k) (sym (ap length c.frames ∙ length-set s.frames i (cleaned (nth_frame s.frames i)))) there
 
-      pub still_unfixed : (nth_frame s.frames i).fixes ≡ 0 → (nth_frame fs.frames i).fixes ≡ 0
-      still_unfixed e = ap (λ f. f.fixes) nth_old ∙ e
-
       pub still_room : (k : ℕ) → (nth_frame s.frames i).generation < k → (nth_frame fs.frames i).generation < k
       still_room k lt = subst (λ g. g < k) (sym (ap (λ f. f.generation) nth_old)) lt
 
@@ -101,8 +98,8 @@ module _ {s : PoolState} {ds : List DeviceState} {p : PageId} {bytes : List ℕ}
           on_ok result ok h.call.read first ∙ sym (stored_honest s.devices p first) ∙ sym (kept.absent p h.nowhere) ∙ sym (c.devices.absent p h.nowhere)
           ∙ stored_honest es p o
 
-      module _ (key : RankKey) (b : List ℕ) (b_is : b ≡ bytes) where
-        puts : PutsPage (pool_from fs m es) i (arrival fs.frames i p key b) p
+      module _ (key : RankKey) (fixes : ℕ) (b : List ℕ) (b_is : b ≡ bytes) where
+        puts : PutsPage (pool_from fs m es) i (arrival fs.frames i p key fixes b) p
         puts = record {
           fits = record {
             there = still_there;
@@ -120,21 +117,21 @@ module _ {s : PoolState} {ds : List DeviceState} {p : PageId} {bytes : List ℕ}
           nowhere = still_nowhere;
         }
 
-        module _ (gs : FramesState) (k : ℕ) (is : gs ≡ record fs { frames = set fs.frames i (arrival fs.frames i p key b) }) where
+        module _ (gs : FramesState) (k : ℕ) (is : gs ≡ record fs { frames = set fs.frames i (arrival fs.frames i p key fixes b) }) where
           pub arrived_pool : k ≡ fs.page_size → IsPool (pool_from gs k es)
           arrived_pool e = subst (λ x. IsPool (pool_from x k es)) (sym is)
-              (spare_keeps (pool_from (record fs { frames = set fs.frames i (arrival fs.frames i p key b) }) m es) k e (put_pool (pool_from fs m es) i (arrival fs.frames i p key b) p w puts))
+              (spare_keeps (pool_from (record fs { frames = set fs.frames i (arrival fs.frames i p key fixes b) }) m es) k e (put_pool (pool_from fs m es) i (arrival fs.frames i p key fixes b) p w puts))
 
-          pub loads_into : LoadsInto s i p key (pool_from gs k es)
-          loads_into = subst (λ x. LoadsInto s i p key (pool_from x k es)) (sym is) (record {
+          pub loads_into : LoadsInto s i p key fixes (pool_from gs k es)
+          loads_into = subst (λ x. LoadsInto s i p key fixes (pool_from x k es)) (sym is) (record {
             bytes = b;
-            frames = ap (λ l. set l i (arrival fs.frames i p key b)) c.frames
-                ∙ set-set s.frames i (cleaned (nth_frame s.frames i)) (arrival fs.frames i p key b)
-                ∙ ap (λ (f : FrameState). let r : FrameState = record { page = Some p; key = Some key; generation = f.generation + 1; fixes = 0; dirty = false; bytes = b } in set s.frames i r) nth_old;
+            frames = ap (λ l. set l i (arrival fs.frames i p key fixes b)) c.frames
+                ∙ set-set s.frames i (cleaned (nth_frame s.frames i)) (arrival fs.frames i p key fixes b)
+                ∙ ap (λ (f : FrameState). let r : FrameState = record { page = Some p; key = Some key; generation = f.generation + 1; fixes = fixes; dirty = false; bytes = b } in set s.frames i r) nth_old;
             rest = ap (λ (v : PoolView). let x : PoolView = record v {
-                  frames = (view_of (pool_from (record fs { frames = set fs.frames i (arrival fs.frames i p key b) }) k es)).frames;
-                  contents = (view_of (pool_from (record fs { frames = set fs.frames i (arrival fs.frames i p key b) }) k es)).contents
+                  frames = (view_of (pool_from (record fs { frames = set fs.frames i (arrival fs.frames i p key fixes b) }) k es)).frames;
+                  contents = (view_of (pool_from (record fs { frames = set fs.frames i (arrival fs.frames i p key fixes b) }) k es)).contents
                 } in x) old_view;
-            contents = subst (λ v. KeepsContents v (view_of (pool_from (record fs { frames = set fs.frames i (arrival fs.frames i p key b) }) k es))) old_view
-                (put_keeps (pool_from fs m es) i (arrival fs.frames i p key b) p w puts);
+            contents = subst (λ v. KeepsContents v (view_of (pool_from (record fs { frames = set fs.frames i (arrival fs.frames i p key fixes b) }) k es))) old_view
+                (put_keeps (pool_from fs m es) i (arrival fs.frames i p key fixes b) p w puts);
           })

@@ -9,3 +9,4 @@ pub mod PoolSteps
 pub mod Loads
 pub mod WriteBacks
 pub mod Arrivals
+pub mod Pins

@@ -32,10 +32,10 @@ pub record CleanFails (old : PoolState) (i : ℕ) (new : PoolState) : Type 0 whe
   pub frames : new.frames ≡ old.frames
   pub fails : FailsAt (view_of old) page.dev (view_of new)
 
--- the page is in the frame, as its device has it, with this rank
-pub record LoadsInto (old : PoolState) (i : ℕ) (p : PageId) (key : RankKey) (new : PoolState) : Type 0 where
+-- the page is in the frame, as its device has it, with this rank and so many fixes
+pub record LoadsInto (old : PoolState) (i : ℕ) (p : PageId) (key : RankKey) (n : ℕ) (new : PoolState) : Type 0 where
   pub bytes : List ℕ
-  pub frames : new.frames ≡ set old.frames i (record { page = Some p; key = Some key; generation = (nth_frame old.frames i).generation + 1; fixes = 0; dirty = false; bytes = bytes })
+  pub frames : new.frames ≡ set old.frames i (record { page = Some p; key = Some key; generation = (nth_frame old.frames i).generation + 1; fixes = n; dirty = false; bytes = bytes })
   pub rest : view_of new ≡ record (view_of old) { frames = (view_of new).frames; contents = (view_of new).contents }
   pub contents : KeepsContents (view_of old) (view_of new)
 

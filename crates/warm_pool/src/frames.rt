@@ -131,12 +131,18 @@ impl Frames {
         self.contest.set(at, key);
     }
 
-    /// Puts a page without a fix into a frame, whose bytes change places with these.
-    pub(crate) fn put(&mut self, at: usize, page: PageId, key: RankKey, bytes: &mut Vec<u8>)
+    /// Puts a page with so many fixes into a frame, whose bytes change places with these.
+    pub(crate) fn put(
+        &mut self,
+        at: usize,
+        page: PageId,
+        key: RankKey,
+        fixes: u32,
+        bytes: &mut Vec<u8>,
+    )
         requires there { at < length self.old.frames }
         requires room { (nth_frame self.old.frames at).generation < 2 ^ 64 - 1 }
-        requires unfixed { (nth_frame self.old.frames at).fixes ≡ 0 }
-        ensures frames { self.new ≡ record self.old { frames = set self.old.frames at (record { page = Some page; key = Some key; generation = (nth_frame self.old.frames at).generation + 1; fixes = 0; dirty = false; bytes = bytes.old.items }) } }
+        ensures frames { self.new ≡ record self.old { frames = set self.old.frames at (record { page = Some page; key = Some key; generation = (nth_frame self.old.frames at).generation + 1; fixes = fixes; dirty = false; bytes = bytes.old.items }) } }
         ensures given { bytes.new.items ≡ (nth_frame self.old.frames at).bytes }
     {
         let frame = &mut self.slots[at];
@@ -144,6 +150,7 @@ impl Frames {
         frame.page = Some(page);
         frame.key = Some(key);
         frame.generation += 1;
+        frame.fixes = fixes;
         frame.dirty = false;
         let key = leaving(frame);
         self.residents.set(at, Some(page));

@@ -157,13 +157,13 @@ impl Pool {
         ensures refused { IfErr result (λ fault. PinRefused history.now (⟦<Pool as Pooled>⟧.shown self.old) page fault (⟦<Pool as Pooled>⟧.shown self.new)) }
         ensures stays { OnErr result (SameButFailures (⟦<Pool as Pooled>⟧.shown self.old) (⟦<Pool as Pooled>⟧.shown self.new)) }
     {
-        self.check(page)?;
-        if let Some(at) = self.frames.find(page) {
-            return self.add_fix(at);
+        if let Err(fault) = self.check(page) {
+            return Err(fault);
         }
-        let slot = self.bring(page, history)?;
-        self.frames.fix(slot.index as usize);
-        Ok(slot)
+        match self.frames.find(page) {
+            Some(at) => self.add_fix(at),
+            None => self.bring(page, history, 1),
+        }
     }
 
     /// Puts a page into a frame as [`Pool::pin`] does, but without a fix. A resident page stays as it is.
@@ -179,15 +179,19 @@ impl Pool {
         ensures refused { IfErr result (λ fault. LoadRefused history.now (⟦<Pool as Pooled>⟧.shown self.old) page fault (⟦<Pool as Pooled>⟧.shown self.new)) }
         ensures stays { OnErr result (SameButFailures (⟦<Pool as Pooled>⟧.shown self.old) (⟦<Pool as Pooled>⟧.shown self.new)) }
     {
-        self.check(page)?;
-        if let Some(at) = self.frames.find(page) {
-            let generation = self.frames.frame(at).generation;
-            return Ok(Slot {
-                index: at as u32,
-                generation,
-            });
+        if let Err(fault) = self.check(page) {
+            return Err(fault);
         }
-        self.bring(page, history)
+        match self.frames.find(page) {
+            Some(at) => {
+                let generation = self.frames.frame(at).generation;
+                Ok(Slot {
+                    index: at as u32,
+                    generation,
+                })
+            }
+            None => self.bring(page, history, 0),
+        }
     }
 
     /// The page that would leave next: of the resident pages without a fix the one of the greatest backward 2-distance; `None` where
@@ -325,42 +329,55 @@ impl Pool {
         }
     }
 
-    // Puts a page that is in no frame into one.
-    fn bring(&mut self, page: PageId, history: &History) -> Result<Slot, PoolFault>
+    // Puts a page that is in no frame into one, with so many fixes.
+    fn bring(
+        &mut self,
+        page: PageId,
+        history: &History,
+        fixes: u32,
+    ) -> Result<Slot, PoolFault>
         requires pool { IsPool (⟦<Pool as Pooled>⟧.state self.old) }
         requires ranked { RankedBy (⟦<Pool as Pooled>⟧.state self.old) history.now }
         requires known { HasPage (⟦<Pool as Pooled>⟧.shown self.old) page }
         requires absent { IsNowhere (⟦<Pool as Pooled>⟧.state self.old).frames page }
         ensures pool { IsPool (⟦<Pool as Pooled>⟧.state self.new) }
         ensures ranked { RankedBy (⟦<Pool as Pooled>⟧.state self.new) history.now }
-        ensures put { IfOk result (λ slot. PutsIn history.now (⟦<Pool as Pooled>⟧.shown self.old) page 0 slot (⟦<Pool as Pooled>⟧.shown self.new)) }
+        ensures put { IfOk result (λ slot. PutsIn history.now (⟦<Pool as Pooled>⟧.shown self.old) page fixes slot (⟦<Pool as Pooled>⟧.shown self.new)) }
         ensures refused { IfErr result (λ fault. PutRefused history.now (⟦<Pool as Pooled>⟧.shown self.old) page fault (⟦<Pool as Pooled>⟧.shown self.new)) }
     {
         let Some(at) = self.place() else {
             return Err(PoolFault::AllFixed);
         };
-        let Some(generation) = self.frames.frame(at).generation.checked_add(1) else {
-            return Err(PoolFault::FixesFull);
-        };
-        let key = known_key(history, page);
-        self.load_into(at, page, key)?;
-        Ok(Slot {
-            index: at as u32,
-            generation,
-        })
+        let generation = self.frames.frame(at).generation;
+        if generation < u64::MAX {
+            let key = known_key(history, page);
+            if let Err(fault) = self.load_into(at, page, key, fixes) {
+                return Err(fault);
+            }
+            return Ok(Slot {
+                index: at as u32,
+                generation: generation + 1,
+            });
+        }
+        Err(PoolFault::FixesFull)
     }
 
     // Reads a page into the spare buffer, writes back the page that is in the frame, and then lets the two buffers change places.
-    fn load_into(&mut self, at: usize, page: PageId, key: RankKey) -> Result<(), PoolFault>
+    fn load_into(
+        &mut self,
+        at: usize,
+        page: PageId,
+        key: RankKey,
+        fixes: u32,
+    ) -> Result<(), PoolFault>
         requires pool { IsPool (⟦<Pool as Pooled>⟧.state self.old) }
         requires there { at < length (⟦<Pool as Pooled>⟧.state self.old).frames }
-        requires unfixed { (nth_frame (⟦<Pool as Pooled>⟧.state self.old).frames at).fixes ≡ 0 }
         requires room { (nth_frame (⟦<Pool as Pooled>⟧.state self.old).frames at).generation < 2 ^ 64 - 1 }
         requires device { page.dev < length (⟦<Pool as Pooled>⟧.state self.old).devices }
         requires known { page.no < (nth_device (⟦<Pool as Pooled>⟧.state self.old).devices page.dev).pages }
         requires absent { IsNowhere (⟦<Pool as Pooled>⟧.state self.old).frames page }
         ensures pool { IsPool (⟦<Pool as Pooled>⟧.state self.new) }
-        ensures put { OnOk result (LoadsInto (⟦<Pool as Pooled>⟧.state self.old) at page key (⟦<Pool as Pooled>⟧.state self.new)) }
+        ensures put { OnOk result (LoadsInto (⟦<Pool as Pooled>⟧.state self.old) at page key fixes (⟦<Pool as Pooled>⟧.state self.new)) }
         ensures refused { IfErr result (λ fault. LoadFails (⟦<Pool as Pooled>⟧.state self.old) at page fault (⟦<Pool as Pooled>⟧.state self.new)) }
     {
         if read_page(&mut self.devices, page, &mut self.spare).is_err() {
@@ -369,7 +386,7 @@ impl Pool {
         if self.write_back(at).is_err() {
             return Err(PoolFault::WriteBack);
         }
-        self.frames.put(at, page, key, &mut self.spare);
+        self.frames.put(at, page, key, fixes, &mut self.spare);
         Ok(())
     }
 

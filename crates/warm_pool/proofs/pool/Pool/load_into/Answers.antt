@@ -1,6 +1,6 @@
 use Rattle.std.proofs.Common.{◌≡◌, ◌∙◌, sym, ap, refl, length}
 use Rattle.warm_pool.proofs.Loads.{ok_if_no_err, err_if, on_ok, on_err}
-use Rattle.warm_pool.proofs.Arrivals.{Fetched, fetched_pool, fetch_failed, leave_failed, still_there, still_unfixed, still_room, still_size, arrived_pool, loads_into}
+use Rattle.warm_pool.proofs.Arrivals.{Fetched, fetched_pool, fetch_failed, leave_failed, still_there, still_room, still_size, arrived_pool, loads_into}
 use Rattle.warm_pool.proofs.pool.Pool.load_into.Goals as goal
 
 pub returns-then-is_err-clause-pool : goal.returns-then-is_err-clause-pool
@@ -32,18 +32,12 @@ put-requires-clause-room g c =
         (ok_if_no_err _ c.if-is_err.ensures.value) c.write_back.new.self.frames c.args.at c.requires.there (c.read_page.ensures.len ∙ c.requires.pool.spare_size)
         c.write_back.ensures.pool (on_ok _ (ok_if_no_err _ c.if-is_err-2.ensures.value) c.write_back.ensures.done) _ c.requires.room
 
-pub put-requires-clause-unfixed : goal.put-requires-clause-unfixed
-put-requires-clause-unfixed g c =
-    still_unfixed (record { pool = c.requires.pool; device = c.requires.device; number = c.requires.known; nowhere = c.requires.absent; call = c.read_page.ensures.call })
-        (ok_if_no_err _ c.if-is_err.ensures.value) c.write_back.new.self.frames c.args.at c.requires.there (c.read_page.ensures.len ∙ c.requires.pool.spare_size)
-        c.write_back.ensures.pool (on_ok _ (ok_if_no_err _ c.if-is_err-2.ensures.value) c.write_back.ensures.done) c.requires.unfixed
-
 pub returns-clause-pool : goal.returns-clause-pool
 returns-clause-pool g c =
     arrived_pool (record { pool = c.requires.pool; device = c.requires.device; number = c.requires.known; nowhere = c.requires.absent; call = c.read_page.ensures.call })
         (ok_if_no_err _ c.if-is_err.ensures.value) c.write_back.new.self.frames c.args.at c.requires.there (c.read_page.ensures.len ∙ c.requires.pool.spare_size)
         c.write_back.ensures.pool (on_ok _ (ok_if_no_err _ c.if-is_err-2.ensures.value) c.write_back.ensures.done)
-        c.args.key c.write_back.new.self.spare.items c.write_back.ensures.spare c.put.new.self _ c.put.ensures.frames
+        c.args.key c.args.fixes c.write_back.new.self.spare.items c.write_back.ensures.spare c.put.new.self _ c.put.ensures.frames
         (ap length c.put.ensures.given ∙ still_size (record { pool = c.requires.pool; device = c.requires.device; number = c.requires.known; nowhere = c.requires.absent; call = c.read_page.ensures.call })
             (ok_if_no_err _ c.if-is_err.ensures.value) c.write_back.new.self.frames c.args.at c.requires.there (c.read_page.ensures.len ∙ c.requires.pool.spare_size)
             c.write_back.ensures.pool (on_ok _ (ok_if_no_err _ c.if-is_err-2.ensures.value) c.write_back.ensures.done))
@@ -53,4 +47,4 @@ returns-clause-put g c =
     loads_into (record { pool = c.requires.pool; device = c.requires.device; number = c.requires.known; nowhere = c.requires.absent; call = c.read_page.ensures.call })
         (ok_if_no_err _ c.if-is_err.ensures.value) c.write_back.new.self.frames c.args.at c.requires.there (c.read_page.ensures.len ∙ c.requires.pool.spare_size)
         c.write_back.ensures.pool (on_ok _ (ok_if_no_err _ c.if-is_err-2.ensures.value) c.write_back.ensures.done)
-        c.args.key c.write_back.new.self.spare.items c.write_back.ensures.spare c.put.new.self _ c.put.ensures.frames
+        c.args.key c.args.fixes c.write_back.new.self.spare.items c.write_back.ensures.spare c.put.new.self _ c.put.ensures.frames

@@ -1,0 +1,1 @@
+use Rattle.warm_pool.proofs.pool.Pool.bring.Goals as goal
