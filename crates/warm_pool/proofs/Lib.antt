@@ -10,3 +10,5 @@ pub mod Loads
 pub mod WriteBacks
 pub mod Arrivals
 pub mod Pins
+pub mod Writes
+pub mod Opens

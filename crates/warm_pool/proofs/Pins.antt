@@ -24,22 +24,22 @@ pub stays_by : (old new : PoolView) (failures : List ℕ) → new ≡ record old
 stays_by old new failures e = e ∙ ap (λ (f : List ℕ). let v : PoolView = record old { failures = f } in v) (sym (ap (λ v. v.failures) e))
 
 -- a page that was not put into a frame
-pub put_refused : {s t : PoolState} → IsPool s → (h : List Entry) (i : ℕ) (p : PageId) → IsPlace h (view_of s) (Some i) → (nth_frame s.frames i).generation < 2 ^ 64 - 1
+pub put_refused : {s t : PoolState} → IsPool s → IsPool t → (h : List Entry) (i : ℕ) (p : PageId) → IsPlace h (view_of s) (Some i) → (nth_frame s.frames i).generation < 2 ^ 64 - 1
     → (why : PoolFault) → LoadFails s i p why t → PutRefused h (view_of s) p why (view_of t)
-put_refused {s} {t} w h i p place room ReadFault l =
+put_refused {s} {t} w v h i p place room ReadFault l =
     ((i, record { place = place; room = subst (λ f. f.generation < 2 ^ 64 - 1) (sym (frame_seen s i)) room }), l.1)
-put_refused {s} {t} w h i p place room WriteBack l =
+put_refused {s} {t} w v h i p place room WriteBack l =
     (i, l.1.0, record { place = place; room = subst (λ f. f.generation < 2 ^ 64 - 1) (sym (frame_seen s i)) room }, ap (λ f. f.page) (frame_seen s i) ∙ l.1.1, l.1.2)
-put_refused {s} {t} w h i p place room Memory l = absurd l
-put_refused {s} {t} w h i p place room BadFrames l = absurd l
-put_refused {s} {t} w h i p place room SizeDiffers l = absurd l
-put_refused {s} {t} w h i p place room NoDevice l = absurd l
-put_refused {s} {t} w h i p place room NoPage l = absurd l
-put_refused {s} {t} w h i p place room AllFixed l = absurd l
-put_refused {s} {t} w h i p place room FixesFull l = absurd l
-put_refused {s} {t} w h i p place room OutOfPage l = absurd l
-put_refused {s} {t} w h i p place room Fixed l = absurd l
-put_refused {s} {t} w h i p place room Fault l = absurd l
+put_refused {s} {t} w v h i p place room Memory l = absurd l
+put_refused {s} {t} w v h i p place room BadFrames l = absurd l
+put_refused {s} {t} w v h i p place room SizeDiffers l = absurd l
+put_refused {s} {t} w v h i p place room NoDevice l = absurd l
+put_refused {s} {t} w v h i p place room NoPage l = absurd l
+put_refused {s} {t} w v h i p place room AllFixed l = absurd l
+put_refused {s} {t} w v h i p place room FixesFull l = absurd l
+put_refused {s} {t} w v h i p place room OutOfPage l = absurd l
+put_refused {s} {t} w v h i p place room Fixed l = absurd l
+put_refused {s} {t} w v h i p place room Fault l = absurd l
 
 same_frames : (s t : PoolState) (i : ℕ) (p : PageId) (why : PoolFault) → LoadFails s i p why t → t.frames ≡ s.frames
 same_frames s t i p ReadFault l = l.0
@@ -142,34 +142,34 @@ put_stays h old p new Fixed x = absurd x
 put_stays h old p new Fault x = absurd x
 
 -- the outcome of a pin, from that of its last step
-module _ (h : List Entry) (old new : PoolView) (p : PageId) where
-  pub pin_adds : HasPage old p → (r : Result Slot PoolFault) → IfOk r (λ slot. AddsFix old p slot new) → IfOk r (λ slot. Pinned h old p slot new)
-  pin_adds has (Ok slot) x = (has, inl x)
-  pin_adds has (Err why) x = tt
+module _ {s t : PoolState} (w : IsPool s) (v : IsPool t) (h : List Entry) (p : PageId) (has : HasPage (view_of s) p) where
+  pub pin_adds : (r : Result Slot PoolFault) → IfOk r (λ slot. AddsFix (view_of s) p slot (view_of t)) → IfOk r (λ slot. Pinned h (view_of s) p slot (view_of t))
+  pin_adds (Ok slot) x = (has, inl x)
+  pin_adds (Err why) x = tt
 
-  pub pin_puts : HasPage old p → (r : Result Slot PoolFault) → IfOk r (λ slot. PutsIn h old p 1 slot new) → IfOk r (λ slot. Pinned h old p slot new)
-  pin_puts has (Ok slot) x = (has, inr x)
-  pin_puts has (Err why) x = tt
+  pub pin_puts : (r : Result Slot PoolFault) → IfOk r (λ slot. PutsIn h (view_of s) p 1 slot (view_of t)) → IfOk r (λ slot. Pinned h (view_of s) p slot (view_of t))
+  pin_puts (Ok slot) x = (has, inr x)
+  pin_puts (Err why) x = tt
 
-  pub pin_holds : (r : Result Slot PoolFault) → IfOk r (λ slot. PutsIn h old p 1 slot new) → IfOk r (λ slot. Holds new slot)
-  pin_holds (Ok slot) x = puts_holds h old p slot new x
+  pub pin_holds : (r : Result Slot PoolFault) → IfOk r (λ slot. PutsIn h (view_of s) p 1 slot (view_of t)) → IfOk r (λ slot. Holds (view_of t) slot)
+  pin_holds (Ok slot) x = puts_holds h (view_of s) p slot (view_of t) x
   pin_holds (Err why) x = tt
 
-  pub pin_put_refused : HasPage old p → IsAbsent old p → (r : Result Slot PoolFault) → IfErr r (λ why. PutRefused h old p why new) → IfErr r (λ why. PinRefused h old p why new)
-  pin_put_refused has away (Ok slot) x = tt
-  pin_put_refused has away (Err why) x = pin_refused h old p new why (load_refused h old p new has away why x)
+  pub load_puts : (r : Result Slot PoolFault) → IfOk r (λ slot. PutsIn h (view_of s) p 0 slot (view_of t)) → IfOk r (λ slot. Loaded h (view_of s) p slot (view_of t))
+  load_puts (Ok slot) x = (has, inr x)
+  load_puts (Err why) x = tt
 
-  pub load_put_refused : HasPage old p → IsAbsent old p → (r : Result Slot PoolFault) → IfErr r (λ why. PutRefused h old p why new) → IfErr r (λ why. LoadRefused h old p why new)
-  load_put_refused has away (Ok slot) x = tt
-  load_put_refused has away (Err why) x = load_refused h old p new has away why x
+  pub pin_put_refused : IsNowhere s.frames p → (r : Result Slot PoolFault) → IfErr r (λ why. PutRefused h (view_of s) p why (view_of t)) → IfErr r (λ why. PinRefused h (view_of s) p why (view_of t))
+  pin_put_refused away (Ok slot) x = tt
+  pin_put_refused away (Err why) x = pin_refused h (view_of s) p (view_of t) why (load_refused h (view_of s) p (view_of t) has (absent_seen s p away) why x)
 
-  pub load_puts : HasPage old p → (r : Result Slot PoolFault) → IfOk r (λ slot. PutsIn h old p 0 slot new) → IfOk r (λ slot. Loaded h old p slot new)
-  load_puts has (Ok slot) x = (has, inr x)
-  load_puts has (Err why) x = tt
+  pub load_put_refused : IsNowhere s.frames p → (r : Result Slot PoolFault) → IfErr r (λ why. PutRefused h (view_of s) p why (view_of t)) → IfErr r (λ why. LoadRefused h (view_of s) p why (view_of t))
+  load_put_refused away (Ok slot) x = tt
+  load_put_refused away (Err why) x = load_refused h (view_of s) p (view_of t) has (absent_seen s p away) why x
 
-  pub stays_put : (r : Result Slot PoolFault) → IfErr r (λ why. PutRefused h old p why new) → OnErr r (SameButFailures old new)
+  pub stays_put : (r : Result Slot PoolFault) → IfErr r (λ why. PutRefused h (view_of s) p why (view_of t)) → OnErr r (SameButFailures (view_of s) (view_of t))
   stays_put (Ok slot) x = tt
-  stays_put (Err why) x = put_stays h old p new why x
+  stays_put (Err why) x = put_stays h (view_of s) p (view_of t) why x
 
 -- a page with as many fixes as can be
 pub pin_full : {s t : PoolState} → IsPool s → IsPool t → (h : List Entry) (p : PageId) (i : ℕ) → HasPage (view_of s) p → i < length s.frames → (nth_frame s.frames i).page ≡ Some p
