@@ -12,3 +12,4 @@ pub mod Arrivals
 pub mod Pins
 pub mod Writes
 pub mod Opens
+pub mod Renewals

@@ -11,10 +11,10 @@ use Rattle.warm_devices.specs.Device.{DeviceState}
 use Rattle.warm_pool.specs.declared.slot.Slot.{Slot}
 use Rattle.warm_pool.specs.Frames.{FrameState, FramesState, nth_frame, fresh_frame}
 use Rattle.warm_pool.specs.State.{PoolState, IsPool, RankedBy, nth_device, stored, is_page, bytes_in, bytes_of, contents_of, frame_view, device_view, view_of}
-use Rattle.warm_pool.specs.View.{PoolView, FrameView, frame_at, contents_at, HasPage}
-use Rattle.warm_pool.specs.Calls.{patched, Written}
+use Rattle.warm_pool.specs.View.{PoolView, FrameView, frame_at, contents_at, HasPage, Holds}
+use Rattle.warm_pool.specs.Calls.{patched, Written, IsRead}
 use Rattle.warm_pool.proofs.Bytes.{page_found, bytes_held, contents_seen, frame_seen, device_seen}
-use Rattle.warm_pool.proofs.Keeps.{Fits, pool_from, set_keeps_pool, ranked_set}
+use Rattle.warm_pool.proofs.Keeps.{Fits, pool_from, set_keeps_pool, ranked_set, held_fixed, fixed_some}
 use Rattle.warm_pool.proofs.PoolSteps.{some_page}
 
 pub length-patched : (old : List ℕ) (at : ℕ) (put : List ℕ) → at + length put ≤ length old → length (patched old at put) ≡ length old
@@ -36,6 +36,9 @@ bytes_other (f ∷ fs) q others (suc i) g a apart = ap (λ t. cond (is_page q f.
 -- the frame with these bytes written from `at` on
 abbrev pub overwritten : FrameState → ℕ → List ℕ → FrameState
 overwritten f at put = record f { dirty = true; bytes = patched f.bytes at put }
+
+abbrev pub after : FramesState → ℕ → ℕ → List ℕ → FramesState
+after old i at put = record old { frames = set old.frames i (overwritten (nth_frame old.frames i) at put) }
 
 module _ (old new : FramesState) {spare : ℕ} {devices : List DeviceState} (w : IsPool (pool_from old spare devices)) (i at : ℕ) (put : List ℕ)
     (is : new ≡ record old { frames = set old.frames i (overwritten (nth_frame old.frames i) at put) }) (there : i < length old.frames)
@@ -75,30 +78,41 @@ module _ (old new : FramesState) {spare : ℕ} {devices : List DeviceState} (w :
       page = page.0;
       holds = ap (λ n. (frame_at (view_of (pool_from old spare devices)) n).page) at_slot ∙ ap (λ f. f.page) (frame_seen (pool_from old spare devices) i) ∙ page.1;
       within = within;
-      becomes = ap (λ (fs : List FrameView). let v : PoolView = record (view_of (pool_from after spare devices)) { frames = fs } in v) same_frames;
+      becomes = ap (λ (fs : List FrameView). let v : PoolView = record (view_of (pool_from (after old i at put) spare devices)) { frames = fs } in v) same_frames;
       bytes = seen_new page.0 page.1 ∙ ap (λ l. patched l at put) (sym (seen_old page.0 page.1));
       others = λ q has ne.
           let d : q.dev < length devices = subst (λ n. q.dev < n) (length-map devices device_view) has.device in
           let n : q.no < (nth_device devices q.dev).pages = subst (λ x. q.no < x.pages) (device_seen (pool_from old spare devices) q.dev) has.number in
-          contents_seen (pool_from after spare devices) q d n
+          contents_seen (pool_from (after old i at put) spare devices) q d n
           ∙ bytes_other old.frames q (stored devices q) i (overwritten (nth_frame old.frames i) at put) refl (λ e. ne (same_Some q page.0 (sym e ∙ page.1)))
           ∙ sym (contents_seen (pool_from old spare devices) q d n);
     })
     where
-      abbrev after : FramesState
-      after = record old { frames = set old.frames i (overwritten (nth_frame old.frames i) at put) }
-
       page : (p : PageId) × ((nth_frame old.frames i).page ≡ Some p)
       page = some_page (nth_frame old.frames i).page some
 
-      after_frame : nth_frame after.frames i ≡ overwritten (nth_frame old.frames i) at put
+      after_frame : nth_frame (after old i at put).frames i ≡ overwritten (nth_frame old.frames i) at put
       after_frame = get_or-set_same old.frames i (overwritten (nth_frame old.frames i) at put) (fresh_frame []) there
 
       seen_old : (p : PageId) (e : (nth_frame old.frames i).page ≡ Some p) → contents_at (view_of (pool_from old spare devices)) p ≡ (nth_frame old.frames i).bytes
       seen_old p e = contents_seen (pool_from old spare devices) p (w.has_device i p e) (w.has_page i p e) ∙ bytes_held (pool_from old spare devices) i p (stored devices p) w e
 
-      seen_new : (p : PageId) (e : (nth_frame old.frames i).page ≡ Some p) → contents_at (view_of (pool_from after spare devices)) p ≡ patched (nth_frame old.frames i).bytes at put
+      seen_new : (p : PageId) (e : (nth_frame old.frames i).page ≡ Some p) → contents_at (view_of (pool_from (after old i at put) spare devices)) p ≡ patched (nth_frame old.frames i).bytes at put
       seen_new p e =
-          contents_seen (pool_from after spare devices) p (w.has_device i p e) (w.has_page i p e)
-          ∙ bytes_held (pool_from after spare devices) i p (stored devices p) written_pool (ap (λ f. f.page) after_frame ∙ e)
+          contents_seen (pool_from (after old i at put) spare devices) p (w.has_device i p e) (w.has_page i p e)
+          ∙ bytes_held (pool_from (after old i at put) spare devices) i p (stored devices p) written_pool (ap (λ f. f.page) after_frame ∙ e)
           ∙ ap (λ f. f.bytes) after_frame
+
+-- bytes that were read of a fixed page
+pub read_seen : {s : PoolState} → IsPool s → (slot : Slot) → Holds (view_of s) slot → (at : ℕ) (got src : List ℕ) (n m : ℕ)
+    → src ≡ (nth_frame s.frames slot.index).bytes → got ≡ take m (drop at src) → m ≡ n → length got ≡ n → at + n ≤ s.page_size → IsRead (view_of s) slot at got
+read_seen {s} w slot h at got src n m src_is got_is m_is len within =
+    let page = some_page (nth_frame s.frames slot.index).page (fixed_some w slot.index (held_fixed w slot h)) in
+    let seen : contents_at (view_of s) page.0 ≡ (nth_frame s.frames slot.index).bytes =
+        contents_seen s page.0 (w.has_device slot.index page.0 page.1) (w.has_page slot.index page.0 page.1) ∙ bytes_held s slot.index page.0 (stored s.devices page.0) w page.1 in
+    record {
+      page = page.0;
+      holds = ap (λ f. f.page) (frame_seen s slot.index) ∙ page.1;
+      within = subst (λ k. at + k ≤ s.page_size) (sym len) within;
+      bytes = got_is ∙ ap (λ k. take k (drop at src)) (m_is ∙ sym len) ∙ ap (λ l. take (length got) (drop at l)) (src_is ∙ sym seen);
+    }

@@ -5,7 +5,7 @@ use Rattle.warm_rank.specs.declared.RankKey.{RankKey}
 use Rattle.warm_devices.specs.Device.{DeviceState, SameShape, page_at}
 use Rattle.warm_pool.specs.declared.fault.PoolFault.{PoolFault}
 use Rattle.warm_pool.specs.declared.fault.PoolFault.TheVariants.{ReadFault, WriteBack}
-use Rattle.warm_pool.specs.Frames.{FrameState, FramesState, nth_frame, cleaned}
+use Rattle.warm_pool.specs.Frames.{FrameState, nth_frame, cleaned}
 use Rattle.warm_pool.specs.State.{PoolState, nth_device, stored, view_of, IsNowhere}
 use Rattle.warm_pool.specs.View.{PoolView}
 use Rattle.warm_pool.specs.Calls.{FailsAt, KeepsContents}
@@ -46,8 +46,7 @@ LoadFails old i p WriteBack new = (new.frames ≡ old.frames) × ((q : PageId) �
 LoadFails old i p why new = ⊥
 
 -- the frame that holds the page, if one does, has this rank
-pub record Renews (old : FramesState) (p : PageId) (key : RankKey) (new : FramesState) : Type 0 where
-  pub size : new.page_size ≡ old.page_size
-  pub count : length new.frames ≡ length old.frames
-  pub here : (i : ℕ) → (nth_frame old.frames i).page ≡ Some p → nth_frame new.frames i ≡ record (nth_frame old.frames i) { key = Some key }
-  pub others : (i : ℕ) → (nth_frame old.frames i).page ≢ Some p → nth_frame new.frames i ≡ nth_frame old.frames i
+pub record Renews (old : PoolState) (p : PageId) (key : RankKey) (new : PoolState) : Type 0 where
+  pub pages : (i : ℕ) → (nth_frame new.frames i).page ≡ (nth_frame old.frames i).page
+  pub here : (i : ℕ) → (nth_frame old.frames i).page ≡ Some p → (nth_frame new.frames i).key ≡ Some key
+  pub others : (i : ℕ) → (nth_frame old.frames i).page ≢ Some p → (nth_frame new.frames i).key ≡ (nth_frame old.frames i).key

@@ -263,7 +263,20 @@ impl Pool {
         ensures same { ⟦<Pool as Pooled>⟧.shown self.new ≡ ⟦<Pool as Pooled>⟧.shown self.old }
     {
         for page in pages {
-            renew(&mut self.frames, history, *page);
+            self.renew(history, *page);
+        }
+    }
+
+    // Renews the rank of a page, where it is resident.
+    fn renew(&mut self, history: &History, page: PageId)
+        requires pool { IsPool (⟦<Pool as Pooled>⟧.state self.old) }
+        ensures pool { IsPool (⟦<Pool as Pooled>⟧.state self.new) }
+        ensures same { ⟦<Pool as Pooled>⟧.shown self.new ≡ ⟦<Pool as Pooled>⟧.shown self.old }
+        ensures keys { Renews (⟦<Pool as Pooled>⟧.state self.old) page (rank_key page (hist (refs history.now) page)) (⟦<Pool as Pooled>⟧.state self.new) }
+    {
+        if let Some(at) = self.frames.find(page) {
+            let key = known_key(history, page);
+            self.frames.rank(at, key);
         }
     }
 
@@ -448,13 +461,4 @@ fn known_key(history: &History, page: PageId) -> RankKey
 {
     let _whole = history.len();
     key_of(page, history.get(page))
-}
-
-// Renews the rank of a page, where it is resident.
-fn renew(frames: &mut Frames, history: &History, page: PageId)
-    ensures { Renews frames.old page (rank_key page (hist (refs history.now) page)) frames.new }
-{
-    if let Some(at) = frames.find(page) {
-        frames.rank(at, known_key(history, page));
-    }
 }

@@ -1,0 +1,18 @@
+use Rattle.std.proofs.Common.{arith}
+use Rattle.warm_pool.proofs.Renewals.{none_renewed, one_renewed, all_renewed}
+use Rattle.warm_pool.proofs.pool.Pool.refresh.Goals as goal
+
+pub loop-page-init : goal.loop-page-init
+loop-page-init g c = none_renewed c.requires.pool _ _
+
+pub loop-page-preserved : goal.loop-page-preserved
+loop-page-preserved g c = ?
+
+pub returns-clause-pool : goal.returns-clause-pool
+returns-clause-pool g c = c.loop-page.invariant.pool
+
+pub returns-clause-same : goal.returns-clause-same
+returns-clause-same g c = c.loop-page.invariant.same
+
+pub returns-clause-ranked : goal.returns-clause-ranked
+returns-clause-ranked g c = ?
