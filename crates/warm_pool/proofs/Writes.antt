@@ -18,7 +18,7 @@ use Rattle.warm_pool.proofs.Keeps.{Fits, pool_from, set_keeps_pool, ranked_set, 
 use Rattle.warm_pool.proofs.PoolSteps.{some_page}
 
 pub length-patched : (old : List ℕ) (at : ℕ) (put : List ℕ) → at + length put ≤ length old → length (patched old at put) ≡ length old
-length-patched old at put h = omega (arith, length-append (take at old) (put ++ drop (at + length put) old), length-append put (drop (at + length put) old), length-take at old, length-drop (at + length put) old)
+length-patched old at put h = simp (length-append, length-take, length-drop) (omega arith)
 
 -- a frame that changed, but not its page, has no bytes of another page
 pub bytes_other : (frames : List FrameState) (q : PageId) (others : List ℕ) (i : ℕ) (g : FrameState)
