@@ -1,2 +1,10 @@
+pub mod Frames
 pub mod Chains
 pub mod Residents
+pub mod View
+pub mod State
+pub mod DeviceCalls
+pub mod Flushes
+pub mod Calls
+pub mod Steps
+pub mod Faults
