@@ -6,5 +6,6 @@ pub mod State
 pub mod DeviceCalls
 pub mod Flushes
 pub mod Calls
+pub mod Closing
 pub mod Steps
 pub mod Faults

@@ -10,6 +10,7 @@
 //! kept by it. Boxed devices are handed in by the caller; the pool drops one only where nothing waits in it.
 #![tactic(auto)]
 
+mod close;
 mod device_list;
 mod fault;
 mod flush;
