@@ -2,13 +2,16 @@ pub mod Bytes
 pub mod ChainLemmas
 pub mod ClosingLemmas
 pub mod DeviceSteps
+pub mod EmptyLemmas
 pub mod FlushLemmas
 pub mod Keeps
 pub mod MoveLemmas
 pub mod PlaceLemmas
 pub mod PoolSteps
+pub mod RetireLemmas
 pub mod SettleLemmas
 pub mod Slots
 pub mod VacateLemmas
 pub mod Loads
 pub mod WriteBacks
+pub mod Arrivals

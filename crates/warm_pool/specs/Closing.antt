@@ -1,8 +1,9 @@
 -- Writing back, emptying and retiring: what is done to each frame that is concerned, which are those of one device or all.
-use Rattle.std.specs.Prelude.{◌≡◌, ℕ, ◌<◌, ◌++◌, Bool, true, IsTrue, List, length, map, set, take, drop, Option, Some, None, if◌then◌else◌}
+use Rattle.std.specs.Prelude.{◌≡◌, ℕ, ◌<◌, ◌++◌, Bool, true, false, IsTrue, List, length, map, set, take, drop, Option, Some, None, if◌then◌else◌}
 use Rattle.warm_stamps.specs.declared.PageId.{PageId}
+use Rattle.warm_devices.specs.Device.{DeviceState}
 use Rattle.warm_pool.specs.Frames.{FrameState, nth_frame, cleaned, vacated}
-use Rattle.warm_pool.specs.State.{PoolState, view_of}
+use Rattle.warm_pool.specs.State.{PoolState, nth_device, view_of}
 use Rattle.warm_pool.specs.Calls.{FailsAt, is_on}
 use Rattle.warm_pool.specs.Steps.{KeptDevices}
 
@@ -52,3 +53,15 @@ pub record IsFixedIn (which : Option ℕ) (frames : List FrameState) : Type 0 wh
 
 abbrev pub AreUnfixed : Option ℕ → List FrameState → Type 0
 AreUnfixed which frames = (i : ℕ) → IsTrue (is_chosen which (nth_frame frames i).page) → (nth_frame frames i).fixes ≡ 0
+
+-- device dev of a pool may leave for one with pages of this size: none of its pages is fixed, they went to it, and nothing waits on it
+pub record MakesWay (old : PoolState) (dev page_size : ℕ) (new : PoolState) : Type 0 where
+  pub there : dev < length old.devices
+  pub size : page_size ≡ old.page_size
+  pub unfixed : AreUnfixed (Some dev) old.frames
+  pub down : PutsDown (cleaned_chosen (Some dev) (length old.frames) old.frames) old new
+  pub quiet : (nth_device new.devices dev).waiting ≡ false
+
+-- the pool once another device has taken the place of device dev
+abbrev pub retired : PoolState → ℕ → DeviceState → PoolState
+retired s dev device = record s { frames = vacated_from (Some dev) 0 s.frames; devices = set s.devices dev device }

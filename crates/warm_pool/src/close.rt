@@ -1,19 +1,20 @@
 //! Writing a pool's pages back, and emptying it.
 ghost use Rattle.std.specs.Prelude.{◌≡◌, ℕ, List, ◌<◌, length, set, map, true, false, Some, None, Option, IsTrue, ◌↔◌, OnOk, OnErr, IfErr, MatchBool};
 ghost use Rattle.warm_history.specs.declared.hist.Entry.{Entry};
+ghost use Rattle.warm_devices.specs.Device.{DeviceState};
 ghost use Rattle.warm_pool.specs.Frames.{FramesState, nth_frame};
-ghost use Rattle.warm_pool.specs.State.{PoolState, IsPool, IsSettled, RankedBy};
+ghost use Rattle.warm_pool.specs.State.{PoolState, IsPool, IsSettled, RankedBy, nth_device};
 ghost use Rattle.warm_pool.specs.Steps.{CleanFails};
-ghost use Rattle.warm_pool.specs.Calls.{EmptyRefused, Emptied, IsUnfixed, WriteBackFails};
+ghost use Rattle.warm_pool.specs.Calls.{EmptyRefused, Emptied, FailsAt, IsUnfixed, RetireRefused, Retired, WriteBackFails};
 ghost use Rattle.warm_pool.specs.Flushes.{NoneWaits};
-ghost use Rattle.warm_pool.specs.Closing.{AreUnfixed, IsFixedIn, PutsDown, StopsAt, clean_if, cleaned_chosen, is_chosen, vacate_if, vacated_from};
+ghost use Rattle.warm_pool.specs.Closing.{AreUnfixed, IsFixedIn, MakesWay, PutsDown, StopsAt, clean_if, cleaned_chosen, is_chosen, retired, vacate_if, vacated_from};
 ghost use Rattle.warm_pool.specs.declared.fault.PoolFault.TheVariants.{Fault};
 
-use crate::fault::PoolFault;
-use crate::flush::{flush_all, let_all_go};
+use crate::fault::{PoolFault, Unretired};
+use crate::flush::{exchange, flush_all, flush_device, let_all_go};
 use crate::frames::Frames;
 use crate::pool::{Pool, Pooled};
-use warm_devices::DeviceFault;
+use warm_devices::{DeviceFault, PageDevice};
 use warm_stamps::PageId;
 
 /// Why a pool was not closed, and the pool.
@@ -83,6 +84,85 @@ impl Pool {
             }
             Err(fault) => Err(Unclosed { fault, pool: self }),
         }
+    }
+
+    /// Lets another device take the place of one. What was written to the pages of the old one goes to it, it is flushed, its pages leave
+    /// their frames, and it is dropped, with nothing waiting on it. The new device may have another number of pages.
+    ///
+    /// # Errors
+    /// In this order; each hands the new device back, and leaves pages, fixes and contents as they were.
+    /// - `NoDevice`: there is no device of this number.
+    /// - `SizeDiffers`: the pages of the new device have another size than those of the pool.
+    /// - `Fixed`: a page of the device is fixed.
+    /// - `Fault`: a write or the flush of the device failed, whose count of failures has grown.
+    pub fn retire(
+        &mut self,
+        dev: u16,
+        device: Box<dyn PageDevice + Send>,
+    ) -> Result<(), Unretired>
+        requires pool { IsPool (⟦<Pool as Pooled>⟧.state self.old) }
+        ensures pool { IsPool (⟦<Pool as Pooled>⟧.state self.new) }
+        ensures retired { OnOk result (Retired (⟦<Pool as Pooled>⟧.shown self.old) dev (state device) (⟦<Pool as Pooled>⟧.shown self.new)) }
+        ensures refused { IfErr result (λ unretired. RetireRefused (⟦<Pool as Pooled>⟧.shown self.old) dev (state device) unretired.fault (⟦<Pool as Pooled>⟧.shown self.new)) }
+        ensures given_back { IfErr result (λ unretired. unretired.device ≡ device) }
+        ensures ranked { (h : List Entry) → RankedBy (⟦<Pool as Pooled>⟧.state self.old) h → RankedBy (⟦<Pool as Pooled>⟧.state self.new) h }
+    {
+        match self.make_way(dev, device.page_size()) {
+            Ok(()) => {
+                self.take_in(dev, device);
+                Ok(())
+            }
+            Err(fault) => Err(Unretired { fault, device }),
+        }
+    }
+
+    // Writes the pages of a device back and flushes it, where a device with pages of this size may take its place.
+    fn make_way(&mut self, dev: u16, page_size: usize) -> Result<(), PoolFault>
+        requires pool { IsPool (⟦<Pool as Pooled>⟧.state self.old) }
+        ensures pool { IsPool (⟦<Pool as Pooled>⟧.state self.new) }
+        ensures way { OnOk result (MakesWay (⟦<Pool as Pooled>⟧.state self.old) dev page_size (⟦<Pool as Pooled>⟧.state self.new)) }
+        ensures refused { IfErr result (λ fault. (device : DeviceState) → device.page_size ≡ page_size → RetireRefused (⟦<Pool as Pooled>⟧.shown self.old) dev device fault (⟦<Pool as Pooled>⟧.shown self.new)) }
+        ensures ranked { (h : List Entry) → RankedBy (⟦<Pool as Pooled>⟧.state self.old) h → RankedBy (⟦<Pool as Pooled>⟧.state self.new) h }
+    {
+        if dev as usize >= self.devices.len() {
+            return Err(PoolFault::NoDevice);
+        }
+        if page_size != self.frames.page_size() {
+            return Err(PoolFault::SizeDiffers);
+        }
+        if is_fixed(&self.frames, Some(dev)) {
+            return Err(PoolFault::Fixed);
+        }
+        match self.settle_device(dev) {
+            Ok(()) => Ok(()),
+            Err(_) => Err(PoolFault::Fault),
+        }
+    }
+
+    // Writes the pages of one device back and flushes it.
+    fn settle_device(&mut self, dev: u16) -> Result<(), DeviceFault>
+        requires pool { IsPool (⟦<Pool as Pooled>⟧.state self.old) }
+        requires there { dev < length (⟦<Pool as Pooled>⟧.state self.old).devices }
+        ensures pool { IsPool (⟦<Pool as Pooled>⟧.state self.new) }
+        ensures down { OnOk result (PutsDown (cleaned_chosen (Some dev) (length (⟦<Pool as Pooled>⟧.state self.old).frames) (⟦<Pool as Pooled>⟧.state self.old).frames) (⟦<Pool as Pooled>⟧.state self.old) (⟦<Pool as Pooled>⟧.state self.new)) }
+        ensures flushed { OnOk result ((nth_device (⟦<Pool as Pooled>⟧.state self.new).devices dev).waiting ≡ false) }
+        ensures stopped { OnErr result (FailsAt (⟦<Pool as Pooled>⟧.shown self.old) dev (⟦<Pool as Pooled>⟧.shown self.new)) }
+        ensures ranked { (h : List Entry) → RankedBy (⟦<Pool as Pooled>⟧.state self.old) h → RankedBy (⟦<Pool as Pooled>⟧.state self.new) h }
+    {
+        self.clean_chosen(Some(dev))?;
+        flush_device(&mut self.devices, dev as usize)?;
+        Ok(())
+    }
+
+    // Lets a device take the place of one on which nothing waits, and whose pages leave their frames.
+    fn take_in(&mut self, dev: u16, device: Box<dyn PageDevice + Send>)
+        requires there { dev < length (⟦<Pool as Pooled>⟧.state self.old).devices }
+        requires unfixed { AreUnfixed (Some dev) (⟦<Pool as Pooled>⟧.state self.old).frames }
+        requires quiet { (nth_device (⟦<Pool as Pooled>⟧.state self.old).devices dev).waiting ≡ false }
+        ensures { ⟦<Pool as Pooled>⟧.state self.new ≡ retired (⟦<Pool as Pooled>⟧.state self.old) dev (state device) }
+    {
+        vacate_chosen(&mut self.frames, Some(dev));
+        exchange(&mut self.devices, dev as usize, device);
     }
 
     // Writes all pages back and flushes all devices, where no page is fixed.

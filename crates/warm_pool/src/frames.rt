@@ -42,7 +42,7 @@ impl Frames {
     {
         let mut slots = Vec::with_capacity(alloc, frames)?;
         for _ in 0..frames {
-            slots.push_reserved(fresh(alloc, page_size)?);
+            slots.push(fresh(alloc, page_size)?)?;
         }
         let residents = Residents::new(alloc, frames)?;
         let contest = Contest::new(alloc, frames)?;

@@ -32,10 +32,10 @@ const MOST: usize = 65_536;
 ///
 /// A pool that is dropped settles its devices by their own drops, but loses what only its dirty frames hold: close it instead.
 pub struct Pool {
-    frames: Frames,
-    devices: Vec<Box<dyn PageDevice + Send>>,
+    pub(crate) frames: Frames,
+    pub(crate) devices: Vec<Box<dyn PageDevice + Send>>,
     // A page is first read into this buffer, so that a failed read changes no frame.
-    spare: Vec<u8>,
+    pub(crate) spare: Vec<u8>,
 }
 
 /// What a pool is to a contract.
@@ -105,8 +105,10 @@ impl Pool {
         requires pool { IsPool (⟦<Pool as Pooled>⟧.state self.now) }
         ensures { IsTrue result ↔ HasPage (⟦<Pool as Pooled>⟧.shown self.now) page }
     {
-        let device = page.dev as usize;
-        device < self.devices.len() && page.no < pages_of(&self.devices, device)
+        match self.check(page) {
+            Ok(()) => true,
+            Err(_) => false,
+        }
     }
 
     /// Whether the page is in a frame.
@@ -114,7 +116,10 @@ impl Pool {
         requires pool { IsPool (⟦<Pool as Pooled>⟧.state self.now) }
         ensures { IsTrue result ↔ IsResident (⟦<Pool as Pooled>⟧.shown self.now) page }
     {
-        self.frames.find(page).is_some()
+        match self.frames.find(page) {
+            Some(_) => true,
+            None => false,
+        }
     }
 
     /// Whether the slot's frame has a fix, and no other page was put into it since the slot was given.
@@ -191,7 +196,9 @@ impl Pool {
         requires pool { IsPool (⟦<Pool as Pooled>⟧.state self.now) }
         ensures { (h : List Entry) → RankedBy (⟦<Pool as Pooled>⟧.state self.now) h → IsVictim (refs h) (unfixed_pages (⟦<Pool as Pooled>⟧.shown self.now)) result }
     {
-        let at = self.frames.least()?;
+        let Some(at) = self.frames.least() else {
+            return None;
+        };
         self.frames.frame(at).page
     }
 
@@ -260,6 +267,7 @@ impl Pool {
     fn check(&self, page: PageId) -> Result<(), PoolFault>
         requires pool { IsPool (⟦<Pool as Pooled>⟧.state self.now) }
         ensures known { OnOk result (HasPage (⟦<Pool as Pooled>⟧.shown self.now) page) }
+        ensures unknown { OnErr result (HasPage (⟦<Pool as Pooled>⟧.shown self.now) page → ⊥) }
         ensures load { IfErr result (λ fault. (h : List Entry) → LoadRefused h (⟦<Pool as Pooled>⟧.shown self.now) page fault (⟦<Pool as Pooled>⟧.shown self.now)) }
         ensures pin { IfErr result (λ fault. (h : List Entry) → PinRefused h (⟦<Pool as Pooled>⟧.shown self.now) page fault (⟦<Pool as Pooled>⟧.shown self.now)) }
     {
@@ -294,14 +302,14 @@ impl Pool {
     {
         let frame = self.frames.frame(at);
         let generation = frame.generation;
-        if frame.fixes == u32::MAX {
-            return Err(PoolFault::FixesFull);
+        if frame.fixes < u32::MAX {
+            self.frames.fix(at);
+            return Ok(Slot {
+                index: at as u32,
+                generation,
+            });
         }
-        self.frames.fix(at);
-        Ok(Slot {
-            index: at as u32,
-            generation,
-        })
+        Err(PoolFault::FixesFull)
     }
 
     // The frame into which a page goes that comes in.
@@ -331,15 +339,14 @@ impl Pool {
         let Some(at) = self.place() else {
             return Err(PoolFault::AllFixed);
         };
-        let generation = self.frames.frame(at).generation;
-        if generation == u64::MAX {
+        let Some(generation) = self.frames.frame(at).generation.checked_add(1) else {
             return Err(PoolFault::FixesFull);
-        }
+        };
         let key = known_key(history, page);
         self.load_into(at, page, key)?;
         Ok(Slot {
             index: at as u32,
-            generation: generation + 1,
+            generation,
         })
     }
 
@@ -382,7 +389,9 @@ impl Pool {
         if !frame.dirty {
             return Ok(());
         }
-        write_page(&mut self.devices, page, &frame.bytes)?;
+        if write_page(&mut self.devices, page, &frame.bytes).is_err() {
+            return Err(DeviceFault::Write);
+        }
         self.frames.clean(at);
         Ok(())
     }
