@@ -5,21 +5,25 @@ use Rattle.std.proofs.lemmas.Bool.{cases_eq, cases_Bool, eqb-true, eq-eqb, false
 use Rattle.std.proofs.lemmas.List.{length-map, length-set, map-set, set-get_or}
 use Rattle.std.proofs.Math.ListN.{get_or-map as mapped}
 use Rattle.warm_stamps.specs.declared.PageId.{PageId}
+use Rattle.warm_history.specs.declared.hist.Entry.{Entry}
 use Rattle.warm_devices.specs.Device.{DeviceState, SameShape, one_more, page_at}
 use Rattle.warm_pool.specs.Frames.{FrameState, FramesState, nth_frame, fresh_frame, vacated}
-use Rattle.warm_pool.specs.State.{PoolState, IsPool, nth_device, no_device, stored, view_of, frame_view, device_view, is_page, bytes_in, bytes_of}
+use Rattle.warm_pool.specs.State.{PoolState, IsPool, RankedBy, nth_device, no_device, stored, view_of, frame_view, device_view, is_page, bytes_in, bytes_of}
 use Rattle.warm_pool.specs.View.{PoolView, FrameView, HasPage, contents_at, device_at, frame_at, failures_at}
-use Rattle.warm_pool.specs.Calls.{FailsAt, Retired, MayRetire, emptied, is_on}
+use Rattle.warm_pool.specs.Calls.{FailsAt, Retired, MayRetire, IsFixedOn, emptied, is_on}
 use Rattle.warm_pool.specs.Steps.{KeptDevices}
 use Rattle.warm_pool.specs.Flushes.{IsFlushed, FlushFails}
-use Rattle.warm_pool.specs.Closing.{AreUnfixed, PutsDown, StopsAt, cleaned_chosen, is_chosen, retired, vacate_if, vacated_from}
+use Rattle.warm_pool.specs.Closing.{AreUnfixed, IsFixedIn, MakesWay, PutsDown, StopsAt, cleaned_chosen, is_chosen, retired, vacate_if, vacated_from}
 use Rattle.warm_pool.proofs.FlushLemmas.{same_shape}
 use Rattle.warm_pool.proofs.Bytes.{bytes_nowhere, contents_seen, device_seen, frame_seen, page_found}
 use Rattle.warm_pool.proofs.Keeps.{view_of_kept}
 use Rattle.warm_pool.proofs.SettleLemmas.{AreAlike, alike_kept, down_view, flush_down, flush_fails_at}
-use Rattle.warm_pool.proofs.EmptyLemmas.{nth_vacated, vacated_pool}
+use Rattle.warm_pool.proofs.EmptyLemmas.{nth_vacated, vacated_pool, vacated_ranked, unfixed_to}
 
--- One device flushed
+-- One device replaced or flushed
+
+pub exchanged : {A : Type 0} (f : A → DeviceState) (xs : List A) (at : ℕ) (x y : A) → y ≡ x → map f (set xs at y) ≡ set (map f xs) at (f x)
+exchanged f xs at x y same = map-set f xs at y ∙ ap (λ z. set (map f xs) at (f z)) same
 
 module _ (devices : List DeviceState) (k : ℕ) (after : DeviceState) (lt : k < length devices) where
   abbrev changed : List DeviceState
@@ -66,13 +70,13 @@ flush_one_down which n s t u k after down lt frames same is flushed =
     (subst (λ ds. AreAlike t.devices ds) (sym is) (one_alike t.devices k after lt flushed.shape flushed.contents))
     (ap counts is ∙ same_counts t.devices k after flushed.failures)
 
-pub flush_one_fails : (which : Option ℕ) (n : ℕ) (s t u : PoolState) (k : ℕ) (after : DeviceState) → PutsDown (cleaned_chosen which n s.frames) s t → k < length t.devices → u.frames ≡ t.frames → u.page_size ≡ t.page_size → u.devices ≡ set t.devices k after → FlushFails (nth_device t.devices k) after → FailsAt (view_of s) k (view_of u)
-flush_one_fails which n s t u k after down lt frames size is fails =
+pub flush_one_fails : (which : Option ℕ) (n : ℕ) (s t u : PoolState) (k : ℕ) (after : DeviceState) → PutsDown (cleaned_chosen which n s.frames) s t → k < length t.devices → u.frames ≡ t.frames → (u.page_size ≡ t.page_size) × (u.spare ≡ t.spare) → u.devices ≡ set t.devices k after → FlushFails (nth_device t.devices k) after → FailsAt (view_of s) k (view_of u)
+flush_one_fails which n s t u k after down lt frames same is fails =
     let alike : AreAlike t.devices u.devices = subst (λ ds. AreAlike t.devices ds) (sym is) (one_alike t.devices k after lt fails.shape fails.contents) in
     let grown : counts u.devices ≡ set (counts t.devices) k (one_more (get_or (counts t.devices) k 0)) =
       ap counts is ∙ map-set (λ d. d.failures) t.devices k after ∙ ap (λ m. set (counts t.devices) k m) (fails.failures ∙ ap one_more (sym (count_at t.devices k)))
     in
-    let moved : view_of u ≡ view_of (record t { devices = u.devices }) = λ i. view_of (record { page_size = size i; spare = u.spare; frames = frames i; devices = u.devices }) in
+    let moved : view_of u ≡ view_of (record t { devices = u.devices }) = λ i. view_of (record { page_size = same.0 i; spare = same.1 i; frames = frames i; devices = u.devices }) in
     let seen : view_of u ≡ record (view_of t) { failures = counts u.devices } = moved ∙ view_of_kept t u.devices (alike_kept t.frames t.devices u.devices alike) in
     flush_fails_at which n s t u k down (seen ∙ (λ i. record (view_of t) { failures = grown i })) lt fails.may
 
@@ -203,3 +207,46 @@ pub becomes_retired : (old new : FramesState) (spare dev : ℕ) (devices others 
     → (let s : PoolState = record { page_size = new.page_size; spare = spare; frames = new.frames; devices = others } in s) ≡ (let s : PoolState = record { page_size = old.page_size; spare = spare; frames = vacated_from (Some dev) 0 old.frames; devices = set devices dev device } in s)
 becomes_retired old new spare dev devices others device frames is =
     ap₂ (λ (f : FramesState) (ds : List DeviceState). let s : PoolState = record { page_size = f.page_size; spare = spare; frames = f.frames; devices = ds } in s) frames is
+
+-- Why a device isn't retired
+
+pub may_retire : (s : PoolState) (dev : ℕ) (device : DeviceState) → IsPool s → dev < length s.devices → device.page_size ≡ s.page_size → AreUnfixed (Some dev) s.frames → MayRetire (view_of s) dev device
+may_retire s dev device w there size unfixed = record {
+  there = subst (λ n. dev < n) (sym (length-map s.devices _)) there;
+  size = size;
+  unfixed = λ i on. ap (λ f. f.fixes) (frame_seen s i) ∙ unfixed i (subst (λ f. IsTrue (is_on dev f.page)) (frame_seen s i) on);
+}
+
+pub fixed_on : (s : PoolState) (dev : ℕ) → IsPool s → IsFixedIn (Some dev) s.frames → IsFixedOn (view_of s) dev
+fixed_on s dev w fixed = record {
+  frame = fixed.frame;
+  there = subst (λ n. fixed.frame < n) (sym (length-map s.frames _)) fixed.there;
+  on = subst (λ f. IsTrue (is_on dev f.page)) (sym (frame_seen s fixed.frame)) fixed.chosen;
+  fixed = subst (λ f. 0 < f.fixes) (sym (frame_seen s fixed.frame)) fixed.fixed;
+}
+
+pub seen_there : (s : PoolState) (dev : ℕ) → IsPool s → dev < length s.devices → dev < length (view_of s).devices
+seen_there s dev w there = subst (λ n. dev < n) (sym (length-map s.devices _)) there
+
+pub seen_beyond : (s : PoolState) (dev : ℕ) → IsPool s → length s.devices ≤ dev → length (view_of s).devices ≤ dev
+seen_beyond s dev w beyond = subst (λ n. n ≤ dev) (sym (length-map s.devices _)) beyond
+
+-- What is known once way was made
+
+pub way_there : (s t : PoolState) (dev size : ℕ) → MakesWay s dev size t → dev < length t.devices
+way_there s t dev size way = subst (λ n. dev < n) (sym way.down.devices.count) way.there
+
+pub way_unfixed : (s t : PoolState) (dev size : ℕ) → MakesWay s dev size t → AreUnfixed (Some dev) t.frames
+way_unfixed s t dev size way = unfixed_to (Some dev) (length s.frames) s.frames t.frames way.down.becomes way.unfixed
+
+pub retire_pool : (s t u : PoolState) (dev size : ℕ) (device : DeviceState) → IsPool t → MakesWay s dev size t → size ≡ device.page_size → u ≡ retired t dev device → IsPool u
+retire_pool s t u dev size device w way same is =
+    subst (λ x. IsPool x) (sym is) (retired_pool dev t device w (way_there s t dev size way) (sym same ∙ way.size ∙ sym way.down.same.0) (way_unfixed s t dev size way))
+
+pub retire_view : (s t u : PoolState) (dev size : ℕ) (device : DeviceState) → IsPool t → MakesWay s dev size t → size ≡ device.page_size → u ≡ retired t dev device → Retired (view_of s) dev device (view_of u)
+retire_view s t u dev size device w way same is =
+    subst (λ x. Retired (view_of s) dev device (view_of x)) (sym is)
+    (retired_view dev t device w (way_there s t dev size way) (sym same ∙ way.size ∙ sym way.down.same.0) (way_unfixed s t dev size way) s (down_view (Some dev) (length s.frames) s t way.down))
+
+pub retire_ranked : (t u : PoolState) (dev : ℕ) (device : DeviceState) (h : List Entry) → IsPool t → u ≡ retired t dev device → RankedBy t h → RankedBy u h
+retire_ranked t u dev device h w is ranked = subst (λ x. RankedBy x h) (sym is) (vacated_ranked (Some dev) t.frames h ranked)

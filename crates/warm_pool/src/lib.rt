@@ -20,6 +20,10 @@ mod pool;
 mod residents;
 mod slot;
 
-pub use fault::{PoolFault, Unmade};
+pub use close::Unclosed;
+pub use fault::{PoolFault, Unmade, Unretired};
 pub use pool::{Pool, Pooled};
 pub use slot::Slot;
+
+#[cfg(test)]
+mod tests;

@@ -18,7 +18,7 @@ pub returns-in_err-flush_device-clause-stopped : goal.returns-in_err-flush_devic
 returns-in_err-flush_device-clause-stopped g c =
     let down = c.in_ok-clean_chosen.ensures.down in
     let call = c.in_err-flush_device.ensures in
-    on_err _ _ (flush_one_fails (Some c.args.dev) _ _ _ _ c.args.dev call.after down (subst (λ n. c.args.dev < n) (sym down.devices.count) c.requires.there) refl refl call.becomes call.failed)
+    on_err _ _ (flush_one_fails (Some c.args.dev) _ _ _ _ c.args.dev call.after down (subst (λ n. c.args.dev < n) (sym down.devices.count) c.requires.there) refl (refl, refl) call.becomes call.failed)
 
 pub returns-in_err-flush_device-clause-ranked : goal.returns-in_err-flush_device-clause-ranked
 returns-in_err-flush_device-clause-ranked g c = λ h ranked. ranked_to (Some c.args.dev) _ _ _ h c.in_ok-clean_chosen.ensures.down.becomes ranked
