@@ -18,6 +18,7 @@ use warm_devices::{DeviceFault, PageDevice};
 use warm_stamps::PageId;
 
 /// Why a pool was not closed, and the pool.
+#[derive(Drop)]
 pub struct Unclosed {
     /// Why: `Fixed` or `Fault`.
     pub fault: PoolFault,

@@ -31,6 +31,7 @@ const MOST: usize = 65_536;
 /// rank of each resident page is the one that the history gives it. A pool without a page is ranked by every history.
 ///
 /// A pool that is dropped settles its devices by their own drops, but loses what only its dirty frames hold: close it instead.
+#[derive(Drop)]
 pub struct Pool {
     pub(crate) frames: Frames,
     pub(crate) devices: Vec<Box<dyn PageDevice + Send>>,
