@@ -4,6 +4,8 @@ pub mod Residents
 pub mod View
 pub mod State
 pub mod DeviceCalls
+pub mod Flushes
 pub mod Calls
+pub mod Closing
 pub mod Steps
 pub mod Faults

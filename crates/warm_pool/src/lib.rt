@@ -10,14 +10,20 @@
 //! kept by it. Boxed devices are handed in by the caller; the pool drops one only where nothing waits in it.
 #![tactic(auto)]
 
+mod close;
 mod device_list;
 mod fault;
+mod flush;
 mod frame;
 mod frames;
 mod pool;
 mod residents;
 mod slot;
 
-pub use fault::{PoolFault, Unmade};
+pub use close::Unclosed;
+pub use fault::{PoolFault, Unmade, Unretired};
 pub use pool::{Pool, Pooled};
 pub use slot::Slot;
+
+#[cfg(test)]
+mod tests;

@@ -31,11 +31,12 @@ const MOST: usize = 65_536;
 /// rank of each resident page is the one that the history gives it. A pool without a page is ranked by every history.
 ///
 /// A pool that is dropped settles its devices by their own drops, but loses what only its dirty frames hold: close it instead.
+#[derive(Drop)]
 pub struct Pool {
-    frames: Frames,
-    devices: Vec<Box<dyn PageDevice + Send>>,
+    pub(crate) frames: Frames,
+    pub(crate) devices: Vec<Box<dyn PageDevice + Send>>,
     // A page is first read into this buffer, so that a failed read changes no frame.
-    spare: Vec<u8>,
+    pub(crate) spare: Vec<u8>,
 }
 
 /// What a pool is to a contract.
