@@ -2,8 +2,8 @@ use Rattle.warm_pool.proofs.PoolSteps.{found_there, found_holds, found_nowhere}
 use Rattle.warm_pool.proofs.Renewals.{renewed_pool, renewed_view, renews, renews_none}
 use Rattle.warm_pool.proofs.pool.Pool.renew.Goals as goal
 
-pub rank-requires-clause-there : goal.rank-requires-clause-there
-rank-requires-clause-there g c = found_there c.requires.pool _ _ c.in-Some.ensures
+pub rank-requires : goal.rank-requires
+rank-requires g c = record { there = found_there c.requires.pool _ _ c.in-Some.ensures }
 
 pub returns-in-Some-clause-pool : goal.returns-in-Some-clause-pool
 returns-in-Some-clause-pool g c =
