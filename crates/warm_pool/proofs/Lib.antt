@@ -19,3 +19,4 @@ pub mod Slots
 pub mod VacateLemmas
 pub mod WriteBacks
 pub mod Writes
+pub mod EmptyRanks

@@ -9,3 +9,4 @@ pub mod Calls
 pub mod Closing
 pub mod Steps
 pub mod Faults
+pub mod Laws

@@ -16,6 +16,7 @@ mod fault;
 mod flush;
 mod frame;
 mod frames;
+pub mod laws;
 mod pool;
 mod residents;
 mod slot;
