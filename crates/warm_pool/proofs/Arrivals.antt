@@ -129,9 +129,9 @@ module _ {s : PoolState} {ds : List DeviceState} {p : PageId} {bytes : List ℕ}
                 ∙ set-set s.frames i (cleaned (nth_frame s.frames i)) (arrival fs.frames i p key fixes b)
                 ∙ ap (λ (f : FrameState). let r : FrameState = record { page = Some p; key = Some key; generation = f.generation + 1; fixes = fixes; dirty = false; bytes = b } in set s.frames i r) nth_old;
             rest = ap (λ (v : PoolView). let x : PoolView = record v {
-                  frames = (view_of (pool_from (record fs { frames = set fs.frames i (arrival fs.frames i p key fixes b) }) k es)).frames;
-                  contents = (view_of (pool_from (record fs { frames = set fs.frames i (arrival fs.frames i p key fixes b) }) k es)).contents
-                } in x) old_view;
+              frames = (view_of (pool_from (record fs { frames = set fs.frames i (arrival fs.frames i p key fixes b) }) k es)).frames;
+              contents = (view_of (pool_from (record fs { frames = set fs.frames i (arrival fs.frames i p key fixes b) }) k es)).contents;
+            } in x) old_view;
             contents = subst (λ v. KeepsContents v (view_of (pool_from (record fs { frames = set fs.frames i (arrival fs.frames i p key fixes b) }) k es))) old_view
                 (put_keeps (pool_from fs m es) i (arrival fs.frames i p key fixes b) p w puts);
           })

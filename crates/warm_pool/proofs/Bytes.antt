@@ -108,8 +108,8 @@ pub contents_same : (frames gs : List FrameState) (ds es : List DeviceState) →
     → ((p : PageId) → bytes_of gs es p ≡ bytes_of frames ds p) → contents_of gs es ≡ contents_of frames ds
 contents_same frames gs ds es count pages same =
     ap₂ (λ (row : ℕ → List (List ℕ)) (n : ℕ). map row (range_with_len 0 n))
-        (fun_ext (λ k. ap₂ (λ (page : ℕ → List ℕ) (n : ℕ). map page (range_with_len 0 n)) (fun_ext (λ n. same (record { dev = k; no = n }))) (pages k)))
-        count
+    (fun_ext (λ k. ap₂ (λ (page : ℕ → List ℕ) (n : ℕ). map page (range_with_len 0 n)) (fun_ext (λ n. same (record { dev = k; no = n }))) (pages k)))
+    count
 
 -- what a view says of a frame, of a device and of a page
 pub frame_seen : (s : PoolState) (i : ℕ) → frame_at (view_of s) i ≡ frame_view (nth_frame s.frames i)
@@ -133,10 +133,10 @@ contents_beyond s p n = elim (cases_lt p.dev (length s.devices)) [
   | inl d ↦
       ap (λ r. get_or r p.no []) (get_or-map-range_with_len (row s.frames s.devices) 0 (length s.devices) p.dev p.dev [] d (omega arith))
       ∙ get_or_past (row s.frames s.devices p.dev) p.no []
-          (subst (λ m. m ≤ p.no) (sym (length-map-range_with_len (λ m. bytes_of s.frames s.devices (record { dev = p.dev; no = m })) 0 (nth_device s.devices p.dev).pages)) n)
+      (subst (λ m. m ≤ p.no) (sym (length-map-range_with_len (λ m. bytes_of s.frames s.devices (record { dev = p.dev; no = m })) 0 (nth_device s.devices p.dev).pages)) n)
   | inr d ↦
       ap (λ r. get_or r p.no []) (get_or_past (contents_of s.frames s.devices) p.dev []
-          (subst (λ m. m ≤ p.dev) (sym (length-map-range_with_len (row s.frames s.devices) 0 (length s.devices))) d))
+      (subst (λ m. m ≤ p.dev) (sym (length-map-range_with_len (row s.frames s.devices) 0 (length s.devices))) d))
 ]
 
 pub device_there : (ds : List DeviceState) (k n : ℕ) → n < (nth_device ds k).pages → k < length ds

@@ -42,7 +42,7 @@ pub shapes_set : (old new : List DeviceState) (k : ℕ) (e : DeviceState) → k 
     → (j : ℕ) → SameShape (nth_device old j) (nth_device new j)
 shapes_set old new k e h is shape j =
     subst (λ ds. SameShape (nth_device old j) (nth_device ds j)) (sym is)
-        (at_set no_device (λ j d. SameShape (nth_device old j) d) old k e h shape (λ j ne. same_shape (nth_device old j)) j)
+    (at_set no_device (λ j d. SameShape (nth_device old j) d) old k e h shape (λ j ne. same_shape (nth_device old j)) j)
 
 -- what a device is known to have for a page
 abbrev pub known_bytes : DeviceState → ℕ → List ℕ
@@ -55,8 +55,8 @@ pub stored_set : (old new : List DeviceState) (k : ℕ) (e : DeviceState) → k 
     → (p : PageId) → (p.dev ≡ k → page_at e.contents p.no ≡ page_at (nth_device old k).contents p.no) → stored new p ≡ stored old p
 stored_set old new k e h is shape p same =
     subst (λ ds. stored ds p ≡ stored old p) (sym is)
-        (at_set no_device (λ j d. p.dev ≡ j → known_bytes d p.no ≡ known_bytes (nth_device old j) p.no) old k e h
-            (λ here. known_alike (nth_device old k) e p.no shape.honest (same here)) (λ j ne _. refl) p.dev refl)
+    (at_set no_device (λ j d. p.dev ≡ j → known_bytes d p.no ≡ known_bytes (nth_device old j) p.no) old k e h
+    (λ here. known_alike (nth_device old k) e p.no shape.honest (same here)) (λ j ne _. refl) p.dev refl)
 
 pub read_keeps : (frames : List FrameState) (old new : List DeviceState) (k n : ℕ) (bytes : List ℕ) (result : Result (Unit {0}) DeviceFault)
     → k < length old → PageRead old new k n bytes result → KeptDevices frames old new
@@ -76,8 +76,8 @@ pub write_keeps : (s : PoolState) (new : List DeviceState) (i : ℕ) (q : PageId
 write_keeps s new i q bytes result w holds dirty r =
     let there : q.dev < length s.devices = w.has_device i q holds in
     let others : (p : PageId) → p ≢ q → stored new p ≡ stored s.devices p = λ p ne.
-        stored_set s.devices new q.dev r.after there r.becomes r.shape p
-            (λ e. r.others.others p.no (λ n. ne (same_page p q e n))) in
+    stored_set s.devices new q.dev r.after there r.becomes r.shape p
+    (λ e. r.others.others p.no (λ n. ne (same_page p q e n))) in
     record {
       count = ap length r.becomes ∙ length-set s.devices q.dev r.after;
       shape = shapes_set s.devices new q.dev r.after there r.becomes r.shape;

@@ -46,9 +46,9 @@ set_keeps_pool s i g f w = record {
       f.has_page (λ k ne. w.has_page k);
   once = λ a b p e o. at_set (fresh_frame []) (λ k x. x.page ≡ Some p → k ≡ b) s.frames i g f.there
       (λ here. at_set (fresh_frame []) (λ k y. y.page ≡ Some p → i ≡ k) s.frames i g f.there
-          (λ _. refl) (λ k ne there. absurd (f.once k p ne here there)) b o)
+      (λ _. refl) (λ k ne there. absurd (f.once k p ne here there)) b o)
       (λ j ne_j here. at_set (fresh_frame []) (λ k y. y.page ≡ Some p → j ≡ k) s.frames i g f.there
-          (λ there. absurd (f.once j p ne_j there here)) (λ k ne there. w.once j k p here there) b o)
+      (λ there. absurd (f.once j p ne_j there here)) (λ k ne there. w.once j k p here there) b o)
       a e;
   clean = at_set (fresh_frame [])
       (λ k x. (p : PageId) → x.page ≡ Some p → x.dirty ≡ false → IsTrue (nth_device s.devices p.dev).honest → x.bytes ≡ page_at (nth_device s.devices p.dev).contents p.no)
@@ -86,8 +86,8 @@ pub view-set : (s : PoolState) (i : ℕ) (g : FrameState) → g.page ≡ (nth_fr
     → view_of (record s { frames = set s.frames i g }) ≡ record (view_of s) { frames = set (view_of s).frames i (frame_view g) }
 view-set s i g page bytes =
     ap₂ (λ (frames : List FrameView) (contents : List (List (List ℕ))). let v : PoolView = record (view_of s) { frames = frames; contents = contents } in v)
-        (map-set frame_view s.frames i g)
-        (contents_same s.frames (set s.frames i g) s.devices s.devices refl (λ k. refl) (λ p. bytes_kept s.frames p (stored s.devices p) i g page bytes))
+    (map-set frame_view s.frames i g)
+    (contents_same s.frames (set s.frames i g) s.devices s.devices refl (λ k. refl) (λ p. bytes_kept s.frames p (stored s.devices p) i g page bytes))
 
 -- the bytes that an honest device has for a page
 pub stored_honest : (ds : List DeviceState) (p : PageId) → IsTrue (nth_device ds p.dev).honest → stored ds p ≡ page_at (nth_device ds p.dev).contents p.no
@@ -117,9 +117,9 @@ pub view_of_kept : (s : PoolState) (ds : List DeviceState) → KeptDevices s.fra
     → view_of (record s { devices = ds }) ≡ record (view_of s) { failures = map (λ d. d.failures) ds }
 view_of_kept s ds d =
     let views : map device_view ds ≡ map device_view s.devices = same_maps device_view no_device ds s.devices d.count
-        (λ k. let shape = d.shape k in λ i. record { pages = shape.pages i; honest = shape.honest i; unfailing = shape.unfailing i }) in
+    (λ k. let shape = d.shape k in λ i. record { pages = shape.pages i; honest = shape.honest i; unfailing = shape.unfailing i }) in
     let contents : contents_of s.frames ds ≡ contents_of s.frames s.devices = contents_same s.frames s.frames s.devices ds d.count (λ k. (d.shape k).pages)
-        (λ p. bytes_alike s.frames p (stored ds p) (stored s.devices p) (d.absent p)) in
+    (λ p. bytes_alike s.frames p (stored ds p) (stored s.devices p) (d.absent p)) in
     λ i. record (view_of s) { devices = views i; contents = contents i; failures = map (λ d. d.failures) ds }
 
 -- a pool of these frames and devices
@@ -146,7 +146,7 @@ module _ (old new : FramesState) {spare : ℕ} {devices : List DeviceState} (w :
   pub step_holds : (slot : Slot) → slot.index ≡ i → slot.generation ≡ g.generation → 0 < g.fixes → Holds (view_of (pool_from new spare devices)) slot
   step_holds slot at current fixed =
       let seen : frame_at (view_of (pool_from new spare devices)) slot.index ≡ frame_view g =
-          ap (frame_at (view_of (pool_from new spare devices))) at ∙ frame_seen (pool_from new spare devices) i ∙ ap frame_view step_frame in
+      ap (frame_at (view_of (pool_from new spare devices))) at ∙ frame_seen (pool_from new spare devices) i ∙ ap frame_view step_frame in
       record {
         there = subst (λ n. slot.index < n) (sym (length-map new.frames frame_view ∙ ap (λ x. length x.frames) is ∙ length-set old.frames i g)) (subst (λ n. n < length old.frames) (sym at) there);
         current = current ∙ sym (ap (λ f. f.generation) seen);

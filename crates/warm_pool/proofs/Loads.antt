@@ -117,5 +117,5 @@ module _ (s : PoolState) (i : ℕ) (g : FrameState) (p : PageId) (w : IsPool s) 
         contents_seen (record s { frames = set s.frames i g }) q d n ∙ put_resident q old.frame new.frame before after ∙ sym (contents_seen s q d n);
     absent = λ q lies away.
         contents_absent (record s { frames = set s.frames i g }) q (sym (ap (λ x. x.honest) (device_seen (record s { frames = set s.frames i g }) q.dev)) ∙ lies)
-            (nowhere_seen (record s { frames = set s.frames i g }) q away);
+        (nowhere_seen (record s { frames = set s.frames i g }) q away);
   }

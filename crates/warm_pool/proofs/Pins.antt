@@ -64,7 +64,7 @@ pub loaded_ranked : {s t : PoolState} → IsPool s → IsPool t → (i : ℕ) (p
     → (h : List Entry) → key ≡ rank_key p (hist (refs h) p) → RankedBy s h → RankedBy t h
 loaded_ranked {s} {t} w v i p key n l there h is r =
     subst (λ fs. (j : ℕ) → (nth_frame fs j).key ≡ option_map (λ q. rank_key q (hist (refs h) q)) (nth_frame fs j).page) (sym l.frames)
-        (ranked_set s i (record { page = Some p; key = Some key; generation = (nth_frame s.frames i).generation + 1; fixes = n; dirty = false; bytes = l.bytes }) h there (ap Some is) r)
+    (ranked_set s i (record { page = Some p; key = Some key; generation = (nth_frame s.frames i).generation + 1; fixes = n; dirty = false; bytes = l.bytes }) h there (ap Some is) r)
 
 pub loaded_puts : {s t : PoolState} → IsPool s → IsPool t → (i : ℕ) (p : PageId) (key : RankKey) (n : ℕ) → LoadsInto s i p key n t → (h : List Entry)
     → IsNowhere s.frames p → IsPlace h (view_of s) (Some i) → (gen : ℕ) → gen ≡ (nth_frame s.frames i).generation → gen < 2 ^ 64 - 1
@@ -91,7 +91,7 @@ puts_holds h old p slot new x =
     let there : slot.index < length old.frames = placed_there h old slot.index x.place in
     let frame : FrameView = record { page = Some p; generation = slot.generation; fixes = 1 } in
     let seen : frame_at new slot.index ≡ record { page = Some p; generation = slot.generation; fixes = 1 } =
-        ap (λ v. frame_at v slot.index) x.becomes ∙ get_or-set_same old.frames slot.index (record { page = Some p; generation = slot.generation; fixes = 1 }) _ there in
+    ap (λ v. frame_at v slot.index) x.becomes ∙ get_or-set_same old.frames slot.index (record { page = Some p; generation = slot.generation; fixes = 1 }) _ there in
     record {
       there = subst (λ m. slot.index < m) (sym (ap (λ v. length v.frames) x.becomes ∙ length-set old.frames slot.index (record { page = Some p; generation = slot.generation; fixes = 1 }))) there;
       current = sym (ap (λ f. f.generation) seen);
@@ -177,7 +177,7 @@ pub pin_full : {s t : PoolState} → IsPool s → IsPool t → (h : List Entry) 
 pin_full {s} {t} w v h p i has there holds (Ok slot) x = tt
 pin_full {s} {t} w v h p i has there holds (Err why) x =
     subst (λ y. PinRefused h (view_of s) p y (view_of t)) (sym x.0)
-        (inl (has, record { frame = i; there = seen_there w i there; resident = seen_page w i p holds; full = ap (λ f. f.fixes) (frame_seen s i) ∙ x.1 }, ap view_of x.2))
+    (inl (has, record { frame = i; there = seen_there w i there; resident = seen_page w i p holds; full = ap (λ f. f.fixes) (frame_seen s i) ∙ x.1 }, ap view_of x.2))
 
 pub full_stays : {s t : PoolState} → IsPool s → IsPool t → (i : ℕ) (r : Result Slot PoolFault)
     → IfErr r (λ why. (why ≡ FixesFull) × ((nth_frame s.frames i).fixes ≡ 2 ^ 32 - 1) × (t ≡ s)) → OnErr r (SameButFailures (view_of s) (view_of t))

@@ -72,10 +72,10 @@ pub ranked_keys : {s : PoolState} → IsPool s → (h : List Entry) → RankedBy
 ranked_keys {s} w h r =
     let rank : Option PageId → Option RankKey = option_map (λ p. rank_key p (hist (refs h) p)) in
     ext_get_or None (map leaving_key s.frames) (map rank (competing s.frames))
-        (length-map s.frames leaving_key ∙ sym (length-map (competing s.frames) rank ∙ length-map (map frame_view s.frames) unfixed_page ∙ length-map s.frames frame_view))
-        (λ i _. mapped leaving_key s.frames i (fresh_frame [])
-            ∙ at i
-            ∙ sym (mapped rank (competing s.frames) i None ∙ ap rank (competing_nth s.frames i)))
+    (length-map s.frames leaving_key ∙ sym (length-map (competing s.frames) rank ∙ length-map (map frame_view s.frames) unfixed_page ∙ length-map s.frames frame_view))
+    (λ i _. mapped leaving_key s.frames i (fresh_frame [])
+    ∙ at i
+    ∙ sym (mapped rank (competing s.frames) i None ∙ ap rank (competing_nth s.frames i)))
   where
     at : (i : ℕ) → leaving_key (nth_frame s.frames i) ≡ option_map (λ p. rank_key p (hist (refs h) p)) (unfixed_page (frame_view (nth_frame s.frames i)))
     at i = elim ((nth_frame s.frames i).fixes == 0)
@@ -93,8 +93,8 @@ pub least_unfixed : {s : PoolState} → IsPool s → (i : ℕ) → IsLeast key_c
 least_unfixed {s} w i l = elim (cases_eq (nth_frame s.frames i).fixes 0) [
   | inl e ↦ e
   | inr ne ↦ absurd (none_set (subst IsSome
-        (mapped leaving_key s.frames i (fresh_frame []) ∙ ap (λ t. cond t (nth_frame s.frames i).key None) (ne_eqb (nth_frame s.frames i).fixes 0 ne))
-        l.is_set))
+      (mapped leaving_key s.frames i (fresh_frame []) ∙ ap (λ t. cond t (nth_frame s.frames i).key None) (ne_eqb (nth_frame s.frames i).fixes 0 ne))
+      l.is_set))
 ]
 
 -- the page that leaves is the victim over what the history holds
@@ -106,8 +106,8 @@ pub one_leaves : {s : PoolState} → IsPool s → (h : List Entry) → RankedBy 
     → IsVictim (refs h) (unfixed_pages (view_of s)) (nth_frame s.frames i).page
 one_leaves {s} w h r i l =
     subst (IsVictim (refs h) (unfixed_pages (view_of s)))
-        (competing_nth s.frames i ∙ ap (λ t. cond t (nth_frame s.frames i).page None) (eq-eqb (nth_frame s.frames i).fixes 0 (least_unfixed w i l)))
-        (least_key_is_victim (refs h) (competing s.frames) (Some i) (subst (λ keys. IsLeast key_cmp keys (Some i)) (ranked_keys w h r) l))
+    (competing_nth s.frames i ∙ ap (λ t. cond t (nth_frame s.frames i).page None) (eq-eqb (nth_frame s.frames i).fixes 0 (least_unfixed w i l)))
+    (least_key_is_victim (refs h) (competing s.frames) (Some i) (subst (λ keys. IsLeast key_cmp keys (Some i)) (ranked_keys w h r) l))
 
 -- where a page that comes in goes
 pub seen_free : {s : PoolState} → IsPool s → (i : ℕ) → IsFirstFree (map (λ f. f.page) s.frames) (Some i) → IsLeastFree (view_of s) i
@@ -126,7 +126,7 @@ free_unfixed {s} w i h = (w.bare i (sym (page_of_nth s.frames i) ∙ h.1)).1
 pub seen_full : {s : PoolState} → IsPool s → IsFirstFree (map (λ f. f.page) s.frames) None → IsFull (view_of s)
 seen_full {s} w h i lt e =
     h i (subst (λ m. i < m) (length-map s.frames frame_view ∙ sym (length-map s.frames (λ (f : FrameState). f.page))) lt)
-        (page_of_nth s.frames i ∙ sym (ap (λ f. f.page) (frame_seen s i)) ∙ e)
+    (page_of_nth s.frames i ∙ sym (ap (λ f. f.page) (frame_seen s i)) ∙ e)
 
 pub some_page : (o : Option PageId) → o ≢ None → (p : PageId) × (o ≡ Some p)
 some_page None n = absurd (n refl)

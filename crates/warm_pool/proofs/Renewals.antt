@@ -35,7 +35,7 @@ module _ (old new : FramesState) {spare : ℕ} {devices : List DeviceState} (w :
   renewed_view =
       step_view old new w i (record (nth_frame old.frames i) { key = Some k }) is there alike
       ∙ ap (λ (fs : List FrameView). let v : PoolView = record (view_of (pool_from old spare devices)) { frames = fs } in v)
-          (ap (set (map frame_view old.frames) i) (sym (mapped frame_view old.frames i (fresh_frame []))) ∙ set-get_or (map frame_view old.frames) i (frame_view (fresh_frame [])))
+      (ap (set (map frame_view old.frames) i) (sym (mapped frame_view old.frames i (fresh_frame []))) ∙ set-get_or (map frame_view old.frames) i (frame_view (fresh_frame [])))
 
   pub renews : Renews (pool_from old spare devices) p key (pool_from new spare devices)
   renews = subst (λ x. Renews (pool_from old spare devices) p key (pool_from x spare devices)) (sym is) (record {
@@ -56,7 +56,7 @@ pub record Renewed (s t : PoolState) (h : List Entry) (pages : List PageId) (k :
   pub held : (i : ℕ) → (nth_frame t.frames i).page ≡ (nth_frame s.frames i).page
   pub keys : (i : ℕ) (p : PageId) → (nth_frame s.frames i).page ≡ Some p
       → ((nth_frame t.frames i).key ≡ Some (rank_key p (hist (refs h) p)))
-        ⊎ (((nth_frame t.frames i).key ≡ (nth_frame s.frames i).key) × ((j : ℕ) → j < k → get_or pages j p ≢ p))
+      ⊎ (((nth_frame t.frames i).key ≡ (nth_frame s.frames i).key) × ((j : ℕ) → j < k → get_or pages j p ≢ p))
 
 pub none_renewed : {s : PoolState} → IsPool s → (h : List Entry) (pages : List PageId) → Renewed s s h pages 0
 none_renewed {s} w h pages = record { pool = w; same = refl; held = λ i. refl; keys = λ i p e. inr (refl, λ j lt. absurd (omega arith)) }
@@ -82,10 +82,13 @@ one_renewed {s} {t} {u} h pages k q r at w same n = record {
         let kept : (nth_frame u.frames i).key ≡ (nth_frame t.frames i).key = n.others i (λ o. ne (same_Some p q (sym (r.held i ∙ e) ∙ o))) in
         elim (r.keys i p e) [
           | inl new ↦ inl (kept ∙ new)
-          | inr old ↦ inr (kept ∙ old.0, λ j lt. elim (cases_eq j k) [
+          | inr old ↦ inr (
+            kept ∙ old.0,
+            λ j lt. elim (cases_eq j k) [
               | inl here ↦ λ found. ne (sym found ∙ ap (λ m. get_or pages m p) here ∙ at p)
               | inr apart ↦ old.1 j (omega arith)
-            ])
+            ],
+          )
         ]
   ];
 }

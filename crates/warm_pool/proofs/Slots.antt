@@ -53,7 +53,7 @@ pub same_maps : {A B : Type 0} (f : A → B) (d : A) (xs ys : List A) → length
     → ((i : ℕ) → f (get_or xs i d) ≡ f (get_or ys i d)) → map f xs ≡ map f ys
 same_maps f d xs ys count same =
     ext_get_or (f d) (map f xs) (map f ys) (length-map xs f ∙ count ∙ sym (length-map ys f))
-        (λ i _. mapped f xs i d ∙ same i ∙ sym (mapped f ys i d))
+    (λ i _. mapped f xs i d ∙ same i ∙ sym (mapped f ys i d))
 
 -- the frame that a read gave
 pub frame_is : (frames : List FrameState) (i : ℕ) (f x : FrameState) → i < length frames → f ≡ x → x ≡ get_or frames i x → f ≡ nth_frame frames i

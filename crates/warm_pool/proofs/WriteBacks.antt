@@ -58,15 +58,15 @@ module _ (s : PoolState) (new : List DeviceState) (i : ℕ) (q : PageId) (bytes 
 
     pub cleaned_pool : IsPool (record s { frames = set s.frames i (cleaned (nth_frame s.frames i)); devices = new })
     cleaned_pool = set_keeps_pool (record s { devices = new }) i (cleaned (nth_frame s.frames i)) (record {
-        there = h.there;
-        size = h.pool.frame_size i h.there;
-        has_device = λ p e. failed_pool.has_device i p e;
-        has_page = λ p e. failed_pool.has_page i p e;
-        once = λ j p ne e o. ne (h.pool.once j i p o e);
-        clean = λ p e _. subst (λ r. IsTrue (nth_device new r.dev).honest → (nth_frame s.frames i).bytes ≡ page_at (nth_device new r.dev).contents r.no)
-            (same_Some q p (sym h.holds ∙ e)) on_device;
-        bare = λ e. let no : None ≡ Some q = sym e ∙ h.holds in absurd (cc);
-      }) failed_pool
+      there = h.there;
+      size = h.pool.frame_size i h.there;
+      has_device = λ p e. failed_pool.has_device i p e;
+      has_page = λ p e. failed_pool.has_page i p e;
+      once = λ j p ne e o. ne (h.pool.once j i p o e);
+      clean = λ p e _. subst (λ r. IsTrue (nth_device new r.dev).honest → (nth_frame s.frames i).bytes ≡ page_at (nth_device new r.dev).contents r.no)
+          (same_Some q p (sym h.holds ∙ e)) on_device;
+      bare = λ e. let no : None ≡ Some q = sym e ∙ h.holds in absurd (cc);
+    }) failed_pool
 
     pub write_cleans : Cleans s i (record s { frames = set s.frames i (cleaned (nth_frame s.frames i)); devices = new })
     write_cleans = record {

@@ -75,18 +75,18 @@ module _ (old new : FramesState) {spare : ℕ} {devices : List DeviceState} (w :
 
   pub write_view : (slot : Slot) → slot.index ≡ i → Written (view_of (pool_from old spare devices)) slot at put (view_of (pool_from new spare devices))
   write_view slot at_slot = subst (λ x. Written (view_of (pool_from old spare devices)) slot at put (view_of (pool_from x spare devices))) (sym is) (record {
-      page = page.0;
-      holds = ap (λ n. (frame_at (view_of (pool_from old spare devices)) n).page) at_slot ∙ ap (λ f. f.page) (frame_seen (pool_from old spare devices) i) ∙ page.1;
-      within = within;
-      becomes = ap (λ (fs : List FrameView). let v : PoolView = record (view_of (pool_from (after old i at put) spare devices)) { frames = fs } in v) same_frames;
-      bytes = seen_new page.0 page.1 ∙ ap (λ l. patched l at put) (sym (seen_old page.0 page.1));
-      others = λ q has ne.
-          let d : q.dev < length devices = subst (λ n. q.dev < n) (length-map devices device_view) has.device in
-          let n : q.no < (nth_device devices q.dev).pages = subst (λ x. q.no < x.pages) (device_seen (pool_from old spare devices) q.dev) has.number in
-          contents_seen (pool_from (after old i at put) spare devices) q d n
-          ∙ bytes_other old.frames q (stored devices q) i (overwritten (nth_frame old.frames i) at put) refl (λ e. ne (same_Some q page.0 (sym e ∙ page.1)))
-          ∙ sym (contents_seen (pool_from old spare devices) q d n);
-    })
+    page = page.0;
+    holds = ap (λ n. (frame_at (view_of (pool_from old spare devices)) n).page) at_slot ∙ ap (λ f. f.page) (frame_seen (pool_from old spare devices) i) ∙ page.1;
+    within = within;
+    becomes = ap (λ (fs : List FrameView). let v : PoolView = record (view_of (pool_from (after old i at put) spare devices)) { frames = fs } in v) same_frames;
+    bytes = seen_new page.0 page.1 ∙ ap (λ l. patched l at put) (sym (seen_old page.0 page.1));
+    others = λ q has ne.
+        let d : q.dev < length devices = subst (λ n. q.dev < n) (length-map devices device_view) has.device in
+        let n : q.no < (nth_device devices q.dev).pages = subst (λ x. q.no < x.pages) (device_seen (pool_from old spare devices) q.dev) has.number in
+        contents_seen (pool_from (after old i at put) spare devices) q d n
+        ∙ bytes_other old.frames q (stored devices q) i (overwritten (nth_frame old.frames i) at put) refl (λ e. ne (same_Some q page.0 (sym e ∙ page.1)))
+        ∙ sym (contents_seen (pool_from old spare devices) q d n);
+  })
     where
       page : (p : PageId) × ((nth_frame old.frames i).page ≡ Some p)
       page = some_page (nth_frame old.frames i).page some
@@ -109,7 +109,7 @@ pub read_seen : {s : PoolState} → IsPool s → (slot : Slot) → Holds (view_o
 read_seen {s} w slot h at got src n m src_is got_is m_is len within =
     let page = some_page (nth_frame s.frames slot.index).page (fixed_some w slot.index (held_fixed w slot h)) in
     let seen : contents_at (view_of s) page.0 ≡ (nth_frame s.frames slot.index).bytes =
-        contents_seen s page.0 (w.has_device slot.index page.0 page.1) (w.has_page slot.index page.0 page.1) ∙ bytes_held s slot.index page.0 (stored s.devices page.0) w page.1 in
+    contents_seen s page.0 (w.has_device slot.index page.0 page.1) (w.has_page slot.index page.0 page.1) ∙ bytes_held s slot.index page.0 (stored s.devices page.0) w page.1 in
     record {
       page = page.0;
       holds = ap (λ f. f.page) (frame_seen s slot.index) ∙ page.1;

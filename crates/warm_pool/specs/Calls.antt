@@ -212,10 +212,10 @@ RetireRefused old dev device why new = ⊥
 pub record Retired (old : PoolView) (dev : ℕ) (device : DeviceState) (new : PoolView) : Type 0 where
   pub may : MayRetire old dev device
   pub becomes : new ≡ record old {
-      devices = set old.devices dev (device_view device);
-      frames = map (λ f. if is_on dev f.page then emptied f else f) old.frames;
-      contents = new.contents;
-      failures = set old.failures dev device.failures
-    }
+    devices = set old.devices dev (device_view device);
+    frames = map (λ f. if is_on dev f.page then emptied f else f) old.frames;
+    contents = new.contents;
+    failures = set old.failures dev device.failures;
+  }
   pub contents : (n : ℕ) → n < device.pages → contents_at new (record { dev = dev; no = n }) ≡ if device.honest then page_at device.contents n else []
   pub others : (p : PageId) → HasPage old p → p.dev ≢ dev → contents_at new p ≡ contents_at old p

@@ -86,7 +86,7 @@ bytes_of frames devices p = bytes_in frames p (stored devices p)
 abbrev pub contents_of : List FrameState → List DeviceState → List (List (List ℕ))
 contents_of frames devices =
     map (λ k. map (λ n. bytes_of frames devices (record { dev = k; no = n })) (range_with_len 0 (nth_device devices k).pages))
-        (range_with_len 0 (length devices))
+    (range_with_len 0 (length devices))
 
 abbrev pub frame_view : FrameState → FrameView
 frame_view f = record { page = f.page; generation = f.generation; fixes = f.fixes }

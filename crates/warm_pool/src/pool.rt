@@ -344,12 +344,7 @@ impl Pool {
     }
 
     // Puts a page that is in no frame into one, with so many fixes.
-    fn bring(
-        &mut self,
-        page: PageId,
-        history: &History,
-        fixes: u32,
-    ) -> Result<Slot, PoolFault>
+    fn bring(&mut self, page: PageId, history: &History, fixes: u32) -> Result<Slot, PoolFault>
         requires pool { IsPool (⟦<Pool as Pooled>⟧.state self.old) }
         requires ranked { RankedBy (⟦<Pool as Pooled>⟧.state self.old) history.now }
         requires known { HasPage (⟦<Pool as Pooled>⟧.shown self.old) page }

@@ -5,7 +5,8 @@ use Rattle.warm_pool.proofs.device_list.all_sized.Goals as goal
 pub returns-then-page_size : goal.returns-then-page_size
 returns-then-page_size g c = (
   λ h. absurd (cc),
-  λ all. absurd (c.if-page_size.true (c.page_size.ensures ∙ ap (λ d. d.page_size) (device_is _ _ _ _ c.loop-device-test.true c.device-item.is) ∙ all _ c.loop-device-test.true)))
+  λ all. absurd (c.if-page_size.true (c.page_size.ensures ∙ ap (λ d. d.page_size) (device_is _ _ _ _ c.loop-device-test.true c.device-item.is) ∙ all _ c.loop-device-test.true)),
+)
 
 pub loop-device-preserved : goal.loop-device-preserved
 loop-device-preserved g c =

@@ -13,10 +13,10 @@ read-requires-clause-sized g c =
 pub returns-clause-call : goal.returns-clause-call
 returns-clause-call g c =
     page_read _ _ _ _ _ _ _ _ (device_is _ _ _ _ c.requires.device c.index_mut.ensures.value) (map-set _ _ _ _) (record {
-        shape = c.read.ensures.shape;
-        faults = c.read.ensures.faults;
-        unfailing = c.read.ensures.unfailing;
-        waiting = c.read.ensures.waiting;
-        contents = c.read.ensures.contents;
-        read = lent_bytes _ c.read.result _ c.read.new.into c.args.into.now.items _ c.args.into.now.ok.0 (c.read.auto.into ∙ ap length c.deref_mut.ensures.value) c.read.ensures.bytes;
+      shape = c.read.ensures.shape;
+      faults = c.read.ensures.faults;
+      unfailing = c.read.ensures.unfailing;
+      waiting = c.read.ensures.waiting;
+      contents = c.read.ensures.contents;
+      read = lent_bytes _ c.read.result _ c.read.new.into c.args.into.now.items _ c.args.into.now.ok.0 (c.read.auto.into ∙ ap length c.deref_mut.ensures.value) c.read.ensures.bytes;
     })

@@ -12,9 +12,9 @@ write-requires-clause-sized g c = c.requires.sized ∙ ap (λ d. d.page_size) (s
 pub returns : goal.returns
 returns g c =
     page_written _ _ _ _ _ _ _ _ (device_is _ _ _ _ c.requires.device c.index_mut.ensures.value) (map-set _ _ _ _) (record {
-        shape = c.write.ensures.shape;
-        faults = c.write.ensures.faults;
-        unfailing = c.write.ensures.unfailing;
-        others = c.write.ensures.others;
-        written = c.write.ensures.bytes;
+      shape = c.write.ensures.shape;
+      faults = c.write.ensures.faults;
+      unfailing = c.write.ensures.unfailing;
+      others = c.write.ensures.others;
+      written = c.write.ensures.bytes;
     })

@@ -7,5 +7,5 @@ pub invariant_of-self : goal.invariant_of-self
 invariant_of-self c =
     let there : c.args.at < length c.self.inside.slots.items = there_inside c.args.at _ _ c.self.view_is c.requires.there in
     tied_both c.self.inside.slots.items c.args.at _ _ _ there c.self.invariant
-        (ap (λ f. f.page) (frame_is c.self.inside.slots.items c.args.at _ _ there c.frame.view_is c.index_mut-frame.ensures.value))
-        (ap leaving_key (frame_is c.self.inside.slots.items c.args.at _ _ there c.frame.view_is c.index_mut-frame.ensures.value))
+    (ap (λ f. f.page) (frame_is c.self.inside.slots.items c.args.at _ _ there c.frame.view_is c.index_mut-frame.ensures.value))
+    (ap leaving_key (frame_is c.self.inside.slots.items c.args.at _ _ there c.frame.view_is c.index_mut-frame.ensures.value))

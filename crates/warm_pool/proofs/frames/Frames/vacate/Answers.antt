@@ -5,4 +5,4 @@ use Rattle.warm_pool.proofs.frames.Frames.vacate.Goals as goal
 pub invariant_of-self : goal.invariant_of-self
 invariant_of-self c =
     tied c.self.inside.slots.items c.args.at _ _ _ _ _ c.self.invariant c.set.ensures
-        (c.set-2.ensures ∙ ap (set c.self.inside.contest c.args.at) (sym (bare_key _ _)))
+    (c.set-2.ensures ∙ ap (set c.self.inside.contest c.args.at) (sym (bare_key _ _)))

@@ -26,4 +26,4 @@ returns-then-frame-lt4294967295-clause-fixed g c p e =
 pub returns-then-frame-lt4294967295-clause-holds : goal.returns-then-frame-lt4294967295-clause-holds
 returns-then-frame-lt4294967295-clause-holds g c =
     step_holds c.args.self.now.frames c.fix.new.self c.requires.pool c.args.at _ c.fix.ensures c.requires.there (alike_fixes c.requires.pool _ _ c.requires.held)
-        _ refl (ap (λ f. f.generation) (c.frame.view_is ∙ c.frame-frame.ensures)) (omega arith)
+    _ refl (ap (λ f. f.generation) (c.frame.view_is ∙ c.frame-frame.ensures)) (omega arith)

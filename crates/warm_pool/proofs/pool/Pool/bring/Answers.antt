@@ -23,22 +23,27 @@ returns-in-Err-clause-ranked g c =
 pub returns-in-Err-clause-refused : goal.returns-in-Err-clause-refused
 returns-in-Err-clause-refused g c =
     put_refused c.requires.pool c.load_into.ensures.pool c.args.history.now c.in-Some.at c.args.page (c.in-Some.ensures.place _ c.requires.ranked)
-        (subst (λ f. f.generation < 18446744073709551615) (c.behind-self.view_is ∙ c.frame.ensures) c.if-generation-lt18446744073709551615.true)
-        c.in-Err.fault c.in-Err.ensures.refused
+    (subst (λ f. f.generation < 18446744073709551615) (c.behind-self.view_is ∙ c.frame.ensures) c.if-generation-lt18446744073709551615.true)
+    c.in-Err.fault c.in-Err.ensures.refused
 
 pub returns-then-generation-lt18446744073709551615-clause-ranked : goal.returns-then-generation-lt18446744073709551615-clause-ranked
 returns-then-generation-lt18446744073709551615-clause-ranked g c =
     loaded_ranked c.requires.pool c.load_into.ensures.pool c.in-Some.at c.args.page c.known_key-key.result c.args.fixes c.in_default-load_into.ensures.put
-        c.in-Some.ensures.there c.args.history.now c.known_key-key.ensures c.requires.ranked
+    c.in-Some.ensures.there c.args.history.now c.known_key-key.ensures c.requires.ranked
 
 pub returns-then-generation-lt18446744073709551615-clause-put : goal.returns-then-generation-lt18446744073709551615-clause-put
 returns-then-generation-lt18446744073709551615-clause-put g c =
     loaded_puts c.requires.pool c.load_into.ensures.pool c.in-Some.at c.args.page c.known_key-key.result c.args.fixes c.in_default-load_into.ensures.put
-        c.args.history.now c.requires.absent (c.in-Some.ensures.place _ c.requires.ranked) c.behind-self.inside.generation
-        (ap (λ f. f.generation) (c.behind-self.view_is ∙ c.frame.ensures)) c.if-generation-lt18446744073709551615.true
+    c.args.history.now c.requires.absent (c.in-Some.ensures.place _ c.requires.ranked) c.behind-self.inside.generation
+    (ap (λ f. f.generation) (c.behind-self.view_is ∙ c.frame.ensures)) c.if-generation-lt18446744073709551615.true
 
 pub returns-clause-refused : goal.returns-clause-refused
 returns-clause-refused g c =
-    let full : c.behind-self.inside.generation ≡ 18446744073709551615 = omega arith in
-    ((c.in-Some.at, c.in-Some.ensures.place _ c.requires.ranked,
-        ap (λ f. f.generation) (seen_frame c.requires.pool c.in-Some.at _ _ c.behind-self.view_is c.frame.ensures) ∙ full), refl)
+    let full : c.behind-self.inside.generation ≡ 18446744073709551615 = omega arith in (
+      (
+        c.in-Some.at,
+        c.in-Some.ensures.place _ c.requires.ranked,
+        ap (λ f. f.generation) (seen_frame c.requires.pool c.in-Some.at _ _ c.behind-self.view_is c.frame.ensures) ∙ full,
+      ),
+      refl,
+    )

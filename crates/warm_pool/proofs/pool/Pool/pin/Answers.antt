@@ -15,12 +15,12 @@ returns-in-Some-clause-ranked g c = c.add_fix.ensures.ranked _ c.requires.ranked
 pub returns-in-Some-clause-pinned : goal.returns-in-Some-clause-pinned
 returns-in-Some-clause-pinned g c =
     pin_adds c.requires.pool c.add_fix.ensures.pool c.args.history.now c.args.page c.in_default.ensures.known _
-        (c.add_fix.ensures.fixed c.args.page (found_holds c.requires.pool _ _ c.in-Some.ensures))
+    (c.add_fix.ensures.fixed c.args.page (found_holds c.requires.pool _ _ c.in-Some.ensures))
 
 pub returns-in-Some-clause-refused : goal.returns-in-Some-clause-refused
 returns-in-Some-clause-refused g c =
     pin_full c.requires.pool c.add_fix.ensures.pool c.args.history.now c.args.page c.in-Some.at c.in_default.ensures.known
-        (found_there c.requires.pool _ _ c.in-Some.ensures) (found_holds c.requires.pool _ _ c.in-Some.ensures) _ c.add_fix.ensures.refused
+    (found_there c.requires.pool _ _ c.in-Some.ensures) (found_holds c.requires.pool _ _ c.in-Some.ensures) _ c.add_fix.ensures.refused
 
 pub returns-in-Some-clause-stays : goal.returns-in-Some-clause-stays
 returns-in-Some-clause-stays g c = full_stays c.requires.pool c.add_fix.ensures.pool c.in-Some.at _ c.add_fix.ensures.refused
@@ -39,7 +39,7 @@ returns-in-None-clause-holds g c =
 pub returns-in-None-clause-refused : goal.returns-in-None-clause-refused
 returns-in-None-clause-refused g c =
     pin_put_refused c.requires.pool c.bring.ensures.pool c.args.history.now c.args.page c.in_default.ensures.known
-        (found_nowhere c.requires.pool _ c.in-None.ensures) _ c.bring.ensures.refused
+    (found_nowhere c.requires.pool _ c.in-None.ensures) _ c.bring.ensures.refused
 
 pub returns-in-None-clause-stays : goal.returns-in-None-clause-stays
 returns-in-None-clause-stays g c =

@@ -11,15 +11,15 @@ unfix-requires-clause-fixed g c = held_fixed c.requires.pool _ c.requires.holds
 pub returns-clause-pool : goal.returns-clause-pool
 returns-clause-pool g c =
     step_pool c.args.self.now.frames c.unfix.new.self c.requires.pool c.args.slot.index _ c.unfix.ensures (held_there c.requires.pool _ c.requires.holds)
-        (alike_fixes c.requires.pool _ _ (fixed_some c.requires.pool _ (held_fixed c.requires.pool _ c.requires.holds)))
+    (alike_fixes c.requires.pool _ _ (fixed_some c.requires.pool _ (held_fixed c.requires.pool _ c.requires.holds)))
 
 pub returns-clause-ranked : goal.returns-clause-ranked
 returns-clause-ranked g c =
     step_ranked c.args.self.now.frames c.unfix.new.self c.requires.pool c.args.slot.index _ c.unfix.ensures (held_there c.requires.pool _ c.requires.holds)
-        (alike_fixes c.requires.pool _ _ (fixed_some c.requires.pool _ (held_fixed c.requires.pool _ c.requires.holds))) refl
+    (alike_fixes c.requires.pool _ _ (fixed_some c.requires.pool _ (held_fixed c.requires.pool _ c.requires.holds))) refl
 
 pub returns-clause-unpinned : goal.returns-clause-unpinned
 returns-clause-unpinned g c =
     step_view c.args.self.now.frames c.unfix.new.self c.requires.pool c.args.slot.index _ c.unfix.ensures (held_there c.requires.pool _ c.requires.holds)
-        (alike_fixes c.requires.pool _ _ (fixed_some c.requires.pool _ (held_fixed c.requires.pool _ c.requires.holds)))
+    (alike_fixes c.requires.pool _ _ (fixed_some c.requires.pool _ (held_fixed c.requires.pool _ c.requires.holds)))
     ∙ seen_unpinned c.requires.pool c.args.slot

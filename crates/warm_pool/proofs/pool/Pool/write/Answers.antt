@@ -6,11 +6,11 @@ use Rattle.warm_pool.proofs.pool.Pool.write.Goals as goal
 pub returns-clause-pool : goal.returns-clause-pool
 returns-clause-pool g c =
     write_pool c.args.self.now.frames c.patch.new.self c.requires.pool c.args.slot.index c.args.at c.args.bytes.now c.patch.ensures
-        (held_there c.requires.pool _ c.requires.holds) (fixed_some c.requires.pool _ (held_fixed c.requires.pool _ c.requires.holds))
-        (c.is_within.ensures.0 c.if-not-is_within.false)
+    (held_there c.requires.pool _ c.requires.holds) (fixed_some c.requires.pool _ (held_fixed c.requires.pool _ c.requires.holds))
+    (c.is_within.ensures.0 c.if-not-is_within.false)
 
 pub returns-clause-written : goal.returns-clause-written
 returns-clause-written g c =
     write_view c.args.self.now.frames c.patch.new.self c.requires.pool c.args.slot.index c.args.at c.args.bytes.now c.patch.ensures
-        (held_there c.requires.pool _ c.requires.holds) (fixed_some c.requires.pool _ (held_fixed c.requires.pool _ c.requires.holds))
-        (c.is_within.ensures.0 c.if-not-is_within.false) c.args.slot refl
+    (held_there c.requires.pool _ c.requires.holds) (fixed_some c.requires.pool _ (held_fixed c.requires.pool _ c.requires.holds))
+    (c.is_within.ensures.0 c.if-not-is_within.false) c.args.slot refl
