@@ -50,9 +50,9 @@ module _ (frames : List ℕ) (f v : ℕ) where
       | inr ne ↦ first.apart y ge under (sym (other_than y ne) ∙ here)
     ];
     there = λ under.
-      let here : get_or frames at 0 ≡ b = first.there (subst (λ n. at < n) same_count under) in
-      let ne : at ≢ f = λ e. was (sym (ap (λ n. get_or frames n 0) e) ∙ here) in
-      other_than at ne ∙ here;
+        let here : get_or frames at 0 ≡ b = first.there (subst (λ n. at < n) same_count under) in
+        let ne : at ≢ f = λ e. was (sym (ap (λ n. get_or frames n 0) e) ∙ here) in
+        other_than at ne ∙ here;
   }
 
   -- once a frame has left the bucket, what came after it comes after the frames before it

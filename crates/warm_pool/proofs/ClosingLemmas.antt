@@ -91,9 +91,9 @@ pub down_more : (which : Option ℕ) (n : ℕ) (s t u : PoolState) → n < lengt
 down_more which n s t u lt first next = let one : suc n ≡ n + 1 = omega arith in record {
   becomes = next.becomes ∙ ap (λ frames. set frames n (clean_if which (nth_frame frames n))) first.becomes ∙ clean_more which n s.frames lt ∙ ap (λ m. cleaned_chosen which m s.frames) one;
   devices = kept_both s.frames t.frames s.devices t.devices u.devices
-    (λ i. ap (λ frames. (nth_frame frames i).page) first.becomes ∙ nth_page which n s.frames i)
-    (λ i is. ap (λ frames. (nth_frame frames i).dirty) first.becomes ∙ nth_dirty which n s.frames i is)
-    first.devices next.devices;
+      (λ i. ap (λ frames. (nth_frame frames i).page) first.becomes ∙ nth_page which n s.frames i)
+      (λ i is. ap (λ frames. (nth_frame frames i).dirty) first.becomes ∙ nth_dirty which n s.frames i is)
+      first.devices next.devices;
   failures = next.failures ∙ first.failures;
   same = (next.same.0 ∙ first.same.0, next.same.1 ∙ first.same.1);
 }

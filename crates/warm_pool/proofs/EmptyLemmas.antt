@@ -103,10 +103,10 @@ vacated_pool which s unfixed w =
       has_page = λ i p is. w.has_page i p (was_there which s.frames i p is);
       once = λ i j p at_i at_j. w.once i j p (was_there which s.frames i p at_i) (was_there which s.frames j p at_j);
       clean = λ i p is clean honest.
-        let same = still_there which s.frames i p is in
-        ap (λ f. f.bytes) same ∙ w.clean i p (was_there which s.frames i p is) (sym (ap (λ f. f.dirty) same) ∙ clean) honest;
+          let same = still_there which s.frames i p is in
+          ap (λ f. f.bytes) same ∙ w.clean i p (was_there which s.frames i p is) (sym (ap (λ f. f.dirty) same) ∙ clean) honest;
       bare = λ i is. subst (λ f. IsBare f) (sym (nth_vacated which s.frames i))
-        (vacate_bare which (nth_frame s.frames i) (unfixed i) (w.bare i) (sym (ap (λ f. f.page) (nth_vacated which s.frames i)) ∙ is));
+          (vacate_bare which (nth_frame s.frames i) (unfixed i) (w.bare i) (sym (ap (λ f. f.page) (nth_vacated which s.frames i)) ∙ is));
     }
 
 pub vacated_ranked : (which : Option ℕ) (frames : List FrameState) (h : List Entry) → ((i : ℕ) → IsRanked h (nth_frame frames i)) → (i : ℕ) → IsRanked h (nth_frame (vacated_from which 0 frames) i)

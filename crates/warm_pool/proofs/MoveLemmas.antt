@@ -93,7 +93,7 @@ unlinked frames heads next b f last lt in_heads is chains is_last =
     let now : List ℕ = set frames f n in
     let first : IsFirstFrom frames b (suc f) to = link_first frames heads next b (Some f) chains in_heads (lt, is) in
     let leads : (from : ℕ) → from ≤ f → ((y : ℕ) → from ≤ y → y < f → get_or frames y 0 ≢ b) → IsFirstFrom now b from to =
-      λ from low between. passed_over frames f n b from to lt (omega arith) low between first
+    λ from low between. passed_over frames f n b from to lt (omega arith) low between first
     in
     let others : (c : ℕ) → c < length heads → c ≢ b → (get_or frames f 0 ≢ c) × (n ≢ c) = λ c low ne. (λ e. ne (sym e ∙ is), λ e. omega arith) in
     record {
@@ -133,7 +133,7 @@ linked frames heads next b f last lt in_heads is chains is_last =
     let first : IsFirstFrom frames b (after last) link = link_first frames heads next b last chains in_heads is_last.is_of in
     let was : get_or frames f 0 ≢ b = λ e. let same : length heads ≡ b = sym is ∙ e in omega arith in
     let leads : (from : ℕ) → from ≤ f → ((y : ℕ) → from ≤ y → y < f → get_or frames y 0 ≢ b) → IsFirstFrom now b from f =
-      λ from low between. comes_first frames f b b from lt refl low between
+    λ from low between. comes_first frames f b b from lt refl low between
     in
     let others : (c : ℕ) → c < length heads → c ≢ b → (get_or frames f 0 ≢ c) × (b ≢ c) = λ c low ne. (λ e. let same : length heads ≡ c = sym is ∙ e in omega arith, λ e. ne (sym e)) in
     let with_link : List ℕ = set next f link in

@@ -74,7 +74,7 @@ pub flush_one_fails : (which : Option ℕ) (n : ℕ) (s t u : PoolState) (k : �
 flush_one_fails which n s t u k after down lt frames same is fails =
     let alike : AreAlike t.devices u.devices = subst (λ ds. AreAlike t.devices ds) (sym is) (one_alike t.devices k after lt fails.shape fails.contents) in
     let grown : counts u.devices ≡ set (counts t.devices) k (one_more (get_or (counts t.devices) k 0)) =
-      ap counts is ∙ map-set (λ d. d.failures) t.devices k after ∙ ap (λ m. set (counts t.devices) k m) (fails.failures ∙ ap one_more (sym (count_at t.devices k)))
+    ap counts is ∙ map-set (λ d. d.failures) t.devices k after ∙ ap (λ m. set (counts t.devices) k m) (fails.failures ∙ ap one_more (sym (count_at t.devices k)))
     in
     let moved : view_of u ≡ view_of (record t { devices = u.devices }) = λ i. view_of (record { page_size = same.0 i; spare = same.1 i; frames = frames i; devices = u.devices }) in
     let seen : view_of u ≡ record (view_of t) { failures = counts u.devices } = moved ∙ view_of_kept t u.devices (alike_kept t.frames t.devices u.devices alike) in
@@ -159,8 +159,8 @@ module _ (dev : ℕ) (t : PoolState) (device : DeviceState) (w : IsPool t) (ther
         has_page = λ i p is. subst (λ d. p.no < d.pages) (sym (new_other p.dev (away_from dev t.frames i p is))) (v.has_page i p is);
         once = v.once;
         clean = λ i p is clean honest.
-          let same = new_other p.dev (away_from dev t.frames i p is) in
-          v.clean i p is clean (subst (λ d. IsTrue d.honest) same honest) ∙ ap (λ d. page_at d.contents p.no) (sym same);
+            let same = new_other p.dev (away_from dev t.frames i p is) in
+            v.clean i p is clean (subst (λ d. IsTrue d.honest) same honest) ∙ ap (λ d. page_at d.contents p.no) (sym same);
         bare = v.bare;
       }
 

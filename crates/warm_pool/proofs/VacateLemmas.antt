@@ -44,7 +44,7 @@ vacate_step which m at old mid new one within is next =
     let here : mid.frames ≡ vacated_from which (suc at) old.frames = ap (λ f. f.frames) is ∙ ap (λ n. vacated_from which n old.frames) one in
     let nth : nth_frame mid.frames at ≡ nth_frame old.frames at = ap (λ frames. nth_frame frames at) here ∙ vacate_next which at old.frames in
     let frames : set mid.frames at (vacate_if which (nth_frame mid.frames at)) ≡ vacated_from which at old.frames =
-      ap₂ (λ (xs : List FrameState) (f : FrameState). set xs at (vacate_if which f)) here nth ∙ vacate_more which at old.frames (omega arith)
+    ap₂ (λ (xs : List FrameState) (f : FrameState). set xs at (vacate_if which f)) here nth ∙ vacate_more which at old.frames (omega arith)
     in
     next ∙ ap₂ (λ (size : ℕ) (xs : List FrameState). let f : FramesState = record { page_size = size; frames = xs } in f) (ap (λ f. f.page_size) is) frames
 

@@ -77,7 +77,11 @@ impl Pool {
     {
         match self.put_down() {
             Ok(()) => {
-                let Pool { frames, devices, spare } = self;
+                let Pool {
+                    frames,
+                    devices,
+                    spare,
+                } = self;
                 drop(frames);
                 drop(spare);
                 let_all_go(devices);
@@ -96,11 +100,7 @@ impl Pool {
     /// - `SizeDiffers`: the pages of the new device have another size than those of the pool.
     /// - `Fixed`: a page of the device is fixed.
     /// - `Fault`: a write or the flush of the device failed, whose count of failures has grown.
-    pub fn retire(
-        &mut self,
-        dev: u16,
-        device: Box<dyn PageDevice + Send>,
-    ) -> Result<(), Unretired>
+    pub fn retire(&mut self, dev: u16, device: Box<dyn PageDevice + Send>) -> Result<(), Unretired>
         requires pool { IsPool (⟦<Pool as Pooled>⟧.state self.old) }
         ensures pool { IsPool (⟦<Pool as Pooled>⟧.state self.new) }
         ensures retired { OnOk result (Retired (⟦<Pool as Pooled>⟧.shown self.old) dev (state device) (⟦<Pool as Pooled>⟧.shown self.new)) }

@@ -18,7 +18,10 @@ pub(crate) fn flush_all(devices: &mut Vec<Box<dyn PageDevice + Send>>) -> Result
 }
 
 /// Flushes one of the devices, where something waits on it.
-pub(crate) fn flush_device(devices: &mut Vec<Box<dyn PageDevice + Send>>, at: usize) -> Result<(), DeviceFault>
+pub(crate) fn flush_device(
+    devices: &mut Vec<Box<dyn PageDevice + Send>>,
+    at: usize,
+) -> Result<(), DeviceFault>
     requires { at < length devices.old.items }
     ensures { DeviceFlush (map (λ b. state b) devices.old.items) (map (λ b. state b) devices.new.items) at result }
 {

@@ -201,7 +201,13 @@ fn link(heads: &mut Vec<u32>, next: &mut Vec<u32>, frame: usize, bucket: usize)
 }
 
 // Moves a frame from the chain of the page that it holds into that of another page.
-fn move_frame(pages: &[Option<PageId>], heads: &mut Vec<u32>, next: &mut Vec<u32>, frame: usize, page: Option<PageId>)
+fn move_frame(
+    pages: &[Option<PageId>],
+    heads: &mut Vec<u32>,
+    next: &mut Vec<u32>,
+    frame: usize,
+    page: Option<PageId>,
+)
     ghost frames: { List ℕ }
     requires frames { frames ≡ buckets pages.now }
     requires frame { frame < length pages.now }

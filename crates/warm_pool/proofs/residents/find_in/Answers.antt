@@ -9,8 +9,8 @@ loop-at-init c =
     let pages = c.args.pages.now in
     let b : ℕ = bucket (length pages) (Some c.args.page) in
     let first : IsFirstFrom (buckets pages) b 0 (get_or c.args.heads.now c.bucket_of.result 0) =
-      subst (λ n. IsFirstFrom (buckets pages) b 0 (get_or c.args.heads.now n 0)) (sym c.bucket_of.ensures.is)
-      (c.requires.chains.heads_are b (subst (λ n. n < length c.args.heads.now) c.bucket_of.ensures.is (omega arith)))
+    subst (λ n. IsFirstFrom (buckets pages) b 0 (get_or c.args.heads.now n 0)) (sym c.bucket_of.ensures.is)
+    (c.requires.chains.heads_are b (subst (λ n. n < length c.args.heads.now) c.bucket_of.ensures.is (omega arith)))
     in
     record { next = (0, first); passed = passed_first pages c.args.page _ first }
 

@@ -8,6 +8,6 @@ abbrev pub invariant-loop-at : goal.invariant-loop-at
 invariant-loop-at g l = record {
   pool : IsPool (pool_of (λ b. (goal.PageDevice-dyn g (b.vtable, b.value)).state b.value) l.self.frames (length l.self.spare.items) l.self.devices.items);
   down : PutsDown (cleaned_chosen l.which l.at l.fn.self.frames.frames)
-    (pool_of (λ b. (goal.PageDevice-dyn g (b.vtable, b.value)).state b.value) l.fn.self.frames (length l.fn.self.spare.items) l.fn.self.devices.items)
-    (pool_of (λ b. (goal.PageDevice-dyn g (b.vtable, b.value)).state b.value) l.self.frames (length l.self.spare.items) l.self.devices.items);
+      (pool_of (λ b. (goal.PageDevice-dyn g (b.vtable, b.value)).state b.value) l.fn.self.frames (length l.fn.self.spare.items) l.fn.self.devices.items)
+      (pool_of (λ b. (goal.PageDevice-dyn g (b.vtable, b.value)).state b.value) l.self.frames (length l.self.spare.items) l.self.devices.items);
 }
