@@ -146,7 +146,7 @@ fn a_changed_byte_is_refused(rt: HostRuntime) {
     ];
     for (place, value, want) in rows {
         let mut bytes = TWICE;
-        bytes[place] = value;
+        bytes[place % 42] = value;
         assert_eq!(rt; fault(rt.alloc(), &bytes), Some(want), "{value} at {place}");
     }
     let mut bytes = TWICE;
@@ -181,14 +181,27 @@ fn pages_have_to_rise(rt: HostRuntime) -> Result<(), Fail> {
     Ok(())
 }
 
+// Room for entries; where it is refused, asked for once more.
+fn room(alloc: Global, count: usize) -> Result<Vec<Entry>, AllocError> {
+    match Vec::with_capacity(alloc, count) {
+        Ok(entries) => Ok(entries),
+        Err(_) => Vec::with_capacity(alloc, count),
+    }
+}
+
+fn put_once(entries: &mut Vec<Entry>, no: u32) -> Result<(), Fail> {
+    let last = stamp(20, 1)?;
+    let page = PageId { dev: 0, no };
+    let hist = PageHist::Once(last);
+    entries.push(Entry { page, hist })?;
+    Ok(())
+}
+
 // Entries of rising pages, each referenced once.
 fn rising(alloc: Global, count: u32) -> Result<Vec<Entry>, Fail> {
-    let mut entries = match Vec::with_capacity(alloc, count as usize) {
-        Ok(entries) => entries,
-        Err(_) => Vec::with_capacity(alloc, count as usize)?,
-    };
+    let mut entries = room(alloc, count as usize)?;
     for no in 0..count {
-        entries.push(once(no * 64)?)?;
+        put_once(&mut entries, no)?;
     }
     Ok(entries)
 }
@@ -213,13 +226,13 @@ fn a_list_has_at_most_1000_entries(rt: HostRuntime) -> Result<(), Fail> {
 #[test]
 fn a_list_has_rising_pages(rt: HostRuntime) -> Result<(), Fail> {
     for second in [6, 7] {
-        let mut entries = rising(rt.alloc(), 2)?;
-        entries[0] = once(7)?;
-        entries[1] = once(second)?;
+        let mut entries = room(rt.alloc(), 2)?;
+        entries.push(once(7)?)?;
+        entries.push(once(second)?)?;
         let Err(back) = EntryList::of(entries) else {
             return Err("taken".into());
         };
-        assert_eq!(rt; (back[0], back[1]), (once(7)?, once(second)?));
+        assert_eq!(rt; back.as_slice(), [once(7)?, once(second)?].as_slice());
     }
     Ok(())
 }
