@@ -1,0 +1,111 @@
+-- Frames whose pages go to their devices one after the other.
+use Rattle.std.proofs.Common.{◌≡◌, ℕ, zero, suc, ◌+◌, ◌<◌, ◌≤◌, cond, true, false, IsTrue, List, [], ◌∷◌, length, map, set, Option, refl, sym, ap, ◌∙◌, subst, arith}
+use Rattle.std.proofs.lemmas.List.{set-get_or}
+use Rattle.warm_devices.specs.Device.{DeviceState, SameShape}
+use Rattle.warm_pool.specs.Frames.{FrameState, nth_frame, cleaned, fresh_frame}
+use Rattle.warm_pool.specs.State.{PoolState, nth_device, view_of}
+use Rattle.warm_pool.specs.Calls.{FailsAt}
+use Rattle.warm_pool.specs.Steps.{KeptDevices, Cleans, CleanFails}
+use Rattle.warm_pool.specs.Closing.{PutsDown, StopsAt, clean_if, cleaned_chosen, is_chosen}
+use Rattle.warm_pool.proofs.FlushLemmas.{same_shape}
+
+-- a frame that may have been cleaned has the page that it had, and isn't dirty if it wasn't
+pub clean_page : (which : Option ℕ) (f : FrameState) → (clean_if which f).page ≡ f.page
+clean_page which f = elim (is_chosen which f.page) as (λ t. (cond t (cleaned f) f).page ≡ f.page) [ true ↦ refl | false ↦ refl ]
+
+pub clean_dirty : (which : Option ℕ) (f : FrameState) → f.dirty ≡ false → (clean_if which f).dirty ≡ false
+clean_dirty which f is = elim (is_chosen which f.page) as (λ t. (cond t (cleaned f) f).dirty ≡ false) [ true ↦ refl | false ↦ is ]
+
+-- one frame more
+pub clean_more : (which : Option ℕ) (n : ℕ) (frames : List FrameState) → n < length frames → set (cleaned_chosen which n frames) n (clean_if which (nth_frame (cleaned_chosen which n frames) n)) ≡ cleaned_chosen which (suc n) frames
+clean_more which n [] lt = absurd (omega arith)
+clean_more which zero (f ∷ frames) lt = refl
+clean_more which (suc n) (f ∷ frames) lt = ap (λ rest. clean_if which f ∷ rest) (clean_more which n frames (omega arith))
+
+pub clean_all : (which : Option ℕ) (frames : List FrameState) → cleaned_chosen which (length frames) frames ≡ map (clean_if which) frames
+clean_all which [] = refl
+clean_all which (f ∷ frames) = ap (λ rest. clean_if which f ∷ rest) (clean_all which frames)
+
+-- each frame as it was or clean
+pub nth_page : (which : Option ℕ) (n : ℕ) (frames : List FrameState) (i : ℕ) → (nth_frame (cleaned_chosen which n frames) i).page ≡ (nth_frame frames i).page
+nth_page which zero frames i = refl
+nth_page which (suc n) [] i = refl
+nth_page which (suc n) (f ∷ frames) zero = clean_page which f
+nth_page which (suc n) (f ∷ frames) (suc i) = nth_page which n frames i
+
+pub nth_dirty : (which : Option ℕ) (n : ℕ) (frames : List FrameState) (i : ℕ) → (nth_frame frames i).dirty ≡ false → (nth_frame (cleaned_chosen which n frames) i).dirty ≡ false
+nth_dirty which zero frames i is = is
+nth_dirty which (suc n) [] i is = is
+nth_dirty which (suc n) (f ∷ frames) zero is = clean_dirty which f is
+nth_dirty which (suc n) (f ∷ frames) (suc i) is = nth_dirty which n frames i is
+
+-- those not yet reached are as they were
+pub nth_rest : (which : Option ℕ) (n : ℕ) (frames : List FrameState) (i : ℕ) → n ≤ i → nth_frame (cleaned_chosen which n frames) i ≡ nth_frame frames i
+nth_rest which zero frames i le = refl
+nth_rest which (suc n) [] i le = refl
+nth_rest which (suc n) (f ∷ frames) zero le = absurd (omega arith)
+nth_rest which (suc n) (f ∷ frames) (suc i) le = nth_rest which n frames i (omega arith)
+
+pub kept_same : (frames : List FrameState) (devices : List DeviceState) → KeptDevices frames devices devices
+kept_same frames devices = record { count = refl; shape = λ k. same_shape (nth_device devices k); absent = λ p away. refl; clean = λ i p holds clean. refl }
+
+shape_both : (a b c : DeviceState) → SameShape a b → SameShape b c → SameShape a c
+shape_both a b c ab bc = record { pages = bc.pages ∙ ab.pages; page_size = bc.page_size ∙ ab.page_size; honest = bc.honest ∙ ab.honest; unfailing = bc.unfailing ∙ ab.unfailing }
+
+-- two steps, the second over frames with the same pages, that are clean where they were
+pub kept_both : (frames later : List FrameState) (a b c : List DeviceState) → ((i : ℕ) → (nth_frame later i).page ≡ (nth_frame frames i).page) → ((i : ℕ) → (nth_frame frames i).dirty ≡ false → (nth_frame later i).dirty ≡ false)
+    → KeptDevices frames a b → KeptDevices later b c → KeptDevices frames a c
+kept_both frames later a b c pages clean ab bc = record {
+  count = bc.count ∙ ab.count;
+  shape = λ k. shape_both (nth_device a k) (nth_device b k) (nth_device c k) (ab.shape k) (bc.shape k);
+  absent = λ p away. bc.absent p (λ i is. away i (sym (pages i) ∙ is)) ∙ ab.absent p away;
+  clean = λ i p holds is. bc.clean i p (pages i ∙ holds) (clean i is) ∙ ab.clean i p holds is;
+}
+
+-- nothing is put down where nothing is done
+pub down_none : (which : Option ℕ) (s : PoolState) → PutsDown (cleaned_chosen which 0 s.frames) s s
+down_none which s = record { becomes = refl; devices = kept_same s.frames s.devices; failures = refl; same = (refl, refl) }
+
+-- where a frame isn't concerned
+pub down_other : (which : Option ℕ) (s : PoolState) (i : ℕ) → is_chosen which (nth_frame s.frames i).page ≡ false → PutsDown (set s.frames i (clean_if which (nth_frame s.frames i))) s s
+down_other which s i isnt = record {
+  becomes = sym (ap (λ t. set s.frames i (cond t (cleaned (nth_frame s.frames i)) (nth_frame s.frames i))) isnt ∙ set-get_or s.frames i (fresh_frame []));
+  devices = kept_same s.frames s.devices;
+  failures = refl;
+  same = (refl, refl);
+}
+
+-- where it is
+pub down_one : (which : Option ℕ) (s t : PoolState) (i : ℕ) → is_chosen which (nth_frame s.frames i).page ≡ true → Cleans s i t → PutsDown (set s.frames i (clean_if which (nth_frame s.frames i))) s t
+down_one which s t i is cleans = record {
+  becomes = cleans.frames ∙ ap (λ b. set s.frames i (cond b (cleaned (nth_frame s.frames i)) (nth_frame s.frames i))) (sym is);
+  devices = cleans.devices;
+  failures = cleans.failures;
+  same = cleans.same;
+}
+
+pub down_more : (which : Option ℕ) (n : ℕ) (s t u : PoolState) → n < length s.frames → PutsDown (cleaned_chosen which n s.frames) s t → PutsDown (set t.frames n (clean_if which (nth_frame t.frames n))) t u → PutsDown (cleaned_chosen which (n + 1) s.frames) s u
+down_more which n s t u lt first next = let one : suc n ≡ n + 1 = omega arith in record {
+  becomes = next.becomes ∙ ap (λ frames. set frames n (clean_if which (nth_frame frames n))) first.becomes ∙ clean_more which n s.frames lt ∙ ap (λ m. cleaned_chosen which m s.frames) one;
+  devices = kept_both s.frames t.frames s.devices t.devices u.devices
+      (λ i. ap (λ frames. (nth_frame frames i).page) first.becomes ∙ nth_page which n s.frames i)
+      (λ i is. ap (λ frames. (nth_frame frames i).dirty) first.becomes ∙ nth_dirty which n s.frames i is)
+      first.devices next.devices;
+  failures = next.failures ∙ first.failures;
+  same = (next.same.0 ∙ first.same.0, next.same.1 ∙ first.same.1);
+}
+
+-- a frame that is concerned whose page was not written
+pub one_stops : (which : Option ℕ) (n : ℕ) (s t u : PoolState) → n < length s.frames → PutsDown (cleaned_chosen which n s.frames) s t → view_of t ≡ view_of s → IsTrue (is_chosen which (nth_frame t.frames n).page) → CleanFails t n u → StopsAt which s u
+one_stops which n s t u lt down same chosen fails =
+    let here : nth_frame t.frames n ≡ nth_frame s.frames n = ap (λ frames. nth_frame frames n) down.becomes ∙ nth_rest which n s.frames n (omega arith) in
+    record {
+      frame = n;
+      page = fails.page;
+      there = lt;
+      holds = ap (λ f. f.page) (sym here) ∙ fails.holds;
+      chosen = subst (λ page. IsTrue (is_chosen which page)) fails.holds chosen;
+      dirty = ap (λ f. f.dirty) (sym here) ∙ fails.dirty;
+      frames = fails.frames ∙ down.becomes;
+      fails = subst (λ v. FailsAt v fails.page.dev (view_of u)) same fails.fails;
+    }

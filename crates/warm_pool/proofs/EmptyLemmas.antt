@@ -1,0 +1,183 @@
+-- A pool of which pages left.
+use Rattle.std.proofs.Common.{◌≡◌, ℕ, zero, suc, ◌<◌, ◌≤◌, cond, true, false, IsTrue, List, [], ◌∷◌, length, map, get_or, Option, Some, None, refl, sym, ap, ◌∙◌, subst, inl, inr}
+use Rattle.std.specs.Option.{option_map}
+use Rattle.std.proofs.lemmas.Bool.{cases_lt}
+use Rattle.std.proofs.lemmas.List.{length-map}
+use Rattle.std.proofs.Math.ListN.{get_or-map as mapped}
+use Rattle.warm_stamps.specs.declared.PageId.{PageId}
+use Rattle.warm_history.specs.declared.hist.Entry.{Entry}
+use Rattle.warm_history.specs.Histories.{hist, refs}
+use Rattle.warm_rank.specs.Keys.{rank_key}
+use Rattle.warm_devices.specs.Device.{DeviceState, page_at}
+use Rattle.warm_pool.specs.Frames.{FrameState, FramesState, nth_frame, fresh_frame, vacated}
+use Rattle.warm_pool.specs.State.{PoolState, IsPool, IsNowhere, IsSettled, nth_device, stored, view_of, frame_view, bytes_of}
+use Rattle.warm_pool.specs.View.{PoolView, HasPage, contents_at, device_at}
+use Rattle.warm_pool.specs.Calls.{Emptied, KeepsContents, emptied}
+use Rattle.warm_pool.specs.Closing.{AreUnfixed, PutsDown, is_chosen, vacate_if, vacated_from, clean_if, cleaned_chosen}
+use Rattle.warm_pool.specs.Flushes.{NoneWaits}
+use Rattle.warm_pool.proofs.Bytes.{bytes_nowhere, where_is, contents_seen, contents_beyond, device_seen, device_there, frame_seen}
+use Rattle.warm_pool.proofs.Keeps.{stored_honest}
+use Rattle.warm_pool.proofs.ClosingLemmas.{nth_page}
+use Rattle.warm_pool.proofs.SettleLemmas.{down_view, settled}
+use Rattle.warm_pool.proofs.VacateLemmas.{length-vacated}
+
+-- Fixes
+
+clean_fixes : (which : Option ℕ) (f : FrameState) → (clean_if which f).fixes ≡ f.fixes
+clean_fixes which f = elim (is_chosen which f.page) as (λ t. (cond t (record f { dirty = false }) f).fixes ≡ f.fixes) [ true ↦ refl | false ↦ refl ]
+
+nth_fixes : (which : Option ℕ) (n : ℕ) (frames : List FrameState) (i : ℕ) → (nth_frame (cleaned_chosen which n frames) i).fixes ≡ (nth_frame frames i).fixes
+nth_fixes which zero frames i = refl
+nth_fixes which (suc n) [] i = refl
+nth_fixes which (suc n) (f ∷ frames) zero = clean_fixes which f
+nth_fixes which (suc n) (f ∷ frames) (suc i) = nth_fixes which n frames i
+
+pub unfixed_to : (which : Option ℕ) (n : ℕ) (old new : List FrameState) → new ≡ cleaned_chosen which n old → AreUnfixed which old → AreUnfixed which new
+unfixed_to which n old new becomes unfixed i chosen =
+    let page : (nth_frame new i).page ≡ (nth_frame old i).page = ap (λ frames. (nth_frame frames i).page) becomes ∙ nth_page which n old i in
+    ap (λ frames. (nth_frame frames i).fixes) becomes ∙ nth_fixes which n old i ∙ unfixed i (subst (λ held. IsTrue (is_chosen which held)) page chosen)
+
+pub unfixed_frames : (frames : List FrameState) → AreUnfixed None frames → (i : ℕ) → (get_or (map frame_view frames) i (frame_view (fresh_frame []))).fixes ≡ 0
+unfixed_frames frames unfixed i = ap (λ f. f.fixes) (mapped frame_view frames i (fresh_frame [])) ∙ unfixed i refl
+
+-- One frame whose page may have left
+
+pub vacate_held : (which : Option ℕ) (f : FrameState) (p : PageId) → (vacate_if which f).page ≡ Some p → vacate_if which f ≡ f
+vacate_held which f p = elim (is_chosen which f.page) as (λ t. (cond t (vacated f) f).page ≡ Some p → cond t (vacated f) f ≡ f) [
+  | true ↦ λ is. let no : None ≡ Some p = is in absurd (cc)
+  | false ↦ λ is. refl
+]
+
+vacate_size : (which : Option ℕ) (f : FrameState) → (vacate_if which f).bytes ≡ f.bytes
+vacate_size which f = elim (is_chosen which f.page) as (λ t. (cond t (vacated f) f).bytes ≡ f.bytes) [ true ↦ refl | false ↦ refl ]
+
+vacate_dirty : (which : Option ℕ) (f : FrameState) → f.dirty ≡ false → (vacate_if which f).dirty ≡ false
+vacate_dirty which f is = elim (is_chosen which f.page) as (λ t. (cond t (vacated f) f).dirty ≡ false) [ true ↦ refl | false ↦ is ]
+
+abbrev IsBare : FrameState → Type 0
+IsBare f = (f.key ≡ None) × (f.fixes ≡ 0) × (f.dirty ≡ false)
+
+vacate_bare : (which : Option ℕ) (f : FrameState) → (IsTrue (is_chosen which f.page) → f.fixes ≡ 0) → (f.page ≡ None → IsBare f) → (vacate_if which f).page ≡ None → IsBare (vacate_if which f)
+vacate_bare which f = elim (is_chosen which f.page) as (λ t. (IsTrue t → f.fixes ≡ 0) → (f.page ≡ None → IsBare f) → (cond t (vacated f) f).page ≡ None → IsBare (cond t (vacated f) f)) [
+  | true ↦ λ unfixed bare is. (refl, unfixed refl, refl)
+  | false ↦ λ unfixed bare is. bare is
+]
+
+abbrev IsRanked : List Entry → FrameState → Type 0
+IsRanked h f = f.key ≡ option_map (λ p. rank_key p (hist (refs h) p)) f.page
+
+vacate_ranked : (which : Option ℕ) (f : FrameState) (h : List Entry) → IsRanked h f → IsRanked h (vacate_if which f)
+vacate_ranked which f h is = elim (is_chosen which f.page) as (λ t. IsRanked h (cond t (vacated f) f)) [ true ↦ refl | false ↦ is ]
+
+vacate_fresh : (which : Option ℕ) → vacate_if which (fresh_frame []) ≡ fresh_frame []
+vacate_fresh None = refl
+vacate_fresh (Some dev) = refl
+
+pub nth_vacated : (which : Option ℕ) (frames : List FrameState) (i : ℕ) → nth_frame (vacated_from which 0 frames) i ≡ vacate_if which (nth_frame frames i)
+nth_vacated which [] i = sym (vacate_fresh which)
+nth_vacated which (f ∷ frames) zero = refl
+nth_vacated which (f ∷ frames) (suc i) = nth_vacated which frames i
+
+-- All of them
+
+pub still_there : (which : Option ℕ) (frames : List FrameState) (i : ℕ) (p : PageId) → (nth_frame (vacated_from which 0 frames) i).page ≡ Some p → nth_frame (vacated_from which 0 frames) i ≡ nth_frame frames i
+still_there which frames i p is = nth_vacated which frames i ∙ vacate_held which (nth_frame frames i) p (sym (ap (λ f. f.page) (nth_vacated which frames i)) ∙ is)
+
+pub was_there : (which : Option ℕ) (frames : List FrameState) (i : ℕ) (p : PageId) → (nth_frame (vacated_from which 0 frames) i).page ≡ Some p → (nth_frame frames i).page ≡ Some p
+was_there which frames i p is = sym (ap (λ f. f.page) (still_there which frames i p is)) ∙ is
+
+pub vacated_pool : (which : Option ℕ) (s : PoolState) → AreUnfixed which s.frames → IsPool s → IsPool (record s { frames = vacated_from which 0 s.frames })
+vacated_pool which s unfixed w =
+    let count = length-vacated which 0 s.frames in
+    record {
+      some_frames = subst (λ n. 0 < n) (sym count) w.some_frames;
+      few_frames = subst (λ n. n ≤ 65536) (sym count) w.few_frames;
+      some_bytes = w.some_bytes;
+      few_bytes = w.few_bytes;
+      few_devices = w.few_devices;
+      spare_size = w.spare_size;
+      frame_size = λ i low. ap (λ f. length f.bytes) (nth_vacated which s.frames i) ∙ ap length (vacate_size which (nth_frame s.frames i)) ∙ w.frame_size i (subst (λ n. i < n) count low);
+      device_size = w.device_size;
+      has_device = λ i p is. w.has_device i p (was_there which s.frames i p is);
+      has_page = λ i p is. w.has_page i p (was_there which s.frames i p is);
+      once = λ i j p at_i at_j. w.once i j p (was_there which s.frames i p at_i) (was_there which s.frames j p at_j);
+      clean = λ i p is clean honest.
+          let same = still_there which s.frames i p is in
+          ap (λ f. f.bytes) same ∙ w.clean i p (was_there which s.frames i p is) (sym (ap (λ f. f.dirty) same) ∙ clean) honest;
+      bare = λ i is. subst (λ f. IsBare f) (sym (nth_vacated which s.frames i))
+          (vacate_bare which (nth_frame s.frames i) (unfixed i) (w.bare i) (sym (ap (λ f. f.page) (nth_vacated which s.frames i)) ∙ is));
+    }
+
+pub vacated_ranked : (which : Option ℕ) (frames : List FrameState) (h : List Entry) → ((i : ℕ) → IsRanked h (nth_frame frames i)) → (i : ℕ) → IsRanked h (nth_frame (vacated_from which 0 frames) i)
+vacated_ranked which frames h ranked i = subst (λ f. IsRanked h f) (sym (nth_vacated which frames i)) (vacate_ranked which (nth_frame frames i) h (ranked i))
+
+none_ranked : (frames : List FrameState) (h : List Entry) (i : ℕ) → IsRanked h (nth_frame (vacated_from None 0 frames) i)
+none_ranked frames h i = subst (λ f. IsRanked h f) (sym (nth_vacated None frames i)) refl
+
+pub empty_ranked : (old new : FramesState) (h : List Entry) → new ≡ record old { frames = vacated_from None 0 old.frames } → (i : ℕ) → IsRanked h (nth_frame new.frames i)
+empty_ranked old new h is i = subst (λ (f : FramesState). IsRanked h (nth_frame f.frames i)) (sym is) (none_ranked old.frames h i)
+
+-- An emptied pool, as a caller sees it
+
+empty_away : (frames : List FrameState) (p : PageId) → IsNowhere (vacated_from None 0 frames) p
+empty_away frames p i is = let no : None ≡ Some p = sym (ap (λ f. f.page) (nth_vacated None frames i)) ∙ is in absurd (cc)
+
+seen_empty : (frames : List FrameState) → map frame_view (vacated_from None 0 frames) ≡ map emptied (map frame_view frames)
+seen_empty [] = refl
+seen_empty (f ∷ frames) = ap (λ rest. emptied (frame_view f) ∷ rest) (seen_empty frames)
+
+module _ (t : PoolState) (w : IsPool t) (clean : (i : ℕ) → (nth_frame t.frames i).dirty ≡ false) where
+  abbrev u : PoolState
+  u = record t { frames = vacated_from None 0 t.frames }
+
+  -- what an honest device has of a page is what the pool has
+  on_device : (p : PageId) → IsTrue (nth_device t.devices p.dev).honest → bytes_of t.frames t.devices p ≡ stored t.devices p
+  on_device p honest = elim (where_is t.frames p) [
+    | inl h ↦ h.bytes (stored t.devices p) ∙ w.clean h.frame p h.holds (clean h.frame) honest ∙ sym (stored_honest t.devices p honest)
+    | inr h ↦ h.bytes (stored t.devices p)
+  ]
+
+  honest_kept : (p : PageId) → HasPage (view_of t) p → IsTrue (device_at (view_of t) p.dev).honest → contents_at (view_of u) p ≡ contents_at (view_of t) p
+  honest_kept p has honest =
+      let device : p.dev < length t.devices = subst (λ n. p.dev < n) (length-map t.devices _) has.device in
+      let number : p.no < (nth_device t.devices p.dev).pages = subst (λ d. p.no < d.pages) (device_seen t p.dev) has.number in
+      let is_honest : IsTrue (nth_device t.devices p.dev).honest = subst (λ d. IsTrue d.honest) (device_seen t p.dev) honest in
+      contents_seen u p device number ∙ bytes_nowhere u.frames p (stored t.devices p) (empty_away t.frames p) ∙ sym (on_device p is_honest) ∙ sym (contents_seen t p device number)
+
+  absent_none : (p : PageId) → (device_at (view_of u) p.dev).honest ≡ false → contents_at (view_of u) p ≡ []
+  absent_none p isnt = elim (cases_lt p.no (nth_device t.devices p.dev).pages) [
+    | inl number ↦
+        contents_seen u p (device_there t.devices p.dev p.no number) number ∙ bytes_nowhere u.frames p (stored t.devices p) (empty_away t.frames p)
+        ∙ ap (λ b. cond b (page_at (nth_device t.devices p.dev).contents p.no) []) (sym (ap (λ d. d.honest) (device_seen u p.dev)) ∙ isnt)
+    | inr beyond ↦ contents_beyond u p beyond
+  ]
+
+  empty_keeps : KeepsContents (view_of t) (view_of u)
+  empty_keeps = record {
+    honest = honest_kept;
+    resident = λ p was is. absurd (empty_away t.frames p is.frame (sym (ap (λ f. f.page) (frame_seen u is.frame)) ∙ is.holds));
+    absent = λ p isnt away. absent_none p isnt;
+  }
+
+  pub empty_view : (s : PoolState) → view_of t ≡ view_of s → AreUnfixed None s.frames → Emptied (view_of s) (view_of u)
+  empty_view s same unfixed = record {
+    unfixed = unfixed_frames s.frames unfixed;
+    becomes = (λ i. record (view_of t) { frames = seen_empty t.frames i; contents = (view_of u).contents }) ∙ ap (λ (v : PoolView). let x : PoolView = record v { frames = map emptied v.frames; contents = (view_of u).contents } in x) same;
+    contents = subst (λ v. KeepsContents v (view_of u)) same empty_keeps;
+  }
+
+  pub empty_settled : NoneWaits t.devices → IsSettled u
+  empty_settled none = record { clean = λ i. ap (λ f. f.dirty) (nth_vacated None t.frames i) ∙ vacate_dirty None (nth_frame t.frames i) (clean i); flushed = none }
+
+-- the same, where the frames are said by an equation
+abbrev pooled : FramesState → ℕ → List DeviceState → PoolState
+pooled frames spare devices = record { page_size = frames.page_size; spare = spare; frames = frames.frames; devices = devices }
+
+pub becomes_empty : (P : PoolState → Type 0) (which : Option ℕ) (old new : FramesState) (spare : ℕ) (devices : List DeviceState) → new ≡ record old { frames = vacated_from which 0 old.frames } → P (record (pooled old spare devices) { frames = vacated_from which 0 old.frames }) → P (pooled new spare devices)
+becomes_empty P which old new spare devices is holds = subst (λ frames. P (pooled frames spare devices)) (sym is) holds
+
+pub emptied_pool : (s : PoolState) (old new : FramesState) (spare : ℕ) (devices : List DeviceState) → PutsDown (cleaned_chosen None (length s.frames) s.frames) s (pooled old spare devices) → NoneWaits devices → AreUnfixed None s.frames → IsPool (pooled old spare devices) → new ≡ record old { frames = vacated_from None 0 old.frames } → Emptied (view_of s) (view_of (pooled new spare devices))
+emptied_pool s old new spare devices down none unfixed pool is =
+    let t : PoolState = pooled old spare devices in
+    becomes_empty (λ u. Emptied (view_of s) (view_of u)) None old new spare devices is
+    (empty_view t pool (settled s t down none).clean s (down_view None (length s.frames) s t down) unfixed)

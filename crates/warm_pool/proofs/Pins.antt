@@ -1,0 +1,185 @@
+-- What a pin and a load come to, from their steps.
+use Rattle.std.proofs.Common.{◌≡◌, ℕ, ◌+◌, ◌-◌, ◌^◌, ◌<◌, false, List, length, map, set, Some, Result, Ok, Err, OnErr, IfOk, IfErr, sym, ◌∙◌, ap, subst, inl, inr, arith}
+use Rattle.std.specs.Option.{option_map}
+use Rattle.std.proofs.lemmas.List.{map-set, get_or-set_same, length-set}
+use Rattle.warm_stamps.specs.declared.PageId.{PageId}
+use Rattle.warm_history.specs.declared.hist.Entry.{Entry}
+use Rattle.warm_history.specs.Histories.{hist, refs}
+use Rattle.warm_rank.specs.declared.RankKey.{RankKey}
+use Rattle.warm_rank.specs.Keys.{rank_key}
+use Rattle.warm_pool.specs.declared.slot.Slot.{Slot}
+use Rattle.warm_pool.specs.declared.fault.PoolFault.{PoolFault}
+use Rattle.warm_pool.specs.declared.fault.PoolFault.TheVariants.{Memory, BadFrames, SizeDiffers, NoDevice, NoPage, AllFixed, ReadFault, WriteBack, FixesFull, OutOfPage, Fixed, Fault}
+use Rattle.warm_pool.specs.Frames.{nth_frame}
+use Rattle.warm_pool.specs.State.{PoolState, IsPool, RankedBy, IsNowhere, frame_view, view_of}
+use Rattle.warm_pool.specs.View.{PoolView, FrameView, frame_at, HasPage, IsAbsent, Holds, IsPlace}
+use Rattle.warm_pool.specs.Calls.{SameButFailures, AddsFix, PutsIn, Pinned, Loaded, PutRefused, LoadRefused, PinRefused}
+use Rattle.warm_pool.specs.Steps.{LoadsInto, LoadFails}
+use Rattle.warm_pool.proofs.Bytes.{frame_seen, absent_seen}
+use Rattle.warm_pool.proofs.Keeps.{ranked_set}
+use Rattle.warm_pool.proofs.PoolSteps.{seen_there, seen_page}
+
+-- nothing but counts of failures has changed
+pub stays_by : (old new : PoolView) (failures : List ℕ) → new ≡ record old { failures = failures } → SameButFailures old new
+stays_by old new failures e = e ∙ ap (λ (f : List ℕ). let v : PoolView = record old { failures = f } in v) (sym (ap (λ v. v.failures) e))
+
+-- a page that was not put into a frame
+pub put_refused : {s t : PoolState} → IsPool s → IsPool t → (h : List Entry) (i : ℕ) (p : PageId) → IsPlace h (view_of s) (Some i) → (nth_frame s.frames i).generation < 2 ^ 64 - 1
+    → (why : PoolFault) → LoadFails s i p why t → PutRefused h (view_of s) p why (view_of t)
+put_refused {s} {t} w v h i p place room ReadFault l =
+    ((i, record { place = place; room = subst (λ f. f.generation < 2 ^ 64 - 1) (sym (frame_seen s i)) room }), l.1)
+put_refused {s} {t} w v h i p place room WriteBack l =
+    (i, l.1.0, record { place = place; room = subst (λ f. f.generation < 2 ^ 64 - 1) (sym (frame_seen s i)) room }, ap (λ f. f.page) (frame_seen s i) ∙ l.1.1, l.1.2)
+put_refused {s} {t} w v h i p place room Memory l = absurd l
+put_refused {s} {t} w v h i p place room BadFrames l = absurd l
+put_refused {s} {t} w v h i p place room SizeDiffers l = absurd l
+put_refused {s} {t} w v h i p place room NoDevice l = absurd l
+put_refused {s} {t} w v h i p place room NoPage l = absurd l
+put_refused {s} {t} w v h i p place room AllFixed l = absurd l
+put_refused {s} {t} w v h i p place room FixesFull l = absurd l
+put_refused {s} {t} w v h i p place room OutOfPage l = absurd l
+put_refused {s} {t} w v h i p place room Fixed l = absurd l
+put_refused {s} {t} w v h i p place room Fault l = absurd l
+
+same_frames : (s t : PoolState) (i : ℕ) (p : PageId) (why : PoolFault) → LoadFails s i p why t → t.frames ≡ s.frames
+same_frames s t i p ReadFault l = l.0
+same_frames s t i p WriteBack l = l.0
+same_frames s t i p Memory l = absurd l
+same_frames s t i p BadFrames l = absurd l
+same_frames s t i p SizeDiffers l = absurd l
+same_frames s t i p NoDevice l = absurd l
+same_frames s t i p NoPage l = absurd l
+same_frames s t i p AllFixed l = absurd l
+same_frames s t i p FixesFull l = absurd l
+same_frames s t i p OutOfPage l = absurd l
+same_frames s t i p Fixed l = absurd l
+same_frames s t i p Fault l = absurd l
+
+pub failed_ranked : {s t : PoolState} → IsPool s → IsPool t → (i : ℕ) (p : PageId) (why : PoolFault) → LoadFails s i p why t → (h : List Entry) → RankedBy s h → RankedBy t h
+failed_ranked {s} {t} w v i p why l h r =
+    subst (λ fs. (j : ℕ) → (nth_frame fs j).key ≡ option_map (λ q. rank_key q (hist (refs h) q)) (nth_frame fs j).page) (sym (same_frames s t i p why l)) r
+
+-- a page that was put into a frame
+pub loaded_ranked : {s t : PoolState} → IsPool s → IsPool t → (i : ℕ) (p : PageId) (key : RankKey) (n : ℕ) → LoadsInto s i p key n t → i < length s.frames
+    → (h : List Entry) → key ≡ rank_key p (hist (refs h) p) → RankedBy s h → RankedBy t h
+loaded_ranked {s} {t} w v i p key n l there h is r =
+    subst (λ fs. (j : ℕ) → (nth_frame fs j).key ≡ option_map (λ q. rank_key q (hist (refs h) q)) (nth_frame fs j).page) (sym l.frames)
+    (ranked_set s i (record { page = Some p; key = Some key; generation = (nth_frame s.frames i).generation + 1; fixes = n; dirty = false; bytes = l.bytes }) h there (ap Some is) r)
+
+pub loaded_puts : {s t : PoolState} → IsPool s → IsPool t → (i : ℕ) (p : PageId) (key : RankKey) (n : ℕ) → LoadsInto s i p key n t → (h : List Entry)
+    → IsNowhere s.frames p → IsPlace h (view_of s) (Some i) → (gen : ℕ) → gen ≡ (nth_frame s.frames i).generation → gen < 2 ^ 64 - 1
+    → PutsIn h (view_of s) p n (record { index = i; generation = gen + 1 }) (view_of t)
+loaded_puts {s} {t} w v i p key n l h away place gen is room = record {
+  absent = absent_seen s p away;
+  place = place;
+  room = subst (λ f. f.generation < 2 ^ 64 - 1) (sym (frame_seen s i)) (subst (λ g. g < 2 ^ 64 - 1) is room);
+  current = ap (λ g. g + 1) (is ∙ sym (ap (λ f. f.generation) (frame_seen s i)));
+  becomes = l.rest ∙ ap (λ (fs : List FrameView). let x : PoolView = record (view_of s) { frames = fs; contents = (view_of t).contents } in x)
+      (ap (map frame_view) l.frames
+      ∙ map-set frame_view s.frames i (record { page = Some p; key = Some key; generation = (nth_frame s.frames i).generation + 1; fixes = n; dirty = false; bytes = l.bytes })
+      ∙ ap (λ (g : ℕ). let f : FrameView = record { page = Some p; generation = g + 1; fixes = n } in set (map frame_view s.frames) i f) (sym is));
+  contents = l.contents;
+}
+
+-- a page that came in with a fix is held
+placed_there : (h : List Entry) (v : PoolView) (i : ℕ) → IsPlace h v (Some i) → i < length v.frames
+placed_there h v i (inl free) = free.there
+placed_there h v i (inr left) = left.there
+
+pub puts_holds : (h : List Entry) (old : PoolView) (p : PageId) (slot : Slot) (new : PoolView) → PutsIn h old p 1 slot new → Holds new slot
+puts_holds h old p slot new x =
+    let there : slot.index < length old.frames = placed_there h old slot.index x.place in
+    let frame : FrameView = record { page = Some p; generation = slot.generation; fixes = 1 } in
+    let seen : frame_at new slot.index ≡ record { page = Some p; generation = slot.generation; fixes = 1 } =
+    ap (λ v. frame_at v slot.index) x.becomes ∙ get_or-set_same old.frames slot.index (record { page = Some p; generation = slot.generation; fixes = 1 }) _ there in
+    record {
+      there = subst (λ m. slot.index < m) (sym (ap (λ v. length v.frames) x.becomes ∙ length-set old.frames slot.index (record { page = Some p; generation = slot.generation; fixes = 1 }))) there;
+      current = sym (ap (λ f. f.generation) seen);
+      fixed = subst (λ f. 0 < f.fixes) (sym seen) (omega arith);
+    }
+
+-- the refusals of a page that is in no frame
+pub load_refused : (h : List Entry) (old : PoolView) (p : PageId) (new : PoolView) → HasPage old p → IsAbsent old p → (why : PoolFault) → PutRefused h old p why new → LoadRefused h old p why new
+load_refused h old p new has away NoDevice x = absurd x
+load_refused h old p new has away NoPage x = absurd x
+load_refused h old p new has away Memory x = (has, away, x)
+load_refused h old p new has away BadFrames x = (has, away, x)
+load_refused h old p new has away SizeDiffers x = (has, away, x)
+load_refused h old p new has away AllFixed x = (has, away, x)
+load_refused h old p new has away ReadFault x = (has, away, x)
+load_refused h old p new has away WriteBack x = (has, away, x)
+load_refused h old p new has away FixesFull x = (has, away, x)
+load_refused h old p new has away OutOfPage x = (has, away, x)
+load_refused h old p new has away Fixed x = (has, away, x)
+load_refused h old p new has away Fault x = (has, away, x)
+
+pub pin_refused : (h : List Entry) (old : PoolView) (p : PageId) (new : PoolView) (why : PoolFault) → LoadRefused h old p why new → PinRefused h old p why new
+pin_refused h old p new FixesFull x = inr x
+pin_refused h old p new NoDevice x = x
+pin_refused h old p new NoPage x = x
+pin_refused h old p new Memory x = x
+pin_refused h old p new BadFrames x = x
+pin_refused h old p new SizeDiffers x = x
+pin_refused h old p new AllFixed x = x
+pin_refused h old p new ReadFault x = x
+pin_refused h old p new WriteBack x = x
+pin_refused h old p new OutOfPage x = x
+pin_refused h old p new Fixed x = x
+pin_refused h old p new Fault x = x
+
+pub put_stays : (h : List Entry) (old : PoolView) (p : PageId) (new : PoolView) (why : PoolFault) → PutRefused h old p why new → SameButFailures old new
+put_stays h old p new AllFixed x = stays_by old new old.failures x.1
+put_stays h old p new FixesFull x = stays_by old new old.failures x.1
+put_stays h old p new ReadFault x = stays_by old new _ x.1.becomes
+put_stays h old p new WriteBack x = stays_by old new _ x.4.becomes
+put_stays h old p new NoDevice x = absurd x
+put_stays h old p new NoPage x = absurd x
+put_stays h old p new Memory x = absurd x
+put_stays h old p new BadFrames x = absurd x
+put_stays h old p new SizeDiffers x = absurd x
+put_stays h old p new OutOfPage x = absurd x
+put_stays h old p new Fixed x = absurd x
+put_stays h old p new Fault x = absurd x
+
+-- the outcome of a pin, from that of its last step
+module _ {s t : PoolState} (w : IsPool s) (v : IsPool t) (h : List Entry) (p : PageId) (has : HasPage (view_of s) p) where
+  pub pin_adds : (r : Result Slot PoolFault) → IfOk r (λ slot. AddsFix (view_of s) p slot (view_of t)) → IfOk r (λ slot. Pinned h (view_of s) p slot (view_of t))
+  pin_adds (Ok slot) x = (has, inl x)
+  pin_adds (Err why) x = tt
+
+  pub pin_puts : (r : Result Slot PoolFault) → IfOk r (λ slot. PutsIn h (view_of s) p 1 slot (view_of t)) → IfOk r (λ slot. Pinned h (view_of s) p slot (view_of t))
+  pin_puts (Ok slot) x = (has, inr x)
+  pin_puts (Err why) x = tt
+
+  pub pin_holds : (r : Result Slot PoolFault) → IfOk r (λ slot. PutsIn h (view_of s) p 1 slot (view_of t)) → IfOk r (λ slot. Holds (view_of t) slot)
+  pin_holds (Ok slot) x = puts_holds h (view_of s) p slot (view_of t) x
+  pin_holds (Err why) x = tt
+
+  pub load_puts : (r : Result Slot PoolFault) → IfOk r (λ slot. PutsIn h (view_of s) p 0 slot (view_of t)) → IfOk r (λ slot. Loaded h (view_of s) p slot (view_of t))
+  load_puts (Ok slot) x = (has, inr x)
+  load_puts (Err why) x = tt
+
+  pub pin_put_refused : IsNowhere s.frames p → (r : Result Slot PoolFault) → IfErr r (λ why. PutRefused h (view_of s) p why (view_of t)) → IfErr r (λ why. PinRefused h (view_of s) p why (view_of t))
+  pin_put_refused away (Ok slot) x = tt
+  pin_put_refused away (Err why) x = pin_refused h (view_of s) p (view_of t) why (load_refused h (view_of s) p (view_of t) has (absent_seen s p away) why x)
+
+  pub load_put_refused : IsNowhere s.frames p → (r : Result Slot PoolFault) → IfErr r (λ why. PutRefused h (view_of s) p why (view_of t)) → IfErr r (λ why. LoadRefused h (view_of s) p why (view_of t))
+  load_put_refused away (Ok slot) x = tt
+  load_put_refused away (Err why) x = load_refused h (view_of s) p (view_of t) has (absent_seen s p away) why x
+
+  pub stays_put : (r : Result Slot PoolFault) → IfErr r (λ why. PutRefused h (view_of s) p why (view_of t)) → OnErr r (SameButFailures (view_of s) (view_of t))
+  stays_put (Ok slot) x = tt
+  stays_put (Err why) x = put_stays h (view_of s) p (view_of t) why x
+
+-- a page with as many fixes as can be
+pub pin_full : {s t : PoolState} → IsPool s → IsPool t → (h : List Entry) (p : PageId) (i : ℕ) → HasPage (view_of s) p → i < length s.frames → (nth_frame s.frames i).page ≡ Some p
+    → (r : Result Slot PoolFault) → IfErr r (λ why. (why ≡ FixesFull) × ((nth_frame s.frames i).fixes ≡ 2 ^ 32 - 1) × (t ≡ s)) → IfErr r (λ why. PinRefused h (view_of s) p why (view_of t))
+pin_full {s} {t} w v h p i has there holds (Ok slot) x = tt
+pin_full {s} {t} w v h p i has there holds (Err why) x =
+    subst (λ y. PinRefused h (view_of s) p y (view_of t)) (sym x.0)
+    (inl (has, record { frame = i; there = seen_there w i there; resident = seen_page w i p holds; full = ap (λ f. f.fixes) (frame_seen s i) ∙ x.1 }, ap view_of x.2))
+
+pub full_stays : {s t : PoolState} → IsPool s → IsPool t → (i : ℕ) (r : Result Slot PoolFault)
+    → IfErr r (λ why. (why ≡ FixesFull) × ((nth_frame s.frames i).fixes ≡ 2 ^ 32 - 1) × (t ≡ s)) → OnErr r (SameButFailures (view_of s) (view_of t))
+full_stays {s} {t} w v i (Ok slot) x = tt
+full_stays {s} {t} w v i (Err why) x = stays_by (view_of s) (view_of t) (view_of s).failures (ap view_of x.2)

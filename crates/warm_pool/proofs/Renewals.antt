@@ -1,0 +1,115 @@
+-- The ranks of resident pages are renewed.
+use Rattle.std.proofs.Common.{◌≡◌, ◌≢◌, ◌⊎◌, ℕ, ◌+◌, ◌<◌, ◌≤◌, List, [], length, map, set, get_or, Option, Some, None, refl, sym, ◌∙◌, ap, subst, inl, inr, arith}
+use Rattle.std.specs.Option.{option_map}
+use Rattle.std.proofs.Math.ListN.{get_or-map as mapped}
+use Rattle.std.proofs.lemmas.Bool.{cases_eq}
+use Rattle.std.proofs.lemmas.Option.{same_Some}
+use Rattle.std.proofs.lemmas.List.{set-get_or}
+use Rattle.warm_stamps.specs.declared.PageId.{PageId}
+use Rattle.warm_history.specs.declared.hist.Entry.{Entry}
+use Rattle.warm_history.specs.Histories.{hist, refs}
+use Rattle.warm_rank.specs.declared.RankKey.{RankKey}
+use Rattle.warm_rank.specs.Keys.{rank_key}
+use Rattle.warm_devices.specs.Device.{DeviceState}
+use Rattle.warm_pool.specs.Frames.{FramesState, nth_frame, fresh_frame}
+use Rattle.warm_pool.specs.State.{PoolState, IsPool, RankedBy, IsNowhere, frame_view, view_of}
+use Rattle.warm_pool.specs.View.{PoolView, FrameView}
+use Rattle.warm_pool.specs.Calls.{AgreeOutside}
+use Rattle.warm_pool.specs.Steps.{Renews}
+use Rattle.warm_pool.proofs.Slots.{at_set}
+use Rattle.warm_pool.proofs.Bytes.{same_page}
+use Rattle.warm_pool.proofs.Keeps.{IsAlike, pool_from, step_pool, step_view}
+
+-- one page is renewed
+module _ (old new : FramesState) {spare : ℕ} {devices : List DeviceState} (w : IsPool (pool_from old spare devices)) (i : ℕ) (p : PageId) (k key : RankKey) (k_is : k ≡ key)
+    (is : new ≡ record old { frames = set old.frames i (record (nth_frame old.frames i) { key = Some k }) })
+    (there : i < length old.frames) (holds : (nth_frame old.frames i).page ≡ Some p) where
+  alike : IsAlike (nth_frame old.frames i) (record (nth_frame old.frames i) { key = Some k })
+  alike = record { page = refl; bytes = refl; dirty = refl; bare = λ e. let never : Some p ≡ None = sym holds ∙ e in absurd (cc) }
+
+  pub renewed_pool : IsPool (pool_from new spare devices)
+  renewed_pool = step_pool old new w i (record (nth_frame old.frames i) { key = Some k }) is there alike
+
+  pub renewed_view : view_of (pool_from new spare devices) ≡ view_of (pool_from old spare devices)
+  renewed_view =
+      step_view old new w i (record (nth_frame old.frames i) { key = Some k }) is there alike
+      ∙ ap (λ (fs : List FrameView). let v : PoolView = record (view_of (pool_from old spare devices)) { frames = fs } in v)
+      (ap (set (map frame_view old.frames) i) (sym (mapped frame_view old.frames i (fresh_frame []))) ∙ set-get_or (map frame_view old.frames) i (frame_view (fresh_frame [])))
+
+  pub renews : Renews (pool_from old spare devices) p key (pool_from new spare devices)
+  renews = subst (λ x. Renews (pool_from old spare devices) p key (pool_from x spare devices)) (sym is) (record {
+    pages = at_set (fresh_frame []) (λ j x. x.page ≡ (nth_frame old.frames j).page) old.frames i (record (nth_frame old.frames i) { key = Some k }) there refl (λ j ne. refl);
+    here = at_set (fresh_frame []) (λ j x. (nth_frame old.frames j).page ≡ Some p → x.key ≡ Some key) old.frames i (record (nth_frame old.frames i) { key = Some k }) there
+        (λ e. ap Some k_is) (λ j ne e. absurd (ne (w.once j i p e holds)));
+    others = at_set (fresh_frame []) (λ j x. (nth_frame old.frames j).page ≢ Some p → x.key ≡ (nth_frame old.frames j).key) old.frames i (record (nth_frame old.frames i) { key = Some k }) there
+        (λ n. absurd (n holds)) (λ j ne n. refl);
+  })
+
+pub renews_none : {s : PoolState} → IsPool s → (p : PageId) (key : RankKey) → IsNowhere s.frames p → Renews s p key s
+renews_none {s} w p key away = record { pages = λ i. refl; here = λ i e. absurd (away i e); others = λ i n. refl }
+
+-- the first k of the pages were renewed
+pub record Renewed (s t : PoolState) (h : List Entry) (pages : List PageId) (k : ℕ) : Type 0 where
+  pub pool : IsPool t
+  pub same : view_of t ≡ view_of s
+  pub held : (i : ℕ) → (nth_frame t.frames i).page ≡ (nth_frame s.frames i).page
+  pub keys : (i : ℕ) (p : PageId) → (nth_frame s.frames i).page ≡ Some p
+      → ((nth_frame t.frames i).key ≡ Some (rank_key p (hist (refs h) p)))
+      ⊎ (((nth_frame t.frames i).key ≡ (nth_frame s.frames i).key) × ((j : ℕ) → j < k → get_or pages j p ≢ p))
+
+pub none_renewed : {s : PoolState} → IsPool s → (h : List Entry) (pages : List PageId) → Renewed s s h pages 0
+none_renewed {s} w h pages = record { pool = w; same = refl; held = λ i. refl; keys = λ i p e. inr (refl, λ j lt. absurd (omega arith)) }
+
+page_cases : (p q : PageId) → (p ≡ q) ⊎ (p ≢ q)
+page_cases p q = elim (cases_eq p.dev q.dev) [
+  | inl a ↦ elim (cases_eq p.no q.no) [
+    | inl b ↦ inl (same_page p q a b)
+    | inr ne ↦ inr (λ e. ne (ap (λ r. r.no) e))
+  ]
+  | inr ne ↦ inr (λ e. ne (ap (λ r. r.dev) e))
+]
+
+pub one_renewed : {s t u : PoolState} (h : List Entry) (pages : List PageId) (k : ℕ) (q : PageId) → Renewed s t h pages k → ((d : PageId) → get_or pages k d ≡ q) → IsPool u
+    → view_of u ≡ view_of t → Renews t q (rank_key q (hist (refs h) q)) u → Renewed s u h pages (k + 1)
+one_renewed {s} {t} {u} h pages k q r at w same n = record {
+  pool = w;
+  same = same ∙ r.same;
+  held = λ i. n.pages i ∙ r.held i;
+  keys = λ i p e. elim (page_cases p q) [
+    | inl is ↦ inl (n.here i (r.held i ∙ e ∙ ap Some is) ∙ ap (λ x. Some (rank_key x (hist (refs h) x))) (sym is))
+    | inr ne ↦
+        let kept : (nth_frame u.frames i).key ≡ (nth_frame t.frames i).key = n.others i (λ o. ne (same_Some p q (sym (r.held i ∙ e) ∙ o))) in
+        elim (r.keys i p e) [
+          | inl new ↦ inl (kept ∙ new)
+          | inr old ↦ inr (
+            kept ∙ old.0,
+            λ j lt. elim (cases_eq j k) [
+              | inl here ↦ λ found. ne (sym found ∙ ap (λ m. get_or pages m p) here ∙ at p)
+              | inr apart ↦ old.1 j (omega arith)
+            ],
+          )
+        ]
+  ];
+}
+
+-- after all of them the history ranks the pool
+pub all_renewed : {s t : PoolState} (h : List Entry) (pages : List PageId) (k : ℕ) → Renewed s t h pages k → length pages ≤ k
+    → (g : List Entry) → RankedBy s g → AgreeOutside pages g h → RankedBy t h
+all_renewed {s} {t} h pages k r all g ranked agree i = of_page (nth_frame s.frames i).page refl
+  where
+    of_page : (o : Option PageId) → (nth_frame s.frames i).page ≡ o → (nth_frame t.frames i).key ≡ option_map (λ p. rank_key p (hist (refs h) p)) (nth_frame t.frames i).page
+    of_page None e =
+        let none : (nth_frame t.frames i).page ≡ None = r.held i ∙ e in
+        (r.pool.bare i none).0 ∙ ap (option_map (λ p. rank_key p (hist (refs h) p))) (sym none)
+    of_page (Some p) e =
+        let some : (nth_frame t.frames i).page ≡ Some p = r.held i ∙ e in
+        elim (r.keys i p e) [
+          | inl new ↦ new ∙ ap (option_map (λ q. rank_key q (hist (refs h) q))) (sym some)
+          | inr old ↦
+              old.0 ∙ ranked i ∙ ap (option_map (λ q. rank_key q (hist (refs g) q))) e
+              ∙ ap (λ x. Some (rank_key p x)) (agree p (λ c. old.1 c.0 (below c.0 c.1) c.2))
+              ∙ ap (option_map (λ q. rank_key q (hist (refs h) q))) (sym some)
+        ]
+      where
+        below : (j : ℕ) → j < length pages → j < k
+        below j lt = omega arith

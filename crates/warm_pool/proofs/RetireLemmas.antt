@@ -1,0 +1,252 @@
+-- A pool one of whose devices was replaced.
+use Rattle.std.proofs.Common.{◌≡◌, ◌≢◌, ℕ, ◌<◌, ◌≤◌, cond, true, false, IsTrue, List, [], ◌∷◌, length, map, set, get_or, Option, Some, None, refl, sym, ap, ◌∙◌, subst, inl, inr, get_or-set_same, get_or-set_other}
+use Rattle.std.proofs.Math.Path.{ap₂}
+use Rattle.std.proofs.lemmas.Bool.{cases_eq, cases_Bool, eqb-true, eq-eqb, false≢true}
+use Rattle.std.proofs.lemmas.List.{length-map, length-set, map-set, set-get_or}
+use Rattle.std.proofs.Math.ListN.{get_or-map as mapped}
+use Rattle.warm_stamps.specs.declared.PageId.{PageId}
+use Rattle.warm_history.specs.declared.hist.Entry.{Entry}
+use Rattle.warm_devices.specs.Device.{DeviceState, SameShape, one_more, page_at}
+use Rattle.warm_pool.specs.Frames.{FrameState, FramesState, nth_frame, vacated}
+use Rattle.warm_pool.specs.State.{PoolState, IsPool, RankedBy, nth_device, no_device, stored, view_of, frame_view, device_view, is_page, bytes_in}
+use Rattle.warm_pool.specs.View.{FrameView, HasPage, contents_at}
+use Rattle.warm_pool.specs.Calls.{FailsAt, Retired, MayRetire, IsFixedOn, emptied, is_on}
+use Rattle.warm_pool.specs.Steps.{KeptDevices}
+use Rattle.warm_pool.specs.Flushes.{IsFlushed, FlushFails}
+use Rattle.warm_pool.specs.Closing.{AreUnfixed, IsFixedIn, MakesWay, PutsDown, StopsAt, cleaned_chosen, retired, vacate_if, vacated_from}
+use Rattle.warm_pool.proofs.FlushLemmas.{same_shape}
+use Rattle.warm_pool.proofs.Bytes.{bytes_nowhere, contents_seen, device_seen, frame_seen, page_found}
+use Rattle.warm_pool.proofs.Keeps.{view_of_kept}
+use Rattle.warm_pool.proofs.SettleLemmas.{AreAlike, alike_kept, down_view, flush_down, flush_fails_at}
+use Rattle.warm_pool.proofs.EmptyLemmas.{nth_vacated, vacated_pool, vacated_ranked, unfixed_to}
+
+-- One device replaced or flushed
+
+pub exchanged : {A : Type 0} (f : A → DeviceState) (xs : List A) (at : ℕ) (x y : A) → y ≡ x → map f (set xs at y) ≡ set (map f xs) at (f x)
+exchanged f xs at x y same = map-set f xs at y ∙ ap (λ z. set (map f xs) at (f z)) same
+
+module _ (devices : List DeviceState) (k : ℕ) (after : DeviceState) (lt : k < length devices) where
+  abbrev changed : List DeviceState
+  changed = set devices k after
+
+  here : nth_device changed k ≡ after
+  here = get_or-set_same devices k after no_device lt
+
+  other : (j : ℕ) → j ≢ k → nth_device changed j ≡ nth_device devices j
+  other j ne = get_or-set_other devices k j after no_device ne
+
+  pub one_alike : SameShape (nth_device devices k) after → after.contents ≡ (nth_device devices k).contents → AreAlike devices changed
+  one_alike shape contents = record {
+    count = length-set devices k after;
+    shape = λ j. elim (cases_eq j k) [
+      | inl e ↦ subst (λ m. SameShape (nth_device devices m) (nth_device changed m)) (sym e) (subst (λ d. SameShape (nth_device devices k) d) (sym here) shape)
+      | inr ne ↦ subst (λ d. SameShape (nth_device devices j) d) (sym (other j ne)) (same_shape (nth_device devices j))
+    ];
+    contents = λ j. elim (cases_eq j k) [
+      | inl e ↦ subst (λ m. (nth_device changed m).contents ≡ (nth_device devices m).contents) (sym e) (ap (λ d. d.contents) here ∙ contents)
+      | inr ne ↦ ap (λ d. d.contents) (other j ne)
+    ];
+  }
+
+  pub one_quiet : after.waiting ≡ false → (nth_device changed k).waiting ≡ false
+  one_quiet quiet = ap (λ d. d.waiting) here ∙ quiet
+
+pub one_kept : (frames : List FrameState) (old new : List DeviceState) (k : ℕ) (after : DeviceState) → k < length old → new ≡ set old k after → SameShape (nth_device old k) after → after.contents ≡ (nth_device old k).contents → KeptDevices frames old new
+one_kept frames old new k after lt is shape contents = alike_kept frames old new (subst (λ ds. AreAlike old ds) (sym is) (one_alike old k after lt shape contents))
+
+abbrev counts : List DeviceState → List ℕ
+counts devices = map (λ d. d.failures) devices
+
+count_at : (devices : List DeviceState) (k : ℕ) → get_or (counts devices) k 0 ≡ (nth_device devices k).failures
+count_at devices k = mapped (λ d. d.failures) devices k no_device
+
+same_counts : (devices : List DeviceState) (k : ℕ) (after : DeviceState) → after.failures ≡ (nth_device devices k).failures → counts (set devices k after) ≡ counts devices
+same_counts devices k after same = map-set (λ d. d.failures) devices k after ∙ ap (λ n. set (counts devices) k n) (same ∙ sym (count_at devices k)) ∙ set-get_or (counts devices) k 0
+
+-- the flush of the device after its pages were put down
+pub flush_one_down : (which : Option ℕ) (n : ℕ) (s t u : PoolState) (k : ℕ) (after : DeviceState) → PutsDown (cleaned_chosen which n s.frames) s t → k < length t.devices → u.frames ≡ t.frames → (u.page_size ≡ t.page_size) × (u.spare ≡ t.spare) → u.devices ≡ set t.devices k after → IsFlushed (nth_device t.devices k) after → PutsDown (cleaned_chosen which n s.frames) s u
+flush_one_down which n s t u k after down lt frames same is flushed =
+    flush_down which n s t u down frames same
+    (subst (λ ds. AreAlike t.devices ds) (sym is) (one_alike t.devices k after lt flushed.shape flushed.contents))
+    (ap counts is ∙ same_counts t.devices k after flushed.failures)
+
+pub flush_one_fails : (which : Option ℕ) (n : ℕ) (s t u : PoolState) (k : ℕ) (after : DeviceState) → PutsDown (cleaned_chosen which n s.frames) s t → k < length t.devices → u.frames ≡ t.frames → (u.page_size ≡ t.page_size) × (u.spare ≡ t.spare) → u.devices ≡ set t.devices k after → FlushFails (nth_device t.devices k) after → FailsAt (view_of s) k (view_of u)
+flush_one_fails which n s t u k after down lt frames same is fails =
+    let alike : AreAlike t.devices u.devices = subst (λ ds. AreAlike t.devices ds) (sym is) (one_alike t.devices k after lt fails.shape fails.contents) in
+    let grown : counts u.devices ≡ set (counts t.devices) k (one_more (get_or (counts t.devices) k 0)) =
+    ap counts is ∙ map-set (λ d. d.failures) t.devices k after ∙ ap (λ m. set (counts t.devices) k m) (fails.failures ∙ ap one_more (sym (count_at t.devices k)))
+    in
+    let moved : view_of u ≡ view_of (record t { devices = u.devices }) = λ i. view_of (record { page_size = same.0 i; spare = same.1 i; frames = frames i; devices = u.devices }) in
+    let seen : view_of u ≡ record (view_of t) { failures = counts u.devices } = moved ∙ view_of_kept t u.devices (alike_kept t.frames t.devices u.devices alike) in
+    flush_fails_at which n s t u k down (seen ∙ (λ i. record (view_of t) { failures = grown i })) lt fails.may
+
+-- the write of a page of the device
+pub write_one_fails : (dev : ℕ) (s t : PoolState) → StopsAt (Some dev) s t → FailsAt (view_of s) dev (view_of t)
+write_one_fails dev s t stops = subst (λ k. FailsAt (view_of s) k (view_of t)) (eqb-true stops.page.dev dev stops.chosen) stops.fails
+
+-- Frames of which those of one device were emptied
+
+off_device : (dev : ℕ) (f : FrameState) (p : PageId) → (vacate_if (Some dev) f).page ≡ Some p → p.dev ≢ dev
+off_device dev f p is same = elim (cases_Bool (is_on dev f.page)) [
+  | inl on ↦ let no : None ≡ Some p = sym (ap (λ b. (cond b (vacated f) f).page) on) ∙ is in absurd (cc)
+  | inr isnt ↦
+      let held : f.page ≡ Some p = sym (ap (λ b. (cond b (vacated f) f).page) isnt) ∙ is in
+      absurd (false≢true (sym isnt ∙ ap (is_on dev) held ∙ eq-eqb p.dev dev same))
+]
+
+away_from : (dev : ℕ) (frames : List FrameState) (i : ℕ) (p : PageId) → (nth_frame (vacated_from (Some dev) 0 frames) i).page ≡ Some p → p.dev ≢ dev
+away_from dev frames i p is = off_device dev (nth_frame frames i) p (sym (ap (λ f. f.page) (nth_vacated (Some dev) frames i)) ∙ is)
+
+held_vacated : (dev : ℕ) (f : FrameState) (p : PageId) (others : List ℕ) → p.dev ≢ dev → cond (is_page p (vacate_if (Some dev) f).page) (vacate_if (Some dev) f).bytes others ≡ cond (is_page p f.page) f.bytes others
+held_vacated dev f p others ne = elim (cases_Bool (is_on dev f.page)) [
+  | inl on ↦
+      ap (λ b. cond (is_page p (cond b (vacated f) f).page) (cond b (vacated f) f).bytes others) on
+      ∙ sym (ap (λ b. cond b f.bytes others) (not_page on))
+  | inr isnt ↦ ap (λ b. cond (is_page p (cond b (vacated f) f).page) (cond b (vacated f) f).bytes others) isnt
+]
+  where
+    not_page : is_on dev f.page ≡ true → is_page p f.page ≡ false
+    not_page on = elim (cases_Bool (is_page p f.page)) [
+      | inl is ↦ absurd (ne (eqb-true p.dev dev (sym (ap (is_on dev) (page_found p f.page is)) ∙ on)))
+      | inr isnt ↦ isnt
+    ]
+
+bytes_vacated : (dev : ℕ) (frames : List FrameState) (p : PageId) (others : List ℕ) → p.dev ≢ dev → bytes_in (vacated_from (Some dev) 0 frames) p others ≡ bytes_in frames p others
+bytes_vacated dev [] p others ne = refl
+bytes_vacated dev (f ∷ frames) p others ne = held_vacated dev f p (bytes_in (vacated_from (Some dev) 0 frames) p others) ne ∙ ap (λ rest. cond (is_page p f.page) f.bytes rest) (bytes_vacated dev frames p others ne)
+
+abbrev emptied_on : ℕ → FrameView → FrameView
+emptied_on dev f = cond (is_on dev f.page) (emptied f) f
+
+one_seen : (dev : ℕ) (f : FrameState) → frame_view (vacate_if (Some dev) f) ≡ emptied_on dev (frame_view f)
+one_seen dev f = elim (is_on dev f.page) as (λ b. frame_view (cond b (vacated f) f) ≡ cond b (emptied (frame_view f)) (frame_view f)) [ true ↦ refl | false ↦ refl ]
+
+seen_vacated : (dev : ℕ) (frames : List FrameState) → map frame_view (vacated_from (Some dev) 0 frames) ≡ map (emptied_on dev) (map frame_view frames)
+seen_vacated dev [] = refl
+seen_vacated dev (f ∷ frames) = ap₂ (λ (x : FrameView) (rest : List FrameView). x ∷ rest) (one_seen dev f) (seen_vacated dev frames)
+
+-- The pool with the other device
+
+module _ (dev : ℕ) (t : PoolState) (device : DeviceState) (w : IsPool t) (there : dev < length t.devices) (size : device.page_size ≡ t.page_size) (unfixed : AreUnfixed (Some dev) t.frames) where
+  abbrev u : PoolState
+  u = retired t dev device
+
+  new_here : nth_device u.devices dev ≡ device
+  new_here = get_or-set_same t.devices dev device no_device there
+
+  new_other : (k : ℕ) → k ≢ dev → nth_device u.devices k ≡ nth_device t.devices k
+  new_other k ne = get_or-set_other t.devices dev k device no_device ne
+
+  same_count : length u.devices ≡ length t.devices
+  same_count = length-set t.devices dev device
+
+  pub retired_pool : IsPool u
+  retired_pool =
+      let v = vacated_pool (Some dev) t unfixed w in
+      record {
+        some_frames = v.some_frames;
+        few_frames = v.few_frames;
+        some_bytes = w.some_bytes;
+        few_bytes = w.few_bytes;
+        few_devices = subst (λ n. n ≤ 65536) (sym same_count) w.few_devices;
+        spare_size = w.spare_size;
+        frame_size = v.frame_size;
+        device_size = λ k low. elim (cases_eq k dev) [
+          | inl e ↦ subst (λ m. (nth_device u.devices m).page_size ≡ t.page_size) (sym e) (ap (λ d. d.page_size) new_here ∙ size)
+          | inr ne ↦ ap (λ d. d.page_size) (new_other k ne) ∙ w.device_size k (subst (λ n. k < n) same_count low)
+        ];
+        has_device = λ i p is. subst (λ n. p.dev < n) (sym same_count) (v.has_device i p is);
+        has_page = λ i p is. subst (λ d. p.no < d.pages) (sym (new_other p.dev (away_from dev t.frames i p is))) (v.has_page i p is);
+        once = v.once;
+        clean = λ i p is clean honest.
+            let same = new_other p.dev (away_from dev t.frames i p is) in
+            v.clean i p is clean (subst (λ d. IsTrue d.honest) same honest) ∙ ap (λ d. page_at d.contents p.no) (sym same);
+        bare = v.bare;
+      }
+
+  new_contents : (n : ℕ) → n < device.pages → contents_at (view_of u) (record { dev = dev; no = n }) ≡ cond device.honest (page_at device.contents n) []
+  new_contents n low =
+      let p : PageId = record { dev = dev; no = n } in
+      contents_seen u p (subst (λ m. dev < m) (sym same_count) there) (subst (λ d. n < d.pages) (sym new_here) low)
+      ∙ bytes_nowhere u.frames p (stored u.devices p) (λ i is. away_from dev t.frames i p is refl)
+      ∙ ap (λ d. cond d.honest (page_at d.contents n) []) new_here
+
+  other_contents : (p : PageId) → HasPage (view_of t) p → p.dev ≢ dev → contents_at (view_of u) p ≡ contents_at (view_of t) p
+  other_contents p has ne =
+      let same = new_other p.dev ne in
+      let low : p.dev < length t.devices = subst (λ n. p.dev < n) (length-map t.devices _) has.device in
+      let number : p.no < (nth_device t.devices p.dev).pages = subst (λ d. p.no < d.pages) (device_seen t p.dev) has.number in
+      contents_seen u p (subst (λ n. p.dev < n) (sym same_count) low) (subst (λ d. p.no < d.pages) (sym same) number)
+      ∙ bytes_vacated dev t.frames p (stored u.devices p) ne
+      ∙ ap (λ d. bytes_in t.frames p (cond d.honest (page_at d.contents p.no) [])) same
+      ∙ sym (contents_seen t p low number)
+
+  retired_seen : Retired (view_of t) dev device (view_of u)
+  retired_seen = record {
+    may = record {
+      there = subst (λ n. dev < n) (sym (length-map t.devices _)) there;
+      size = size;
+      unfixed = λ i on. ap (λ f. f.fixes) (frame_seen t i) ∙ unfixed i (subst (λ f. IsTrue (is_on dev f.page)) (frame_seen t i) on);
+    };
+    becomes = λ i. record {
+      page_size = t.page_size;
+      devices = map-set device_view t.devices dev device i;
+      frames = seen_vacated dev t.frames i;
+      contents = (view_of u).contents;
+      failures = map-set (λ d. d.failures) t.devices dev device i;
+    };
+    contents = new_contents;
+    others = other_contents;
+  }
+
+  pub retired_view : (s : PoolState) → view_of t ≡ view_of s → Retired (view_of s) dev device (view_of u)
+  retired_view s same = subst (λ v. Retired v dev device (view_of u)) same retired_seen
+
+-- the frames and the devices each by its own equation
+pub becomes_retired : (old new : FramesState) (spare dev : ℕ) (devices others : List DeviceState) (device : DeviceState) → new ≡ record old { frames = vacated_from (Some dev) 0 old.frames } → others ≡ set devices dev device
+    → (let s : PoolState = record { page_size = new.page_size; spare = spare; frames = new.frames; devices = others } in s) ≡ (let s : PoolState = record { page_size = old.page_size; spare = spare; frames = vacated_from (Some dev) 0 old.frames; devices = set devices dev device } in s)
+becomes_retired old new spare dev devices others device frames is =
+    ap₂ (λ (f : FramesState) (ds : List DeviceState). let s : PoolState = record { page_size = f.page_size; spare = spare; frames = f.frames; devices = ds } in s) frames is
+
+-- Why a device isn't retired
+
+pub may_retire : (s : PoolState) (dev : ℕ) (device : DeviceState) → IsPool s → dev < length s.devices → device.page_size ≡ s.page_size → AreUnfixed (Some dev) s.frames → MayRetire (view_of s) dev device
+may_retire s dev device w there size unfixed = record {
+  there = subst (λ n. dev < n) (sym (length-map s.devices _)) there;
+  size = size;
+  unfixed = λ i on. ap (λ f. f.fixes) (frame_seen s i) ∙ unfixed i (subst (λ f. IsTrue (is_on dev f.page)) (frame_seen s i) on);
+}
+
+pub fixed_on : (s : PoolState) (dev : ℕ) → IsPool s → IsFixedIn (Some dev) s.frames → IsFixedOn (view_of s) dev
+fixed_on s dev w fixed = record {
+  frame = fixed.frame;
+  there = subst (λ n. fixed.frame < n) (sym (length-map s.frames _)) fixed.there;
+  on = subst (λ f. IsTrue (is_on dev f.page)) (sym (frame_seen s fixed.frame)) fixed.chosen;
+  fixed = subst (λ f. 0 < f.fixes) (sym (frame_seen s fixed.frame)) fixed.fixed;
+}
+
+pub seen_there : (s : PoolState) (dev : ℕ) → IsPool s → dev < length s.devices → dev < length (view_of s).devices
+seen_there s dev w there = subst (λ n. dev < n) (sym (length-map s.devices _)) there
+
+pub seen_beyond : (s : PoolState) (dev : ℕ) → IsPool s → length s.devices ≤ dev → length (view_of s).devices ≤ dev
+seen_beyond s dev w beyond = subst (λ n. n ≤ dev) (sym (length-map s.devices _)) beyond
+
+-- What is known once way was made
+
+pub way_there : (s t : PoolState) (dev size : ℕ) → MakesWay s dev size t → dev < length t.devices
+way_there s t dev size way = subst (λ n. dev < n) (sym way.down.devices.count) way.there
+
+pub way_unfixed : (s t : PoolState) (dev size : ℕ) → MakesWay s dev size t → AreUnfixed (Some dev) t.frames
+way_unfixed s t dev size way = unfixed_to (Some dev) (length s.frames) s.frames t.frames way.down.becomes way.unfixed
+
+pub retire_pool : (s t u : PoolState) (dev size : ℕ) (device : DeviceState) → IsPool t → MakesWay s dev size t → size ≡ device.page_size → u ≡ retired t dev device → IsPool u
+retire_pool s t u dev size device w way same is =
+    subst (λ x. IsPool x) (sym is) (retired_pool dev t device w (way_there s t dev size way) (sym same ∙ way.size ∙ sym way.down.same.0) (way_unfixed s t dev size way))
+
+pub retire_view : (s t u : PoolState) (dev size : ℕ) (device : DeviceState) → IsPool t → MakesWay s dev size t → size ≡ device.page_size → u ≡ retired t dev device → Retired (view_of s) dev device (view_of u)
+retire_view s t u dev size device w way same is =
+    subst (λ x. Retired (view_of s) dev device (view_of x)) (sym is)
+    (retired_view dev t device w (way_there s t dev size way) (sym same ∙ way.size ∙ sym way.down.same.0) (way_unfixed s t dev size way) s (down_view (Some dev) (length s.frames) s t way.down))
+
+pub retire_ranked : (t u : PoolState) (dev : ℕ) (device : DeviceState) (h : List Entry) → IsPool t → u ≡ retired t dev device → RankedBy t h → RankedBy u h
+retire_ranked t u dev device h w is ranked = subst (λ x. RankedBy x h) (sym is) (vacated_ranked (Some dev) t.frames h ranked)

@@ -1,0 +1,208 @@
+-- A pool whose pages were put down, and whose devices were flushed, is to a caller what it was.
+use Rattle.std.proofs.Common.{◌≡◌, ◌≢◌, ℕ, zero, suc, ◌<◌, ◌≤◌, cond, Bool, true, false, List, [], ◌∷◌, length, map, set, get_or, Option, None, refl, sym, ap, ◌∙◌, subst, inl, inr, arith, get_or-set_same, get_or-set_other}
+use Rattle.std.proofs.Math.Path.{ap₂}
+use Rattle.std.specs.Option.{option_map}
+use Rattle.std.proofs.lemmas.Bool.{cases_eq, cases_lt}
+use Rattle.std.proofs.lemmas.List.{length-set, length-map, get_or_past, ext_get_or}
+use Rattle.std.proofs.Math.ListN.{get_or-map as mapped}
+use Rattle.warm_stamps.specs.declared.PageId.{PageId}
+use Rattle.warm_history.specs.declared.hist.Entry.{Entry}
+use Rattle.warm_history.specs.Histories.{hist, refs}
+use Rattle.warm_rank.specs.Keys.{rank_key}
+use Rattle.warm_devices.specs.Device.{DeviceState, SameShape, one_more, page_at}
+use Rattle.warm_pool.specs.Frames.{FrameState, nth_frame, cleaned}
+use Rattle.warm_pool.specs.State.{PoolState, IsSettled, nth_device, no_device, stored, view_of, frame_view, is_page, bytes_in}
+use Rattle.warm_pool.specs.View.{PoolView, FrameView}
+use Rattle.warm_pool.specs.Calls.{FailsAt, WriteBackFails}
+use Rattle.warm_pool.specs.Steps.{KeptDevices}
+use Rattle.warm_pool.specs.Closing.{PutsDown, StopsAt, clean_if, cleaned_chosen, is_chosen}
+use Rattle.warm_pool.specs.Flushes.{FlushedTo, FlushStops, NoneWaits}
+use Rattle.warm_pool.proofs.FlushLemmas.{same_shape}
+use Rattle.warm_pool.proofs.ClosingLemmas.{nth_page, kept_both}
+use Rattle.warm_pool.proofs.Slots.{same_maps}
+use Rattle.warm_pool.proofs.Bytes.{contents_same, device_seen}
+use Rattle.warm_pool.proofs.Keeps.{view_of_kept}
+
+-- Frames that may have been cleaned
+
+seen_clean : (which : Option ℕ) (f : FrameState) → frame_view (clean_if which f) ≡ frame_view f
+seen_clean which f = elim (is_chosen which f.page) as (λ t. frame_view (cond t (cleaned f) f) ≡ frame_view f) [ true ↦ refl | false ↦ refl ]
+
+clean_key : (which : Option ℕ) (f : FrameState) → (clean_if which f).key ≡ f.key
+clean_key which f = elim (is_chosen which f.page) as (λ t. (cond t (cleaned f) f).key ≡ f.key) [ true ↦ refl | false ↦ refl ]
+
+held_clean : (which : Option ℕ) (f : FrameState) (p : PageId) (others : List ℕ) → cond (is_page p (clean_if which f).page) (clean_if which f).bytes others ≡ cond (is_page p f.page) f.bytes others
+held_clean which f p others = elim (is_chosen which f.page) as (λ t. cond (is_page p (cond t (cleaned f) f).page) (cond t (cleaned f) f).bytes others ≡ cond (is_page p f.page) f.bytes others) [ true ↦ refl | false ↦ refl ]
+
+seen_to : (which : Option ℕ) (n : ℕ) (frames : List FrameState) → map frame_view (cleaned_chosen which n frames) ≡ map frame_view frames
+seen_to which zero frames = refl
+seen_to which (suc n) [] = refl
+seen_to which (suc n) (f ∷ frames) = ap₂ (λ (x : FrameView) (rest : List FrameView). x ∷ rest) (seen_clean which f) (seen_to which n frames)
+
+bytes_to : (which : Option ℕ) (n : ℕ) (frames : List FrameState) (p : PageId) (others : List ℕ) → bytes_in (cleaned_chosen which n frames) p others ≡ bytes_in frames p others
+bytes_to which zero frames p others = refl
+bytes_to which (suc n) [] p others = refl
+bytes_to which (suc n) (f ∷ frames) p others = held_clean which f p (bytes_in (cleaned_chosen which n frames) p others) ∙ ap (λ rest. cond (is_page p f.page) f.bytes rest) (bytes_to which n frames p others)
+
+key_to : (which : Option ℕ) (n : ℕ) (frames : List FrameState) (i : ℕ) → (nth_frame (cleaned_chosen which n frames) i).key ≡ (nth_frame frames i).key
+key_to which zero frames i = refl
+key_to which (suc n) [] i = refl
+key_to which (suc n) (f ∷ frames) zero = clean_key which f
+key_to which (suc n) (f ∷ frames) (suc i) = key_to which n frames i
+
+all_clean : (frames : List FrameState) (i : ℕ) → (nth_frame (cleaned_chosen None (length frames) frames) i).dirty ≡ false
+all_clean [] i = refl
+all_clean (f ∷ frames) zero = refl
+all_clean (f ∷ frames) (suc i) = all_clean frames i
+
+-- Pages that were put down
+
+abbrev made : ℕ → ℕ → List FrameState → List DeviceState → PoolState
+made size spare frames devices = record { page_size = size; spare = spare; frames = frames; devices = devices }
+
+clean_view : (which : Option ℕ) (n : ℕ) (s : PoolState) → view_of (record s { frames = cleaned_chosen which n s.frames }) ≡ view_of s
+clean_view which n s =
+    ap₂ (λ (frames : List FrameView) (contents : List (List (List ℕ))). let v : PoolView = record (view_of s) { frames = frames; contents = contents } in v)
+    (seen_to which n s.frames)
+    (contents_same s.frames (cleaned_chosen which n s.frames) s.devices s.devices refl (λ k. refl) (λ p. bytes_to which n s.frames p (stored s.devices p)))
+
+pub down_view : (which : Option ℕ) (n : ℕ) (s t : PoolState) → PutsDown (cleaned_chosen which n s.frames) s t → view_of t ≡ view_of s
+down_view which n s t down =
+    let frames : view_of t ≡ view_of (made s.page_size s.spare (cleaned_chosen which n s.frames) t.devices) = λ i. view_of (made (down.same.0 i) (down.same.1 i) (down.becomes i) t.devices) in
+    let failures : record (view_of s) { failures = map (λ d. d.failures) t.devices } ≡ view_of s = λ i. record (view_of s) { failures = down.failures i } in
+    frames ∙ clean_view which n (record s { devices = t.devices }) ∙ view_of_kept s t.devices down.devices ∙ failures
+
+pub ranked_to : (which : Option ℕ) (n : ℕ) (old new : List FrameState) (h : List Entry) → new ≡ cleaned_chosen which n old
+    → ((i : ℕ) → (nth_frame old i).key ≡ option_map (λ p. rank_key p (hist (refs h) p)) (nth_frame old i).page)
+    → (i : ℕ) → (nth_frame new i).key ≡ option_map (λ p. rank_key p (hist (refs h) p)) (nth_frame new i).page
+ranked_to which n old new h becomes ranked i =
+    subst (λ frames. (nth_frame frames i).key ≡ option_map (λ p. rank_key p (hist (refs h) p)) (nth_frame frames i).page) (sym becomes)
+    (key_to which n old i ∙ ranked i ∙ ap (option_map (λ p. rank_key p (hist (refs h) p))) (sym (nth_page which n old i)))
+
+-- Devices that were flushed
+
+pub record AreAlike (old new : List DeviceState) : Type 0 where
+  pub count : length new ≡ length old
+  pub shape : (k : ℕ) → SameShape (nth_device old k) (nth_device new k)
+  pub contents : (k : ℕ) → (nth_device new k).contents ≡ (nth_device old k).contents
+
+pub alike_kept : (frames : List FrameState) (old new : List DeviceState) → AreAlike old new → KeptDevices frames old new
+alike_kept frames old new alike =
+    let stays : (p : PageId) → stored new p ≡ stored old p = λ p. ap₂ (λ (honest : Bool) (contents : List (List ℕ)). cond honest (page_at contents p.no) []) (alike.shape p.dev).honest (alike.contents p.dev) in
+    record { count = alike.count; shape = alike.shape; absent = λ p away. stays p; clean = λ i p holds is. stays p }
+
+pub flushed_alike : (n : ℕ) (old new : List DeviceState) → FlushedTo n old new → AreAlike old new
+flushed_alike n old new to = record {
+  count = to.count;
+  shape = λ k. elim (cases_lt k n) [
+    | inl lt ↦ (to.done k lt).shape
+    | inr ge ↦ subst (λ d. SameShape (nth_device old k) d) (sym (to.rest k ge)) (same_shape (nth_device old k))
+  ];
+  contents = λ k. elim (cases_lt k n) [
+    | inl lt ↦ (to.done k lt).contents
+    | inr ge ↦ ap (λ d. d.contents) (to.rest k ge)
+  ];
+}
+
+pub flushed_failures : (n : ℕ) (old new : List DeviceState) → FlushedTo n old new → map (λ d. d.failures) new ≡ map (λ d. d.failures) old
+flushed_failures n old new to = same_maps (λ d. d.failures) no_device new old to.count (λ k. elim (cases_lt k n) [
+  | inl lt ↦ (to.done k lt).failures
+  | inr ge ↦ ap (λ d. d.failures) (to.rest k ge)
+])
+
+pub flushed_quiet : (n : ℕ) (old new : List DeviceState) → length old ≤ n → FlushedTo n old new → NoneWaits new
+flushed_quiet n old new all to k = elim (cases_lt k n) [
+  | inl lt ↦ (to.done k lt).waiting
+  | inr ge ↦ ap (λ d. d.waiting) (to.rest k ge ∙ get_or_past old k no_device (omega arith))
+]
+
+pub stopped_alike : (old new : List DeviceState) → FlushStops old new → AreAlike old new
+stopped_alike old new stops = record {
+  count = stops.count;
+  shape = λ k. elim (cases_eq k stops.device) [
+    | inl e ↦ subst (λ m. SameShape (nth_device old m) (nth_device new m)) (sym e) stops.fails.shape
+    | inr ne ↦ elim (cases_lt k stops.device) [
+      | inl lt ↦ (stops.done k lt).shape
+      | inr ge ↦ subst (λ d. SameShape (nth_device old k) d) (sym (stops.rest k (omega arith))) (same_shape (nth_device old k))
+    ]
+  ];
+  contents = λ k. elim (cases_eq k stops.device) [
+    | inl e ↦ subst (λ m. (nth_device new m).contents ≡ (nth_device old m).contents) (sym e) stops.fails.contents
+    | inr ne ↦ elim (cases_lt k stops.device) [
+      | inl lt ↦ (stops.done k lt).contents
+      | inr ge ↦ ap (λ d. d.contents) (stops.rest k (omega arith))
+    ]
+  ];
+}
+
+abbrev counts : List DeviceState → List ℕ
+counts devices = map (λ d. d.failures) devices
+
+count_at : (devices : List DeviceState) (k : ℕ) → get_or (counts devices) k 0 ≡ (nth_device devices k).failures
+count_at devices k = mapped (λ d. d.failures) devices k no_device
+
+stopped_failures : (old new : List DeviceState) (stops : FlushStops old new) → counts new ≡ set (counts old) stops.device (one_more (get_or (counts old) stops.device 0))
+stopped_failures old new stops =
+    let k : ℕ = stops.device in
+    let more : ℕ = one_more (get_or (counts old) k 0) in
+    let there : k < length (counts old) = subst (λ n. k < n) (sym (length-map old (λ d. d.failures))) stops.there in
+    let room : length (counts new) ≡ length (set (counts old) k more) = length-map new (λ d. d.failures) ∙ stops.count ∙ sym (length-map old (λ d. d.failures)) ∙ sym (length-set (counts old) k more) in
+    ext_get_or 0 (counts new) (set (counts old) k more) room (λ i _. elim (cases_eq i k) [
+      | inl e ↦ subst (λ m. get_or (counts new) m 0 ≡ get_or (set (counts old) k more) m 0) (sym e) (count_at new k ∙ stops.fails.failures ∙ ap one_more (sym (count_at old k)) ∙ sym (get_or-set_same (counts old) k more 0 there))
+      | inr ne ↦ count_at new i ∙ same_elsewhere i ne ∙ sym (count_at old i) ∙ sym (get_or-set_other (counts old) k i more 0 ne)
+    ])
+  where
+    same_elsewhere : (i : ℕ) → i ≢ stops.device → (nth_device new i).failures ≡ (nth_device old i).failures
+    same_elsewhere i ne = elim (cases_lt i stops.device) [
+      | inl lt ↦ (stops.done i lt).failures
+      | inr ge ↦ ap (λ d. d.failures) (stops.rest i (omega arith))
+    ]
+
+-- Both, one after the other
+
+pub flush_down : (which : Option ℕ) (n : ℕ) (s t u : PoolState) → PutsDown (cleaned_chosen which n s.frames) s t → u.frames ≡ t.frames → (u.page_size ≡ t.page_size) × (u.spare ≡ t.spare) → AreAlike t.devices u.devices → counts u.devices ≡ counts t.devices → PutsDown (cleaned_chosen which n s.frames) s u
+flush_down which n s t u down frames same alike failures = record {
+  becomes = frames ∙ down.becomes;
+  devices = kept_both s.frames s.frames s.devices t.devices u.devices (λ i. refl) (λ i is. is) down.devices (alike_kept s.frames t.devices u.devices alike);
+  failures = failures ∙ down.failures;
+  same = (same.0 ∙ down.same.0, same.1 ∙ down.same.1);
+}
+
+-- a write that failed
+pub write_stops : (s t : PoolState) → StopsAt None s t → WriteBackFails s t
+write_stops s t stops = record {
+  written = stops.frame;
+  device = stops.page.dev;
+  frames = stops.frames;
+  first = λ _. (stops.dirty, (stops.page, stops.holds, refl));
+  all = λ le. let lt : stops.frame < length s.frames = stops.there in absurd (omega arith);
+  fails = stops.fails;
+}
+
+-- the flush of one device that failed, once the pages that are concerned were put down
+pub flush_fails_at : (which : Option ℕ) (n : ℕ) (s t u : PoolState) (k : ℕ) → PutsDown (cleaned_chosen which n s.frames) s t → view_of u ≡ record (view_of t) { failures = set (view_of t).failures k (one_more (get_or (view_of t).failures k 0)) } → k < length t.devices → (nth_device t.devices k).unfailing ≡ false → FailsAt (view_of s) k (view_of u)
+flush_fails_at which n s t u k down becomes there may = record {
+  there = subst (λ n. k < n) (sym (length-map s.devices _)) (subst (λ n. k < n) down.devices.count there);
+  may = ap (λ d. d.unfailing) (device_seen s k) ∙ sym (down.devices.shape k).unfailing ∙ may;
+  becomes = becomes ∙ ap (λ (v : PoolView). let w : PoolView = record v { failures = set v.failures k (one_more (get_or v.failures k 0)) } in w) (down_view which n s t down);
+}
+
+pub flush_stops_at : (s t u : PoolState) (stops : FlushStops t.devices u.devices) → PutsDown (cleaned_chosen None (length s.frames) s.frames) s t → u.frames ≡ t.frames → (u.page_size ≡ t.page_size) × (u.spare ≡ t.spare) → WriteBackFails s u
+flush_stops_at s t u stops down frames same =
+    let seen : view_of u ≡ record (view_of t) { failures = counts u.devices } = (λ i. view_of (made (same.0 i) (same.1 i) (frames i) u.devices)) ∙ view_of_kept t u.devices (alike_kept t.frames t.devices u.devices (stopped_alike t.devices u.devices stops)) in
+    let becomes : view_of u ≡ record (view_of t) { failures = set (view_of t).failures stops.device (one_more (get_or (view_of t).failures stops.device 0)) } = seen ∙ (λ i. record (view_of t) { failures = stopped_failures t.devices u.devices stops i }) in
+    record {
+      written = length s.frames;
+      device = stops.device;
+      frames = frames ∙ down.becomes;
+      first = λ lt. absurd (omega arith);
+      all = λ _. (λ k lt. (stops.done k lt).waiting, stops.fails.waiting);
+      fails = flush_fails_at None (length s.frames) s t u stops.device down becomes stops.there stops.fails.may;
+    }
+
+-- after all of it nothing is left to put down
+pub settled : (s t : PoolState) → PutsDown (cleaned_chosen None (length s.frames) s.frames) s t → NoneWaits t.devices → IsSettled t
+settled s t down none = record {
+  clean = λ i. ap (λ frames. (nth_frame frames i).dirty) down.becomes ∙ all_clean s.frames i;
+  flushed = none;
+}

@@ -1,0 +1,117 @@
+-- The page of a frame goes to its device.
+use Rattle.std.proofs.Common.{◌≡◌, ℕ, ◌<◌, Bool, true, false, IsTrue, List, [], length, map, set, Some, None, Result, Ok, refl, sym, ◌∙◌, ap, subst}
+use Rattle.std.proofs.lemmas.Option.{same_Some}
+use Rattle.std.proofs.lemmas.List.{set-get_or, get_or-set_same}
+use Rattle.warm_stamps.specs.declared.PageId.{PageId}
+use Rattle.std.proofs.Math.ListN.{get_or-map as mapped}
+use Rattle.warm_devices.specs.Device.{DeviceState, CountsFault, page_at, one_more}
+use Rattle.warm_devices.specs.declared.fault.DeviceFault.TheVariants.{Write}
+use Rattle.warm_devices.specs.declared.fault.DeviceFault.{DeviceFault}
+use Rattle.warm_pool.specs.Frames.{FrameState, FramesState, nth_frame, fresh_frame, cleaned}
+use Rattle.warm_pool.specs.State.{PoolState, IsPool, no_device, nth_device, frame_view, view_of}
+use Rattle.warm_pool.specs.View.{PoolView, FrameView}
+use Rattle.warm_pool.specs.DeviceCalls.{PageWrite}
+use Rattle.warm_pool.specs.Steps.{KeptDevices, Cleans, CleanFails}
+use Rattle.warm_pool.proofs.Keeps.{pool_from, set_keeps_pool, view-set, devices_keep_pool, view_of_kept}
+use Rattle.warm_pool.proofs.DeviceSteps.{same_shape, write_keeps, failures_kept, fails_at, may_fail}
+use Rattle.warm_pool.proofs.Loads.{Failed, on_ok}
+
+-- a page q in frame i that was written to was written to its device
+pub record WroteBack (s : PoolState) (new : List DeviceState) (i : ℕ) (q : PageId) (bytes : List ℕ) (result : Result (Unit {0}) DeviceFault) : Type 0 where
+  pub pool : IsPool s
+  pub there : i < length s.frames
+  pub holds : (nth_frame s.frames i).page ≡ Some q
+  pub dirty : (nth_frame s.frames i).dirty ≡ true
+  pub bytes_are : bytes ≡ (nth_frame s.frames i).bytes
+  pub call : PageWrite s.devices new q.dev q.no bytes result
+
+module _ (s : PoolState) (new : List DeviceState) (i : ℕ) (q : PageId) (bytes : List ℕ) (result : Result (Unit {0}) DeviceFault)
+    (h : WroteBack s new i q bytes result) where
+  kept : KeptDevices s.frames s.devices new
+  kept = write_keeps s new i q bytes result h.pool h.holds h.dirty h.call
+
+  device : q.dev < length s.devices
+  device = h.pool.has_device i q h.holds
+
+  pub failed_pool : IsPool (record s { devices = new })
+  failed_pool = devices_keep_pool s new kept h.pool
+
+  pub write_failed : Failed result → CleanFails s i (record s { devices = new })
+  write_failed f = record {
+    page = q;
+    holds = h.holds;
+    dirty = h.dirty;
+    frames = refl;
+    fails = fails_at s new q.dev h.call.after device h.call.becomes kept (may_fail (nth_device s.devices q.dev).unfailing f.fault result f.is h.call.unfailing) grown;
+  }
+    where
+      grown : h.call.after.failures ≡ one_more (nth_device s.devices q.dev).failures
+      grown = (subst (λ r. CountsFault Write r (nth_device s.devices q.dev) h.call.after) f.is h.call.faults).1
+
+  module _ (ok : result ≡ Ok tt) where
+    after_is : nth_device new q.dev ≡ h.call.after
+    after_is = ap (λ ds. nth_device ds q.dev) h.call.becomes ∙ get_or-set_same s.devices q.dev h.call.after no_device device
+
+    on_device : IsTrue (nth_device new q.dev).honest → (nth_frame s.frames i).bytes ≡ page_at (nth_device new q.dev).contents q.no
+    on_device o =
+        sym h.bytes_are ∙ sym (on_ok result ok h.call.written (subst IsTrue (kept.shape q.dev).honest o)) ∙ ap (λ d. page_at d.contents q.no) (sym after_is)
+
+    pub cleaned_pool : IsPool (record s { frames = set s.frames i (cleaned (nth_frame s.frames i)); devices = new })
+    cleaned_pool = set_keeps_pool (record s { devices = new }) i (cleaned (nth_frame s.frames i)) (record {
+      there = h.there;
+      size = h.pool.frame_size i h.there;
+      has_device = λ p e. failed_pool.has_device i p e;
+      has_page = λ p e. failed_pool.has_page i p e;
+      once = λ j p ne e o. ne (h.pool.once j i p o e);
+      clean = λ p e _. subst (λ r. IsTrue (nth_device new r.dev).honest → (nth_frame s.frames i).bytes ≡ page_at (nth_device new r.dev).contents r.no)
+          (same_Some q p (sym h.holds ∙ e)) on_device;
+      bare = λ e. let no : None ≡ Some q = sym e ∙ h.holds in absurd (cc);
+    }) failed_pool
+
+    pub write_cleans : Cleans s i (record s { frames = set s.frames i (cleaned (nth_frame s.frames i)); devices = new })
+    write_cleans = record {
+      frames = refl;
+      devices = kept;
+      failures = failures_kept s.devices new q.dev h.call.after h.call.becomes same;
+      same = (refl, refl);
+    }
+      where
+        same : h.call.after.failures ≡ (nth_device s.devices q.dev).failures
+        same = subst (λ r. CountsFault Write r (nth_device s.devices q.dev) h.call.after) ok h.call.faults
+
+-- a frame that isn't dirty is clean already
+pub already_clean : (s : PoolState) (i : ℕ) → (nth_frame s.frames i).dirty ≡ false → Cleans s i s
+already_clean s i e = record {
+  frames = sym (ap (set s.frames i) same ∙ set-get_or s.frames i (fresh_frame []));
+  devices = record { count = refl; shape = λ k. same_shape (nth_device s.devices k); absent = λ p _. refl; clean = λ j p _ _. refl };
+  failures = refl;
+  same = (refl, refl);
+}
+  where
+    same : cleaned (nth_frame s.frames i) ≡ nth_frame s.frames i
+    same = ap (λ (t : Bool). let f : FrameState = record (nth_frame s.frames i) { dirty = t } in f) (sym e)
+
+-- what a caller sees stays
+pub cleans_view : (s t : PoolState) (i : ℕ) → Cleans s i t → view_of t ≡ view_of s
+cleans_view s t i c =
+    (λ j. view_of (record { page_size = c.same.0 j; spare = t.spare; frames = c.frames j; devices = t.devices }))
+    ∙ view-set (record s { devices = t.devices }) i (cleaned (nth_frame s.frames i)) refl refl
+    ∙ ap (λ (frames : List FrameView). let v : PoolView = record (view_of (record s { devices = t.devices })) { frames = frames } in v) unseen
+    ∙ view_of_kept s t.devices c.devices
+    ∙ ap (λ (failures : List ℕ). let v : PoolView = record (view_of s) { failures = failures } in v) c.failures
+  where
+    unseen : set (map frame_view s.frames) i (frame_view (nth_frame s.frames i)) ≡ map frame_view s.frames
+    unseen = ap (set (map frame_view s.frames) i) (sym (mapped frame_view s.frames i (fresh_frame []))) ∙ set-get_or (map frame_view s.frames) i (frame_view (fresh_frame []))
+
+-- the same, of a pool whose frames were told so
+pub cleaned_pool_to : (old new : FramesState) {spare : ℕ} {devices ds : List DeviceState} {i : ℕ} {q : PageId} {bytes : List ℕ} {result : Result (Unit {0}) DeviceFault}
+    → WroteBack (pool_from old spare devices) ds i q bytes result → result ≡ Ok tt → new ≡ record old { frames = set old.frames i (cleaned (nth_frame old.frames i)) }
+    → IsPool (pool_from new spare ds)
+cleaned_pool_to old new {spare} {devices} {ds} {i} {q} {bytes} {result} h ok e =
+    subst (λ x. IsPool (pool_from x spare ds)) (sym e) (cleaned_pool (pool_from old spare devices) ds i q bytes result h ok)
+
+pub write_cleans_to : (old new : FramesState) {spare : ℕ} {devices ds : List DeviceState} {i : ℕ} {q : PageId} {bytes : List ℕ} {result : Result (Unit {0}) DeviceFault}
+    → WroteBack (pool_from old spare devices) ds i q bytes result → result ≡ Ok tt → new ≡ record old { frames = set old.frames i (cleaned (nth_frame old.frames i)) }
+    → Cleans (pool_from old spare devices) i (pool_from new spare ds)
+write_cleans_to old new {spare} {devices} {ds} {i} {q} {bytes} {result} h ok e =
+    subst (λ x. Cleans (pool_from old spare devices) i (pool_from x spare ds)) (sym e) (write_cleans (pool_from old spare devices) ds i q bytes result h ok)

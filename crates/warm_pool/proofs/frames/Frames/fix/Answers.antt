@@ -1,0 +1,10 @@
+use Rattle.std.proofs.Common.{◌<◌, ap, sym, ◌∙◌, length, set}
+use Rattle.warm_pool.proofs.Slots.{tied_page, frame_is, there_inside, fixed_key}
+use Rattle.warm_pool.proofs.frames.Frames.fix.Goals as goal
+
+pub invariant_of-self : goal.invariant_of-self
+invariant_of-self c =
+    let there : c.args.at < length c.self.inside.slots.items = there_inside c.args.at _ _ c.self.view_is c.requires.there in
+    tied_page c.self.inside.slots.items c.args.at _ _ _ _ there c.self.invariant
+    (ap (λ f. f.page) (frame_is c.self.inside.slots.items c.args.at _ _ there c.frame.view_is c.index_mut-frame.ensures.value))
+    (c.set.ensures ∙ ap (set c.self.inside.contest c.args.at) (sym (fixed_key c.frame.inside.fixes c.frame.inside.key)))

@@ -1,0 +1,45 @@
+use Rattle.warm_pool.proofs.PoolSteps.{found_there, found_holds, found_nowhere}
+use Rattle.warm_pool.proofs.Pins.{pin_adds, pin_puts, pin_holds, pin_put_refused, stays_put, pin_full, full_stays}
+use Rattle.warm_pool.proofs.pool.Pool.pin.Goals as goal
+
+pub add_fix-requires-clause-there : goal.add_fix-requires-clause-there
+add_fix-requires-clause-there g c = found_there c.requires.pool _ _ c.in-Some.ensures
+
+pub add_fix-requires-clause-held : goal.add_fix-requires-clause-held
+add_fix-requires-clause-held g c none = let holds = found_holds c.requires.pool c.args.page _ c.in-Some.ensures in absurd (cc)
+
+pub returns-in-Some-clause-ranked : goal.returns-in-Some-clause-ranked
+returns-in-Some-clause-ranked g c = c.add_fix.ensures.ranked _ c.requires.ranked
+
+pub returns-in-Some-clause-pinned : goal.returns-in-Some-clause-pinned
+returns-in-Some-clause-pinned g c =
+    pin_adds c.requires.pool c.add_fix.ensures.pool c.args.history.now c.args.page c.in_default.ensures.known _
+    (c.add_fix.ensures.fixed c.args.page (found_holds c.requires.pool _ _ c.in-Some.ensures))
+
+pub returns-in-Some-clause-refused : goal.returns-in-Some-clause-refused
+returns-in-Some-clause-refused g c =
+    pin_full c.requires.pool c.add_fix.ensures.pool c.args.history.now c.args.page c.in-Some.at c.in_default.ensures.known
+    (found_there c.requires.pool _ _ c.in-Some.ensures) (found_holds c.requires.pool _ _ c.in-Some.ensures) _ c.add_fix.ensures.refused
+
+pub returns-in-Some-clause-stays : goal.returns-in-Some-clause-stays
+returns-in-Some-clause-stays g c = full_stays c.requires.pool c.add_fix.ensures.pool c.in-Some.at _ c.add_fix.ensures.refused
+
+pub bring-requires-clause-absent : goal.bring-requires-clause-absent
+bring-requires-clause-absent g c = found_nowhere c.requires.pool _ c.in-None.ensures
+
+pub returns-in-None-clause-pinned : goal.returns-in-None-clause-pinned
+returns-in-None-clause-pinned g c =
+    pin_puts c.requires.pool c.bring.ensures.pool c.args.history.now c.args.page c.in_default.ensures.known _ c.bring.ensures.put
+
+pub returns-in-None-clause-holds : goal.returns-in-None-clause-holds
+returns-in-None-clause-holds g c =
+    pin_holds c.requires.pool c.bring.ensures.pool c.args.history.now c.args.page c.in_default.ensures.known _ c.bring.ensures.put
+
+pub returns-in-None-clause-refused : goal.returns-in-None-clause-refused
+returns-in-None-clause-refused g c =
+    pin_put_refused c.requires.pool c.bring.ensures.pool c.args.history.now c.args.page c.in_default.ensures.known
+    (found_nowhere c.requires.pool _ c.in-None.ensures) _ c.bring.ensures.refused
+
+pub returns-in-None-clause-stays : goal.returns-in-None-clause-stays
+returns-in-None-clause-stays g c =
+    stays_put c.requires.pool c.bring.ensures.pool c.args.history.now c.args.page c.in_default.ensures.known _ c.bring.ensures.refused

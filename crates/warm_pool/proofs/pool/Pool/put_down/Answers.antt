@@ -1,0 +1,5 @@
+use Rattle.warm_pool.proofs.EmptyLemmas.{unfixed_frames}
+use Rattle.warm_pool.proofs.pool.Pool.put_down.Goals as goal
+
+pub returns-in-Err-clause-refused : goal.returns-in-Err-clause-refused
+returns-in-Err-clause-refused g c = (unfixed_frames _ c.if-is_fixed.ensures, c.in-Err.ensures.stopped)

@@ -1,0 +1,14 @@
+use Rattle.warm_pool.proofs.RetireLemmas.{way_unfixed, retire_pool, retire_view, retire_ranked}
+use Rattle.warm_pool.proofs.pool.Pool.retire.Goals as goal
+
+pub take_in-requires-clause-unfixed : goal.take_in-requires-clause-unfixed
+take_in-requires-clause-unfixed g c = way_unfixed _ _ c.args.dev _ c.in-Ok.ensures.way
+
+pub returns-in-Ok-clause-pool : goal.returns-in-Ok-clause-pool
+returns-in-Ok-clause-pool g c = retire_pool _ _ _ c.args.dev _ _ c.make_way.ensures.pool c.in-Ok.ensures.way c.page_size.ensures c.take_in.ensures
+
+pub returns-in-Ok-clause-retired : goal.returns-in-Ok-clause-retired
+returns-in-Ok-clause-retired g c = retire_view _ _ _ c.args.dev _ _ c.make_way.ensures.pool c.in-Ok.ensures.way c.page_size.ensures c.take_in.ensures
+
+pub returns-in-Ok-clause-ranked : goal.returns-in-Ok-clause-ranked
+returns-in-Ok-clause-ranked g c = λ h ranked. retire_ranked _ _ c.args.dev _ h c.make_way.ensures.pool c.take_in.ensures (c.make_way.ensures.ranked h ranked)

@@ -1,0 +1,39 @@
+use Rattle.std.proofs.Common.{Some, ◌<◌, refl, sym, subst}
+use Rattle.warm_pool.proofs.FlushLemmas.{on_err}
+use Rattle.warm_pool.proofs.Keeps.{devices_keep_pool}
+use Rattle.warm_pool.proofs.SettleLemmas.{ranked_to}
+use Rattle.warm_pool.proofs.RetireLemmas.{flush_one_down, flush_one_fails, one_kept}
+use Rattle.warm_pool.proofs.pool.Pool.settle_device.Goals as goal
+
+pub returns-in_err-clean_chosen-clause-ranked : goal.returns-in_err-clean_chosen-clause-ranked
+returns-in_err-clean_chosen-clause-ranked g c = λ h ranked. let stopped = c.in_err-clean_chosen.ensures.stopped in ranked_to (Some c.args.dev) stopped.frame _ _ h stopped.frames ranked
+
+pub returns-in_err-flush_device-clause-pool : goal.returns-in_err-flush_device-clause-pool
+returns-in_err-flush_device-clause-pool g c =
+    let down = c.in_ok-clean_chosen.ensures.down in
+    let call = c.in_err-flush_device.ensures in
+    devices_keep_pool _ _ (one_kept _ _ _ c.args.dev call.after (subst (λ n. c.args.dev < n) (sym down.devices.count) c.requires.there) call.becomes call.failed.shape call.failed.contents) c.clean_chosen.ensures.pool
+
+pub returns-in_err-flush_device-clause-stopped : goal.returns-in_err-flush_device-clause-stopped
+returns-in_err-flush_device-clause-stopped g c =
+    let down = c.in_ok-clean_chosen.ensures.down in
+    let call = c.in_err-flush_device.ensures in
+    on_err _ _ (flush_one_fails (Some c.args.dev) _ _ _ _ c.args.dev call.after down (subst (λ n. c.args.dev < n) (sym down.devices.count) c.requires.there) refl (refl, refl) call.becomes call.failed)
+
+pub returns-in_err-flush_device-clause-ranked : goal.returns-in_err-flush_device-clause-ranked
+returns-in_err-flush_device-clause-ranked g c = λ h ranked. ranked_to (Some c.args.dev) _ _ _ h c.in_ok-clean_chosen.ensures.down.becomes ranked
+
+pub returns-clause-pool : goal.returns-clause-pool
+returns-clause-pool g c =
+    let down = c.in_ok-clean_chosen.ensures.down in
+    let call = c.in_ok-flush_device.ensures in
+    devices_keep_pool _ _ (one_kept _ _ _ c.args.dev call.after (subst (λ n. c.args.dev < n) (sym down.devices.count) c.requires.there) call.becomes call.done.shape call.done.contents) c.clean_chosen.ensures.pool
+
+pub returns-clause-down : goal.returns-clause-down
+returns-clause-down g c =
+    let down = c.in_ok-clean_chosen.ensures.down in
+    let call = c.in_ok-flush_device.ensures in
+    flush_one_down (Some c.args.dev) _ _ _ _ c.args.dev call.after down (subst (λ n. c.args.dev < n) (sym down.devices.count) c.requires.there) refl (refl, refl) call.becomes call.done
+
+pub returns-clause-ranked : goal.returns-clause-ranked
+returns-clause-ranked g c = λ h ranked. ranked_to (Some c.args.dev) _ _ _ h c.in_ok-clean_chosen.ensures.down.becomes ranked

@@ -1,0 +1,12 @@
+use Rattle.std.proofs.Common.{sym, subst, ap, ◌∙◌}
+use Rattle.warm_history.specs.Histories.{refs}
+use Rattle.warm_rank.specs.Ranking.{IsVictim}
+use Rattle.warm_pool.proofs.PoolSteps.{none_leaves, one_leaves}
+use Rattle.warm_pool.proofs.pool.Pool.victim.Goals as goal
+
+pub returns-in_default : goal.returns-in_default
+returns-in_default g c h r = none_leaves c.requires.pool h r c.in_default.ensures
+
+pub returns : goal.returns
+returns g c h r =
+    subst (IsVictim (refs h) _) (sym (ap (λ f. f.page) (c.behind-self.view_is ∙ c.frame.ensures))) (one_leaves c.requires.pool h r c.in-Some.at c.in-Some.ensures)

@@ -1,0 +1,14 @@
+use Rattle.std.proofs.Common.{◌-◌, ◌≤◌}
+use Rattle.warm_pool.specs.Chains.{IsFirstFrom, IsOf, after}
+use Rattle.warm_pool.proofs.residents.last_below.Given as goal
+
+-- the frame at hand is the first one after the last that was passed
+abbrev pub invariant-loop-at : goal.invariant-loop-at
+invariant-loop-at g l = record {
+  first : IsFirstFrom g.frames l.bucket (after l.last) l.at;
+  passed : IsOf g.frames l.bucket l.last;
+  below : after l.last ≤ l.frame;
+}
+
+abbrev pub decreases-loop-at : goal.decreases-loop-at
+decreases-loop-at g l = l.frame - l.at

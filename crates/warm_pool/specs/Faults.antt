@@ -1,0 +1,32 @@
+-- The numbers and names of the refusals of a pool.
+use Rattle.std.specs.Prelude.{ℕ, List, codes}
+use Rattle.warm_pool.specs.declared.fault.PoolFault.{PoolFault}
+use Rattle.warm_pool.specs.declared.fault.PoolFault.TheVariants.{Memory, BadFrames, SizeDiffers, NoDevice, NoPage, AllFixed, ReadFault, WriteBack, FixesFull, OutOfPage, Fixed, Fault}
+
+abbrev pub code_of : PoolFault → ℕ
+code_of Memory = 1
+code_of BadFrames = 2
+code_of SizeDiffers = 3
+code_of NoDevice = 4
+code_of NoPage = 5
+code_of AllFixed = 6
+code_of ReadFault = 7
+code_of WriteBack = 8
+code_of FixesFull = 9
+code_of OutOfPage = 10
+code_of Fixed = 11
+code_of Fault = 12
+
+abbrev pub name_of : PoolFault → List ℕ
+name_of Memory = codes "Memory"
+name_of BadFrames = codes "BadFrames"
+name_of SizeDiffers = codes "SizeDiffers"
+name_of NoDevice = codes "NoDevice"
+name_of NoPage = codes "NoPage"
+name_of AllFixed = codes "AllFixed"
+name_of ReadFault = codes "ReadFault"
+name_of WriteBack = codes "WriteBack"
+name_of FixesFull = codes "FixesFull"
+name_of OutOfPage = codes "OutOfPage"
+name_of Fixed = codes "Fixed"
+name_of Fault = codes "Fault"

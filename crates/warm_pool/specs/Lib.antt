@@ -1,0 +1,12 @@
+pub mod Frames
+pub mod Chains
+pub mod Residents
+pub mod View
+pub mod State
+pub mod DeviceCalls
+pub mod Flushes
+pub mod Calls
+pub mod Closing
+pub mod Steps
+pub mod Faults
+pub mod Laws

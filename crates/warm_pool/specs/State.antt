@@ -1,0 +1,104 @@
+-- A buffer pool as plain data, what holds of every pool, and what a caller sees of it.
+use Rattle.std.specs.Prelude.{◌≡◌, ◌≢◌, ℕ, ◌<◌, ◌≤◌, ◌==◌, ◌&&◌, Bool, false, IsTrue, List, [], ◌∷◌, map, length, replicate, Option, Some, None, slice_index_or, if◌then◌else◌}
+use Rattle.std.specs.List.{range_with_len}
+use Rattle.std.specs.Option.{option_map}
+use Rattle.warm_stamps.specs.declared.PageId.{PageId}
+use Rattle.warm_history.specs.declared.hist.Entry.{Entry}
+use Rattle.warm_history.specs.Histories.{hist, refs}
+use Rattle.warm_rank.specs.Keys.{rank_key}
+use Rattle.warm_devices.specs.Device.{DeviceState, page_at}
+use Rattle.warm_pool.specs.Frames.{FrameState, FramesState, nth_frame, fresh_frame}
+use Rattle.warm_pool.specs.View.{DeviceView, FrameView, PoolView}
+
+-- A pool: the size of a page, the length of the buffer into which a page is first read, its frames and its devices.
+pub record PoolState : Type 0 where
+  pub page_size : ℕ
+  pub spare : ℕ
+  pub frames : List FrameState
+  pub devices : List DeviceState
+
+-- a pool over devices that show these states
+abbrev pub pool_of : {B : Type 0} → (B → DeviceState) → FramesState → ℕ → List B → PoolState
+pool_of shown frames spare devices = record { page_size = frames.page_size; spare = spare; frames = frames.frames; devices = map shown devices }
+
+-- a pool without a page
+abbrev pub opened : ℕ → ℕ → List DeviceState → PoolState
+opened frames size devices = record { page_size = size; spare = size; frames = replicate frames (fresh_frame (replicate size 0)); devices = devices }
+
+-- a device without a page
+abbrev pub no_device : DeviceState
+no_device = record { pages = 0; page_size = 0; contents = []; waiting = false; failures = 0; honest = false; unfailing = false }
+
+-- the device with this number, of those counted from 0
+abbrev pub nth_device : List DeviceState → ℕ → DeviceState
+nth_device devices k = slice_index_or devices k no_device
+
+-- the page is in none of the frames
+abbrev pub IsNowhere : List FrameState → PageId → Type 0
+IsNowhere frames p = (i : ℕ) → (nth_frame frames i).page ≢ Some p
+
+-- What holds of every pool. A page is in one frame at most, and a device has it; a frame that isn't dirty has the bytes that an
+-- honest device gives; a frame without a page is neither fixed nor dirty, and has no rank.
+pub record IsPool (s : PoolState) : Type 0 where
+  pub some_frames : 0 < length s.frames
+  pub few_frames : length s.frames ≤ 65536
+  pub some_bytes : 0 < s.page_size
+  pub few_bytes : s.page_size ≤ 65536
+  pub few_devices : length s.devices ≤ 65536
+  pub spare_size : s.spare ≡ s.page_size
+  pub frame_size : (i : ℕ) → i < length s.frames → length (nth_frame s.frames i).bytes ≡ s.page_size
+  pub device_size : (k : ℕ) → k < length s.devices → (nth_device s.devices k).page_size ≡ s.page_size
+  pub has_device : (i : ℕ) (p : PageId) → (nth_frame s.frames i).page ≡ Some p → p.dev < length s.devices
+  pub has_page : (i : ℕ) (p : PageId) → (nth_frame s.frames i).page ≡ Some p → p.no < (nth_device s.devices p.dev).pages
+  pub once : (i j : ℕ) (p : PageId) → (nth_frame s.frames i).page ≡ Some p → (nth_frame s.frames j).page ≡ Some p → i ≡ j
+  pub clean : (i : ℕ) (p : PageId) → (nth_frame s.frames i).page ≡ Some p → (nth_frame s.frames i).dirty ≡ false
+      → IsTrue (nth_device s.devices p.dev).honest → (nth_frame s.frames i).bytes ≡ page_at (nth_device s.devices p.dev).contents p.no
+  pub bare : (i : ℕ) → (nth_frame s.frames i).page ≡ None
+      → ((nth_frame s.frames i).key ≡ None) × ((nth_frame s.frames i).fixes ≡ 0) × ((nth_frame s.frames i).dirty ≡ false)
+
+-- the rank of each resident page is that over what the history holds
+abbrev pub RankedBy : PoolState → List Entry → Type 0
+RankedBy s h = (i : ℕ) → (nth_frame s.frames i).key ≡ option_map (λ p. rank_key p (hist (refs h) p)) (nth_frame s.frames i).page
+
+-- every page is on its device as it is in its frame, and no device has anything left to put down
+pub record IsSettled (s : PoolState) : Type 0 where
+  pub clean : (i : ℕ) → (nth_frame s.frames i).dirty ≡ false
+  pub flushed : (k : ℕ) → (nth_device s.devices k).waiting ≡ false
+
+-- whether this is the page of the frame
+abbrev pub is_page : PageId → Option PageId → Bool
+is_page p None = false
+is_page p (Some q) = (q.dev == p.dev) && (q.no == p.no)
+
+-- the bytes of the page: those in its frame, or else these
+abbrev pub bytes_in : List FrameState → PageId → List ℕ → List ℕ
+bytes_in [] p others = others
+bytes_in (f ∷ fs) p others = if is_page p f.page then f.bytes else bytes_in fs p others
+
+-- the bytes that a device is known to have for a page
+abbrev pub stored : List DeviceState → PageId → List ℕ
+stored devices p = if (nth_device devices p.dev).honest then page_at (nth_device devices p.dev).contents p.no else []
+
+abbrev pub bytes_of : List FrameState → List DeviceState → PageId → List ℕ
+bytes_of frames devices p = bytes_in frames p (stored devices p)
+
+-- the bytes of each page of each device
+abbrev pub contents_of : List FrameState → List DeviceState → List (List (List ℕ))
+contents_of frames devices =
+    map (λ k. map (λ n. bytes_of frames devices (record { dev = k; no = n })) (range_with_len 0 (nth_device devices k).pages))
+    (range_with_len 0 (length devices))
+
+abbrev pub frame_view : FrameState → FrameView
+frame_view f = record { page = f.page; generation = f.generation; fixes = f.fixes }
+
+abbrev pub device_view : DeviceState → DeviceView
+device_view d = record { pages = d.pages; honest = d.honest; unfailing = d.unfailing }
+
+abbrev pub view_of : PoolState → PoolView
+view_of s = record {
+  page_size = s.page_size;
+  devices = map device_view s.devices;
+  frames = map frame_view s.frames;
+  contents = contents_of s.frames s.devices;
+  failures = map (λ d. d.failures) s.devices;
+}

@@ -1,0 +1,278 @@
+//! Writing a pool's pages back, and emptying it.
+ghost use Rattle.std.specs.Prelude.{◌≡◌, ℕ, List, ◌<◌, length, set, map, true, false, Some, None, Option, IsTrue, ◌↔◌, OnOk, OnErr, IfErr, MatchBool};
+ghost use Rattle.warm_history.specs.declared.hist.Entry.{Entry};
+ghost use Rattle.warm_devices.specs.Device.{DeviceState};
+ghost use Rattle.warm_pool.specs.Frames.{FramesState, nth_frame};
+ghost use Rattle.warm_pool.specs.State.{PoolState, IsPool, IsSettled, RankedBy, nth_device};
+ghost use Rattle.warm_pool.specs.Steps.{CleanFails};
+ghost use Rattle.warm_pool.specs.Calls.{EmptyRefused, Emptied, FailsAt, IsUnfixed, RetireRefused, Retired, WriteBackFails};
+ghost use Rattle.warm_pool.specs.Flushes.{NoneWaits};
+ghost use Rattle.warm_pool.specs.Closing.{AreUnfixed, IsFixedIn, MakesWay, PutsDown, StopsAt, clean_if, cleaned_chosen, is_chosen, retired, vacate_if, vacated_from};
+ghost use Rattle.warm_pool.specs.declared.fault.PoolFault.TheVariants.{Fault};
+
+use crate::fault::{PoolFault, Unretired};
+use crate::flush::{exchange, flush_all, flush_device, let_all_go};
+use crate::frames::Frames;
+use crate::pool::{Pool, Pooled};
+use warm_devices::{DeviceFault, PageDevice};
+use warm_stamps::PageId;
+
+/// Why a pool was not closed, and the pool.
+#[derive(Drop)]
+pub struct Unclosed {
+    /// Why: `Fixed` or `Fault`.
+    pub fault: PoolFault,
+    /// The pool, whose pages, fixes and contents are as they were.
+    pub pool: Pool,
+}
+
+impl Pool {
+    /// Writes each page that was written to back to its device, in the order of frames, and then flushes the devices on which
+    /// something waits, in rising order.
+    ///
+    /// # Errors
+    /// `Fault` at the first write or flush that fails. Pages, fixes and contents stay, and so does what was written by then.
+    pub fn write_back_all(&mut self) -> Result<(), PoolFault>
+        requires pool { IsPool (⟦<Pool as Pooled>⟧.state self.old) }
+        ensures pool { IsPool (⟦<Pool as Pooled>⟧.state self.new) }
+        ensures ranked { (h : List Entry) → RankedBy (⟦<Pool as Pooled>⟧.state self.old) h → RankedBy (⟦<Pool as Pooled>⟧.state self.new) h }
+        ensures same { OnOk result (⟦<Pool as Pooled>⟧.shown self.new ≡ ⟦<Pool as Pooled>⟧.shown self.old) }
+        ensures settled { OnOk result (IsSettled (⟦<Pool as Pooled>⟧.state self.new)) }
+        ensures refused { IfErr result (λ fault. (fault ≡ Fault) × WriteBackFails (⟦<Pool as Pooled>⟧.state self.old) (⟦<Pool as Pooled>⟧.state self.new)) }
+    {
+        match self.settle() {
+            Ok(()) => Ok(()),
+            Err(_) => Err(PoolFault::Fault),
+        }
+    }
+
+    /// Writes all back as [`Pool::write_back_all`] does, and then takes every page out of its frame.
+    ///
+    /// # Errors
+    /// `Fixed` where a page is fixed, which changes nothing; else `Fault`, which leaves what it leaves there.
+    pub fn empty(&mut self) -> Result<(), PoolFault>
+        requires pool { IsPool (⟦<Pool as Pooled>⟧.state self.old) }
+        ensures pool { IsPool (⟦<Pool as Pooled>⟧.state self.new) }
+        ensures emptied { OnOk result (Emptied (⟦<Pool as Pooled>⟧.shown self.old) (⟦<Pool as Pooled>⟧.shown self.new)) }
+        ensures settled { OnOk result (IsSettled (⟦<Pool as Pooled>⟧.state self.new)) }
+        ensures unranked { OnOk result ((h : List Entry) → RankedBy (⟦<Pool as Pooled>⟧.state self.new) h) }
+        ensures ranked { (h : List Entry) → RankedBy (⟦<Pool as Pooled>⟧.state self.old) h → RankedBy (⟦<Pool as Pooled>⟧.state self.new) h }
+        ensures refused { IfErr result (λ fault. EmptyRefused (⟦<Pool as Pooled>⟧.state self.old) fault (⟦<Pool as Pooled>⟧.state self.new)) }
+    {
+        self.put_down()?;
+        vacate_chosen(&mut self.frames, None);
+        Ok(())
+    }
+
+    /// Writes all back as [`Pool::write_back_all`] does, and then drops the devices, on none of which anything waits.
+    ///
+    /// # Errors
+    /// As [`Pool::empty`]; the pool comes back.
+    pub fn close(mut self) -> Result<(), Unclosed>
+        requires pool { IsPool (⟦<Pool as Pooled>⟧.state self) }
+        ensures unfixed { OnOk result (IsUnfixed (⟦<Pool as Pooled>⟧.shown self)) }
+        ensures refused { IfErr result (λ unclosed. EmptyRefused (⟦<Pool as Pooled>⟧.state self) unclosed.fault (⟦<Pool as Pooled>⟧.state unclosed.pool)) }
+        ensures pool { IfErr result (λ unclosed. IsPool (⟦<Pool as Pooled>⟧.state unclosed.pool)) }
+        ensures ranked { IfErr result (λ unclosed. (h : List Entry) → RankedBy (⟦<Pool as Pooled>⟧.state self) h → RankedBy (⟦<Pool as Pooled>⟧.state unclosed.pool) h) }
+    {
+        match self.put_down() {
+            Ok(()) => {
+                let Pool {
+                    frames,
+                    devices,
+                    spare,
+                } = self;
+                drop(frames);
+                drop(spare);
+                let_all_go(devices);
+                Ok(())
+            }
+            Err(fault) => Err(Unclosed { fault, pool: self }),
+        }
+    }
+
+    /// Lets another device take the place of one. What was written to the pages of the old one goes to it, it is flushed, its pages leave
+    /// their frames, and it is dropped, with nothing waiting on it. The new device may have another number of pages.
+    ///
+    /// # Errors
+    /// In this order; each hands the new device back, and leaves pages, fixes and contents as they were.
+    /// - `NoDevice`: there is no device of this number.
+    /// - `SizeDiffers`: the pages of the new device have another size than those of the pool.
+    /// - `Fixed`: a page of the device is fixed.
+    /// - `Fault`: a write or the flush of the device failed, whose count of failures has grown.
+    pub fn retire(&mut self, dev: u16, device: Box<dyn PageDevice + Send>) -> Result<(), Unretired>
+        requires pool { IsPool (⟦<Pool as Pooled>⟧.state self.old) }
+        ensures pool { IsPool (⟦<Pool as Pooled>⟧.state self.new) }
+        ensures retired { OnOk result (Retired (⟦<Pool as Pooled>⟧.shown self.old) dev (state device) (⟦<Pool as Pooled>⟧.shown self.new)) }
+        ensures refused { IfErr result (λ unretired. RetireRefused (⟦<Pool as Pooled>⟧.shown self.old) dev (state device) unretired.fault (⟦<Pool as Pooled>⟧.shown self.new)) }
+        ensures given_back { IfErr result (λ unretired. unretired.device ≡ device) }
+        ensures ranked { (h : List Entry) → RankedBy (⟦<Pool as Pooled>⟧.state self.old) h → RankedBy (⟦<Pool as Pooled>⟧.state self.new) h }
+    {
+        match self.make_way(dev, device.page_size()) {
+            Ok(()) => {
+                self.take_in(dev, device);
+                Ok(())
+            }
+            Err(fault) => Err(Unretired { fault, device }),
+        }
+    }
+
+    // Writes the pages of a device back and flushes it, where a device with pages of this size may take its place.
+    fn make_way(&mut self, dev: u16, page_size: usize) -> Result<(), PoolFault>
+        requires pool { IsPool (⟦<Pool as Pooled>⟧.state self.old) }
+        ensures pool { IsPool (⟦<Pool as Pooled>⟧.state self.new) }
+        ensures way { OnOk result (MakesWay (⟦<Pool as Pooled>⟧.state self.old) dev page_size (⟦<Pool as Pooled>⟧.state self.new)) }
+        ensures refused { IfErr result (λ fault. (device : DeviceState) → device.page_size ≡ page_size → RetireRefused (⟦<Pool as Pooled>⟧.shown self.old) dev device fault (⟦<Pool as Pooled>⟧.shown self.new)) }
+        ensures ranked { (h : List Entry) → RankedBy (⟦<Pool as Pooled>⟧.state self.old) h → RankedBy (⟦<Pool as Pooled>⟧.state self.new) h }
+    {
+        if dev as usize >= self.devices.len() {
+            return Err(PoolFault::NoDevice);
+        }
+        if page_size != self.frames.page_size() {
+            return Err(PoolFault::SizeDiffers);
+        }
+        if is_fixed(&self.frames, Some(dev)) {
+            return Err(PoolFault::Fixed);
+        }
+        match self.settle_device(dev) {
+            Ok(()) => Ok(()),
+            Err(_) => Err(PoolFault::Fault),
+        }
+    }
+
+    // Writes the pages of one device back and flushes it.
+    fn settle_device(&mut self, dev: u16) -> Result<(), DeviceFault>
+        requires pool { IsPool (⟦<Pool as Pooled>⟧.state self.old) }
+        requires there { dev < length (⟦<Pool as Pooled>⟧.state self.old).devices }
+        ensures pool { IsPool (⟦<Pool as Pooled>⟧.state self.new) }
+        ensures down { OnOk result (PutsDown (cleaned_chosen (Some dev) (length (⟦<Pool as Pooled>⟧.state self.old).frames) (⟦<Pool as Pooled>⟧.state self.old).frames) (⟦<Pool as Pooled>⟧.state self.old) (⟦<Pool as Pooled>⟧.state self.new)) }
+        ensures flushed { OnOk result ((nth_device (⟦<Pool as Pooled>⟧.state self.new).devices dev).waiting ≡ false) }
+        ensures stopped { OnErr result (FailsAt (⟦<Pool as Pooled>⟧.shown self.old) dev (⟦<Pool as Pooled>⟧.shown self.new)) }
+        ensures ranked { (h : List Entry) → RankedBy (⟦<Pool as Pooled>⟧.state self.old) h → RankedBy (⟦<Pool as Pooled>⟧.state self.new) h }
+    {
+        self.clean_chosen(Some(dev))?;
+        flush_device(&mut self.devices, dev as usize)?;
+        Ok(())
+    }
+
+    // Lets a device take the place of one on which nothing waits, and whose pages leave their frames.
+    fn take_in(&mut self, dev: u16, device: Box<dyn PageDevice + Send>)
+        requires there { dev < length (⟦<Pool as Pooled>⟧.state self.old).devices }
+        requires unfixed { AreUnfixed (Some dev) (⟦<Pool as Pooled>⟧.state self.old).frames }
+        requires quiet { (nth_device (⟦<Pool as Pooled>⟧.state self.old).devices dev).waiting ≡ false }
+        ensures { ⟦<Pool as Pooled>⟧.state self.new ≡ retired (⟦<Pool as Pooled>⟧.state self.old) dev (state device) }
+    {
+        vacate_chosen(&mut self.frames, Some(dev));
+        exchange(&mut self.devices, dev as usize, device);
+    }
+
+    // Writes all pages back and flushes all devices, where no page is fixed.
+    fn put_down(&mut self) -> Result<(), PoolFault>
+        requires pool { IsPool (⟦<Pool as Pooled>⟧.state self.old) }
+        ensures pool { IsPool (⟦<Pool as Pooled>⟧.state self.new) }
+        ensures unfixed { OnOk result (AreUnfixed None (⟦<Pool as Pooled>⟧.state self.old).frames) }
+        ensures down { OnOk result (PutsDown (cleaned_chosen None (length (⟦<Pool as Pooled>⟧.state self.old).frames) (⟦<Pool as Pooled>⟧.state self.old).frames) (⟦<Pool as Pooled>⟧.state self.old) (⟦<Pool as Pooled>⟧.state self.new)) }
+        ensures flushed { OnOk result (NoneWaits (⟦<Pool as Pooled>⟧.state self.new).devices) }
+        ensures refused { IfErr result (λ fault. EmptyRefused (⟦<Pool as Pooled>⟧.state self.old) fault (⟦<Pool as Pooled>⟧.state self.new)) }
+        ensures ranked { (h : List Entry) → RankedBy (⟦<Pool as Pooled>⟧.state self.old) h → RankedBy (⟦<Pool as Pooled>⟧.state self.new) h }
+    {
+        if is_fixed(&self.frames, None) {
+            return Err(PoolFault::Fixed);
+        }
+        match self.settle() {
+            Ok(()) => Ok(()),
+            Err(_) => Err(PoolFault::Fault),
+        }
+    }
+
+    // Writes all pages back and flushes all devices.
+    fn settle(&mut self) -> Result<(), DeviceFault>
+        requires pool { IsPool (⟦<Pool as Pooled>⟧.state self.old) }
+        ensures pool { IsPool (⟦<Pool as Pooled>⟧.state self.new) }
+        ensures down { OnOk result (PutsDown (cleaned_chosen None (length (⟦<Pool as Pooled>⟧.state self.old).frames) (⟦<Pool as Pooled>⟧.state self.old).frames) (⟦<Pool as Pooled>⟧.state self.old) (⟦<Pool as Pooled>⟧.state self.new)) }
+        ensures flushed { OnOk result (NoneWaits (⟦<Pool as Pooled>⟧.state self.new).devices) }
+        ensures stopped { OnErr result (WriteBackFails (⟦<Pool as Pooled>⟧.state self.old) (⟦<Pool as Pooled>⟧.state self.new)) }
+        ensures ranked { (h : List Entry) → RankedBy (⟦<Pool as Pooled>⟧.state self.old) h → RankedBy (⟦<Pool as Pooled>⟧.state self.new) h }
+    {
+        self.clean_chosen(None)?;
+        flush_all(&mut self.devices)?;
+        Ok(())
+    }
+
+    // Writes the pages of the frames that are concerned back.
+    fn clean_chosen(&mut self, which: Option<u16>) -> Result<(), DeviceFault>
+        requires pool { IsPool (⟦<Pool as Pooled>⟧.state self.old) }
+        ensures pool { IsPool (⟦<Pool as Pooled>⟧.state self.new) }
+        ensures down { OnOk result (PutsDown (cleaned_chosen which (length (⟦<Pool as Pooled>⟧.state self.old).frames) (⟦<Pool as Pooled>⟧.state self.old).frames) (⟦<Pool as Pooled>⟧.state self.old) (⟦<Pool as Pooled>⟧.state self.new)) }
+        ensures stopped { OnErr result (StopsAt which (⟦<Pool as Pooled>⟧.state self.old) (⟦<Pool as Pooled>⟧.state self.new)) }
+    {
+        for at in 0..self.frames.len() {
+            self.clean_if(at, which)?;
+        }
+        Ok(())
+    }
+
+    // Writes the page of a frame back, where it is concerned.
+    fn clean_if(&mut self, at: usize, which: Option<u16>) -> Result<(), DeviceFault>
+        requires pool { IsPool (⟦<Pool as Pooled>⟧.state self.old) }
+        requires there { at < length (⟦<Pool as Pooled>⟧.state self.old).frames }
+        ensures pool { IsPool (⟦<Pool as Pooled>⟧.state self.new) }
+        ensures down { OnOk result (PutsDown (set (⟦<Pool as Pooled>⟧.state self.old).frames at (clean_if which (nth_frame (⟦<Pool as Pooled>⟧.state self.old).frames at))) (⟦<Pool as Pooled>⟧.state self.old) (⟦<Pool as Pooled>⟧.state self.new)) }
+        ensures failed { OnErr result (IsTrue (is_chosen which (nth_frame (⟦<Pool as Pooled>⟧.state self.old).frames at).page) × CleanFails (⟦<Pool as Pooled>⟧.state self.old) at (⟦<Pool as Pooled>⟧.state self.new)) }
+    {
+        if !is_chosen(which, self.frames.frame(at).page) {
+            return Ok(());
+        }
+        self.write_back(at)
+    }
+}
+
+// Whether a frame with this page is concerned, where those of one device are, or all.
+fn is_chosen(which: Option<u16>, page: Option<PageId>) -> bool
+    ensures { result ≡ is_chosen which page }
+{
+    let Some(dev) = which else {
+        return true;
+    };
+    let Some(page) = page else {
+        return false;
+    };
+    page.dev == dev
+}
+
+// Whether a frame that is concerned has a fix.
+fn is_fixed(frames: &Frames, which: Option<u16>) -> bool
+    ensures { MatchBool result (IsFixedIn which frames.now.frames) (AreUnfixed which frames.now.frames) }
+{
+    for at in 0..frames.len() {
+        let frame = frames.frame(at);
+        if frame.fixes > 0 && is_chosen(which, frame.page) {
+            return true;
+        }
+    }
+    false
+}
+
+// Takes the pages out of the frames that are concerned, the last frame first: so each comes before all free frames but those below it.
+fn vacate_chosen(frames: &mut Frames, which: Option<u16>)
+    requires { AreUnfixed which frames.old.frames }
+    ensures { frames.new ≡ record frames.old { frames = vacated_from which 0 frames.old.frames } }
+{
+    let mut at = frames.len();
+    while at > 0 {
+        at -= 1;
+        vacate_if(frames, at, which);
+    }
+}
+
+// Takes the page out of a frame that is concerned.
+fn vacate_if(frames: &mut Frames, at: usize, which: Option<u16>)
+    requires there { at < length frames.old.frames }
+    requires unfixed { IsTrue (is_chosen which (nth_frame frames.old.frames at).page) → (nth_frame frames.old.frames at).fixes ≡ 0 }
+    ensures { frames.new ≡ record frames.old { frames = set frames.old.frames at (vacate_if which (nth_frame frames.old.frames at)) } }
+{
+    if !is_chosen(which, frames.frame(at).page) {
+        return;
+    }
+    frames.vacate(at);
+}

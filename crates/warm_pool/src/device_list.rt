@@ -1,0 +1,56 @@
+//! Calls of one of a pool's devices, and what they do to the list of them.
+ghost use Rattle.std.specs.Prelude.{◌≡◌, ◌↔◌, ◌<◌, ℕ, IsTrue, map, length, true};
+ghost use Rattle.warm_pool.specs.State.{nth_device};
+ghost use Rattle.warm_pool.specs.DeviceCalls.{PageRead, PageWrite};
+
+use warm_devices::{DeviceFault, PageDevice};
+use warm_stamps::PageId;
+
+/// Reads one page of one of the devices.
+pub(crate) fn read_page(
+    devices: &mut Vec<Box<dyn PageDevice + Send>>,
+    page: PageId,
+    into: &mut Vec<u8>,
+) -> Result<(), DeviceFault>
+    requires device { page.dev < length devices.old.items }
+    requires known { page.no < (nth_device (map (λ b. state b) devices.old.items) page.dev).pages }
+    requires sized { length into.old.items ≡ (nth_device (map (λ b. state b) devices.old.items) page.dev).page_size }
+    ensures call { PageRead (map (λ b. state b) devices.old.items) (map (λ b. state b) devices.new.items) page.dev page.no into.new.items result }
+    ensures len { length into.new.items ≡ length into.old.items }
+{
+    devices[page.dev as usize].read(page.no, into)
+}
+
+/// Writes one page of one of the devices.
+pub(crate) fn write_page(
+    devices: &mut Vec<Box<dyn PageDevice + Send>>,
+    page: PageId,
+    bytes: &[u8],
+) -> Result<(), DeviceFault>
+    requires device { page.dev < length devices.old.items }
+    requires known { page.no < (nth_device (map (λ b. state b) devices.old.items) page.dev).pages }
+    requires sized { length bytes.now ≡ (nth_device (map (λ b. state b) devices.old.items) page.dev).page_size }
+    ensures { PageWrite (map (λ b. state b) devices.old.items) (map (λ b. state b) devices.new.items) page.dev page.no bytes.now result }
+{
+    devices[page.dev as usize].write(page.no, bytes)
+}
+
+/// How many pages one of the devices has.
+pub(crate) fn pages_of(devices: &[Box<dyn PageDevice + Send>], device: usize) -> u32
+    requires { device < length devices.now }
+    ensures { result ≡ (nth_device (map (λ b. state b) devices.now) device).pages }
+{
+    devices[device].pages()
+}
+
+/// Whether each device has pages of this size.
+pub(crate) fn all_sized(devices: &[Box<dyn PageDevice + Send>], page_size: usize) -> bool
+    ensures { IsTrue result ↔ ((k : ℕ) → k < length devices.now → (nth_device (map (λ b. state b) devices.now) k).page_size ≡ page_size) }
+{
+    for device in devices {
+        if device.page_size() != page_size {
+            return false;
+        }
+    }
+    true
+}

@@ -1,0 +1,55 @@
+//! Flushing a pool's devices, and letting them go.
+ghost use Rattle.std.specs.Prelude.{◌≡◌, ℕ, ◌<◌, length, map, set, false, OnErr, OnOk};
+ghost use Rattle.warm_pool.specs.State.{nth_device};
+ghost use Rattle.warm_pool.specs.Flushes.{DeviceFlush, FlushedTo, FlushStops, NoneWaits};
+
+use std::mem;
+use warm_devices::{DeviceFault, PageDevice, let_go};
+
+/// Flushes each device on which something waits, in rising order, up to the first that fails.
+pub(crate) fn flush_all(devices: &mut Vec<Box<dyn PageDevice + Send>>) -> Result<(), DeviceFault>
+    ensures flushed { OnOk result (FlushedTo (length devices.old.items) (map (λ b. state b) devices.old.items) (map (λ b. state b) devices.new.items)) }
+    ensures stopped { OnErr result (FlushStops (map (λ b. state b) devices.old.items) (map (λ b. state b) devices.new.items)) }
+{
+    for at in 0..devices.len() {
+        flush_device(devices, at)?;
+    }
+    Ok(())
+}
+
+/// Flushes one of the devices, where something waits on it.
+pub(crate) fn flush_device(
+    devices: &mut Vec<Box<dyn PageDevice + Send>>,
+    at: usize,
+) -> Result<(), DeviceFault>
+    requires { at < length devices.old.items }
+    ensures { DeviceFlush (map (λ b. state b) devices.old.items) (map (λ b. state b) devices.new.items) at result }
+{
+    if !devices[at].waiting() {
+        return Ok(());
+    }
+    devices[at].flush()
+}
+
+/// Drops devices on which nothing waits.
+pub(crate) fn let_all_go(mut devices: Vec<Box<dyn PageDevice + Send>>)
+    requires { NoneWaits (map (λ b. state b) devices.items) }
+{
+    while let Some(device) = devices.pop() {
+        let_go(device);
+    }
+}
+
+/// Puts a device in the place of one on which nothing waits, and drops that.
+pub(crate) fn exchange(
+    devices: &mut Vec<Box<dyn PageDevice + Send>>,
+    at: usize,
+    device: Box<dyn PageDevice + Send>,
+)
+    requires there { at < length devices.old.items }
+    requires quiet { (nth_device (map (λ b. state b) devices.old.items) at).waiting ≡ false }
+    ensures { map (λ b. state b) devices.new.items ≡ set (map (λ b. state b) devices.old.items) at (state device) }
+{
+    let old = mem::replace(&mut devices[at], device);
+    let_go(old);
+}

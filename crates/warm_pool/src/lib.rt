@@ -1,0 +1,30 @@
+//! A buffer pool: pages of devices in frames, and which page leaves when another comes in.
+//!
+//! A page comes into a frame by [`Pool::pin`] or [`Pool::load`], and leaves only for another page, or where the pool is emptied or its
+//! device retired. The page that leaves is the victim: of the resident pages without a fix the one of the greatest backward
+//! 2-distance (O'Neil, O'Neil, Weikum, "The LRU-K Page Replacement Algorithm For Database Disk Buffering", SIGMOD 1993), as a history
+//! ranks them. A page that was written to goes to its device before it leaves. No call but [`Pool::write`] changes a byte of a page.
+//!
+//! Clauses see a pool by its `state` and, of that, what a caller sees: its `shown`, plain data. They stand in `specs/View.antt`, and
+//! what each call does to them in `specs/Calls.antt`. That a state is one of a pool (`IsPool`) is a condition of each call and is
+//! kept by it. Boxed devices are handed in by the caller; the pool drops one only where nothing waits in it.
+#![tactic(auto)]
+
+mod close;
+mod device_list;
+mod fault;
+mod flush;
+mod frame;
+mod frames;
+pub mod laws;
+mod pool;
+mod residents;
+mod slot;
+
+pub use close::Unclosed;
+pub use fault::{PoolFault, Unmade, Unretired};
+pub use pool::{Pool, Pooled};
+pub use slot::Slot;
+
+#[cfg(test)]
+mod tests;

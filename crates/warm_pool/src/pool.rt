@@ -1,0 +1,460 @@
+//! The pool.
+ghost use Rattle.std.specs.Prelude.{◌≡◌, ◌≢◌, ◌↔◌, ◌⊎◌, ℕ, ◌+◌, ◌-◌, ◌^◌, ◌<◌, ◌≤◌, List, map, length, set, true, false, Some, None, MatchOption, MatchResult, OnOk, OnErr, IfOk, IfErr, IfSome, IsTrue, replicate};
+ghost use Rattle.warm_stamps.specs.declared.PageId.{PageId};
+ghost use Rattle.warm_history.specs.declared.hist.Entry.{Entry};
+ghost use Rattle.warm_history.specs.Histories.{hist, refs};
+ghost use Rattle.warm_rank.specs.Keys.{rank_key};
+ghost use Rattle.warm_rank.specs.Ranking.{IsVictim};
+ghost use Rattle.warm_pool.specs.Frames.{FrameState, nth_frame, fresh_frame};
+ghost use Rattle.warm_pool.specs.State.{PoolState, IsPool, RankedBy, IsNowhere, opened, nth_device};
+ghost use Rattle.warm_pool.specs.View.{PoolView, HasPage, IsResident, IsAbsent, Holds, IsPlace, unfixed_pages, frame_at};
+ghost use Rattle.warm_pool.specs.Calls.{SameButFailures, IsUpTo, IsSize, NewRefused, AddsFix, Pinned, PinRefused, Loaded, LoadRefused, PutsIn, PutRefused, unpinned, IsRead, Written, AgreeOutside};
+ghost use Rattle.warm_pool.specs.Steps.{LoadsInto, LoadFails, Cleans, CleanFails, Renews};
+ghost use Rattle.warm_pool.specs.declared.fault.PoolFault.TheVariants.{OutOfPage, FixesFull};
+
+use crate::device_list::{all_sized, pages_of, read_page, write_page};
+use crate::fault::{PoolFault, Unmade};
+use crate::frames::Frames;
+use crate::slot::Slot;
+use std::alloc::{AllocError, Global};
+use warm_devices::{DeviceFault, PageDevice};
+use warm_history::history::History;
+use warm_rank::{RankKey, key_of};
+use warm_stamps::PageId;
+
+/// The most frames of a pool, and the most bytes of a page.
+const MOST: usize = 65_536;
+
+/// Pages of devices in frames.
+///
+/// Clauses see [`Pooled::state`] of a pool, and [`Pooled::shown`], what a caller sees of it. A pool is *ranked by* a history where the
+/// rank of each resident page is the one that the history gives it. A pool without a page is ranked by every history.
+///
+/// A pool that is dropped settles its devices by their own drops, but loses what only its dirty frames hold: close it instead.
+#[derive(Drop)]
+pub struct Pool {
+    pub(crate) frames: Frames,
+    pub(crate) devices: Vec<Box<dyn PageDevice + Send>>,
+    // A page is first read into this buffer, so that a failed read changes no frame.
+    pub(crate) spare: Vec<u8>,
+}
+
+/// What a pool is to a contract.
+pub trait Pooled {
+    /// Its frames and its devices as plain data.
+    ghost state: { Self → PoolState };
+
+    /// What a caller sees of it.
+    ghost shown: { Self → PoolView };
+}
+
+impl Pooled for Pool {
+    ghost use Rattle.std.specs.Prelude.{length};
+    ghost use Rattle.warm_pool.specs.State.{pool_of, view_of};
+
+    ghost state = { λ p. pool_of (λ b. (PageDevice-box b).state b.value) p.frames (length p.spare.items) p.devices.items };
+
+    ghost shown = { λ p. view_of (pool_of (λ b. (PageDevice-box b).state b.value) p.frames (length p.spare.items) p.devices.items) };
+}
+
+impl Pool {
+    /// A pool of this many frames, none with a page, over these devices. All room that it needs is taken here.
+    ///
+    /// There may be 65,536 devices at most.
+    ///
+    /// # Errors
+    /// `BadFrames` where `frames` is outside 1 to 65,536; else `SizeDiffers` where `page_size` is, or is not that of each device; else
+    /// `Memory`. Each hands the devices back.
+    pub fn new(
+        alloc: Global,
+        frames: usize,
+        page_size: usize,
+        devices: Vec<Box<dyn PageDevice + Send>>,
+    ) -> Result<Pool, Unmade>
+        requires few { length devices.items ≤ 65536 }
+        ensures pool { IfOk result (λ pool. IsPool (⟦<Pool as Pooled>⟧.state pool)) }
+        ensures opened { IfOk result (λ pool. ⟦<Pool as Pooled>⟧.state pool ≡ opened frames page_size (map (λ b. state b) devices.items)) }
+        ensures ranked { IfOk result (λ pool. (h : List Entry) → RankedBy (⟦<Pool as Pooled>⟧.state pool) h) }
+        ensures refused { IfErr result (λ unmade. NewRefused frames page_size (map (λ b. state b) devices.items) unmade.fault × (unmade.devices.items ≡ devices.items)) }
+    {
+        if let Some(fault) = shape_fault(frames, page_size, &devices) {
+            return Err(Unmade { fault, devices });
+        }
+        match parts(alloc, frames, page_size) {
+            Ok((frames, spare)) => Ok(Pool {
+                frames,
+                devices,
+                spare,
+            }),
+            Err(_) => Err(Unmade {
+                fault: PoolFault::Memory,
+                devices,
+            }),
+        }
+    }
+
+    /// How many frames there are, with a page or without.
+    pub fn frames(&self) -> usize
+        requires pool { IsPool (⟦<Pool as Pooled>⟧.state self.now) }
+        ensures { result ≡ length (⟦<Pool as Pooled>⟧.shown self.now).frames }
+    {
+        self.frames.len()
+    }
+
+    /// Whether a device has the page.
+    pub fn has(&self, page: PageId) -> bool
+        requires pool { IsPool (⟦<Pool as Pooled>⟧.state self.now) }
+        ensures { IsTrue result ↔ HasPage (⟦<Pool as Pooled>⟧.shown self.now) page }
+    {
+        match self.check(page) {
+            Ok(()) => true,
+            Err(_) => false,
+        }
+    }
+
+    /// Whether the page is in a frame.
+    pub fn resident(&self, page: PageId) -> bool
+        requires pool { IsPool (⟦<Pool as Pooled>⟧.state self.now) }
+        ensures { IsTrue result ↔ IsResident (⟦<Pool as Pooled>⟧.shown self.now) page }
+    {
+        match self.frames.find(page) {
+            Some(_) => true,
+            None => false,
+        }
+    }
+
+    /// Whether the slot's frame has a fix, and no other page was put into it since the slot was given.
+    pub fn holds(&self, slot: Slot) -> bool
+        requires pool { IsPool (⟦<Pool as Pooled>⟧.state self.now) }
+        ensures { IsTrue result ↔ Holds (⟦<Pool as Pooled>⟧.shown self.now) slot }
+    {
+        let at = slot.index as usize;
+        if at >= self.frames.len() {
+            return false;
+        }
+        let frame = self.frames.frame(at);
+        frame.generation == slot.generation && frame.fixes > 0
+    }
+
+    /// Gives a page one more fix, and puts it into a frame where it is in none: into the first free frame, else into that of the
+    /// victim. A page with a fix doesn't leave.
+    ///
+    /// # Errors
+    /// In this order; each leaves pages, fixes and contents as they were.
+    /// - `NoDevice`, `NoPage`: there is no such device, or it has no such page.
+    /// - `FixesFull`: the page is resident and has 2^32-1 fixes.
+    /// - `AllFixed`: the page isn't resident, each frame has a page, and all are fixed.
+    /// - `FixesFull`: the frame into which the page would go has the generation 2^64-1.
+    /// - `ReadFault`: the page was not read. Its device's count of failures has grown.
+    /// - `WriteBack`: the page that would leave was written to, and could not be written to its device, whose count of failures has
+    ///   grown.
+    pub fn pin(&mut self, page: PageId, history: &History) -> Result<Slot, PoolFault>
+        requires pool { IsPool (⟦<Pool as Pooled>⟧.state self.old) }
+        requires ranked { RankedBy (⟦<Pool as Pooled>⟧.state self.old) history.now }
+        ensures pool { IsPool (⟦<Pool as Pooled>⟧.state self.new) }
+        ensures ranked { RankedBy (⟦<Pool as Pooled>⟧.state self.new) history.now }
+        ensures pinned { IfOk result (λ slot. Pinned history.now (⟦<Pool as Pooled>⟧.shown self.old) page slot (⟦<Pool as Pooled>⟧.shown self.new)) }
+        ensures holds { IfOk result (λ slot. Holds (⟦<Pool as Pooled>⟧.shown self.new) slot) }
+        ensures refused { IfErr result (λ fault. PinRefused history.now (⟦<Pool as Pooled>⟧.shown self.old) page fault (⟦<Pool as Pooled>⟧.shown self.new)) }
+        ensures stays { OnErr result (SameButFailures (⟦<Pool as Pooled>⟧.shown self.old) (⟦<Pool as Pooled>⟧.shown self.new)) }
+    {
+        if let Err(fault) = self.check(page) {
+            return Err(fault);
+        }
+        match self.frames.find(page) {
+            Some(at) => self.add_fix(at),
+            None => self.bring(page, history, 1),
+        }
+    }
+
+    /// Puts a page into a frame as [`Pool::pin`] does, but without a fix. A resident page stays as it is.
+    ///
+    /// # Errors
+    /// Those of a pin, in its order, and with what it leaves; a resident page is never refused.
+    pub fn load(&mut self, page: PageId, history: &History) -> Result<Slot, PoolFault>
+        requires pool { IsPool (⟦<Pool as Pooled>⟧.state self.old) }
+        requires ranked { RankedBy (⟦<Pool as Pooled>⟧.state self.old) history.now }
+        ensures pool { IsPool (⟦<Pool as Pooled>⟧.state self.new) }
+        ensures ranked { RankedBy (⟦<Pool as Pooled>⟧.state self.new) history.now }
+        ensures loaded { IfOk result (λ slot. Loaded history.now (⟦<Pool as Pooled>⟧.shown self.old) page slot (⟦<Pool as Pooled>⟧.shown self.new)) }
+        ensures refused { IfErr result (λ fault. LoadRefused history.now (⟦<Pool as Pooled>⟧.shown self.old) page fault (⟦<Pool as Pooled>⟧.shown self.new)) }
+        ensures stays { OnErr result (SameButFailures (⟦<Pool as Pooled>⟧.shown self.old) (⟦<Pool as Pooled>⟧.shown self.new)) }
+    {
+        if let Err(fault) = self.check(page) {
+            return Err(fault);
+        }
+        match self.frames.find(page) {
+            Some(at) => {
+                let generation = self.frames.frame(at).generation;
+                Ok(Slot {
+                    index: at as u32,
+                    generation,
+                })
+            }
+            None => self.bring(page, history, 0),
+        }
+    }
+
+    /// The page that would leave next: of the resident pages without a fix the one of the greatest backward 2-distance; `None` where
+    /// there is none.
+    pub fn victim(&self) -> Option<PageId>
+        requires pool { IsPool (⟦<Pool as Pooled>⟧.state self.now) }
+        ensures { (h : List Entry) → RankedBy (⟦<Pool as Pooled>⟧.state self.now) h → IsVictim (refs h) (unfixed_pages (⟦<Pool as Pooled>⟧.shown self.now)) result }
+    {
+        let Some(at) = self.frames.least() else {
+            return None;
+        };
+        self.frames.frame(at).page
+    }
+
+    /// Takes a fix from the slot's page. Without a fix it may leave.
+    pub fn unpin(&mut self, slot: Slot)
+        requires pool { IsPool (⟦<Pool as Pooled>⟧.state self.old) }
+        requires holds { Holds (⟦<Pool as Pooled>⟧.shown self.old) slot }
+        ensures pool { IsPool (⟦<Pool as Pooled>⟧.state self.new) }
+        ensures ranked { (h : List Entry) → RankedBy (⟦<Pool as Pooled>⟧.state self.old) h → RankedBy (⟦<Pool as Pooled>⟧.state self.new) h }
+        ensures unpinned { ⟦<Pool as Pooled>⟧.shown self.new ≡ unpinned (⟦<Pool as Pooled>⟧.shown self.old) slot }
+    {
+        self.frames.unfix(slot.index as usize);
+    }
+
+    /// Reads bytes of the slot's page, from `at` on, into the whole of `into`.
+    ///
+    /// # Errors
+    /// `OutOfPage` where they reach beyond the end of the page; `into` is as it was.
+    pub fn read(&self, slot: Slot, at: usize, into: &mut [u8]) -> Result<(), PoolFault>
+        requires pool { IsPool (⟦<Pool as Pooled>⟧.state self.now) }
+        requires holds { Holds (⟦<Pool as Pooled>⟧.shown self.now) slot }
+        ensures read { OnOk result (IsRead (⟦<Pool as Pooled>⟧.shown self.now) slot at into.new) }
+        ensures refused { IfErr result (λ fault. (fault ≡ OutOfPage) × ((⟦<Pool as Pooled>⟧.shown self.now).page_size < at + length into.old) × (into.new ≡ into.old)) }
+        ensures len { length into.new ≡ length into.old }
+    {
+        if !self.is_within(at, into.len()) {
+            return Err(PoolFault::OutOfPage);
+        }
+        let frame = self.frames.frame(slot.index as usize);
+        into.copy_from_slice(&frame.bytes[at..at + into.len()]);
+        Ok(())
+    }
+
+    /// Writes bytes into the slot's page, from `at` on.
+    ///
+    /// # Errors
+    /// `OutOfPage` where they reach beyond the end of the page; nothing is changed.
+    pub fn write(&mut self, slot: Slot, at: usize, bytes: &[u8]) -> Result<(), PoolFault>
+        requires pool { IsPool (⟦<Pool as Pooled>⟧.state self.old) }
+        requires holds { Holds (⟦<Pool as Pooled>⟧.shown self.old) slot }
+        ensures pool { IsPool (⟦<Pool as Pooled>⟧.state self.new) }
+        ensures ranked { (h : List Entry) → RankedBy (⟦<Pool as Pooled>⟧.state self.old) h → RankedBy (⟦<Pool as Pooled>⟧.state self.new) h }
+        ensures written { OnOk result (Written (⟦<Pool as Pooled>⟧.shown self.old) slot at bytes.now (⟦<Pool as Pooled>⟧.shown self.new)) }
+        ensures refused { IfErr result (λ fault. (fault ≡ OutOfPage) × ((⟦<Pool as Pooled>⟧.shown self.old).page_size < at + length bytes.now) × (⟦<Pool as Pooled>⟧.state self.new ≡ ⟦<Pool as Pooled>⟧.state self.old)) }
+    {
+        if !self.is_within(at, bytes.len()) {
+            return Err(PoolFault::OutOfPage);
+        }
+        self.frames.patch(slot.index as usize, at, bytes);
+        Ok(())
+    }
+
+    /// Renews the ranks of those of the pages that are resident.
+    pub fn refresh(&mut self, history: &History, pages: &[PageId])
+        requires pool { IsPool (⟦<Pool as Pooled>⟧.state self.old) }
+        ensures pool { IsPool (⟦<Pool as Pooled>⟧.state self.new) }
+        ensures ranked { (g : List Entry) → RankedBy (⟦<Pool as Pooled>⟧.state self.old) g → AgreeOutside pages.now g history.now → RankedBy (⟦<Pool as Pooled>⟧.state self.new) history.now }
+        ensures same { ⟦<Pool as Pooled>⟧.shown self.new ≡ ⟦<Pool as Pooled>⟧.shown self.old }
+    {
+        for page in pages {
+            self.renew(history, *page);
+        }
+    }
+
+    // Renews the rank of a page, where it is resident.
+    fn renew(&mut self, history: &History, page: PageId)
+        requires pool { IsPool (⟦<Pool as Pooled>⟧.state self.old) }
+        ensures pool { IsPool (⟦<Pool as Pooled>⟧.state self.new) }
+        ensures same { ⟦<Pool as Pooled>⟧.shown self.new ≡ ⟦<Pool as Pooled>⟧.shown self.old }
+        ensures keys { Renews (⟦<Pool as Pooled>⟧.state self.old) page (rank_key page (hist (refs history.now) page)) (⟦<Pool as Pooled>⟧.state self.new) }
+    {
+        if let Some(at) = self.frames.find(page) {
+            let key = known_key(history, page);
+            self.frames.rank(at, key);
+        }
+    }
+
+    // Whether a device has the page, and else why it can't come in.
+    fn check(&self, page: PageId) -> Result<(), PoolFault>
+        requires pool { IsPool (⟦<Pool as Pooled>⟧.state self.now) }
+        ensures known { OnOk result (HasPage (⟦<Pool as Pooled>⟧.shown self.now) page) }
+        ensures unknown { OnErr result (HasPage (⟦<Pool as Pooled>⟧.shown self.now) page → ⊥) }
+        ensures load { IfErr result (λ fault. (h : List Entry) → LoadRefused h (⟦<Pool as Pooled>⟧.shown self.now) page fault (⟦<Pool as Pooled>⟧.shown self.now)) }
+        ensures pin { IfErr result (λ fault. (h : List Entry) → PinRefused h (⟦<Pool as Pooled>⟧.shown self.now) page fault (⟦<Pool as Pooled>⟧.shown self.now)) }
+    {
+        let device = page.dev as usize;
+        if device >= self.devices.len() {
+            return Err(PoolFault::NoDevice);
+        }
+        if page.no >= pages_of(&self.devices, device) {
+            return Err(PoolFault::NoPage);
+        }
+        Ok(())
+    }
+
+    // Whether so many bytes from `at` on are within a page.
+    fn is_within(&self, at: usize, len: usize) -> bool
+        ensures { IsTrue result ↔ (at + len ≤ (⟦<Pool as Pooled>⟧.shown self.now).page_size) }
+    {
+        let size = self.frames.page_size();
+        at <= size && len <= size - at
+    }
+
+    // Adds a fix to a resident page.
+    fn add_fix(&mut self, at: usize) -> Result<Slot, PoolFault>
+        requires pool { IsPool (⟦<Pool as Pooled>⟧.state self.old) }
+        requires there { at < length (⟦<Pool as Pooled>⟧.state self.old).frames }
+        requires held { (nth_frame (⟦<Pool as Pooled>⟧.state self.old).frames at).page ≢ None }
+        ensures pool { IsPool (⟦<Pool as Pooled>⟧.state self.new) }
+        ensures ranked { (h : List Entry) → RankedBy (⟦<Pool as Pooled>⟧.state self.old) h → RankedBy (⟦<Pool as Pooled>⟧.state self.new) h }
+        ensures fixed { (p : PageId) → (nth_frame (⟦<Pool as Pooled>⟧.state self.old).frames at).page ≡ Some p → IfOk result (λ slot. AddsFix (⟦<Pool as Pooled>⟧.shown self.old) p slot (⟦<Pool as Pooled>⟧.shown self.new)) }
+        ensures holds { IfOk result (λ slot. Holds (⟦<Pool as Pooled>⟧.shown self.new) slot) }
+        ensures refused { IfErr result (λ fault. (fault ≡ FixesFull) × ((nth_frame (⟦<Pool as Pooled>⟧.state self.old).frames at).fixes ≡ 2 ^ 32 - 1) × (⟦<Pool as Pooled>⟧.state self.new ≡ ⟦<Pool as Pooled>⟧.state self.old)) }
+    {
+        let frame = self.frames.frame(at);
+        let generation = frame.generation;
+        if frame.fixes < u32::MAX {
+            self.frames.fix(at);
+            return Ok(Slot {
+                index: at as u32,
+                generation,
+            });
+        }
+        Err(PoolFault::FixesFull)
+    }
+
+    // The frame into which a page goes that comes in.
+    fn place(&self) -> Option<usize>
+        requires pool { IsPool (⟦<Pool as Pooled>⟧.state self.now) }
+        ensures place { (h : List Entry) → RankedBy (⟦<Pool as Pooled>⟧.state self.now) h → IsPlace h (⟦<Pool as Pooled>⟧.shown self.now) result }
+        ensures there { IfSome result (λ at. at < length (⟦<Pool as Pooled>⟧.state self.now).frames) }
+        ensures unfixed { IfSome result (λ at. (nth_frame (⟦<Pool as Pooled>⟧.state self.now).frames at).fixes ≡ 0) }
+    {
+        match self.frames.first_free() {
+            Some(at) => Some(at),
+            None => self.frames.least(),
+        }
+    }
+
+    // Puts a page that is in no frame into one, with so many fixes.
+    fn bring(&mut self, page: PageId, history: &History, fixes: u32) -> Result<Slot, PoolFault>
+        requires pool { IsPool (⟦<Pool as Pooled>⟧.state self.old) }
+        requires ranked { RankedBy (⟦<Pool as Pooled>⟧.state self.old) history.now }
+        requires known { HasPage (⟦<Pool as Pooled>⟧.shown self.old) page }
+        requires absent { IsNowhere (⟦<Pool as Pooled>⟧.state self.old).frames page }
+        ensures pool { IsPool (⟦<Pool as Pooled>⟧.state self.new) }
+        ensures ranked { RankedBy (⟦<Pool as Pooled>⟧.state self.new) history.now }
+        ensures put { IfOk result (λ slot. PutsIn history.now (⟦<Pool as Pooled>⟧.shown self.old) page fixes slot (⟦<Pool as Pooled>⟧.shown self.new)) }
+        ensures refused { IfErr result (λ fault. PutRefused history.now (⟦<Pool as Pooled>⟧.shown self.old) page fault (⟦<Pool as Pooled>⟧.shown self.new)) }
+    {
+        let Some(at) = self.place() else {
+            return Err(PoolFault::AllFixed);
+        };
+        let generation = self.frames.frame(at).generation;
+        if generation < u64::MAX {
+            let key = known_key(history, page);
+            if let Err(fault) = self.load_into(at, page, key, fixes) {
+                return Err(fault);
+            }
+            return Ok(Slot {
+                index: at as u32,
+                generation: generation + 1,
+            });
+        }
+        Err(PoolFault::FixesFull)
+    }
+
+    // Reads a page into the spare buffer, writes back the page that is in the frame, and then lets the two buffers change places.
+    fn load_into(
+        &mut self,
+        at: usize,
+        page: PageId,
+        key: RankKey,
+        fixes: u32,
+    ) -> Result<(), PoolFault>
+        requires pool { IsPool (⟦<Pool as Pooled>⟧.state self.old) }
+        requires there { at < length (⟦<Pool as Pooled>⟧.state self.old).frames }
+        requires room { (nth_frame (⟦<Pool as Pooled>⟧.state self.old).frames at).generation < 2 ^ 64 - 1 }
+        requires device { page.dev < length (⟦<Pool as Pooled>⟧.state self.old).devices }
+        requires known { page.no < (nth_device (⟦<Pool as Pooled>⟧.state self.old).devices page.dev).pages }
+        requires absent { IsNowhere (⟦<Pool as Pooled>⟧.state self.old).frames page }
+        ensures pool { IsPool (⟦<Pool as Pooled>⟧.state self.new) }
+        ensures put { OnOk result (LoadsInto (⟦<Pool as Pooled>⟧.state self.old) at page key fixes (⟦<Pool as Pooled>⟧.state self.new)) }
+        ensures refused { IfErr result (λ fault. LoadFails (⟦<Pool as Pooled>⟧.state self.old) at page fault (⟦<Pool as Pooled>⟧.state self.new)) }
+    {
+        if read_page(&mut self.devices, page, &mut self.spare).is_err() {
+            return Err(PoolFault::ReadFault);
+        }
+        if self.write_back(at).is_err() {
+            return Err(PoolFault::WriteBack);
+        }
+        self.frames.put(at, page, key, fixes, &mut self.spare);
+        Ok(())
+    }
+
+    // Writes the page of a frame to its device, where it isn't there as it is in the frame.
+    pub(crate) fn write_back(&mut self, at: usize) -> Result<(), DeviceFault>
+        requires pool { IsPool (⟦<Pool as Pooled>⟧.state self.old) }
+        requires there { at < length (⟦<Pool as Pooled>⟧.state self.old).frames }
+        ensures pool { IsPool (⟦<Pool as Pooled>⟧.state self.new) }
+        ensures done { OnOk result (Cleans (⟦<Pool as Pooled>⟧.state self.old) at (⟦<Pool as Pooled>⟧.state self.new)) }
+        ensures failed { OnErr result (CleanFails (⟦<Pool as Pooled>⟧.state self.old) at (⟦<Pool as Pooled>⟧.state self.new)) }
+        ensures spare { self.new.spare.items ≡ self.old.spare.items }
+    {
+        let frame = self.frames.frame(at);
+        let Some(page) = frame.page else {
+            return Ok(());
+        };
+        if !frame.dirty {
+            return Ok(());
+        }
+        if write_page(&mut self.devices, page, &frame.bytes).is_err() {
+            return Err(DeviceFault::Write);
+        }
+        self.frames.clean(at);
+        Ok(())
+    }
+}
+
+// Why no pool is made, as far as that is known before room is taken.
+fn shape_fault(
+    frames: usize,
+    page_size: usize,
+    devices: &[Box<dyn PageDevice + Send>],
+) -> Option<PoolFault>
+    ensures { MatchOption result (IsUpTo 65536 frames × IsSize page_size (map (λ b. state b) devices.now)) (λ fault. NewRefused frames page_size (map (λ b. state b) devices.now) fault) }
+{
+    if frames < 1 || frames > MOST {
+        return Some(PoolFault::BadFrames);
+    }
+    if page_size < 1 || page_size > MOST || !all_sized(devices, page_size) {
+        return Some(PoolFault::SizeDiffers);
+    }
+    None
+}
+
+// The frames and the spare buffer of a pool.
+fn parts(alloc: Global, frames: usize, page_size: usize) -> Result<(Frames, Vec<u8>), AllocError>
+    requires some { 0 < frames }
+    requires few { frames ≤ 65536 }
+    ensures { IfOk result (λ made. (made.0 ≡ record { page_size = page_size; frames = replicate frames (fresh_frame (replicate page_size 0)) }) × (length made.1.items ≡ page_size)) }
+{
+    let spare = Vec::from_elem(alloc, 0, page_size)?;
+    let frames = Frames::new(alloc, frames, page_size)?;
+    Ok((frames, spare))
+}
+
+// The rank that the history gives a page.
+fn known_key(history: &History, page: PageId) -> RankKey
+    ensures { result ≡ rank_key page (hist (refs history.now) page) }
+{
+    let _whole = history.len();
+    key_of(page, history.get(page))
+}
