@@ -4,6 +4,8 @@ pub mod ChainLemmas
 pub mod ClosingLemmas
 pub mod DeviceSteps
 pub mod EmptyLemmas
+pub mod EmptyRanks
+pub mod Examples
 pub mod FlushLemmas
 pub mod Keeps
 pub mod Loads
@@ -19,4 +21,3 @@ pub mod Slots
 pub mod VacateLemmas
 pub mod WriteBacks
 pub mod Writes
-pub mod EmptyRanks

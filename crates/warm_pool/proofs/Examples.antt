@@ -1,0 +1,115 @@
+-- Worked rows: what a caller sees of small pools, and where a page goes that comes in, computed.
+use Rattle.std.proofs.Common.{◌≡◌, ◌≢◌, ◌<◌, ℕ, zero, suc, Bool, true, false, List, [], ◌∷◌, refl, sym, Some, None, inl, inr, arith}
+use Rattle.std.specs.List.{Contains}
+use Rattle.warm_stamps.specs.declared.PageId.{PageId}
+use Rattle.warm_history.specs.Histories.{refs}
+use Rattle.warm_rank.specs.Ranking.{IsBefore}
+use Rattle.warm_devices.specs.Device.{DeviceState}
+use Rattle.warm_pool.specs.Frames.{FrameState, fresh_frame}
+use Rattle.warm_pool.specs.State.{PoolState, view_of}
+use Rattle.warm_pool.specs.View.{PoolView, contents_at, frame_at, unfixed_pages, IsFull, IsPlace}
+use Rattle.warm_pool.specs.Calls.{cleaned_to, emptied, patched, unpinned}
+
+-- the page 0:n
+abbrev page : ℕ → PageId
+page n = record { dev = 0; no = n }
+
+-- a device of three pages of two bytes
+abbrev device : Bool → DeviceState
+device honest = record {
+  pages = 3;
+  page_size = 2;
+  contents = (1 ∷ 1 ∷ []) ∷ (2 ∷ 2 ∷ []) ∷ (3 ∷ 3 ∷ []) ∷ [];
+  waiting = false;
+  failures = 0;
+  honest = honest;
+  unfailing = true;
+}
+
+-- a frame into which one page was put, the page 0:n, which was written to since and has so many fixes
+abbrev holding : ℕ → ℕ → List ℕ → FrameState
+holding n fixes bytes = record { page = Some (page n); key = None; generation = 1; fixes = fixes; dirty = true; bytes = bytes }
+
+-- a pool of two frames over such a device
+abbrev two_frames : Bool → FrameState → FrameState → PoolState
+two_frames honest first second = record { page_size = 2; spare = 2; frames = first ∷ second ∷ []; devices = device honest ∷ [] }
+
+-- 0:1 is fixed, and was filled with 7 and 8; 0:2 has no fix, and was filled with 9
+abbrev seen : Bool → PoolView
+seen honest = view_of (two_frames honest (holding 1 1 (7 ∷ 8 ∷ [])) (holding 2 0 (9 ∷ 9 ∷ [])))
+
+-- ---- contents
+
+-- a resident page has the bytes of its frame, another those of its device
+resident_bytes : contents_at (seen true) (page 1) ≡ 7 ∷ 8 ∷ []
+resident_bytes = refl
+
+absent_bytes : contents_at (seen true) (page 0) ≡ 1 ∷ 1 ∷ []
+absent_bytes = refl
+
+-- of a device that isn't honest only resident pages have bytes
+resident_bytes_unknown_device : contents_at (seen false) (page 2) ≡ 9 ∷ 9 ∷ []
+resident_bytes_unknown_device = refl
+
+absent_bytes_unknown_device : contents_at (seen false) (page 0) ≡ []
+absent_bytes_unknown_device = refl
+
+-- a page that no device has
+no_page : contents_at (seen true) (page 3) ≡ []
+no_page = refl
+
+-- one byte of a page of four, written at 2
+one_byte : patched (0 ∷ 0 ∷ 0 ∷ 0 ∷ []) 2 (5 ∷ []) ≡ 0 ∷ 0 ∷ 5 ∷ 0 ∷ []
+one_byte = refl
+
+-- ---- fixes and frames
+
+-- a fixed page is no candidate, until it is unpinned
+fixed_stays : unfixed_pages (seen true) ≡ page 2 ∷ []
+fixed_stays = refl
+
+unpinned_may_leave : unfixed_pages (unpinned (seen true) (record { index = 0; generation = 1 })) ≡ page 1 ∷ page 2 ∷ []
+unpinned_may_leave = refl
+
+-- a frame keeps its generation when its page leaves
+generation_stays : (emptied (frame_at (seen true) 1)).generation ≡ 1
+generation_stays = refl
+
+-- where the second of two writes fails, the first frame is clean and the second is not
+first_is_clean : cleaned_to 1 (holding 1 0 [] ∷ holding 2 0 [] ∷ []) ≡ (let f : FrameState = record (holding 1 0 []) { dirty = false } in f) ∷ holding 2 0 [] ∷ []
+first_is_clean = refl
+
+-- ---- where a page goes that comes in
+
+-- into the first frame without a page, also where another page could leave
+first_free_place : IsPlace [] (view_of (two_frames true (holding 1 0 []) (fresh_frame []))) (Some 1)
+first_free_place = inl (record { there = omega arith; free = refl; least = first_is_held })
+  where
+    first_is_held : (j : ℕ) → j < 1 → (frame_at (view_of (two_frames true (holding 1 0 []) (fresh_frame []))) j).page ≢ None
+    first_is_held zero lt is = let no : Some (page 1) ≡ None = is in absurd (cc)
+    first_is_held (suc j) lt is = absurd (omega arith)
+
+-- both frames have a page
+both_held : (honest : Bool) (m n : ℕ) (a b : List ℕ) → IsFull (view_of (two_frames honest (holding 1 m a) (holding 2 n b)))
+both_held honest m n a b zero lt is = let no : Some (page 1) ≡ None = is in absurd (cc)
+both_held honest m n a b (suc zero) lt is = let no : Some (page 2) ≡ None = is in absurd (cc)
+both_held honest m n a b (suc (suc i)) lt is = absurd (omega arith)
+
+-- nowhere where both pages are fixed
+no_place : IsPlace [] (view_of (two_frames true (holding 1 1 []) (holding 2 3 []))) None
+no_place = (both_held true 1 3 [] [], refl)
+
+-- else into the frame of the victim, here the only page without a fix
+victims_place : IsPlace [] (seen true) (Some 1)
+victims_place = inr (record {
+  there = omega arith;
+  full = both_held true 1 0 (7 ∷ 8 ∷ []) (9 ∷ 9 ∷ []);
+  page = page 2;
+  holds = refl;
+  unfixed = refl;
+  victim = ((0, omega arith, refl), alone);
+})
+  where
+    alone : (q : PageId) → Contains (page 2 ∷ []) q → q ≢ page 2 → IsBefore (refs []) (page 2) q
+    alone q (zero, lt, is) differ = absurd (differ (sym is))
+    alone q (suc k, lt, is) differ = absurd (omega arith)
