@@ -1,0 +1,54 @@
+-- What a node sends, and what it answers to a frame.
+use Rattle.std.specs.Prelude.{◌≡◌, ◌≢◌, ◌↔◌, ℕ, zero, suc, ◌==◌, ◌<◌, List, [], ◌∷◌, ◌++◌, length, take, drop, map, filter, Option, None, if◌then◌else◌}
+use Rattle.std.specs.List.{flat_map, range_with_len}
+use Rattle.std.specs.Int.{bit_at}
+use Rattle.warm_stamps.specs.declared.PageId.{PageId}
+use Rattle.warm_history.specs.declared.hist.Entry.{Entry}
+use Rattle.warm_history.specs.Histories.{history, refs}
+use Rattle.warm_history.specs.Carried.{carried}
+use Rattle.warm_frames.specs.declared.frame.Frame.{Frame}
+use Rattle.warm_frames.specs.declared.frame.Frame.TheVariants.{Entries, Digest, Want}
+use Rattle.warm_frames.specs.Sums.{sum_at}
+use Rattle.warm_digest.specs.BucketSums.{bucket_entries, sums_of}
+
+-- the list in pieces of so many items, of which the last may be shorter
+abbrev pub pieces_of : {A : Type 0} → ℕ → ℕ → List A → List (List A)
+pieces_of size zero xs = []
+pieces_of size (suc n) [] = []
+pieces_of size (suc n) (x ∷ xs) = take size (x ∷ xs) ∷ pieces_of size n (drop size (x ∷ xs))
+
+abbrev pub pieces : {A : Type 0} → ℕ → List A → List (List A)
+pieces size xs = pieces_of size (length xs) xs
+
+-- a bucket of the history in frames of up to 1000 entries; none where it is empty
+abbrev pub bucket_frames : ℕ → List Entry → ℕ → List Frame
+bucket_frames id h bucket = map (λ es. Entries id es) (pieces 1000 (bucket_entries bucket h))
+
+-- the buckets whose bit is set, in rising order
+abbrev pub buckets_in : ℕ → List ℕ
+buckets_in mask = filter (λ bucket. bit_at mask bucket == 1) (range_with_len 0 64)
+
+-- these buckets of the history, in frames
+abbrev pub frames_in : ℕ → List Entry → ℕ → List Frame
+frames_in id h mask = flat_map (bucket_frames id h) (buckets_in mask)
+
+-- the bits of the buckets of which the history has other sums
+abbrev pub IsDiffering : List (List ℕ) → List Entry → ℕ → Type 0
+IsDiffering sums h mask = (bucket : ℕ) → bucket < 64 → (bit_at mask bucket ≡ 1) ↔ (sum_at sums bucket ≢ sum_at (sums_of h) bucket)
+
+-- What a replica of this id and history answers to a frame: nothing to entries; to a wish its entries of these buckets; to sums its
+-- entries of the buckets that differ, and then a wish for these, or nothing where none differs.
+abbrev pub IsAnswer : ℕ → List Entry → Frame → List Frame → Type 0
+IsAnswer id h (Entries sender entries) frames = frames ≡ []
+IsAnswer id h (Want sender mask) frames = frames ≡ frames_in id h mask
+IsAnswer id h (Digest sender sums) frames = (mask : ℕ) × (mask < 18446744073709551616) × IsDiffering sums h mask × (frames ≡ if mask == 0 then [] else frames_in id h mask ++ Want id mask ∷ [])
+
+-- the history after a frame was taken
+abbrev pub taught : List Entry → Frame → List Entry
+taught h (Entries sender entries) = history (refs h ++ refs entries)
+taught h (Digest sender sums) = h
+taught h (Want sender mask) = h
+
+-- the frame of the first 1000 entries of the bucket whose page comes after the one given
+abbrev pub sent : ℕ → List Entry → ℕ → Option PageId → Frame
+sent id h bucket after = Entries id (history (carried (refs h) bucket after 1000))

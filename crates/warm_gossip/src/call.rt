@@ -1,0 +1,78 @@
+//! The calls of a node and its replies.
+use crate::fault::NodeFault;
+use crate::items::Items;
+use warm_frames::frame::Frame;
+use warm_pool::Slot;
+use warm_rank::PageList;
+use warm_stamps::{Bucket, PageId, Reference};
+
+/// What a node may be asked.
+#[derive(Drop)]
+pub enum Call {
+    /// Take these references into the history.
+    Absorb(Items<Reference>),
+    /// Give the first 1000 entries of a bucket, of those whose page is greater than `after`.
+    Send {
+        /// The bucket.
+        bucket: Bucket,
+        /// The page after which they begin, or `None` for the first of the bucket.
+        after: Option<PageId>,
+    },
+    /// Give the sums of all buckets.
+    Offer,
+    /// Take what a frame says, and answer it.
+    Receive(Frame),
+    /// Give a page a fix, and put it into a frame of the pool where it is in none.
+    Pin(PageId),
+    /// Take a fix away.
+    Unpin(Slot),
+    /// Give bytes of the slot's page.
+    Read {
+        /// The slot, which must hold its page.
+        slot: Slot,
+        /// The first byte.
+        at: usize,
+        /// How many bytes.
+        len: usize,
+    },
+    /// Write bytes into the slot's page.
+    Write {
+        /// The slot, which must hold its page.
+        slot: Slot,
+        /// The first byte.
+        at: usize,
+        /// The bytes.
+        bytes: Items<u8>,
+    },
+    /// Name the page that would leave the pool next.
+    Victim,
+    /// List so many of the hottest pages.
+    WarmList(usize),
+    /// Load the hottest page that is not resident, of as many as the pool has frames.
+    WarmStep,
+    /// Forget everything, after an orderly end.
+    Restart,
+}
+
+/// What a node answers.
+#[derive(Drop)]
+pub enum Reply {
+    /// It is done.
+    Done,
+    /// The frame that was asked for.
+    Sent(Frame),
+    /// The frames that answer the one received, in their order.
+    Answers(Items<Frame>),
+    /// Where the page is that was fixed.
+    Pinned(Slot),
+    /// The bytes that were asked for.
+    Bytes(Items<u8>),
+    /// The page that would leave, if there is one.
+    Page(Option<PageId>),
+    /// The hottest pages, hottest first.
+    Pages(PageList),
+    /// The page that was loaded, if there was one to load.
+    Loaded(Option<PageId>),
+    /// It was refused, and changed nothing but counts of failures.
+    Refused(NodeFault),
+}

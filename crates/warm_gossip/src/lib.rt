@@ -1,0 +1,6 @@
+//! One replica: its history, its buffer pool, and the calls that it answers.
+#![tactic(auto)]
+
+pub mod call;
+pub mod fault;
+pub mod items;
