@@ -93,7 +93,7 @@ Refuses old call said new = (said ≡ Memory) × (new ≡ old)
 
 -- From old the call may be answered so, and lead to new.
 abbrev pub Step : NodeState → Call → Reply → NodeState → Type 0
-Step old call (Refused fault) new = Refuses old call said new
+Step old call (Refused said) new = Refuses old call said new
 Step old (Absorb batch) Done new = new ≡ record old { history = history (refs old.history ++ batch) }
 Step old (Send bucket after) (Sent frame) new = (frame ≡ sent old.id old.history bucket after) × (new ≡ old)
 Step old Offer (Sent frame) new = (frame ≡ Digest old.id (sums_of old.history)) × (new ≡ old)
