@@ -4,3 +4,6 @@
 pub mod call;
 pub mod fault;
 pub mod items;
+pub mod node;
+mod pages;
+mod told;

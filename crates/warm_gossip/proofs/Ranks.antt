@@ -1,0 +1,55 @@
+-- What a history that takes something in says of the pages that it is not told of: what it said before.
+use Rattle.std.proofs.Common.{◌≡◌, ℕ, suc, Bool, true, false, List, [], ◌∷◌, ◌++◌, map, sym, ap, refl, subst, ◌∙◌, arith}
+use Rattle.std.specs.List.{Contains}
+use Rattle.std.specs.Ordering.{is_eq, flip_args}
+use Rattle.warm_stamps.specs.declared.PageId.{PageId}
+use Rattle.warm_stamps.specs.declared.Reference.{Reference}
+use Rattle.warm_stamps.specs.Stamps.{stamp_cmp, page_cmp}
+use Rattle.warm_stamps.specs.Distinct.{distinct}
+use Rattle.warm_stamps.proofs.DistinctLemmas.{by_cases}
+use Rattle.warm_stamps.proofs.StampLemmas.{page_order}
+use Rattle.warm_history.specs.declared.hist.Entry.{Entry}
+use Rattle.warm_history.specs.Histories.{first_two, hist, history, entry_refs, refs, stamps_held}
+use Rattle.warm_history.proofs.HistoryLemmas.{told, told-append, told_entry, hist_refs-history}
+use Rattle.warm_pool.specs.Calls.{AgreeOutside}
+
+differs : (q p : PageId) → (q ≡ p → ⊥) → is_eq (page_cmp q p) ≡ false
+differs q p apart = by_cases (page_cmp q p) _ (λ less. ap is_eq less) (λ tied. absurd (apart (page_order.same q p tied))) (λ more. ap is_eq more)
+
+-- nothing is told of a page that no reference is to
+untold : (T : List Reference) (p : PageId) → (Contains (map (λ r. r.page) T) p → ⊥) → told T p ≡ []
+untold [] p unnamed = refl
+untold (r ∷ T) p unnamed =
+    rw (differs r.page p (λ is. unnamed (0, omega arith, is))) (untold T p (λ has. unnamed (suc has.0, omega arith, has.2)))
+
+-- nor one that no entry is of
+untold_entries : (es : List Entry) (p : PageId) → (Contains (map (λ e. e.page) es) p → ⊥) → told (refs es) p ≡ []
+untold_entries [] p unnamed = refl
+untold_entries (e ∷ es) p unnamed =
+    told-append (entry_refs e) (refs es) p
+    ∙ ap (λ ss. ss ++ told (refs es) p) (told_entry e.page e.hist p)
+    ∙ (rw (differs e.page p (λ is. unnamed (0, omega arith, is))) (untold_entries es p (λ has. unnamed (suc has.0, omega arith, has.2))))
+
+append_nil : {A : Type 0} (xs : List A) → xs ++ [] ≡ xs
+append_nil [] = refl
+append_nil (x ∷ xs) = ap (λ t. x ∷ t) (append_nil xs)
+
+hist_as_before : (S T : List Reference) (p : PageId) → told T p ≡ [] → hist S p ≡ hist (refs (history (S ++ T))) p
+hist_as_before S T p none =
+    sym (hist_refs-history (S ++ T) p
+        ∙ ap (λ ss. first_two (distinct (flip_args stamp_cmp) ss)) (told-append S T p ∙ ap (λ ss. told S p ++ ss) none ∙ append_nil (told S p)))
+
+-- a history that takes references in agrees with itself outside their pages
+pub absorbed_agrees : (h : List Entry) (batch : List Reference) → AgreeOutside (map (λ r. r.page) batch) h (history (refs h ++ batch))
+absorbed_agrees h batch p unnamed = hist_as_before (refs h) batch p (untold batch p unnamed)
+
+-- and one that takes entries in, outside the pages of these
+pub joined_agrees : (h es : List Entry) → AgreeOutside (map (λ e. e.page) es) h (history (refs h ++ refs es))
+joined_agrees h es p unnamed = hist_as_before (refs h) (refs es) p (untold_entries es p unnamed)
+
+-- the same of pages and a history that are known to be these
+pub absorbed_agrees_as : (h : List Entry) (batch : List Reference) (ps : List PageId) (g : List Entry) → ps ≡ map (λ r. r.page) batch → g ≡ history (refs h ++ batch) → AgreeOutside ps h g
+absorbed_agrees_as h batch ps g is becomes = subst (λ qs. AgreeOutside qs h g) (sym is) (subst (λ k. AgreeOutside (map (λ r. r.page) batch) h k) (sym becomes) (absorbed_agrees h batch))
+
+pub joined_agrees_as : (h es : List Entry) (ps : List PageId) (g : List Entry) → ps ≡ map (λ e. e.page) es → g ≡ history (refs h ++ refs es) → AgreeOutside ps h g
+joined_agrees_as h es ps g is becomes = subst (λ qs. AgreeOutside qs h g) (sym is) (subst (λ k. AgreeOutside (map (λ e. e.page) es) h k) (sym becomes) (joined_agrees h es))

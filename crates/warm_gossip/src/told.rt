@@ -1,0 +1,111 @@
+//! The calls on a node's history.
+ghost use Rattle.std.specs.Prelude.{◌≡◌, ◌++◌, IfErr, IfOk, OnOk, map};
+ghost use Rattle.warm_gossip.specs.declared.fault.NodeFault.TheVariants.{Memory};
+ghost use Rattle.warm_history.specs.Histories.{history, refs};
+ghost use Rattle.warm_gossip.specs.declared.call.Call.TheVariants.{Absorb, Send, Offer, WarmList};
+ghost use Rattle.warm_gossip.specs.declared.call.Reply.TheVariants.{Done, Sent, Pages};
+ghost use Rattle.warm_gossip.specs.Step.{Refuses, Step};
+
+use crate::fault::NodeFault;
+use crate::node::{Node, Shown};
+use std::alloc::{AllocError, Global};
+use warm_digest::sums;
+use warm_frames::entries::{EntryList, MOST};
+use warm_frames::frame::Frame;
+use warm_history::hist::Entry;
+use warm_rank::{PageList, warm_list};
+use warm_stamps::{Bucket, PageId, Reference};
+
+impl Node {
+    /// Takes references into the history.
+    pub(crate) fn absorb(&mut self, batch: &[Reference]) -> Result<(), NodeFault>
+        requires fit { ⟦<Node as Shown>⟧.is_fit self.old }
+        ensures fit { ⟦<Node as Shown>⟧.is_fit self.new }
+        ensures done { OnOk result (Step (⟦<Node as Shown>⟧.state self.old) (Absorb batch.now) Done (⟦<Node as Shown>⟧.state self.new)) }
+        ensures refused { IfErr result (λ why. Refuses (⟦<Node as Shown>⟧.state self.old) (Absorb batch.now) why (⟦<Node as Shown>⟧.state self.new)) }
+    {
+        let Ok(pages) = pages_of(self.alloc, batch) else {
+            return Err(NodeFault::Memory);
+        };
+        let Ok(()) = self.history.absorb(batch) else {
+            return Err(NodeFault::Memory);
+        };
+        self.pool.refresh(&self.history, &pages);
+        Ok(())
+    }
+
+    /// Takes entries into the history.
+    pub(crate) fn learn(&mut self, entries: &[Entry]) -> Result<(), NodeFault>
+        requires fit { ⟦<Node as Shown>⟧.is_fit self.old }
+        ensures fit { ⟦<Node as Shown>⟧.is_fit self.new }
+        ensures learnt { OnOk result (⟦<Node as Shown>⟧.state self.new ≡ record (⟦<Node as Shown>⟧.state self.old) { history = history (refs (⟦<Node as Shown>⟧.state self.old).history ++ refs entries.now) }) }
+        ensures refused { IfErr result (λ why. (why ≡ Memory) × (⟦<Node as Shown>⟧.state self.new ≡ ⟦<Node as Shown>⟧.state self.old)) }
+    {
+        let Ok(pages) = pages_in(self.alloc, entries) else {
+            return Err(NodeFault::Memory);
+        };
+        let Ok(()) = self.history.join_entries(entries) else {
+            return Err(NodeFault::Memory);
+        };
+        self.pool.refresh(&self.history, &pages);
+        Ok(())
+    }
+
+    /// The first 1000 entries of a bucket, of those whose page is greater than `after`.
+    pub(crate) fn send(&self, bucket: Bucket, after: Option<PageId>) -> Result<Frame, NodeFault>
+        ensures sent { IfOk result (λ frame. Step (⟦<Node as Shown>⟧.state self.now) (Send bucket after) (Sent frame) (⟦<Node as Shown>⟧.state self.now)) }
+        ensures refused { IfErr result (λ why. why ≡ Memory) }
+    {
+        let _whole = self.history.len();
+        let Ok(entries) = self.history.entries(bucket, after, MOST) else {
+            return Err(NodeFault::Memory);
+        };
+        let Ok(entries) = EntryList::of(entries) else {
+            unreachable!()
+        };
+        Ok(Frame::Entries {
+            sender: self.id,
+            entries,
+        })
+    }
+
+    /// The sums of all buckets.
+    pub(crate) fn offer(&self) -> Result<Frame, NodeFault>
+        ensures sent { IfOk result (λ frame. Step (⟦<Node as Shown>⟧.state self.now) Offer (Sent frame) (⟦<Node as Shown>⟧.state self.now)) }
+        ensures refused { IfErr result (λ why. why ≡ Memory) }
+    {
+        match sums(self.alloc, &self.history) {
+            Ok(sums) => Ok(Frame::Digest {
+                sender: self.id,
+                sums,
+            }),
+            Err(_) => Err(NodeFault::Memory),
+        }
+    }
+
+    /// The hottest pages, hottest first.
+    pub(crate) fn hottest(&self, n: usize) -> Result<PageList, NodeFault>
+        ensures pages { IfOk result (λ pages. Step (⟦<Node as Shown>⟧.state self.now) (WarmList n) (Pages pages) (⟦<Node as Shown>⟧.state self.now)) }
+        ensures refused { IfErr result (λ why. why ≡ Memory) }
+    {
+        let _whole = self.history.len();
+        match warm_list(self.alloc, &self.history, n) {
+            Ok(pages) => Ok(PageList::from_vec(pages)),
+            Err(_) => Err(NodeFault::Memory),
+        }
+    }
+}
+
+// The pages of references, as they come.
+fn pages_of(alloc: Global, batch: &[Reference]) -> Result<Vec<PageId>, AllocError>
+    ensures { IfOk result (λ pages. pages.items ≡ map (λ r. r.page) batch.now) }
+{
+    batch.iter().map(|reference| reference.page).collect(alloc)
+}
+
+// The pages of entries, as they come.
+fn pages_in(alloc: Global, entries: &[Entry]) -> Result<Vec<PageId>, AllocError>
+    ensures { IfOk result (λ pages. pages.items ≡ map (λ e. e.page) entries.now) }
+{
+    entries.iter().map(|entry| entry.page).collect(alloc)
+}
