@@ -7,3 +7,4 @@ pub mod items;
 pub mod node;
 mod pages;
 mod told;
+mod warming;
