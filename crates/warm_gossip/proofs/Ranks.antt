@@ -37,7 +37,7 @@ append_nil (x ∷ xs) = ap (λ t. x ∷ t) (append_nil xs)
 hist_as_before : (S T : List Reference) (p : PageId) → told T p ≡ [] → hist S p ≡ hist (refs (history (S ++ T))) p
 hist_as_before S T p none =
     sym (hist_refs-history (S ++ T) p
-        ∙ ap (λ ss. first_two (distinct (flip_args stamp_cmp) ss)) (told-append S T p ∙ ap (λ ss. told S p ++ ss) none ∙ append_nil (told S p)))
+    ∙ ap (λ ss. first_two (distinct (flip_args stamp_cmp) ss)) (told-append S T p ∙ ap (λ ss. told S p ++ ss) none ∙ append_nil (told S p)))
 
 -- a history that takes references in agrees with itself outside their pages
 pub absorbed_agrees : (h : List Entry) (batch : List Reference) → AgreeOutside (map (λ r. r.page) batch) h (history (refs h ++ batch))

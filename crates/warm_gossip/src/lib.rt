@@ -1,6 +1,7 @@
 //! One replica: its history, its buffer pool, and the calls that it answers.
 #![tactic(auto)]
 
+mod answers;
 pub mod call;
 pub mod fault;
 pub mod items;

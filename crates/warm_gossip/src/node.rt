@@ -1,9 +1,13 @@
 //! The node.
-ghost use Rattle.std.specs.Prelude.{◌≡◌, ℕ, [], None};
-ghost use Rattle.warm_pool.specs.State.{PoolState, IsPool};
+ghost use Rattle.std.specs.Prelude.{◌≡◌, ℕ, [], None, IfErr, IfOk, OnOk};
+ghost use Rattle.warm_pool.specs.State.{PoolState, IsPool, IsSettled};
 ghost use Rattle.warm_pool.specs.View.{frame_at};
-ghost use Rattle.warm_gossip.specs.Step.{NodeState};
+ghost use Rattle.warm_gossip.specs.declared.call.Call.TheVariants.{Restart};
+ghost use Rattle.warm_gossip.specs.declared.call.Reply.TheVariants.{Done};
+ghost use Rattle.warm_gossip.specs.Step.{NodeState, Refuses, Step};
 
+use crate::call::{Call, Reply};
+use crate::fault::NodeFault;
 use std::alloc::Global;
 use std::marker::PhantomData;
 use warm_devices::PageDevice;
@@ -86,6 +90,58 @@ impl Node {
         ensures stored { ⟦<Pool as Pooled>⟧.state result.now ≡ ⟦<Node as Shown>⟧.stored self.now }
     {
         &self.pool
+    }
+
+    /// Answers a call.
+    ///
+    /// What each call does, and each of its refusals with its order, is said by the definition *step*: a refused call changes
+    /// nothing but counts of failures. `Memory` comes only where room was refused; pin, unpin, write, victim and restart need none.
+    pub fn call(&mut self, call: Call) -> Reply
+        requires fit { ⟦<Node as Shown>⟧.is_fit self.old }
+        ensures fit { ⟦<Node as Shown>⟧.is_fit self.new }
+        ensures step { Step (⟦<Node as Shown>⟧.state self.old) call result (⟦<Node as Shown>⟧.state self.new) }
+        ensures settled { call ≡ Restart → result ≡ Done → IsSettled (⟦<Node as Shown>⟧.stored self.new) }
+    {
+        match self.answer(call) {
+            Ok(reply) => reply,
+            Err(fault) => Reply::Refused(fault),
+        }
+    }
+
+    // Answers a call, or says why not.
+    fn answer(&mut self, call: Call) -> Result<Reply, NodeFault>
+        requires fit { ⟦<Node as Shown>⟧.is_fit self.old }
+        ensures fit { ⟦<Node as Shown>⟧.is_fit self.new }
+        ensures answered { IfOk result (λ reply. Step (⟦<Node as Shown>⟧.state self.old) call reply (⟦<Node as Shown>⟧.state self.new)) }
+        ensures refused { IfErr result (λ why. Refuses (⟦<Node as Shown>⟧.state self.old) call why (⟦<Node as Shown>⟧.state self.new)) }
+        ensures settled { OnOk result (call ≡ Restart → IsSettled (⟦<Node as Shown>⟧.stored self.new)) }
+    {
+        match call {
+            Call::Absorb(batch) => {
+                self.absorb(batch.as_slice())?;
+                Ok(Reply::Done)
+            }
+            Call::Send { bucket, after } => Ok(Reply::Sent(self.send(bucket, after)?)),
+            Call::Offer => Ok(Reply::Sent(self.offer()?)),
+            Call::Receive(frame) => Ok(Reply::Answers(self.receive(frame)?)),
+            Call::Pin(page) => Ok(Reply::Pinned(self.pin(page)?)),
+            Call::Unpin(slot) => {
+                self.unpin(slot)?;
+                Ok(Reply::Done)
+            }
+            Call::Read { slot, at, len } => Ok(Reply::Bytes(self.read(slot, at, len)?)),
+            Call::Write { slot, at, bytes } => {
+                self.write(slot, at, bytes.as_slice())?;
+                Ok(Reply::Done)
+            }
+            Call::Victim => Ok(Reply::Page(self.victim())),
+            Call::WarmList(n) => Ok(Reply::Pages(self.hottest(n)?)),
+            Call::WarmStep => Ok(Reply::Loaded(self.warm_step()?)),
+            Call::Restart => {
+                self.restart()?;
+                Ok(Reply::Done)
+            }
+        }
     }
 
     /// Its pool, and no node any more.

@@ -2,11 +2,13 @@
 ghost use Rattle.std.specs.Prelude.{◌≡◌, ◌++◌, IfErr, IfOk, OnOk, map};
 ghost use Rattle.warm_gossip.specs.declared.fault.NodeFault.TheVariants.{Memory};
 ghost use Rattle.warm_history.specs.Histories.{history, refs};
-ghost use Rattle.warm_gossip.specs.declared.call.Call.TheVariants.{Absorb, Send, Offer, WarmList};
-ghost use Rattle.warm_gossip.specs.declared.call.Reply.TheVariants.{Done, Sent, Pages};
+ghost use Rattle.warm_gossip.specs.declared.call.Call.TheVariants.{Absorb, Send, Offer, Receive, WarmList};
+ghost use Rattle.warm_gossip.specs.declared.call.Reply.TheVariants.{Done, Sent, Answers, Pages};
 ghost use Rattle.warm_gossip.specs.Step.{Refuses, Step};
 
+use crate::answers::{answer_to_sums, frames_in};
 use crate::fault::NodeFault;
+use crate::items::Items;
 use crate::node::{Node, Shown};
 use std::alloc::{AllocError, Global};
 use warm_digest::sums;
@@ -49,6 +51,33 @@ impl Node {
         };
         self.pool.refresh(&self.history, &pages);
         Ok(())
+    }
+
+    /// Takes what a frame says, and gives the frames that answer it.
+    pub(crate) fn receive(&mut self, frame: Frame) -> Result<Items<Frame>, NodeFault>
+        requires fit { ⟦<Node as Shown>⟧.is_fit self.old }
+        ensures fit { ⟦<Node as Shown>⟧.is_fit self.new }
+        ensures answers { IfOk result (λ frames. Step (⟦<Node as Shown>⟧.state self.old) (Receive frame) (Answers frames) (⟦<Node as Shown>⟧.state self.new)) }
+        ensures refused { IfErr result (λ why. Refuses (⟦<Node as Shown>⟧.state self.old) (Receive frame) why (⟦<Node as Shown>⟧.state self.new)) }
+    {
+        match frame {
+            Frame::Entries { entries, .. } => {
+                self.learn(entries.as_slice())?;
+                Ok(Items::of(Vec::new(self.alloc)))
+            }
+            Frame::Digest { sums, .. } => {
+                match answer_to_sums(self.alloc, self.id, &self.history, &sums) {
+                    Ok(frames) => Ok(Items::of(frames)),
+                    Err(_) => Err(NodeFault::Memory),
+                }
+            }
+            Frame::Want { mask, .. } => {
+                match frames_in(self.alloc, self.id, &self.history, mask) {
+                    Ok(frames) => Ok(Items::of(frames)),
+                    Err(_) => Err(NodeFault::Memory),
+                }
+            }
+        }
     }
 
     /// The first 1000 entries of a bucket, of those whose page is greater than `after`.

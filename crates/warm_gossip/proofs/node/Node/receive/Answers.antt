@@ -1,0 +1,9 @@
+use Rattle.std.proofs.Common.{refl}
+use Rattle.warm_gossip.proofs.Receipts.{answered, taught_nothing}
+use Rattle.warm_gossip.proofs.node.Node.receive.Goals as goal
+
+pub returns-in-Ok-clause-answers : goal.returns-in-Ok-clause-answers
+returns-in-Ok-clause-answers g c = (
+  answered _ _ _ _ _ _ c.in-Digest.is c.of-in-Ok.ensures (c.in-Ok.ensures c.in-Digest.sender),
+  taught_nothing _ _ _ c.in-Digest.is refl,
+)
