@@ -7,5 +7,7 @@ pub mod fault;
 pub mod items;
 pub mod node;
 mod pages;
+#[cfg(test)]
+mod tests;
 mod told;
 mod warming;

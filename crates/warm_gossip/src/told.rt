@@ -26,13 +26,13 @@ impl Node {
         ensures done { OnOk result (Step (⟦<Node as Shown>⟧.state self.old) (Absorb batch.now) Done (⟦<Node as Shown>⟧.state self.new)) }
         ensures refused { IfErr result (λ why. Refuses (⟦<Node as Shown>⟧.state self.old) (Absorb batch.now) why (⟦<Node as Shown>⟧.state self.new)) }
     {
-        let Ok(pages) = pages_of(self.alloc, batch) else {
+        let Ok(touched) = pages_of(self.alloc, batch) else {
             return Err(NodeFault::Memory);
         };
         let Ok(()) = self.history.absorb(batch) else {
             return Err(NodeFault::Memory);
         };
-        self.pool.refresh(&self.history, &pages);
+        self.pool.refresh(&self.history, &touched);
         Ok(())
     }
 
@@ -43,13 +43,13 @@ impl Node {
         ensures learnt { OnOk result (⟦<Node as Shown>⟧.state self.new ≡ record (⟦<Node as Shown>⟧.state self.old) { history = history (refs (⟦<Node as Shown>⟧.state self.old).history ++ refs entries.now) }) }
         ensures refused { IfErr result (λ why. (why ≡ Memory) × (⟦<Node as Shown>⟧.state self.new ≡ ⟦<Node as Shown>⟧.state self.old)) }
     {
-        let Ok(pages) = pages_in(self.alloc, entries) else {
+        let Ok(named) = pages_in(self.alloc, entries) else {
             return Err(NodeFault::Memory);
         };
         let Ok(()) = self.history.join_entries(entries) else {
             return Err(NodeFault::Memory);
         };
-        self.pool.refresh(&self.history, &pages);
+        self.pool.refresh(&self.history, &named);
         Ok(())
     }
 

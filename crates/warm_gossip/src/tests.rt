@@ -1,0 +1,258 @@
+//! Rows of a node's life, run. Calls stand in a function of their own, which keeps that the node is fit.
+ghost use Rattle.std.specs.Prelude.{IfOk};
+ghost use Rattle.warm_pool.specs.State.{IsPool};
+
+use crate::call::{Call, Reply};
+use crate::fault::NodeFault;
+use crate::items::Items;
+use crate::node::{Node, Shown};
+use std::alloc::Global;
+use std::process::Abort;
+use std::test::Fail;
+use warm_devices::{MemDevice, PageDevice};
+use warm_frames::frame::{Frame, encode};
+use warm_pool::{Pool, Slot};
+use warm_stamps::{PageId, Reference, ReplicaId, Stamp};
+
+const fn page(no: u32) -> PageId {
+    PageId { dev: 0, no }
+}
+
+const fn slot(index: u32, generation: u64) -> Slot {
+    Slot { index, generation }
+}
+
+// A node of so many frames over a device of 256 pages of 16 bytes.
+fn fresh(alloc: Global, id: u16, frames: usize) -> Result<Node, Fail>
+    ensures { IfOk result (λ node. ⟦<Node as Shown>⟧.is_fit node) }
+{
+    let device: Box<dyn PageDevice + Send> = Box::new(alloc, MemDevice::new(alloc, 256, 16)?)?;
+    let mut devices = Vec::with_capacity(alloc, 1)?;
+    devices.push_reserved(device);
+    match Pool::new(alloc, frames, 16, devices) {
+        Ok(pool) => Ok(Node::new(alloc, ReplicaId::new(id)?, pool)),
+        Err(_) => Err("no pool".into()),
+    }
+}
+
+fn call(node: &mut Node, call: Call) -> Reply
+    requires { ⟦<Node as Shown>⟧.is_fit node.old }
+    ensures { ⟦<Node as Shown>⟧.is_fit node.new }
+{
+    node.call(call)
+}
+
+// Tells the node of references to pages of device 0 at its own times.
+fn told(
+    rt: &impl Abort,
+    alloc: Global,
+    node: &mut Node,
+    references: &[(u32, u64)],
+) -> Result<(), Fail>
+    requires { ⟦<Node as Shown>⟧.is_fit node.old }
+    ensures { ⟦<Node as Shown>⟧.is_fit node.new }
+{
+    let replica = node.id();
+    let mut batch = Vec::new(alloc);
+    for (no, time) in references {
+        let stamp = Stamp {
+            time: *time,
+            replica,
+        };
+        batch.push(Reference {
+            page: page(*no),
+            stamp,
+        })?;
+    }
+    let is_done = match node.call(Call::Absorb(Items::of(batch))) {
+        Reply::Done => true,
+        _ => false,
+    };
+    assert!(rt; is_done, "the references are absorbed");
+    Ok(())
+}
+
+fn pinned(node: &mut Node, no: u32) -> Result<Slot, NodeFault>
+    requires { ⟦<Node as Shown>⟧.is_fit node.old }
+    ensures { ⟦<Node as Shown>⟧.is_fit node.new }
+{
+    match node.call(Call::Pin(page(no))) {
+        Reply::Pinned(slot) => Ok(slot),
+        Reply::Refused(fault) => Err(fault),
+        _ => Err(NodeFault::Memory),
+    }
+}
+
+fn is_done(node: &mut Node, call: Call) -> Result<(), NodeFault>
+    requires { ⟦<Node as Shown>⟧.is_fit node.old }
+    ensures { ⟦<Node as Shown>⟧.is_fit node.new }
+{
+    match node.call(call) {
+        Reply::Done => Ok(()),
+        Reply::Refused(fault) => Err(fault),
+        _ => Err(NodeFault::Memory),
+    }
+}
+
+fn loaded(node: &mut Node) -> Result<Option<PageId>, NodeFault>
+    requires { ⟦<Node as Shown>⟧.is_fit node.old }
+    ensures { ⟦<Node as Shown>⟧.is_fit node.new }
+{
+    match node.call(Call::WarmStep) {
+        Reply::Loaded(page) => Ok(page),
+        Reply::Refused(fault) => Err(fault),
+        _ => Err(NodeFault::Memory),
+    }
+}
+
+fn bytes(node: &mut Node, slot: Slot, at: usize, len: usize) -> Result<Items<u8>, NodeFault>
+    requires { ⟦<Node as Shown>⟧.is_fit node.old }
+    ensures { ⟦<Node as Shown>⟧.is_fit node.new }
+{
+    match node.call(Call::Read { slot, at, len }) {
+        Reply::Bytes(bytes) => Ok(bytes),
+        Reply::Refused(fault) => Err(fault),
+        _ => Err(NodeFault::Memory),
+    }
+}
+
+fn put(alloc: Global, node: &mut Node, slot: Slot, at: usize, text: &[u8]) -> Result<(), Fail>
+    requires { ⟦<Node as Shown>⟧.is_fit node.old }
+    ensures { ⟦<Node as Shown>⟧.is_fit node.new }
+{
+    let mut bytes = Vec::new(alloc);
+    bytes.extend_from_slice(text)?;
+    let bytes = Items::of(bytes);
+    match node.call(Call::Write { slot, at, bytes }) {
+        Reply::Done => Ok(()),
+        _ => Err("the bytes are written".into()),
+    }
+}
+
+fn answers(node: &mut Node, frame: Frame) -> Result<Vec<Frame>, Fail>
+    requires { ⟦<Node as Shown>⟧.is_fit node.old }
+    ensures { ⟦<Node as Shown>⟧.is_fit node.new }
+{
+    match node.call(Call::Receive(frame)) {
+        Reply::Answers(frames) => Ok(frames.into_vec()),
+        _ => Err("the frame is received".into()),
+    }
+}
+
+fn offered(node: &mut Node) -> Result<Frame, Fail>
+    requires { ⟦<Node as Shown>⟧.is_fit node.old }
+    ensures { ⟦<Node as Shown>⟧.is_fit node.new }
+{
+    match node.call(Call::Offer) {
+        Reply::Sent(frame) => Ok(frame),
+        _ => Err("the sums are offered".into()),
+    }
+}
+
+#[test]
+fn pages_are_warmed_hottest_first(rt: HostRuntime) -> Result<(), Fail> {
+    let alloc = rt.alloc();
+    let mut node = fresh(alloc, 1, 2)?;
+    told(
+        &rt,
+        alloc,
+        &mut node,
+        &[(5, 1), (2, 2), (2, 3), (9, 4), (9, 5)],
+    )?;
+    assert_eq!(rt; pinned(&mut node, 5), Ok(slot(0, 1)));
+    assert_eq!(rt; pinned(&mut node, 7), Ok(slot(1, 1)));
+    assert_eq!(rt; is_done(&mut node, Call::Unpin(slot(0, 1))), Ok(()));
+    assert_eq!(rt; is_done(&mut node, Call::Unpin(slot(1, 1))), Ok(()));
+    let Reply::Pages(pages) = call(&mut node, Call::WarmList(3)) else {
+        return Err("the hottest pages are listed".into());
+    };
+    assert_eq!(rt; pages.as_slice(), [page(9), page(2), page(5)].as_slice());
+    assert_eq!(rt; loaded(&mut node), Ok(Some(page(9))));
+    assert_eq!(rt; loaded(&mut node), Ok(Some(page(2))));
+    assert_eq!(rt; loaded(&mut node), Ok(None));
+    assert_eq!(rt; pinned(&mut node, 2), Ok(slot(0, 2)));
+    assert_eq!(rt; pinned(&mut node, 9), Ok(slot(1, 2)));
+    Ok(())
+}
+
+#[test]
+fn bytes_stay_with_their_page(rt: HostRuntime) -> Result<(), Fail> {
+    let alloc = rt.alloc();
+    let mut node = fresh(alloc, 1, 1)?;
+    assert_eq!(rt; pinned(&mut node, 1), Ok(slot(0, 1)));
+    put(alloc, &mut node, slot(0, 1), 0, &[0xCA, 0xFE])?;
+    assert_eq!(rt; is_done(&mut node, Call::Unpin(slot(0, 1))), Ok(()));
+    assert_eq!(rt; pinned(&mut node, 2), Ok(slot(0, 2)));
+    assert_eq!(rt; is_done(&mut node, Call::Unpin(slot(0, 2))), Ok(()));
+    assert_eq!(rt;
+        bytes(&mut node, slot(0, 1), 0, 2).err(),
+        Some(NodeFault::StaleSlot)
+    );
+    assert_eq!(rt; pinned(&mut node, 1), Ok(slot(0, 3)));
+    let Ok(read) = bytes(&mut node, slot(0, 3), 0, 2) else {
+        return Err("the bytes are read".into());
+    };
+    assert_eq!(rt; read.as_slice(), [0xCA, 0xFE].as_slice());
+    assert_eq!(rt;
+        bytes(&mut node, slot(0, 3), 15, 2).err(),
+        Some(NodeFault::OutOfPage)
+    );
+    let Ok(none) = bytes(&mut node, slot(0, 3), 16, 0) else {
+        return Err("no bytes are read".into());
+    };
+    assert_eq!(rt; none.as_slice().len(), 0);
+    Ok(())
+}
+
+#[test]
+fn a_restart_waits_for_fixes(rt: HostRuntime) -> Result<(), Fail> {
+    let alloc = rt.alloc();
+    let mut node = fresh(alloc, 1, 4)?;
+    told(&rt, alloc, &mut node, &[(1, 10)])?;
+    assert_eq!(rt; pinned(&mut node, 1), Ok(slot(0, 1)));
+    put(alloc, &mut node, slot(0, 1), 15, &[0xAB])?;
+    assert_eq!(rt; is_done(&mut node, Call::Restart), Err(NodeFault::Fixed));
+    assert_eq!(rt; node.history().len(), 1);
+    assert_eq!(rt; is_done(&mut node, Call::Unpin(slot(0, 1))), Ok(()));
+    assert_eq!(rt; is_done(&mut node, Call::Restart), Ok(()));
+    assert_eq!(rt; node.history().len(), 0);
+    assert_eq!(rt; pinned(&mut node, 1), Ok(slot(0, 2)));
+    let Ok(read) = bytes(&mut node, slot(0, 2), 15, 1) else {
+        return Err("the byte is read".into());
+    };
+    assert_eq!(rt; read.as_slice(), [0xAB].as_slice());
+    Ok(())
+}
+
+// The wish for buckets 1 and 2 of replica 2, as the format has it.
+const WANT: [u8; 19] = [
+    0x4C, 0x32, 0x47, 0x31, 3, 0, 2, 0, 0, 0, 8, 0, 0, 0, 0, 0, 0, 0, 6,
+];
+
+#[test]
+fn two_nodes_make_their_histories_equal(rt: HostRuntime) -> Result<(), Fail> {
+    let alloc = rt.alloc();
+    let mut first = fresh(alloc, 1, 4)?;
+    let mut second = fresh(alloc, 2, 4)?;
+    told(&rt, alloc, &mut first, &[(1, 10)])?;
+    told(&rt, alloc, &mut second, &[(2, 11)])?;
+    let digest = offered(&mut first)?;
+    let mut answered = answers(&mut second, digest)?;
+    assert_eq!(rt; answered.len(), 2);
+    let want = answered.pop().ok_or("a wish")?;
+    assert_eq!(rt; encode(alloc, &want)?.as_slice(), WANT.as_slice());
+    let entries = answered.pop().ok_or("entries")?;
+    assert_eq!(rt; answers(&mut first, entries)?.len(), 0);
+    let mut wanted = answers(&mut first, want)?;
+    assert_eq!(rt; wanted.len(), 2);
+    while let Some(frame) = wanted.pop() {
+        assert_eq!(rt; answers(&mut second, frame)?.len(), 0);
+    }
+    for i in 0..2 {
+        assert_eq!(rt; first.history().at(i), second.history().at(i));
+    }
+    assert_eq!(rt; (first.history().len(), second.history().len()), (2, 2));
+    let digest = offered(&mut first)?;
+    assert_eq!(rt; answers(&mut second, digest)?.len(), 0);
+    Ok(())
+}
