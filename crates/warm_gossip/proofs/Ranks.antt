@@ -1,5 +1,5 @@
 -- What a history that takes something in says of the pages that it is not told of: what it said before.
-use Rattle.std.proofs.Common.{◌≡◌, ℕ, suc, Bool, true, false, List, [], ◌∷◌, ◌++◌, map, sym, ap, refl, subst, ◌∙◌, arith}
+use Rattle.std.proofs.Common.{◌≡◌, suc, false, List, [], ◌∷◌, ◌++◌, map, sym, ap, refl, subst, ◌∙◌, arith}
 use Rattle.std.specs.List.{Contains}
 use Rattle.std.specs.Ordering.{is_eq, flip_args}
 use Rattle.warm_stamps.specs.declared.PageId.{PageId}
@@ -9,7 +9,7 @@ use Rattle.warm_stamps.specs.Distinct.{distinct}
 use Rattle.warm_stamps.proofs.DistinctLemmas.{by_cases}
 use Rattle.warm_stamps.proofs.StampLemmas.{page_order}
 use Rattle.warm_history.specs.declared.hist.Entry.{Entry}
-use Rattle.warm_history.specs.Histories.{first_two, hist, history, entry_refs, refs, stamps_held}
+use Rattle.warm_history.specs.Histories.{first_two, hist, history, entry_refs, refs}
 use Rattle.warm_history.proofs.HistoryLemmas.{told, told-append, told_entry, hist_refs-history}
 use Rattle.warm_pool.specs.Calls.{AgreeOutside}
 

@@ -1,5 +1,5 @@
 -- What a node sends, and what it answers to a frame.
-use Rattle.std.specs.Prelude.{◌≡◌, ◌≢◌, ◌↔◌, ℕ, zero, suc, ◌==◌, ◌<◌, List, [], ◌∷◌, ◌++◌, length, take, drop, map, filter, Option, None, if◌then◌else◌}
+use Rattle.std.specs.Prelude.{◌≡◌, ◌≢◌, ◌↔◌, ℕ, zero, suc, ◌==◌, ◌<◌, List, [], ◌∷◌, ◌++◌, length, take, drop, map, filter, Option, if◌then◌else◌}
 use Rattle.std.specs.List.{flat_map, range_with_len}
 use Rattle.std.specs.Int.{bit_at}
 use Rattle.warm_stamps.specs.declared.PageId.{PageId}
@@ -25,7 +25,7 @@ abbrev pub bucket_frames : ℕ → List Entry → ℕ → List Frame
 bucket_frames id h bucket = map (λ es. Entries id es) (pieces 1000 (bucket_entries bucket h))
 
 -- the buckets whose bit is set, in rising order
-abbrev pub buckets_in : ℕ → List ℕ
+unfoldable pub buckets_in : ℕ → List ℕ
 buckets_in mask = filter (λ bucket. bit_at mask bucket == 1) (range_with_len 0 64)
 
 -- these buckets of the history, in frames

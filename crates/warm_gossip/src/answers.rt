@@ -1,14 +1,113 @@
 //! What a node answers to sums and to a wish.
-ghost use Rattle.std.specs.Prelude.{◌≡◌, ℕ, IfOk};
-ghost use Rattle.warm_frames.specs.declared.frame.Frame.TheVariants.{Digest};
-ghost use Rattle.warm_gossip.specs.Answers.{IsAnswer, frames_in};
+ghost use Rattle.std.specs.Prelude.{◌≡◌, ◌≤◌, ℕ, List, [], ◌∷◌, ◌++◌, length, IfOk, OnOk};
+ghost use Rattle.std.specs.List.{All, flat_map};
+ghost use Rattle.warm_history.specs.declared.hist.Entry.{Entry};
+ghost use Rattle.warm_history.specs.Histories.{PagesRise};
+ghost use Rattle.warm_gossip.specs.Answers.{frames_in, IsAnswer};
+ghost use Rattle.warm_gossip.specs.Gathering.{HaveGathered, in_frames};
 
 use std::alloc::{AllocError, Global};
+use warm_digest::differing;
+use warm_frames::entries::{EntryList, MOST};
 use warm_frames::frame::Frame;
 use warm_frames::sums::SumTable;
+use warm_history::hist::Entry;
 use warm_history::history::History;
-use warm_stamps::ReplicaId;
+use warm_stamps::{ReplicaId, bucket_of};
 
+const BUCKETS: usize = 64;
+
+// An empty list for each bucket.
+fn new_lists(alloc: Global) -> Result<Vec<Vec<Entry>>, AllocError>
+    ensures { IfOk result (λ lists. (length lists.items ≡ 64) × All (λ list. list.items ≡ []) lists.items) }
+{
+    let mut lists = Vec::with_capacity(alloc, BUCKETS)?;
+    for _bucket in 0..BUCKETS {
+        lists.push_reserved(Vec::new(alloc));
+    }
+    Ok(lists)
+}
+
+// Takes an entry into the list of its bucket, if the bucket is wanted.
+fn take_into(lists: &mut Vec<Vec<Entry>>, mask: u64, entry: Entry) -> Result<(), AllocError>
+    requires { length lists.old.items ≡ 64 }
+    ensures { OnOk result ((before : List Entry) → HaveGathered mask lists.old.items before → HaveGathered mask lists.new.items (before ++ entry ∷ [])) }
+{
+    // Taken apart, since the prover loses a whole entry while a list is lent.
+    let Entry { page, hist } = entry;
+    let bucket = bucket_of(page).get();
+    if (mask >> bucket) % 2 == 0 {
+        return Ok(());
+    }
+    let list = &mut lists[usize::from(bucket)];
+    list.reserve(1)?;
+    list.push_reserved(Entry { page, hist });
+    Ok(())
+}
+
+// The entries of the wanted buckets, each bucket's in a list of its own.
+fn gathered(alloc: Global, history: &History, mask: u64) -> Result<Vec<Vec<Entry>>, AllocError>
+    ensures { IfOk result (λ lists. HaveGathered mask lists.items history.now) }
+{
+    let mut lists = new_lists(alloc)?;
+    for entry in history.iter() {
+        take_into(&mut lists, mask, entry)?;
+    }
+    Ok(lists)
+}
+
+// A frame of these entries.
+fn frame_of(alloc: Global, id: ReplicaId, part: &[Entry]) -> Result<Frame, AllocError>
+    requires rise { PagesRise part.now }
+    requires few { length part.now ≤ 1000 }
+    ensures { IfOk result (λ frame. frame ≡ Frame.Entries id part.now) }
+{
+    let copied = Vec::from_slice(alloc, part)?;
+    let Ok(entries) = EntryList::of(copied) else {
+        unreachable!()
+    };
+    Ok(Frame::Entries {
+        sender: id,
+        entries,
+    })
+}
+
+// Adds these entries, in frames of up to 1000.
+fn push_frames(
+    alloc: Global,
+    frames: &mut Vec<Frame>,
+    id: ReplicaId,
+    entries: &[Entry],
+) -> Result<(), AllocError>
+    requires { PagesRise entries.now }
+    ensures { OnOk result (frames.new.items ≡ frames.old.items ++ in_frames id entries.now) }
+{
+    let mut rest = entries;
+    while !rest.is_empty() {
+        let (part, later) = rest.split_at(MOST.min(rest.len()));
+        let frame = frame_of(alloc, id, part)?;
+        frames.push(frame)?;
+        rest = later;
+    }
+    Ok(())
+}
+
+// The entries of each list, in frames of up to 1000, one list after the other.
+fn frames_of(alloc: Global, id: ReplicaId, lists: Vec<Vec<Entry>>) -> Result<Vec<Frame>, AllocError>
+    requires { All (λ list. PagesRise list.items) lists.items }
+    ensures { IfOk result (λ frames. frames.items ≡ flat_map (λ list. in_frames id list.items) lists.items) }
+{
+    let mut frames = Vec::new(alloc);
+    for list in lists {
+        push_frames(alloc, &mut frames, id, &list)?;
+    }
+    Ok(frames)
+}
+
+/// The entries of the buckets whose bit is set in the mask, bucket by bucket in rising order and
+/// each in page order, in frames of up to 1000. It goes over the history once.
+///
+/// `AllocError` comes only where room was refused.
 pub(crate) fn frames_in(
     alloc: Global,
     id: ReplicaId,
@@ -17,16 +116,29 @@ pub(crate) fn frames_in(
 ) -> Result<Vec<Frame>, AllocError>
     ensures { IfOk result (λ frames. frames.items ≡ frames_in id history.now mask) }
 {
-    Err(AllocError)
+    let _whole = history.len();
+    let lists = gathered(alloc, history, mask)?;
+    frames_of(alloc, id, lists)
 }
 
+/// What a node with this history answers to the sums of another replica: its own entries of the
+/// buckets that differ, and then a wish for these; nothing where none differs.
+///
+/// `AllocError` comes only where room was refused.
 pub(crate) fn answer_to_sums(
     alloc: Global,
     id: ReplicaId,
     history: &History,
     sums: &SumTable,
 ) -> Result<Vec<Frame>, AllocError>
-    ensures { (sender : ℕ) → IfOk result (λ frames. IsAnswer id history.now (Digest sender sums.now) frames.items) }
+    ensures { (sender : ℕ) → IfOk result (λ frames. IsAnswer id history.now (Frame.Digest sender sums.now) frames.items) }
 {
-    Err(AllocError)
+    let own = warm_digest::sums(alloc, history)?;
+    let mask = differing(sums, &own);
+    if mask == 0 {
+        return Ok(Vec::new(alloc));
+    }
+    let mut frames = frames_in(alloc, id, history, mask)?;
+    frames.push(Frame::Want { sender: id, mask })?;
+    Ok(frames)
 }

@@ -1,7 +1,7 @@
 //! Rows of a node's life, run. Calls stand in a function of their own, which keeps that the node is fit.
 ghost use Rattle.std.specs.Prelude.{IfOk};
-ghost use Rattle.warm_pool.specs.State.{IsPool};
 
+use crate::answers::frames_in;
 use crate::call::{Call, Reply};
 use crate::fault::NodeFault;
 use crate::items::Items;
@@ -11,6 +11,7 @@ use std::process::Abort;
 use std::test::Fail;
 use warm_devices::{MemDevice, PageDevice};
 use warm_frames::frame::{Frame, encode};
+use warm_history::history::History;
 use warm_pool::{Pool, Slot};
 use warm_stamps::{PageId, Reference, ReplicaId, Stamp};
 
@@ -245,14 +246,50 @@ fn two_nodes_make_their_histories_equal(rt: HostRuntime) -> Result<(), Fail> {
     assert_eq!(rt; answers(&mut first, entries)?.len(), 0);
     let mut wanted = answers(&mut first, want)?;
     assert_eq!(rt; wanted.len(), 2);
-    while let Some(frame) = wanted.pop() {
-        assert_eq!(rt; answers(&mut second, frame)?.len(), 0);
-    }
-    for i in 0..2 {
-        assert_eq!(rt; first.history().at(i), second.history().at(i));
-    }
+    let later = wanted.pop().ok_or("the entries of bucket 2")?;
+    assert_eq!(rt; answers(&mut second, later)?.len(), 0);
+    let earlier = wanted.pop().ok_or("the entries of bucket 1")?;
+    assert_eq!(rt; answers(&mut second, earlier)?.len(), 0);
+    assert_eq!(rt; first.history().at(0), second.history().at(0));
+    assert_eq!(rt; first.history().at(1), second.history().at(1));
     assert_eq!(rt; (first.history().len(), second.history().len()), (2, 2));
     let digest = offered(&mut first)?;
     assert_eq!(rt; answers(&mut second, digest)?.len(), 0);
+    Ok(())
+}
+
+fn entries_in(frame: &Frame) -> usize {
+    match frame {
+        Frame::Entries { entries, .. } => entries.as_slice().len(),
+        Frame::Digest { .. } | Frame::Want { .. } => 0,
+    }
+}
+
+// A history of so many pages of bucket 0.
+fn of_one_bucket(alloc: Global, pages: u32) -> Result<History, Fail> {
+    let replica = ReplicaId::new(1)?;
+    let mut history = History::new(alloc);
+    for i in 0..pages {
+        let stamp = Stamp { time: 5, replica };
+        let page = page(i.wrapping_mul(64));
+        history.absorb([Reference { page, stamp }].as_slice())?;
+    }
+    Ok(history)
+}
+
+#[test]
+fn a_long_bucket_goes_in_frames_of_a_thousand(rt: HostRuntime) -> Result<(), Fail> {
+    let alloc = rt.alloc();
+    let history = of_one_bucket(alloc, 2001)?;
+    let id = ReplicaId::new(3)?;
+    let frames = frames_in(alloc, id, &history, 1)?;
+    assert_eq!(rt; frames.len(), 3);
+    let lengths = [
+        entries_in(&frames[0]),
+        entries_in(&frames[1]),
+        entries_in(&frames[2]),
+    ];
+    assert_eq!(rt; lengths, [1000, 1000, 1]);
+    assert_eq!(rt; frames_in(alloc, id, &history, 2)?.len(), 0);
     Ok(())
 }

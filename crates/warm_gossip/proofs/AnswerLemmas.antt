@@ -1,0 +1,150 @@
+-- Pieces of lists, gathered buckets, and the frames that are made of them.
+use Rattle.std.proofs.Common.{◌≡◌, ◌≢◌, ◌↔◌, ℕ, zero, suc, ◌-◌, ◌<◌, ◌≤◌, min, Bool, true, false, cond, List, [], ◌∷◌, ◌++◌, length, take, drop, map, filter, refl, sym, ap, subst, ◌∙◌, append_assoc, arith, All, flat_map, Result, Ok, Err, IfOk, if◌then◌else◌}
+use Rattle.std.specs.Prelude.{◌==◌, slice_index_or}
+use Rattle.std.specs.Global.{Vec}
+use Rattle.std.specs.Int.{bit_at}
+use Rattle.std.specs.List.{range_with_len}
+use Rattle.std.specs.Ordering.{on}
+use Rattle.std.specs.declared.cmp.Ordering.{Ordering}
+use Rattle.std.proofs.lemmas.Bool.{eq-eqb, ne_eqb, true≢false}
+use Rattle.std.proofs.lemmas.List.{length-drop, length-map, get_or-map, take_min, drop_min}
+use Rattle.std.proofs.lemmas.List.Elements.{All-push}
+use Rattle.std.proofs.lemmas.List.FromFn.{fill_by_all}
+use Rattle.warm_stamps.specs.Buckets.{page_bucket}
+use Rattle.warm_stamps.specs.Distinct.{IsRising}
+use Rattle.warm_stamps.specs.Stamps.{page_cmp}
+use Rattle.warm_stamps.proofs.DistinctLemmas.{rising_filter, rising_take}
+use Rattle.warm_history.specs.declared.hist.Entry.{Entry}
+use Rattle.warm_history.specs.Histories.{PagesRise, IsHistory}
+use Rattle.warm_frames.specs.declared.frame.Frame.{Frame}
+use Rattle.warm_frames.specs.declared.frame.Frame.TheVariants.{Entries, Digest, Want}
+use Rattle.warm_frames.specs.Sums.{sum_at}
+use Rattle.warm_digest.specs.BucketSums.{bucket_entries, sums_of}
+use Rattle.warm_gossip.specs.Answers.{pieces_of, pieces, bucket_frames, buckets_in, frames_in, IsDiffering, IsAnswer}
+use Rattle.warm_gossip.specs.Gathering.{wanted, HaveGathered, in_frames}
+
+-- ---- pieces
+
+-- more fuel than there are items changes nothing
+same_pieces : {A : Type 0} (size n m : ℕ) (xs : List A) → 0 < size → length xs ≤ n → length xs ≤ m → pieces_of size n xs ≡ pieces_of size m xs
+same_pieces size zero zero xs pos a b = refl
+same_pieces size zero (suc m) [] pos a b = refl
+same_pieces size zero (suc m) (x ∷ xs) pos a b = absurd (omega (arith, a))
+same_pieces size (suc n) zero [] pos a b = refl
+same_pieces size (suc n) zero (x ∷ xs) pos a b = absurd (omega (arith, b))
+same_pieces size (suc n) (suc m) [] pos a b = refl
+same_pieces size (suc n) (suc m) (x ∷ xs) pos a b =
+    let left : length (drop size (x ∷ xs)) ≡ length (x ∷ xs) - size = length-drop size (x ∷ xs) in
+    ap (λ t. take size (x ∷ xs) ∷ t) (same_pieces size n m (drop size (x ∷ xs)) pos (omega arith) (omega arith))
+
+pieces-cons : {A : Type 0} (size : ℕ) (xs : List A) → 0 < size → 0 < length xs → pieces size xs ≡ take size xs ∷ pieces size (drop size xs)
+pieces-cons size [] pos some = absurd (omega (arith, some))
+pieces-cons size (x ∷ xs) pos some =
+    let left : length (drop size (x ∷ xs)) ≡ length (x ∷ xs) - size = length-drop size (x ∷ xs) in
+    ap (λ t. take size (x ∷ xs) ∷ t) (same_pieces size (length xs) (length (drop size (x ∷ xs))) (drop size (x ∷ xs)) pos (omega arith) (omega arith))
+
+-- a frame of the first entries, and then those of the others
+pub frame_more : (id : ℕ) (frames : List Frame) (rest part later : List Entry) (frame : Frame) → 0 < length rest → part ≡ take (min 1000 (length rest)) rest → later ≡ drop (min 1000 (length rest)) rest → frame ≡ Entries id part → (frames ++ frame ∷ []) ++ in_frames id later ≡ frames ++ in_frames id rest
+frame_more id frames rest part later frame some front back is =
+    let first : frame ≡ Entries id (take 1000 rest) = is ∙ ap (Entries id) (front ∙ take_min 1000 rest) in
+    let others : in_frames id later ≡ in_frames id (drop 1000 rest) = ap (in_frames id) (back ∙ drop_min 1000 rest) in
+    append_assoc frames (frame ∷ []) (in_frames id later)
+    ∙ ap (λ (f : Frame). frames ++ f ∷ in_frames id later) first
+    ∙ ap (λ (fs : List Frame). frames ++ Entries id (take 1000 rest) ∷ fs) others
+    ∙ ap (λ (parts : List (List Entry)). frames ++ map (λ part. Entries id part) parts) (sym (pieces-cons 1000 rest (omega arith) some))
+
+-- there is more where a list is not empty
+pub some_left : (n : ℕ) (empty : Bool) → empty ≡ (n == 0) → empty ≡ false → 0 < n
+some_left zero empty is filled = absurd (true≢false (sym is ∙ filled))
+some_left (suc n) empty is filled = omega arith
+
+-- ---- pages rise in parts of entries
+
+rising_drop : {A : Type 0} (cmp : A → A → Ordering) (n : ℕ) (xs : List A) → IsRising cmp xs → IsRising cmp (drop n xs)
+rising_drop cmp zero xs rising = rising
+rising_drop cmp (suc n) [] rising = tt
+rising_drop cmp (suc n) (x ∷ xs) rising = rising_drop cmp n xs rising.1
+
+pub pages_rise_take : (n : ℕ) (es part : List Entry) → part ≡ take n es → PagesRise es → PagesRise part
+pages_rise_take n es part is rise = subst PagesRise (sym is) (rising_take (on (λ e. e.page) page_cmp) n es rise)
+
+pub pages_rise_drop : (n : ℕ) (es later : List Entry) → later ≡ drop n es → PagesRise es → PagesRise later
+pages_rise_drop n es later is rise = subst PagesRise (sym is) (rising_drop (on (λ e. e.page) page_cmp) n es rise)
+
+wanted_rise : (mask : ℕ) (h : List Entry) (bucket : ℕ) → PagesRise h → PagesRise (wanted mask h bucket)
+wanted_rise mask h bucket rise = elim (bit_at mask bucket == 1) as (λ b. PagesRise (cond b (bucket_entries bucket h) [])) [
+  | true ↦ rising_filter (on (λ e. e.page) page_cmp) (λ e. page_bucket e.page == bucket) h rise
+  | false ↦ tt
+]
+
+-- one empty list more
+pub empty_more : (lists all : List (Vec Entry)) (next : Vec Entry) → all ≡ lists ++ next ∷ [] → next.items ≡ [] → All (λ list. list.items ≡ []) lists → All (λ list. list.items ≡ []) all
+empty_more lists all next is empty each = subst (All (λ (list : Vec Entry). list.items ≡ [])) (sym is) (All-push (λ list. list.items ≡ []) lists next each empty)
+
+-- ---- frames of gathered lists
+
+pub all_rise : (mask : ℕ) (lists : List (Vec Entry)) (h : List Entry) → HaveGathered mask lists h → IsHistory h → All (λ list. PagesRise list.items) lists
+all_rise mask lists h have whole = λ k d low. subst PagesRise (sym (have.each k d (omega (arith, have.count)))) (wanted_rise mask h k whole.pages_rise)
+
+flat_map-map : {X Y A : Type 0} (f : Y → List A) (g : X → Y) (xs : List X) → flat_map f (map g xs) ≡ flat_map (λ x. f (g x)) xs
+flat_map-map f g [] = refl
+flat_map-map f g (x ∷ xs) = ap (λ t. f (g x) ++ t) (flat_map-map f g xs)
+
+-- a bucket whose bit is clear gives no frame
+set_alone : (id mask : ℕ) (h : List Entry) (ks : List ℕ) → flat_map (λ k. in_frames id (wanted mask h k)) ks ≡ flat_map (bucket_frames id h) (filter (λ k. bit_at mask k == 1) ks)
+set_alone id mask h [] = refl
+set_alone id mask h (k ∷ ks) = cases (bit_at mask k == 1) (set_alone id mask h ks)
+  where
+    chosen : List ℕ
+    chosen = filter (λ k. bit_at mask k == 1) ks
+
+    others : List Frame
+    others = flat_map (λ k. in_frames id (wanted mask h k)) ks
+
+    cases : (t : Bool) → others ≡ flat_map (bucket_frames id h) chosen → in_frames id (cond t (bucket_entries k h) []) ++ others ≡ flat_map (bucket_frames id h) (cond t (k ∷ chosen) chosen)
+    cases true later = ap (λ fs. bucket_frames id h k ++ fs) later
+    cases false later = later
+
+frames_below : (id mask n : ℕ) (lists : List (Vec Entry)) (h : List Entry) → length lists ≡ n → ((k : ℕ) (other : Vec Entry) → k < n → (slice_index_or lists k other).items ≡ wanted mask h k)
+    → flat_map (λ list. in_frames id list.items) lists ≡ flat_map (bucket_frames id h) (filter (λ k. bit_at mask k == 1) (range_with_len 0 n))
+frames_below id mask zero [] h count each = refl
+frames_below id mask (suc n) [] h count each = absurd (omega (arith, count))
+frames_below id mask n (v ∷ vs) h count each =
+    let items : Vec Entry → List Entry = λ list. list.items in
+    let lists : List (Vec Entry) = v ∷ vs in
+    let all : map items lists ≡ map (wanted mask h) (range_with_len 0 n) =
+    fill_by_all (wanted mask h) (map items lists) n [] (length-map lists items ∙ count) (λ k low. get_or-map items lists k v [] (omega (arith, count)) ∙ each k v low) in
+    sym (flat_map-map (in_frames id) items lists)
+    ∙ ap (flat_map (in_frames id)) all
+    ∙ flat_map-map (in_frames id) (wanted mask h) (range_with_len 0 n)
+    ∙ set_alone id mask h (range_with_len 0 n)
+
+pub all_frames : (id mask : ℕ) (lists : List (Vec Entry)) (h : List Entry) → HaveGathered mask lists h → flat_map (λ list. in_frames id list.items) lists ≡ frames_in id h mask
+unfolding buckets_in
+all_frames id mask lists h have = frames_below id mask 64 lists h have.count have.each
+
+pub all_framed : {E : Type 0} (id mask : ℕ) (lists : List (Vec Entry)) (h : List Entry) (result : Result (Vec Frame) E) → HaveGathered mask lists h
+    → IfOk result (λ frames. frames.items ≡ flat_map (λ list. in_frames id list.items) lists) → IfOk result (λ frames. frames.items ≡ frames_in id h mask)
+all_framed id mask lists h (Ok frames) have is = is ∙ all_frames id mask lists h have
+all_framed id mask lists h (Err e) have is = tt
+
+-- ---- answers to sums
+
+zero_chosen : {A : Type 0} (mask : ℕ) (x y : A) → mask ≡ 0 → x ≡ if mask == 0 then x else y
+zero_chosen mask x y none = sym (ap (λ (t : Bool). if t then x else y) (eq-eqb mask 0 none))
+
+other_chosen : {A : Type 0} (mask : ℕ) (x y : A) → (mask ≡ 0 → ⊥) → y ≡ if mask == 0 then x else y
+other_chosen mask x y some = sym (ap (λ (t : Bool). if t then x else y) (ne_eqb mask 0 some))
+
+differing_from : (theirs own : List (List ℕ)) (h : List Entry) (mask : ℕ) → own ≡ sums_of h → ((bucket : ℕ) → bucket < 64 → (bit_at mask bucket ≡ 1) ↔ (sum_at theirs bucket ≢ sum_at own bucket)) → IsDiffering theirs h mask
+differing_from theirs own h mask is differ = λ bucket low. subst (λ (sums : List (List ℕ)). (bit_at mask bucket ≡ 1) ↔ (sum_at theirs bucket ≢ sum_at sums bucket)) is (differ bucket low)
+
+pub nothing_differs : (id sender : ℕ) (theirs own : List (List ℕ)) (h : List Entry) (frames : List Frame) (mask : ℕ) → mask < 18446744073709551616 → own ≡ sums_of h
+    → ((bucket : ℕ) → bucket < 64 → (bit_at mask bucket ≡ 1) ↔ (sum_at theirs bucket ≢ sum_at own bucket)) → mask ≡ 0 → frames ≡ [] → IsAnswer id h (Digest sender theirs) frames
+nothing_differs id sender theirs own h frames mask fits is differ none all =
+    (mask, fits, differing_from theirs own h mask is differ, all ∙ zero_chosen mask [] (frames_in id h mask ++ Want id mask ∷ []) none)
+
+pub some_differ : (id sender : ℕ) (theirs own : List (List ℕ)) (h : List Entry) (frames : List Frame) (mask : ℕ) → mask < 18446744073709551616 → own ≡ sums_of h
+    → ((bucket : ℕ) → bucket < 64 → (bit_at mask bucket ≡ 1) ↔ (sum_at theirs bucket ≢ sum_at own bucket)) → (mask ≡ 0 → ⊥) → frames ≡ frames_in id h mask ++ Want id mask ∷ [] → IsAnswer id h (Digest sender theirs) frames
+some_differ id sender theirs own h frames mask fits is differ some all =
+    (mask, fits, differing_from theirs own h mask is differ, all ∙ other_chosen mask [] (frames_in id h mask ++ Want id mask ∷ []) some)
