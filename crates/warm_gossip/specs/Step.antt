@@ -35,10 +35,11 @@ OnPool change old new = (new ≡ record old { pool = new.pool }) × change old.p
 abbrev pub IsLoadable : PoolView → PageId → Type 0
 IsLoadable v p = HasPage v p × IsAbsent v p
 
--- the first of these pages that could be loaded, or that none could
+-- the page with this number, of those counted from 0
 abbrev pub nth_page : List PageId → ℕ → PageId
 nth_page pages i = slice_index_or pages i (record { dev = 0; no = 0 })
 
+-- the first of these pages that could be loaded, or none where none could
 abbrev pub IsFirstLoadable : PoolView → List PageId → Option PageId → Type 0
 IsFirstLoadable v pages None = (j : ℕ) → j < length pages → IsLoadable v (nth_page pages j) → ⊥
 IsFirstLoadable v pages (Some p) = (i : ℕ) × (i < length pages) × (nth_page pages i ≡ p) × IsLoadable v p × ((j : ℕ) → j < i → IsLoadable v (nth_page pages j) → ⊥)
