@@ -130,6 +130,20 @@ fn write(
     pool.write(slot, at, bytes)
 }
 
+// Fills a page with AA, which goes to no device yet.
+fn fill(rt: &impl Abort, pool: &mut Pool, history: &History, no: u32) -> Result<(), Fail>
+    requires pool { IsPool (⟦<Pool as Pooled>⟧.state pool.old) }
+    requires ranked { RankedBy (⟦<Pool as Pooled>⟧.state pool.old) history.now }
+    ensures pool { IsPool (⟦<Pool as Pooled>⟧.state pool.new) }
+    ensures ranked { RankedBy (⟦<Pool as Pooled>⟧.state pool.new) history.now }
+{
+    let held = pinned(pool, history, no)?;
+    let written = write(rt, pool, history, held, 0, &[0xAA; 16]);
+    assert_eq!(rt; written, Ok(()));
+    unpin(rt, pool, history, held);
+    Ok(())
+}
+
 // The sixteen bytes of the slot's page.
 fn read(rt: &impl Abort, pool: &Pool, slot: Slot) -> [u8; 16]
     requires { IsPool (⟦<Pool as Pooled>⟧.state pool.now) }
@@ -278,10 +292,7 @@ fn a_dirty_victim_stays_where_its_write_fails(rt: HostRuntime) -> Result<(), Fai
     let alloc = rt.alloc();
     let history = History::new(alloc);
     let mut pool = pool_over(&rt, alloc, 1, flaky(alloc, 3)?)?;
-    let first = pinned(&mut pool, &history, 1)?;
-    let written = write(&rt, &mut pool, &history, first, 0, &[0xAA; 16]);
-    assert_eq!(rt; written, Ok(()));
-    unpin(&rt, &mut pool, &history, first);
+    fill(&rt, &mut pool, &history, 1)?;
     assert_eq!(rt; pool.pin(page(2), &history), Err(PoolFault::WriteBack));
     assert_eq!(rt;
         (pool.resident(page(1)), pool.resident(page(2))),
@@ -301,10 +312,7 @@ fn a_device_stays_where_its_flush_fails(rt: HostRuntime) -> Result<(), Fail> {
     let alloc = rt.alloc();
     let history = History::new(alloc);
     let mut pool = pool_over(&rt, alloc, 1, flaky(alloc, 3)?)?;
-    let first = pinned(&mut pool, &history, 1)?;
-    let written = write(&rt, &mut pool, &history, first, 0, &[0xAA; 16]);
-    assert_eq!(rt; written, Ok(()));
-    unpin(&rt, &mut pool, &history, first);
+    fill(&rt, &mut pool, &history, 1)?;
     let unretired = retire(&mut pool, &history, 0, memory(alloc, 8)?)
         .err()
         .ok_or("retired")?;
