@@ -9,9 +9,8 @@ use std::alloc::Global;
 use std::env;
 use std::time::Instant;
 use warm_digest::sums;
-use warm_frames::entries::EntryList;
-use warm_frames::frame::{Frame, decode, encode};
-use warm_history::history::History;
+use warm_frames::{EntryList, Frame, decode, encode};
+use warm_history::History;
 use warm_stamps::{Bucket, PageId, Reference, ReplicaId, Stamp};
 
 // How many pages a full frame has, and how many the history that is summed.

@@ -14,7 +14,7 @@ use std::alloc::Global;
 use std::env;
 use std::time::Instant;
 use warm_devices::{MemDevice, PageDevice};
-use warm_history::history::History;
+use warm_history::History;
 use warm_pool::{Pool, PoolFault, Pooled};
 use warm_stamps::PageId;
 

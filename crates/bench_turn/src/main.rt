@@ -13,8 +13,7 @@ use std::env;
 use std::sync::Wait;
 use std::thread::{Threads, join};
 use std::time::Instant;
-use warm_turn::counter::{Add, Added, Counter};
-use warm_turn::{Machine, Pass, Turn};
+use warm_turn::{Add, Added, Counter, Machine, Pass, Turn};
 
 // Takes so many turns.
 fn add_ones<M: Machine<Call = Add, Reply = Added>, R: Wait>(

@@ -1,15 +1,15 @@
 //! A device that fails one chosen call, to show what stands above it what a failing device does.
 ghost use Rattle.std.specs.Prelude.{◌≡◌, ◌+◌, ◌-◌, ◌^◌, ◌<◌, ◌≤◌, ◌==◌, min, ℕ, IsTrue, IsOk, OnOk, OnErr, length, replicate, true, false, if◌then◌else◌};
 ghost use Rattle.warm_devices.specs.Device.{DeviceState};
-ghost use Rattle.warm_devices.specs.declared.flaky.TheConstants.{MAX_PAGE};
+ghost use Rattle.warm_devices.specs.declared.flaky.TheConstants.{MAX_PAGE_SIZE};
 
 use crate::{DeviceFault, PageDevice};
 
 /// The largest page, in bytes.
-pub const MAX_PAGE: usize = 65536;
+pub const MAX_PAGE_SIZE: usize = 65536;
 
 /// The bytes of torn pages.
-static TORN: [u8; MAX_PAGE] = [0xEE; MAX_PAGE];
+static TORN: [u8; MAX_PAGE_SIZE] = [0xEE; MAX_PAGE_SIZE];
 
 /// A device held by value, of whose reads, writes and flushes one is made to fail.
 ///
@@ -20,15 +20,15 @@ pub struct Flaky<D: PageDevice> {
     /// How many calls there are up to the one that fails; 0 once it has failed, or where none is to fail.
     calls_left: u64,
     failed: u64,
-    ghost fits: { (D.PageDevice.state inner).page_size ≤ MAX_PAGE },
+    ghost fits: { (D.PageDevice.state inner).page_size ≤ MAX_PAGE_SIZE },
 }
 
 impl<D: PageDevice> Flaky<D> {
     ghost use Rattle.warm_devices.specs.FlakyParts.{inner_of, calls_left, flaky_state};
 
-    /// Passes calls on to `inner` and fails the `n`-th, or none where `n` is 0. The pages have at most `MAX_PAGE` bytes.
+    /// Passes calls on to `inner` and fails the `n`-th, or none where `n` is 0. The pages have at most `MAX_PAGE_SIZE` bytes.
     pub fn new(inner: D, n: u64) -> Flaky<D>
-        requires { (D.PageDevice.state inner).page_size ≤ MAX_PAGE }
+        requires { (D.PageDevice.state inner).page_size ≤ MAX_PAGE_SIZE }
         ensures inner { inner_of result ≡ inner }
         ensures calls { calls_left result ≡ n }
         ensures state { flaky_state result ≡ record (D.PageDevice.state inner) { failures = min (D.PageDevice.state inner).failures (2 ^ 64 - 1); unfailing = false } }
@@ -53,7 +53,7 @@ fn is_due(calls_left: &mut u64) -> bool
 
 /// What a failed write leaves in a page of `len` bytes.
 fn torn_page(len: usize) -> &'static [u8]
-    requires { len ≤ MAX_PAGE }
+    requires { len ≤ MAX_PAGE_SIZE }
     ensures { result.now ≡ replicate len 0xEE }
 {
     &TORN[..len]

@@ -18,7 +18,7 @@ mod memory;
 pub use device::{PageDevice, let_go};
 pub use fault::{DeviceFault, OpenFault};
 pub use file::FileDevice;
-pub use flaky::{Flaky, MAX_PAGE};
+pub use flaky::{Flaky, MAX_PAGE_SIZE};
 pub use memory::MemDevice;
 
 #[cfg(test)]

@@ -8,6 +8,7 @@ ghost use Rattle.std.specs.Prelude.{◌≡◌, ◌≢◌, ◌↔◌, ◌<◌, �
 ghost use Rattle.std.specs.Int.{bit_at};
 ghost use Rattle.sha2.specs.Hashers.{Holds256};
 ghost use Rattle.warm_history.specs.declared.hist.Entry.{Entry};
+ghost use Rattle.warm_history.specs.Histories.{entries_of};
 ghost use Rattle.warm_frames.specs.Entries.{hist_bytes, entry_bytes};
 ghost use Rattle.warm_frames.specs.Sums.{sum_at};
 ghost use Rattle.warm_digest.specs.BucketSums.{sums_of};
@@ -15,9 +16,8 @@ ghost use Rattle.warm_digest.specs.Hashing.{HaveTaken};
 
 use sha2::{Digest, Sha256};
 use std::alloc::{AllocError, Global};
-use warm_frames::sums::SumTable;
-use warm_history::hist::{Entry, PageHist};
-use warm_history::history::History;
+use warm_frames::SumTable;
+use warm_history::{Entry, History, PageHist};
 use warm_stamps::{Bucket, bucket_of, page_bytes, stamp_bytes};
 
 const BUCKETS: usize = 64;
@@ -85,7 +85,7 @@ fn digests(mut hashers: Vec<Sha256>) -> [[u8; 32]; 64]
 ///
 /// `AllocError` comes only where room for a hasher of each bucket was refused.
 pub fn sums(alloc: Global, history: &History) -> Result<SumTable, AllocError>
-    ensures { IfOk result (λ table. table ≡ sums_of history.now) }
+    ensures { IfOk result (λ table. table ≡ sums_of (entries_of history.now)) }
 {
     let mut hashers = new_hashers(alloc)?;
     for entry in history.iter() {

@@ -5,11 +5,10 @@ ghost use Rattle.warm_history.specs.Histories.{PagesRise};
 ghost use Rattle.warm_frames.specs.Entries.{IsHist, IsEntry, IsEntryList};
 
 use std::marker::Model;
-use warm_history::hist::{Entry, PageHist};
-use warm_history::pages_rise;
+use warm_history::{Entry, PageHist, pages_rise};
 
 /// The most entries that a frame carries.
-pub const MOST: usize = 1000;
+pub const MAX_ENTRIES: usize = 1000;
 
 /// At most 1000 entries, whose pages rise. Contracts see the list of the entries.
 #[derive(Debug, Drop)]
@@ -39,7 +38,7 @@ impl EntryList {
         ensures back { IfErr result (λ back. back ≡ entries) }
         ensures taken { IsOk result ↔ (PagesRise entries.items × (length entries.items ≤ 1000)) }
     {
-        if entries.len() > MOST || !pages_rise(&entries) {
+        if entries.len() > MAX_ENTRIES || !pages_rise(&entries) {
             return Err(entries);
         }
         are_entries(&entries);

@@ -9,7 +9,7 @@ use crate::reading::frame_in;
 use crate::sums::SumTable;
 use crate::writing::{digest_text, entries_text, want_text};
 use std::alloc::{AllocError, Global};
-use warm_stamps::ReplicaId;
+use warm_stamps::{Items, ReplicaId};
 
 /// What one replica sends another.
 #[derive(Debug, Drop)]
@@ -36,6 +36,9 @@ pub enum Frame {
         mask: u64,
     },
 }
+
+/// A list of frames, in the order in which they are sent. Contracts see the list.
+pub type FrameList = Items<Frame>;
 
 /// The bytes that spell the frame. `AllocError` comes only where room for them was refused.
 pub fn encode(alloc: Global, frame: &Frame) -> Result<Vec<u8>, AllocError>

@@ -9,7 +9,7 @@ use crate::fault::FrameFault;
 use crate::frame::Frame;
 use crate::sums::SumTable;
 use std::alloc::Global;
-use warm_history::hist::{Entry, PageHist, Two};
+use warm_history::{Entry, PageHist, Two};
 use warm_stamps::{PageId, ReplicaId, Stamp, page_from, stamp_from};
 
 pub(crate) const MAGIC: u32 = 0x4C32_4731;

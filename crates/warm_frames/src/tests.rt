@@ -8,7 +8,7 @@ use crate::frame::{Frame, decode, encode};
 use crate::sums::SumTable;
 use std::alloc::{AllocError, Global};
 use std::test::Fail;
-use warm_history::hist::{Entry, PageHist};
+use warm_history::{Entry, PageHist};
 use warm_stamps::{Bucket, PageId, ReplicaId, Stamp};
 
 // Sender 1 says that 0:7 has 20@1 and 10@1.

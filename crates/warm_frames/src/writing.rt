@@ -9,7 +9,7 @@ use crate::entries::EntryList;
 use crate::reading::MAGIC;
 use crate::sums::SumTable;
 use std::alloc::{AllocError, Global};
-use warm_history::hist::{Entry, PageHist};
+use warm_history::{Entry, PageHist};
 use warm_stamps::{ReplicaId, page_bytes, stamp_bytes};
 
 // The header of a frame, with room for a body of this length.

@@ -15,7 +15,7 @@ use Rattle.warm_stamps.specs.Distinct.{IsRising}
 use Rattle.warm_stamps.specs.Stamps.{page_cmp}
 use Rattle.warm_stamps.proofs.DistinctLemmas.{rising_filter, rising_take}
 use Rattle.warm_history.specs.declared.hist.Entry.{Entry}
-use Rattle.warm_history.specs.Histories.{PagesRise, IsHistory}
+use Rattle.warm_history.specs.Histories.{HistoryView, entries_of, PagesRise, IsHistory}
 use Rattle.warm_frames.specs.declared.frame.Frame.{Frame}
 use Rattle.warm_frames.specs.declared.frame.Frame.TheVariants.{Entries, Digest, Want}
 use Rattle.warm_frames.specs.Sums.{sum_at}
@@ -83,15 +83,15 @@ empty_more lists all next is empty each = subst (All (λ (list : Vec Entry). lis
 
 -- ---- frames of gathered lists
 
-pub all_rise : (mask : ℕ) (lists : List (Vec Entry)) (h : List Entry) → HaveGathered mask lists h → IsHistory h → All (λ list. PagesRise list.items) lists
-all_rise mask lists h have whole = λ k d low. subst PagesRise (sym (have.each k d (omega (arith, have.count)))) (wanted_rise mask h k whole.pages_rise)
+pub all_rise : (mask : ℕ) (lists : List (Vec Entry)) (h : HistoryView) → HaveGathered mask lists (entries_of h) → IsHistory h → All (λ list. PagesRise list.items) lists
+all_rise mask lists h have whole = λ k d low. subst PagesRise (sym (have.each k d (omega (arith, have.count)))) (wanted_rise mask (entries_of h) k whole.pages_rise)
 
 flat_map-map : {X Y A : Type 0} (f : Y → List A) (g : X → Y) (xs : List X) → flat_map f (map g xs) ≡ flat_map (λ x. f (g x)) xs
 flat_map-map f g [] = refl
 flat_map-map f g (x ∷ xs) = ap (λ t. f (g x) ++ t) (flat_map-map f g xs)
 
 -- a bucket whose bit is clear gives no frame
-set_alone : (id mask : ℕ) (h : List Entry) (ks : List ℕ) → flat_map (λ k. in_frames id (wanted mask h k)) ks ≡ flat_map (bucket_frames id h) (filter (λ k. bit_at mask k == 1) ks)
+set_alone : (id mask : ℕ) (h : HistoryView) (ks : List ℕ) → flat_map (λ k. in_frames id (wanted mask (entries_of h) k)) ks ≡ flat_map (bucket_frames id h) (filter (λ k. bit_at mask k == 1) ks)
 set_alone id mask h [] = refl
 set_alone id mask h (k ∷ ks) = cases (bit_at mask k == 1) (set_alone id mask h ks)
   where
@@ -99,31 +99,31 @@ set_alone id mask h (k ∷ ks) = cases (bit_at mask k == 1) (set_alone id mask h
     chosen = filter (λ k. bit_at mask k == 1) ks
 
     others : List Frame
-    others = flat_map (λ k. in_frames id (wanted mask h k)) ks
+    others = flat_map (λ k. in_frames id (wanted mask (entries_of h) k)) ks
 
-    cases : (t : Bool) → others ≡ flat_map (bucket_frames id h) chosen → in_frames id (cond t (bucket_entries k h) []) ++ others ≡ flat_map (bucket_frames id h) (cond t (k ∷ chosen) chosen)
+    cases : (t : Bool) → others ≡ flat_map (bucket_frames id h) chosen → in_frames id (cond t (bucket_entries k (entries_of h)) []) ++ others ≡ flat_map (bucket_frames id h) (cond t (k ∷ chosen) chosen)
     cases true later = ap (λ fs. bucket_frames id h k ++ fs) later
     cases false later = later
 
-frames_below : (id mask n : ℕ) (lists : List (Vec Entry)) (h : List Entry) → length lists ≡ n → ((k : ℕ) (other : Vec Entry) → k < n → (slice_index_or lists k other).items ≡ wanted mask h k)
+frames_below : (id mask n : ℕ) (lists : List (Vec Entry)) (h : HistoryView) → length lists ≡ n → ((k : ℕ) (other : Vec Entry) → k < n → (slice_index_or lists k other).items ≡ wanted mask (entries_of h) k)
     → flat_map (λ list. in_frames id list.items) lists ≡ flat_map (bucket_frames id h) (filter (λ k. bit_at mask k == 1) (range_with_len 0 n))
 frames_below id mask zero [] h count each = refl
 frames_below id mask (suc n) [] h count each = absurd (omega (arith, count))
 frames_below id mask n (v ∷ vs) h count each =
     let items : Vec Entry → List Entry = λ list. list.items in
     let lists : List (Vec Entry) = v ∷ vs in
-    let all : map items lists ≡ map (wanted mask h) (range_with_len 0 n) =
-    fill_by_all (wanted mask h) (map items lists) n [] (length-map lists items ∙ count) (λ k low. get_or-map items lists k v [] (omega (arith, count)) ∙ each k v low) in
+    let all : map items lists ≡ map (wanted mask (entries_of h)) (range_with_len 0 n) =
+    fill_by_all (wanted mask (entries_of h)) (map items lists) n [] (length-map lists items ∙ count) (λ k low. get_or-map items lists k v [] (omega (arith, count)) ∙ each k v low) in
     sym (flat_map-map (in_frames id) items lists)
     ∙ ap (flat_map (in_frames id)) all
-    ∙ flat_map-map (in_frames id) (wanted mask h) (range_with_len 0 n)
+    ∙ flat_map-map (in_frames id) (wanted mask (entries_of h)) (range_with_len 0 n)
     ∙ set_alone id mask h (range_with_len 0 n)
 
-pub all_frames : (id mask : ℕ) (lists : List (Vec Entry)) (h : List Entry) → HaveGathered mask lists h → flat_map (λ list. in_frames id list.items) lists ≡ frames_in id h mask
+pub all_frames : (id mask : ℕ) (lists : List (Vec Entry)) (h : HistoryView) → HaveGathered mask lists (entries_of h) → flat_map (λ list. in_frames id list.items) lists ≡ frames_in id h mask
 unfolding buckets_in
 all_frames id mask lists h have = frames_below id mask 64 lists h have.count have.each
 
-pub all_framed : {E : Type 0} (id mask : ℕ) (lists : List (Vec Entry)) (h : List Entry) (result : Result (Vec Frame) E) → HaveGathered mask lists h
+pub all_framed : {E : Type 0} (id mask : ℕ) (lists : List (Vec Entry)) (h : HistoryView) (result : Result (Vec Frame) E) → HaveGathered mask lists (entries_of h)
     → IfOk result (λ frames. frames.items ≡ flat_map (λ list. in_frames id list.items) lists) → IfOk result (λ frames. frames.items ≡ frames_in id h mask)
 all_framed id mask lists h (Ok frames) have is = is ∙ all_frames id mask lists h have
 all_framed id mask lists h (Err e) have is = tt
@@ -136,15 +136,15 @@ zero_chosen mask x y none = sym (ap (λ (t : Bool). if t then x else y) (eq-eqb 
 other_chosen : {A : Type 0} (mask : ℕ) (x y : A) → (mask ≡ 0 → ⊥) → y ≡ if mask == 0 then x else y
 other_chosen mask x y some = sym (ap (λ (t : Bool). if t then x else y) (ne_eqb mask 0 some))
 
-differing_from : (theirs own : List (List ℕ)) (h : List Entry) (mask : ℕ) → own ≡ sums_of h → ((bucket : ℕ) → bucket < 64 → (bit_at mask bucket ≡ 1) ↔ (sum_at theirs bucket ≢ sum_at own bucket)) → IsDiffering theirs h mask
+differing_from : (theirs own : List (List ℕ)) (h : HistoryView) (mask : ℕ) → own ≡ sums_of (entries_of h) → ((bucket : ℕ) → bucket < 64 → (bit_at mask bucket ≡ 1) ↔ (sum_at theirs bucket ≢ sum_at own bucket)) → IsDiffering theirs h mask
 differing_from theirs own h mask is differ = λ bucket low. subst (λ (sums : List (List ℕ)). (bit_at mask bucket ≡ 1) ↔ (sum_at theirs bucket ≢ sum_at sums bucket)) is (differ bucket low)
 
-pub nothing_differs : (id sender : ℕ) (theirs own : List (List ℕ)) (h : List Entry) (frames : List Frame) (mask : ℕ) → mask < 18446744073709551616 → own ≡ sums_of h
+pub nothing_differs : (id sender : ℕ) (theirs own : List (List ℕ)) (h : HistoryView) (frames : List Frame) (mask : ℕ) → mask < 18446744073709551616 → own ≡ sums_of (entries_of h)
     → ((bucket : ℕ) → bucket < 64 → (bit_at mask bucket ≡ 1) ↔ (sum_at theirs bucket ≢ sum_at own bucket)) → mask ≡ 0 → frames ≡ [] → IsAnswer id h (Digest sender theirs) frames
 nothing_differs id sender theirs own h frames mask fits is differ none all =
     (mask, fits, differing_from theirs own h mask is differ, all ∙ zero_chosen mask [] (frames_in id h mask ++ Want id mask ∷ []) none)
 
-pub some_differ : (id sender : ℕ) (theirs own : List (List ℕ)) (h : List Entry) (frames : List Frame) (mask : ℕ) → mask < 18446744073709551616 → own ≡ sums_of h
+pub some_differ : (id sender : ℕ) (theirs own : List (List ℕ)) (h : HistoryView) (frames : List Frame) (mask : ℕ) → mask < 18446744073709551616 → own ≡ sums_of (entries_of h)
     → ((bucket : ℕ) → bucket < 64 → (bit_at mask bucket ≡ 1) ↔ (sum_at theirs bucket ≢ sum_at own bucket)) → (mask ≡ 0 → ⊥) → frames ≡ frames_in id h mask ++ Want id mask ∷ [] → IsAnswer id h (Digest sender theirs) frames
 some_differ id sender theirs own h frames mask fits is differ some all =
     (mask, fits, differing_from theirs own h mask is differ, all ∙ other_chosen mask [] (frames_in id h mask ++ Want id mask ∷ []) some)

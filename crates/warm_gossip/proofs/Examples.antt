@@ -1,10 +1,9 @@
 -- Worked rows: pieces of lists, wanted buckets, and what a frame teaches, computed.
-use Rattle.std.proofs.Common.{◌≡◌, ℕ, List, [], ◌∷◌, None, refl}
-use Rattle.warm_stamps.specs.declared.PageId.{PageId}
+use Rattle.std.proofs.Common.{◌≡◌, ℕ, [], ◌∷◌, None, refl}
 use Rattle.warm_stamps.specs.declared.Stamp.{Stamp}
 use Rattle.warm_history.specs.declared.hist.Entry.{Entry}
 use Rattle.warm_history.specs.declared.hist.PageHist.TheVariants.{Once, Twice}
-use Rattle.warm_history.specs.Histories.{history}
+use Rattle.warm_history.specs.Histories.{holding, history}
 use Rattle.warm_frames.specs.declared.frame.Frame.TheVariants.{Entries, Want}
 use Rattle.warm_gossip.specs.Answers.{buckets_in, frames_in, pieces, sent, taught}
 
@@ -32,20 +31,20 @@ abbrev once : ℕ → Stamp → Entry
 once n stamp = record { page = record { dev = 0; no = n }; hist = Once stamp }
 
 -- two pages of two buckets, which a replica sends in two frames; bucket 3 is empty, and gives none
-two_frames : frames_in 1 (once 1 (at 10 1) ∷ once 2 (at 11 2) ∷ []) 14 ≡ Entries 1 (once 1 (at 10 1) ∷ []) ∷ Entries 1 (once 2 (at 11 2) ∷ []) ∷ []
+two_frames : frames_in 1 (holding (once 1 (at 10 1) ∷ once 2 (at 11 2) ∷ [])) 14 ≡ Entries 1 (once 1 (at 10 1) ∷ []) ∷ Entries 1 (once 2 (at 11 2) ∷ []) ∷ []
 unfolding buckets_in
 two_frames = refl
 
 -- an empty bucket that is asked for by itself is sent as a frame without entries
-empty_sent : sent 1 (once 1 (at 10 1) ∷ []) 2 None ≡ Entries 1 []
+empty_sent : sent 1 (holding (once 1 (at 10 1) ∷ [])) 2 None ≡ Entries 1 []
 unfolding history
 empty_sent = refl
 
 -- entries are joined, and do not take the place of what is known
-joined : taught (once 1 (at 20 1) ∷ []) (Entries 2 (once 1 (at 30 2) ∷ [])) ≡ (let e : Entry = record { page = record { dev = 0; no = 1 }; hist = Twice (record { last = at 30 2; prev = at 20 1 }) } in e) ∷ []
+joined : taught (holding (once 1 (at 20 1) ∷ [])) (Entries 2 (once 1 (at 30 2) ∷ [])) ≡ holding ((let e : Entry = record { page = record { dev = 0; no = 1 }; hist = Twice (record { last = at 30 2; prev = at 20 1 }) } in e) ∷ [])
 unfolding history
 joined = refl
 
 -- a wish teaches nothing
-nothing_taught : taught (once 1 (at 20 1) ∷ []) (Want 2 6) ≡ once 1 (at 20 1) ∷ []
+nothing_taught : taught (holding (once 1 (at 20 1) ∷ [])) (Want 2 6) ≡ holding (once 1 (at 20 1) ∷ [])
 nothing_taught = refl

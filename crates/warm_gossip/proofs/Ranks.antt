@@ -9,7 +9,8 @@ use Rattle.warm_stamps.specs.Distinct.{distinct}
 use Rattle.warm_stamps.proofs.DistinctLemmas.{by_cases}
 use Rattle.warm_stamps.proofs.StampLemmas.{page_order}
 use Rattle.warm_history.specs.declared.hist.Entry.{Entry}
-use Rattle.warm_history.specs.Histories.{first_two, hist, history, entry_refs, refs}
+use Rattle.warm_history.specs.ReferenceSets.{these, ◌∪◌}
+use Rattle.warm_history.specs.Histories.{HistoryView, holding, first_two, hist, history, entry_refs, refs}
 use Rattle.warm_history.proofs.HistoryLemmas.{told, told-append, told_entry, hist_refs-history}
 use Rattle.warm_pool.specs.Calls.{AgreeOutside}
 
@@ -40,16 +41,16 @@ hist_as_before S T p none =
     ∙ ap (λ ss. first_two (distinct (flip_args stamp_cmp) ss)) (told-append S T p ∙ ap (λ ss. told S p ++ ss) none ∙ append_nil (told S p)))
 
 -- a history that takes references in agrees with itself outside their pages
-pub absorbed_agrees : (h : List Entry) (batch : List Reference) → AgreeOutside (map (λ r. r.page) batch) h (history (refs h ++ batch))
+pub absorbed_agrees : (h : HistoryView) (batch : List Reference) → AgreeOutside (map (λ r. r.page) batch) h (history (refs h ∪ these batch))
 absorbed_agrees h batch p unnamed = hist_as_before (refs h) batch p (untold batch p unnamed)
 
 -- and one that takes entries in, outside the pages of these
-pub joined_agrees : (h es : List Entry) → AgreeOutside (map (λ e. e.page) es) h (history (refs h ++ refs es))
+pub joined_agrees : (h : HistoryView) (es : List Entry) → AgreeOutside (map (λ e. e.page) es) h (history (refs h ∪ refs (holding es)))
 joined_agrees h es p unnamed = hist_as_before (refs h) (refs es) p (untold_entries es p unnamed)
 
 -- the same of pages and a history that are known to be these
-pub absorbed_agrees_as : (h : List Entry) (batch : List Reference) (ps : List PageId) (g : List Entry) → ps ≡ map (λ r. r.page) batch → g ≡ history (refs h ++ batch) → AgreeOutside ps h g
+pub absorbed_agrees_as : (h : HistoryView) (batch : List Reference) (ps : List PageId) (g : HistoryView) → ps ≡ map (λ r. r.page) batch → g ≡ history (refs h ∪ these batch) → AgreeOutside ps h g
 absorbed_agrees_as h batch ps g is becomes = subst (λ qs. AgreeOutside qs h g) (sym is) (subst (λ k. AgreeOutside (map (λ r. r.page) batch) h k) (sym becomes) (absorbed_agrees h batch))
 
-pub joined_agrees_as : (h es : List Entry) (ps : List PageId) (g : List Entry) → ps ≡ map (λ e. e.page) es → g ≡ history (refs h ++ refs es) → AgreeOutside ps h g
+pub joined_agrees_as : (h : HistoryView) (es : List Entry) (ps : List PageId) (g : HistoryView) → ps ≡ map (λ e. e.page) es → g ≡ history (refs h ∪ refs (holding es)) → AgreeOutside ps h g
 joined_agrees_as h es ps g is becomes = subst (λ qs. AgreeOutside qs h g) (sym is) (subst (λ k. AgreeOutside (map (λ e. e.page) es) h k) (sym becomes) (joined_agrees h es))

@@ -3,8 +3,8 @@ use Rattle.std.specs.Prelude.{◌≡◌, ◌≢◌, ◌↔◌, ℕ, zero, suc, �
 use Rattle.std.specs.List.{flat_map, range_with_len}
 use Rattle.std.specs.Int.{bit_at}
 use Rattle.warm_stamps.specs.declared.PageId.{PageId}
-use Rattle.warm_history.specs.declared.hist.Entry.{Entry}
-use Rattle.warm_history.specs.Histories.{history, refs}
+use Rattle.warm_history.specs.ReferenceSets.{◌∪◌}
+use Rattle.warm_history.specs.Histories.{HistoryView, entries_of, holding, history, refs}
 use Rattle.warm_history.specs.Carried.{carried}
 use Rattle.warm_frames.specs.declared.frame.Frame.{Frame}
 use Rattle.warm_frames.specs.declared.frame.Frame.TheVariants.{Entries, Digest, Want}
@@ -21,34 +21,34 @@ abbrev pub pieces : {A : Type 0} → ℕ → List A → List (List A)
 pieces size xs = pieces_of size (length xs) xs
 
 -- a bucket of the history in frames of up to 1000 entries; none where it is empty
-abbrev pub bucket_frames : ℕ → List Entry → ℕ → List Frame
-bucket_frames id h bucket = map (λ es. Entries id es) (pieces 1000 (bucket_entries bucket h))
+abbrev pub bucket_frames : ℕ → HistoryView → ℕ → List Frame
+bucket_frames id h bucket = map (λ es. Entries id es) (pieces 1000 (bucket_entries bucket (entries_of h)))
 
 -- the buckets whose bit is set, in rising order
 unfoldable pub buckets_in : ℕ → List ℕ
 buckets_in mask = filter (λ bucket. bit_at mask bucket == 1) (range_with_len 0 64)
 
 -- these buckets of the history, in frames
-abbrev pub frames_in : ℕ → List Entry → ℕ → List Frame
+abbrev pub frames_in : ℕ → HistoryView → ℕ → List Frame
 frames_in id h mask = flat_map (bucket_frames id h) (buckets_in mask)
 
 -- the bits of the buckets of which the history has other sums
-abbrev pub IsDiffering : List (List ℕ) → List Entry → ℕ → Type 0
-IsDiffering sums h mask = (bucket : ℕ) → bucket < 64 → (bit_at mask bucket ≡ 1) ↔ (sum_at sums bucket ≢ sum_at (sums_of h) bucket)
+abbrev pub IsDiffering : List (List ℕ) → HistoryView → ℕ → Type 0
+IsDiffering sums h mask = (bucket : ℕ) → bucket < 64 → (bit_at mask bucket ≡ 1) ↔ (sum_at sums bucket ≢ sum_at (sums_of (entries_of h)) bucket)
 
 -- What a replica of this id and history answers to a frame: nothing to entries; to a wish its entries of these buckets; to sums its
 -- entries of the buckets that differ, and then a wish for these, or nothing where none differs.
-abbrev pub IsAnswer : ℕ → List Entry → Frame → List Frame → Type 0
+abbrev pub IsAnswer : ℕ → HistoryView → Frame → List Frame → Type 0
 IsAnswer id h (Entries sender entries) frames = frames ≡ []
 IsAnswer id h (Want sender mask) frames = frames ≡ frames_in id h mask
 IsAnswer id h (Digest sender sums) frames = (mask : ℕ) × (mask < 18446744073709551616) × IsDiffering sums h mask × (frames ≡ if mask == 0 then [] else frames_in id h mask ++ Want id mask ∷ [])
 
 -- the history after a frame was taken
-abbrev pub taught : List Entry → Frame → List Entry
-taught h (Entries sender entries) = history (refs h ++ refs entries)
+abbrev pub taught : HistoryView → Frame → HistoryView
+taught h (Entries sender entries) = history (refs h ∪ refs (holding entries))
 taught h (Digest sender sums) = h
 taught h (Want sender mask) = h
 
 -- the frame of the first 1000 entries of the bucket whose page comes after the one given
-abbrev pub sent : ℕ → List Entry → ℕ → Option PageId → Frame
-sent id h bucket after = Entries id (history (carried (refs h) bucket after 1000))
+abbrev pub sent : ℕ → HistoryView → ℕ → Option PageId → Frame
+sent id h bucket after = Entries id (entries_of (history (carried (refs h) bucket after 1000)))

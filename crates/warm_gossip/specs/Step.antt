@@ -1,8 +1,8 @@
 -- A node as plain data, and what each call does to it.
-use Rattle.std.specs.Prelude.{◌≡◌, ◌⊎◌, ℕ, ◌+◌, ◌<◌, ◌≤◌, List, [], ◌++◌, length, Option, Some, None, slice_index_or}
+use Rattle.std.specs.Prelude.{◌≡◌, ◌⊎◌, ℕ, ◌+◌, ◌<◌, ◌≤◌, List, [], length, Option, Some, None, slice_index_or}
 use Rattle.warm_stamps.specs.declared.PageId.{PageId}
-use Rattle.warm_history.specs.declared.hist.Entry.{Entry}
-use Rattle.warm_history.specs.Histories.{history, refs}
+use Rattle.warm_history.specs.ReferenceSets.{these, ◌∪◌}
+use Rattle.warm_history.specs.Histories.{HistoryView, entries_of, holding, history, refs}
 use Rattle.warm_rank.specs.Ranking.{IsVictim, warm}
 use Rattle.warm_frames.specs.declared.frame.Frame.TheVariants.{Digest}
 use Rattle.warm_digest.specs.BucketSums.{sums_of}
@@ -22,7 +22,7 @@ use Rattle.warm_gossip.specs.Answers.{IsAnswer, taught, sent}
 -- who the replica is, what its history holds, and what its pool shows
 pub record NodeState : Type 0 where
   pub id : ℕ
-  pub history : List Entry
+  pub history : HistoryView
   pub pool : PoolView
 
 -- the pool alone may have changed, and has in this way
@@ -95,9 +95,9 @@ Refuses old call said new = (said ≡ Memory) × (new ≡ old)
 -- From old the call may be answered so, and lead to new.
 abbrev pub Step : NodeState → Call → Reply → NodeState → Type 0
 Step old call (Refused said) new = Refuses old call said new
-Step old (Absorb batch) Done new = new ≡ record old { history = history (refs old.history ++ batch) }
+Step old (Absorb batch) Done new = new ≡ record old { history = history (refs old.history ∪ these batch) }
 Step old (Send bucket after) (Sent frame) new = (frame ≡ sent old.id old.history bucket after) × (new ≡ old)
-Step old Offer (Sent frame) new = (frame ≡ Digest old.id (sums_of old.history)) × (new ≡ old)
+Step old Offer (Sent frame) new = (frame ≡ Digest old.id (sums_of (entries_of old.history))) × (new ≡ old)
 Step old (Receive frame) (Answers frames) new = IsAnswer old.id old.history frame frames × (new ≡ record old { history = taught old.history frame })
 Step old (Pin p) (Pinned slot) new = OnPool (λ v w. PinnedIn old.history v p slot w) old new
 Step old (Unpin slot) Done new = Holds old.pool slot × (new ≡ record old { pool = unpinned old.pool slot })
@@ -107,5 +107,5 @@ Step old Victim (Page victim) new = IsVictim (refs old.history) (unfixed_pages o
 Step old (WarmList n) (Pages pages) new = (pages ≡ warm (refs old.history) n) × (new ≡ old)
 Step old WarmStep (Loaded None) new = IsNextWarm old None × (new ≡ old)
 Step old WarmStep (Loaded (Some p)) new = IsNextWarm old (Some p) × OnPool (λ v w. (slot : Slot) × PutsIn old.history v p 0 slot w) old new
-Step old Restart Done new = (new ≡ record old { history = []; pool = new.pool }) × Emptied old.pool new.pool
+Step old Restart Done new = (new ≡ record old { history = holding []; pool = new.pool }) × Emptied old.pool new.pool
 Step old call reply new = ⊥

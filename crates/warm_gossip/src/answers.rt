@@ -2,17 +2,14 @@
 ghost use Rattle.std.specs.Prelude.{◌≡◌, ◌≤◌, ℕ, List, [], ◌∷◌, ◌++◌, length, IfOk, OnOk};
 ghost use Rattle.std.specs.List.{All, flat_map};
 ghost use Rattle.warm_history.specs.declared.hist.Entry.{Entry};
-ghost use Rattle.warm_history.specs.Histories.{PagesRise};
+ghost use Rattle.warm_history.specs.Histories.{PagesRise, entries_of};
 ghost use Rattle.warm_gossip.specs.Answers.{frames_in, IsAnswer};
 ghost use Rattle.warm_gossip.specs.Gathering.{HaveGathered, in_frames};
 
 use std::alloc::{AllocError, Global};
 use warm_digest::differing;
-use warm_frames::entries::{EntryList, MOST};
-use warm_frames::frame::Frame;
-use warm_frames::sums::SumTable;
-use warm_history::hist::Entry;
-use warm_history::history::History;
+use warm_frames::{EntryList, Frame, MAX_ENTRIES, SumTable};
+use warm_history::{Entry, History};
 use warm_stamps::{ReplicaId, bucket_of};
 
 const BUCKETS: usize = 64;
@@ -47,7 +44,7 @@ fn take_into(lists: &mut Vec<Vec<Entry>>, mask: u64, entry: Entry) -> Result<(),
 
 // The entries of the wanted buckets, each bucket's in a list of its own.
 fn gathered(alloc: Global, history: &History, mask: u64) -> Result<Vec<Vec<Entry>>, AllocError>
-    ensures { IfOk result (λ lists. HaveGathered mask lists.items history.now) }
+    ensures { IfOk result (λ lists. HaveGathered mask lists.items (entries_of history.now)) }
 {
     let mut lists = new_lists(alloc)?;
     for entry in history.iter() {
@@ -84,7 +81,7 @@ fn push_frames(
 {
     let mut rest = entries;
     while !rest.is_empty() {
-        let (part, later) = rest.split_at(MOST.min(rest.len()));
+        let (part, later) = rest.split_at(MAX_ENTRIES.min(rest.len()));
         let frame = frame_of(alloc, id, part)?;
         frames.push(frame)?;
         rest = later;

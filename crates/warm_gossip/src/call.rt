@@ -1,16 +1,14 @@
 //! The calls of a node and its replies.
 use crate::fault::NodeFault;
-use crate::items::Items;
-use warm_frames::frame::Frame;
+use warm_frames::{Frame, FrameList};
 use warm_pool::Slot;
-use warm_rank::PageList;
-use warm_stamps::{Bucket, PageId, Reference};
+use warm_stamps::{Bucket, ByteList, PageId, PageList, RefList};
 
 /// What a node may be asked.
 #[derive(Drop)]
 pub enum Call {
     /// Take these references into the history.
-    Absorb(Items<Reference>),
+    Absorb(RefList),
     /// Give the first 1000 entries of a bucket, of those whose page is greater than `after`.
     Send {
         /// The bucket.
@@ -42,7 +40,7 @@ pub enum Call {
         /// The first byte.
         at: usize,
         /// The bytes.
-        bytes: Items<u8>,
+        bytes: ByteList,
     },
     /// Name the page that would leave the pool next.
     Victim,
@@ -62,11 +60,11 @@ pub enum Reply {
     /// The frame that was asked for.
     Sent(Frame),
     /// The frames that answer the one received, in their order.
-    Answers(Items<Frame>),
+    Answers(FrameList),
     /// Where the page is that was fixed.
     Pinned(Slot),
     /// The bytes that were asked for.
-    Bytes(Items<u8>),
+    Bytes(ByteList),
     /// The page that would leave, if there is one.
     Page(Option<PageId>),
     /// The hottest pages, hottest first.

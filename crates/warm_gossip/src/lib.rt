@@ -2,12 +2,15 @@
 #![tactic(auto)]
 
 mod answers;
-pub mod call;
-pub mod fault;
-pub mod items;
-pub mod node;
+mod call;
+mod fault;
+mod node;
 mod pages;
 #[cfg(test)]
 mod tests;
 mod told;
 mod warming;
+
+pub use call::{Call, Reply};
+pub use fault::NodeFault;
+pub use node::{Node, Shown};

@@ -1,5 +1,6 @@
 //! The node.
 ghost use Rattle.std.specs.Prelude.{◌≡◌, ℕ, [], None, IfErr, IfOk, OnOk};
+ghost use Rattle.warm_history.specs.Histories.{holding};
 ghost use Rattle.warm_pool.specs.State.{PoolState, IsPool, IsSettled};
 ghost use Rattle.warm_pool.specs.View.{frame_at};
 ghost use Rattle.warm_gossip.specs.declared.call.Call.TheVariants.{Restart};
@@ -11,7 +12,7 @@ use crate::fault::NodeFault;
 use std::alloc::Global;
 use std::marker::PhantomData;
 use warm_devices::PageDevice;
-use warm_history::history::History;
+use warm_history::History;
 use warm_pool::{Pool, Pooled};
 use warm_stamps::ReplicaId;
 
@@ -58,7 +59,7 @@ impl Node {
         requires pool { IsPool (⟦<Pool as Pooled>⟧.state pool) }
         requires empty { (i : ℕ) → (frame_at (⟦<Pool as Pooled>⟧.shown pool) i).page ≡ None }
         ensures fit { ⟦<Node as Shown>⟧.is_fit result }
-        ensures opened { ⟦<Node as Shown>⟧.state result ≡ record { id = id; history = []; pool = ⟦<Pool as Pooled>⟧.shown pool } }
+        ensures opened { ⟦<Node as Shown>⟧.state result ≡ record { id = id; history = holding []; pool = ⟦<Pool as Pooled>⟧.shown pool } }
         ensures stored { ⟦<Node as Shown>⟧.stored result ≡ ⟦<Pool as Pooled>⟧.state pool }
     {
         Node {

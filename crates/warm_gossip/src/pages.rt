@@ -9,11 +9,10 @@ ghost use Rattle.warm_gossip.specs.declared.call.Reply.TheVariants.{Done, Pinned
 ghost use Rattle.warm_gossip.specs.Step.{IsWithin, OnPool, Refuses, Step};
 
 use crate::fault::{NodeFault, fault_of};
-use crate::items::Items;
 use crate::node::{Node, Shown};
-use warm_history::history::History;
+use warm_history::History;
 use warm_pool::Slot;
-use warm_stamps::PageId;
+use warm_stamps::{ByteList, PageId};
 
 impl Node {
     /// Gives a page a fix, and puts it into a frame where it is in none.
@@ -44,7 +43,7 @@ impl Node {
     }
 
     /// Bytes of the slot's page.
-    pub(crate) fn read(&self, slot: Slot, at: usize, len: usize) -> Result<Items<u8>, NodeFault>
+    pub(crate) fn read(&self, slot: Slot, at: usize, len: usize) -> Result<ByteList, NodeFault>
         requires fit { ⟦<Node as Shown>⟧.is_fit self.now }
         ensures bytes { IfOk result (λ bytes. Step (⟦<Node as Shown>⟧.state self.now) (Read slot at len) (Bytes bytes) (⟦<Node as Shown>⟧.state self.now)) }
         ensures refused { IfErr result (λ why. Refuses (⟦<Node as Shown>⟧.state self.now) (Read slot at len) why (⟦<Node as Shown>⟧.state self.now)) }
@@ -59,7 +58,7 @@ impl Node {
             return Err(NodeFault::Memory);
         };
         match self.pool.read(slot, at, &mut bytes) {
-            Ok(()) => Ok(Items::of(bytes)),
+            Ok(()) => Ok(ByteList::of(bytes)),
             Err(fault) => Err(fault_of(fault)),
         }
     }

@@ -4,16 +4,15 @@ ghost use Rattle.std.specs.Prelude.{IfOk};
 use crate::answers::frames_in;
 use crate::call::{Call, Reply};
 use crate::fault::NodeFault;
-use crate::items::Items;
 use crate::node::{Node, Shown};
 use std::alloc::Global;
 use std::process::Abort;
 use std::test::Fail;
 use warm_devices::{MemDevice, PageDevice};
-use warm_frames::frame::{Frame, encode};
-use warm_history::history::History;
+use warm_frames::{Frame, encode};
+use warm_history::History;
 use warm_pool::{Pool, Slot};
-use warm_stamps::{PageId, Reference, ReplicaId, Stamp};
+use warm_stamps::{ByteList, PageId, RefList, Reference, ReplicaId, Stamp};
 
 const fn page(no: u32) -> PageId {
     PageId { dev: 0, no }
@@ -65,7 +64,7 @@ fn told(
             stamp,
         })?;
     }
-    let is_done = match node.call(Call::Absorb(Items::of(batch))) {
+    let is_done = match node.call(Call::Absorb(RefList::of(batch))) {
         Reply::Done => true,
         _ => false,
     };
@@ -106,7 +105,7 @@ fn loaded(node: &mut Node) -> Result<Option<PageId>, NodeFault>
     }
 }
 
-fn bytes(node: &mut Node, slot: Slot, at: usize, len: usize) -> Result<Items<u8>, NodeFault>
+fn bytes(node: &mut Node, slot: Slot, at: usize, len: usize) -> Result<ByteList, NodeFault>
     requires { ⟦<Node as Shown>⟧.is_fit node.old }
     ensures { ⟦<Node as Shown>⟧.is_fit node.new }
 {
@@ -123,7 +122,7 @@ fn put(alloc: Global, node: &mut Node, slot: Slot, at: usize, text: &[u8]) -> Re
 {
     let mut bytes = Vec::new(alloc);
     bytes.extend_from_slice(text)?;
-    let bytes = Items::of(bytes);
+    let bytes = ByteList::of(bytes);
     match node.call(Call::Write { slot, at, bytes }) {
         Reply::Done => Ok(()),
         _ => Err("the bytes are written".into()),

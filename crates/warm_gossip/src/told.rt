@@ -1,22 +1,21 @@
 //! The calls on a node's history.
 ghost use Rattle.std.specs.Prelude.{◌≡◌, ◌++◌, IfErr, IfOk, OnOk, map};
 ghost use Rattle.warm_gossip.specs.declared.fault.NodeFault.TheVariants.{Memory};
-ghost use Rattle.warm_history.specs.Histories.{history, refs};
+ghost use Rattle.warm_history.specs.ReferenceSets.{◌∪◌};
+ghost use Rattle.warm_history.specs.Histories.{holding, history, refs};
 ghost use Rattle.warm_gossip.specs.declared.call.Call.TheVariants.{Absorb, Send, Offer, Receive, WarmList};
 ghost use Rattle.warm_gossip.specs.declared.call.Reply.TheVariants.{Done, Sent, Answers, Pages};
 ghost use Rattle.warm_gossip.specs.Step.{Refuses, Step};
 
 use crate::answers::{answer_to_sums, frames_in};
 use crate::fault::NodeFault;
-use crate::items::Items;
 use crate::node::{Node, Shown};
 use std::alloc::{AllocError, Global};
 use warm_digest::sums;
-use warm_frames::entries::{EntryList, MOST};
-use warm_frames::frame::Frame;
-use warm_history::hist::Entry;
-use warm_rank::{PageList, warm_list};
-use warm_stamps::{Bucket, PageId, Reference};
+use warm_frames::{EntryList, Frame, FrameList, MAX_ENTRIES};
+use warm_history::Entry;
+use warm_rank::warm_list;
+use warm_stamps::{Bucket, PageId, PageList, Reference};
 
 impl Node {
     /// Takes references into the history.
@@ -40,7 +39,7 @@ impl Node {
     pub(crate) fn learn(&mut self, entries: &[Entry]) -> Result<(), NodeFault>
         requires fit { ⟦<Node as Shown>⟧.is_fit self.old }
         ensures fit { ⟦<Node as Shown>⟧.is_fit self.new }
-        ensures learnt { OnOk result (⟦<Node as Shown>⟧.state self.new ≡ record (⟦<Node as Shown>⟧.state self.old) { history = history (refs (⟦<Node as Shown>⟧.state self.old).history ++ refs entries.now) }) }
+        ensures learnt { OnOk result (⟦<Node as Shown>⟧.state self.new ≡ record (⟦<Node as Shown>⟧.state self.old) { history = history (refs (⟦<Node as Shown>⟧.state self.old).history ∪ refs (holding entries.now)) }) }
         ensures refused { IfErr result (λ why. (why ≡ Memory) × (⟦<Node as Shown>⟧.state self.new ≡ ⟦<Node as Shown>⟧.state self.old)) }
     {
         let Ok(named) = pages_in(self.alloc, entries) else {
@@ -54,7 +53,7 @@ impl Node {
     }
 
     /// Takes what a frame says, and gives the frames that answer it.
-    pub(crate) fn receive(&mut self, frame: Frame) -> Result<Items<Frame>, NodeFault>
+    pub(crate) fn receive(&mut self, frame: Frame) -> Result<FrameList, NodeFault>
         requires fit { ⟦<Node as Shown>⟧.is_fit self.old }
         ensures fit { ⟦<Node as Shown>⟧.is_fit self.new }
         ensures answers { IfOk result (λ frames. Step (⟦<Node as Shown>⟧.state self.old) (Receive frame) (Answers frames) (⟦<Node as Shown>⟧.state self.new)) }
@@ -63,17 +62,17 @@ impl Node {
         match frame {
             Frame::Entries { entries, .. } => {
                 self.learn(entries.as_slice())?;
-                Ok(Items::of(Vec::new(self.alloc)))
+                Ok(FrameList::of(Vec::new(self.alloc)))
             }
             Frame::Digest { sums, .. } => {
                 match answer_to_sums(self.alloc, self.id, &self.history, &sums) {
-                    Ok(frames) => Ok(Items::of(frames)),
+                    Ok(frames) => Ok(FrameList::of(frames)),
                     Err(_) => Err(NodeFault::Memory),
                 }
             }
             Frame::Want { mask, .. } => {
                 match frames_in(self.alloc, self.id, &self.history, mask) {
-                    Ok(frames) => Ok(Items::of(frames)),
+                    Ok(frames) => Ok(FrameList::of(frames)),
                     Err(_) => Err(NodeFault::Memory),
                 }
             }
@@ -86,7 +85,7 @@ impl Node {
         ensures refused { IfErr result (λ why. why ≡ Memory) }
     {
         let _whole = self.history.len();
-        let Ok(entries) = self.history.entries(bucket, after, MOST) else {
+        let Ok(entries) = self.history.entries(bucket, after, MAX_ENTRIES) else {
             return Err(NodeFault::Memory);
         };
         let Ok(entries) = EntryList::of(entries) else {
@@ -119,7 +118,7 @@ impl Node {
     {
         let _whole = self.history.len();
         match warm_list(self.alloc, &self.history, n) {
-            Ok(pages) => Ok(PageList::from_vec(pages)),
+            Ok(pages) => Ok(PageList::of(pages)),
             Err(_) => Err(NodeFault::Memory),
         }
     }

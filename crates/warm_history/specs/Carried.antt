@@ -6,6 +6,7 @@ use Rattle.warm_stamps.specs.declared.PageId.{PageId}
 use Rattle.warm_stamps.specs.declared.Reference.{Reference}
 use Rattle.warm_stamps.specs.Buckets.{page_bucket}
 use Rattle.warm_stamps.specs.Stamps.{page_cmp}
+use Rattle.warm_history.specs.ReferenceSets.{ReferenceSet, those}
 use Rattle.warm_history.specs.Histories.{pages}
 
 -- the page p is greater than the one given, if one is
@@ -18,9 +19,9 @@ abbrev pub is_chosen : ℕ → Option PageId → PageId → Bool
 is_chosen bucket after p = (page_bucket p == bucket) && comes_after after p
 
 -- the first pages of S, at most limit, of those in the bucket that come after the one given
-abbrev pub pages_carried : List Reference → ℕ → Option PageId → ℕ → List PageId
+abbrev pub pages_carried : ReferenceSet → ℕ → Option PageId → ℕ → List PageId
 pages_carried S bucket after limit = take limit (filter (is_chosen bucket after) (pages S))
 
 -- the references of S to these pages
-abbrev pub carried : List Reference → ℕ → Option PageId → ℕ → List Reference
-carried S bucket after limit = filter (λ r. list_any (λ p. is_eq (page_cmp p r.page)) (pages_carried S bucket after limit)) S
+abbrev pub carried : ReferenceSet → ℕ → Option PageId → ℕ → ReferenceSet
+carried S bucket after limit = those (λ r. list_any (λ p. is_eq (page_cmp p r.page)) (pages_carried S bucket after limit)) S

@@ -1,3 +1,4 @@
+pub mod ReferenceSets
 pub mod Histories
 pub mod Carried
 pub mod Laws

@@ -1,7 +1,8 @@
 //! Histories, as vectors in page order.
 ghost use Rattle.std.specs.Prelude.{◌≡◌, ℕ, ◌+◌, ◌<◌, ◌≤◌, List, [], ◌∷◌, ◌++◌, length, OnOk, OnErr, IfOk, IfErr, filter, take, slice_get, vec_len, vec_capacity};
 ghost use Rattle.warm_stamps.specs.declared.Reference.{Reference};
-ghost use Rattle.warm_history.specs.Histories.{hist, refs, entry_refs, history, join, StandsFor, IsHistory};
+ghost use Rattle.warm_history.specs.ReferenceSets.{ReferenceSet, these, ◌∪◌};
+ghost use Rattle.warm_history.specs.Histories.{HistoryView, entries_of, holding, hist, refs, entry_refs, history, join, StandsFor, IsHistory};
 ghost use Rattle.warm_history.specs.Carried.{carried, is_chosen};
 ghost use Rattle.warm_history.specs.Places.{IsAt, IsGapFor};
 
@@ -24,22 +25,20 @@ pub struct History {
 }
 
 impl Model for History {
-    ghost use Rattle.std.specs.Prelude.{List};
-    ghost use Rattle.warm_history.specs.declared.hist.Entry.{Entry};
-    ghost use Rattle.warm_history.specs.Histories.{IsHistory};
+    ghost use Rattle.warm_history.specs.Histories.{HistoryView, holding, IsHistory};
 
-    ghost Value = { List Entry };
+    ghost Value = { HistoryView };
 
-    ghost view = { λ h. h.entries.items };
+    ghost view = { λ h. holding h.entries.items };
 
-    ghost invariant = { λ h. IsHistory h.entries.items };
+    ghost invariant = { λ h. IsHistory (holding h.entries.items) };
 }
 
 impl History {
     /// The history of no references. Takes no memory.
     pub fn new(alloc: Global) -> History
-        ensures empty { result ≡ [] }
-        ensures stands { StandsFor result [] }
+        ensures empty { result ≡ holding [] }
+        ensures stands { StandsFor result (these []) }
     {
         History {
             alloc,
@@ -49,7 +48,7 @@ impl History {
 
     /// How many pages have an entry. Takes no memory.
     pub fn len(&self) -> usize
-        ensures count { result ≡ length self.now }
+        ensures count { result ≡ length (entries_of self.now) }
         ensures whole { IsHistory self.now }
     {
         self.entries.len()
@@ -60,14 +59,14 @@ impl History {
     /// To go over all entries use [`History::iter`]: a look-up by place may cost more than one
     /// step.
     pub fn at(&self, i: usize) -> Option<Entry>
-        ensures { result ≡ slice_get self.now i }
+        ensures { result ≡ slice_get (entries_of self.now) i }
     {
         self.entries.get(i).copied()
     }
 
     /// The entries, in rising page order. Takes no memory.
     pub fn iter(&self) -> Entries<'_>
-        ensures { result ≡ self.now }
+        ensures { result ≡ entries_of self.now }
     {
         Entries {
             left: &self.entries,
@@ -76,7 +75,7 @@ impl History {
 
     /// The two latest stamps of a page, where it was referenced. Takes no memory.
     pub fn get(&self, page: PageId) -> Option<PageHist>
-        ensures { (S : List Reference) → StandsFor self.now S → result ≡ hist S page }
+        ensures { (S : ReferenceSet) → StandsFor self.now S → result ≡ hist S page }
     {
         match place(&self.entries, page) {
             Ok(i) => Some(self.entries[i].hist),
@@ -89,8 +88,8 @@ impl History {
     /// `AllocError` comes only where room for `batch.len()` entries more was refused, and changes
     /// nothing.
     pub fn absorb(&mut self, batch: &[Reference]) -> Result<(), AllocError>
-        ensures ok { OnOk result ((S : List Reference) → StandsFor self.old S → StandsFor self.new (S ++ batch.now)) }
-        ensures exact { OnOk result (self.new ≡ history (refs self.old ++ batch.now)) }
+        ensures ok { OnOk result ((S : ReferenceSet) → StandsFor self.old S → StandsFor self.new (S ∪ these batch.now)) }
+        ensures exact { OnOk result (self.new ≡ history (refs self.old ∪ these batch.now)) }
         ensures err { OnErr result (self.new ≡ self.old) }
     {
         self.entries.reserve(batch.len())?;
@@ -103,7 +102,7 @@ impl History {
     /// Both are gone over once. `AllocError` comes only where room for the entries of both was
     /// refused, and changes nothing.
     pub fn join(&mut self, other: &History) -> Result<(), AllocError>
-        ensures ok { OnOk result ((S : List Reference) → StandsFor self.old S → StandsFor self.new (S ++ refs other.now)) }
+        ensures ok { OnOk result ((S : ReferenceSet) → StandsFor self.old S → StandsFor self.new (S ∪ refs other.now)) }
         ensures exact { OnOk result (self.new ≡ join self.old other.now) }
         ensures err { OnErr result (self.new ≡ self.old) }
     {
@@ -117,8 +116,8 @@ impl History {
     /// only where room for the entries in order, or for those of both, was refused, and changes
     /// nothing.
     pub fn join_entries(&mut self, more: &[Entry]) -> Result<(), AllocError>
-        ensures ok { OnOk result ((S : List Reference) → StandsFor self.old S → StandsFor self.new (S ++ refs more.now)) }
-        ensures exact { OnOk result (self.new ≡ join self.old more.now) }
+        ensures ok { OnOk result ((S : ReferenceSet) → StandsFor self.old S → StandsFor self.new (S ∪ refs (holding more.now))) }
+        ensures exact { OnOk result (self.new ≡ join self.old (holding more.now)) }
         ensures err { OnErr result (self.new ≡ self.old) }
     {
         let more = gathered(self.alloc, more)?;
@@ -148,8 +147,8 @@ impl History {
         after: Option<PageId>,
         limit: usize,
     ) -> Result<Vec<Entry>, AllocError>
-        ensures carried { (S : List Reference) → StandsFor self.now S → IfOk result (λ es. es.items ≡ history (carried S bucket after limit)) }
-        ensures whole { IfOk result (λ es. IsHistory es.items) }
+        ensures carried { (S : ReferenceSet) → StandsFor self.now S → IfOk result (λ es. es.items ≡ entries_of (history (carried S bucket after limit))) }
+        ensures whole { IfOk result (λ es. IsHistory (holding es.items)) }
         ensures limited { IfOk result (λ es. length es.items ≤ limit) }
     {
         chosen(self.alloc, self.iter(), bucket, after, limit)
@@ -220,7 +219,7 @@ fn is_wanted(page: PageId, bucket: Bucket, after: Option<PageId>) -> bool
 
 // Where the page's entry is, or where it would go.
 fn place(entries: &[Entry], page: PageId) -> Result<usize, usize>
-    requires { IsHistory entries.now }
+    requires { IsHistory (holding entries.now) }
     ensures found { IfOk result (IsAt entries.now page) }
     ensures absent { IfErr result (IsGapFor entries.now page) }
 {
@@ -229,11 +228,11 @@ fn place(entries: &[Entry], page: PageId) -> Result<usize, usize>
 
 // Takes one entry into entries that have room for one more.
 fn record(entries: &mut Vec<Entry>, entry: Entry)
-    requires whole { IsHistory entries.old.items }
+    requires whole { IsHistory (holding entries.old.items) }
     requires room { vec_len entries.old < vec_capacity entries.old }
 
-    ensures told { (S : List Reference) → StandsFor entries.old.items S → StandsFor entries.new.items (S ++ entry_refs entry) }
-    ensures whole { IsHistory entries.new.items }
+    ensures told { (S : ReferenceSet) → StandsFor (holding entries.old.items) S → StandsFor (holding entries.new.items) (S ∪ these (entry_refs entry)) }
+    ensures whole { IsHistory (holding entries.new.items) }
     ensures room { vec_capacity entries.old ≤ vec_capacity entries.new }
     ensures one { vec_len entries.new ≤ vec_len entries.old + 1 }
 {
@@ -255,11 +254,11 @@ fn record(entries: &mut Vec<Entry>, entry: Entry)
 
 // Takes references into entries that have room for each of them.
 fn record_references(entries: &mut Vec<Entry>, batch: &[Reference])
-    requires whole { IsHistory entries.old.items }
+    requires whole { IsHistory (holding entries.old.items) }
     requires room { vec_len entries.old + length batch.now ≤ vec_capacity entries.old }
 
-    ensures told { (S : List Reference) → StandsFor entries.old.items S → StandsFor entries.new.items (S ++ batch.now) }
-    ensures whole { IsHistory entries.new.items }
+    ensures told { (S : ReferenceSet) → StandsFor (holding entries.old.items) S → StandsFor (holding entries.new.items) (S ∪ these batch.now) }
+    ensures whole { IsHistory (holding entries.new.items) }
 {
     for reference in batch {
         let entry = Entry {

@@ -1,7 +1,7 @@
 //! Histories: the two latest stamps of every page, and how they join.
 //!
 //! A buffer pool that replaces by LRU-2 (O'Neil, O'Neil, Weikum, SIGMOD 1993) needs, of every
-//! page, the last two references. A [`history::History`] keeps these two and drops the rest. What
+//! page, the last two references. A [`History`] keeps these two and drops the rest. What
 //! is proved of it is stated over the references themselves, kept in full as a list and read as a
 //! set: a history *stands for* a list of references where it is what `specs/Histories.antt` calls
 //! their `history`.
@@ -10,9 +10,11 @@
 //! repeated or came out of order on the way: [`laws`] says so.
 #![tactic(auto)]
 
-pub mod hist;
-pub mod history;
+mod hist;
+mod history;
 pub mod laws;
 mod merge;
 
+pub use hist::{Entry, PageHist, Two, join_hist};
+pub use history::{Entries, History};
 pub use merge::pages_rise;

@@ -1,6 +1,6 @@
 //! Joining sorted entries in one pass over both lists.
 ghost use Rattle.std.specs.Prelude.{◌≡◌, ℕ, ◌+◌, ◌<◌, ◌≤◌, ◌↔◌, List, IfOk, IsTrue};
-ghost use Rattle.warm_history.specs.Histories.{history, refs, join, PagesRise, IsHistory};
+ghost use Rattle.warm_history.specs.Histories.{entries_of, holding, history, refs, join, PagesRise, IsHistory};
 
 use crate::hist::{Entry, join_hist, join_known};
 use std::alloc::{AllocError, Global};
@@ -12,9 +12,9 @@ pub(crate) fn merged(
     here: &[Entry],
     there: &[Entry],
 ) -> Result<Vec<Entry>, AllocError>
-    requires here { IsHistory here.now }
-    requires there { IsHistory there.now }
-    ensures { IfOk result (λ both. both.items ≡ join here.now there.now) }
+    requires here { IsHistory (holding here.now) }
+    requires there { IsHistory (holding there.now) }
+    ensures { IfOk result (λ both. both.items ≡ entries_of (join (holding here.now) (holding there.now))) }
 {
     let mut both = Vec::with_capacity(alloc, here.len() + there.len())?;
     let (mut left, mut right) = (here, there);
@@ -48,7 +48,7 @@ pub(crate) fn merged(
 
 // Entries, in any order, as the history of what they hold.
 pub(crate) fn gathered(alloc: Global, entries: &[Entry]) -> Result<Vec<Entry>, AllocError>
-    ensures { IfOk result (λ all. all.items ≡ history (refs entries.now)) }
+    ensures { IfOk result (λ all. all.items ≡ entries_of (history (refs (holding entries.now)))) }
 {
     if pages_rise(entries) {
         return copied(alloc, entries);
@@ -79,7 +79,7 @@ pub fn pages_rise(entries: &[Entry]) -> bool
 // Entries whose pages rise, as the history of what they hold.
 fn copied(alloc: Global, entries: &[Entry]) -> Result<Vec<Entry>, AllocError>
     requires { PagesRise entries.now }
-    ensures { IfOk result (λ all. all.items ≡ history (refs entries.now)) }
+    ensures { IfOk result (λ all. all.items ≡ entries_of (history (refs (holding entries.now)))) }
 {
     let mut all = Vec::with_capacity(alloc, entries.len())?;
     for entry in entries {

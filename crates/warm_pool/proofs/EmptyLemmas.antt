@@ -5,8 +5,7 @@ use Rattle.std.proofs.lemmas.Bool.{cases_lt}
 use Rattle.std.proofs.lemmas.List.{length-map}
 use Rattle.std.proofs.Math.ListN.{get_or-map as mapped}
 use Rattle.warm_stamps.specs.declared.PageId.{PageId}
-use Rattle.warm_history.specs.declared.hist.Entry.{Entry}
-use Rattle.warm_history.specs.Histories.{hist, refs}
+use Rattle.warm_history.specs.Histories.{HistoryView, hist, refs}
 use Rattle.warm_rank.specs.Keys.{rank_key}
 use Rattle.warm_devices.specs.Device.{DeviceState, page_at}
 use Rattle.warm_pool.specs.Frames.{FrameState, FramesState, nth_frame, fresh_frame, vacated}
@@ -63,10 +62,10 @@ vacate_bare which f = elim (is_chosen which f.page) as (λ t. (IsTrue t → f.fi
   | false ↦ λ unfixed bare is. bare is
 ]
 
-abbrev IsRanked : List Entry → FrameState → Type 0
+abbrev IsRanked : HistoryView → FrameState → Type 0
 IsRanked h f = f.key ≡ option_map (λ p. rank_key p (hist (refs h) p)) f.page
 
-vacate_ranked : (which : Option ℕ) (f : FrameState) (h : List Entry) → IsRanked h f → IsRanked h (vacate_if which f)
+vacate_ranked : (which : Option ℕ) (f : FrameState) (h : HistoryView) → IsRanked h f → IsRanked h (vacate_if which f)
 vacate_ranked which f h is = elim (is_chosen which f.page) as (λ t. IsRanked h (cond t (vacated f) f)) [ true ↦ refl | false ↦ is ]
 
 vacate_fresh : (which : Option ℕ) → vacate_if which (fresh_frame []) ≡ fresh_frame []
@@ -108,13 +107,13 @@ vacated_pool which s unfixed w =
           (vacate_bare which (nth_frame s.frames i) (unfixed i) (w.bare i) (sym (ap (λ f. f.page) (nth_vacated which s.frames i)) ∙ is));
     }
 
-pub vacated_ranked : (which : Option ℕ) (frames : List FrameState) (h : List Entry) → ((i : ℕ) → IsRanked h (nth_frame frames i)) → (i : ℕ) → IsRanked h (nth_frame (vacated_from which 0 frames) i)
+pub vacated_ranked : (which : Option ℕ) (frames : List FrameState) (h : HistoryView) → ((i : ℕ) → IsRanked h (nth_frame frames i)) → (i : ℕ) → IsRanked h (nth_frame (vacated_from which 0 frames) i)
 vacated_ranked which frames h ranked i = subst (λ f. IsRanked h f) (sym (nth_vacated which frames i)) (vacate_ranked which (nth_frame frames i) h (ranked i))
 
-none_ranked : (frames : List FrameState) (h : List Entry) (i : ℕ) → IsRanked h (nth_frame (vacated_from None 0 frames) i)
+none_ranked : (frames : List FrameState) (h : HistoryView) (i : ℕ) → IsRanked h (nth_frame (vacated_from None 0 frames) i)
 none_ranked frames h i = subst (λ f. IsRanked h f) (sym (nth_vacated None frames i)) refl
 
-pub empty_ranked : (old new : FramesState) (h : List Entry) → new ≡ record old { frames = vacated_from None 0 old.frames } → (i : ℕ) → IsRanked h (nth_frame new.frames i)
+pub empty_ranked : (old new : FramesState) (h : HistoryView) → new ≡ record old { frames = vacated_from None 0 old.frames } → (i : ℕ) → IsRanked h (nth_frame new.frames i)
 empty_ranked old new h is i = subst (λ (f : FramesState). IsRanked h (nth_frame f.frames i)) (sym is) (none_ranked old.frames h i)
 
 -- An emptied pool, as a caller sees it

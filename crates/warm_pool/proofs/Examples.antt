@@ -2,7 +2,7 @@
 use Rattle.std.proofs.Common.{◌≡◌, ◌≢◌, ◌<◌, ℕ, zero, suc, Bool, true, false, List, [], ◌∷◌, refl, sym, Some, None, inl, inr, arith}
 use Rattle.std.specs.List.{Contains}
 use Rattle.warm_stamps.specs.declared.PageId.{PageId}
-use Rattle.warm_history.specs.Histories.{refs}
+use Rattle.warm_history.specs.Histories.{holding as alone, refs}
 use Rattle.warm_rank.specs.Ranking.{IsBefore}
 use Rattle.warm_devices.specs.Device.{DeviceState}
 use Rattle.warm_pool.specs.Frames.{FrameState, fresh_frame}
@@ -82,7 +82,7 @@ first_is_clean = refl
 -- ---- where a page goes that comes in
 
 -- into the first frame without a page, also where another page could leave
-first_free_place : IsPlace [] (view_of (two_frames true (holding 1 0 []) (fresh_frame []))) (Some 1)
+first_free_place : IsPlace (alone []) (view_of (two_frames true (holding 1 0 []) (fresh_frame []))) (Some 1)
 first_free_place = inl (record { there = omega arith; free = refl; least = first_is_held })
   where
     first_is_held : (j : ℕ) → j < 1 → (frame_at (view_of (two_frames true (holding 1 0 []) (fresh_frame []))) j).page ≢ None
@@ -96,20 +96,20 @@ both_held honest m n a b (suc zero) lt is = let no : Some (page 2) ≡ None = is
 both_held honest m n a b (suc (suc i)) lt is = absurd (omega arith)
 
 -- nowhere where both pages are fixed
-no_place : IsPlace [] (view_of (two_frames true (holding 1 1 []) (holding 2 3 []))) None
+no_place : IsPlace (alone []) (view_of (two_frames true (holding 1 1 []) (holding 2 3 []))) None
 no_place = (both_held true 1 3 [] [], refl)
 
 -- else into the frame of the victim, here the only page without a fix
-victims_place : IsPlace [] (seen true) (Some 1)
+victims_place : IsPlace (alone []) (seen true) (Some 1)
 victims_place = inr (record {
   there = omega arith;
   full = both_held true 1 0 (7 ∷ 8 ∷ []) (9 ∷ 9 ∷ []);
   page = page 2;
   holds = refl;
   unfixed = refl;
-  victim = ((0, omega arith, refl), alone);
+  victim = ((0, omega arith, refl), others);
 })
   where
-    alone : (q : PageId) → Contains (page 2 ∷ []) q → q ≢ page 2 → IsBefore (refs []) (page 2) q
-    alone q (zero, lt, is) differ = absurd (differ (sym is))
-    alone q (suc k, lt, is) differ = absurd (omega arith)
+    others : (q : PageId) → Contains (page 2 ∷ []) q → q ≢ page 2 → IsBefore (refs (alone [])) (page 2) q
+    others q (zero, lt, is) differ = absurd (differ (sym is))
+    others q (suc k, lt, is) differ = absurd (omega arith)

@@ -4,8 +4,7 @@ use Rattle.std.proofs.Math.Path.{ap₂}
 use Rattle.std.specs.Option.{option_map}
 use Rattle.std.proofs.lemmas.List.{length-set, length-map, map-set, get_or-set_same}
 use Rattle.warm_stamps.specs.declared.PageId.{PageId}
-use Rattle.warm_history.specs.declared.hist.Entry.{Entry}
-use Rattle.warm_history.specs.Histories.{hist, refs}
+use Rattle.warm_history.specs.Histories.{HistoryView, hist, refs}
 use Rattle.warm_rank.specs.Keys.{rank_key}
 use Rattle.warm_devices.specs.Device.{DeviceState, page_at}
 use Rattle.warm_pool.specs.declared.slot.Slot.{Slot}
@@ -75,7 +74,7 @@ alike_fits s i g h a w = record {
 }
 
 -- the ranks, where a frame changed to another that the history ranks as it says
-pub ranked_set : (s : PoolState) (i : ℕ) (g : FrameState) (h : List Entry) → i < length s.frames
+pub ranked_set : (s : PoolState) (i : ℕ) (g : FrameState) (h : HistoryView) → i < length s.frames
     → g.key ≡ option_map (λ p. rank_key p (hist (refs h) p)) g.page → RankedBy s h → RankedBy (record s { frames = set s.frames i g }) h
 ranked_set s i g h there e r =
     at_set (fresh_frame []) (λ k x. x.key ≡ option_map (λ p. rank_key p (hist (refs h) p)) x.page) s.frames i g there e (λ k ne. r k)
@@ -132,7 +131,7 @@ module _ (old new : FramesState) {spare : ℕ} {devices : List DeviceState} (w :
   step_pool = subst (λ x. IsPool (pool_from x spare devices)) (sym is)
       (set_keeps_pool (pool_from old spare devices) i g (alike_fits (pool_from old spare devices) i g there alike w) w)
 
-  pub step_ranked : g.key ≡ (nth_frame old.frames i).key → (h : List Entry) → RankedBy (pool_from old spare devices) h → RankedBy (pool_from new spare devices) h
+  pub step_ranked : g.key ≡ (nth_frame old.frames i).key → (h : HistoryView) → RankedBy (pool_from old spare devices) h → RankedBy (pool_from new spare devices) h
   step_ranked key h r = subst (λ x. RankedBy (pool_from x spare devices) h) (sym is)
       (ranked_set (pool_from old spare devices) i g h there (key ∙ r i ∙ ap (option_map (λ p. rank_key p (hist (refs h) p))) (sym alike.page)) r)
 

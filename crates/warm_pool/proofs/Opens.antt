@@ -4,8 +4,7 @@ use Rattle.std.proofs.Math.Path.{ap₂}
 use Rattle.std.specs.Option.{option_map}
 use Rattle.std.proofs.lemmas.List.{length-replicate, get_or-replicate}
 use Rattle.warm_stamps.specs.declared.PageId.{PageId}
-use Rattle.warm_history.specs.declared.hist.Entry.{Entry}
-use Rattle.warm_history.specs.Histories.{hist, refs}
+use Rattle.warm_history.specs.Histories.{HistoryView, hist, refs}
 use Rattle.warm_rank.specs.Keys.{rank_key}
 use Rattle.warm_devices.specs.Device.{DeviceState}
 use Rattle.warm_pool.specs.Frames.{FrameState, FramesState, nth_frame, fresh_frame}
@@ -57,6 +56,6 @@ module _ (frames : FramesState) (spare n size : ℕ) (ds : List DeviceState)
   pub opened_pool : IsUpTo 65536 n → IsSize size ds → length ds ≤ 65536 → IsPool (pool_from frames spare ds)
   opened_pool up sized few = subst IsPool (sym opened_state) (opened_is_pool n size ds up sized few)
 
-  pub opened_ranked : (h : List Entry) → RankedBy (pool_from frames spare ds) h
+  pub opened_ranked : (h : HistoryView) → RankedBy (pool_from frames spare ds) h
   opened_ranked h = subst (λ s. RankedBy s h) (sym opened_state)
       (λ i. let b = nth_bare n (replicate size 0) i in b.key ∙ ap (option_map (λ p. rank_key p (hist (refs h) p))) (sym b.page))

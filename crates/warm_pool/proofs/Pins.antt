@@ -3,8 +3,7 @@ use Rattle.std.proofs.Common.{◌≡◌, ℕ, ◌+◌, ◌-◌, ◌^◌, ◌<◌
 use Rattle.std.specs.Option.{option_map}
 use Rattle.std.proofs.lemmas.List.{map-set, get_or-set_same, length-set}
 use Rattle.warm_stamps.specs.declared.PageId.{PageId}
-use Rattle.warm_history.specs.declared.hist.Entry.{Entry}
-use Rattle.warm_history.specs.Histories.{hist, refs}
+use Rattle.warm_history.specs.Histories.{HistoryView, hist, refs}
 use Rattle.warm_rank.specs.declared.RankKey.{RankKey}
 use Rattle.warm_rank.specs.Keys.{rank_key}
 use Rattle.warm_pool.specs.declared.slot.Slot.{Slot}
@@ -24,7 +23,7 @@ pub stays_by : (old new : PoolView) (failures : List ℕ) → new ≡ record old
 stays_by old new failures e = e ∙ ap (λ (f : List ℕ). let v : PoolView = record old { failures = f } in v) (sym (ap (λ v. v.failures) e))
 
 -- a page that was not put into a frame
-pub put_refused : {s t : PoolState} → IsPool s → IsPool t → (h : List Entry) (i : ℕ) (p : PageId) → IsPlace h (view_of s) (Some i) → (nth_frame s.frames i).generation < 2 ^ 64 - 1
+pub put_refused : {s t : PoolState} → IsPool s → IsPool t → (h : HistoryView) (i : ℕ) (p : PageId) → IsPlace h (view_of s) (Some i) → (nth_frame s.frames i).generation < 2 ^ 64 - 1
     → (why : PoolFault) → LoadFails s i p why t → PutRefused h (view_of s) p why (view_of t)
 put_refused {s} {t} w v h i p place room ReadFault l =
     ((i, record { place = place; room = subst (λ f. f.generation < 2 ^ 64 - 1) (sym (frame_seen s i)) room }), l.1)
@@ -55,18 +54,18 @@ same_frames s t i p OutOfPage l = absurd l
 same_frames s t i p Fixed l = absurd l
 same_frames s t i p Fault l = absurd l
 
-pub failed_ranked : {s t : PoolState} → IsPool s → IsPool t → (i : ℕ) (p : PageId) (why : PoolFault) → LoadFails s i p why t → (h : List Entry) → RankedBy s h → RankedBy t h
+pub failed_ranked : {s t : PoolState} → IsPool s → IsPool t → (i : ℕ) (p : PageId) (why : PoolFault) → LoadFails s i p why t → (h : HistoryView) → RankedBy s h → RankedBy t h
 failed_ranked {s} {t} w v i p why l h r =
     subst (λ fs. (j : ℕ) → (nth_frame fs j).key ≡ option_map (λ q. rank_key q (hist (refs h) q)) (nth_frame fs j).page) (sym (same_frames s t i p why l)) r
 
 -- a page that was put into a frame
 pub loaded_ranked : {s t : PoolState} → IsPool s → IsPool t → (i : ℕ) (p : PageId) (key : RankKey) (n : ℕ) → LoadsInto s i p key n t → i < length s.frames
-    → (h : List Entry) → key ≡ rank_key p (hist (refs h) p) → RankedBy s h → RankedBy t h
+    → (h : HistoryView) → key ≡ rank_key p (hist (refs h) p) → RankedBy s h → RankedBy t h
 loaded_ranked {s} {t} w v i p key n l there h is r =
     subst (λ fs. (j : ℕ) → (nth_frame fs j).key ≡ option_map (λ q. rank_key q (hist (refs h) q)) (nth_frame fs j).page) (sym l.frames)
     (ranked_set s i (record { page = Some p; key = Some key; generation = (nth_frame s.frames i).generation + 1; fixes = n; dirty = false; bytes = l.bytes }) h there (ap Some is) r)
 
-pub loaded_puts : {s t : PoolState} → IsPool s → IsPool t → (i : ℕ) (p : PageId) (key : RankKey) (n : ℕ) → LoadsInto s i p key n t → (h : List Entry)
+pub loaded_puts : {s t : PoolState} → IsPool s → IsPool t → (i : ℕ) (p : PageId) (key : RankKey) (n : ℕ) → LoadsInto s i p key n t → (h : HistoryView)
     → IsNowhere s.frames p → IsPlace h (view_of s) (Some i) → (gen : ℕ) → gen ≡ (nth_frame s.frames i).generation → gen < 2 ^ 64 - 1
     → PutsIn h (view_of s) p n (record { index = i; generation = gen + 1 }) (view_of t)
 loaded_puts {s} {t} w v i p key n l h away place gen is room = record {
@@ -82,11 +81,11 @@ loaded_puts {s} {t} w v i p key n l h away place gen is room = record {
 }
 
 -- a page that came in with a fix is held
-placed_there : (h : List Entry) (v : PoolView) (i : ℕ) → IsPlace h v (Some i) → i < length v.frames
+placed_there : (h : HistoryView) (v : PoolView) (i : ℕ) → IsPlace h v (Some i) → i < length v.frames
 placed_there h v i (inl free) = free.there
 placed_there h v i (inr left) = left.there
 
-pub puts_holds : (h : List Entry) (old : PoolView) (p : PageId) (slot : Slot) (new : PoolView) → PutsIn h old p 1 slot new → Holds new slot
+pub puts_holds : (h : HistoryView) (old : PoolView) (p : PageId) (slot : Slot) (new : PoolView) → PutsIn h old p 1 slot new → Holds new slot
 puts_holds h old p slot new x =
     let there : slot.index < length old.frames = placed_there h old slot.index x.place in
     let frame : FrameView = record { page = Some p; generation = slot.generation; fixes = 1 } in
@@ -99,7 +98,7 @@ puts_holds h old p slot new x =
     }
 
 -- the refusals of a page that is in no frame
-pub load_refused : (h : List Entry) (old : PoolView) (p : PageId) (new : PoolView) → HasPage old p → IsAbsent old p → (why : PoolFault) → PutRefused h old p why new → LoadRefused h old p why new
+pub load_refused : (h : HistoryView) (old : PoolView) (p : PageId) (new : PoolView) → HasPage old p → IsAbsent old p → (why : PoolFault) → PutRefused h old p why new → LoadRefused h old p why new
 load_refused h old p new has away NoDevice x = absurd x
 load_refused h old p new has away NoPage x = absurd x
 load_refused h old p new has away Memory x = (has, away, x)
@@ -113,7 +112,7 @@ load_refused h old p new has away OutOfPage x = (has, away, x)
 load_refused h old p new has away Fixed x = (has, away, x)
 load_refused h old p new has away Fault x = (has, away, x)
 
-pub pin_refused : (h : List Entry) (old : PoolView) (p : PageId) (new : PoolView) (why : PoolFault) → LoadRefused h old p why new → PinRefused h old p why new
+pub pin_refused : (h : HistoryView) (old : PoolView) (p : PageId) (new : PoolView) (why : PoolFault) → LoadRefused h old p why new → PinRefused h old p why new
 pin_refused h old p new FixesFull x = inr x
 pin_refused h old p new NoDevice x = x
 pin_refused h old p new NoPage x = x
@@ -127,7 +126,7 @@ pin_refused h old p new OutOfPage x = x
 pin_refused h old p new Fixed x = x
 pin_refused h old p new Fault x = x
 
-pub put_stays : (h : List Entry) (old : PoolView) (p : PageId) (new : PoolView) (why : PoolFault) → PutRefused h old p why new → SameButFailures old new
+pub put_stays : (h : HistoryView) (old : PoolView) (p : PageId) (new : PoolView) (why : PoolFault) → PutRefused h old p why new → SameButFailures old new
 put_stays h old p new AllFixed x = stays_by old new old.failures x.1
 put_stays h old p new FixesFull x = stays_by old new old.failures x.1
 put_stays h old p new ReadFault x = stays_by old new _ x.1.becomes
@@ -142,7 +141,7 @@ put_stays h old p new Fixed x = absurd x
 put_stays h old p new Fault x = absurd x
 
 -- the outcome of a pin, from that of its last step
-module _ {s t : PoolState} (w : IsPool s) (v : IsPool t) (h : List Entry) (p : PageId) (has : HasPage (view_of s) p) where
+module _ {s t : PoolState} (w : IsPool s) (v : IsPool t) (h : HistoryView) (p : PageId) (has : HasPage (view_of s) p) where
   pub pin_adds : (r : Result Slot PoolFault) → IfOk r (λ slot. AddsFix (view_of s) p slot (view_of t)) → IfOk r (λ slot. Pinned h (view_of s) p slot (view_of t))
   pin_adds (Ok slot) x = (has, inl x)
   pin_adds (Err why) x = tt
@@ -172,7 +171,7 @@ module _ {s t : PoolState} (w : IsPool s) (v : IsPool t) (h : List Entry) (p : P
   stays_put (Err why) x = put_stays h (view_of s) p (view_of t) why x
 
 -- a page with as many fixes as can be
-pub pin_full : {s t : PoolState} → IsPool s → IsPool t → (h : List Entry) (p : PageId) (i : ℕ) → HasPage (view_of s) p → i < length s.frames → (nth_frame s.frames i).page ≡ Some p
+pub pin_full : {s t : PoolState} → IsPool s → IsPool t → (h : HistoryView) (p : PageId) (i : ℕ) → HasPage (view_of s) p → i < length s.frames → (nth_frame s.frames i).page ≡ Some p
     → (r : Result Slot PoolFault) → IfErr r (λ why. (why ≡ FixesFull) × ((nth_frame s.frames i).fixes ≡ 2 ^ 32 - 1) × (t ≡ s)) → IfErr r (λ why. PinRefused h (view_of s) p why (view_of t))
 pin_full {s} {t} w v h p i has there holds (Ok slot) x = tt
 pin_full {s} {t} w v h p i has there holds (Err why) x =

@@ -5,8 +5,7 @@ use Rattle.std.proofs.Math.ListN.{get_or-map as mapped}
 use Rattle.std.proofs.lemmas.Bool.{cases_eq, cases_lt, ne_eqb, eq-eqb}
 use Rattle.std.proofs.lemmas.List.{length-map, ext_get_or, get_or_past}
 use Rattle.warm_stamps.specs.declared.PageId.{PageId}
-use Rattle.warm_history.specs.declared.hist.Entry.{Entry}
-use Rattle.warm_history.specs.Histories.{hist, refs}
+use Rattle.warm_history.specs.Histories.{HistoryView, hist, refs}
 use Rattle.warm_rank.specs.declared.RankKey.{RankKey}
 use Rattle.warm_rank.specs.Keys.{rank_key, key_cmp}
 use Rattle.warm_rank.specs.Ranking.{IsVictim}
@@ -68,7 +67,7 @@ competing_nth : (frames : List FrameState) (i : ℕ) → get_or (competing frame
 competing_nth frames i =
     mapped unfixed_page (map frame_view frames) i (frame_view (fresh_frame [])) ∙ ap unfixed_page (mapped frame_view frames i (fresh_frame []))
 
-pub ranked_keys : {s : PoolState} → IsPool s → (h : List Entry) → RankedBy s h → map leaving_key s.frames ≡ keys_over (refs h) (competing s.frames)
+pub ranked_keys : {s : PoolState} → IsPool s → (h : HistoryView) → RankedBy s h → map leaving_key s.frames ≡ keys_over (refs h) (competing s.frames)
 ranked_keys {s} w h r =
     let rank : Option PageId → Option RankKey = option_map (λ p. rank_key p (hist (refs h) p)) in
     ext_get_or None (map leaving_key s.frames) (map rank (competing s.frames))
@@ -98,11 +97,11 @@ least_unfixed {s} w i l = elim (cases_eq (nth_frame s.frames i).fixes 0) [
 ]
 
 -- the page that leaves is the victim over what the history holds
-pub none_leaves : {s : PoolState} → IsPool s → (h : List Entry) → RankedBy s h → IsLeast key_cmp (map leaving_key s.frames) None
+pub none_leaves : {s : PoolState} → IsPool s → (h : HistoryView) → RankedBy s h → IsLeast key_cmp (map leaving_key s.frames) None
     → IsVictim (refs h) (unfixed_pages (view_of s)) None
 none_leaves {s} w h r l = least_key_is_victim (refs h) (competing s.frames) None (subst (λ keys. IsLeast key_cmp keys None) (ranked_keys w h r) l)
 
-pub one_leaves : {s : PoolState} → IsPool s → (h : List Entry) → RankedBy s h → (i : ℕ) → IsLeast key_cmp (map leaving_key s.frames) (Some i)
+pub one_leaves : {s : PoolState} → IsPool s → (h : HistoryView) → RankedBy s h → (i : ℕ) → IsLeast key_cmp (map leaving_key s.frames) (Some i)
     → IsVictim (refs h) (unfixed_pages (view_of s)) (nth_frame s.frames i).page
 one_leaves {s} w h r i l =
     subst (IsVictim (refs h) (unfixed_pages (view_of s)))
@@ -133,7 +132,7 @@ some_page None n = absurd (n refl)
 some_page (Some p) n = (p, refl)
 
 pub seen_place : {s : PoolState} → IsPool s → IsFull (view_of s) → (least : Option ℕ) → IsLeast key_cmp (map leaving_key s.frames) least
-    → (h : List Entry) → RankedBy s h → IsPlace h (view_of s) least
+    → (h : HistoryView) → RankedBy s h → IsPlace h (view_of s) least
 seen_place {s} w full None l h r = (full, none_leaves w h r l)
 seen_place {s} w full (Some i) l h r =
     let there : i < length (view_of s).frames = subst (λ m. i < m) (sym (length-map s.frames frame_view)) (least_there w i l) in

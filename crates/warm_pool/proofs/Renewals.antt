@@ -6,8 +6,7 @@ use Rattle.std.proofs.lemmas.Bool.{cases_eq}
 use Rattle.std.proofs.lemmas.Option.{same_Some}
 use Rattle.std.proofs.lemmas.List.{set-get_or}
 use Rattle.warm_stamps.specs.declared.PageId.{PageId}
-use Rattle.warm_history.specs.declared.hist.Entry.{Entry}
-use Rattle.warm_history.specs.Histories.{hist, refs}
+use Rattle.warm_history.specs.Histories.{HistoryView, hist, refs}
 use Rattle.warm_rank.specs.declared.RankKey.{RankKey}
 use Rattle.warm_rank.specs.Keys.{rank_key}
 use Rattle.warm_devices.specs.Device.{DeviceState}
@@ -49,7 +48,7 @@ pub renews_none : {s : PoolState} → IsPool s → (p : PageId) (key : RankKey) 
 renews_none {s} w p key away = record { pages = λ i. refl; here = λ i e. absurd (away i e); others = λ i n. refl }
 
 -- the first k of the pages were renewed
-pub record Renewed (s t : PoolState) (h : List Entry) (pages : List PageId) (k : ℕ) : Type 0 where
+pub record Renewed (s t : PoolState) (h : HistoryView) (pages : List PageId) (k : ℕ) : Type 0 where
   pub pool : IsPool t
   pub same : view_of t ≡ view_of s
   pub held : (i : ℕ) → (nth_frame t.frames i).page ≡ (nth_frame s.frames i).page
@@ -57,7 +56,7 @@ pub record Renewed (s t : PoolState) (h : List Entry) (pages : List PageId) (k :
       → ((nth_frame t.frames i).key ≡ Some (rank_key p (hist (refs h) p)))
       ⊎ (((nth_frame t.frames i).key ≡ (nth_frame s.frames i).key) × ((j : ℕ) → j < k → get_or pages j p ≢ p))
 
-pub none_renewed : {s : PoolState} → IsPool s → (h : List Entry) (pages : List PageId) → Renewed s s h pages 0
+pub none_renewed : {s : PoolState} → IsPool s → (h : HistoryView) (pages : List PageId) → Renewed s s h pages 0
 none_renewed {s} w h pages = record { pool = w; same = refl; held = λ i. refl; keys = λ i p e. inr (refl, λ j lt. absurd (omega arith)) }
 
 page_cases : (p q : PageId) → (p ≡ q) ⊎ (p ≢ q)
@@ -69,7 +68,7 @@ page_cases p q = elim (cases_eq p.dev q.dev) [
   | inr ne ↦ inr (λ e. ne (ap (λ r. r.dev) e))
 ]
 
-pub one_renewed : {s t u : PoolState} (h : List Entry) (pages : List PageId) (k : ℕ) (q : PageId) → Renewed s t h pages k → ((d : PageId) → get_or pages k d ≡ q) → IsPool u
+pub one_renewed : {s t u : PoolState} (h : HistoryView) (pages : List PageId) (k : ℕ) (q : PageId) → Renewed s t h pages k → ((d : PageId) → get_or pages k d ≡ q) → IsPool u
     → view_of u ≡ view_of t → Renews t q (rank_key q (hist (refs h) q)) u → Renewed s u h pages (k + 1)
 one_renewed {s} {t} {u} h pages k q r at w same n = record {
   pool = w;
@@ -93,8 +92,8 @@ one_renewed {s} {t} {u} h pages k q r at w same n = record {
 }
 
 -- after all of them the history ranks the pool
-pub all_renewed : {s t : PoolState} (h : List Entry) (pages : List PageId) (k : ℕ) → Renewed s t h pages k → length pages ≤ k
-    → (g : List Entry) → RankedBy s g → AgreeOutside pages g h → RankedBy t h
+pub all_renewed : {s t : PoolState} (h : HistoryView) (pages : List PageId) (k : ℕ) → Renewed s t h pages k → length pages ≤ k
+    → (g : HistoryView) → RankedBy s g → AgreeOutside pages g h → RankedBy t h
 all_renewed {s} {t} h pages k r all g ranked agree i = of_page (nth_frame s.frames i).page refl
   where
     of_page : (o : Option PageId) → (nth_frame s.frames i).page ≡ o → (nth_frame t.frames i).key ≡ option_map (λ p. rank_key p (hist (refs h) p)) (nth_frame t.frames i).page

@@ -5,7 +5,7 @@ use Rattle.std.proofs.lemmas.Bool.{cases_eq, cases_Bool, eqb-true, eq-eqb, false
 use Rattle.std.proofs.lemmas.List.{length-map, length-set, map-set, set-get_or}
 use Rattle.std.proofs.Math.ListN.{get_or-map as mapped}
 use Rattle.warm_stamps.specs.declared.PageId.{PageId}
-use Rattle.warm_history.specs.declared.hist.Entry.{Entry}
+use Rattle.warm_history.specs.Histories.{HistoryView}
 use Rattle.warm_devices.specs.Device.{DeviceState, SameShape, one_more, page_at}
 use Rattle.warm_pool.specs.Frames.{FrameState, FramesState, nth_frame, vacated}
 use Rattle.warm_pool.specs.State.{PoolState, IsPool, RankedBy, nth_device, no_device, stored, view_of, frame_view, device_view, is_page, bytes_in}
@@ -248,5 +248,5 @@ retire_view s t u dev size device w way same is =
     subst (λ x. Retired (view_of s) dev device (view_of x)) (sym is)
     (retired_view dev t device w (way_there s t dev size way) (sym same ∙ way.size ∙ sym way.down.same.0) (way_unfixed s t dev size way) s (down_view (Some dev) (length s.frames) s t way.down))
 
-pub retire_ranked : (t u : PoolState) (dev : ℕ) (device : DeviceState) (h : List Entry) → IsPool t → u ≡ retired t dev device → RankedBy t h → RankedBy u h
+pub retire_ranked : (t u : PoolState) (dev : ℕ) (device : DeviceState) (h : HistoryView) → IsPool t → u ≡ retired t dev device → RankedBy t h → RankedBy u h
 retire_ranked t u dev device h w is ranked = subst (λ x. RankedBy x h) (sym is) (vacated_ranked (Some dev) t.frames h ranked)

@@ -4,7 +4,7 @@ use Rattle.std.proofs.Math.ListN.{get_or-map as mapped}
 use Rattle.std.proofs.lemmas.Option.{same_Some}
 use Rattle.std.proofs.lemmas.List.{length-append, length-take, length-drop, length-map, map-set, set-get_or, get_or-set_same}
 use Rattle.warm_stamps.specs.declared.PageId.{PageId}
-use Rattle.warm_history.specs.declared.hist.Entry.{Entry}
+use Rattle.warm_history.specs.Histories.{HistoryView}
 use Rattle.warm_devices.specs.Device.{DeviceState}
 use Rattle.warm_pool.specs.declared.slot.Slot.{Slot}
 use Rattle.warm_pool.specs.Frames.{FrameState, FramesState, nth_frame, fresh_frame}
@@ -64,7 +64,7 @@ module _ (old new : FramesState) {spare : ℕ} {devices : List DeviceState} (w :
   pub write_pool : IsPool (pool_from new spare devices)
   write_pool = subst (λ x. IsPool (pool_from x spare devices)) (sym is) written_pool
 
-  pub write_ranked : (h : List Entry) → RankedBy (pool_from old spare devices) h → RankedBy (pool_from new spare devices) h
+  pub write_ranked : (h : HistoryView) → RankedBy (pool_from old spare devices) h → RankedBy (pool_from new spare devices) h
   write_ranked h r = subst (λ x. RankedBy (pool_from x spare devices) h) (sym is) (ranked_set (pool_from old spare devices) i (overwritten (nth_frame old.frames i) at put) h there (r i) r)
 
   same_frames : map frame_view (set old.frames i (overwritten (nth_frame old.frames i) at put)) ≡ map frame_view old.frames

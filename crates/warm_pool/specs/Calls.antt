@@ -1,8 +1,7 @@
 -- What the calls of a pool do, as a caller sees it.
 use Rattle.std.specs.Prelude.{◌≡◌, ◌≢◌, ◌⊎◌, ℕ, ◌+◌, ◌-◌, ◌^◌, ◌==◌, ◌<◌, ◌≤◌, Bool, true, false, IsTrue, List, [], ◌++◌, take, drop, map, length, Option, Some, None, set, if◌then◌else◌, Contains}
 use Rattle.warm_stamps.specs.declared.PageId.{PageId}
-use Rattle.warm_history.specs.declared.hist.Entry.{Entry}
-use Rattle.warm_history.specs.Histories.{hist, refs}
+use Rattle.warm_history.specs.Histories.{HistoryView, hist, refs}
 use Rattle.warm_devices.specs.Device.{DeviceState, one_more, page_at}
 use Rattle.warm_pool.specs.declared.slot.Slot.{Slot}
 use Rattle.warm_pool.specs.declared.fault.PoolFault.{PoolFault}
@@ -63,7 +62,7 @@ pub record StaysIn (old : PoolView) (p : PageId) (slot : Slot) (new : PoolView) 
   pub same : new ≡ old
 
 -- the page was in no frame, and was put into the slot's frame with so many fixes
-pub record PutsIn (h : List Entry) (old : PoolView) (p : PageId) (fixes : ℕ) (slot : Slot) (new : PoolView) : Type 0 where
+pub record PutsIn (h : HistoryView) (old : PoolView) (p : PageId) (fixes : ℕ) (slot : Slot) (new : PoolView) : Type 0 where
   pub absent : IsAbsent old p
   pub place : IsPlace h old (Some slot.index)
   pub room : (frame_at old slot.index).generation < 2 ^ 64 - 1
@@ -71,20 +70,20 @@ pub record PutsIn (h : List Entry) (old : PoolView) (p : PageId) (fixes : ℕ) (
   pub becomes : new ≡ record old { frames = set old.frames slot.index (record { page = Some p; generation = slot.generation; fixes = fixes }); contents = new.contents }
   pub contents : KeepsContents old new
 
-abbrev pub Pinned : List Entry → PoolView → PageId → Slot → PoolView → Type 0
+abbrev pub Pinned : HistoryView → PoolView → PageId → Slot → PoolView → Type 0
 Pinned h old p slot new = HasPage old p × (AddsFix old p slot new ⊎ PutsIn h old p 1 slot new)
 
-abbrev pub Loaded : List Entry → PoolView → PageId → Slot → PoolView → Type 0
+abbrev pub Loaded : HistoryView → PoolView → PageId → Slot → PoolView → Type 0
 Loaded h old p slot new = HasPage old p × (StaysIn old p slot new ⊎ PutsIn h old p 0 slot new)
 
 -- there is a frame for a page that comes in, with room for a generation more
-pub record HasRoom (h : List Entry) (old : PoolView) (i : ℕ) : Type 0 where
+pub record HasRoom (h : HistoryView) (old : PoolView) (i : ℕ) : Type 0 where
   pub place : IsPlace h old (Some i)
   pub room : (frame_at old i).generation < 2 ^ 64 - 1
 
 -- a page that is in no frame isn't put into one: all pages are fixed, the frame's generation is the last, the page wasn't read, or
 -- the page that would leave wasn't written
-abbrev pub PutRefused : List Entry → PoolView → PageId → PoolFault → PoolView → Type 0
+abbrev pub PutRefused : HistoryView → PoolView → PageId → PoolFault → PoolView → Type 0
 PutRefused h old p AllFixed new = IsPlace h old None × (new ≡ old)
 PutRefused h old p FixesFull new = ((i : ℕ) × IsPlace h old (Some i) × ((frame_at old i).generation ≡ 2 ^ 64 - 1)) × (new ≡ old)
 PutRefused h old p ReadFault new = ((i : ℕ) × HasRoom h old i) × FailsAt old p.dev new
@@ -98,12 +97,12 @@ pub record IsFixesFull (old : PoolView) (p : PageId) : Type 0 where
   pub resident : (frame_at old frame).page ≡ Some p
   pub full : (frame_at old frame).fixes ≡ 2 ^ 32 - 1
 
-abbrev pub LoadRefused : List Entry → PoolView → PageId → PoolFault → PoolView → Type 0
+abbrev pub LoadRefused : HistoryView → PoolView → PageId → PoolFault → PoolView → Type 0
 LoadRefused h old p NoDevice new = (length old.devices ≤ p.dev) × (new ≡ old)
 LoadRefused h old p NoPage new = (p.dev < length old.devices) × ((device_at old p.dev).pages ≤ p.no) × (new ≡ old)
 LoadRefused h old p why new = HasPage old p × IsAbsent old p × PutRefused h old p why new
 
-abbrev pub PinRefused : List Entry → PoolView → PageId → PoolFault → PoolView → Type 0
+abbrev pub PinRefused : HistoryView → PoolView → PageId → PoolFault → PoolView → Type 0
 PinRefused h old p FixesFull new = (HasPage old p × IsFixesFull old p × (new ≡ old)) ⊎ LoadRefused h old p FixesFull new
 PinRefused h old p why new = LoadRefused h old p why new
 
@@ -136,7 +135,7 @@ pub record Written (old : PoolView) (slot : Slot) (at : ℕ) (put : List ℕ) (n
 -- Ranks
 
 -- both histories say the same of each page but these
-abbrev pub AgreeOutside : List PageId → List Entry → List Entry → Type 0
+abbrev pub AgreeOutside : List PageId → HistoryView → HistoryView → Type 0
 AgreeOutside pages g h = (p : PageId) → (Contains pages p → ⊥) → hist (refs g) p ≡ hist (refs h) p
 
 -- Writing back and emptying

@@ -3,8 +3,7 @@ use Rattle.std.specs.Prelude.{◌≡◌, ◌≢◌, ℕ, ◌<◌, ◌≤◌, ◌
 use Rattle.std.specs.List.{range_with_len}
 use Rattle.std.specs.Option.{option_map}
 use Rattle.warm_stamps.specs.declared.PageId.{PageId}
-use Rattle.warm_history.specs.declared.hist.Entry.{Entry}
-use Rattle.warm_history.specs.Histories.{hist, refs}
+use Rattle.warm_history.specs.Histories.{HistoryView, hist, refs}
 use Rattle.warm_rank.specs.Keys.{rank_key}
 use Rattle.warm_devices.specs.Device.{DeviceState, page_at}
 use Rattle.warm_pool.specs.Frames.{FrameState, FramesState, nth_frame, fresh_frame}
@@ -57,7 +56,7 @@ pub record IsPool (s : PoolState) : Type 0 where
       → ((nth_frame s.frames i).key ≡ None) × ((nth_frame s.frames i).fixes ≡ 0) × ((nth_frame s.frames i).dirty ≡ false)
 
 -- the rank of each resident page is that over what the history holds
-abbrev pub RankedBy : PoolState → List Entry → Type 0
+abbrev pub RankedBy : PoolState → HistoryView → Type 0
 RankedBy s h = (i : ℕ) → (nth_frame s.frames i).key ≡ option_map (λ p. rank_key p (hist (refs h) p)) (nth_frame s.frames i).page
 
 -- every page is on its device as it is in its frame, and no device has anything left to put down

@@ -1,8 +1,7 @@
 -- What a caller sees of a buffer pool.
 use Rattle.std.specs.Prelude.{◌≡◌, ◌≢◌, ◌⊎◌, ℕ, ◌==◌, ◌<◌, Bool, false, List, [], map, length, Option, Some, None, slice_index_or, if◌then◌else◌}
 use Rattle.warm_stamps.specs.declared.PageId.{PageId}
-use Rattle.warm_history.specs.declared.hist.Entry.{Entry}
-use Rattle.warm_history.specs.Histories.{refs}
+use Rattle.warm_history.specs.Histories.{HistoryView, refs}
 use Rattle.warm_rank.specs.Ranking.{IsVictim}
 use Rattle.warm_rank.specs.Laws.{pages_in}
 use Rattle.warm_pool.specs.declared.slot.Slot.{Slot}
@@ -78,7 +77,7 @@ abbrev pub IsFull : PoolView → Type 0
 IsFull v = (i : ℕ) → i < length v.frames → (frame_at v i).page ≢ None
 
 -- every frame has a page, and that of this one is the victim, over what the history holds, among those without a fix
-pub record IsVictimFrame (h : List Entry) (v : PoolView) (i : ℕ) : Type 0 where
+pub record IsVictimFrame (h : HistoryView) (v : PoolView) (i : ℕ) : Type 0 where
   pub there : i < length v.frames
   pub full : IsFull v
   pub page : PageId
@@ -87,6 +86,6 @@ pub record IsVictimFrame (h : List Entry) (v : PoolView) (i : ℕ) : Type 0 wher
   pub victim : IsVictim (refs h) (unfixed_pages v) (Some page)
 
 -- where a page that comes in goes: into the first free frame, else into that of the victim; nowhere where all pages are fixed
-abbrev pub IsPlace : List Entry → PoolView → Option ℕ → Type 0
+abbrev pub IsPlace : HistoryView → PoolView → Option ℕ → Type 0
 IsPlace h v None = IsFull v × (unfixed_pages v ≡ [])
 IsPlace h v (Some i) = IsLeastFree v i ⊎ IsVictimFrame h v i

@@ -1,6 +1,6 @@
 //! Writing a pool's pages back, and emptying it.
 ghost use Rattle.std.specs.Prelude.{◌≡◌, ℕ, List, ◌<◌, length, set, map, true, false, Some, None, Option, IsTrue, ◌↔◌, OnOk, OnErr, IfErr, MatchBool};
-ghost use Rattle.warm_history.specs.declared.hist.Entry.{Entry};
+ghost use Rattle.warm_history.specs.Histories.{HistoryView};
 ghost use Rattle.warm_devices.specs.Device.{DeviceState};
 ghost use Rattle.warm_pool.specs.Frames.{FramesState, nth_frame};
 ghost use Rattle.warm_pool.specs.State.{PoolState, IsPool, IsSettled, RankedBy, nth_device};
@@ -35,7 +35,7 @@ impl Pool {
     pub fn write_back_all(&mut self) -> Result<(), PoolFault>
         requires pool { IsPool (⟦<Pool as Pooled>⟧.state self.old) }
         ensures pool { IsPool (⟦<Pool as Pooled>⟧.state self.new) }
-        ensures ranked { (h : List Entry) → RankedBy (⟦<Pool as Pooled>⟧.state self.old) h → RankedBy (⟦<Pool as Pooled>⟧.state self.new) h }
+        ensures ranked { (h : HistoryView) → RankedBy (⟦<Pool as Pooled>⟧.state self.old) h → RankedBy (⟦<Pool as Pooled>⟧.state self.new) h }
         ensures same { OnOk result (⟦<Pool as Pooled>⟧.shown self.new ≡ ⟦<Pool as Pooled>⟧.shown self.old) }
         ensures settled { OnOk result (IsSettled (⟦<Pool as Pooled>⟧.state self.new)) }
         ensures refused { IfErr result (λ fault. (fault ≡ Fault) × WriteBackFails (⟦<Pool as Pooled>⟧.state self.old) (⟦<Pool as Pooled>⟧.state self.new)) }
@@ -55,8 +55,8 @@ impl Pool {
         ensures pool { IsPool (⟦<Pool as Pooled>⟧.state self.new) }
         ensures emptied { OnOk result (Emptied (⟦<Pool as Pooled>⟧.shown self.old) (⟦<Pool as Pooled>⟧.shown self.new)) }
         ensures settled { OnOk result (IsSettled (⟦<Pool as Pooled>⟧.state self.new)) }
-        ensures unranked { OnOk result ((h : List Entry) → RankedBy (⟦<Pool as Pooled>⟧.state self.new) h) }
-        ensures ranked { (h : List Entry) → RankedBy (⟦<Pool as Pooled>⟧.state self.old) h → RankedBy (⟦<Pool as Pooled>⟧.state self.new) h }
+        ensures unranked { OnOk result ((h : HistoryView) → RankedBy (⟦<Pool as Pooled>⟧.state self.new) h) }
+        ensures ranked { (h : HistoryView) → RankedBy (⟦<Pool as Pooled>⟧.state self.old) h → RankedBy (⟦<Pool as Pooled>⟧.state self.new) h }
         ensures refused { IfErr result (λ fault. EmptyRefused (⟦<Pool as Pooled>⟧.state self.old) fault (⟦<Pool as Pooled>⟧.state self.new)) }
     {
         self.put_down()?;
@@ -73,7 +73,7 @@ impl Pool {
         ensures unfixed { OnOk result (IsUnfixed (⟦<Pool as Pooled>⟧.shown self)) }
         ensures refused { IfErr result (λ unclosed. EmptyRefused (⟦<Pool as Pooled>⟧.state self) unclosed.fault (⟦<Pool as Pooled>⟧.state unclosed.pool)) }
         ensures pool { IfErr result (λ unclosed. IsPool (⟦<Pool as Pooled>⟧.state unclosed.pool)) }
-        ensures ranked { IfErr result (λ unclosed. (h : List Entry) → RankedBy (⟦<Pool as Pooled>⟧.state self) h → RankedBy (⟦<Pool as Pooled>⟧.state unclosed.pool) h) }
+        ensures ranked { IfErr result (λ unclosed. (h : HistoryView) → RankedBy (⟦<Pool as Pooled>⟧.state self) h → RankedBy (⟦<Pool as Pooled>⟧.state unclosed.pool) h) }
     {
         match self.put_down() {
             Ok(()) => {
@@ -106,7 +106,7 @@ impl Pool {
         ensures retired { OnOk result (Retired (⟦<Pool as Pooled>⟧.shown self.old) dev (state device) (⟦<Pool as Pooled>⟧.shown self.new)) }
         ensures refused { IfErr result (λ unretired. RetireRefused (⟦<Pool as Pooled>⟧.shown self.old) dev (state device) unretired.fault (⟦<Pool as Pooled>⟧.shown self.new)) }
         ensures given_back { IfErr result (λ unretired. unretired.device ≡ device) }
-        ensures ranked { (h : List Entry) → RankedBy (⟦<Pool as Pooled>⟧.state self.old) h → RankedBy (⟦<Pool as Pooled>⟧.state self.new) h }
+        ensures ranked { (h : HistoryView) → RankedBy (⟦<Pool as Pooled>⟧.state self.old) h → RankedBy (⟦<Pool as Pooled>⟧.state self.new) h }
     {
         match self.make_way(dev, device.page_size()) {
             Ok(()) => {
@@ -123,7 +123,7 @@ impl Pool {
         ensures pool { IsPool (⟦<Pool as Pooled>⟧.state self.new) }
         ensures way { OnOk result (MakesWay (⟦<Pool as Pooled>⟧.state self.old) dev page_size (⟦<Pool as Pooled>⟧.state self.new)) }
         ensures refused { IfErr result (λ fault. (device : DeviceState) → device.page_size ≡ page_size → RetireRefused (⟦<Pool as Pooled>⟧.shown self.old) dev device fault (⟦<Pool as Pooled>⟧.shown self.new)) }
-        ensures ranked { (h : List Entry) → RankedBy (⟦<Pool as Pooled>⟧.state self.old) h → RankedBy (⟦<Pool as Pooled>⟧.state self.new) h }
+        ensures ranked { (h : HistoryView) → RankedBy (⟦<Pool as Pooled>⟧.state self.old) h → RankedBy (⟦<Pool as Pooled>⟧.state self.new) h }
     {
         if dev as usize >= self.devices.len() {
             return Err(PoolFault::NoDevice);
@@ -148,7 +148,7 @@ impl Pool {
         ensures down { OnOk result (PutsDown (cleaned_chosen (Some dev) (length (⟦<Pool as Pooled>⟧.state self.old).frames) (⟦<Pool as Pooled>⟧.state self.old).frames) (⟦<Pool as Pooled>⟧.state self.old) (⟦<Pool as Pooled>⟧.state self.new)) }
         ensures flushed { OnOk result ((nth_device (⟦<Pool as Pooled>⟧.state self.new).devices dev).waiting ≡ false) }
         ensures stopped { OnErr result (FailsAt (⟦<Pool as Pooled>⟧.shown self.old) dev (⟦<Pool as Pooled>⟧.shown self.new)) }
-        ensures ranked { (h : List Entry) → RankedBy (⟦<Pool as Pooled>⟧.state self.old) h → RankedBy (⟦<Pool as Pooled>⟧.state self.new) h }
+        ensures ranked { (h : HistoryView) → RankedBy (⟦<Pool as Pooled>⟧.state self.old) h → RankedBy (⟦<Pool as Pooled>⟧.state self.new) h }
     {
         self.clean_chosen(Some(dev))?;
         flush_device(&mut self.devices, dev as usize)?;
@@ -174,7 +174,7 @@ impl Pool {
         ensures down { OnOk result (PutsDown (cleaned_chosen None (length (⟦<Pool as Pooled>⟧.state self.old).frames) (⟦<Pool as Pooled>⟧.state self.old).frames) (⟦<Pool as Pooled>⟧.state self.old) (⟦<Pool as Pooled>⟧.state self.new)) }
         ensures flushed { OnOk result (NoneWaits (⟦<Pool as Pooled>⟧.state self.new).devices) }
         ensures refused { IfErr result (λ fault. EmptyRefused (⟦<Pool as Pooled>⟧.state self.old) fault (⟦<Pool as Pooled>⟧.state self.new)) }
-        ensures ranked { (h : List Entry) → RankedBy (⟦<Pool as Pooled>⟧.state self.old) h → RankedBy (⟦<Pool as Pooled>⟧.state self.new) h }
+        ensures ranked { (h : HistoryView) → RankedBy (⟦<Pool as Pooled>⟧.state self.old) h → RankedBy (⟦<Pool as Pooled>⟧.state self.new) h }
     {
         if is_fixed(&self.frames, None) {
             return Err(PoolFault::Fixed);
@@ -192,7 +192,7 @@ impl Pool {
         ensures down { OnOk result (PutsDown (cleaned_chosen None (length (⟦<Pool as Pooled>⟧.state self.old).frames) (⟦<Pool as Pooled>⟧.state self.old).frames) (⟦<Pool as Pooled>⟧.state self.old) (⟦<Pool as Pooled>⟧.state self.new)) }
         ensures flushed { OnOk result (NoneWaits (⟦<Pool as Pooled>⟧.state self.new).devices) }
         ensures stopped { OnErr result (WriteBackFails (⟦<Pool as Pooled>⟧.state self.old) (⟦<Pool as Pooled>⟧.state self.new)) }
-        ensures ranked { (h : List Entry) → RankedBy (⟦<Pool as Pooled>⟧.state self.old) h → RankedBy (⟦<Pool as Pooled>⟧.state self.new) h }
+        ensures ranked { (h : HistoryView) → RankedBy (⟦<Pool as Pooled>⟧.state self.old) h → RankedBy (⟦<Pool as Pooled>⟧.state self.new) h }
     {
         self.clean_chosen(None)?;
         flush_all(&mut self.devices)?;

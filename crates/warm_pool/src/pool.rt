@@ -1,8 +1,7 @@
 //! The pool.
 ghost use Rattle.std.specs.Prelude.{◌≡◌, ◌≢◌, ◌↔◌, ◌⊎◌, ℕ, ◌+◌, ◌-◌, ◌^◌, ◌<◌, ◌≤◌, List, map, length, set, true, false, Some, None, MatchOption, MatchResult, OnOk, OnErr, IfOk, IfErr, IfSome, IsTrue, replicate};
 ghost use Rattle.warm_stamps.specs.declared.PageId.{PageId};
-ghost use Rattle.warm_history.specs.declared.hist.Entry.{Entry};
-ghost use Rattle.warm_history.specs.Histories.{hist, refs};
+ghost use Rattle.warm_history.specs.Histories.{HistoryView, hist, refs};
 ghost use Rattle.warm_rank.specs.Keys.{rank_key};
 ghost use Rattle.warm_rank.specs.Ranking.{IsVictim};
 ghost use Rattle.warm_pool.specs.Frames.{FrameState, nth_frame, fresh_frame};
@@ -18,7 +17,7 @@ use crate::frames::Frames;
 use crate::slot::Slot;
 use std::alloc::{AllocError, Global};
 use warm_devices::{DeviceFault, PageDevice};
-use warm_history::history::History;
+use warm_history::History;
 use warm_rank::{RankKey, key_of};
 use warm_stamps::PageId;
 
@@ -74,7 +73,7 @@ impl Pool {
         requires few { length devices.items ≤ 65536 }
         ensures pool { IfOk result (λ pool. IsPool (⟦<Pool as Pooled>⟧.state pool)) }
         ensures opened { IfOk result (λ pool. ⟦<Pool as Pooled>⟧.state pool ≡ opened frames page_size (map (λ b. state b) devices.items)) }
-        ensures ranked { IfOk result (λ pool. (h : List Entry) → RankedBy (⟦<Pool as Pooled>⟧.state pool) h) }
+        ensures ranked { IfOk result (λ pool. (h : HistoryView) → RankedBy (⟦<Pool as Pooled>⟧.state pool) h) }
         ensures refused { IfErr result (λ unmade. NewRefused frames page_size (map (λ b. state b) devices.items) unmade.fault × (unmade.devices.items ≡ devices.items)) }
     {
         if let Some(fault) = shape_fault(frames, page_size, &devices) {
@@ -199,7 +198,7 @@ impl Pool {
     /// there is none.
     pub fn victim(&self) -> Option<PageId>
         requires pool { IsPool (⟦<Pool as Pooled>⟧.state self.now) }
-        ensures { (h : List Entry) → RankedBy (⟦<Pool as Pooled>⟧.state self.now) h → IsVictim (refs h) (unfixed_pages (⟦<Pool as Pooled>⟧.shown self.now)) result }
+        ensures { (h : HistoryView) → RankedBy (⟦<Pool as Pooled>⟧.state self.now) h → IsVictim (refs h) (unfixed_pages (⟦<Pool as Pooled>⟧.shown self.now)) result }
     {
         let Some(at) = self.frames.least() else {
             return None;
@@ -212,7 +211,7 @@ impl Pool {
         requires pool { IsPool (⟦<Pool as Pooled>⟧.state self.old) }
         requires holds { Holds (⟦<Pool as Pooled>⟧.shown self.old) slot }
         ensures pool { IsPool (⟦<Pool as Pooled>⟧.state self.new) }
-        ensures ranked { (h : List Entry) → RankedBy (⟦<Pool as Pooled>⟧.state self.old) h → RankedBy (⟦<Pool as Pooled>⟧.state self.new) h }
+        ensures ranked { (h : HistoryView) → RankedBy (⟦<Pool as Pooled>⟧.state self.old) h → RankedBy (⟦<Pool as Pooled>⟧.state self.new) h }
         ensures unpinned { ⟦<Pool as Pooled>⟧.shown self.new ≡ unpinned (⟦<Pool as Pooled>⟧.shown self.old) slot }
     {
         self.frames.unfix(slot.index as usize);
@@ -245,7 +244,7 @@ impl Pool {
         requires pool { IsPool (⟦<Pool as Pooled>⟧.state self.old) }
         requires holds { Holds (⟦<Pool as Pooled>⟧.shown self.old) slot }
         ensures pool { IsPool (⟦<Pool as Pooled>⟧.state self.new) }
-        ensures ranked { (h : List Entry) → RankedBy (⟦<Pool as Pooled>⟧.state self.old) h → RankedBy (⟦<Pool as Pooled>⟧.state self.new) h }
+        ensures ranked { (h : HistoryView) → RankedBy (⟦<Pool as Pooled>⟧.state self.old) h → RankedBy (⟦<Pool as Pooled>⟧.state self.new) h }
         ensures written { OnOk result (Written (⟦<Pool as Pooled>⟧.shown self.old) slot at bytes.now (⟦<Pool as Pooled>⟧.shown self.new)) }
         ensures refused { IfErr result (λ fault. (fault ≡ OutOfPage) × ((⟦<Pool as Pooled>⟧.shown self.old).page_size < at + length bytes.now) × (⟦<Pool as Pooled>⟧.state self.new ≡ ⟦<Pool as Pooled>⟧.state self.old)) }
     {
@@ -260,7 +259,7 @@ impl Pool {
     pub fn refresh(&mut self, history: &History, pages: &[PageId])
         requires pool { IsPool (⟦<Pool as Pooled>⟧.state self.old) }
         ensures pool { IsPool (⟦<Pool as Pooled>⟧.state self.new) }
-        ensures ranked { (g : List Entry) → RankedBy (⟦<Pool as Pooled>⟧.state self.old) g → AgreeOutside pages.now g history.now → RankedBy (⟦<Pool as Pooled>⟧.state self.new) history.now }
+        ensures ranked { (g : HistoryView) → RankedBy (⟦<Pool as Pooled>⟧.state self.old) g → AgreeOutside pages.now g history.now → RankedBy (⟦<Pool as Pooled>⟧.state self.new) history.now }
         ensures same { ⟦<Pool as Pooled>⟧.shown self.new ≡ ⟦<Pool as Pooled>⟧.shown self.old }
     {
         for page in pages {
@@ -286,8 +285,8 @@ impl Pool {
         requires pool { IsPool (⟦<Pool as Pooled>⟧.state self.now) }
         ensures known { OnOk result (HasPage (⟦<Pool as Pooled>⟧.shown self.now) page) }
         ensures unknown { OnErr result (HasPage (⟦<Pool as Pooled>⟧.shown self.now) page → ⊥) }
-        ensures load { IfErr result (λ fault. (h : List Entry) → LoadRefused h (⟦<Pool as Pooled>⟧.shown self.now) page fault (⟦<Pool as Pooled>⟧.shown self.now)) }
-        ensures pin { IfErr result (λ fault. (h : List Entry) → PinRefused h (⟦<Pool as Pooled>⟧.shown self.now) page fault (⟦<Pool as Pooled>⟧.shown self.now)) }
+        ensures load { IfErr result (λ fault. (h : HistoryView) → LoadRefused h (⟦<Pool as Pooled>⟧.shown self.now) page fault (⟦<Pool as Pooled>⟧.shown self.now)) }
+        ensures pin { IfErr result (λ fault. (h : HistoryView) → PinRefused h (⟦<Pool as Pooled>⟧.shown self.now) page fault (⟦<Pool as Pooled>⟧.shown self.now)) }
     {
         let device = page.dev as usize;
         if device >= self.devices.len() {
@@ -313,7 +312,7 @@ impl Pool {
         requires there { at < length (⟦<Pool as Pooled>⟧.state self.old).frames }
         requires held { (nth_frame (⟦<Pool as Pooled>⟧.state self.old).frames at).page ≢ None }
         ensures pool { IsPool (⟦<Pool as Pooled>⟧.state self.new) }
-        ensures ranked { (h : List Entry) → RankedBy (⟦<Pool as Pooled>⟧.state self.old) h → RankedBy (⟦<Pool as Pooled>⟧.state self.new) h }
+        ensures ranked { (h : HistoryView) → RankedBy (⟦<Pool as Pooled>⟧.state self.old) h → RankedBy (⟦<Pool as Pooled>⟧.state self.new) h }
         ensures fixed { (p : PageId) → (nth_frame (⟦<Pool as Pooled>⟧.state self.old).frames at).page ≡ Some p → IfOk result (λ slot. AddsFix (⟦<Pool as Pooled>⟧.shown self.old) p slot (⟦<Pool as Pooled>⟧.shown self.new)) }
         ensures holds { IfOk result (λ slot. Holds (⟦<Pool as Pooled>⟧.shown self.new) slot) }
         ensures refused { IfErr result (λ fault. (fault ≡ FixesFull) × ((nth_frame (⟦<Pool as Pooled>⟧.state self.old).frames at).fixes ≡ 2 ^ 32 - 1) × (⟦<Pool as Pooled>⟧.state self.new ≡ ⟦<Pool as Pooled>⟧.state self.old)) }
@@ -333,7 +332,7 @@ impl Pool {
     // The frame into which a page goes that comes in.
     fn place(&self) -> Option<usize>
         requires pool { IsPool (⟦<Pool as Pooled>⟧.state self.now) }
-        ensures place { (h : List Entry) → RankedBy (⟦<Pool as Pooled>⟧.state self.now) h → IsPlace h (⟦<Pool as Pooled>⟧.shown self.now) result }
+        ensures place { (h : HistoryView) → RankedBy (⟦<Pool as Pooled>⟧.state self.now) h → IsPlace h (⟦<Pool as Pooled>⟧.shown self.now) result }
         ensures there { IfSome result (λ at. at < length (⟦<Pool as Pooled>⟧.state self.now).frames) }
         ensures unfixed { IfSome result (λ at. (nth_frame (⟦<Pool as Pooled>⟧.state self.now).frames at).fixes ≡ 0) }
     {

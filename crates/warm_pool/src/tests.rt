@@ -4,7 +4,7 @@
 //! With `rt try --test --fail-alloc N`, for N from 1 on, each growth is refused in turn: what takes room is then asked for once
 //! more, with what the refusal handed back.
 ghost use Rattle.std.specs.Prelude.{◌≡◌, List, IfOk, length};
-ghost use Rattle.warm_history.specs.declared.hist.Entry.{Entry};
+ghost use Rattle.warm_history.specs.Histories.{HistoryView};
 ghost use Rattle.warm_pool.specs.State.{IsPool, RankedBy};
 
 use crate::residents::Residents;
@@ -15,7 +15,7 @@ use std::sync::Arc;
 use std::sync::atomic::{AtomicU64, Ordering};
 use std::test::Fail;
 use warm_devices::{Flaky, MemDevice, PageDevice};
-use warm_history::history::History;
+use warm_history::History;
 use warm_stamps::PageId;
 
 mod noting;
@@ -74,7 +74,7 @@ fn pool_over(
     device: Box<dyn PageDevice + Send>,
 ) -> Result<Pool, Fail>
     ensures pool { IfOk result (λ pool. IsPool (⟦<Pool as Pooled>⟧.state pool)) }
-    ensures ranked { IfOk result (λ pool. (h : List Entry) → RankedBy (⟦<Pool as Pooled>⟧.state pool) h) }
+    ensures ranked { IfOk result (λ pool. (h : HistoryView) → RankedBy (⟦<Pool as Pooled>⟧.state pool) h) }
 {
     let devices = alone(alloc, device)?;
     match Pool::new(alloc, frames, 16, devices) {

@@ -1,5 +1,5 @@
 -- Counting later references turns the order of stamps round.
-use Rattle.std.proofs.Common.{◌≡◌, ℕ, ◌+◌, ◌<◌, ◌≤◌, Bool, true, false, cond, List, [], ◌∷◌, sym, ap, refl, ◌∙◌, inl, inr, arith}
+use Rattle.std.proofs.Common.{◌≡◌, ℕ, ◌+◌, ◌<◌, ◌≤◌, Bool, true, false, cond, List, [], ◌∷◌, map, filter, sym, ap, refl, ◌∙◌, inl, inr, arith}
 use Rattle.std.specs.List.{count_by}
 use Rattle.std.specs.Ordering.{is_eq, is_lt, nat_cmp, flip_args}
 use Rattle.std.specs.declared.cmp.Ordering.{Ordering}
@@ -14,8 +14,8 @@ use Rattle.warm_stamps.specs.Stamps.{stamp_cmp, page_cmp, reference_cmp}
 use Rattle.warm_stamps.specs.Distinct.{distinct}
 use Rattle.warm_stamps.proofs.DistinctLemmas.{Has, by_cases, flipped, has_distinct, has_from_distinct}
 use Rattle.warm_stamps.proofs.StampLemmas.{stamp_order, reference_order, IsStrictOrder-flip}
+use Rattle.warm_history.specs.ReferenceSets.{ReferenceSet, references}
 use Rattle.warm_history.specs.Histories.{stamps}
-use Rattle.warm_history.proofs.HistoryLemmas.{told}
 use Rattle.warm_rank.specs.Ranking.{count_later}
 
 abbrev later : Stamp → Reference → Bool
@@ -66,14 +66,14 @@ count_lt s t less (x ∷ rs) r has is = elim has [
     cases rest false false p q = omega (arith, passed (later t) x rs p, passed (later s) x rs q)
 
 -- some reference of S has the stamp
-abbrev pub IsStampOf : List Reference → Stamp → Type 0
-IsStampOf S s = (r : Reference) × Has S r × (r.stamp ≡ s)
+abbrev pub IsStampOf : ReferenceSet → Stamp → Type 0
+IsStampOf S s = (r : Reference) × Has (references S) r × (r.stamp ≡ s)
 
-count_later_lt : (S : List Reference) (s t : Stamp) → stamp_cmp s t ≡ Less → IsStampOf S t → count_later S t < count_later S s
-count_later_lt S s t less of_S = count_lt s t less (distinct reference_cmp S) of_S.0 (has_distinct reference_cmp reference_order S of_S.0 of_S.1) of_S.2
+count_later_lt : (S : ReferenceSet) (s t : Stamp) → stamp_cmp s t ≡ Less → IsStampOf S t → count_later S t < count_later S s
+count_later_lt S s t less of_S = count_lt s t less (distinct reference_cmp (references S)) of_S.0 (has_distinct reference_cmp reference_order (references S) of_S.0 of_S.1) of_S.2
 
 -- among stamps of S, the earlier one has more references later than it
-pub counts_rank : (S : List Reference) (s t : Stamp) → IsStampOf S s → IsStampOf S t → nat_cmp (count_later S t) (count_later S s) ≡ stamp_cmp s t
+pub counts_rank : (S : ReferenceSet) (s t : Stamp) → IsStampOf S s → IsStampOf S t → nat_cmp (count_later S t) (count_later S s) ≡ stamp_cmp s t
 counts_rank S s t of_s of_t = by_cases (stamp_cmp s t) _
     (λ less. let lt = count_later_lt S s t less of_t in nat_less (count_later S t) (count_later S s) lt ∙ sym less)
     (λ tied. let same : s ≡ t = stamp_order.same s t tied in ap (λ u. nat_cmp (count_later S t) (count_later S u)) same ∙ nat_tied (count_later S t) ∙ sym tied)
@@ -88,17 +88,21 @@ counts_rank S s t of_s of_t = by_cases (stamp_cmp s t) _
     nat_greater : (m n : ℕ) → n < m → nat_cmp m n ≡ Greater
     nat_greater m n lt = grind (arith, nat_tests)
 
-told_of : (S : List Reference) (p : PageId) (s : Stamp) → Has (told S p) s → IsStampOf S s
+-- the stamps that the references have at the page p
+abbrev told : List Reference → PageId → List Stamp
+told rs p = map (λ r. r.stamp) (filter (λ r. is_eq (page_cmp r.page p)) rs)
+
+told_of : (rs : List Reference) (p : PageId) (s : Stamp) → Has (told rs p) s → (r : Reference) × Has rs r × (r.stamp ≡ s)
 told_of [] p s has = absurd has
-told_of (r ∷ S) p s has = cases (told_of S p s) (is_eq (page_cmp r.page p)) refl
+told_of (r ∷ rs) p s has = cases (told_of rs p s) (is_eq (page_cmp r.page p)) refl
   where
-    of_tail : IsStampOf S s → IsStampOf (r ∷ S) s
+    of_tail : ((x : Reference) × Has rs x × (x.stamp ≡ s)) → (x : Reference) × Has (r ∷ rs) x × (x.stamp ≡ s)
     of_tail (x, there, is) = (x, inr there, is)
 
-    cases : (Has (told S p) s → IsStampOf S s) → (b : Bool) → is_eq (page_cmp r.page p) ≡ b → IsStampOf (r ∷ S) s
+    cases : (Has (told rs p) s → (x : Reference) × Has rs x × (x.stamp ≡ s)) → (b : Bool) → is_eq (page_cmp r.page p) ≡ b → (x : Reference) × Has (r ∷ rs) x × (x.stamp ≡ s)
     cases rest true here = elim (rw here at has) [ inl e ↦ (r, inl refl, e) | inr there ↦ of_tail (rest there) ]
     cases rest false other = of_tail (rest (rw other at has))
 
 -- the stamps of a page are stamps of S
-pub stamps_of : (S : List Reference) (p : PageId) (s : Stamp) → Has (stamps S p) s → IsStampOf S s
-stamps_of S p s has = told_of S p s (has_from_distinct (flip_args stamp_cmp) (IsStrictOrder-flip stamp_cmp stamp_order) (told S p) s has)
+pub stamps_of : (S : ReferenceSet) (p : PageId) (s : Stamp) → Has (stamps S p) s → IsStampOf S s
+stamps_of S p s has = told_of (references S) p s (has_from_distinct (flip_args stamp_cmp) (IsStrictOrder-flip stamp_cmp stamp_order) (told (references S) p) s has)

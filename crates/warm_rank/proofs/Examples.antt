@@ -1,9 +1,10 @@
 -- Distances, the order in which pages leave, victims and warm-up lists, computed on small lists of references.
-use Rattle.std.proofs.Common.{◌≡◌, ◌≢◌, ℕ, zero, suc, List, [], ◌∷◌, refl, sym, subst, Some, None, arith}
+use Rattle.std.proofs.Common.{◌≡◌, ◌≢◌, ℕ, zero, suc, [], ◌∷◌, refl, sym, subst, Some, None, arith}
 use Rattle.std.specs.List.{Contains}
 use Rattle.std.specs.declared.cmp.Ordering.TheVariants.{Less}
 use Rattle.warm_stamps.specs.declared.PageId.{PageId}
 use Rattle.warm_stamps.specs.declared.Reference.{Reference}
+use Rattle.warm_history.specs.ReferenceSets.{ReferenceSet, these, ◌∪◌}
 use Rattle.warm_rank.specs.Ranking.{dist, leaving_cmp, IsBefore, IsVictim, warm}
 
 -- the page 0:n
@@ -16,8 +17,8 @@ seen n time = record { page = page n; stamp = record { time = time; replica = 1 
 
 -- ---- a page that was referenced twice, and then a scan of two pages
 
-abbrev scan : List Reference
-scan = seen 1 1 ∷ seen 1 2 ∷ seen 5 10 ∷ seen 6 11 ∷ []
+abbrev scan : ReferenceSet
+scan = these (seen 1 1 ∷ seen 1 2 ∷ seen 5 10 ∷ seen 6 11 ∷ [])
 
 scan_distance : dist scan (page 1) ≡ Some 3
 scan_distance = refl
@@ -29,7 +30,7 @@ scan_second_infinite : dist scan (page 6) ≡ None
 scan_second_infinite = refl
 
 -- a reference that is told twice counts once
-told_twice : dist (seen 5 10 ∷ seen 1 2 ∷ scan) (page 1) ≡ Some 3
+told_twice : dist (these (seen 5 10 ∷ seen 1 2 ∷ []) ∪ scan) (page 1) ≡ Some 3
 told_twice = refl
 
 -- the scan leaves first, its older page before the other
@@ -62,8 +63,8 @@ scan_victim = ((1, omega arith, refl), before)
 
 -- ---- two pages that were referenced twice: the one whose references lie farther apart leaves, though it was referenced last
 
-abbrev apart : List Reference
-apart = seen 1 1 ∷ seen 1 100 ∷ seen 2 50 ∷ seen 2 60 ∷ []
+abbrev apart : ReferenceSet
+apart = these (seen 1 1 ∷ seen 1 100 ∷ seen 2 50 ∷ seen 2 60 ∷ [])
 
 apart_distance_1 : dist apart (page 1) ≡ Some 3
 apart_distance_1 = refl
@@ -86,8 +87,8 @@ apart_victim = ((0, omega arith, refl), before)
 
 -- ---- the hottest pages, the hottest first
 
-abbrev heated : List Reference
-heated = seen 5 1 ∷ seen 2 2 ∷ seen 2 3 ∷ seen 9 4 ∷ seen 9 5 ∷ []
+abbrev heated : ReferenceSet
+heated = these (seen 5 1 ∷ seen 2 2 ∷ seen 2 3 ∷ seen 9 4 ∷ seen 9 5 ∷ [])
 
 heated_distance_5 : dist heated (page 5) ≡ None
 heated_distance_5 = refl

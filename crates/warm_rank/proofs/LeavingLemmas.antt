@@ -1,15 +1,15 @@
 -- The order in which pages leave.
-use Rattle.std.proofs.Common.{◌≡◌, take, sym, ap, ◌∙◌, inl, inr, List}
+use Rattle.std.proofs.Common.{◌≡◌, take, sym, ap, ◌∙◌, inl, inr}
 use Rattle.std.specs.Cmp.Lexicographic.{options_total}
 use Rattle.std.specs.Ordering.{flip_args, ordering_then}
 use Rattle.std.specs.declared.cmp.Ordering.TheVariants.{Less, Equal, Greater}
 use Rattle.std.proofs.lemmas.Cmp.{tied_itself, then_total, on_total, back_total, nat_cmp_total}
 use Rattle.warm_stamps.specs.declared.PageId.{PageId}
-use Rattle.warm_stamps.specs.declared.Reference.{Reference}
 use Rattle.warm_stamps.specs.Stamps.{page_cmp}
 use Rattle.warm_stamps.specs.Distinct.{distinct}
 use Rattle.warm_stamps.proofs.DistinctLemmas.{IsStrictOrder, by_cases, flipped}
 use Rattle.warm_stamps.proofs.StampLemmas.{both_tie, stamp_order, page_order}
+use Rattle.warm_history.specs.ReferenceSets.{ReferenceSet}
 use Rattle.warm_history.specs.Histories.{hist, pages, refs}
 use Rattle.warm_history.proofs.HistoryLemmas.{hist_refs-history, pages_alike}
 use Rattle.warm_history.proofs.SetLemmas.{hist_of_set}
@@ -18,7 +18,7 @@ use Rattle.warm_rank.specs.Ranking.{dist, latest, leaving_cmp, farther_cmp, olde
 use Rattle.warm_rank.specs.Laws.{LeavingIsOrder, OrderKept, RankAlike, SameReferencesRankAlike}
 use Rattle.warm_rank.proofs.KeyLemmas.{keys_rank}
 
-pub leaving_order : (S : List Reference) → IsStrictOrder (leaving_cmp S)
+pub leaving_order : (S : ReferenceSet) → IsStrictOrder (leaving_cmp S)
 unfolding leaving_cmp
 leaving_order S = record {
   total = then_total (on_total (dist S) (options_total (back_total nat_cmp_total))) (then_total (on_total (latest S) (options_total stamp_order.total)) page_order.total);
@@ -38,14 +38,14 @@ leaving_is_order S =
 
 -- ---- lists that say the same of each page rank pages alike
 
-leave_alike : (S T : List Reference) → ((p : PageId) → hist S p ≡ hist T p) → (p q : PageId) → leaving_cmp S p q ≡ leaving_cmp T p q
+leave_alike : (S T : ReferenceSet) → ((p : PageId) → hist S p ≡ hist T p) → (p q : PageId) → leaving_cmp S p q ≡ leaving_cmp T p q
 leave_alike S T alike p q =
     sym (keys_rank S p q)
     ∙ ap (λ x. key_cmp (rank_key p x) (rank_key q (hist S q))) (alike p)
     ∙ ap (λ x. key_cmp (rank_key p (hist T p)) (rank_key q x)) (alike q)
     ∙ keys_rank T p q
 
-pub rank_alike : (S T : List Reference) → ((p : PageId) → hist S p ≡ hist T p) → RankAlike S T
+pub rank_alike : (S T : ReferenceSet) → ((p : PageId) → hist S p ≡ hist T p) → RankAlike S T
 rank_alike S T alike =
     let order : leaving_cmp S ≡ leaving_cmp T = λ i p q. leave_alike S T alike p q i in
     record {

@@ -5,8 +5,8 @@ use Rattle.std.specs.Option.{option_map}
 use Rattle.std.specs.Ordering.{nat_cmp, ordering_then}
 use Rattle.std.specs.declared.cmp.Ordering.TheVariants.{Less, Greater}
 use Rattle.warm_stamps.specs.declared.PageId.{PageId}
-use Rattle.warm_stamps.specs.declared.Reference.{Reference}
 use Rattle.warm_stamps.proofs.DistinctLemmas.{by_cases}
+use Rattle.warm_history.specs.ReferenceSets.{ReferenceSet}
 use Rattle.warm_history.specs.Histories.{hist}
 use Rattle.warm_rank.specs.declared.RankKey.{RankKey}
 use Rattle.warm_rank.specs.Keys.{rank_key, key_cmp}
@@ -20,21 +20,21 @@ some_same : {A : Type 0} (x y : A) → Some x ≡ Some y → x ≡ y
 some_same x y e = cc
 
 -- the key over S of the page p
-abbrev key_over : List Reference → PageId → RankKey
+abbrev key_over : ReferenceSet → PageId → RankKey
 key_over S p = rank_key p (hist S p)
 
-length-keys_over : (S : List Reference) (slots : List (Option PageId)) → length (keys_over S slots) ≡ length slots
+length-keys_over : (S : ReferenceSet) (slots : List (Option PageId)) → length (keys_over S slots) ≡ length slots
 length-keys_over S [] = refl
 length-keys_over S (page ∷ slots) = ap suc (length-keys_over S slots)
 
 -- a slot has the key of its page
-key_at-keys_over : (S : List Reference) (slots : List (Option PageId)) (slot : ℕ) → key_at (keys_over S slots) slot ≡ option_map (key_over S) (key_at slots slot)
+key_at-keys_over : (S : ReferenceSet) (slots : List (Option PageId)) (slot : ℕ) → key_at (keys_over S slots) slot ≡ option_map (key_over S) (key_at slots slot)
 key_at-keys_over S [] slot = refl
 key_at-keys_over S (page ∷ slots) zero = refl
 key_at-keys_over S (page ∷ slots) (suc slot) = key_at-keys_over S slots slot
 
 -- where no slot has a key, none has a page
-none_in : (S : List Reference) (slots : List (Option PageId)) → ((slot : ℕ) → slot < length slots → key_at (keys_over S slots) slot ≡ None) → pages_in slots ≡ []
+none_in : (S : ReferenceSet) (slots : List (Option PageId)) → ((slot : ℕ) → slot < length slots → key_at (keys_over S slots) slot ≡ None) → pages_in slots ≡ []
 none_in S [] none = refl
 none_in S (None ∷ slots) none = none_in S slots (λ slot lt. none (suc slot) (omega arith))
 none_in S (Some p ∷ slots) none = let no : Some (key_over S p) ≡ None = none 0 (omega arith) in absurd (cc)
@@ -64,7 +64,7 @@ slot_of (Some q ∷ slots) p (zero, lt, is) = (0, omega arith, ap Some is)
 slot_of (Some q ∷ slots) p (suc k, lt, is) = slot_later (Some q) slots p (slot_of slots p (k, omega arith, is))
 
 -- the page p of the first slot leaves before the page q of another
-before : (S : List Reference) (slots : List (Option PageId)) (s t : ℕ) (p q : PageId) → key_at slots s ≡ Some p → key_at slots t ≡ Some q → q ≢ p → slot_cmp key_cmp (keys_over S slots) s t ≡ Less → IsBefore S p q
+before : (S : ReferenceSet) (slots : List (Option PageId)) (s t : ℕ) (p q : PageId) → key_at slots s ≡ Some p → key_at slots t ≡ Some q → q ≢ p → slot_cmp key_cmp (keys_over S slots) s t ≡ Less → IsBefore S p q
 before S slots s t p q is_p is_q differ less =
     let key_p : key_at (keys_over S slots) s ≡ Some (key_over S p) = key_at-keys_over S slots s ∙ ap (option_map (key_over S)) is_p in
     let key_q : key_at (keys_over S slots) t ≡ Some (key_over S q) = key_at-keys_over S slots t ∙ ap (option_map (key_over S)) is_q in
@@ -77,7 +77,7 @@ before S slots s t p q is_p is_q differ less =
     (λ tied. absurd (differ (sym ((leaving_order S).same p q tied))))
     (λ more. let no : Greater ≡ Less = sym (ap (λ o. ordering_then o (nat_cmp s t)) more) ∙ by_page in absurd (cc))
 
-victim_at : (S : List Reference) (slots : List (Option PageId)) (s : ℕ) → ComesFirst key_cmp (keys_over S slots) (length (keys_over S slots)) s → (page : Option PageId) → key_at slots s ≡ page → IsVictim S (pages_in slots) page
+victim_at : (S : ReferenceSet) (slots : List (Option PageId)) (s : ℕ) → ComesFirst key_cmp (keys_over S slots) (length (keys_over S slots)) s → (page : Option PageId) → key_at slots s ≡ page → IsVictim S (pages_in slots) page
 victim_at S slots s comes None is = let no : false ≡ true = subst IsSome (key_at-keys_over S slots s ∙ ap (option_map (key_over S)) is) comes.is_set in absurd (cc)
 victim_at S slots s comes (Some p) is =
     let same_length = length-keys_over S slots in

@@ -3,9 +3,8 @@ use Rattle.std.specs.Prelude.{◌≡◌, ◌≢◌, ◌⊎◌, ℕ, List, Option
 use Rattle.std.specs.List.{filter_map}
 use Rattle.std.specs.Option.{option_and_then, option_map}
 use Rattle.warm_stamps.specs.declared.PageId.{PageId}
-use Rattle.warm_stamps.specs.declared.Reference.{Reference}
-use Rattle.warm_history.specs.declared.hist.Entry.{Entry}
-use Rattle.warm_history.specs.Histories.{hist, refs, StandsFor}
+use Rattle.warm_history.specs.ReferenceSets.{ReferenceSet}
+use Rattle.warm_history.specs.Histories.{HistoryView, hist, refs, StandsFor}
 use Rattle.warm_history.specs.References.{HoldSame}
 use Rattle.warm_rank.specs.declared.RankKey.{RankKey}
 use Rattle.warm_rank.specs.Keys.{rank_key, key_cmp}
@@ -14,32 +13,32 @@ use Rattle.warm_rank.specs.Slots.{key_at, IsLeast}
 
 -- of two pages, the one with the lesser key leaves first: keys compare as their pages do
 abbrev pub KeysRank : Type 0
-KeysRank = (S : List Reference) (p q : PageId) → key_cmp (rank_key p (hist S p)) (rank_key q (hist S q)) ≡ leaving_cmp S p q
+KeysRank = (S : ReferenceSet) (p q : PageId) → key_cmp (rank_key p (hist S p)) (rank_key q (hist S q)) ≡ leaving_cmp S p q
 
 -- of two pages that differ one leaves before the other, and no two pages leave before each other
-pub record OrdersPages (S : List Reference) : Type 0 where
+pub record OrdersPages (S : ReferenceSet) : Type 0 where
   pub total : (p q : PageId) → p ≢ q → IsBefore S p q ⊎ IsBefore S q p
   pub transitive : (p q r : PageId) → IsBefore S p q → IsBefore S q r → IsBefore S p r
   pub irreflexive : (p : PageId) → IsBefore S p p → ⊥
 
 abbrev pub LeavingIsOrder : Type 0
-LeavingIsOrder = (S : List Reference) → OrdersPages S
+LeavingIsOrder = (S : ReferenceSet) → OrdersPages S
 
 -- over both lists any two pages leave in the same order, and the warm-up lists are the same
-pub record RankAlike (S T : List Reference) : Type 0 where
+pub record RankAlike (S T : ReferenceSet) : Type 0 where
   pub leave_alike : (p q : PageId) → leaving_cmp S p q ≡ leaving_cmp T p q
   pub warm_alike : (n : ℕ) → warm S n ≡ warm T n
 
 -- what a history holds ranks pages as the references for which it stands
 abbrev pub OrderKept : Type 0
-OrderKept = (h : List Entry) (S : List Reference) → StandsFor h S → RankAlike (refs h) S
+OrderKept = (h : HistoryView) (S : ReferenceSet) → StandsFor h S → RankAlike (refs h) S
 
 -- lists of the same references rank pages alike
 abbrev pub SameReferencesRankAlike : Type 0
-SameReferencesRankAlike = (S T : List Reference) → HoldSame S T → RankAlike S T
+SameReferencesRankAlike = (S T : ReferenceSet) → HoldSame S T → RankAlike S T
 
 -- the keys over S of the pages in slots that each may have a page
-abbrev pub keys_over : List Reference → List (Option PageId) → List (Option RankKey)
+abbrev pub keys_over : ReferenceSet → List (Option PageId) → List (Option RankKey)
 keys_over S slots = map (option_map (λ p. rank_key p (hist S p))) slots
 
 -- the pages in the slots
@@ -52,4 +51,4 @@ page_at slots slot = option_and_then (key_at slots) slot
 
 -- the page in the slot of the least key is the victim among the pages in the slots
 abbrev pub LeastKeyIsVictim : Type 0
-LeastKeyIsVictim = (S : List Reference) (slots : List (Option PageId)) (least : Option ℕ) → IsLeast key_cmp (keys_over S slots) least → IsVictim S (pages_in slots) (page_at slots least)
+LeastKeyIsVictim = (S : ReferenceSet) (slots : List (Option PageId)) (least : Option ℕ) → IsLeast key_cmp (keys_over S slots) least → IsVictim S (pages_in slots) (page_at slots least)

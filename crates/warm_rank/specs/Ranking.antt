@@ -6,23 +6,23 @@ use Rattle.std.specs.declared.cmp.Ordering.{Ordering}
 use Rattle.std.specs.declared.cmp.Ordering.TheVariants.{Less}
 use Rattle.warm_stamps.specs.declared.Stamp.{Stamp}
 use Rattle.warm_stamps.specs.declared.PageId.{PageId}
-use Rattle.warm_stamps.specs.declared.Reference.{Reference}
 use Rattle.warm_stamps.specs.Stamps.{stamp_cmp, page_cmp, reference_cmp}
 use Rattle.warm_stamps.specs.Distinct.{distinct}
+use Rattle.warm_history.specs.ReferenceSets.{ReferenceSet, references}
 use Rattle.warm_history.specs.Histories.{stamps, pages}
 
 -- how many references of S, each counted once, are later than the stamp s
-abbrev pub count_later : List Reference → Stamp → ℕ
-count_later S s = count_by (λ r. is_lt (stamp_cmp s r.stamp)) (distinct reference_cmp S)
+abbrev pub count_later : ReferenceSet → Stamp → ℕ
+count_later S s = count_by (λ r. is_lt (stamp_cmp s r.stamp)) (distinct reference_cmp (references S))
 
 -- how many references of S are later than the second of these stamps, none where there is no second
-abbrev pub distance_from : List Reference → List Stamp → Option ℕ
+abbrev pub distance_from : ReferenceSet → List Stamp → Option ℕ
 distance_from S [] = None
 distance_from S (last ∷ []) = None
 distance_from S (last ∷ prev ∷ older) = Some (count_later S prev)
 
 -- the backward 2-distance of the page p over S, none where it is infinite
-abbrev pub dist : List Reference → PageId → Option ℕ
+abbrev pub dist : ReferenceSet → PageId → Option ℕ
 dist S p = distance_from S (stamps S p)
 
 -- the first of a list of stamps, if there is one
@@ -31,7 +31,7 @@ first [] = None
 first (last ∷ older) = Some last
 
 -- the latest stamp of the page p in S, if it has one
-abbrev pub latest : List Reference → PageId → Option Stamp
+abbrev pub latest : ReferenceSet → PageId → Option Stamp
 latest S p = first (stamps S p)
 
 -- the greater distance first, and an infinite one before all others
@@ -43,17 +43,17 @@ abbrev pub older_cmp : Option Stamp → Option Stamp → Ordering
 older_cmp = option_cmp stamp_cmp
 
 -- the order in which pages leave: the greatest distance first, of equal ones the oldest latest stamp, then the least page
-unfoldable pub leaving_cmp : List Reference → PageId → PageId → Ordering
+unfoldable pub leaving_cmp : ReferenceSet → PageId → PageId → Ordering
 leaving_cmp S = then_cmp (on (dist S) farther_cmp) (then_cmp (on (latest S) older_cmp) page_cmp)
 
 -- the page p leaves before the page q
-abbrev pub IsBefore : List Reference → PageId → PageId → Type 0
+abbrev pub IsBefore : ReferenceSet → PageId → PageId → Type 0
 IsBefore S p q = leaving_cmp S p q ≡ Less
 
 -- the page of U that leaves before every other page of U, none where U is empty
-abbrev pub IsVictim : List Reference → List PageId → Option PageId → Type 0
+abbrev pub IsVictim : ReferenceSet → List PageId → Option PageId → Type 0
 IsVictim S U victim = MatchOption victim (U ≡ []) (λ p. Contains U p × ((q : PageId) → Contains U q → q ≢ p → IsBefore S p q))
 
 -- the n pages named in S that leave last, the last of all first
-abbrev pub warm : List Reference → ℕ → List PageId
+abbrev pub warm : ReferenceSet → ℕ → List PageId
 warm S n = take n (distinct (flip_args (leaving_cmp S)) (pages S))

@@ -10,24 +10,21 @@
 //! - [`warm_list`] lists the pages that leave last, the hottest first.
 #![tactic(auto)]
 
-ghost use Rattle.std.specs.Prelude.{◌≡◌, List, Some};
-ghost use Rattle.warm_stamps.specs.declared.Reference.{Reference};
+ghost use Rattle.std.specs.Prelude.{◌≡◌, Some};
+ghost use Rattle.warm_history.specs.ReferenceSets.{ReferenceSet};
 ghost use Rattle.warm_history.specs.Histories.{StandsFor};
 ghost use Rattle.warm_rank.specs.Keys.{rank_key, page_of};
 ghost use Rattle.warm_rank.specs.Ranking.{leaving_cmp};
 
 pub mod laws;
-mod page_list;
 mod slots;
 #[cfg(test)]
 mod tests;
 mod warm_up;
 
-pub use page_list::PageList;
 pub use slots::Contest;
 use std::cmp::Ordering;
-use warm_history::hist::PageHist;
-use warm_history::history::History;
+use warm_history::{History, PageHist};
 use warm_stamps::{PageId, Stamp};
 pub use warm_up::warm_list;
 
@@ -98,7 +95,7 @@ fn key_of_referenced(page: PageId, hist: PageHist) -> RankKey
 /// Which of two pages leaves first: `Less` where `page` does, `Greater` where `other` does, `Equal` where they are one
 /// page. Takes no memory.
 pub fn leaving_order(history: &History, page: PageId, other: PageId) -> Ordering
-    ensures { (S : List Reference) → StandsFor history.now S → result ≡ leaving_cmp S page other }
+    ensures { (S : ReferenceSet) → StandsFor history.now S → result ≡ leaving_cmp S page other }
 {
     let key = key_of(page, history.get(page));
     let other_key = key_of(other, history.get(other));

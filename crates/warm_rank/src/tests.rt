@@ -1,11 +1,11 @@
 //! The worked histories, run.
-use crate::{Contest, PageList, RankKey, key_of, leaving_order, warm_list};
+use crate::{Contest, RankKey, key_of, leaving_order, warm_list};
 use std::alloc::Global;
 use std::cmp::Ordering;
 use std::process::Abort;
 use std::test::Fail;
-use warm_history::history::History;
-use warm_stamps::{PageId, Reference, ReplicaId, Stamp};
+use warm_history::History;
+use warm_stamps::{PageId, PageList, Reference, ReplicaId, Stamp};
 
 const fn page(no: u32) -> PageId {
     PageId { dev: 0, no }
@@ -92,7 +92,7 @@ fn warm_up_lists_the_hottest_first(rt: HostRuntime) -> Result<(), Fail> {
     let history = history_of(rt.alloc(), &seen)?;
     let hottest = [page(9), page(2), page(5)];
     for n in 0..5usize {
-        let pages = PageList::from_vec(warm_list(rt.alloc(), &history, n)?);
+        let pages = PageList::of(warm_list(rt.alloc(), &history, n)?);
         assert_eq!(rt; pages.as_slice(), &hottest[..n.min(3)], "of {n}");
         assert_eq!(rt; pages.into_vec().len(), n.min(3));
     }

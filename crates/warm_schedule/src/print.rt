@@ -4,8 +4,7 @@ ghost use Rattle.std.specs.Io.KnownBytes.{Appends};
 ghost use Rattle.warm_schedule.specs.Answers.{page_text, stamp_text, hist_text, entry_text, shown_text, listed_text, answer_text, bad_line};
 
 use std::io::{self, Write};
-use warm_history::hist::{Entry, PageHist};
-use warm_history::history::History;
+use warm_history::{Entry, History, PageHist};
 use warm_stamps::{PageId, Stamp};
 use warm_world::Answer;
 

@@ -15,8 +15,16 @@ ghost use Rattle.warm_stamps.specs.Buckets.{page_bucket};
 use std::marker::Model;
 
 mod bytes;
+mod items;
 
 pub use bytes::{page_bytes, page_from, stamp_bytes, stamp_from};
+pub use items::{ByteList, Items, PageList, RefList};
+
+/// The most replicas there are. They are numbered from 1.
+pub const MAX_REPLICAS: u16 = 64;
+
+/// How many buckets there are. They are numbered from 0.
+pub const BUCKETS: u8 = 64;
 
 /// The number of a replica, from 1 to 64.
 #[derive(Debug, Clone, Copy, PartialEq, Eq, PartialOrd, Ord)]

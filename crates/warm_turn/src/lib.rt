@@ -25,7 +25,7 @@
 #![tactic(auto)]
 
 mod board;
-pub mod counter;
+mod counter;
 mod fault;
 pub mod laws;
 mod machine;
@@ -34,6 +34,7 @@ mod plays;
 mod tests;
 mod turn;
 
+pub use counter::{Add, Added, Counter};
 pub use fault::{Busy, Memory, TurnsSpent};
 pub use machine::Machine;
 pub use turn::{Note, Pass, Turn};

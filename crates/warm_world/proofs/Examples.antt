@@ -1,10 +1,10 @@
 -- Worked rows: what events do to the lists of references, computed.
 use Rattle.std.proofs.Common.{◌≡◌, ℕ, [], ◌∷◌, List, None, refl}
-use Rattle.warm_stamps.specs.declared.PageId.{PageId}
 use Rattle.warm_stamps.specs.declared.Reference.{Reference}
 use Rattle.warm_history.specs.declared.hist.Entry.{Entry}
 use Rattle.warm_history.specs.declared.hist.PageHist.TheVariants.{Once, Twice}
-use Rattle.warm_history.specs.Histories.{history}
+use Rattle.warm_history.specs.ReferenceSets.{these}
+use Rattle.warm_history.specs.Histories.{holding, history}
 use Rattle.warm_history.specs.Carried.{carried}
 use Rattle.warm_world.specs.States.{ReplicaState, referred, flushed, received, restarted}
 use Rattle.warm_world.specs.Next.{stamped}
@@ -19,7 +19,7 @@ known last prev = record { page = record { dev = 0; no = 1 }; hist = Twice (reco
 
 -- a replica of one worker
 abbrev told : List Reference → List Reference → ReplicaState
-told reach waiting = record { reach = reach; pending = waiting ∷ [] }
+told reach waiting = record { reach = these reach; pending = waiting ∷ [] }
 
 -- a buffer of two takes the second reference, and is moved before it takes the third
 second_waits : referred 2 0 (at 20 1) (told [] (at 10 1 ∷ [])) ≡ told [] (at 10 1 ∷ at 20 1 ∷ [])
@@ -37,19 +37,19 @@ restart_forgets : restarted (told (at 10 1 ∷ []) (at 20 1 ∷ [])) ≡ told []
 restart_forgets = refl
 
 -- a frame of bucket 1 brings all references to the page 0:1, not only the two that its entry shows
-all_are_carried : carried (at 10 1 ∷ at 20 1 ∷ at 30 1 ∷ []) 1 None 1000 ≡ at 10 1 ∷ at 20 1 ∷ at 30 1 ∷ []
+all_are_carried : carried (these (at 10 1 ∷ at 20 1 ∷ at 30 1 ∷ [])) 1 None 1000 ≡ these (at 10 1 ∷ at 20 1 ∷ at 30 1 ∷ [])
 all_are_carried = refl
 
 -- one replica has the page at 10 and 20, the other at 15 and 30: each delivered to the other, both know 30@2 and 20@1
-first_hears : history (received (at 15 2 ∷ at 30 2 ∷ []) (told (at 10 1 ∷ at 20 1 ∷ []) [])).reach ≡ known (at 30 2) (at 20 1) ∷ []
+first_hears : history (received (these (at 15 2 ∷ at 30 2 ∷ [])) (told (at 10 1 ∷ at 20 1 ∷ []) [])).reach ≡ holding (known (at 30 2) (at 20 1) ∷ [])
 unfolding history
 first_hears = refl
 
-second_hears : history (received (at 10 1 ∷ at 20 1 ∷ []) (told (at 15 2 ∷ at 30 2 ∷ []) [])).reach ≡ known (at 30 2) (at 20 1) ∷ []
+second_hears : history (received (these (at 10 1 ∷ at 20 1 ∷ [])) (told (at 15 2 ∷ at 30 2 ∷ []) [])).reach ≡ holding (known (at 30 2) (at 20 1) ∷ [])
 unfolding history
 second_hears = refl
 
 -- after a restart a replica hears again what it had sent
-hears_again : history (received (at 10 1 ∷ []) (restarted (told (at 10 1 ∷ []) (at 20 1 ∷ [])))).reach ≡ (let e : Entry = record { page = record { dev = 0; no = 1 }; hist = Once (at 10 1).stamp } in e) ∷ []
+hears_again : history (received (these (at 10 1 ∷ [])) (restarted (told (at 10 1 ∷ []) (at 20 1 ∷ [])))).reach ≡ holding ((let e : Entry = record { page = record { dev = 0; no = 1 }; hist = Once (at 10 1).stamp } in e) ∷ [])
 unfolding history
 hears_again = refl

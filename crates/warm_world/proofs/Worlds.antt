@@ -6,10 +6,10 @@ use Rattle.std.specs.Vec.{with_item}
 use Rattle.std.specs.declared.vec.Vec.{Vec}
 use Rattle.std.specs.declared.alloc.Global.{Global}
 use Rattle.warm_history.specs.declared.hist.Entry.{Entry}
-use Rattle.warm_history.specs.Histories.{history}
+use Rattle.warm_history.specs.ReferenceSets.{ReferenceSet, these}
+use Rattle.warm_history.specs.Histories.{entries_of, history}
 use Rattle.warm_frames.specs.declared.frame.Frame.TheVariants.{Entries}
 use Rattle.warm_frames.specs.Spelling.{Spells}
-use Rattle.warm_stamps.specs.declared.Reference.{Reference}
 use Rattle.warm_world.specs.declared.world.World.{World}
 use Rattle.warm_world.specs.declared.world.Replica.{Replica}
 use Rattle.warm_world.specs.declared.event.Event.{Event}
@@ -48,7 +48,7 @@ stands_at w m k x st lt is = rw is (st.replicas.each k x nobody lt)
 pub frame_at : (w : World) (m : ModelState) (k : ℕ) (f : Vec ℕ Global) → StandsFor w m → k < length w.frames.items → f ≡ get_or w.frames.items k f → SpellsRecord f.items (record_at m k)
 frame_at w m k f st lt is =
     let P : Vec ℕ Global → Type 0 = λ g. SpellsRecord g.items (record_at m k) in
-    subst P (sym is) (st.frames.each k f (References 0 []) lt)
+    subst P (sym is) (st.frames.each k f (References 0 (these [])) lt)
 
 -- a frame is sent
 pub frame_joins : (w : World) (m : ModelState) (frames : Vec (Vec ℕ Global) Global) (f : Vec ℕ Global) (kept : FrameRecord) → StandsFor w m → frames.items ≡ w.frames.items ++ f ∷ [] → SpellsRecord f.items kept → StandsFor (record w { frames = frames }) (add_record m kept)
@@ -87,5 +87,5 @@ pub changes : (w : World) (m : ModelState) (event : Event) (answer : Answer) (k 
 changes w m event answer k x r st lt here next = record { new = set_replica m k r; next = next; stands = replica_changes w m k x r st lt here }
 
 -- a frame that spells references comes, and its entries were found
-pub delivered : (m : ModelState) (j : ℕ) (bytes : List ℕ) (found : List Entry) (kept : FrameRecord) (x : Replica) → SpellsRecord bytes kept → ((sender : ℕ) (entries : List Entry) → Spells bytes (Entries sender entries) → found ≡ entries) → ((refs : List Reference) → found ≡ history refs → ReplicaStands m.room (place j) x (received refs (replica m (place j)))) → (r : ReplicaState) × ReplicaStands m.room (place j) x r × Delivered m j kept 0 0 (set_replica m (place j) r)
-delivered m j bytes found (References sender refs) x spells finds there = (received refs (replica m (place j)), there refs (finds sender (history refs) spells), (refl, refl, refl))
+pub delivered : (m : ModelState) (j : ℕ) (bytes : List ℕ) (found : List Entry) (kept : FrameRecord) (x : Replica) → SpellsRecord bytes kept → ((sender : ℕ) (entries : List Entry) → Spells bytes (Entries sender entries) → found ≡ entries) → ((refs : ReferenceSet) → found ≡ entries_of (history refs) → ReplicaStands m.room (place j) x (received refs (replica m (place j)))) → (r : ReplicaState) × ReplicaStands m.room (place j) x r × Delivered m j kept 0 0 (set_replica m (place j) r)
+delivered m j bytes found (References sender refs) x spells finds there = (received refs (replica m (place j)), there refs (finds sender (entries_of (history refs)) spells), (refl, refl, refl))

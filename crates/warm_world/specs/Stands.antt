@@ -1,8 +1,7 @@
 -- A world stands for what its replicas were told.
 use Rattle.std.specs.Prelude.{◌≡◌, ℕ, ◌+◌, ◌<◌, List, [], length, map, slice_index_or}
 use Rattle.warm_stamps.specs.declared.Reference.{Reference}
-use Rattle.warm_history.specs.declared.hist.Entry.{Entry}
-use Rattle.warm_history.specs.Histories.{history}
+use Rattle.warm_history.specs.Histories.{HistoryView, entries_of, holding, history}
 use Rattle.warm_history.specs.References.{HoldSame}
 use Rattle.warm_frames.specs.declared.frame.Frame.TheVariants.{Entries}
 use Rattle.warm_frames.specs.Spelling.{Spells}
@@ -29,7 +28,7 @@ pub record ReplicaStands (room place : ℕ) (r : Replica) (m : ReplicaState) : T
 
 -- the bytes of a kept frame spell its record: entries from the sender, the page histories of the references that it brings
 abbrev pub SpellsRecord : List ℕ → FrameRecord → Type 0
-SpellsRecord bytes (References sender refs) = Spells bytes (Entries sender (history refs))
+SpellsRecord bytes (References sender refs) = Spells bytes (Entries sender (entries_of (history refs)))
 
 -- the world stands for the model state: replica by replica, and frame by frame
 pub record StandsFor (w : World) (m : ModelState) : Type 0 where
@@ -47,8 +46,8 @@ pub record Stepped (old : ModelState) (event : Event) (answer : Answer) (w : Wor
   pub stands : StandsFor w new
 
 -- the history of the replica of a number
-abbrev pub history_of : World → ℕ → List Entry
-history_of w i = slice_index_or (map (λ r. r.history) w.replicas.items) (place i) []
+abbrev pub history_of : World → ℕ → HistoryView
+history_of w i = slice_index_or (map (λ r. r.history) w.replicas.items) (place i) (holding [])
 
 -- each replica's history is exactly the two latest stamps of every page among the references that reached it
 abbrev pub HistoriesAreExact : World → ModelState → Type 0
@@ -57,7 +56,7 @@ HistoriesAreExact w m = (i : ℕ) → IsNumber i (length m.replicas) → history
 -- two replicas have one history, and the references that reached them rank pages alike: any two pages leave in the same
 -- order, and the warm-up lists of any length are the same
 pub record Agree (w : World) (m : ModelState) (i j : ℕ) : Type 0 where
-  pub histories : history_of w i ≡ history_of w j
+  pub histories : entries_of (history_of w i) ≡ entries_of (history_of w j)
   pub ranking : RankAlike (reach_of m i) (reach_of m j)
 
 -- replicas that the same references reached agree

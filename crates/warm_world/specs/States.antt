@@ -1,16 +1,17 @@
 -- What replicas are told: every reference, for good, in plain lists.
 use Rattle.std.specs.Prelude.{ℕ, List, [], ◌∷◌, ◌++◌, length, map, nat_le, replicate, if◌then◌else◌, slice_index_or, slice_set}
 use Rattle.warm_stamps.specs.declared.Reference.{Reference}
+use Rattle.warm_history.specs.ReferenceSets.{ReferenceSet, these, ◌∪◌}
 use Rattle.warm_world.specs.Lists.{place}
 
 -- of one replica: the references that reached it since its restart, and for each worker those that wait in its buffer
 pub record ReplicaState : Type 0 where
-  pub reach : List Reference
+  pub reach : ReferenceSet
   pub pending : List (List Reference)
 
 -- what a kept frame stands for: its sender, and the references that it brings
 pub data FrameRecord : Type 0 where
-  References : (sender : ℕ) (refs : List Reference) → FrameRecord
+  References : (sender : ℕ) (refs : ReferenceSet) → FrameRecord
 
 -- of all replicas; room is how many references a buffer holds
 pub record ModelState : Type 0 where
@@ -19,14 +20,14 @@ pub record ModelState : Type 0 where
   pub records : List FrameRecord
 
 abbrev pub nobody : ReplicaState
-nobody = record { reach = []; pending = [] }
+nobody = record { reach = these []; pending = [] }
 
 -- the replica at a place
 abbrev pub replica : ModelState → ℕ → ReplicaState
 replica m k = slice_index_or m.replicas k nobody
 
 -- the references that reached the replica of a number, directly or through others, since its restart
-abbrev pub reach_of : ModelState → ℕ → List Reference
+abbrev pub reach_of : ModelState → ℕ → ReferenceSet
 reach_of m i = (replica m (place i)).reach
 
 -- the replica at a place is changed, and nothing else
@@ -35,7 +36,7 @@ set_replica m k r = record m { replicas = slice_set m.replicas k r }
 
 -- the record at a place
 abbrev pub record_at : ModelState → ℕ → FrameRecord
-record_at m k = slice_index_or m.records k (References 0 [])
+record_at m k = slice_index_or m.records k (References 0 (these []))
 
 -- a record is kept after the others
 abbrev pub add_record : ModelState → FrameRecord → ModelState
@@ -47,7 +48,7 @@ pending r k = slice_index_or r.pending k []
 
 -- that buffer moves to the end of what reached the replica
 abbrev pub flushed : ℕ → ReplicaState → ReplicaState
-flushed k r = record r { reach = r.reach ++ pending r k; pending = slice_set r.pending k [] }
+flushed k r = record r { reach = r.reach ∪ these (pending r k); pending = slice_set r.pending k [] }
 
 -- a reference is put last in that buffer
 abbrev pub put_last : ℕ → Reference → ReplicaState → ReplicaState
@@ -58,16 +59,16 @@ abbrev pub referred : ℕ → ℕ → Reference → ReplicaState → ReplicaStat
 referred room k x r = put_last k x (if nat_le room (length (pending r k)) then flushed k r else r)
 
 -- references come from another replica
-abbrev pub received : List Reference → ReplicaState → ReplicaState
-received refs r = record r { reach = r.reach ++ refs }
+abbrev pub received : ReferenceSet → ReplicaState → ReplicaState
+received refs r = record r { reach = r.reach ∪ refs }
 
 -- nothing reached it since, and nothing waits
 abbrev pub restarted : ReplicaState → ReplicaState
-restarted r = record r { reach = []; pending = map (λ _. []) r.pending }
+restarted r = record r { reach = these []; pending = map (λ _. []) r.pending }
 
 -- a replica that nothing reached
 abbrev pub fresh : ℕ → ReplicaState
-fresh workers = record { reach = []; pending = replicate workers [] }
+fresh workers = record { reach = these []; pending = replicate workers [] }
 
 -- before the first event
 abbrev pub opening : ℕ → ℕ → ℕ → ModelState

@@ -3,9 +3,8 @@ ghost use Rattle.std.specs.Prelude.{◌≡◌};
 ghost use Rattle.warm_world.specs.Faults.{code_of, name_of};
 ghost use Rattle.warm_world.specs.Next.{replica_of, worker_of, frame_of};
 
-use warm_history::history::History;
-use warm_rank::PageList;
-use warm_stamps::{Bucket, PageId};
+use warm_history::History;
+use warm_stamps::{Bucket, PageId, PageList};
 
 /// What happens to a world. Replicas, workers and frames are numbered from 1.
 #[derive(Clone, Copy, Debug, PartialEq, Eq)]

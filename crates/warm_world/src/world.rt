@@ -1,7 +1,8 @@
 //! The world: its replicas, their workers' buffers, and the frames that were sent.
 ghost use Rattle.std.specs.Prelude.{◌≡◌, ℕ, ◌+◌, ◌<◌, ◌≤◌, List, [], ◌++◌, length, OnOk, OnErr, IfOk, IfErr, IsTrue, ◌↔◌, replicate};
 ghost use Rattle.warm_stamps.specs.declared.Reference.{Reference};
-ghost use Rattle.warm_history.specs.Histories.{history};
+ghost use Rattle.warm_history.specs.ReferenceSets.{ReferenceSet};
+ghost use Rattle.warm_history.specs.Histories.{entries_of, history};
 ghost use Rattle.warm_history.specs.declared.hist.Entry.{Entry};
 ghost use Rattle.warm_frames.specs.declared.frame.Frame.TheVariants.{Entries};
 ghost use Rattle.warm_frames.specs.Spelling.{Spells};
@@ -14,16 +15,11 @@ ghost use Rattle.warm_world.specs.Stands.{ReplicaStands, StandsFor, seen_shape, 
 use crate::event::{Answer, Event, WorldFault};
 use crate::setup::Setup;
 use std::alloc::{AllocError, Global};
-use warm_frames::entries::EntryList;
-use warm_frames::frame::{Frame, decode, encode};
-use warm_history::hist::Entry;
-use warm_history::history::History;
-use warm_rank::{PageList, warm_list};
+use warm_frames::{EntryList, Frame, MAX_ENTRIES, decode, encode};
+use warm_history::{Entry, History};
+use warm_rank::warm_list;
 use warm_refbuffer::{BufferFault, RefBuffer};
-use warm_stamps::{Bucket, PageId, Reference, ReplicaId, Stamp};
-
-/// The most entries that a frame has.
-const MOST_ENTRIES: usize = 1000;
+use warm_stamps::{Bucket, PageId, PageList, Reference, ReplicaId, Stamp};
 
 #[derive(Debug, Drop)]
 struct Replica {
@@ -149,8 +145,8 @@ impl Replica {
     }
 
     fn receive(&mut self, entries: &[Entry]) -> Result<(), AllocError>
-        ensures ok { (room place : ℕ) (m : ReplicaState) (refs : List Reference) → ReplicaStands room place self.old m
-            → entries.now ≡ history refs → OnOk result (ReplicaStands room place self.new (received refs m)) }
+        ensures ok { (room place : ℕ) (m : ReplicaState) (refs : ReferenceSet) → ReplicaStands room place self.old m
+            → entries.now ≡ entries_of (history refs) → OnOk result (ReplicaStands room place self.new (received refs m)) }
         ensures err { OnErr result (self.new ≡ self.old) }
     {
         self.history.join_entries(entries)?;
@@ -244,7 +240,7 @@ impl World {
     {
         let replica = &self.replicas[i as usize - 1];
         let sender = replica.id;
-        let Ok(entries) = replica.history.entries(bucket, after, MOST_ENTRIES) else {
+        let Ok(entries) = replica.history.entries(bucket, after, MAX_ENTRIES) else {
             return Answer::Refused(WorldFault::Memory);
         };
         let Ok(entries) = EntryList::of(entries) else {
@@ -278,7 +274,7 @@ impl World {
     {
         let replica = &self.replicas[i as usize - 1];
         match warm_list(self.alloc, &replica.history, n as usize) {
-            Ok(pages) => Answer::Pages(PageList::from_vec(pages)),
+            Ok(pages) => Answer::Pages(PageList::of(pages)),
             Err(_) => Answer::Refused(WorldFault::Memory),
         }
     }

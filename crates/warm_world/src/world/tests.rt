@@ -5,8 +5,7 @@ use crate::setup::{BadSetup, Setup};
 use std::alloc::Global;
 use std::process::Abort;
 use std::test::Fail;
-use warm_history::hist::PageHist;
-use warm_history::history::History;
+use warm_history::{History, PageHist};
 use warm_stamps::{Bucket, PageId};
 
 const PAGE: PageId = PageId { dev: 0, no: 1 };

@@ -1,4 +1,4 @@
-use Rattle.std.proofs.Common.{◌≡◌, ◌∙◌, ap, Ok}
+use Rattle.std.proofs.Common.{◌∙◌, ap, Ok}
 use Rattle.warm_frames.specs.declared.frame.Frame.TheVariants.{Entries}
 use Rattle.warm_frames.specs.Reading.{room_of}
 use Rattle.warm_world.proofs.Kept.{same_entries}

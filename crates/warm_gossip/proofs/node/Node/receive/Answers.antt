@@ -4,6 +4,6 @@ use Rattle.warm_gossip.proofs.node.Node.receive.Goals as goal
 
 pub returns-in-Ok-clause-answers : goal.returns-in-Ok-clause-answers
 returns-in-Ok-clause-answers g c = (
-  answered _ _ _ _ _ _ c.in-Digest.is c.of-in-Ok.ensures (c.in-Ok.ensures c.in-Digest.sender),
+  answered _ c.args.self.now.history _ _ _ _ c.in-Digest.is c.of-in-Ok.ensures (c.in-Ok.ensures c.in-Digest.sender),
   taught_nothing _ _ _ c.in-Digest.is refl,
 )

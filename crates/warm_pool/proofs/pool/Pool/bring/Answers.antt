@@ -4,7 +4,7 @@ use Rattle.warm_pool.proofs.Pins.{put_refused, failed_ranked, loaded_ranked, loa
 use Rattle.warm_pool.proofs.pool.Pool.bring.Goals as goal
 
 pub returns-in_default-clause-refused : goal.returns-in_default-clause-refused
-returns-in_default-clause-refused g c = (c.in_default.ensures.place _ c.requires.ranked, refl)
+returns-in_default-clause-refused g c = (c.in_default.ensures.place c.args.history.now c.requires.ranked, refl)
 
 pub load_into-requires-clause-room : goal.load_into-requires-clause-room
 load_into-requires-clause-room g c =

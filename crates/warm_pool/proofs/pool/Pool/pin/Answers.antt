@@ -9,7 +9,7 @@ pub add_fix-requires-clause-held : goal.add_fix-requires-clause-held
 add_fix-requires-clause-held g c none = let holds = found_holds c.requires.pool c.args.page _ c.in-Some.ensures in absurd (cc)
 
 pub returns-in-Some-clause-ranked : goal.returns-in-Some-clause-ranked
-returns-in-Some-clause-ranked g c = c.add_fix.ensures.ranked _ c.requires.ranked
+returns-in-Some-clause-ranked g c = c.add_fix.ensures.ranked c.args.history.now c.requires.ranked
 
 pub returns-in-Some-clause-pinned : goal.returns-in-Some-clause-pinned
 returns-in-Some-clause-pinned g c =

@@ -1,4 +1,5 @@
-use Rattle.std.proofs.Common.{◌≡◌, ◌++◌, get_or, [], ◌∙◌, ap, refl}
+use Rattle.std.proofs.Common.{◌≡◌, get_or, [], ◌∙◌, ap, refl}
+use Rattle.warm_history.specs.ReferenceSets.{these, ◌∪◌}
 use Rattle.warm_history.specs.Histories.{history}
 use Rattle.warm_refbuffer.specs.Buffered.{Buffered}
 use Rattle.warm_world.proofs.Replicas.{buffer_at, buffer_set}
@@ -15,6 +16,6 @@ returns-clause-ok c = λ room place m st.
     record {
       has_room = st.has_room;
       id = st.id;
-      history_is = c.in_ok-absorb.ensures.ok m.reach st.history_is ∙ ap (λ b. history (m.reach ++ b)) batch;
+      history_is = c.in_ok-absorb.ensures.ok m.reach st.history_is ∙ ap (λ b. history (m.reach ∪ these b)) batch;
       buffers_are = buffer_set room bs m.pending c.args.worker c.clear.new.self [] st.buffers_are (rw (c.clear.ensures, cap) refl);
     }

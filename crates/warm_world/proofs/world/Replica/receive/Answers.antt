@@ -1,5 +1,6 @@
-use Rattle.std.proofs.Common.{◌++◌, ◌∙◌, ap}
-use Rattle.warm_history.specs.Histories.{history, refs}
+use Rattle.std.proofs.Common.{◌∙◌, ap}
+use Rattle.warm_history.specs.ReferenceSets.{◌∪◌}
+use Rattle.warm_history.specs.Histories.{holding, history, refs}
 use Rattle.warm_history.proofs.JoinLemmas.{history_second}
 use Rattle.warm_world.proofs.world.Replica.receive.Goals as goal
 
@@ -7,6 +8,6 @@ pub returns-clause-ok : goal.returns-clause-ok
 returns-clause-ok c = λ room place m told st spelled. record {
   has_room = st.has_room;
   id = st.id;
-  history_is = c.in_ok-join_entries.ensures.ok m.reach st.history_is ∙ (ap (λ h. history (m.reach ++ refs h)) spelled ∙ history_second m.reach told);
+  history_is = c.in_ok-join_entries.ensures.ok m.reach st.history_is ∙ (ap (λ es. history (m.reach ∪ refs (holding es))) spelled ∙ history_second m.reach told);
   buffers_are = st.buffers_are;
 }

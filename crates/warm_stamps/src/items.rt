@@ -1,13 +1,25 @@
-//! Lists inside calls and replies.
+//! Lists inside calls, replies, answers and frames.
 ghost use Rattle.std.specs.Prelude.{◌≡◌};
 
+use crate::{PageId, Reference};
 use std::marker::Model;
 
-/// A list inside a call or a reply. Contracts see the list of its items.
-#[derive(Drop)]
+/// A list of items, in any order. Contracts see the list, and nothing else of the vector that holds it.
+///
+/// It is made of a vector and gives it back, and neither takes memory.
+#[derive(Debug, Drop)]
 pub struct Items<T> {
     items: Vec<T>,
 }
+
+/// A list of references.
+pub type RefList = Items<Reference>;
+
+/// A list of pages.
+pub type PageList = Items<PageId>;
+
+/// A list of bytes.
+pub type ByteList = Items<u8>;
 
 impl<T> Model for Items<T> {
     ghost use Rattle.std.specs.Prelude.{List};
