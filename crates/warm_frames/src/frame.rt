@@ -1,6 +1,6 @@
 //! Frames, and their spelling.
 ghost use Rattle.std.specs.Prelude.{◌≡◌, Ok, IfOk};
-ghost use Rattle.warm_frames.specs.Spelling.{Spells};
+ghost use Rattle.warm_frames.specs.Spelling.{spelling, Spells};
 ghost use Rattle.warm_frames.specs.Reading.{Gives, read_frame, room_of};
 
 use crate::entries::EntryList;
@@ -42,7 +42,10 @@ pub type FrameList = Items<Frame>;
 
 /// The bytes that spell the frame. `AllocError` comes only where room for them was refused.
 pub fn encode(alloc: Global, frame: &Frame) -> Result<Vec<u8>, AllocError>
-    ensures { IfOk result (λ bytes. Spells bytes.items frame.now) }
+    // What is written spells the frame, so that it is decoded again.
+    ensures spells { IfOk result (λ bytes. Spells bytes.items frame.now) }
+    // It is this spelling, whatever others a reader may take.
+    ensures exact { IfOk result (λ bytes. bytes.items ≡ spelling frame.now) }
 {
     match frame {
         Frame::Entries { sender, entries } => entries_text(alloc, *sender, entries),

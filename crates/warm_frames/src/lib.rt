@@ -6,6 +6,7 @@
 #![tactic(auto)]
 
 mod entries;
+mod entry_bytes;
 mod fault;
 mod frame;
 pub mod laws;
@@ -16,6 +17,7 @@ mod tests;
 mod writing;
 
 pub use entries::{EntryList, MAX_ENTRIES};
+pub use entry_bytes::EntryBytes;
 pub use fault::FrameFault;
 pub use frame::{Frame, FrameList, decode, encode};
 pub use sums::SumTable;

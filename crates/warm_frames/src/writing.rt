@@ -6,11 +6,12 @@ ghost use Rattle.warm_frames.specs.Entries.{hist_bytes, entry_bytes, entries_byt
 ghost use Rattle.warm_frames.specs.Spelling.{header_bytes, Spells};
 
 use crate::entries::EntryList;
+use crate::entry_bytes::EntryBytes;
 use crate::reading::MAGIC;
 use crate::sums::SumTable;
 use std::alloc::{AllocError, Global};
 use warm_history::{Entry, PageHist};
-use warm_stamps::{ReplicaId, page_bytes, stamp_bytes};
+use warm_stamps::ReplicaId;
 
 // The header of a frame, with room for a body of this length.
 fn header(alloc: Global, kind: u8, sender: ReplicaId, len: u32) -> Result<Vec<u8>, AllocError>
@@ -25,30 +26,11 @@ fn header(alloc: Global, kind: u8, sender: ReplicaId, len: u32) -> Result<Vec<u8
     Ok(text)
 }
 
-fn put_hist(text: &mut Vec<u8>, hist: PageHist) -> Result<(), AllocError>
-    ensures { OnOk result (text.new.items ≡ text.old.items ++ hist_bytes hist) }
-{
-    match hist {
-        PageHist::Once(last) => {
-            text.push(1)?;
-            text.extend_from_slice(&stamp_bytes(last))?;
-        }
-        PageHist::Twice(two) => {
-            let last = two.last();
-            let prev = two.prev();
-            text.push(2)?;
-            text.extend_from_slice(&stamp_bytes(last))?;
-            text.extend_from_slice(&stamp_bytes(prev))?;
-        }
-    }
-    Ok(())
-}
-
 fn put_entry(text: &mut Vec<u8>, entry: &Entry) -> Result<(), AllocError>
     ensures { OnOk result (text.new.items ≡ text.old.items ++ entry_bytes entry.now) }
 {
-    text.extend_from_slice(&page_bytes(entry.page))?;
-    put_hist(text, entry.hist)
+    text.extend_from_slice(EntryBytes::of(entry).as_slice())?;
+    Ok(())
 }
 
 fn hist_len(hist: PageHist) -> u32
