@@ -14,7 +14,7 @@ use Rattle.warm_turn.specs.declared.board.Held.{Held}
 use Rattle.warm_turn.specs.Turns.{nobody, entry, calls_by, Runs, IsLast, IsNote, IsPass, first_pass, note_of, new_pass, marked, learned, joined, settled}
 use Rattle.warm_turn.specs.Rule.{ticket_word, serving_word, IsQueued, IsRecorded, Kept}
 use Rattle.warm_turn.specs.Steps.{waiting, server, after_call, took, looked, passed, caught_up, became_pass}
-use Rattle.warm_turn.proofs.Lists.{off, Some_same, same_at, same_carried}
+use Rattle.warm_turn.proofs.Lists.{off, never, Some_same, same_at, same_carried}
 use Rattle.warm_turn.proofs.Tickets as tickets
 use Rattle.warm_turn.proofs.Histories as histories
 
@@ -85,6 +85,7 @@ module _ {M X C R : Type 0} (meaning : M → X) (fit : M → Type 0) (goes : X �
       dite (ℕ_discrete t old)
       (λ (hit : t ≡ old).
       let w : V = waiting v t in
+      let unmarked : v.found_last ≡ false = never v.found_last (λ h. let full = q.full h in omega arith) in
       let kept : Rule (stepped s 0 new me cs w keeps) = record {
         turns = tickets.takes_ticket fit s r.turns me cs v at owns rests new (up ∙ ap (λ k. k + 1) (sym hit)) small;
         history = histories.stays meaning goes o s.homes s.views r.history me v w at sees
@@ -94,7 +95,7 @@ module _ {M X C R : Type 0} (meaning : M → X) (fit : M → Type 0) (goes : X �
         keeps,
         tt,
         subst (λ (b : Bool). Rule (stepped s 0 (either b new t) me cs w keeps)) (sym (eq-eqb t old hit)) kept,
-        ((λ _. refl), (λ miss. absurd (miss hit)), (λ miss. absurd (miss hit))),
+        ((λ _. (unmarked, refl)), (λ miss. absurd (miss hit)), (λ miss. absurd (miss hit))),
       ))
       (λ (miss : t ≢ old). dite (ℕ_discrete (t + 1) (2 ^ 64))
       (λ (most : t + 1 ≡ 2 ^ 64).

@@ -98,11 +98,16 @@ module _ {X C R : Type 0} where
   abbrev pub IsNote : View X C R → Type 0
   IsNote v = (v.sees ≡ true) × (v.owns ≡ false) × (v.serves ≡ false)
 
-  -- What a call tells: the list begins with the list that the pass had and ends with the call, which is one more of its own. Nothing else of the pass changed
-  abbrev pub Called : (X → C → R → X → Type 0) → View X C R → C → R → View X C R → Type 0
-  Called goes v c r w =
-      (between : List (Entry C R)) × (w.seen ≡ (v.seen ++ between) ++ entry v.number c r ∷ []) × (w.mine ≡ v.mine ++ entry v.number c r ∷ [])
-      × (w.number ≡ v.number) × (w.ended ≡ v.ended) × (w.opening ≡ v.opening) × (w.found_last ≡ v.found_last) × IsPass goes w
+  -- What an answered call tells: the list begins with the list that the pass had and ends with the call, which is one more of its own. The pass had no mark, and nothing else of it changed
+  pub record Called (goes : X → C → R → X → Type 0) (v : View X C R) (c : C) (r : R) (w : View X C R) : Type 0 where
+    pub between : List (Entry C R)
+    pub seen : w.seen ≡ (v.seen ++ between) ++ entry v.number c r ∷ []
+    pub mine : w.mine ≡ v.mine ++ entry v.number c r ∷ []
+    pub number : w.number ≡ v.number
+    pub ended : w.ended ≡ v.ended
+    pub opening : w.opening ≡ v.opening
+    pub unmarked : (v.found_last ≡ false) × (w.found_last ≡ false)
+    pub legal : IsPass goes w
 
   -- both lists begin the new one, and nothing else of the pass changed
   abbrev pub Learned : (X → C → R → X → Type 0) → View X C R → View X C R → View X C R → Type 0
@@ -114,13 +119,14 @@ module _ {X C R : Type 0} where
   Joined goes v u w =
       (log : List (Entry C R)) × (w ≡ settled (joined v u) log) × IsPrefix v.seen log × IsPrefix u.seen log × IsPass goes w
 
-  -- the pass has seen more, and these calls are more of its own. Else it is as before, but for the mark that no ticket was left
+  -- the pass has seen more, and these calls are more of its own. Else it is as before, but that it may have a mark, which then stays
   pub record Extended (v : View X C R) (more : List (Entry C R)) (w : View X C R) : Type 0 where
     pub seen : IsPrefix v.seen w.seen
     pub mine : w.mine ≡ v.mine ++ more
     pub number : w.number ≡ v.number
     pub ended : w.ended ≡ v.ended
     pub opening : w.opening ≡ v.opening
+    pub mark : v.found_last ≡ true → w.found_last ≡ true
 
 -- What a closed turn gives: the machine is in a state that a history which is legal from the opening state reaches. The history begins with the list of the pass, and has no further entry of any number that the pass holds
 pub record IsLast {X C R : Type 0} (goes : X → C → R → X → Type 0) (opening : X) (v : View X C R) (x : X) : Type 0 where

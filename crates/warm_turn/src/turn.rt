@@ -1,8 +1,8 @@
 //! The turn, its passes and notes.
 ghost use Rattle.std.specs.Prelude.{◌≡◌, ◌≢◌, ℕ, ◌+◌, ◌^◌, ◌<◌, true, false, [], ◌∷◌, Some, IfOk, IfErr, IfSome, IfNone};
 ghost use Rattle.warm_turn.specs.declared.board.Held.{Held};
-ghost use Rattle.warm_turn.specs.Turns.{entry, calls_by, first_pass, new_pass, note_of, marked, IsPass, IsStep, IsLast, Called, Learned, Joined};
-ghost use Rattle.warm_turn.specs.Steps.{waiting, after_call, HasMachine, IsMade, Served};
+ghost use Rattle.warm_turn.specs.Turns.{calls_by, first_pass, new_pass, note_of, marked, IsPass, IsStep, IsLast, Called, Learned, Joined};
+ghost use Rattle.warm_turn.specs.Steps.{HasTicket, HasMachine, IsMade, Served, HasPassedOn};
 
 use crate::board::{Board, Held, Made, Place, Top};
 use crate::fault::{Busy, Memory, TurnsSpent};
@@ -81,7 +81,7 @@ fn take_ticket<M: Machine, R: Wait>(rt: &R, top: &Top<M>, place: &mut Place<M>) 
     requires table { (place.old.table_id ≡ top.now.table_id) × (top.now.table_id.words ≡ 2) }
     requires idle { IsPass M.goes place.old.me.0 }
     ensures table { (place.new.table_id ≡ place.old.table_id) × (place.new.id ≡ place.old.id) }
-    ensures some { IfSome result (λ k. (place.new.me ≡ (waiting place.old.me.0 k, place.old.me.1))) }
+    ensures some { IfSome result (λ k. HasTicket place.old.me k place.new.me) }
     ensures none { IfNone result (place.new.me ≡ (marked place.old.me.0, place.old.me.1)) }
 {
     let mut expected = 0;
@@ -151,8 +151,7 @@ fn pass_on<M: Machine>(
         × (top.now.table_id.slots ≡ 1) }
     requires made { IsMade M.meaning M.is_fit M.goes place.old.me call.value reply.now }
     ensures table { (place.new.table_id ≡ place.old.table_id) × (place.new.id ≡ place.old.id) }
-    ensures added { (place.new.me ≡ (after_call place.old.me.0 (entry place.old.me.0.number call.value reply.now), []))
-        × IsPass M.goes place.new.me.0 }
+    ensures added { HasPassedOn M.goes place.old.me call.value reply.now place.new.me }
 {
     let _ = (call, reply);
     top.fetch_add::<PassOn>(place, 1, 1);
