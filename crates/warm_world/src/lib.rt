@@ -17,3 +17,6 @@ mod world;
 pub use event::{Answer, Event, WorldFault};
 pub use setup::{BadSetup, Setup};
 pub use world::World;
+
+/// The most workers that a replica has. They are numbered from 1.
+pub const MAX_WORKERS: u16 = 16;

@@ -1,9 +1,15 @@
 //! How large a world is.
 ghost use Rattle.std.specs.Prelude.{◌≡◌, ◌↔◌, IsOk, IfOk, IsTrue};
+ghost use Rattle.warm_stamps.specs.declared.TheConstants.{MAX_REPLICAS};
+ghost use Rattle.warm_devices.specs.declared.flaky.TheConstants.{MAX_PAGE_SIZE};
+ghost use Rattle.warm_world.specs.declared.TheConstants.{MAX_WORKERS};
 ghost use Rattle.warm_world.specs.Limits.{IsWithin};
 ghost use Rattle.warm_world.specs.Sizes.{IsSetup};
 
+use crate::MAX_WORKERS;
 use std::marker::Model;
+use warm_devices::MAX_PAGE_SIZE;
+use warm_stamps::MAX_REPLICAS;
 
 /// How large a world is. Contracts see `Sizes`, the five numbers, each within its limits.
 #[derive(Clone, Copy, Debug, PartialEq, Eq)]
@@ -49,7 +55,7 @@ impl Model for Setup {
 #[derive(Clone, Copy, Debug, PartialEq, Eq)]
 pub struct BadSetup;
 
-fn is_within(most: u32, n: u32) -> bool
+fn is_within(most: usize, n: usize) -> bool
     ensures { IsTrue result ↔ IsWithin most n }
 {
     1 <= n && n <= most
@@ -81,11 +87,11 @@ impl Setup {
           page_size = page_size;
         }) }
     {
-        if is_within(64, u32::from(replicas))
-            && is_within(16, u32::from(workers))
-            && is_within(1024, u32::from(buffer))
-            && is_within(65536, frames)
-            && is_within(65536, page_size)
+        if is_within(MAX_REPLICAS as usize, replicas as usize)
+            && is_within(MAX_WORKERS as usize, workers as usize)
+            && is_within(1024, buffer as usize)
+            && is_within(65536, frames as usize)
+            && is_within(MAX_PAGE_SIZE, page_size as usize)
         {
             return Ok(Setup {
                 replicas,
@@ -101,7 +107,7 @@ impl Setup {
     /// How many replicas there are: 1 to 64.
     pub fn replicas(self) -> u16
         ensures value { result ≡ self.replicas }
-        ensures limits { IsWithin 64 result }
+        ensures limits { IsWithin MAX_REPLICAS result }
     {
         self.replicas
     }
@@ -109,7 +115,7 @@ impl Setup {
     /// How many workers each replica has: 1 to 16.
     pub fn workers(self) -> u16
         ensures value { result ≡ self.workers }
-        ensures limits { IsWithin 16 result }
+        ensures limits { IsWithin MAX_WORKERS result }
     {
         self.workers
     }
@@ -133,7 +139,7 @@ impl Setup {
     /// How many bytes a page has: 1 to 65,536.
     pub fn page_size(self) -> u32
         ensures value { result ≡ self.page_size }
-        ensures limits { IsWithin 65536 result }
+        ensures limits { IsWithin MAX_PAGE_SIZE result }
     {
         self.page_size
     }
