@@ -1,3 +1,4 @@
+pub mod Backward
 pub mod Greatest
 pub mod Keys
 pub mod Laws
