@@ -1,7 +1,7 @@
 //! Bucket sums: two replicas whose sums of a bucket are equal need not send each other its entries.
 //!
-//! The sum of a bucket is the SHA-256 digest (FIPS 180-4) of its entries as they stand in a gossip frame, one after the
-//! other in page order, without a count.
+//! The sum of a bucket is the SHA-256 digest (FIPS 180-4) of its entries as they stand in a gossip
+//! frame, one after the other in page order, without a count.
 #![tactic(auto)]
 
 ghost use Rattle.std.specs.Prelude.{◌≡◌, List, [], length, IfOk};
@@ -14,7 +14,7 @@ ghost use Rattle.warm_digest.specs.Hashing.{TakesBytes, HaveTaken, TakeEntry};
 
 use sha2::{Digest, Sha256};
 use std::alloc::{AllocError, Global};
-use warm_frames::{EntryBytes, SumTable};
+use warm_frames::{EntryBytes, SUM_SIZE, SumTable};
 use warm_history::{Entry, History};
 use warm_stamps::{BUCKETS, Bucket, bucket_of};
 
@@ -48,11 +48,11 @@ fn take_into(hashers: &mut Vec<Sha256>, entry: Entry)
 }
 
 // What the hashers have come to.
-fn digests(mut hashers: Vec<Sha256>) -> [[u8; 32]; BUCKETS as usize]
+fn digests(mut hashers: Vec<Sha256>) -> [[u8; SUM_SIZE]; BUCKETS as usize]
     requires { length hashers.items ≡ BUCKETS }
     ensures { (taken : List Entry) → HaveTaken hashers.items taken → result ≡ sums_of taken }
 {
-    let mut sums = [[0; 32]; BUCKETS as usize];
+    let mut sums = [[0; SUM_SIZE]; BUCKETS as usize];
     while let Some(hasher) = hashers.pop() {
         sums[hashers.len()] = hasher.finalize();
     }
@@ -72,8 +72,8 @@ pub fn sums(alloc: Global, history: &History) -> Result<SumTable, AllocError>
     Ok(SumTable::of(digests(hashers)))
 }
 
-/// The buckets at which two tables differ, as a mask: bit b, of value 2^b, is set exactly where the sums of bucket b
-/// differ. Takes no memory.
+/// The buckets at which two tables differ, as a mask: bit b, of value 2^b, is set exactly where the
+/// sums of bucket b differ. Takes no memory.
 pub fn differing(left: &SumTable, right: &SumTable) -> u64
     ensures { MarksDiffering result left.now right.now }
 {

@@ -1,30 +1,31 @@
-//! The bytes of an entry, as they stand in a frame and as they are summed. They are written here alone.
-ghost use Rattle.std.specs.Prelude.{◌≡◌, ◌≤◌, ◌+◌, ◌++◌, [], length, take};
-ghost use Rattle.warm_frames.specs.Entries.{hist_bytes, entry_bytes};
+//! The bytes of an entry, as they stand in a frame and as they are summed: written here alone.
+ghost use Rattle.std.specs.Prelude.{◌≡◌, ◌≤◌, ◌+◌, ◌++◌, [], length};
+ghost use Rattle.warm_frames.specs.Entries.{longest_entry, hist_bytes, entry_bytes};
 
 use std::marker::Model;
 use warm_history::{Entry, PageHist};
 use warm_stamps::{page_bytes, stamp_bytes};
 
 // The most bytes of an entry: a page, a tag and two stamps.
-const MOST: usize = 27;
+pub(crate) const MAX_ENTRY_SIZE: usize = 6 + 1 + 2 * 10;
 
-/// The bytes of an entry, as they stand in a frame: its page, a tag, which is the number of its stamps,
-/// and the stamps, the later one first. Contracts see the list of the bytes. Takes no memory.
+/// The bytes of an entry, as they stand in a frame: its page, a tag, which is the number of its
+/// stamps, and the stamps, the later one first. Contracts see the list of the bytes. Takes no memory.
 #[derive(Debug, Drop)]
 pub struct EntryBytes {
-    bytes: [u8; MOST],
+    bytes: [u8; MAX_ENTRY_SIZE],
     len: usize,
 }
 
 impl Model for EntryBytes {
     ghost use Rattle.std.specs.Prelude.{ℕ, List, take, ◌≤◌};
+    ghost use Rattle.warm_frames.specs.Entries.{longest_entry};
 
     ghost Value = { List ℕ };
 
     ghost view = { λ text. take text.len text.bytes };
 
-    ghost invariant = { λ text. text.len ≤ 27 };
+    ghost invariant = { λ text. text.len ≤ longest_entry };
 }
 
 impl EntryBytes {
@@ -49,7 +50,7 @@ impl EntryBytes {
         ensures { result ≡ [] }
     {
         EntryBytes {
-            bytes: [0; MOST],
+            bytes: [0; MAX_ENTRY_SIZE],
             len: 0,
         }
     }
@@ -75,7 +76,7 @@ impl EntryBytes {
 
     // Puts bytes behind those that stand there.
     fn put(&mut self, more: &[u8])
-        requires { length self.old + length more.now ≤ 27 }
+        requires { length self.old + length more.now ≤ longest_entry }
         ensures { self.new ≡ self.old ++ more.now }
     {
         let end = self.len + more.len();

@@ -1,14 +1,15 @@
 //! Writing frames. The room for all bytes is taken first.
-ghost use Rattle.std.specs.Prelude.{◌≡◌, ◌≤◌, ◌++◌, length, IfOk, OnOk};
+ghost use Rattle.std.specs.Prelude.{◌≡◌, ◌≤◌, ◌*◌, ◌++◌, length, IfOk, OnOk};
 ghost use Rattle.warm_stamps.specs.Bytes.{IsReplica};
+ghost use Rattle.warm_frames.specs.declared.entries.TheConstants.{MAX_ENTRIES};
 ghost use Rattle.warm_frames.specs.declared.frame.Frame.TheVariants as frames;
-ghost use Rattle.warm_frames.specs.Entries.{hist_bytes, entry_bytes, entries_bytes};
+ghost use Rattle.warm_frames.specs.Entries.{longest_entry, hist_bytes, entry_bytes, entries_bytes};
 ghost use Rattle.warm_frames.specs.Spelling.{header_bytes, Spells};
 
 use crate::entries::EntryList;
 use crate::entry_bytes::EntryBytes;
 use crate::reading::MAGIC;
-use crate::sums::SumTable;
+use crate::sums::{SumTable, TABLE_SIZE};
 use std::alloc::{AllocError, Global};
 use warm_history::{Entry, PageHist};
 use warm_stamps::ReplicaId;
@@ -45,9 +46,9 @@ fn hist_len(hist: PageHist) -> u32
 
 // How many bytes the entries take.
 fn entries_len(entries: &[Entry]) -> u32
-    requires { length entries.now ≤ 1000 }
+    requires { length entries.now ≤ MAX_ENTRIES }
     ensures value { result ≡ length (entries_bytes entries.now) }
-    ensures most { result ≤ 27000 }
+    ensures most { result ≤ longest_entry * MAX_ENTRIES }
 {
     let mut len = 0;
     for entry in entries {
@@ -79,7 +80,7 @@ pub(crate) fn digest_text(
 ) -> Result<Vec<u8>, AllocError>
     ensures { IfOk result (λ text. Spells text.items (frames.Digest sender sums.now)) }
 {
-    let mut text = header(alloc, 2, sender, 2048)?;
+    let mut text = header(alloc, 2, sender, TABLE_SIZE as u32)?;
     text.extend_from_slice(sums.as_bytes())?;
     Ok(text)
 }
