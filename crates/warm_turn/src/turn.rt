@@ -2,6 +2,7 @@
 ghost use Rattle.std.specs.Prelude.{◌≡◌, ◌≢◌, ℕ, ◌+◌, ◌^◌, ◌<◌, true, false, [], ◌∷◌, Some, IfOk, IfErr, IfSome, IfNone};
 ghost use Rattle.warm_turn.specs.declared.board.Held.{Held};
 ghost use Rattle.warm_turn.specs.Turns.{calls_by, first_pass, new_pass, note_of, marked, IsPass, IsStep, IsLast, Called, Learned, Joined};
+ghost use Rattle.warm_turn.specs.Rule.{AreWords};
 ghost use Rattle.warm_turn.specs.Steps.{HasTicket, HasMachine, IsMade, Served, HasPassedOn};
 
 use crate::board::{Board, Held, Made, Place, Top};
@@ -332,6 +333,7 @@ impl<M: Machine> Turn<M> {
         ensures last { IfOk result (λ m. IsLast M.goes self.opening pass.view (M.meaning m)) }
         ensures fit { IfOk result M.is_fit }
         ensures busy { IfErr result (λ b. b.serving < b.ticket) }
+        ensures words { IfErr result (AreWords M.meaning M.is_fit M.goes self.opening pass.view) }
         ensures mark { IfErr result (λ b. pass.view.found_last ≡ true → b.ticket + 1 ≡ 2 ^ 64) }
     {
         let Turn { table } = self;
