@@ -51,10 +51,10 @@ module _ {X C R : Type 0} where
 
   -- what the history says of a seat does not rest on its ticket or its marks
   pub same_recorded : (o : X) (log : List (Entry C R)) (x : X) (owner : ℕ → ℕ) (vs : List (View X C R)) (me : ℕ) (v w : View X C R)
-      → get_elem? vs me ≡ some v → v.sees ≡ true → w.sees ≡ v.sees → w.owns ≡ v.owns → w.serves ≡ v.serves → w.number ≡ v.number → w.opening ≡ v.opening → w.state ≡ v.state → w.seen ≡ v.seen → w.also ≡ v.also → w.mine ≡ v.mine → w.ended ≡ v.ended
+      → get_elem? vs me ≡ some v → v.sees ≡ true → w.sees ≡ v.sees → w.owns ≡ v.owns → w.serves ≡ v.serves → w.number ≡ v.number → w.opening ≡ v.opening → w.state ≡ v.state → w.seen ≡ v.seen → w.also ≡ v.also → w.also_opening ≡ v.also_opening → w.mine ≡ v.mine → w.ended ≡ v.ended
       → IsRecorded o log x owner vs me v → IsRecorded o log x owner (set vs me w) me w
-  same_recorded o log x owner vs me v w at sees sees' owns serves number opening state seen also mine ended f = record {
-    sight = λ h. let z = f.sight sees in (opening ∙ z.0, subst (λ l. IsPrefix l log) (sym seen) z.1, subst (λ l. IsPrefix l log) (sym also) z.2);
+  same_recorded o log x owner vs me v w at sees sees' owns serves number opening state seen also also_opening mine ended f = record {
+    sight = λ h. let z = f.sight sees in (opening ∙ z.0, subst (λ l. IsPrefix l log) (sym seen) z.1, subst (λ l. IsPrefix l log) (sym also) z.2, also_opening ∙ z.3);
     unused = λ h no. f.unused sees (sym owns ∙ no);
     own = λ h. let z = f.own (sym owns ∙ h) in (sees' ∙ z.0, number ∙ z.1, z.2 ∙ sym mine);
     others = λ h a e here. let z = f.others (sym owns ∙ h) a e (subst (λ (l : List (Ended C R)). get_elem? l a ≡ some e) ended here) in (z.0, z.1, gone_set vs me v w at sees e.number z.2);
@@ -97,7 +97,7 @@ module _ {M X C R : Type 0} (meaning : M → X) (goes : X → C → R → X → 
       let sees = (f.own owns).0 in
       let w = settled v r.log in (
         record {
-          sight = λ h. ((f.sight sees).0, IsPrefix-self r.log, (r.log, refl));
+          sight = λ h. ((f.sight sees).0, IsPrefix-self r.log, (r.log, refl), (f.sight sees).0);
           unused = f.unused;
           own = f.own;
           others = λ h a e at'. let z = f.others owns a e at' in (z.0, z.1, gone_set vs me v w at sees e.number z.2);
@@ -123,7 +123,7 @@ module _ {M X C R : Type 0} (meaning : M → X) (goes : X → C → R → X → 
       let here = f.sight sees in
       let front = Runs-front goes o r.state v.seen here.1.0 (subst (λ l. Runs goes o l r.state) (sym here.1.1) r.legal) in (
         record {
-          sight = λ h. (here.0, here.1, (r.log, refl));
+          sight = λ h. (here.0, here.1, (r.log, refl), here.0);
           unused = λ _ h. off refl h;
           own = λ h. (refl, refl, none_yet);
           others = λ h a e at'. absurd (some-ne-none e (sym at'));
@@ -157,7 +157,7 @@ module _ {M X C R : Type 0} (meaning : M → X) (goes : X → C → R → X → 
         home = λ k there. absurd (some-ne-none (Some k) (sym (same_at (set homes 0 maybe.none) 0 maybe.none (some (Some k)) (now_at homes 0 (some (Some h)) maybe.none home) there)));
         each = each_set (IsRecorded o r.log r.state r.owner ws) vs me w
             record {
-              sight = λ _. ((f.sight sees).0, IsPrefix-self r.log, (f.sight sees).2);
+              sight = λ _. ((f.sight sees).0, IsPrefix-self r.log, (f.sight sees).2, (f.sight sees).3);
               unused = f.unused;
               own = f.own;
               others = λ h' b e at'. let z = f.others h' b e at' in (z.0, z.1, gone_set vs me v w at sees e.number z.2);
@@ -198,7 +198,7 @@ module _ {M X C R : Type 0} (meaning : M → X) (goes : X → C → R → X → 
           home = λ k there. ap (λ (z : H). meaning z.machine) (sym (Some_same h k (some-injective (Some h) (Some k) (some-injective (some (Some h)) (some (Some k)) (sym (set_here homes 0 (some (Some h)) (omega arith)) ∙ there)))));
           each = each_set (IsRecorded o log y r.owner ws) vs me w
               record {
-                sight = λ _. (sight'.0, ([], append-nil (v.seen ++ e ∷ []) ∙ grown), IsPrefix-append v.also r.log (e ∷ []) sight'.2);
+                sight = λ _. (sight'.0, ([], append-nil (v.seen ++ e ∷ []) ∙ grown), IsPrefix-append v.also r.log (e ∷ []) sight'.2, sight'.3);
                 unused = λ _ no. off owns no;
                 own = λ _. (sees, (f.own owns).1, own');
                 others = λ _ b c at'. let z = f.others owns b c at' in (z.0, (others' b c at').0, gone_set vs me v w at sees c.number z.2);
@@ -208,7 +208,7 @@ module _ {M X C R : Type 0} (meaning : M → X) (goes : X → C → R → X → 
               (λ j u other at'.
               let g = r.each j u at' in
               record {
-                sight = λ sees'. let z = g.sight sees' in (z.0, IsPrefix-append u.seen r.log (e ∷ []) z.1, IsPrefix-append u.also r.log (e ∷ []) z.2);
+                sight = λ sees'. let z = g.sight sees' in (z.0, IsPrefix-append u.seen r.log (e ∷ []) z.1, IsPrefix-append u.also r.log (e ∷ []) z.2, z.3);
                 unused = λ sees' no. calls_by-other j r.log e (elsewhere j other) ∙ g.unused sees' no;
                 own = λ owns'. let z = g.own owns' in (z.0, z.1, calls_by-other j r.log e (elsewhere j other) ∙ z.2);
                 others = λ owns' b c at''. let z = g.others owns' b c at'' in let not = apart_of vs me c.number v at sees z.2 in
@@ -229,12 +229,11 @@ module _ {M X C R : Type 0} (meaning : M → X) (goes : X → C → R → X → 
         },
       )
 
-  -- a new seat has seen what the old one has, and no entry has its number
-  pub splits : {n : ℕ} (homes : Homes) (vs : List V) (r : One n homes vs) (me : ℕ) (v : V) → get_elem? vs me ≡ some v → v.sees ≡ true → One n homes (vs ++ note_of v ∷ [])
-  splits homes vs r me v at sees =
+  -- a new seat has seen what some view has, and no entry has its number
+  pub enters : {n : ℕ} (homes : Homes) (vs : List V) (r : One n homes vs) (v : V) → v.opening ≡ Some o → IsPrefix v.seen r.log → One n homes (vs ++ note_of v ∷ [])
+  enters homes vs r v opens begins_with =
       let w : V = note_of v in
       let ws : List V = vs ++ w ∷ [] in
-      let f = r.each me v at in
       record {
         log = r.log;
         state = r.state;
@@ -246,7 +245,7 @@ module _ {M X C R : Type 0} (meaning : M → X) (goes : X → C → R → X → 
             (λ (old : get_elem? vs j ≡ some u). more_gone o r.log r.state r.owner vs ws j u (gone_longer vs (w ∷ [])) (r.each j u old))
             (λ (new : (j ≡ length vs) × (w ≡ u)).
             subst (λ (z : V). IsRecorded o r.log r.state r.owner ws j z) new.1 record {
-              sight = λ _. ((f.sight sees).0, (f.sight sees).1, (r.log, refl));
+              sight = λ _. (opens, begins_with, (r.log, refl), opens);
               unused = λ _ _. let here = new.0 in r.unborn j (omega arith);
               own = λ no. off no refl;
               others = λ no. off no refl;
@@ -293,7 +292,7 @@ module _ {M X C R : Type 0} (meaning : M → X) (goes : X → C → R → X → 
       let more = gone_both vs me other v u w at there sees note.0 in
       merges homes vs r me other w r.owner
       record {
-        sight = λ _. ((f.sight sees).0, (f.sight sees).1, (g.sight note.0).1);
+        sight = λ _. ((f.sight sees).0, (f.sight sees).1, (g.sight note.0).1, (g.sight note.0).0);
         unused = f.unused;
         own = f.own;
         others = λ h a e at'. let z = f.others h a e at' in (z.0, z.1, more e.number z.2);
@@ -333,7 +332,7 @@ module _ {M X C R : Type 0} (meaning : M → X) (goes : X → C → R → X → 
       (at_either v.ended (as_ended u ∷ u.ended) a e at') in
       merges homes vs r me other w owner
       record {
-        sight = λ _. ((f.sight sees).0, (f.sight sees).1, (g.sight sees').1);
+        sight = λ _. ((f.sight sees).0, (f.sight sees).1, (g.sight sees').1, (g.sight sees').0);
         unused = f.unused;
         own = f.own;
         others = λ _. held;
@@ -366,7 +365,7 @@ module _ {M X C R : Type 0} (meaning : M → X) (goes : X → C → R → X → 
     count = refl;
     home = λ k there. ap (λ (z : H). meaning z.machine) (sym (Some_same h k (some-injective (Some h) (Some k) (some-injective (some (Some h)) (some (Some k)) there)))) ∙ is;
     each = λ j u e. subst (λ (z : V). IsRecorded o [] o (λ _. 0) (first_pass o ∷ []) j z) (one_member (first_pass o) u j e) record {
-      sight = λ _. (refl, ([], refl), ([], refl));
+      sight = λ _. (refl, ([], refl), ([], refl), refl);
       unused = λ _ no. off refl no;
       own = λ _. (refl, number_of j u e, refl);
       others = λ _ a c at'. absurd (some-ne-none c (sym at'));

@@ -187,8 +187,8 @@ module _ {M X C R : Type 0} (fit : M → Type 0) where
       get_or-set_same s.words 1 ((n + 1) % 2 ^ 64) 0 (omega arith) ∙ up
 
   -- a new seat has no ticket
-  pub splits : (s : State (Option (Held M C R)) (View X C R)) (r : InTurn fit s) (me : ℕ) (v : View X C R) → get_elem? s.views me ≡ some v → InTurn fit record { words = s.words; homes = s.homes; views = s.views ++ note_of v ∷ [] }
-  splits s r me v at =
+  pub enters : (s : State (Option (Held M C R)) (View X C R)) (r : InTurn fit s) (v : View X C R) → InTurn fit record { words = s.words; homes = s.homes; views = s.views ++ note_of v ∷ [] }
+  enters s r v =
       let w : View X C R = note_of v in
       record {
         turn = r.turn;

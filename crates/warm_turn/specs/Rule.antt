@@ -54,7 +54,7 @@ module _ {X C R : Type 0} where
 
   -- what the history says of the seat j with the view v, where `owner` is the pass that each ended pass was ended into
   pub record IsRecorded (opening : X) (log : List (Entry C R)) (state : X) (owner : ℕ → ℕ) (views : List (View X C R)) (j : ℕ) (v : View X C R) : Type 0 where
-    pub sight : v.sees ≡ true → (v.opening ≡ Some opening) × IsPrefix v.seen log × IsPrefix v.also log
+    pub sight : v.sees ≡ true → (v.opening ≡ Some opening) × IsPrefix v.seen log × IsPrefix v.also log × (v.also_opening ≡ Some opening)
     pub unused : v.sees ≡ true → v.owns ≡ false → calls_by j log ≡ []
     pub own : v.owns ≡ true → (v.sees ≡ true) × (v.number ≡ j) × (calls_by j log ≡ v.mine)
     pub others : v.owns ≡ true → (a : ℕ) (e : Ended C R) → get_elem? v.ended a ≡ some e → (owner e.number ≡ j) × (calls_by e.number log ≡ e.calls) × IsGone views e.number

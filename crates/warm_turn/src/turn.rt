@@ -8,7 +8,7 @@ ghost use Rattle.warm_turn.specs.Steps.{HasTicket, HasMachine, IsMade, Served, H
 use crate::board::{Board, Held, Made, Place, Top};
 use crate::fault::{Busy, Memory, TurnsSpent};
 use crate::machine::Machine;
-use crate::plays::{Become, CatchUp, End, Learn, Look, PassOn, Take, Tell};
+use crate::plays::{Become, CatchUp, Come, End, Learn, Look, PassOn, Take, Tell};
 use atomic_table::{Refused, Table};
 use std::alloc::{AllocFailed, Global};
 use std::marker::Model;
@@ -265,6 +265,16 @@ impl<M: Machine> Turn<M> {
         ensures given { result.view ≡ note_of pass.old.view }
     {
         let place = self.table.shared.split_seat::<Tell>(&mut pass.place);
+        Note { place }
+    }
+
+    /// A note that has seen nothing, and opened with the turn's state. It is for code that was handed a
+    /// turn and a pass: a pass that learns this note is seen to have opened with that state.
+    pub fn opening_note(&self) -> Note<M>
+        ensures table { result.table ≡ self.now.table }
+        ensures given { result.view ≡ note_of (first_pass self.now.opening) }
+    {
+        let (_, place) = self.table.shared.load_new_seat::<Come>(0);
         Note { place }
     }
 
