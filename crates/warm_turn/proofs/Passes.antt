@@ -1,10 +1,10 @@
 -- What calls, notes and ends say of a pass, for the crates above.
-use Rattle.std.proofs.Common.{◌≡◌, List, [], ◌∷◌, ◌++◌, true, refl, sym, ap, ◌∙◌, subst, append_assoc, append-nil}
+use Rattle.std.proofs.Common.{◌≡◌, List, [], ◌∷◌, ◌++◌, Some, true, refl, sym, ap, ◌∙◌, subst, append_assoc, append-nil}
 use mathlib.Core.Option.{some-ne-none}
 use mathlib.Core.List.{IsPrefix}
 use Rattle.warm_turn.specs.declared.board.Entry.{Entry}
 use Rattle.warm_turn.specs.declared.board.View.{View}
-use Rattle.warm_turn.specs.Turns.{entry, Called, Extended, IsPass, IsStep, Learned, Runs, first_pass, marked}
+use Rattle.warm_turn.specs.Turns.{entry, Called, Extended, IsPass, IsStep, Learned, Runs, first_pass, marked, note_of}
 use Rattle.warm_turn.proofs.Lists.{off, IsPrefix-self, IsPrefix-trans}
 
 module _ {X C R : Type 0} where
@@ -60,6 +60,10 @@ module _ {X C R : Type 0} (goes : X → C → R → X → Type 0) where
     opening = ap (λ (z : View X C R). z.opening) h.1;
     mark = λ marked_once. ap (λ (z : View X C R). z.found_last) h.1 ∙ marked_once;
   }
+
+  -- a pass that learns the note of a turn's opening opened with that state
+  pub opens_as_learned : (o : X) (v w : View X C R) → Learned goes v (note_of (first_pass o)) w → (v.opening ≡ Some o) × (w.opening ≡ Some o)
+  opens_as_learned o v w h = (h.5, ap (λ (z : View X C R). z.opening) h.1 ∙ h.5)
 
   -- the last entry of a run is a step
   last_step : (x z : X) (xs : List (Entry C R)) (e : Entry C R) → Runs goes x (xs ++ e ∷ []) z → IsStep goes e.call e.reply

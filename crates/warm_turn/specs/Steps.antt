@@ -6,7 +6,7 @@ use Rattle.warm_turn.specs.declared.board.Entry.{Entry}
 use Rattle.warm_turn.specs.declared.board.View.{View}
 use Rattle.warm_turn.specs.declared.board.Made.{Made}
 use Rattle.warm_turn.specs.declared.board.Held.{Held}
-use Rattle.warm_turn.specs.Turns.{entry, IsPass, marked, new_pass, settled}
+use Rattle.warm_turn.specs.Turns.{entry, IsPass, marked, new_pass, note_of, settled}
 
 -- a seat: its view, and the slots that it has taken
 abbrev pub Sat : Type 0 → Type 0 → Type 0 → Type 0 → Type 0
@@ -56,10 +56,14 @@ module _ {M X C R : Type 0} where
       (h : Held M C R) (d : Made C R) → m.1 ≡ (0, Some h) ∷ [] → h.made ≡ Some d
       → HasPassedOn goes m d.call.value d.reply.value m'
 
-  -- the seat has seen the history so far, in which what it knew stands
+  -- the seat has seen the history so far, in which what it knew stands, and the state that it learned is that with which the turn opened
   abbrev pub caught_up : (X → C → R → X → Type 0) → At M C R → Sat M X C R → ℕ → Sat M X C R → Type 0
   caught_up goes st m found m' =
-      (log : List (Entry C R)) × (m' ≡ (settled m.0 log, m.1)) × IsPrefix m.0.seen log × IsPrefix m.0.also log × IsPass goes (settled m.0 log)
+      (log : List (Entry C R)) × (m' ≡ (settled m.0 log, m.1)) × IsPrefix m.0.seen log × IsPrefix m.0.also log × IsPass goes (settled m.0 log) × (m.0.opening ≡ m.0.also_opening)
+
+  -- a new seat knows with which state the turn opened, as the first pass did
+  abbrev pub came : At M C R → Sat M X C R → ℕ → Sat M X C R → Type 0
+  came st m found m' = m' ≡ (note_of m.0, [])
 
   -- a note's seat becomes a pass, with a number of its own
   abbrev pub became_pass : (X → C → R → X → Type 0) → At M C R → Sat M X C R → ℕ → Sat M X C R → Type 0

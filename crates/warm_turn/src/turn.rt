@@ -2,12 +2,13 @@
 ghost use Rattle.std.specs.Prelude.{◌≡◌, ◌≢◌, ℕ, ◌+◌, ◌^◌, ◌<◌, true, false, [], ◌∷◌, Some, IfOk, IfErr, IfSome, IfNone};
 ghost use Rattle.warm_turn.specs.declared.board.Held.{Held};
 ghost use Rattle.warm_turn.specs.Turns.{calls_by, first_pass, new_pass, note_of, marked, IsPass, IsStep, IsLast, Called, Learned, Joined};
+ghost use Rattle.warm_turn.specs.Rule.{AreWords};
 ghost use Rattle.warm_turn.specs.Steps.{HasTicket, HasMachine, IsMade, Served, HasPassedOn};
 
 use crate::board::{Board, Held, Made, Place, Top};
 use crate::fault::{Busy, Memory, TurnsSpent};
 use crate::machine::Machine;
-use crate::plays::{Become, CatchUp, End, Learn, Look, PassOn, Take, Tell};
+use crate::plays::{Become, CatchUp, Come, End, Learn, Look, PassOn, Take, Tell};
 use atomic_table::{Refused, Table};
 use std::alloc::{AllocFailed, Global};
 use std::marker::Model;
@@ -267,6 +268,16 @@ impl<M: Machine> Turn<M> {
         Note { place }
     }
 
+    /// A note that has seen nothing, and opened with the turn's state. It is for code that was handed a
+    /// turn and a pass: a pass that learns this note is seen to have opened with that state.
+    pub fn opening_note(&self) -> Note<M>
+        ensures table { result.table ≡ self.now.table }
+        ensures given { result.view ≡ note_of (first_pass self.now.opening) }
+    {
+        let (_, place) = self.table.shared.load_new_seat::<Come>(0);
+        Note { place }
+    }
+
     /// Learns what the note says. From now on the pass's list begins with what it had seen and with
     /// what the note says, and may have further entries of other passes. Its own calls, and those
     /// that it holds, stay.
@@ -332,6 +343,7 @@ impl<M: Machine> Turn<M> {
         ensures last { IfOk result (λ m. IsLast M.goes self.opening pass.view (M.meaning m)) }
         ensures fit { IfOk result M.is_fit }
         ensures busy { IfErr result (λ b. b.serving < b.ticket) }
+        ensures words { IfErr result (AreWords M.meaning M.is_fit M.goes self.opening pass.view) }
         ensures mark { IfErr result (λ b. pass.view.found_last ≡ true → b.ticket + 1 ≡ 2 ^ 64) }
     {
         let Turn { table } = self;
