@@ -3,3 +3,4 @@ pub mod Keys
 pub mod Laws
 pub mod Ranking
 pub mod Slots
+pub mod WarmUp
