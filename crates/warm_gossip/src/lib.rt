@@ -4,6 +4,7 @@
 mod answers;
 mod call;
 mod fault;
+pub mod laws;
 mod node;
 mod pages;
 #[cfg(test)]
