@@ -1,4 +1,6 @@
 pub mod Faults
+pub mod State
 pub mod Answers
 pub mod Gathering
 pub mod Step
+pub mod Clauses
