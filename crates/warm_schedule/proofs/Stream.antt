@@ -11,7 +11,7 @@ use Rattle.warm_schedule.specs.Text.{split, lines}
 use Rattle.warm_schedule.specs.Grammar.{line_of}
 use Rattle.warm_schedule.specs.Printed.{line_limit, meaning, Answered, PrintedFrom, Printed}
 use Rattle.warm_schedule.specs.Stream.{HoldsLine, Holds, Goes, Ends}
-use Rattle.warm_schedule.specs.declared.play.Session.{Session}
+use Rattle.warm_schedule.specs.declared.player.Session.{Session}
 use Rattle.warm_world.specs.States.{ModelState}
 use Rattle.warm_world.specs.Stands.{StandsFor}
 use Rattle.warm_world.specs.declared.world.World.{World}

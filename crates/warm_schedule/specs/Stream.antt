@@ -5,7 +5,7 @@ use Rattle.warm_world.specs.States.{ModelState}
 use Rattle.warm_world.specs.Stands.{StandsFor}
 use Rattle.warm_schedule.specs.Text.{lines}
 use Rattle.warm_schedule.specs.Printed.{line_limit, PrintedFrom}
-use Rattle.warm_schedule.specs.declared.play.Session.{Session}
+use Rattle.warm_schedule.specs.declared.player.Session.{Session}
 
 -- the line that has begun: its bytes while it isn't too long
 abbrev pub HoldsLine : List ℕ → Bool → List ℕ → Type 0

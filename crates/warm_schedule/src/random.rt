@@ -3,8 +3,8 @@ ghost use Rattle.std.specs.Prelude.{◌≡◌, OnOk, IfErr};
 ghost use Rattle.std.specs.Io.KnownBytes.{Appends};
 ghost use Rattle.warm_random.specs.Drawing.{schedule_text};
 
-use crate::play::PlayFault;
 use std::io::Write;
+use warm_playfault::PlayFault;
 use warm_random::write_schedule;
 use warm_world::Setup;
 
