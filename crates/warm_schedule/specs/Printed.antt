@@ -14,13 +14,15 @@ use Rattle.warm_schedule.specs.Answers.{answer_text, bad_line}
 abbrev pub Answered : ModelState → ℕ → Option Line → List ℕ → ModelState → Type 0
 Answered old number None out new = (out ≡ bad_line number) × (new ≡ old)
 Answered old number (Some Nothing) out new = (out ≡ []) × (new ≡ old)
-Answered old number (Some (Act event)) out new = (answer : Answer) × Next old event answer new × (out ≡ answer_text answer)
+Answered old number (Some (Act event)) out new =
+    (answer : Answer) × Next old event answer new × (out ≡ answer_text answer)
 
 -- lines, of which the first has this number, may print `out` from `state` on
 abbrev pub PrintedFrom : ModelState → ℕ → List (List ℕ) → List ℕ → Type 0
 PrintedFrom state number [] out = out ≡ []
 PrintedFrom state number (line ∷ rest) out =
-    (front back : List ℕ) × (next : ModelState) × Answered state number (meaning line) front next × PrintedFrom next (number + 1) rest back × (out ≡ front ++ back)
+    (front back : List ℕ) × (next : ModelState) × Answered state number (meaning line) front next
+    × PrintedFrom next (number + 1) rest back × (out ≡ front ++ back)
 
 -- a schedule may print `out` from `state` on
 abbrev pub Printed : ModelState → List ℕ → List ℕ → Type 0

@@ -1,7 +1,7 @@
 //! The lines of a schedule.
 ghost use Rattle.std.specs.Prelude.{◌≡◌, ◌<◌, ◌≤◌, IfSome, option_map, ok_or, codes};
 ghost use Rattle.warm_schedule.specs.Text.{words};
-ghost use Rattle.warm_schedule.specs.Grammar.{digit_of, number_up_to, page_of, number_field, page_field, after_field, refer_of, flush_of, send_of, deliver_of, warm_of, restart_of, show_of, event_of, line_of, meaning};
+ghost use Rattle.warm_schedule.specs.Grammar.{digit_of, number_up_to, page_of, number_field, page_field, after_field, refer_of, flush_of, send_of, deliver_of, warm_of, restart_of, show_of, event_of, meaning};
 ghost use Rattle.warm_schedule.specs.declared.parse.LineFault.TheVariants.{Bad};
 
 use crate::text::{cut, next_word};
@@ -108,7 +108,8 @@ fn page(word: &[u8]) -> Option<PageId>
 
 #[tactic(auto, unfolding(crate::specs::Grammar::number_field))]
 fn number_at(fields: &[u8], limit: u64) -> Option<(u64, &[u8])>
-    ensures value { option_map (λ x. (x.0, words x.1.now)) result ≡ number_field limit (words fields.now) }
+    ensures value { option_map (λ x. (x.0, words x.1.now)) result
+        ≡ number_field limit (words fields.now) }
     ensures bound { IfSome result (λ x. x.0 ≤ limit) }
 {
     let (word, rest) = next_word(fields)?;
@@ -250,23 +251,6 @@ fn event(command: &[u8], fields: &[u8]) -> Option<Event>
     None
 }
 
-// What a line says, whatever its length.
-#[tactic(auto, unfolding(crate::specs::Grammar::line_of))]
-fn line_in(text: &[u8]) -> Option<Line>
-    ensures { result ≡ line_of text.now }
-{
-    let Some((command, fields)) = next_word(text) else {
-        return Some(Line::Nothing);
-    };
-    if let [b'#', ..] = command {
-        return Some(Line::Nothing);
-    }
-    match event(command, fields) {
-        Some(event) => Some(Line::Act(event)),
-        None => None,
-    }
-}
-
 /// What a line says, its line end not included. It takes no memory.
 ///
 /// Words are parted by one or more spaces (byte 20); every other byte, a tab, a NUL and the CR of a foreign line end among
@@ -274,12 +258,21 @@ fn line_in(text: &[u8]) -> Option<Line>
 ///
 /// `Bad` comes exactly for a line of more than [`MAX_LINE`] bytes, and for one that has a word, is no comment and isn't of
 /// the language.
-#[tactic(auto, unfolding(crate::specs::Grammar::meaning))]
+#[tactic(auto, unfolding(crate::specs::Grammar::meaning, crate::specs::Grammar::line_of))]
 pub fn parse_line(line: &[u8]) -> Result<Line, LineFault>
     ensures { result ≡ ok_or (meaning line.now) Bad }
 {
     if line.len() > MAX_LINE {
         return Err(LineFault::Bad);
     }
-    line_in(line).ok_or(LineFault::Bad)
+    let Some((command, fields)) = next_word(line) else {
+        return Ok(Line::Nothing);
+    };
+    if let [b'#', ..] = command {
+        return Ok(Line::Nothing);
+    }
+    match event(command, fields) {
+        Some(event) => Ok(Line::Act(event)),
+        None => Err(LineFault::Bad),
+    }
 }

@@ -1,88 +1,63 @@
 //! A schedule that comes in pieces, answered line by line.
-ghost use Rattle.std.specs.Prelude.{◌≡◌, ◌≢◌, ◌≤◌, ◌<◌, ◌+◌, ◌^◌, ◌++◌, ◌∷◌, [], false, List, ℕ, length, OnOk, IfOk, IfSome};
-ghost use Rattle.std.specs.Io.KnownBytes.{Appends, Consumes, IsAtEnd};
-ghost use Rattle.warm_world.specs.States.{ModelState, opening};
-ghost use Rattle.warm_world.specs.Stands.{StandsFor};
-ghost use Rattle.warm_schedule.specs.Printed.{Answered, meaning, Printed};
-ghost use Rattle.warm_schedule.specs.Stream.{Holds, HoldsLine, Goes, Ends};
+ghost use Rattle.std.specs.Prelude.{◌≡◌, ◌≢◌, ◌≤◌, ◌<◌, ◌+◌, ◌^◌, ◌∷◌, [], false, List, ℕ, length, OnOk, IfOk, IfSome};
+ghost use Rattle.std.specs.Io.KnownBytes.{Appends, Keeps, Consumes, IsAtEnd};
+ghost use Rattle.warm_world.specs.States.{opening};
+ghost use Rattle.warm_schedule.specs.Printed.{Printed};
+ghost use Rattle.warm_schedule.specs.Stream.{IsFresh, AddsByte, AnswersLine, Goes, Ends};
 
-use crate::parse::{Line, parse_line};
+use crate::parse::{Line, MAX_LINE, parse_line};
 use crate::printer::{print_answer, print_bad_line};
 use std::alloc::{AllocError, Global};
 use std::io::{ErrorKind, Read, Write};
 use warm_playfault::PlayFault;
 use warm_world::{Setup, World};
 
-// A line of more bytes is bad, and none of it is kept.
-const LINE_LIMIT: usize = 262144;
-
-// A world, and the line that has begun: its bytes while it isn't too long.
+// A world, and the line that has begun: its bytes, no more of them than make it too long.
 #[derive(Drop)]
 struct Session {
     world: World,
     number: u64,
     line: Vec<u8>,
-    is_long: bool,
 }
 
 impl Session {
     // A new world, before the first line.
     fn new(alloc: Global, setup: Setup) -> Result<Session, AllocError>
-        ensures { IfOk result (λ s. Holds s (opening setup.replicas setup.workers setup.buffer) [] × (s.number ≡ 1)) }
+        ensures { IfOk result (λ session. IsFresh session setup) }
     {
         Ok(Session {
             world: World::new(alloc, setup)?,
             number: 1,
             line: Vec::new(alloc),
-            is_long: false,
         })
     }
 
+    // A byte of the line that has begun.
     fn add(&mut self, byte: u8) -> Result<(), AllocError>
         requires { byte ≢ 10 }
-        ensures holds { OnOk result ((line : List ℕ) → HoldsLine self.old.line.items self.old.is_long line
-            → HoldsLine self.new.line.items self.new.is_long (line ++ byte ∷ [])) }
-        ensures same { OnOk result ((self.new.world ≡ self.old.world) × (self.new.number ≡ self.old.number)) }
+        ensures { OnOk result (AddsByte self.old byte self.new) }
     {
-        if self.is_long {
-            return Ok(());
-        }
-        if self.line.len() >= LINE_LIMIT {
-            self.line.clear();
-            self.is_long = true;
+        if self.line.len() > MAX_LINE {
             return Ok(());
         }
         self.line.push(byte)?;
         Ok(())
     }
 
-    // What the line says that has come, if it isn't bad.
-    fn meaning(&self) -> Option<Line>
-        ensures { (line : List ℕ) → HoldsLine self.now.line.items self.now.is_long line → result ≡ meaning line }
-    {
-        if self.is_long {
-            return None;
-        }
-        match parse_line(self.line.as_slice()) {
-            Ok(line) => Some(line),
-            Err(_) => None,
-        }
-    }
-
     // Answers the line that has come.
     fn answer<W: Write>(&mut self, writer: &mut W) -> Result<(), PlayFault>
-        ensures answered { OnOk result ((out : List ℕ) × Appends (W.contents writer.old) (W.contents writer.new) out
-            × ((state : ModelState) (line : List ℕ) → Holds self.old state line
-            → (next : ModelState) × StandsFor self.new.world next × Answered state self.old.number (meaning line) out next)) }
+        ensures answered { OnOk result ((out : List ℕ)
+            × Appends (W.contents writer.old) (W.contents writer.new) out
+            × AnswersLine self.old out self.new.world) }
         ensures number { self.new.number ≡ self.old.number }
     {
-        match self.meaning() {
-            None => {
+        match parse_line(self.line.as_slice()) {
+            Err(_) => {
                 print_bad_line(writer, self.number).map_err(|_| PlayFault::WriteFault)?;
                 Ok(())
             }
-            Some(Line::Nothing) => Ok(()),
-            Some(Line::Act(event)) => {
+            Ok(Line::Nothing) => Ok(()),
+            Ok(Line::Act(event)) => {
                 let answer = self.world.step(event);
                 print_answer(writer, &answer).map_err(|_| PlayFault::WriteFault)?;
                 Ok(())
@@ -92,19 +67,22 @@ impl Session {
 
     fn end_line<W: Write>(&mut self, writer: &mut W) -> Result<(), PlayFault>
         requires { self.old.number + 1 < 2 ^ 64 }
-        ensures goes { OnOk result ((out : List ℕ) × Appends (W.contents writer.old) (W.contents writer.new) out × Goes self.old (10 ∷ []) out self.new) }
+        ensures goes { OnOk result ((out : List ℕ)
+            × Appends (W.contents writer.old) (W.contents writer.new) out
+            × Goes self.old (10 ∷ []) out self.new) }
         ensures number { OnOk result (self.new.number ≡ self.old.number + 1) }
     {
         self.answer(writer)?;
         self.line.clear();
-        self.is_long = false;
         self.number += 1;
         Ok(())
     }
 
     fn take<W: Write>(&mut self, byte: u8, writer: &mut W) -> Result<(), PlayFault>
         requires { self.old.number + 1 < 2 ^ 64 }
-        ensures goes { OnOk result ((out : List ℕ) × Appends (W.contents writer.old) (W.contents writer.new) out × Goes self.old (byte ∷ []) out self.new) }
+        ensures goes { OnOk result ((out : List ℕ)
+            × Appends (W.contents writer.old) (W.contents writer.new) out
+            × Goes self.old (byte ∷ []) out self.new) }
         ensures number { OnOk result (self.new.number ≤ self.old.number + 1) }
     {
         if byte == b'\n' {
@@ -119,7 +97,9 @@ impl Session {
     // Takes the next bytes of the schedule, and answers each line that ends in them.
     fn feed<W: Write>(&mut self, bytes: &[u8], writer: &mut W) -> Result<(), PlayFault>
         requires { self.old.number + length bytes.now < 2 ^ 64 }
-        ensures goes { OnOk result ((out : List ℕ) × Appends (W.contents writer.old) (W.contents writer.new) out × Goes self.old bytes.now out self.new) }
+        ensures goes { OnOk result ((out : List ℕ)
+            × Appends (W.contents writer.old) (W.contents writer.new) out
+            × Goes self.old bytes.now out self.new) }
         ensures number { OnOk result (self.new.number ≤ self.old.number + length bytes.now) }
     {
         for byte in bytes {
@@ -128,17 +108,19 @@ impl Session {
         Ok(())
     }
 
-    // Answers the last line, which no byte ended, and flushes the writer.
+    // Answers the last line, which no byte ended, and hands the answers on.
     fn finish<W: Write>(&mut self, writer: &mut W) -> Result<(), PlayFault>
-        ensures { OnOk result ((out : List ℕ) × Appends (W.contents writer.old) (W.contents writer.new) out × Ends self.old out) }
+        ensures { OnOk result ((out : List ℕ)
+            × Appends (W.contents writer.old) (W.contents writer.new) out
+            × Ends self.old out) }
     {
         self.answer(writer)?;
-        writer.flush().map_err(|_| PlayFault::WriteFault)?;
+        hand_on(writer)?;
         Ok(())
     }
 
-    // Reads once, and answers each line that ends in what was read. `false` at the end of the input. A read that was
-    // interrupted has read nothing.
+    // Reads once, answers each line that ends in what was read, and hands these answers on: whoever waits for them before
+    // the next bytes are sent gets them. `false` at the end of the input. A read that was interrupted has read nothing.
     fn read_some<R: Read, W: Write>(
         &mut self,
         reader: &mut R,
@@ -157,7 +139,12 @@ impl Session {
         match reader.read(buffer) {
             Ok(0) => Ok(false),
             Ok(n) => {
+                let first = self.number;
                 self.feed(&buffer[..n], writer)?;
+                if self.number == first {
+                    return Ok(true);
+                }
+                hand_on(writer)?;
                 Ok(true)
             }
             Err(e) => {
@@ -170,15 +157,24 @@ impl Session {
     }
 }
 
+// Hands on what the writer holds back.
+fn hand_on<W: Write>(writer: &mut W) -> Result<(), PlayFault>
+    ensures { OnOk result (Keeps (W.contents writer.old) (W.contents writer.new)) }
+{
+    writer.flush().map_err(|_| PlayFault::WriteFault)?;
+    Ok(())
+}
+
 const READS: u64 = 1 << 40;
 
 const BUFFER: usize = 65536;
 
-/// Reads a schedule to its end, answers it line by line in a new world of this setup, and flushes the writer.
+/// Reads a schedule to its end, and answers it line by line in a new world of this setup.
 ///
 /// It reads pieces of at most 65,536 bytes and keeps at most one line, so a schedule of any length, or of one line of
-/// any length, takes no more memory than its world. Each line is answered before the bytes after it are looked at. A read
-/// that is interrupted is made again.
+/// any length, takes no more memory than its world. Each line is answered before the bytes after it are looked at. The
+/// writer is flushed before each read that follows answers, and at the end: whoever sends a line and waits, gets its
+/// answer before the next line is sent. A read that is interrupted is made again.
 ///
 /// - Where it answers `Ok`, the reader was read to its end, and what was written is one of the outputs that the schedule
 ///   may print from the opening state, and nothing else.

@@ -1,7 +1,5 @@
 //! What is printed for the answers of a world. Nothing here takes memory.
-ghost use Rattle.std.specs.Prelude.{◌≡◌, OnOk, flat_map};
-ghost use Rattle.std.specs.Io.KnownBytes.{Appends};
-ghost use Rattle.warm_schedule.specs.Answers.{page_text, stamp_text, hist_text, entry_text, shown_text, listed_text, answer_text, bad_line};
+ghost use Rattle.warm_schedule.specs.Answers.{Prints, page_text, stamp_text, hist_text, entry_text, shown_text, pages_text, answer_text, bad_line};
 
 use std::io::{self, Write};
 use warm_history::{Entry, History, PageHist};
@@ -10,7 +8,7 @@ use warm_world::Answer;
 
 // DEVICE:NUMBER
 fn print_page<W: Write>(writer: &mut W, page: PageId) -> io::Result<()>
-    ensures { OnOk result (Appends (W.contents writer.old) (W.contents writer.new) (page_text page)) }
+    ensures { Prints result (W.contents writer.old) (W.contents writer.new) (page_text page) }
 {
     let PageId { dev, no } = page;
     write!(writer, "{dev}:{no}")
@@ -18,7 +16,7 @@ fn print_page<W: Write>(writer: &mut W, page: PageId) -> io::Result<()>
 
 // TIME@REPLICA
 fn print_stamp<W: Write>(writer: &mut W, stamp: Stamp) -> io::Result<()>
-    ensures { OnOk result (Appends (W.contents writer.old) (W.contents writer.new) (stamp_text stamp)) }
+    ensures { Prints result (W.contents writer.old) (W.contents writer.new) (stamp_text stamp) }
 {
     let time = stamp.time;
     let replica = stamp.replica.get();
@@ -26,7 +24,7 @@ fn print_stamp<W: Write>(writer: &mut W, stamp: Stamp) -> io::Result<()>
 }
 
 fn print_hist<W: Write>(writer: &mut W, hist: PageHist) -> io::Result<()>
-    ensures { OnOk result (Appends (W.contents writer.old) (W.contents writer.new) (hist_text hist)) }
+    ensures { Prints result (W.contents writer.old) (W.contents writer.new) (hist_text hist) }
 {
     match hist {
         PageHist::Once(last) => {
@@ -46,7 +44,7 @@ fn print_hist<W: Write>(writer: &mut W, hist: PageHist) -> io::Result<()>
 
 // The line of a page with its latest stamps.
 fn print_entry<W: Write>(writer: &mut W, entry: Entry) -> io::Result<()>
-    ensures { OnOk result (Appends (W.contents writer.old) (W.contents writer.new) (entry_text entry)) }
+    ensures { Prints result (W.contents writer.old) (W.contents writer.new) (entry_text entry) }
 {
     print_page(writer, entry.page)?;
     print_hist(writer, entry.hist)?;
@@ -54,7 +52,8 @@ fn print_entry<W: Write>(writer: &mut W, entry: Entry) -> io::Result<()>
 }
 
 fn print_history<W: Write>(writer: &mut W, history: &History) -> io::Result<()>
-    ensures { OnOk result (Appends (W.contents writer.old) (W.contents writer.new) (shown_text history.now)) }
+    ensures { Prints result (W.contents writer.old) (W.contents writer.new)
+        (shown_text history.now) }
 {
     for entry in history.iter() {
         print_entry(writer, entry)?;
@@ -65,7 +64,7 @@ fn print_history<W: Write>(writer: &mut W, history: &History) -> io::Result<()>
 
 // Each page of a list, after a space.
 fn print_pages<W: Write>(writer: &mut W, pages: &[PageId]) -> io::Result<()>
-    ensures { OnOk result (Appends (W.contents writer.old) (W.contents writer.new) (flat_map listed_text pages.now)) }
+    ensures { Prints result (W.contents writer.old) (W.contents writer.new) (pages_text pages.now) }
 {
     for page in pages {
         writer.write_all(b" ")?;
@@ -76,7 +75,8 @@ fn print_pages<W: Write>(writer: &mut W, pages: &[PageId]) -> io::Result<()>
 
 /// Prints the text of one answer, whole lines. After an error nothing is said of how much of it was written.
 pub fn print_answer<W: Write>(writer: &mut W, answer: &Answer) -> io::Result<()>
-    ensures { OnOk result (Appends (W.contents writer.old) (W.contents writer.new) (answer_text answer.now)) }
+    ensures { Prints result (W.contents writer.old) (W.contents writer.new)
+        (answer_text answer.now) }
 {
     match answer {
         Answer::Done => writer.write_all(b"ok\n"),
@@ -103,7 +103,7 @@ pub fn print_answer<W: Write>(writer: &mut W, answer: &Answer) -> io::Result<()>
 
 /// Prints that the line of this number is bad. After an error nothing is said of how much of it was written.
 pub fn print_bad_line<W: Write>(writer: &mut W, number: u64) -> io::Result<()>
-    ensures { OnOk result (Appends (W.contents writer.old) (W.contents writer.new) (bad_line number)) }
+    ensures { Prints result (W.contents writer.old) (W.contents writer.new) (bad_line number) }
 {
     writeln!(writer, "bad line {number}")
 }

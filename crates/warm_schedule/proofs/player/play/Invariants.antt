@@ -1,7 +1,6 @@
-use Rattle.std.proofs.Common.{◌≡◌, ℕ, List, [], ◌+◌, ◌*◌, ◌≤◌, vec_len}
+use Rattle.std.proofs.Common.{◌≡◌, ℕ, List, ◌+◌, ◌*◌, ◌≤◌, vec_len}
 use Rattle.std.specs.Io.KnownBytes.{Appends, Consumes}
-use Rattle.warm_world.specs.States.{opening}
-use Rattle.warm_schedule.specs.Stream.{Goes, Holds}
+use Rattle.warm_schedule.specs.Stream.{Goes, IsFresh}
 use Rattle.warm_schedule.proofs.player.play.Given as goal
 
 abbrev pub invariant-loop : goal.invariant-loop
@@ -12,6 +11,5 @@ invariant-loop g l =
       goes : (seen out : List ℕ) × Consumes (remaining l.fn.reader) (remaining l.reader) seen × Appends (contents l.fn.writer) (contents l.writer) out × Goes l.initial.session seen out l.session;
       number : l.session.number ≤ 1 + l.counter * 65536;
       room : vec_len l.buffer ≡ 65536;
-      fresh : Holds l.initial.session (opening l.fn.setup.replicas l.fn.setup.workers l.fn.setup.buffer) [];
-      first : l.initial.session.number ≡ 1;
+      fresh : IsFresh l.initial.session l.fn.setup;
     }
