@@ -1,6 +1,5 @@
 -- Facts on `distinct`, and on the first two of its items.
-use Rattle.std.proofs.Common.{◌≡◌, ℕ, Bool, true, false, List, [], ◌∷◌, ◌++◌, map, sym, ap, refl, ◌∙◌, subst, append_assoc, Option, Some, None, inl, inr, ◌⊎◌}
-use Rattle.std.specs.List.{filter}
+use Rattle.std.proofs.Common.{◌≡◌, List, [], ◌∷◌, ◌++◌, sym, ap, refl, ◌∙◌}
 use Rattle.std.specs.declared.cmp.Ordering.{Ordering}
 use Rattle.warm_stamps.specs.Distinct.{insert_distinct, distinct, IsRising}
 use Rattle.warm_stamps.proofs.DistinctLemmas.{IsStrictOrder, by_cases, distinct_swap, distinct_rises, distinct_rising}

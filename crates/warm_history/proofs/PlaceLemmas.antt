@@ -3,8 +3,7 @@ use Rattle.std.proofs.Common.{◌≡◌, ℕ, zero, suc, ◌<◌, Bool, true, fa
 use Rattle.std.specs.List.{insert, AllByRecursion}
 use Rattle.std.specs.List.Sorted.{IsSearchInRange, IsBinarySearchResult, IsSortedBy}
 use Rattle.std.specs.Ordering.{is_eq, is_lt, on, flip_args}
-use Rattle.std.specs.declared.cmp.Ordering.{Ordering}
-use Rattle.std.specs.declared.cmp.Ordering.TheVariants.{Less, Equal, Greater}
+use Rattle.std.specs.declared.cmp.Ordering.TheVariants.{Less, Greater}
 use Rattle.std.proofs.lemmas.Cmp.{tied_itself}
 use Rattle.std.proofs.lemmas.List.Sorted.{searchable_from_sorted}
 use Rattle.std.proofs.lemmas.List.{append-nil}
@@ -23,16 +22,16 @@ use Rattle.warm_history.proofs.Lists.{front_two, front_two-first, front_two-seco
 use Rattle.warm_history.proofs.HistoryLemmas.{get, told, told-append, told_entry, held-first_two, first_two-front_two, get-history, IsHistory-history, same_gets}
 use Rattle.warm_history.proofs.JoinLemmas.{history_of_own_references}
 
--- a stamp more changes the two latest as it would with these alone
-pub latest_of_more : (s : Stamp) (ss : List Stamp) (r : PageHist) → Some r ≡ latest_of ss → latest_of (s ∷ stamps_held r) ≡ latest_of (s ∷ ss)
-latest_of_more s ss r is =
+-- a stamp more changes the two latest of others as it would with these alone; the others are a stamp and the rest, as code that adds two has them
+pub latest_of_more : (last prev : Stamp) (ss : List Stamp) (r : PageHist) → Some r ≡ latest_of (prev ∷ ss) → latest_of (last ∷ stamps_held r) ≡ latest_of (last ∷ prev ∷ ss)
+latest_of_more last prev ss r is =
     let falls = flip_args stamp_cmp in
     let order = IsStrictOrder-flip stamp_cmp stamp_order in
-    let held_is : stamps_held r ≡ front_two (distinct falls ss) = ap held is ∙ held-first_two (distinct falls ss) in
-    ap (λ t. latest_of (s ∷ t)) held_is
-    ∙ sym (first_two-front_two (distinct falls (s ∷ front_two (distinct falls ss))))
-    ∙ ap first_two (sym (front_two-second falls order (s ∷ []) ss))
-    ∙ first_two-front_two (distinct falls (s ∷ ss))
+    let held_is : stamps_held r ≡ front_two (distinct falls (prev ∷ ss)) = ap held is ∙ held-first_two (distinct falls (prev ∷ ss)) in
+    ap (λ t. latest_of (last ∷ t)) held_is
+    ∙ sym (first_two-front_two (distinct falls (last ∷ front_two (distinct falls (prev ∷ ss)))))
+    ∙ ap first_two (sym (front_two-second falls order (last ∷ []) (prev ∷ ss)))
+    ∙ first_two-front_two (distinct falls (last ∷ prev ∷ ss))
 
 -- ---- one reference more
 

@@ -246,6 +246,7 @@ fn record(entries: &mut Vec<Entry>, entry: Entry)
                 page: entry.page,
                 hist,
             };
+            // Never refused, since there is room.
             let _ = entries.insert(i, first);
         }
     }

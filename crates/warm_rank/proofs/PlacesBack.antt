@@ -1,7 +1,7 @@
 -- Over references in the order of their stamps, the distance is counted in places.
-use Rattle.std.proofs.Common.{◌≡◌, ℕ, suc, ◌+◌, Bool, true, false, ◌&&◌, ◌==◌, cond, List, [], ◌∷◌, ◌++◌, length, map, filter, sym, ap, refl, ◌∙◌, subst, length-append, Option, Some, None, inl, inr, arith}
+use Rattle.std.proofs.Common.{◌≡◌, ℕ, suc, ◌+◌, Bool, true, false, ◌==◌, cond, List, [], ◌∷◌, ◌++◌, length, sym, ap, refl, ◌∙◌, subst, length-append, Option, Some, None, inl, inr, arith}
 use Rattle.std.specs.List.{count_by, AllByRecursion}
-use Rattle.std.specs.Ordering.{is_eq, is_lt, on, flip_args}
+use Rattle.std.specs.Ordering.{is_eq, is_lt, flip_args}
 use Rattle.std.specs.declared.cmp.Ordering.{Ordering}
 use Rattle.std.specs.declared.cmp.Ordering.TheVariants.{Less, Equal, Greater}
 use Rattle.std.proofs.lemmas.Bool.Decides.{nat_tests}
@@ -18,7 +18,7 @@ use Rattle.warm_history.specs.ReferenceSets.{ReferenceSet, references}
 use Rattle.warm_history.specs.Histories.{stamps}
 use Rattle.warm_rank.specs.Backward.{StampsRise, count_to, places_back}
 use Rattle.warm_rank.specs.Laws.{DistanceIsPlacesBack}
-use Rattle.warm_rank.specs.Ranking.{count_later, distance_from, dist}
+use Rattle.warm_rank.specs.Ranking.{distance_from}
 use Rattle.warm_rank.proofs.Counting.{later, counted, passed, stamps_of}
 
 -- what is true of all items is true of each
