@@ -254,6 +254,9 @@ fn an_entry_has_17_or_27_bytes(rt: HostRuntime) -> Result<(), Fail> {
         EntryBytes::of(&Entry { page, hist }).as_slice(),
         [1, 2, 0, 0, 0, 3, 1, 0, 0, 0, 0, 0, 0, 0, 20, 0, 1].as_slice()
     );
+    if prev >= last {
+        return Err("the second is no older".into());
+    }
     let hist = PageHist::Twice(Two::new(last, prev));
     assert_eq!(rt;
         EntryBytes::of(&Entry { page, hist }).as_slice(),
