@@ -4,7 +4,7 @@
 //! frame, one after the other in page order, without a count.
 #![tactic(auto)]
 
-ghost use Rattle.std.specs.Prelude.{◌≡◌, List, [], length, IfOk};
+ghost use Rattle.std.specs.Prelude.{◌≡◌, List, [], length, IfOk, OnOk};
 ghost use Rattle.warm_stamps.specs.declared.TheConstants.{BUCKETS};
 ghost use Rattle.warm_history.specs.declared.hist.Entry.{Entry};
 ghost use Rattle.warm_history.specs.Histories.{entries_of};
@@ -14,15 +14,18 @@ ghost use Rattle.warm_digest.specs.Hashing.{TakesBytes, HaveTaken, TakeEntry};
 
 use sha2::{Digest, Sha256};
 use std::alloc::{AllocError, Global};
-use warm_frames::{EntryBytes, SUM_SIZE, SumTable};
+use warm_frames::{MAX_ENTRY_SIZE, SUM_SIZE, SumTable, put_entry};
 use warm_history::{Entry, History};
 use warm_stamps::{BUCKETS, Bucket, bucket_of};
 
-// Feeds the bytes of an entry to a hasher.
-fn take_entry(hasher: &mut Sha256, entry: Entry)
-    ensures { TakesBytes hasher.old hasher.new (entry_bytes entry) }
+// Feeds the bytes of an entry, which are written into the text, to a hasher.
+fn take_entry(hasher: &mut Sha256, text: &mut Vec<u8>, entry: Entry) -> Result<(), AllocError>
+    ensures { OnOk result (TakesBytes hasher.old hasher.new (entry_bytes entry)) }
 {
-    hasher.update(EntryBytes::of(&entry).as_slice());
+    text.clear();
+    put_entry(text, &entry)?;
+    hasher.update(text.as_slice());
+    Ok(())
 }
 
 // A hasher for each bucket, none of which has taken anything.
@@ -38,13 +41,14 @@ fn new_hashers(alloc: Global) -> Result<Vec<Sha256>, AllocError>
 }
 
 // Feeds an entry to the hasher of its bucket.
-fn take_into(hashers: &mut Vec<Sha256>, entry: Entry)
+fn take_into(hashers: &mut Vec<Sha256>, text: &mut Vec<u8>, entry: Entry) -> Result<(), AllocError>
     requires { length hashers.old.items ≡ BUCKETS }
     ensures all { length hashers.new.items ≡ BUCKETS }
-    ensures taken { TakeEntry hashers.old.items hashers.new.items entry }
+    ensures taken { OnOk result (TakeEntry hashers.old.items hashers.new.items entry) }
 {
     let bucket = usize::from(bucket_of(entry.page).get());
-    take_entry(&mut hashers[bucket], entry);
+    take_entry(&mut hashers[bucket], text, entry)?;
+    Ok(())
 }
 
 // What the hashers have come to.
@@ -61,13 +65,15 @@ fn digests(mut hashers: Vec<Sha256>) -> [[u8; SUM_SIZE]; BUCKETS as usize]
 
 /// The sums of a history's buckets. It goes over the history once.
 ///
-/// `AllocError` comes only where room for a hasher of each bucket was refused.
+/// `AllocError` comes only where room for a hasher of each bucket, or for the bytes of one entry, was
+/// refused.
 pub fn sums(alloc: Global, history: &History) -> Result<SumTable, AllocError>
     ensures { IfOk result (λ table. table ≡ sums_of (entries_of history.now)) }
 {
     let mut hashers = new_hashers(alloc)?;
+    let mut text = Vec::with_capacity(alloc, MAX_ENTRY_SIZE)?;
     for entry in history.iter() {
-        take_into(&mut hashers, entry);
+        take_into(&mut hashers, &mut text, entry)?;
     }
     Ok(SumTable::of(digests(hashers)))
 }

@@ -1,11 +1,10 @@
 -- The definitions, computed on small frames.
-use Rattle.std.proofs.Common.{◌≡◌, ℕ, ◌+◌, ◌*◌, List, [], ◌∷◌, ◌++◌, take, drop, Result, Ok, Err, refl}
+use Rattle.std.proofs.Common.{◌≡◌, ℕ, ◌+◌, ◌*◌, List, [], ◌∷◌, ◌++◌, take, Ok, Err, refl}
 use Rattle.warm_stamps.specs.declared.Stamp.{Stamp}
 use Rattle.warm_history.specs.declared.hist.PageHist.TheVariants.{Once, Twice}
 use Rattle.warm_history.specs.declared.hist.Entry.{Entry}
 use Rattle.warm_frames.specs.declared.entries.TheConstants.{MAX_ENTRIES}
 use Rattle.warm_frames.specs.declared.fault.FrameFault.TheVariants.{Truncated, BadMagic, BadKind, BadSender, BadLength, BadCount, BadTag, BadStamp, BadOrder}
-use Rattle.warm_frames.specs.declared.frame.Frame.{Frame}
 use Rattle.warm_frames.specs.declared.frame.Frame.TheVariants.{Entries, Want}
 use Rattle.warm_frames.specs.Entries.{longest_entry}
 use Rattle.warm_frames.specs.Spelling.{spelling}

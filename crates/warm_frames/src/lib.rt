@@ -7,7 +7,6 @@
 #![tactic(auto)]
 
 mod entries;
-mod entry_bytes;
 mod fault;
 mod frame;
 pub mod laws;
@@ -18,7 +17,7 @@ mod tests;
 mod writing;
 
 pub use entries::{EntryList, MAX_ENTRIES};
-pub use entry_bytes::EntryBytes;
 pub use fault::FrameFault;
 pub use frame::{Frame, FrameList, decode, encode};
 pub use sums::{SUM_SIZE, SumTable};
+pub use writing::{MAX_ENTRY_SIZE, put_entry};

@@ -6,10 +6,10 @@ ghost use Rattle.warm_history.specs.Carried.{comes_after};
 ghost use Rattle.warm_frames.specs.Reading.{Reads, number_at, byte_at, kind_of, may_have, start_at, body_at, front_at, stamp_in, two_in, hist_at, entry_at, entries_from, count_at, all_entries, entries_of, sums_of, read_frame, room_of, entries_room, Gives};
 
 use crate::entries::{EntryList, MAX_ENTRIES};
-use crate::entry_bytes::MAX_ENTRY_SIZE;
 use crate::fault::FrameFault;
 use crate::frame::Frame;
 use crate::sums::{SUM_SIZE, SUMS, SumTable, TABLE_SIZE};
+use crate::writing::MAX_ENTRY_SIZE;
 use std::alloc::Global;
 use warm_history::{Entry, PageHist, Two};
 use warm_stamps::{PageId, ReplicaId, Stamp, page_from, stamp_from};

@@ -7,12 +7,11 @@ ghost use Rattle.warm_frames.specs.Entries.{longest_entry, hist_bytes, entry_byt
 ghost use Rattle.warm_frames.specs.Spelling.{header_bytes, Spells};
 
 use crate::entries::EntryList;
-use crate::entry_bytes::EntryBytes;
 use crate::reading::MAGIC;
 use crate::sums::{SumTable, TABLE_SIZE};
 use std::alloc::{AllocError, Global};
 use warm_history::{Entry, PageHist};
-use warm_stamps::ReplicaId;
+use warm_stamps::{ReplicaId, page_bytes, stamp_bytes};
 
 // The header of a frame, with room for a body of this length.
 fn header(alloc: Global, kind: u8, sender: ReplicaId, len: u32) -> Result<Vec<u8>, AllocError>
@@ -27,11 +26,38 @@ fn header(alloc: Global, kind: u8, sender: ReplicaId, len: u32) -> Result<Vec<u8
     Ok(text)
 }
 
-fn put_entry(text: &mut Vec<u8>, entry: &Entry) -> Result<(), AllocError>
+fn put_hist(text: &mut Vec<u8>, hist: PageHist) -> Result<(), AllocError>
+    ensures { OnOk result (text.new.items ≡ text.old.items ++ hist_bytes hist) }
+{
+    match hist {
+        PageHist::Once(last) => {
+            text.push(1)?;
+            text.extend_from_slice(&stamp_bytes(last))?;
+        }
+        PageHist::Twice(two) => {
+            let last = two.last();
+            let prev = two.prev();
+            text.push(2)?;
+            text.extend_from_slice(&stamp_bytes(last))?;
+            text.extend_from_slice(&stamp_bytes(prev))?;
+        }
+    }
+    Ok(())
+}
+
+/// The most bytes that an entry has: a page, a tag and two stamps.
+pub const MAX_ENTRY_SIZE: usize = 6 + 1 + 2 * 10;
+
+/// Puts the bytes of an entry, as they stand in a frame and as they are summed, behind the text: its
+/// page, a tag, which is the number of its stamps, and the stamps, the later one first.
+///
+/// `AllocError` comes only where room for them was refused, so never where the text has room for
+/// [`MAX_ENTRY_SIZE`] bytes more. A part of them may then stand there.
+pub fn put_entry(text: &mut Vec<u8>, entry: &Entry) -> Result<(), AllocError>
     ensures { OnOk result (text.new.items ≡ text.old.items ++ entry_bytes entry.now) }
 {
-    text.extend_from_slice(EntryBytes::of(entry).as_slice())?;
-    Ok(())
+    text.extend_from_slice(&page_bytes(entry.page))?;
+    put_hist(text, entry.hist)
 }
 
 fn hist_len(hist: PageHist) -> u32
