@@ -6,6 +6,7 @@ use mathlib.Core.Option as maybe
 use mathlib.Core.List.{IsPrefix}
 use lib.ListN.{get_elem?}
 use Rattle.atomic_table.specs.Table.{State}
+use Rattle.atomic_table.specs.Seated.{TableId}
 use Rattle.warm_turn.specs.declared.board.Entry.{Entry}
 use Rattle.warm_turn.specs.declared.board.Ended.{Ended}
 use Rattle.warm_turn.specs.declared.board.View.{View}
@@ -18,6 +19,10 @@ ticket_word s = slice_index s.words 0
 
 abbrev pub serving_word : {S V : Type 0} → State S V → ℕ
 serving_word s = slice_index s.words 1
+
+-- a table of two words and one slot
+abbrev pub IsBoard : TableId → Type 0
+IsBoard table = (table.words ≡ 2) × (table.slots ≡ 1)
 
 -- The first pass: the words and the slot
 
@@ -76,6 +81,10 @@ pub record OneHistory {M X C R : Type 0} (meaning : M → X) (goes : X → C →
 pub record Kept {M X C R : Type 0} (meaning : M → X) (fit : M → Type 0) (goes : X → C → R → X → Type 0) (opening : X) (s : State (Option (Held M C R)) (View X C R)) : Type 0 where
   pub turns : InTurn fit s
   pub history : OneHistory meaning goes opening (serving_word s) s.homes s.views
+
+-- where a pass has the mark, the next ticket is the last number
+abbrev pub MarkShows : {X C R : Type 0} → View X C R → Busy → Type 0
+MarkShows v found = v.found_last ≡ true → found.ticket + 1 ≡ 2 ^ 64
 
 -- What the words of a refused close are: those of a state that the rule allows, in which a seat has this view
 pub record AreWords {M X C R : Type 0} (meaning : M → X) (fit : M → Type 0) (goes : X → C → R → X → Type 0) (opening : X) (v : View X C R) (found : Busy) : Type 0 where

@@ -144,6 +144,9 @@ pub record Shape (X : Type 0) : Type 0 where
   pub table : TableId
   pub opening : X
 
+abbrev pub turn_at : {X : Type 0} → TableId → X → Shape X
+turn_at table opening = record { table = table; opening = opening }
+
 -- what clauses see of a pass or a note: whose table it is at, and what it knows
 pub record Sight (X C R : Type 0) : Type 0 where
   pub table : TableId

@@ -76,7 +76,8 @@ pub struct Held<M, C, R> {
     pub made: Option<Made<C, R>>,
 }
 
-/// The rule of the table, `Kept` of `specs/Rule.antt`. Its key is the machine that the turn opened with.
+/// The rule of the table, `Kept` of `specs/Rule.antt`. Its key is the machine that the turn opened
+/// with.
 pub struct Turns<M> {
     machine: PhantomData<M>,
 }

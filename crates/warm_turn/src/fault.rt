@@ -4,7 +4,8 @@ ghost use Rattle.std.specs.Prelude.{◌≡◌, codes};
 use std::error::Error;
 use std::fmt;
 
-/// No memory was left for a new turn. Refusal 1, `Memory`.
+/// No memory was left for a new turn. Refusal 1, `Memory`. No turn was made, and the machine comes
+/// back.
 #[derive(Debug, Drop)]
 pub struct Memory<M> {
     /// The machine that was handed in, as it was.
@@ -37,6 +38,9 @@ impl<M: fmt::Debug + Drop> Error for Memory<M> {}
 
 /// A pass found the last number, `u64::MAX`, in the ticket word: no ticket is left for a call.
 /// Refusal 2, `TurnsSpent`.
+///
+/// The call comes back, and the machine has not seen it. The pass has the mark from now on, and
+/// each of its later calls is refused too. What it has seen and called stays, and so does the turn.
 #[derive(Debug, Drop)]
 pub struct TurnsSpent<C> {
     /// The call that was not made.
@@ -70,12 +74,14 @@ impl<C: fmt::Debug + Drop> Error for TurnsSpent<C> {}
 /// A turn was closed, and fewer tickets were served than were taken. Refusal 3, `Busy`.
 ///
 /// A call borrows its turn, so none should be under way when the turn is closed. That is not a fact
-/// that the words show, so closing compares them.
+/// that the words show, so closing compares them. The turn and the pass are used up, the machine is
+/// dropped where it is at home, and these two words are what is left: so many calls as tickets were
+/// served were answered.
 #[derive(Clone, Copy, Debug, PartialEq, Eq)]
 pub struct Busy {
     /// The next ticket.
     pub ticket: u64,
-    /// The ticket that is served, which is less.
+    /// The ticket that is served, which is less: the number of calls in the history.
     pub serving: u64,
 }
 

@@ -1,6 +1,7 @@
 //! What holds of every state that the rule of a turn allows, and of every answered call. These are
 //! theorems: the functions do nothing.
-ghost use Rattle.warm_turn.specs.Laws.{MachineIsAlone, MarkIsOfTheLast, SpentStaysSpent, CallsAreSteps};
+ghost use Rattle.warm_turn.specs.Laws.{MachineIsAlone, MarkIsOfTheLast};
+ghost use Rattle.warm_turn.specs.Laws.{SpentStaysSpent, CallsAreSteps};
 
 use crate::machine::Machine;
 

@@ -10,6 +10,8 @@
 //! - [`Turn::call`] makes a call. Its list begins with all that the pass had seen and ends with it.
 //! - [`Turn::note`] and [`Turn::learn`] tell one pass what another has seen, and [`Turn::end`] ends
 //!   a pass into another. Both lists begin the new one.
+//! - [`Turn::opening_note`] is for code that was handed a turn and a pass: a pass that learns it is
+//!   seen to have opened with the turn's state.
 //! - [`Turn::close`] gives the machine back, in a state that such a history reaches.
 //!
 //! It is a ticket lock (D. P. Reed and R. K. Kanodia, "Synchronization with Eventcounts and
@@ -20,8 +22,8 @@
 //! fairness or how long a call waits, and an entry is no proof that its caller still runs.
 //!
 //! Passes, notes and turns may cross threads where the machine may: for a function that is generic
-//! in `M: Machine + Send` the lemmas are in `proofs/Sent.antt`. Lemmas on what calls, notes and ends
-//! say of a pass are in `proofs/Passes.antt`.
+//! in `M: Machine + Send` the lemmas are in `proofs/Sent.antt`. Lemmas on what calls, notes and
+//! ends say of a pass are in `proofs/Passes.antt`.
 #![tactic(auto)]
 
 mod board;

@@ -1,5 +1,5 @@
 //! The worked rows of a counter, passes in threads of their own, and want of memory.
-ghost use Rattle.std.specs.Prelude.{◌≡◌, IfOk};
+ghost use Rattle.std.specs.Prelude.{◌≡◌, Some, IfOk};
 
 use crate::counter::{Add, Added, Counter};
 use crate::{Busy, Machine, Memory, Pass, Turn, TurnsSpent};
@@ -21,12 +21,24 @@ fn counter_at(alloc: Global, total: u64) -> Result<(Turn<Counter>, Pass<Counter>
     }
 }
 
+// What code can know that was handed a turn and a pass of it, and is told no more.
+fn learn_opening<M: Machine>(turn: &Turn<M>, pass: &mut Pass<M>)
+    requires { pass.old.table ≡ turn.now.table }
+    ensures table { pass.new.table ≡ turn.now.table }
+    ensures opening { pass.new.view.opening ≡ Some turn.now.opening }
+    ensures calls { pass.new.view.mine ≡ pass.old.view.mine }
+{
+    let note = turn.opening_note();
+    turn.learn(pass, note);
+}
+
 #[test]
 fn two_passes_count_on_one_machine(rt: HostRuntime) -> Result<(), Fail> {
     let Ok((turn, mut first)) = counter_at(rt.alloc(), 0) else {
         panic!(rt; "no memory")
     };
     let mut second = turn.pass(&mut first);
+    learn_opening(&turn, &mut second);
     let Ok(five) = turn.call(&rt, &mut first, Add(5)) else {
         panic!(rt; "no ticket was left")
     };
@@ -209,7 +221,8 @@ fn four_threads_count_to_twelve(rt: HostRuntime) -> Result<(), Fail> {
         },
         move || -> (Pass<Counter>, Pass<Counter>)
             requires { (three.table ≡ t.now.table) × (four.table ≡ t.now.table) }
-            ensures { (result.0.table ≡ t.entry.now.table) × (result.1.table ≡ t.entry.now.table) }
+            ensures { (result.0.table ≡ t.entry.now.table)
+                × (result.1.table ≡ t.entry.now.table) }
         { add_in_two_threads(r, t, three, four, Some(g)) },
     );
     turn.end(&mut first, three);

@@ -1,8 +1,10 @@
 //! The turn, its passes and notes.
-ghost use Rattle.std.specs.Prelude.{◌≡◌, ◌≢◌, ℕ, ◌+◌, ◌^◌, ◌<◌, true, false, [], ◌∷◌, Some, IfOk, IfErr, IfSome, IfNone};
+ghost use Rattle.std.specs.Prelude.{◌≡◌, ℕ, ◌<◌, true, false, [], ◌∷◌, Some};
+ghost use Rattle.std.specs.Prelude.{IfOk, IfErr, IfSome, IfNone};
 ghost use Rattle.warm_turn.specs.declared.board.Held.{Held};
-ghost use Rattle.warm_turn.specs.Turns.{calls_by, first_pass, new_pass, note_of, marked, IsPass, IsStep, IsLast, Called, Learned, Joined};
-ghost use Rattle.warm_turn.specs.Rule.{AreWords};
+ghost use Rattle.warm_turn.specs.Turns.{calls_by, first_pass, new_pass, note_of, marked};
+ghost use Rattle.warm_turn.specs.Turns.{IsPass, IsStep, IsLast, Called, Learned, Joined};
+ghost use Rattle.warm_turn.specs.Rule.{IsBoard, AreWords, MarkShows};
 ghost use Rattle.warm_turn.specs.Steps.{HasTicket, HasMachine, IsMade, Served, HasPassedOn};
 
 use crate::board::{Board, Held, Made, Place, Top};
@@ -17,7 +19,10 @@ use std::sync::Wait;
 
 /// A machine that threads share: they call it through a `&`, each with a [`Pass`] of its own.
 ///
-/// Contracts see which table it is, and the state that it opened with.
+/// Contracts see which table it is (`table`), and the state that it opened with (`opening`). A pass
+/// or a note belongs to the turn whose table it has, and each call asks for that.
+///
+/// A turn that is dropped drops the machine that is at home in it. [`Turn::close`] gives it back.
 #[derive(Drop)]
 pub struct Turn<M: Machine> {
     table: Board<M>,
@@ -25,22 +30,26 @@ pub struct Turn<M: Machine> {
 
 impl<M: Machine> Model for Turn<M> {
     ghost use Rattle.std.specs.Prelude.{◌≡◌};
-    ghost use Rattle.warm_turn.specs.Turns.{Shape};
+    ghost use Rattle.warm_turn.specs.Turns.{Shape, turn_at};
+    ghost use Rattle.warm_turn.specs.Rule.{IsBoard};
 
     ghost Value = { Shape M.State };
 
-    ghost view = { λ t. record { table = t.table.shared.table_id; opening = M.meaning t.table.shared.key.value } };
+    ghost view = { λ t. turn_at t.table.shared.table_id (M.meaning t.table.shared.key.value) };
 
-    ghost invariant = { λ t. (t.table.shared.table_id.words ≡ 2) × (t.table.shared.table_id.slots ≡ 1) };
+    ghost invariant = { λ t. IsBoard t.table.shared.table_id };
 }
 
-/// The right of one caller to call, of no bytes. It belongs to the turn that made it, which each
-/// call requires (`table`), and may go to another thread.
+/// The right of one caller to call, of no bytes. It belongs to the turn that made it (`table`), and
+/// may go to another thread.
 ///
 /// Contracts see what it knows (`view`): the list `seen`, a beginning of the turn's history that is
-/// legal from the opening state; its `number`; its own calls, `mine`; and the numbers and calls of
-/// the passes that were ended into it, `ended`. The entries that `seen` has of each of these numbers
-/// are just that pass's calls, each once, in their order, and no number stands twice.
+/// legal from the `opening` state; its `number`; its own calls, `mine`; and the numbers and calls
+/// of the passes that were ended into it, `ended`. The entries that `seen` has of each of these
+/// numbers are just that pass's calls, each once, in their order, and no number stands twice.
+///
+/// Its mark, `found_last`, says that it was refused with [`TurnsSpent`]. It stays, and a pass that
+/// has it is never answered again. It may still learn, be ended and close the turn.
 ///
 /// A pass that is dropped leaves its calls in the history, and its number to nobody.
 #[derive(Drop)]
@@ -59,8 +68,8 @@ impl<M: Machine> Model for Pass<M> {
     ghost invariant = { λ p. (p.place.me.1 ≡ []) × IsPass M.goes p.place.me.0 };
 }
 
-/// What a pass had seen, for another to learn, of no bytes. It has no calls, and may go to another
-/// thread.
+/// What a pass had seen, for another pass of the same turn to learn, of no bytes. It has no number
+/// and no calls, cannot call, and may go to another thread. To drop it loses nothing.
 #[derive(Drop)]
 pub struct Note<M: Machine> {
     place: Place<M>,
@@ -101,8 +110,7 @@ fn take_ticket<M: Machine, R: Wait>(rt: &R, top: &Top<M>, place: &mut Place<M>) 
 
 // Waits until the ticket is served. Then the seat has the machine.
 fn wait_turn<M: Machine, R: Wait>(rt: &R, top: &Top<M>, place: &mut Place<M>, ticket: u64)
-    requires table { (place.old.table_id ≡ top.now.table_id) × (top.now.table_id.words ≡ 2)
-        × (top.now.table_id.slots ≡ 1) }
+    requires table { (place.old.table_id ≡ top.now.table_id) × IsBoard top.now.table_id }
     requires waits { (place.old.me.1 ≡ []) × (place.old.me.0.waits ≡ true)
         × (place.old.me.0.serves ≡ false) × (place.old.me.0.ticket ≡ ticket) }
     ensures table { (place.new.table_id ≡ place.old.table_id) × (place.new.id ≡ place.old.id) }
@@ -148,8 +156,7 @@ fn pass_on<M: Machine>(
     call: Snapshot<M::Call>,
     reply: &M::Reply,
 )
-    requires table { (place.old.table_id ≡ top.now.table_id) × (top.now.table_id.words ≡ 2)
-        × (top.now.table_id.slots ≡ 1) }
+    requires table { (place.old.table_id ≡ top.now.table_id) × IsBoard top.now.table_id }
     requires made { IsMade M.meaning M.is_fit M.goes place.old.me call.value reply.now }
     ensures table { (place.new.table_id ≡ place.old.table_id) × (place.new.id ≡ place.old.id) }
     ensures added { HasPassedOn M.goes place.old.me call.value reply.now place.new.me }
@@ -165,8 +172,7 @@ fn make_call<M: Machine, R: Wait>(
     place: &mut Place<M>,
     call: M::Call,
 ) -> Result<M::Reply, M::Call>
-    requires table { (place.old.table_id ≡ top.now.table_id) × (top.now.table_id.words ≡ 2)
-        × (top.now.table_id.slots ≡ 1) }
+    requires table { (place.old.table_id ≡ top.now.table_id) × IsBoard top.now.table_id }
     requires idle { (place.old.me.1 ≡ []) × IsPass M.goes place.old.me.0 }
     ensures table { (place.new.table_id ≡ place.old.table_id) × (place.new.id ≡ place.old.id)
         × (place.new.me.1 ≡ []) }
@@ -195,11 +201,12 @@ fn machine_of<M: Machine>(slot: Option<Held<M, M::Call, M::Reply>>) -> M
 }
 
 impl<M: Machine> Pass<M> {
-    /// A theorem, for a caller that needs it later: the pass's list is legal from the opening state,
-    /// and has of each number that the pass holds just that pass's calls. Nothing is done.
+    /// A theorem, for a caller that needs it later: the pass's list is legal from the opening
+    /// state, and has of each number that the pass holds just that pass's calls. Nothing is done.
     pub fn is_legal(&self)
         ensures { IsPass M.goes self.now.view }
     {
+        // For the proof alone: it brings in what is always true of a pass.
         let _place = &self.place;
     }
 }
@@ -268,8 +275,9 @@ impl<M: Machine> Turn<M> {
         Note { place }
     }
 
-    /// A note that has seen nothing, and opened with the turn's state. It is for code that was handed a
-    /// turn and a pass: a pass that learns this note is seen to have opened with that state.
+    /// A note that has seen nothing, and opened with the turn's state. It is for code that was
+    /// handed a turn and a pass: a pass that learns this note is seen to have opened with that
+    /// state.
     pub fn opening_note(&self) -> Note<M>
         ensures table { result.table ≡ self.now.table }
         ensures given { result.view ≡ note_of (first_pass self.now.opening) }
@@ -279,8 +287,8 @@ impl<M: Machine> Turn<M> {
     }
 
     /// Learns what the note says. From now on the pass's list begins with what it had seen and with
-    /// what the note says, and may have further entries of other passes. Its own calls, and those
-    /// that it holds, stay.
+    /// what the note says, and may have further entries of other passes. Both opened with the same
+    /// state. Its own calls, those that it holds and its mark stay.
     pub fn learn(&self, pass: &mut Pass<M>, note: Note<M>)
         requires { (pass.old.table ≡ self.now.table) × (note.table ≡ self.now.table) }
         ensures table { pass.new.table ≡ self.now.table }
@@ -293,7 +301,8 @@ impl<M: Machine> Turn<M> {
 
     /// Ends the other pass into this one. This pass's list then begins with what both had seen, and
     /// it holds the other's number and calls, and those that the other held. All these numbers
-    /// differ. Its own calls stay.
+    /// differ. Both opened with the same state. Its own calls and its mark stay, and the other's
+    /// mark goes.
     pub fn end(&self, pass: &mut Pass<M>, other: Pass<M>)
         requires { (pass.old.table ≡ self.now.table) × (other.table ≡ self.now.table) }
         ensures table { pass.new.table ≡ self.now.table }
@@ -306,11 +315,14 @@ impl<M: Machine> Turn<M> {
 
     /// Takes the next ticket, waits until it is served, calls the machine and passes the turn on.
     ///
-    /// The reply is the machine's at this point of the history: the pass's list begins with the list
-    /// that it had and ends with the call and its reply, which is one more of its own calls.
-    /// `TurnsSpent`, which comes only where this pass found `u64::MAX` in the ticket word, hands the
-    /// call back and adds no entry. Nothing says how long a call waits: it may be forever, as where
-    /// an earlier call of the machine never returns.
+    /// The reply is the machine's at this point of the history: the pass's list begins with the
+    /// list that it had and ends with the call and its reply, which is one more of its own calls. A
+    /// pass that is answered had no mark, and has none.
+    ///
+    /// `TurnsSpent`, which comes only where this pass found `u64::MAX` in the ticket word, hands
+    /// the call back, adds no entry and leaves the pass as it was, but for the mark. Nothing says
+    /// how long a call waits: it may be forever, as where an earlier call of the machine never
+    /// returns.
     pub fn call<R: Wait>(
         &self,
         rt: &R,
@@ -330,12 +342,14 @@ impl<M: Machine> Turn<M> {
         }
     }
 
-    /// Gives the machine back. Its state is one that a legal history reaches from the opening state.
-    /// That history begins with the pass's list, and has no further entry of any number that the
-    /// pass holds: the calls of the passes that were ended into it are all there.
+    /// Gives the machine back. Its state is one that a legal history reaches from the opening
+    /// state. That history begins with the pass's list, and has no further entry of any number that
+    /// the pass holds: the calls of the passes that were ended into it are all there.
     ///
-    /// `Busy` comes only where fewer tickets were served than were taken. The turn is used up then,
-    /// and a machine that is at home in it is dropped.
+    /// `Busy` comes only where fewer tickets were served than were taken. Its words are those of a
+    /// state that the rule of the turn allows, in which a pass knows what this one does: so many
+    /// calls as tickets were served are in the history. The turn and the pass are used up, and a
+    /// machine that is at home is dropped.
     pub fn close(self, pass: Pass<M>) -> Result<M, Busy>
     where
         M: Drop,
@@ -344,7 +358,7 @@ impl<M: Machine> Turn<M> {
         ensures fit { IfOk result M.is_fit }
         ensures busy { IfErr result (λ b. b.serving < b.ticket) }
         ensures words { IfErr result (AreWords M.meaning M.is_fit M.goes self.opening pass.view) }
-        ensures mark { IfErr result (λ b. pass.view.found_last ≡ true → b.ticket + 1 ≡ 2 ^ 64) }
+        ensures mark { IfErr result (MarkShows pass.view) }
     {
         let Turn { table } = self;
         let Pass { place } = pass;
