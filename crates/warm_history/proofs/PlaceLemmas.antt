@@ -3,16 +3,16 @@ use Rattle.std.proofs.Common.{◌≡◌, ℕ, zero, suc, ◌<◌, Bool, true, fa
 use Rattle.std.specs.List.{insert, AllByRecursion}
 use Rattle.std.specs.List.Sorted.{IsSearchInRange, IsBinarySearchResult, IsSortedBy}
 use Rattle.std.specs.Ordering.{is_eq, is_lt, on, flip_args}
-use Rattle.std.specs.declared.cmp.Ordering.{Ordering}
-use Rattle.std.specs.declared.cmp.Ordering.TheVariants.{Less, Equal, Greater}
+use Rattle.std.specs.declared.cmp.Ordering.TheVariants.{Less, Greater}
 use Rattle.std.proofs.lemmas.Cmp.{tied_itself}
 use Rattle.std.proofs.lemmas.List.Sorted.{searchable_from_sorted}
+use Rattle.std.proofs.lemmas.List.{append-nil}
 use Rattle.warm_stamps.specs.declared.Stamp.{Stamp}
 use Rattle.warm_stamps.specs.declared.PageId.{PageId}
 use Rattle.warm_stamps.specs.declared.Reference.{Reference}
 use Rattle.warm_stamps.specs.Stamps.{stamp_cmp, page_cmp}
 use Rattle.warm_stamps.specs.Distinct.{distinct, IsRising}
-use Rattle.warm_stamps.proofs.DistinctLemmas.{flipped, distinct_swap}
+use Rattle.warm_stamps.proofs.DistinctLemmas.{is_equal, flipped, distinct_swap}
 use Rattle.warm_stamps.proofs.StampLemmas.{stamp_order, page_order, IsStrictOrder-flip}
 use Rattle.warm_history.specs.declared.hist.PageHist.{PageHist}
 use Rattle.warm_history.specs.declared.hist.Entry.{Entry}
@@ -22,27 +22,18 @@ use Rattle.warm_history.proofs.Lists.{front_two, front_two-first, front_two-seco
 use Rattle.warm_history.proofs.HistoryLemmas.{get, told, told-append, told_entry, held-first_two, first_two-front_two, get-history, IsHistory-history, same_gets}
 use Rattle.warm_history.proofs.JoinLemmas.{history_of_own_references}
 
--- a stamp more changes the two latest as it would with these alone
-pub latest_of_more : (s : Stamp) (ss : List Stamp) (r : PageHist) → Some r ≡ latest_of ss → latest_of (s ∷ stamps_held r) ≡ latest_of (s ∷ ss)
-latest_of_more s ss r is =
+-- a stamp more changes the two latest of others as it would with these alone; the others are a stamp and the rest, as code that adds two has them
+pub latest_of_more : (last prev : Stamp) (ss : List Stamp) (r : PageHist) → Some r ≡ latest_of (prev ∷ ss) → latest_of (last ∷ stamps_held r) ≡ latest_of (last ∷ prev ∷ ss)
+latest_of_more last prev ss r is =
     let falls = flip_args stamp_cmp in
     let order = IsStrictOrder-flip stamp_cmp stamp_order in
-    let held_is : stamps_held r ≡ front_two (distinct falls ss) = ap held is ∙ held-first_two (distinct falls ss) in
-    ap (λ t. latest_of (s ∷ t)) held_is
-    ∙ sym (first_two-front_two (distinct falls (s ∷ front_two (distinct falls ss))))
-    ∙ ap first_two (sym (front_two-second falls order (s ∷ []) ss))
-    ∙ first_two-front_two (distinct falls (s ∷ ss))
+    let held_is : stamps_held r ≡ front_two (distinct falls (prev ∷ ss)) = ap held is ∙ held-first_two (distinct falls (prev ∷ ss)) in
+    ap (λ t. latest_of (last ∷ t)) held_is
+    ∙ sym (first_two-front_two (distinct falls (last ∷ front_two (distinct falls (prev ∷ ss)))))
+    ∙ ap first_two (sym (front_two-second falls order (last ∷ []) (prev ∷ ss)))
+    ∙ first_two-front_two (distinct falls (last ∷ prev ∷ ss))
 
 -- ---- one reference more
-
-append_nil : {A : Type 0} (xs : List A) → xs ++ [] ≡ xs
-append_nil [] = refl
-append_nil (x ∷ xs) = ap (λ t. x ∷ t) (append_nil xs)
-
-is_equal : (o : Ordering) → is_eq o ≡ true → o ≡ Equal
-is_equal Less e = absurd (cc)
-is_equal Equal e = refl
-is_equal Greater e = absurd (cc)
 
 -- what a list of stamps says beside others, its two latest say
 pub latest_of_first : (xs ys : List Stamp) → latest_of (xs ++ ys) ≡ latest_of (held (latest_of xs) ++ ys)
@@ -68,7 +59,7 @@ hist_entry S e q = ap latest_of (told-append S (entry_refs e) q ∙ ap (λ t. to
         latest_of_first (told S q) (stamps_held e.hist)
         ∙ latest_of_swap (held (hist S q)) (stamps_held e.hist)
         ∙ ap (λ p. latest_of (stamps_held e.hist ++ held (hist S p))) (sym same))
-    cases false other = rw other (ap latest_of (append_nil (told S q)))
+    cases false other = rw other (ap latest_of (append-nil (told S q)))
 
 -- what new holds is what old holds, with an entry more
 abbrev pub HoldsMore : List Entry → List Entry → Entry → Type 0
@@ -232,4 +223,4 @@ refs-append (e ∷ h) g = ap (λ t. entry_refs e ++ t) (refs-append h g) ∙ sym
 
 -- the references of one entry more
 pub refs_more : (h : List Entry) (e : Entry) → refs (h ++ e ∷ []) ≡ refs h ++ entry_refs e
-refs_more h e = refs-append h (e ∷ []) ∙ ap (λ t. refs h ++ t) (append_nil (entry_refs e))
+refs_more h e = refs-append h (e ∷ []) ∙ ap (λ t. refs h ++ t) (append-nil (entry_refs e))

@@ -102,6 +102,14 @@ impl PageHist {
             PageHist::Twice(two) => PageHist::Twice(two.with(stamp)),
         }
     }
+
+    // The two latest of these stamps and two more.
+    #[tactic(auto, using(crate::proofs::PlaceLemmas::latest_of_more))]
+    fn with_both(self, two: Two) -> PageHist
+        ensures { Some result ≡ latest_of (two.last ∷ two.prev ∷ stamps_held self) }
+    {
+        self.with(two.prev()).with(two.last())
+    }
 }
 
 /// What is kept of a page of which two histories know: the two latest distinct stamps of both
@@ -111,7 +119,7 @@ pub fn join_hist(a: PageHist, b: PageHist) -> PageHist
 {
     match a {
         PageHist::Once(last) => b.with(last),
-        PageHist::Twice(two) => b.with(two.prev()).with(two.last()),
+        PageHist::Twice(two) => b.with_both(two),
     }
 }
 

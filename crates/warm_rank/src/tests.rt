@@ -86,6 +86,28 @@ fn key_keeps_its_page(rt: HostRuntime) -> Result<(), Fail> {
     Ok(())
 }
 
+// Pages that were referenced once each leave in the order of their stamps.
+#[test]
+fn warm_up_lists_10_000_pages(rt: HostRuntime) -> Result<(), Fail> {
+    let replica = ReplicaId::new(1).ok().ok_or("1 names a replica")?;
+    let mut batch = Vec::with_capacity(rt.alloc(), 10_001)?;
+    for no in 0..10_001u32 {
+        let time = u64::from(no);
+        batch.push(Reference {
+            page: page(no),
+            stamp: Stamp { time, replica },
+        })?;
+    }
+    let mut history = History::new(rt.alloc());
+    history.absorb(&batch)?;
+    let pages = warm_list(rt.alloc(), &history, 10_000)?;
+    assert_eq!(rt; pages.len(), 10_000);
+    for (hotter, listed) in pages.iter().enumerate() {
+        assert_eq!(rt; usize::try_from(listed.no), Ok(10_000 - hotter));
+    }
+    Ok(())
+}
+
 #[test]
 fn warm_up_lists_the_hottest_first(rt: HostRuntime) -> Result<(), Fail> {
     let seen = [(5, 1), (2, 2), (2, 3), (9, 4), (9, 5)];

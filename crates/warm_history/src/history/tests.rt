@@ -113,6 +113,52 @@ fn keeps_the_two_latest_stamps(rt: HostRuntime) -> Result<(), Fail> {
     Ok(())
 }
 
+// References to the pages 0:0 to 0:49,999 at the times 0 to 49,999, and again at the 50,000 next.
+fn every_page_twice(alloc: Global) -> Result<Vec<Reference>, Fail> {
+    let mut batch = match Vec::with_capacity(alloc, 100_000) {
+        Ok(batch) => batch,
+        Err(_) => Vec::with_capacity(alloc, 100_000)?,
+    };
+    for time in 0..100_000u32 {
+        batch.push(seen(page(0, time % 50_000), u64::from(time), 1)?)?;
+    }
+    Ok(batch)
+}
+
+#[test]
+fn takes_in_100_000_references_at_once_and_none(rt: HostRuntime) -> Result<(), Fail> {
+    let mut here = History::new(rt.alloc());
+    let batch = every_page_twice(rt.alloc())?;
+    absorb_twice(&rt, &mut here, &batch)?;
+    assert_eq!(rt; here.len(), 50_000);
+    for no in [0, 24_999, 49_999u32] {
+        let first = u64::from(no);
+        let latest = twice(&rt, stamp(50_000 + first, 1)?, stamp(first, 1)?);
+        assert_eq!(rt; here.get(page(0, no)), Some(latest));
+    }
+    let before = copy_twice(&here)?;
+    absorb_twice(&rt, &mut here, &[])?;
+    assert!(rt; are_equal(&here, &before), "no references left something");
+    Ok(())
+}
+
+#[test]
+fn a_copy_equals_its_source_and_stays(rt: HostRuntime) -> Result<(), Fail> {
+    let mut here = History::new(rt.alloc());
+    absorb_twice(
+        &rt,
+        &mut here,
+        &[seen(page(1, 2), 3, 4)?, seen(page(1, 2), 5, 4)?],
+    )?;
+    let copied = copy_twice(&here)?;
+    assert!(rt; are_equal(&copied, &here));
+    absorb_twice(&rt, &mut here, &[seen(page(1, 1), 6, 4)?])?;
+    assert_eq!(rt; (here.len(), copied.len()), (2, 1));
+    let latest = twice(&rt, stamp(5, 4)?, stamp(3, 4)?);
+    assert_eq!(rt; copied.get(page(1, 2)), Some(latest));
+    Ok(())
+}
+
 #[test]
 fn tells_replicas_apart(rt: HostRuntime) -> Result<(), Fail> {
     for time in [5, u64::MAX] {
