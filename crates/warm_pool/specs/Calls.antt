@@ -2,13 +2,14 @@
 use Rattle.std.specs.Prelude.{◌≡◌, ◌≢◌, ◌⊎◌, ℕ, ◌+◌, ◌-◌, ◌^◌, ◌==◌, ◌<◌, ◌≤◌, Bool, true, false, IsTrue, List, [], ◌++◌, take, drop, map, length, Option, Some, None, set, if◌then◌else◌, Contains}
 use Rattle.warm_stamps.specs.declared.PageId.{PageId}
 use Rattle.warm_history.specs.Histories.{HistoryView, hist, refs}
+use Rattle.warm_rank.specs.Ranking.{IsVictim}
 use Rattle.warm_devices.specs.Device.{DeviceState, one_more, page_at}
 use Rattle.warm_pool.specs.declared.slot.Slot.{Slot}
 use Rattle.warm_pool.specs.declared.fault.PoolFault.{PoolFault}
-use Rattle.warm_pool.specs.declared.fault.PoolFault.TheVariants.{Memory, BadFrames, SizeDiffers, NoDevice, NoPage, AllFixed, ReadFault, WriteBack, FixesFull, Fixed, Fault}
+use Rattle.warm_pool.specs.declared.fault.PoolFault.TheVariants.{Memory, BadFrames, SizeDiffers, NoDevice, NoPage, AllFixed, ReadFault, WriteBack, FixesFull, OutOfPage, Fixed, Fault}
 use Rattle.warm_pool.specs.Frames.{FrameState, nth_frame, cleaned}
-use Rattle.warm_pool.specs.State.{PoolState, nth_device, device_view, view_of}
-use Rattle.warm_pool.specs.View.{FrameView, PoolView, device_at, frame_at, failures_at, contents_at, HasPage, IsResident, IsAbsent, IsPlace}
+use Rattle.warm_pool.specs.State.{PoolState, RankedBy, nth_device, device_view, view_of}
+use Rattle.warm_pool.specs.View.{FrameView, PoolView, device_at, frame_at, failures_at, contents_at, HasPage, IsResident, IsAbsent, IsPlace, unfixed_pages}
 
 -- nothing but counts of failures has changed
 abbrev pub SameButFailures : PoolView → PoolView → Type 0
@@ -120,6 +121,10 @@ pub record IsRead (v : PoolView) (slot : Slot) (at : ℕ) (got : List ℕ) : Typ
   pub within : at + length got ≤ v.page_size
   pub bytes : got ≡ take (length got) (drop at (contents_at v page))
 
+-- so many bytes from `at` on are not within a page, and those that were to be filled are as they were
+abbrev pub ReadRefused : PoolState → ℕ → List ℕ → PoolFault → List ℕ → Type 0
+ReadRefused s at old fault new = (fault ≡ OutOfPage) × (s.page_size < at + length old) × (new ≡ old)
+
 -- the bytes with these written from `at` on
 abbrev pub patched : List ℕ → ℕ → List ℕ → List ℕ
 patched old at bytes = take at old ++ bytes ++ drop (at + length bytes) old
@@ -133,7 +138,15 @@ pub record Written (old : PoolView) (slot : Slot) (at : ℕ) (put : List ℕ) (n
   pub bytes : contents_at new page ≡ patched (contents_at old page) at put
   pub others : (q : PageId) → HasPage old q → q ≢ page → contents_at new q ≡ contents_at old q
 
+-- these bytes from `at` on are not within a page, and nothing has changed
+abbrev pub WriteRefused : PoolState → ℕ → List ℕ → PoolFault → PoolState → Type 0
+WriteRefused old at put fault new = (fault ≡ OutOfPage) × (old.page_size < at + length put) × (new ≡ old)
+
 -- Ranks
+
+-- the page that leaves next, as every history says that ranks the pool
+abbrev pub IsNextVictim : PoolState → Option PageId → Type 0
+IsNextVictim s page = (h : HistoryView) → RankedBy s h → IsVictim (refs h) (unfixed_pages (view_of s)) page
 
 -- both histories say the same of each page but these
 abbrev pub AgreeOutside : List PageId → HistoryView → HistoryView → Type 0

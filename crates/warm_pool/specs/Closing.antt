@@ -5,7 +5,7 @@ use Rattle.warm_devices.specs.Device.{DeviceState}
 use Rattle.warm_pool.specs.Frames.{FrameState, nth_frame, cleaned, vacated}
 use Rattle.warm_pool.specs.State.{PoolState, nth_device, view_of}
 use Rattle.warm_pool.specs.Calls.{FailsAt, is_on}
-use Rattle.warm_pool.specs.Steps.{KeptDevices}
+use Rattle.warm_pool.specs.Steps.{KeptDevices, CleanFails}
 
 -- whether a frame with this page is concerned: where no device is named, each is
 abbrev pub is_chosen : Option ℕ → Option PageId → Bool
@@ -33,6 +33,17 @@ pub record PutsDown (frames : List FrameState) (old new : PoolState) : Type 0 wh
   pub failures : map (λ d. d.failures) new.devices ≡ map (λ d. d.failures) old.devices
   pub same : (new.page_size ≡ old.page_size) × (new.spare ≡ old.spare)
 
+-- the pages of all frames that are concerned went to their devices; that of one frame did, where it is concerned
+abbrev pub PutsAllDown : Option ℕ → PoolState → PoolState → Type 0
+PutsAllDown which old new = PutsDown (cleaned_chosen which (length old.frames) old.frames) old new
+
+abbrev pub PutsOneDown : Option ℕ → PoolState → ℕ → PoolState → Type 0
+PutsOneDown which old i new = PutsDown (set old.frames i (clean_if which (nth_frame old.frames i))) old new
+
+-- the page of a frame that is concerned was not written
+abbrev pub ChosenFails : Option ℕ → PoolState → ℕ → PoolState → Type 0
+ChosenFails which old i new = IsTrue (is_chosen which (nth_frame old.frames i).page) × CleanFails old i new
+
 -- the page of one frame that is concerned was not written, those of the frames before it were
 pub record StopsAt (which : Option ℕ) (old new : PoolState) : Type 0 where
   pub frame : ℕ
@@ -59,7 +70,7 @@ pub record MakesWay (old : PoolState) (dev page_size : ℕ) (new : PoolState) : 
   pub there : dev < length old.devices
   pub size : page_size ≡ old.page_size
   pub unfixed : AreUnfixed (Some dev) old.frames
-  pub down : PutsDown (cleaned_chosen (Some dev) (length old.frames) old.frames) old new
+  pub down : PutsAllDown (Some dev) old new
   pub quiet : (nth_device new.devices dev).waiting ≡ false
 
 -- the pool once another device has taken the place of device dev

@@ -1,5 +1,5 @@
 -- What a call leaves of a pool as it was, and which frame it leaves dirty or clean.
-use Rattle.std.specs.Prelude.{◌≡◌, ◌≢◌, ℕ, true, false, Some}
+use Rattle.std.specs.Prelude.{◌≡◌, ◌≢◌, ℕ, List, true, false, Some}
 use Rattle.warm_stamps.specs.declared.PageId.{PageId}
 use Rattle.warm_history.specs.Histories.{HistoryView}
 use Rattle.warm_pool.specs.declared.slot.Slot.{Slot}
@@ -8,10 +8,15 @@ use Rattle.warm_pool.specs.declared.fault.PoolFault.TheVariants.{WriteBack}
 use Rattle.warm_pool.specs.Frames.{nth_frame}
 use Rattle.warm_pool.specs.State.{PoolState, RankedBy, view_of}
 use Rattle.warm_pool.specs.View.{IsResident, IsAbsent, IsPlace}
+use Rattle.warm_pool.specs.Calls.{AgreeOutside}
 
 -- every history that ranked the old pool ranks the new one
 abbrev pub KeepsRanks : PoolState → PoolState → Type 0
 KeepsRanks old new = (h : HistoryView) → RankedBy old h → RankedBy new h
+
+-- a history that agrees with one that ranked the old pool, but for these pages, ranks the new one
+abbrev pub RefreshesRanks : List PageId → HistoryView → PoolState → PoolState → Type 0
+RefreshesRanks pages h old new = (g : HistoryView) → RankedBy old g → AgreeOutside pages g h → RankedBy new h
 
 -- the frames are as they were; all of them but one are
 abbrev pub KeepsFrames : PoolState → PoolState → Type 0

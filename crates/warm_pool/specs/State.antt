@@ -20,6 +20,10 @@ pub record PoolState : Type 0 where
 abbrev pub pool_of : {B : Type 0} → (B → DeviceState) → FramesState → ℕ → List B → PoolState
 pool_of shown frames spare devices = record { page_size = frames.page_size; spare = spare; frames = frames.frames; devices = map shown devices }
 
+-- so many frames into which no page was put
+abbrev pub unused_frames : ℕ → ℕ → FramesState
+unused_frames frames size = record { page_size = size; frames = replicate frames (fresh_frame (replicate size 0)) }
+
 -- a pool without a page
 abbrev pub opened : ℕ → ℕ → List DeviceState → PoolState
 opened frames size devices = record { page_size = size; spare = size; frames = replicate frames (fresh_frame (replicate size 0)); devices = devices }
@@ -58,6 +62,10 @@ pub record IsPool (s : PoolState) : Type 0 where
 -- the rank of each resident page is that over what the history holds
 abbrev pub RankedBy : PoolState → HistoryView → Type 0
 RankedBy s h = (i : ℕ) → (nth_frame s.frames i).key ≡ option_map (λ p. rank_key p (hist (refs h) p)) (nth_frame s.frames i).page
+
+-- every history ranks it
+abbrev pub IsRankedByAll : PoolState → Type 0
+IsRankedByAll s = (h : HistoryView) → RankedBy s h
 
 -- every page is on its device as it is in its frame, and no device has anything left to put down
 pub record IsSettled (s : PoolState) : Type 0 where

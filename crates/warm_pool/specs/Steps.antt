@@ -1,13 +1,16 @@
 -- What the steps of a call do to a pool.
-use Rattle.std.specs.Prelude.{◌≡◌, ◌≢◌, ℕ, ◌+◌, true, false, List, length, map, set, Some}
+use Rattle.std.specs.Prelude.{◌≡◌, ◌≢◌, ℕ, ◌+◌, ◌-◌, ◌^◌, true, false, List, length, map, set, Option, Some, Result, IfOk}
 use Rattle.warm_stamps.specs.declared.PageId.{PageId}
+use Rattle.warm_history.specs.Histories.{HistoryView}
 use Rattle.warm_rank.specs.declared.RankKey.{RankKey}
 use Rattle.warm_devices.specs.Device.{DeviceState, SameShape}
+use Rattle.warm_pool.specs.declared.slot.Slot.{Slot}
 use Rattle.warm_pool.specs.declared.fault.PoolFault.{PoolFault}
-use Rattle.warm_pool.specs.declared.fault.PoolFault.TheVariants.{ReadFault, WriteBack}
+use Rattle.warm_pool.specs.declared.fault.PoolFault.TheVariants.{ReadFault, WriteBack, FixesFull}
 use Rattle.warm_pool.specs.Frames.{FrameState, nth_frame, cleaned}
-use Rattle.warm_pool.specs.State.{PoolState, nth_device, stored, view_of, IsNowhere}
-use Rattle.warm_pool.specs.Calls.{FailsAt, KeepsContents}
+use Rattle.warm_pool.specs.State.{PoolState, RankedBy, nth_device, stored, view_of, IsNowhere}
+use Rattle.warm_pool.specs.View.{IsPlace}
+use Rattle.warm_pool.specs.Calls.{FailsAt, KeepsContents, AddsFix}
 
 -- The devices are what they were, and have of each page that is in no frame, or in one that isn't dirty, the bytes that they had.
 pub record KeptDevices (frames : List FrameState) (old new : List DeviceState) : Type 0 where
@@ -31,6 +34,18 @@ pub record CleanFails (old : PoolState) (i : ℕ) (new : PoolState) : Type 0 whe
   pub dirty : (nth_frame old.frames i).dirty ≡ true
   pub frames : new.frames ≡ old.frames
   pub fails : FailsAt (view_of old) page.dev (view_of new)
+
+-- the page of the frame has one fix more; or it has as many as it can, and nothing has changed
+abbrev pub FixesPage : PoolState → ℕ → Result Slot PoolFault → PoolState → Type 0
+FixesPage old i result new =
+    (p : PageId) → (nth_frame old.frames i).page ≡ Some p → IfOk result (λ slot. AddsFix (view_of old) p slot (view_of new))
+
+abbrev pub FixRefused : PoolState → ℕ → PoolFault → PoolState → Type 0
+FixRefused old i fault new = (fault ≡ FixesFull) × ((nth_frame old.frames i).fixes ≡ 2 ^ 32 - 1) × (new ≡ old)
+
+-- the frame into which a page goes that comes in, as every history says that ranks the pool
+abbrev pub IsNextPlace : PoolState → Option ℕ → Type 0
+IsNextPlace s place = (h : HistoryView) → RankedBy s h → IsPlace h (view_of s) place
 
 -- the page is in the frame, as its device has it, with this rank and so many fixes
 pub record LoadsInto (old : PoolState) (i : ℕ) (p : PageId) (key : RankKey) (n : ℕ) (new : PoolState) : Type 0 where

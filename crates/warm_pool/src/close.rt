@@ -2,13 +2,13 @@
 ghost use Rattle.std.specs.Prelude.{◌≡◌, ℕ, List, ◌<◌, length, set, map, true, false, Some, None, Option, IsTrue, ◌↔◌, OnOk, OnErr, IfErr, MatchBool};
 ghost use Rattle.warm_history.specs.Histories.{HistoryView};
 ghost use Rattle.warm_devices.specs.Device.{DeviceState};
-ghost use Rattle.warm_pool.specs.Frames.{FramesState, nth_frame};
-ghost use Rattle.warm_pool.specs.State.{PoolState, IsPool, IsSettled, RankedBy, nth_device};
-ghost use Rattle.warm_pool.specs.Steps.{CleanFails};
+ghost use Rattle.warm_pool.specs.Frames.{nth_frame};
+ghost use Rattle.warm_pool.specs.State.{IsPool, IsSettled, IsRankedByAll, nth_device};
 ghost use Rattle.warm_pool.specs.Calls.{EmptyRefused, Emptied, FailsAt, IsUnfixed, RetireRefused, Retired, WriteBackFails};
 ghost use Rattle.warm_pool.specs.Flushes.{NoneWaits};
-ghost use Rattle.warm_pool.specs.Closing.{AreUnfixed, IsFixedIn, MakesWay, PutsDown, StopsAt, clean_if, cleaned_chosen, is_chosen, retired, vacate_if, vacated_from};
+ghost use Rattle.warm_pool.specs.Closing.{AreUnfixed, IsFixedIn, MakesWay, PutsAllDown, PutsOneDown, ChosenFails, StopsAt, clean_if, is_chosen, retired, vacate_if, vacated_from};
 ghost use Rattle.warm_pool.specs.declared.fault.PoolFault.TheVariants.{Fault};
+ghost use Rattle.warm_pool.specs.Keeping.{KeepsRanks};
 
 use crate::fault::{PoolFault, Unretired};
 use crate::flush::{exchange, flush_all, flush_device, let_all_go};
@@ -35,10 +35,13 @@ impl Pool {
     pub fn write_back_all(&mut self) -> Result<(), PoolFault>
         requires pool { IsPool (⟦<Pool as Pooled>⟧.state self.old) }
         ensures pool { IsPool (⟦<Pool as Pooled>⟧.state self.new) }
-        ensures ranked { (h : HistoryView) → RankedBy (⟦<Pool as Pooled>⟧.state self.old) h → RankedBy (⟦<Pool as Pooled>⟧.state self.new) h }
-        ensures same { OnOk result (⟦<Pool as Pooled>⟧.shown self.new ≡ ⟦<Pool as Pooled>⟧.shown self.old) }
+        ensures ranked { KeepsRanks
+            (⟦<Pool as Pooled>⟧.state self.old) (⟦<Pool as Pooled>⟧.state self.new) }
+        ensures same { OnOk result
+            (⟦<Pool as Pooled>⟧.shown self.new ≡ ⟦<Pool as Pooled>⟧.shown self.old) }
         ensures settled { OnOk result (IsSettled (⟦<Pool as Pooled>⟧.state self.new)) }
-        ensures refused { IfErr result (λ fault. (fault ≡ Fault) × WriteBackFails (⟦<Pool as Pooled>⟧.state self.old) (⟦<Pool as Pooled>⟧.state self.new)) }
+        ensures refused { IfErr result (λ fault. (fault ≡ Fault) × WriteBackFails
+            (⟦<Pool as Pooled>⟧.state self.old) (⟦<Pool as Pooled>⟧.state self.new)) }
     {
         match self.settle() {
             Ok(()) => Ok(()),
@@ -53,11 +56,14 @@ impl Pool {
     pub fn empty(&mut self) -> Result<(), PoolFault>
         requires pool { IsPool (⟦<Pool as Pooled>⟧.state self.old) }
         ensures pool { IsPool (⟦<Pool as Pooled>⟧.state self.new) }
-        ensures emptied { OnOk result (Emptied (⟦<Pool as Pooled>⟧.shown self.old) (⟦<Pool as Pooled>⟧.shown self.new)) }
+        ensures emptied { OnOk result (Emptied
+            (⟦<Pool as Pooled>⟧.shown self.old) (⟦<Pool as Pooled>⟧.shown self.new)) }
         ensures settled { OnOk result (IsSettled (⟦<Pool as Pooled>⟧.state self.new)) }
-        ensures unranked { OnOk result ((h : HistoryView) → RankedBy (⟦<Pool as Pooled>⟧.state self.new) h) }
-        ensures ranked { (h : HistoryView) → RankedBy (⟦<Pool as Pooled>⟧.state self.old) h → RankedBy (⟦<Pool as Pooled>⟧.state self.new) h }
-        ensures refused { IfErr result (λ fault. EmptyRefused (⟦<Pool as Pooled>⟧.state self.old) fault (⟦<Pool as Pooled>⟧.state self.new)) }
+        ensures unranked { OnOk result (IsRankedByAll (⟦<Pool as Pooled>⟧.state self.new)) }
+        ensures ranked { KeepsRanks
+            (⟦<Pool as Pooled>⟧.state self.old) (⟦<Pool as Pooled>⟧.state self.new) }
+        ensures refused { IfErr result (λ fault. EmptyRefused
+            (⟦<Pool as Pooled>⟧.state self.old) fault (⟦<Pool as Pooled>⟧.state self.new)) }
     {
         self.put_down()?;
         vacate_chosen(&mut self.frames, None);
@@ -71,9 +77,12 @@ impl Pool {
     pub fn close(mut self) -> Result<(), Unclosed>
         requires pool { IsPool (⟦<Pool as Pooled>⟧.state self) }
         ensures unfixed { OnOk result (IsUnfixed (⟦<Pool as Pooled>⟧.shown self)) }
-        ensures refused { IfErr result (λ unclosed. EmptyRefused (⟦<Pool as Pooled>⟧.state self) unclosed.fault (⟦<Pool as Pooled>⟧.state unclosed.pool)) }
+        ensures refused { IfErr result (λ unclosed. EmptyRefused
+            (⟦<Pool as Pooled>⟧.state self) unclosed.fault
+            (⟦<Pool as Pooled>⟧.state unclosed.pool)) }
         ensures pool { IfErr result (λ unclosed. IsPool (⟦<Pool as Pooled>⟧.state unclosed.pool)) }
-        ensures ranked { IfErr result (λ unclosed. (h : HistoryView) → RankedBy (⟦<Pool as Pooled>⟧.state self) h → RankedBy (⟦<Pool as Pooled>⟧.state unclosed.pool) h) }
+        ensures ranked { IfErr result (λ unclosed. KeepsRanks
+            (⟦<Pool as Pooled>⟧.state self) (⟦<Pool as Pooled>⟧.state unclosed.pool)) }
     {
         match self.put_down() {
             Ok(()) => {
@@ -103,10 +112,14 @@ impl Pool {
     pub fn retire(&mut self, dev: u16, device: Box<dyn PageDevice + Send>) -> Result<(), Unretired>
         requires pool { IsPool (⟦<Pool as Pooled>⟧.state self.old) }
         ensures pool { IsPool (⟦<Pool as Pooled>⟧.state self.new) }
-        ensures retired { OnOk result (Retired (⟦<Pool as Pooled>⟧.shown self.old) dev (state device) (⟦<Pool as Pooled>⟧.shown self.new)) }
-        ensures refused { IfErr result (λ unretired. RetireRefused (⟦<Pool as Pooled>⟧.shown self.old) dev (state device) unretired.fault (⟦<Pool as Pooled>⟧.shown self.new)) }
+        ensures retired { OnOk result (Retired (⟦<Pool as Pooled>⟧.shown self.old) dev
+            (state device) (⟦<Pool as Pooled>⟧.shown self.new)) }
+        ensures refused { IfErr result (λ unretired. RetireRefused
+            (⟦<Pool as Pooled>⟧.shown self.old) dev (state device) unretired.fault
+            (⟦<Pool as Pooled>⟧.shown self.new)) }
         ensures given_back { IfErr result (λ unretired. unretired.device ≡ device) }
-        ensures ranked { (h : HistoryView) → RankedBy (⟦<Pool as Pooled>⟧.state self.old) h → RankedBy (⟦<Pool as Pooled>⟧.state self.new) h }
+        ensures ranked { KeepsRanks
+            (⟦<Pool as Pooled>⟧.state self.old) (⟦<Pool as Pooled>⟧.state self.new) }
     {
         match self.make_way(dev, device.page_size()) {
             Ok(()) => {
@@ -121,9 +134,13 @@ impl Pool {
     fn make_way(&mut self, dev: u16, page_size: usize) -> Result<(), PoolFault>
         requires pool { IsPool (⟦<Pool as Pooled>⟧.state self.old) }
         ensures pool { IsPool (⟦<Pool as Pooled>⟧.state self.new) }
-        ensures way { OnOk result (MakesWay (⟦<Pool as Pooled>⟧.state self.old) dev page_size (⟦<Pool as Pooled>⟧.state self.new)) }
-        ensures refused { IfErr result (λ fault. (device : DeviceState) → device.page_size ≡ page_size → RetireRefused (⟦<Pool as Pooled>⟧.shown self.old) dev device fault (⟦<Pool as Pooled>⟧.shown self.new)) }
-        ensures ranked { (h : HistoryView) → RankedBy (⟦<Pool as Pooled>⟧.state self.old) h → RankedBy (⟦<Pool as Pooled>⟧.state self.new) h }
+        ensures way { OnOk result (MakesWay
+            (⟦<Pool as Pooled>⟧.state self.old) dev page_size (⟦<Pool as Pooled>⟧.state self.new)) }
+        ensures refused { IfErr result (λ fault. (device : DeviceState) → device.page_size
+            ≡ page_size → RetireRefused (⟦<Pool as Pooled>⟧.shown self.old) dev device fault
+            (⟦<Pool as Pooled>⟧.shown self.new)) }
+        ensures ranked { KeepsRanks
+            (⟦<Pool as Pooled>⟧.state self.old) (⟦<Pool as Pooled>⟧.state self.new) }
     {
         if dev as usize >= self.devices.len() {
             return Err(PoolFault::NoDevice);
@@ -145,10 +162,14 @@ impl Pool {
         requires pool { IsPool (⟦<Pool as Pooled>⟧.state self.old) }
         requires there { dev < length (⟦<Pool as Pooled>⟧.state self.old).devices }
         ensures pool { IsPool (⟦<Pool as Pooled>⟧.state self.new) }
-        ensures down { OnOk result (PutsDown (cleaned_chosen (Some dev) (length (⟦<Pool as Pooled>⟧.state self.old).frames) (⟦<Pool as Pooled>⟧.state self.old).frames) (⟦<Pool as Pooled>⟧.state self.old) (⟦<Pool as Pooled>⟧.state self.new)) }
-        ensures flushed { OnOk result ((nth_device (⟦<Pool as Pooled>⟧.state self.new).devices dev).waiting ≡ false) }
-        ensures stopped { OnErr result (FailsAt (⟦<Pool as Pooled>⟧.shown self.old) dev (⟦<Pool as Pooled>⟧.shown self.new)) }
-        ensures ranked { (h : HistoryView) → RankedBy (⟦<Pool as Pooled>⟧.state self.old) h → RankedBy (⟦<Pool as Pooled>⟧.state self.new) h }
+        ensures down { OnOk result (PutsAllDown (Some dev)
+            (⟦<Pool as Pooled>⟧.state self.old) (⟦<Pool as Pooled>⟧.state self.new)) }
+        ensures flushed { OnOk result ((nth_device
+            (⟦<Pool as Pooled>⟧.state self.new).devices dev).waiting ≡ false) }
+        ensures stopped { OnErr result (FailsAt
+            (⟦<Pool as Pooled>⟧.shown self.old) dev (⟦<Pool as Pooled>⟧.shown self.new)) }
+        ensures ranked { KeepsRanks
+            (⟦<Pool as Pooled>⟧.state self.old) (⟦<Pool as Pooled>⟧.state self.new) }
     {
         self.clean_chosen(Some(dev))?;
         flush_device(&mut self.devices, dev as usize)?;
@@ -159,8 +180,10 @@ impl Pool {
     fn take_in(&mut self, dev: u16, device: Box<dyn PageDevice + Send>)
         requires there { dev < length (⟦<Pool as Pooled>⟧.state self.old).devices }
         requires unfixed { AreUnfixed (Some dev) (⟦<Pool as Pooled>⟧.state self.old).frames }
-        requires quiet { (nth_device (⟦<Pool as Pooled>⟧.state self.old).devices dev).waiting ≡ false }
-        ensures { ⟦<Pool as Pooled>⟧.state self.new ≡ retired (⟦<Pool as Pooled>⟧.state self.old) dev (state device) }
+        requires quiet { (nth_device
+            (⟦<Pool as Pooled>⟧.state self.old).devices dev).waiting ≡ false }
+        ensures { ⟦<Pool as Pooled>⟧.state self.new ≡ retired
+            (⟦<Pool as Pooled>⟧.state self.old) dev (state device) }
     {
         vacate_chosen(&mut self.frames, Some(dev));
         exchange(&mut self.devices, dev as usize, device);
@@ -171,10 +194,13 @@ impl Pool {
         requires pool { IsPool (⟦<Pool as Pooled>⟧.state self.old) }
         ensures pool { IsPool (⟦<Pool as Pooled>⟧.state self.new) }
         ensures unfixed { OnOk result (AreUnfixed None (⟦<Pool as Pooled>⟧.state self.old).frames) }
-        ensures down { OnOk result (PutsDown (cleaned_chosen None (length (⟦<Pool as Pooled>⟧.state self.old).frames) (⟦<Pool as Pooled>⟧.state self.old).frames) (⟦<Pool as Pooled>⟧.state self.old) (⟦<Pool as Pooled>⟧.state self.new)) }
+        ensures down { OnOk result (PutsAllDown None
+            (⟦<Pool as Pooled>⟧.state self.old) (⟦<Pool as Pooled>⟧.state self.new)) }
         ensures flushed { OnOk result (NoneWaits (⟦<Pool as Pooled>⟧.state self.new).devices) }
-        ensures refused { IfErr result (λ fault. EmptyRefused (⟦<Pool as Pooled>⟧.state self.old) fault (⟦<Pool as Pooled>⟧.state self.new)) }
-        ensures ranked { (h : HistoryView) → RankedBy (⟦<Pool as Pooled>⟧.state self.old) h → RankedBy (⟦<Pool as Pooled>⟧.state self.new) h }
+        ensures refused { IfErr result (λ fault. EmptyRefused
+            (⟦<Pool as Pooled>⟧.state self.old) fault (⟦<Pool as Pooled>⟧.state self.new)) }
+        ensures ranked { KeepsRanks
+            (⟦<Pool as Pooled>⟧.state self.old) (⟦<Pool as Pooled>⟧.state self.new) }
     {
         if is_fixed(&self.frames, None) {
             return Err(PoolFault::Fixed);
@@ -189,10 +215,13 @@ impl Pool {
     fn settle(&mut self) -> Result<(), DeviceFault>
         requires pool { IsPool (⟦<Pool as Pooled>⟧.state self.old) }
         ensures pool { IsPool (⟦<Pool as Pooled>⟧.state self.new) }
-        ensures down { OnOk result (PutsDown (cleaned_chosen None (length (⟦<Pool as Pooled>⟧.state self.old).frames) (⟦<Pool as Pooled>⟧.state self.old).frames) (⟦<Pool as Pooled>⟧.state self.old) (⟦<Pool as Pooled>⟧.state self.new)) }
+        ensures down { OnOk result (PutsAllDown None
+            (⟦<Pool as Pooled>⟧.state self.old) (⟦<Pool as Pooled>⟧.state self.new)) }
         ensures flushed { OnOk result (NoneWaits (⟦<Pool as Pooled>⟧.state self.new).devices) }
-        ensures stopped { OnErr result (WriteBackFails (⟦<Pool as Pooled>⟧.state self.old) (⟦<Pool as Pooled>⟧.state self.new)) }
-        ensures ranked { (h : HistoryView) → RankedBy (⟦<Pool as Pooled>⟧.state self.old) h → RankedBy (⟦<Pool as Pooled>⟧.state self.new) h }
+        ensures stopped { OnErr result (WriteBackFails
+            (⟦<Pool as Pooled>⟧.state self.old) (⟦<Pool as Pooled>⟧.state self.new)) }
+        ensures ranked { KeepsRanks
+            (⟦<Pool as Pooled>⟧.state self.old) (⟦<Pool as Pooled>⟧.state self.new) }
     {
         self.clean_chosen(None)?;
         flush_all(&mut self.devices)?;
@@ -203,8 +232,10 @@ impl Pool {
     fn clean_chosen(&mut self, which: Option<u16>) -> Result<(), DeviceFault>
         requires pool { IsPool (⟦<Pool as Pooled>⟧.state self.old) }
         ensures pool { IsPool (⟦<Pool as Pooled>⟧.state self.new) }
-        ensures down { OnOk result (PutsDown (cleaned_chosen which (length (⟦<Pool as Pooled>⟧.state self.old).frames) (⟦<Pool as Pooled>⟧.state self.old).frames) (⟦<Pool as Pooled>⟧.state self.old) (⟦<Pool as Pooled>⟧.state self.new)) }
-        ensures stopped { OnErr result (StopsAt which (⟦<Pool as Pooled>⟧.state self.old) (⟦<Pool as Pooled>⟧.state self.new)) }
+        ensures down { OnOk result (PutsAllDown which
+            (⟦<Pool as Pooled>⟧.state self.old) (⟦<Pool as Pooled>⟧.state self.new)) }
+        ensures stopped { OnErr result (StopsAt which
+            (⟦<Pool as Pooled>⟧.state self.old) (⟦<Pool as Pooled>⟧.state self.new)) }
     {
         for at in 0..self.frames.len() {
             self.clean_if(at, which)?;
@@ -217,8 +248,10 @@ impl Pool {
         requires pool { IsPool (⟦<Pool as Pooled>⟧.state self.old) }
         requires there { at < length (⟦<Pool as Pooled>⟧.state self.old).frames }
         ensures pool { IsPool (⟦<Pool as Pooled>⟧.state self.new) }
-        ensures down { OnOk result (PutsDown (set (⟦<Pool as Pooled>⟧.state self.old).frames at (clean_if which (nth_frame (⟦<Pool as Pooled>⟧.state self.old).frames at))) (⟦<Pool as Pooled>⟧.state self.old) (⟦<Pool as Pooled>⟧.state self.new)) }
-        ensures failed { OnErr result (IsTrue (is_chosen which (nth_frame (⟦<Pool as Pooled>⟧.state self.old).frames at).page) × CleanFails (⟦<Pool as Pooled>⟧.state self.old) at (⟦<Pool as Pooled>⟧.state self.new)) }
+        ensures down { OnOk result (PutsOneDown which
+            (⟦<Pool as Pooled>⟧.state self.old) at (⟦<Pool as Pooled>⟧.state self.new)) }
+        ensures failed { OnErr result (ChosenFails which
+            (⟦<Pool as Pooled>⟧.state self.old) at (⟦<Pool as Pooled>⟧.state self.new)) }
     {
         if !is_chosen(which, self.frames.frame(at).page) {
             return Ok(());
@@ -242,7 +275,8 @@ fn is_chosen(which: Option<u16>, page: Option<PageId>) -> bool
 
 // Whether a frame that is concerned has a fix.
 fn is_fixed(frames: &Frames, which: Option<u16>) -> bool
-    ensures { MatchBool result (IsFixedIn which frames.now.frames) (AreUnfixed which frames.now.frames) }
+    ensures { MatchBool result (IsFixedIn which frames.now.frames)
+        (AreUnfixed which frames.now.frames) }
 {
     for at in 0..frames.len() {
         let frame = frames.frame(at);

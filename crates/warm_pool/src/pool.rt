@@ -4,12 +4,12 @@ ghost use Rattle.warm_stamps.specs.declared.PageId.{PageId};
 ghost use Rattle.warm_history.specs.Histories.{HistoryView, hist, refs};
 ghost use Rattle.warm_rank.specs.Keys.{rank_key};
 ghost use Rattle.warm_rank.specs.Ranking.{IsVictim};
-ghost use Rattle.warm_pool.specs.Frames.{FrameState, nth_frame, fresh_frame};
-ghost use Rattle.warm_pool.specs.State.{PoolState, IsPool, RankedBy, IsNowhere, opened, nth_device};
-ghost use Rattle.warm_pool.specs.View.{PoolView, HasPage, IsResident, IsAbsent, Holds, IsPlace, unfixed_pages, frame_at};
-ghost use Rattle.warm_pool.specs.Calls.{SameButFailures, IsUpTo, IsSize, NewRefused, AddsFix, Pinned, PinRefused, Loaded, LoadRefused, PutsIn, PutRefused, unpinned, IsRead, Written, AgreeOutside};
-ghost use Rattle.warm_pool.specs.Steps.{LoadsInto, LoadFails, Cleans, CleanFails, Renews};
-ghost use Rattle.warm_pool.specs.Keeping.{KeepsBytes, KeepsFrames, KeepsOthers, TakesFrame, WritesDirty, MakesDirty};
+ghost use Rattle.warm_pool.specs.Frames.{nth_frame};
+ghost use Rattle.warm_pool.specs.State.{PoolState, IsPool, RankedBy, IsRankedByAll, IsNowhere, opened, unused_frames, nth_device};
+ghost use Rattle.warm_pool.specs.View.{PoolView, HasPage, IsResident, Holds};
+ghost use Rattle.warm_pool.specs.Calls.{SameButFailures, IsUpTo, IsSize, NewRefused, Pinned, PinRefused, Loaded, LoadRefused, PutsIn, PutRefused, unpinned, IsRead, ReadRefused, Written, WriteRefused, IsNextVictim};
+ghost use Rattle.warm_pool.specs.Steps.{LoadsInto, LoadFails, Cleans, CleanFails, Renews, FixesPage, FixRefused, IsNextPlace};
+ghost use Rattle.warm_pool.specs.Keeping.{KeepsRanks, RefreshesRanks, KeepsBytes, KeepsFrames, KeepsOthers, TakesFrame, WritesDirty, MakesDirty};
 ghost use Rattle.warm_pool.specs.declared.fault.PoolFault.TheVariants.{OutOfPage, FixesFull};
 
 use crate::device_list::{all_sized, pages_of, read_page, write_page};
@@ -52,9 +52,11 @@ impl Pooled for Pool {
     ghost use Rattle.std.specs.Prelude.{length};
     ghost use Rattle.warm_pool.specs.State.{pool_of, view_of};
 
-    ghost state = { λ p. pool_of (λ b. (PageDevice-box b).state b.value) p.frames (length p.spare.items) p.devices.items };
+    ghost state = { λ p. pool_of (λ b. (PageDevice-box b).state b.value) p.frames
+        (length p.spare.items) p.devices.items };
 
-    ghost shown = { λ p. view_of (pool_of (λ b. (PageDevice-box b).state b.value) p.frames (length p.spare.items) p.devices.items) };
+    ghost shown = { λ p. view_of (pool_of (λ b. (PageDevice-box b).state b.value) p.frames
+        (length p.spare.items) p.devices.items) };
 }
 
 impl Pool {
@@ -73,9 +75,12 @@ impl Pool {
     ) -> Result<Pool, Unmade>
         requires few { length devices.items ≤ 65536 }
         ensures pool { IfOk result (λ pool. IsPool (⟦<Pool as Pooled>⟧.state pool)) }
-        ensures opened { IfOk result (λ pool. ⟦<Pool as Pooled>⟧.state pool ≡ opened frames page_size (map (λ b. state b) devices.items)) }
-        ensures ranked { IfOk result (λ pool. (h : HistoryView) → RankedBy (⟦<Pool as Pooled>⟧.state pool) h) }
-        ensures refused { IfErr result (λ unmade. NewRefused frames page_size (map (λ b. state b) devices.items) unmade.fault × (unmade.devices.items ≡ devices.items)) }
+        ensures opened { IfOk result (λ pool. ⟦<Pool as Pooled>⟧.state pool
+            ≡ opened frames page_size (map (λ b. state b) devices.items)) }
+        ensures ranked { IfOk result (λ pool. IsRankedByAll (⟦<Pool as Pooled>⟧.state pool)) }
+        ensures refused { IfErr result (λ unmade. NewRefused frames page_size
+            (map (λ b. state b) devices.items) unmade.fault
+            × (unmade.devices.items ≡ devices.items)) }
     {
         if let Some(fault) = shape_fault(frames, page_size, &devices) {
             return Err(Unmade { fault, devices });
@@ -137,10 +142,11 @@ impl Pool {
     }
 
     /// Gives a page one more fix, and puts it into a frame where it is in none: into the first free frame, else into that of the
-    /// victim. A page with a fix doesn't leave.
+    /// victim. A page with a fix doesn't leave. A page comes in clean; no other frame changes, and no device unless a victim that
+    /// was written to leaves.
     ///
     /// # Errors
-    /// In this order; each leaves pages, fixes and contents as they were.
+    /// In this order; each leaves all frames, and so pages, fixes and contents, as they were.
     /// - `NoDevice`, `NoPage`: there is no such device, or it has no such page.
     /// - `FixesFull`: the page is resident and has 2^32-1 fixes.
     /// - `AllFixed`: the page isn't resident, each frame has a page, and all are fixed.
@@ -153,13 +159,19 @@ impl Pool {
         requires ranked { RankedBy (⟦<Pool as Pooled>⟧.state self.old) history.now }
         ensures pool { IsPool (⟦<Pool as Pooled>⟧.state self.new) }
         ensures ranked { RankedBy (⟦<Pool as Pooled>⟧.state self.new) history.now }
-        ensures frame { IfOk result (λ slot. TakesFrame (⟦<Pool as Pooled>⟧.state self.old) page slot (⟦<Pool as Pooled>⟧.state self.new)) }
-        ensures frames { OnErr result (KeepsFrames (⟦<Pool as Pooled>⟧.state self.old) (⟦<Pool as Pooled>⟧.state self.new)) }
-        ensures writes { IfErr result (λ fault. WritesDirty history.now (⟦<Pool as Pooled>⟧.state self.old) fault) }
-        ensures pinned { IfOk result (λ slot. Pinned history.now (⟦<Pool as Pooled>⟧.shown self.old) page slot (⟦<Pool as Pooled>⟧.shown self.new)) }
+        ensures pinned { IfOk result (λ slot. Pinned history.now
+            (⟦<Pool as Pooled>⟧.shown self.old) page slot (⟦<Pool as Pooled>⟧.shown self.new)) }
         ensures holds { IfOk result (λ slot. Holds (⟦<Pool as Pooled>⟧.shown self.new) slot) }
-        ensures refused { IfErr result (λ fault. PinRefused history.now (⟦<Pool as Pooled>⟧.shown self.old) page fault (⟦<Pool as Pooled>⟧.shown self.new)) }
-        ensures stays { OnErr result (SameButFailures (⟦<Pool as Pooled>⟧.shown self.old) (⟦<Pool as Pooled>⟧.shown self.new)) }
+        ensures frame { IfOk result (λ slot. TakesFrame
+            (⟦<Pool as Pooled>⟧.state self.old) page slot (⟦<Pool as Pooled>⟧.state self.new)) }
+        ensures refused { IfErr result (λ fault. PinRefused history.now
+            (⟦<Pool as Pooled>⟧.shown self.old) page fault (⟦<Pool as Pooled>⟧.shown self.new)) }
+        ensures stays { OnErr result (SameButFailures
+            (⟦<Pool as Pooled>⟧.shown self.old) (⟦<Pool as Pooled>⟧.shown self.new)) }
+        ensures frames { OnErr result (KeepsFrames
+            (⟦<Pool as Pooled>⟧.state self.old) (⟦<Pool as Pooled>⟧.state self.new)) }
+        ensures writes { IfErr result (λ fault. WritesDirty history.now
+            (⟦<Pool as Pooled>⟧.state self.old) fault) }
     {
         if let Err(fault) = self.check(page) {
             return Err(fault);
@@ -179,12 +191,18 @@ impl Pool {
         requires ranked { RankedBy (⟦<Pool as Pooled>⟧.state self.old) history.now }
         ensures pool { IsPool (⟦<Pool as Pooled>⟧.state self.new) }
         ensures ranked { RankedBy (⟦<Pool as Pooled>⟧.state self.new) history.now }
-        ensures frame { IfOk result (λ slot. TakesFrame (⟦<Pool as Pooled>⟧.state self.old) page slot (⟦<Pool as Pooled>⟧.state self.new)) }
-        ensures frames { OnErr result (KeepsFrames (⟦<Pool as Pooled>⟧.state self.old) (⟦<Pool as Pooled>⟧.state self.new)) }
-        ensures writes { IfErr result (λ fault. WritesDirty history.now (⟦<Pool as Pooled>⟧.state self.old) fault) }
-        ensures loaded { IfOk result (λ slot. Loaded history.now (⟦<Pool as Pooled>⟧.shown self.old) page slot (⟦<Pool as Pooled>⟧.shown self.new)) }
-        ensures refused { IfErr result (λ fault. LoadRefused history.now (⟦<Pool as Pooled>⟧.shown self.old) page fault (⟦<Pool as Pooled>⟧.shown self.new)) }
-        ensures stays { OnErr result (SameButFailures (⟦<Pool as Pooled>⟧.shown self.old) (⟦<Pool as Pooled>⟧.shown self.new)) }
+        ensures loaded { IfOk result (λ slot. Loaded history.now
+            (⟦<Pool as Pooled>⟧.shown self.old) page slot (⟦<Pool as Pooled>⟧.shown self.new)) }
+        ensures frame { IfOk result (λ slot. TakesFrame
+            (⟦<Pool as Pooled>⟧.state self.old) page slot (⟦<Pool as Pooled>⟧.state self.new)) }
+        ensures refused { IfErr result (λ fault. LoadRefused history.now
+            (⟦<Pool as Pooled>⟧.shown self.old) page fault (⟦<Pool as Pooled>⟧.shown self.new)) }
+        ensures stays { OnErr result (SameButFailures
+            (⟦<Pool as Pooled>⟧.shown self.old) (⟦<Pool as Pooled>⟧.shown self.new)) }
+        ensures frames { OnErr result (KeepsFrames
+            (⟦<Pool as Pooled>⟧.state self.old) (⟦<Pool as Pooled>⟧.state self.new)) }
+        ensures writes { IfErr result (λ fault. WritesDirty history.now
+            (⟦<Pool as Pooled>⟧.state self.old) fault) }
     {
         if let Err(fault) = self.check(page) {
             return Err(fault);
@@ -205,7 +223,7 @@ impl Pool {
     /// there is none.
     pub fn victim(&self) -> Option<PageId>
         requires pool { IsPool (⟦<Pool as Pooled>⟧.state self.now) }
-        ensures { (h : HistoryView) → RankedBy (⟦<Pool as Pooled>⟧.state self.now) h → IsVictim (refs h) (unfixed_pages (⟦<Pool as Pooled>⟧.shown self.now)) result }
+        ensures { IsNextVictim (⟦<Pool as Pooled>⟧.state self.now) result }
     {
         let Some(at) = self.frames.least() else {
             return None;
@@ -213,14 +231,17 @@ impl Pool {
         self.frames.frame(at).page
     }
 
-    /// Takes a fix from the slot's page. Without a fix it may leave.
+    /// Takes a fix from the slot's page. Without a fix it may leave. What was written to it stays to be written back.
     pub fn unpin(&mut self, slot: Slot)
         requires pool { IsPool (⟦<Pool as Pooled>⟧.state self.old) }
         requires holds { Holds (⟦<Pool as Pooled>⟧.shown self.old) slot }
         ensures pool { IsPool (⟦<Pool as Pooled>⟧.state self.new) }
-        ensures ranked { (h : HistoryView) → RankedBy (⟦<Pool as Pooled>⟧.state self.old) h → RankedBy (⟦<Pool as Pooled>⟧.state self.new) h }
-        ensures kept { KeepsBytes (⟦<Pool as Pooled>⟧.state self.old) (⟦<Pool as Pooled>⟧.state self.new) }
-        ensures unpinned { ⟦<Pool as Pooled>⟧.shown self.new ≡ unpinned (⟦<Pool as Pooled>⟧.shown self.old) slot }
+        ensures ranked { KeepsRanks
+            (⟦<Pool as Pooled>⟧.state self.old) (⟦<Pool as Pooled>⟧.state self.new) }
+        ensures unpinned { ⟦<Pool as Pooled>⟧.shown self.new ≡ unpinned
+            (⟦<Pool as Pooled>⟧.shown self.old) slot }
+        ensures kept { KeepsBytes
+            (⟦<Pool as Pooled>⟧.state self.old) (⟦<Pool as Pooled>⟧.state self.new) }
     {
         self.frames.unfix(slot.index as usize);
     }
@@ -233,7 +254,8 @@ impl Pool {
         requires pool { IsPool (⟦<Pool as Pooled>⟧.state self.now) }
         requires holds { Holds (⟦<Pool as Pooled>⟧.shown self.now) slot }
         ensures read { OnOk result (IsRead (⟦<Pool as Pooled>⟧.shown self.now) slot at into.new) }
-        ensures refused { IfErr result (λ fault. (fault ≡ OutOfPage) × ((⟦<Pool as Pooled>⟧.shown self.now).page_size < at + length into.old) × (into.new ≡ into.old)) }
+        ensures refused { IfErr result (λ fault. ReadRefused
+            (⟦<Pool as Pooled>⟧.state self.now) at into.old fault into.new) }
         ensures len { length into.new ≡ length into.old }
     {
         if !self.is_within(at, into.len()) {
@@ -244,7 +266,7 @@ impl Pool {
         Ok(())
     }
 
-    /// Writes bytes into the slot's page, from `at` on.
+    /// Writes bytes into the slot's page, from `at` on. The page goes to its device before it leaves its frame, whatever it held.
     ///
     /// # Errors
     /// `OutOfPage` where they reach beyond the end of the page; nothing is changed.
@@ -252,10 +274,15 @@ impl Pool {
         requires pool { IsPool (⟦<Pool as Pooled>⟧.state self.old) }
         requires holds { Holds (⟦<Pool as Pooled>⟧.shown self.old) slot }
         ensures pool { IsPool (⟦<Pool as Pooled>⟧.state self.new) }
-        ensures ranked { (h : HistoryView) → RankedBy (⟦<Pool as Pooled>⟧.state self.old) h → RankedBy (⟦<Pool as Pooled>⟧.state self.new) h }
-        ensures dirty { OnOk result (MakesDirty (⟦<Pool as Pooled>⟧.state self.old) slot (⟦<Pool as Pooled>⟧.state self.new)) }
-        ensures written { OnOk result (Written (⟦<Pool as Pooled>⟧.shown self.old) slot at bytes.now (⟦<Pool as Pooled>⟧.shown self.new)) }
-        ensures refused { IfErr result (λ fault. (fault ≡ OutOfPage) × ((⟦<Pool as Pooled>⟧.shown self.old).page_size < at + length bytes.now) × (⟦<Pool as Pooled>⟧.state self.new ≡ ⟦<Pool as Pooled>⟧.state self.old)) }
+        ensures ranked { KeepsRanks
+            (⟦<Pool as Pooled>⟧.state self.old) (⟦<Pool as Pooled>⟧.state self.new) }
+        ensures written { OnOk result (Written (⟦<Pool as Pooled>⟧.shown self.old) slot at bytes.now
+            (⟦<Pool as Pooled>⟧.shown self.new)) }
+        ensures dirty { OnOk result (MakesDirty
+            (⟦<Pool as Pooled>⟧.state self.old) slot (⟦<Pool as Pooled>⟧.state self.new)) }
+        ensures refused { IfErr result (λ fault. WriteRefused
+            (⟦<Pool as Pooled>⟧.state self.old) at bytes.now fault
+            (⟦<Pool as Pooled>⟧.state self.new)) }
     {
         if !self.is_within(at, bytes.len()) {
             return Err(PoolFault::OutOfPage);
@@ -268,9 +295,11 @@ impl Pool {
     pub fn refresh(&mut self, history: &History, pages: &[PageId])
         requires pool { IsPool (⟦<Pool as Pooled>⟧.state self.old) }
         ensures pool { IsPool (⟦<Pool as Pooled>⟧.state self.new) }
-        ensures kept { KeepsBytes (⟦<Pool as Pooled>⟧.state self.old) (⟦<Pool as Pooled>⟧.state self.new) }
-        ensures ranked { (g : HistoryView) → RankedBy (⟦<Pool as Pooled>⟧.state self.old) g → AgreeOutside pages.now g history.now → RankedBy (⟦<Pool as Pooled>⟧.state self.new) history.now }
+        ensures ranked { RefreshesRanks pages.now history.now
+            (⟦<Pool as Pooled>⟧.state self.old) (⟦<Pool as Pooled>⟧.state self.new) }
         ensures same { ⟦<Pool as Pooled>⟧.shown self.new ≡ ⟦<Pool as Pooled>⟧.shown self.old }
+        ensures kept { KeepsBytes
+            (⟦<Pool as Pooled>⟧.state self.old) (⟦<Pool as Pooled>⟧.state self.new) }
     {
         for page in pages {
             self.renew(history, *page);
@@ -282,8 +311,10 @@ impl Pool {
         requires pool { IsPool (⟦<Pool as Pooled>⟧.state self.old) }
         ensures pool { IsPool (⟦<Pool as Pooled>⟧.state self.new) }
         ensures same { ⟦<Pool as Pooled>⟧.shown self.new ≡ ⟦<Pool as Pooled>⟧.shown self.old }
-        ensures kept { KeepsBytes (⟦<Pool as Pooled>⟧.state self.old) (⟦<Pool as Pooled>⟧.state self.new) }
-        ensures keys { Renews (⟦<Pool as Pooled>⟧.state self.old) page (rank_key page (hist (refs history.now) page)) (⟦<Pool as Pooled>⟧.state self.new) }
+        ensures kept { KeepsBytes
+            (⟦<Pool as Pooled>⟧.state self.old) (⟦<Pool as Pooled>⟧.state self.new) }
+        ensures keys { Renews (⟦<Pool as Pooled>⟧.state self.old) page
+            (rank_key page (hist (refs history.now) page)) (⟦<Pool as Pooled>⟧.state self.new) }
     {
         if let Some(at) = self.frames.find(page) {
             let key = known_key(history, page);
@@ -296,8 +327,10 @@ impl Pool {
         requires pool { IsPool (⟦<Pool as Pooled>⟧.state self.now) }
         ensures known { OnOk result (HasPage (⟦<Pool as Pooled>⟧.shown self.now) page) }
         ensures unknown { OnErr result (HasPage (⟦<Pool as Pooled>⟧.shown self.now) page → ⊥) }
-        ensures load { IfErr result (λ fault. (h : HistoryView) → LoadRefused h (⟦<Pool as Pooled>⟧.shown self.now) page fault (⟦<Pool as Pooled>⟧.shown self.now)) }
-        ensures pin { IfErr result (λ fault. (h : HistoryView) → PinRefused h (⟦<Pool as Pooled>⟧.shown self.now) page fault (⟦<Pool as Pooled>⟧.shown self.now)) }
+        ensures load { IfErr result (λ fault. (h : HistoryView) → LoadRefused h
+            (⟦<Pool as Pooled>⟧.shown self.now) page fault (⟦<Pool as Pooled>⟧.shown self.now)) }
+        ensures pin { IfErr result (λ fault. (h : HistoryView) → PinRefused h
+            (⟦<Pool as Pooled>⟧.shown self.now) page fault (⟦<Pool as Pooled>⟧.shown self.now)) }
     {
         let device = page.dev as usize;
         if device >= self.devices.len() {
@@ -323,12 +356,17 @@ impl Pool {
         requires there { at < length (⟦<Pool as Pooled>⟧.state self.old).frames }
         requires held { (nth_frame (⟦<Pool as Pooled>⟧.state self.old).frames at).page ≢ None }
         ensures pool { IsPool (⟦<Pool as Pooled>⟧.state self.new) }
-        ensures ranked { (h : HistoryView) → RankedBy (⟦<Pool as Pooled>⟧.state self.old) h → RankedBy (⟦<Pool as Pooled>⟧.state self.new) h }
-        ensures kept { KeepsBytes (⟦<Pool as Pooled>⟧.state self.old) (⟦<Pool as Pooled>⟧.state self.new) }
-        ensures others { IfOk result (λ slot. KeepsOthers slot.index (⟦<Pool as Pooled>⟧.state self.old) (⟦<Pool as Pooled>⟧.state self.new)) }
-        ensures fixed { (p : PageId) → (nth_frame (⟦<Pool as Pooled>⟧.state self.old).frames at).page ≡ Some p → IfOk result (λ slot. AddsFix (⟦<Pool as Pooled>⟧.shown self.old) p slot (⟦<Pool as Pooled>⟧.shown self.new)) }
+        ensures ranked { KeepsRanks
+            (⟦<Pool as Pooled>⟧.state self.old) (⟦<Pool as Pooled>⟧.state self.new) }
+        ensures fixed { FixesPage
+            (⟦<Pool as Pooled>⟧.state self.old) at result (⟦<Pool as Pooled>⟧.state self.new) }
         ensures holds { IfOk result (λ slot. Holds (⟦<Pool as Pooled>⟧.shown self.new) slot) }
-        ensures refused { IfErr result (λ fault. (fault ≡ FixesFull) × ((nth_frame (⟦<Pool as Pooled>⟧.state self.old).frames at).fixes ≡ 2 ^ 32 - 1) × (⟦<Pool as Pooled>⟧.state self.new ≡ ⟦<Pool as Pooled>⟧.state self.old)) }
+        ensures kept { KeepsBytes
+            (⟦<Pool as Pooled>⟧.state self.old) (⟦<Pool as Pooled>⟧.state self.new) }
+        ensures others { IfOk result (λ slot. KeepsOthers slot.index
+            (⟦<Pool as Pooled>⟧.state self.old) (⟦<Pool as Pooled>⟧.state self.new)) }
+        ensures refused { IfErr result (λ fault. FixRefused
+            (⟦<Pool as Pooled>⟧.state self.old) at fault (⟦<Pool as Pooled>⟧.state self.new)) }
     {
         let frame = self.frames.frame(at);
         let generation = frame.generation;
@@ -345,9 +383,11 @@ impl Pool {
     // The frame into which a page goes that comes in.
     fn place(&self) -> Option<usize>
         requires pool { IsPool (⟦<Pool as Pooled>⟧.state self.now) }
-        ensures place { (h : HistoryView) → RankedBy (⟦<Pool as Pooled>⟧.state self.now) h → IsPlace h (⟦<Pool as Pooled>⟧.shown self.now) result }
-        ensures there { IfSome result (λ at. at < length (⟦<Pool as Pooled>⟧.state self.now).frames) }
-        ensures unfixed { IfSome result (λ at. (nth_frame (⟦<Pool as Pooled>⟧.state self.now).frames at).fixes ≡ 0) }
+        ensures place { IsNextPlace (⟦<Pool as Pooled>⟧.state self.now) result }
+        ensures there { IfSome result (λ at. at < length
+            (⟦<Pool as Pooled>⟧.state self.now).frames) }
+        ensures unfixed { IfSome result (λ at. (nth_frame
+            (⟦<Pool as Pooled>⟧.state self.now).frames at).fixes ≡ 0) }
     {
         match self.frames.first_free() {
             Some(at) => Some(at),
@@ -363,11 +403,17 @@ impl Pool {
         requires absent { IsNowhere (⟦<Pool as Pooled>⟧.state self.old).frames page }
         ensures pool { IsPool (⟦<Pool as Pooled>⟧.state self.new) }
         ensures ranked { RankedBy (⟦<Pool as Pooled>⟧.state self.new) history.now }
-        ensures frame { IfOk result (λ slot. TakesFrame (⟦<Pool as Pooled>⟧.state self.old) page slot (⟦<Pool as Pooled>⟧.state self.new)) }
-        ensures frames { OnErr result (KeepsFrames (⟦<Pool as Pooled>⟧.state self.old) (⟦<Pool as Pooled>⟧.state self.new)) }
-        ensures writes { IfErr result (λ fault. WritesDirty history.now (⟦<Pool as Pooled>⟧.state self.old) fault) }
-        ensures put { IfOk result (λ slot. PutsIn history.now (⟦<Pool as Pooled>⟧.shown self.old) page fixes slot (⟦<Pool as Pooled>⟧.shown self.new)) }
-        ensures refused { IfErr result (λ fault. PutRefused history.now (⟦<Pool as Pooled>⟧.shown self.old) page fault (⟦<Pool as Pooled>⟧.shown self.new)) }
+        ensures put { IfOk result (λ slot. PutsIn history.now
+            (⟦<Pool as Pooled>⟧.shown self.old) page fixes slot
+            (⟦<Pool as Pooled>⟧.shown self.new)) }
+        ensures frame { IfOk result (λ slot. TakesFrame
+            (⟦<Pool as Pooled>⟧.state self.old) page slot (⟦<Pool as Pooled>⟧.state self.new)) }
+        ensures refused { IfErr result (λ fault. PutRefused history.now
+            (⟦<Pool as Pooled>⟧.shown self.old) page fault (⟦<Pool as Pooled>⟧.shown self.new)) }
+        ensures frames { OnErr result (KeepsFrames
+            (⟦<Pool as Pooled>⟧.state self.old) (⟦<Pool as Pooled>⟧.state self.new)) }
+        ensures writes { IfErr result (λ fault. WritesDirty history.now
+            (⟦<Pool as Pooled>⟧.state self.old) fault) }
     {
         let Some(at) = self.place() else {
             return Err(PoolFault::AllFixed);
@@ -396,13 +442,17 @@ impl Pool {
     ) -> Result<(), PoolFault>
         requires pool { IsPool (⟦<Pool as Pooled>⟧.state self.old) }
         requires there { at < length (⟦<Pool as Pooled>⟧.state self.old).frames }
-        requires room { (nth_frame (⟦<Pool as Pooled>⟧.state self.old).frames at).generation < 2 ^ 64 - 1 }
+        requires room { (nth_frame
+            (⟦<Pool as Pooled>⟧.state self.old).frames at).generation < 2 ^ 64 - 1 }
         requires device { page.dev < length (⟦<Pool as Pooled>⟧.state self.old).devices }
-        requires known { page.no < (nth_device (⟦<Pool as Pooled>⟧.state self.old).devices page.dev).pages }
+        requires known { page.no < (nth_device
+            (⟦<Pool as Pooled>⟧.state self.old).devices page.dev).pages }
         requires absent { IsNowhere (⟦<Pool as Pooled>⟧.state self.old).frames page }
         ensures pool { IsPool (⟦<Pool as Pooled>⟧.state self.new) }
-        ensures put { OnOk result (LoadsInto (⟦<Pool as Pooled>⟧.state self.old) at page key fixes (⟦<Pool as Pooled>⟧.state self.new)) }
-        ensures refused { IfErr result (λ fault. LoadFails (⟦<Pool as Pooled>⟧.state self.old) at page fault (⟦<Pool as Pooled>⟧.state self.new)) }
+        ensures put { OnOk result (LoadsInto (⟦<Pool as Pooled>⟧.state self.old) at page key fixes
+            (⟦<Pool as Pooled>⟧.state self.new)) }
+        ensures refused { IfErr result (λ fault. LoadFails
+            (⟦<Pool as Pooled>⟧.state self.old) at page fault (⟦<Pool as Pooled>⟧.state self.new)) }
     {
         if read_page(&mut self.devices, page, &mut self.spare).is_err() {
             return Err(PoolFault::ReadFault);
@@ -419,8 +469,10 @@ impl Pool {
         requires pool { IsPool (⟦<Pool as Pooled>⟧.state self.old) }
         requires there { at < length (⟦<Pool as Pooled>⟧.state self.old).frames }
         ensures pool { IsPool (⟦<Pool as Pooled>⟧.state self.new) }
-        ensures done { OnOk result (Cleans (⟦<Pool as Pooled>⟧.state self.old) at (⟦<Pool as Pooled>⟧.state self.new)) }
-        ensures failed { OnErr result (CleanFails (⟦<Pool as Pooled>⟧.state self.old) at (⟦<Pool as Pooled>⟧.state self.new)) }
+        ensures done { OnOk result (Cleans
+            (⟦<Pool as Pooled>⟧.state self.old) at (⟦<Pool as Pooled>⟧.state self.new)) }
+        ensures failed { OnErr result (CleanFails
+            (⟦<Pool as Pooled>⟧.state self.old) at (⟦<Pool as Pooled>⟧.state self.new)) }
         ensures spare { self.new.spare.items ≡ self.old.spare.items }
     {
         let frame = self.frames.frame(at);
@@ -444,7 +496,9 @@ fn shape_fault(
     page_size: usize,
     devices: &[Box<dyn PageDevice + Send>],
 ) -> Option<PoolFault>
-    ensures { MatchOption result (IsUpTo 65536 frames × IsSize page_size (map (λ b. state b) devices.now)) (λ fault. NewRefused frames page_size (map (λ b. state b) devices.now) fault) }
+    ensures { MatchOption result (IsUpTo 65536 frames
+        × IsSize page_size (map (λ b. state b) devices.now))
+        (λ fault. NewRefused frames page_size (map (λ b. state b) devices.now) fault) }
 {
     if frames < 1 || frames > MOST {
         return Some(PoolFault::BadFrames);
@@ -459,7 +513,8 @@ fn shape_fault(
 fn parts(alloc: Global, frames: usize, page_size: usize) -> Result<(Frames, Vec<u8>), AllocError>
     requires some { 0 < frames }
     requires few { frames ≤ 65536 }
-    ensures { IfOk result (λ made. (made.0 ≡ record { page_size = page_size; frames = replicate frames (fresh_frame (replicate page_size 0)) }) × (length made.1.items ≡ page_size)) }
+    ensures { IfOk result (λ made. (made.0 ≡ unused_frames frames page_size)
+        × (length made.1.items ≡ page_size)) }
 {
     let spare = Vec::from_elem(alloc, 0, page_size)?;
     let frames = Frames::new(alloc, frames, page_size)?;
