@@ -4,7 +4,7 @@ use Rattle.std.proofs.lemmas.List.{length-set}
 use Rattle.std.proofs.lemmas.Bool.{cases_eq, cases_lt}
 use Rattle.warm_pool.specs.Chains.{IsFirstFrom, AreChains, IsOf, after, link_after}
 
--- the first frame from a place on is none after a frame of the bucket
+-- the first frame from a place on is none after a frame of the chain
 pub not_after : (frames : List ℕ) (b from at y : ℕ) → IsFirstFrom frames b from at → from ≤ y → get_or frames y 0 ≡ b → at ≤ y
 not_after frames b from at y first low is = elim (cases_lt y at) [
   | inl under ↦ absurd (first.apart y low under is)
@@ -40,7 +40,7 @@ module _ (frames : List ℕ) (f v : ℕ) where
         there = λ lt. other_than at (apart at low (omega arith)) ∙ first.there (subst (λ n. at < n) same_count lt);
       }
 
-  -- nor does a change of a frame that is of the bucket neither before nor after
+  -- nor does a change of a frame that is of the chain neither before nor after
   pub of_others : (b from at : ℕ) → f < length frames → get_or frames f 0 ≢ b → v ≢ b → IsFirstFrom frames b from at → IsFirstFrom changed b from at
   of_others b from at lt was is first = record {
     low = first.low;
@@ -55,7 +55,7 @@ module _ (frames : List ℕ) (f v : ℕ) where
         other_than at ne ∙ here;
   }
 
-  -- once a frame has left the bucket, what came after it comes after the frames before it
+  -- once a frame has left the chain, what came after it comes after the frames before it
   pub passed_over : (b from to : ℕ) → f < length frames → v ≢ b → from ≤ f → ((y : ℕ) → from ≤ y → y < f → get_or frames y 0 ≢ b) → IsFirstFrom frames b (suc f) to → IsFirstFrom changed b from to
   passed_over b from to lt is low between first =
       let later : suc f ≤ to = first.low in
@@ -72,7 +72,7 @@ module _ (frames : List ℕ) (f v : ℕ) where
         there = λ under. other_than to (omega arith) ∙ first.there (subst (λ n. to < n) same_count under);
       }
 
-  -- a frame that comes into the bucket is the first after the frames before it
+  -- a frame that comes into the chain is the first after the frames before it
   pub comes_first : (b from : ℕ) → f < length frames → v ≡ b → from ≤ f → ((y : ℕ) → from ≤ y → y < f → get_or frames y 0 ≢ b) → IsFirstFrom changed b from f
   comes_first b from lt is low between = record {
     low = low;

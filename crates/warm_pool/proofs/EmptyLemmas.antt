@@ -87,7 +87,7 @@ was_there which frames i p is = sym (ap (λ f. f.page) (still_there which frames
 
 pub vacated_pool : (which : Option ℕ) (s : PoolState) → AreUnfixed which s.frames → IsPool s → IsPool (record s { frames = vacated_from which 0 s.frames })
 vacated_pool which s unfixed w =
-    let count = length-vacated which 0 s.frames in
+    let count = length-vacated which s.frames in
     record {
       some_frames = subst (λ n. 0 < n) (sym count) w.some_frames;
       few_frames = subst (λ n. n ≤ 65536) (sym count) w.few_frames;

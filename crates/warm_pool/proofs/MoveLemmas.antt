@@ -2,7 +2,7 @@
 use Rattle.std.proofs.Common.{◌≡◌, ◌≢◌, ℕ, suc, ◌<◌, ◌≤◌, List, length, get_or, set, sym, ap, refl, ◌∙◌, subst, Option, Some, None, inl, inr, ◌⊎◌, arith, get_or-set_same, get_or-set_other}
 use Rattle.std.proofs.lemmas.List.{length-set}
 use Rattle.std.proofs.lemmas.Bool.{cases_eq, cases_lt}
-use Rattle.warm_pool.specs.Chains.{IsFirstFrom, AreChains, IsLastBelow, after, link_after, heads_led, next_led}
+use Rattle.warm_pool.specs.Chains.{IsFirstFrom, AreChains, IsLastBelow, IsOf, after, link_after, heads_led, next_led, loose}
 use Rattle.warm_pool.proofs.ChainLemmas.{not_after, link_first, outside, of_others, passed_over, comes_first, comes_before, other_than, same_count}
 
 pub length-heads_led : (heads : List ℕ) (b : ℕ) (last : Option ℕ) (to : ℕ) → length (heads_led heads b last to) ≡ length heads
@@ -21,7 +21,7 @@ other_next : (next : List ℕ) (y : ℕ) (last : Option ℕ) (to : ℕ) → (las
 other_next next y None to ne = refl
 other_next next y (Some x) to ne = get_or-set_other next x y to 0 (λ e. ne (ap Some (sym e)))
 
--- Frame f changes from one bucket into another, and the link to it in the chain of bucket b now leads on to `to`. Where `to` is the first frame of b after each
+-- Frame f changes from one chain into another, and the link to it in the chain of chain b now leads on to `to`. Where `to` is the first frame of b after each
 -- place from which f was the next, all links of the frames but f's are right again.
 module _ (frames heads next : List ℕ) (b f v to : ℕ) (last : Option ℕ) (lt : f < length frames) (in_heads : b < length heads) (chains : AreChains frames heads next) (is_last : IsLastBelow frames b f last) where
   abbrev now : List ℕ
@@ -63,7 +63,7 @@ module _ (frames heads next : List ℕ) (b f v to : ℕ) (last : Option ℕ) (lt
     ]
   ]
 
-  -- the last frame below f is neither above it nor of another bucket
+  -- the last frame below f is neither above it nor of another chain
   not_last : (last : Option ℕ) → IsLastBelow frames b f last → (y : ℕ) → (f ≤ y) ⊎ (get_or frames y 0 ≢ b) → last ≡ Some y → ⊥
   not_last None before y out e = absurd (cc)
   not_last (Some x) before y out e =
@@ -86,7 +86,7 @@ module _ (frames heads next : List ℕ) (b f v to : ℕ) (last : Option ℕ) (lt
       ]
 
 -- a frame that left its chain stands in none
-pub unlinked : (frames heads next : List ℕ) (b f : ℕ) (last : Option ℕ) → f < length frames → b < length heads → get_or frames f 0 ≡ b → AreChains frames heads next → IsLastBelow frames b f last → AreChains (set frames f (length heads)) (heads_led heads b last (get_or next f 0)) (next_led next last (get_or next f 0))
+pub unlinked : (frames heads next : List ℕ) (b f : ℕ) (last : Option ℕ) → f < length frames → b < length heads → get_or frames f 0 ≡ b → AreChains frames heads next → IsLastBelow frames b f last → AreChains (loose frames f heads) (heads_led heads b last (get_or next f 0)) (next_led next last (get_or next f 0))
 unlinked frames heads next b f last lt in_heads is chains is_last =
     let n : ℕ = length heads in
     let to : ℕ = get_or next f 0 in
@@ -110,6 +110,18 @@ unlinked frames heads next b f last lt in_heads is chains is_last =
       ];
     }
 
+-- a change of a frame leaves the last one below it
+still_of : (frames : List ℕ) (f v b : ℕ) (last : Option ℕ) → after last ≤ f → IsOf frames b last → IsOf (set frames f v) b last
+still_of frames f v b None below of = tt
+still_of frames f v b (Some x) below of = (subst (λ n. x < n) (sym (same_count frames f v)) of.0, other_than frames f v x (omega arith) ∙ of.1)
+
+pub still_last : (frames : List ℕ) (f v b : ℕ) (last : Option ℕ) → IsLastBelow frames b f last → IsLastBelow (set frames f v) b f last
+still_last frames f v b last is = record {
+  below = is.below;
+  is_of = still_of frames f v b last is.below is.is_of;
+  between = λ y ge less here. is.between y ge less (sym (other_than frames f v y (omega arith)) ∙ here);
+}
+
 -- a frame's own link, set before the last frame leads to it, changes no other link
 linked_elsewhere : (next : List ℕ) (f link : ℕ) (last : Option ℕ) (y : ℕ) → after last ≤ length next → y ≢ f → get_or (next_led (set next f link) last f) y 0 ≡ get_or (next_led next last f) y 0
 linked_elsewhere next f link None y room ne = get_or-set_other next f y link 0 ne
@@ -125,7 +137,7 @@ linked_here : (next : List ℕ) (f link : ℕ) (last : Option ℕ) → f < lengt
 linked_here next f link None lt low = get_or-set_same next f link 0 lt
 linked_here next f link (Some x) lt low = let ne : f ≢ x = omega arith in get_or-set_other (set next f link) x f f 0 ne ∙ get_or-set_same next f link 0 lt
 
--- a frame that stood in no chain stands in that of its bucket
+-- a frame that stood in no chain stands in that of its chain
 pub linked : (frames heads next : List ℕ) (b f : ℕ) (last : Option ℕ) → f < length frames → b < length heads → get_or frames f 0 ≡ length heads → AreChains frames heads next → IsLastBelow frames b f last → AreChains (set frames f b) (heads_led heads b last f) (next_led (set next f (link_after heads next b last)) last f)
 linked frames heads next b f last lt in_heads is chains is_last =
     let now : List ℕ = set frames f b in
@@ -145,10 +157,10 @@ linked frames heads next b f last lt in_heads is chains is_last =
       heads_are = λ c low. heads_after frames heads next b f b f last lt in_heads chains is_last leads others c (subst (λ m. c < m) (length-heads_led heads b last f) low);
       next_are = λ y low in_chain. elim (cases_eq y f) [
         | inl e ↦
-            let bucket_now : get_or now f 0 ≡ b = get_or-set_same frames f b 0 lt in
+            let chain_now : get_or now f 0 ≡ b = get_or-set_same frames f b 0 lt in
             let here : get_or (next_led with_link last f) f 0 ≡ link = linked_here next f link last (omega arith) below in
             subst (λ m. IsFirstFrom now (get_or now m 0) (suc m) (get_or (next_led with_link last f) m 0)) (sym e)
-            (subst (λ m. IsFirstFrom now m (suc f) (get_or (next_led with_link last f) f 0)) (sym bucket_now)
+            (subst (λ m. IsFirstFrom now m (suc f) (get_or (next_led with_link last f) f 0)) (sym chain_now)
             (subst (λ m. IsFirstFrom now b (suc f) m) (sym here) (comes_before frames f b b (after last) link was lt is_last.between below first)))
         | inr ne ↦
             let same : get_or now y 0 ≡ get_or frames y 0 = other_than frames f b y ne in

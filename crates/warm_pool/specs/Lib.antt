@@ -1,4 +1,5 @@
 pub mod Frames
+pub mod FrameSteps
 pub mod Chains
 pub mod Residents
 pub mod View

@@ -1,8 +1,10 @@
 //! Writing a pool's pages back, and emptying it.
-ghost use Rattle.std.specs.Prelude.{◌≡◌, ℕ, List, ◌<◌, length, set, map, true, false, Some, None, Option, IsTrue, ◌↔◌, OnOk, OnErr, IfErr, MatchBool};
+ghost use Rattle.std.specs.Prelude.{◌≡◌, ℕ, List, ◌<◌, ◌+◌, length, set, map, true, false, Some, None, Option, IsTrue, ◌↔◌, OnOk, OnErr, IfErr, MatchBool};
 ghost use Rattle.warm_history.specs.Histories.{HistoryView};
 ghost use Rattle.warm_devices.specs.Device.{DeviceState};
 ghost use Rattle.warm_pool.specs.Frames.{nth_frame};
+ghost use Rattle.warm_pool.specs.FrameSteps.{changed_at, pages_held};
+ghost use Rattle.warm_pool.specs.Residents.{IsLastFree};
 ghost use Rattle.warm_pool.specs.State.{IsPool, IsSettled, IsRankedByAll, nth_device};
 ghost use Rattle.warm_pool.specs.Calls.{EmptyRefused, Emptied, FailsAt, IsUnfixed, RetireRefused, Retired, WriteBackFails};
 ghost use Rattle.warm_pool.specs.Flushes.{NoneWaits};
@@ -287,26 +289,39 @@ fn is_fixed(frames: &Frames, which: Option<u16>) -> bool
     false
 }
 
-// Takes the pages out of the frames that are concerned, the last frame first: so each comes before all free frames but those below it.
+// Takes the pages out of the frames that are concerned, from the first on: so the last free frame below each is at hand.
 fn vacate_chosen(frames: &mut Frames, which: Option<u16>)
     requires { AreUnfixed which frames.old.frames }
     ensures { frames.new ≡ record frames.old { frames = vacated_from which 0 frames.old.frames } }
 {
-    let mut at = frames.len();
-    while at > 0 {
-        at -= 1;
-        vacate_if(frames, at, which);
+    let mut last = None;
+    for at in 0..frames.len() {
+        vacate_if(frames, at, which, last);
+        last = last_free(frames, at, last);
     }
 }
 
 // Takes the page out of a frame that is concerned.
-fn vacate_if(frames: &mut Frames, at: usize, which: Option<u16>)
+fn vacate_if(frames: &mut Frames, at: usize, which: Option<u16>, last: Option<usize>)
     requires there { at < length frames.old.frames }
     requires unfixed { IsTrue (is_chosen which (nth_frame frames.old.frames at).page) → (nth_frame frames.old.frames at).fixes ≡ 0 }
-    ensures { frames.new ≡ record frames.old { frames = set frames.old.frames at (vacate_if which (nth_frame frames.old.frames at)) } }
+    requires last { IsLastFree (pages_held frames.old.frames) at last }
+    ensures { frames.new ≡ changed_at frames.old at (vacate_if which) }
 {
     if !is_chosen(which, frames.frame(at).page) {
         return;
     }
-    frames.vacate(at);
+    frames.vacate(at, last);
+}
+
+// The last free frame up to this one, from the last one below it.
+fn last_free(frames: &Frames, at: usize, last: Option<usize>) -> Option<usize>
+    requires there { at < length frames.now.frames }
+    requires last { IsLastFree (pages_held frames.now.frames) at last }
+    ensures { IsLastFree (pages_held frames.now.frames) (at + 1) result }
+{
+    match frames.frame(at).page {
+        Some(_) => last,
+        None => Some(at),
+    }
 }

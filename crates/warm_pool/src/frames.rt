@@ -1,10 +1,10 @@
 //! The frames of a pool, without its devices.
-ghost use Rattle.std.specs.Prelude.{◌≡◌, ◌≢◌, ℕ, ◌+◌, ◌-◌, ◌^◌, ◌<◌, ◌≤◌, map, length, replicate, set, true, false, Some, None, IfOk};
+ghost use Rattle.std.specs.Prelude.{◌≡◌, ◌+◌, ◌-◌, ◌^◌, ◌<◌, ◌≤◌, map, length, replicate, IfOk};
 ghost use Rattle.warm_rank.specs.Keys.{key_cmp};
 ghost use Rattle.warm_rank.specs.Slots.{IsLeast};
-ghost use Rattle.warm_pool.specs.Frames.{FrameState, FramesState, nth_frame, fresh_frame, leaving_key, cleaned, vacated};
-ghost use Rattle.warm_pool.specs.Calls.{patched};
-ghost use Rattle.warm_pool.specs.Residents.{IsPlaceOf, IsFirstFree};
+ghost use Rattle.warm_pool.specs.Frames.{nth_frame, fresh_frame, leaving_key, cleaned, vacated};
+ghost use Rattle.warm_pool.specs.FrameSteps.{fresh_frames, pages_held, changed_at, fixed, unfixed, ranked, filled, written};
+ghost use Rattle.warm_pool.specs.Residents.{IsPlaceOf, IsFirstFree, IsLastFree};
 
 use crate::frame::Frame;
 use crate::residents::Residents;
@@ -38,7 +38,7 @@ impl Frames {
     pub(crate) fn new(alloc: Global, frames: usize, page_size: usize) -> Result<Frames, AllocError>
         requires some { 0 < frames }
         requires few { frames ≤ 65536 }
-        ensures { IfOk result (λ made. made ≡ record { page_size = page_size; frames = replicate frames (fresh_frame (replicate page_size 0)) }) }
+        ensures { IfOk result (λ made. made ≡ fresh_frames frames page_size) }
     {
         let mut slots = Vec::with_capacity(alloc, frames)?;
         for _ in 0..frames {
@@ -78,14 +78,14 @@ impl Frames {
 
     /// The frame that holds the page.
     pub(crate) fn find(&self, page: PageId) -> Option<usize>
-        ensures { IsPlaceOf (map (λ f. f.page) self.now.frames) page result }
+        ensures { IsPlaceOf (pages_held self.now.frames) page result }
     {
         self.residents.find(page)
     }
 
     /// The first frame without a page.
     pub(crate) fn first_free(&self) -> Option<usize>
-        ensures { IsFirstFree (map (λ f. f.page) self.now.frames) result }
+        ensures { IsFirstFree (pages_held self.now.frames) result }
     {
         self.residents.first_free()
     }
@@ -101,7 +101,7 @@ impl Frames {
     pub(crate) fn fix(&mut self, at: usize)
         requires there { at < length self.old.frames }
         requires room { (nth_frame self.old.frames at).fixes < 2 ^ 32 - 1 }
-        ensures { self.new ≡ record self.old { frames = set self.old.frames at (record (nth_frame self.old.frames at) { fixes = (nth_frame self.old.frames at).fixes + 1 }) } }
+        ensures { self.new ≡ changed_at self.old at fixed }
     {
         let frame = &mut self.slots[at];
         frame.fixes += 1;
@@ -112,7 +112,7 @@ impl Frames {
     pub(crate) fn unfix(&mut self, at: usize)
         requires there { at < length self.old.frames }
         requires fixed { 0 < (nth_frame self.old.frames at).fixes }
-        ensures { self.new ≡ record self.old { frames = set self.old.frames at (record (nth_frame self.old.frames at) { fixes = (nth_frame self.old.frames at).fixes - 1 }) } }
+        ensures { self.new ≡ changed_at self.old at unfixed }
     {
         let frame = &mut self.slots[at];
         frame.fixes -= 1;
@@ -123,7 +123,7 @@ impl Frames {
     /// Renews the rank of a page.
     pub(crate) fn rank(&mut self, at: usize, key: RankKey)
         requires there { at < length self.old.frames }
-        ensures { self.new ≡ record self.old { frames = set self.old.frames at (record (nth_frame self.old.frames at) { key = Some key }) } }
+        ensures { self.new ≡ changed_at self.old at (ranked key) }
     {
         let frame = &mut self.slots[at];
         frame.key = Some(key);
@@ -142,7 +142,7 @@ impl Frames {
     )
         requires there { at < length self.old.frames }
         requires room { (nth_frame self.old.frames at).generation < 2 ^ 64 - 1 }
-        ensures frames { self.new ≡ record self.old { frames = set self.old.frames at (record { page = Some page; key = Some key; generation = (nth_frame self.old.frames at).generation + 1; fixes = fixes; dirty = false; bytes = bytes.old.items }) } }
+        ensures frames { self.new ≡ changed_at self.old at (filled page key fixes bytes.old.items) }
         ensures given { bytes.new.items ≡ (nth_frame self.old.frames at).bytes }
     {
         let frame = &mut self.slots[at];
@@ -160,7 +160,7 @@ impl Frames {
     /// Says that a page is on its device as it is here.
     pub(crate) fn clean(&mut self, at: usize)
         requires there { at < length self.old.frames }
-        ensures { self.new ≡ record self.old { frames = set self.old.frames at (cleaned (nth_frame self.old.frames at)) } }
+        ensures { self.new ≡ changed_at self.old at cleaned }
     {
         let frame = &mut self.slots[at];
         frame.dirty = false;
@@ -170,24 +170,26 @@ impl Frames {
     pub(crate) fn patch(&mut self, at: usize, from: usize, bytes: &[u8])
         requires there { at < length self.old.frames }
         requires within { from + length bytes.now ≤ length (nth_frame self.old.frames at).bytes }
-        ensures { self.new ≡ record self.old { frames = set self.old.frames at (record (nth_frame self.old.frames at) { dirty = true; bytes = patched (nth_frame self.old.frames at).bytes from bytes.now }) } }
+        ensures { self.new ≡ changed_at self.old at (written from bytes.now) }
     {
         let frame = &mut self.slots[at];
         frame.bytes[from..from + bytes.len()].copy_from_slice(bytes);
         frame.dirty = true;
     }
 
-    /// Takes the page out of a frame, of which the generation and the bytes stay.
-    pub(crate) fn vacate(&mut self, at: usize)
+    /// Takes the page out of a frame, of which the generation and the bytes stay. The last free frame below it is known, so the cost
+    /// does not grow with the frames.
+    pub(crate) fn vacate(&mut self, at: usize, last: Option<usize>)
         requires there { at < length self.old.frames }
         requires unfixed { (nth_frame self.old.frames at).fixes ≡ 0 }
-        ensures { self.new ≡ record self.old { frames = set self.old.frames at (vacated (nth_frame self.old.frames at)) } }
+        requires last { IsLastFree (pages_held self.old.frames) at last }
+        ensures { self.new ≡ changed_at self.old at vacated }
     {
         let frame = &mut self.slots[at];
         frame.page = None;
         frame.key = None;
         frame.dirty = false;
-        self.residents.set(at, None);
+        self.residents.clear(at, last);
         self.contest.set(at, None);
     }
 }

@@ -1,10 +1,11 @@
 //! Which frame holds a page, and which frame is free, both found without a scan.
 //!
-//! Frames stand in chains: those whose pages share a bucket in one, those without a page in another, each in rising order of frames. A link is the number of the next frame,
-//! and the number of frames ends a chain. All room is taken when the frames are made.
+//! Frames stand in chains, each in rising order of frames: pages are spread over as many chains as there are frames, and the frames
+//! without a page stand in one of their own. A link is the number of the next frame, and the number of frames ends a chain. All room
+//! is taken when the frames are made.
 ghost use Rattle.std.specs.Prelude.{◌≡◌, ℕ, List, ◌+◌, ◌<◌, ◌≤◌, length, replicate, set, slice_index, IfOk, IsTrue, None, Some, ◌↔◌};
-ghost use Rattle.warm_pool.specs.Chains.{AreChains, AreInTurn, AreLinked, IsLastBelow, after, bucket, buckets, heads_led, next_led};
-ghost use Rattle.warm_pool.specs.Residents.{IsFirstFree, IsPlaceOf};
+ghost use Rattle.warm_pool.specs.Chains.{AreChains, AreInTurn, AreLinked, IsLastBelow, after, chain_of, chains_of, heads_led, next_led, loose};
+ghost use Rattle.warm_pool.specs.Residents.{IsFirstFree, IsLastFree, IsPlaceOf};
 
 use std::alloc::{AllocError, Global};
 use std::marker::Model;
@@ -27,7 +28,7 @@ impl Model for Residents {
 
     ghost view = { λ residents. residents.pages.items };
 
-    ghost invariant = { λ residents. AreLinked residents.pages.items residents.heads.items residents.next.items };
+    ghost invariant = { λ index. AreLinked index.pages.items index.heads.items index.next.items };
 }
 
 impl Residents {
@@ -69,6 +70,20 @@ impl Residents {
         move_frame(&self.pages, &mut self.heads, &mut self.next, frame, page);
         self.pages[frame] = page;
     }
+
+    /// Takes out the page that a frame holds, if it holds one. Where the last free frame below it is known, no chain of free frames
+    /// is walked.
+    pub(crate) fn clear(&mut self, frame: usize, last: Option<usize>)
+        requires there { frame < length self.old }
+        requires last { IsLastFree self.old frame last }
+        ensures { self.new ≡ set self.old frame None }
+    {
+        if self.pages[frame].is_none() {
+            return;
+        }
+        free_frame(&self.pages, &mut self.heads, &mut self.next, frame, last);
+        self.pages[frame] = None;
+    }
 }
 
 fn no_pages(alloc: Global, frames: usize) -> Result<Vec<Option<PageId>>, AllocError>
@@ -79,7 +94,7 @@ fn no_pages(alloc: Global, frames: usize) -> Result<Vec<Option<PageId>>, AllocEr
     Ok(pages)
 }
 
-// The heads of the chains where no frame holds a page: only the last bucket has frames, from the first on.
+// The heads of the chains where no frame holds a page: only the last chain has frames, from the first on.
 fn heads_of_none(alloc: Global, frames: usize) -> Result<Vec<u32>, AllocError>
     requires { frames ≤ 65536 }
     ensures { IfOk result (λ heads. heads.items ≡ set (replicate (frames + 1) frames) frames 0) }
@@ -102,12 +117,12 @@ fn links_in_turn(alloc: Global, frames: usize) -> Result<Vec<u32>, AllocError>
     Ok(next)
 }
 
-// The frame that holds a page, sought along the chain of the page's bucket.
+// The frame that holds a page, sought along the page's chain.
 fn find_in(pages: &[Option<PageId>], heads: &[u32], next: &[u32], page: PageId) -> Option<usize>
     requires { AreLinked pages.now heads.now next.now }
     ensures { IsPlaceOf pages.now page result }
 {
-    let mut at = heads[bucket_of(pages.len(), Some(page))] as usize;
+    let mut at = heads[chain_of(pages.len(), Some(page))] as usize;
     while at < pages.len() {
         if holds(pages[at], page) {
             return Some(at);
@@ -117,11 +132,11 @@ fn find_in(pages: &[Option<PageId>], heads: &[u32], next: &[u32], page: PageId) 
     None
 }
 
-// The bucket of what a frame holds.
-#[tactic(auto, unfolding(crate::specs::Chains::bucket))]
-fn bucket_of(frames: usize, page: Option<PageId>) -> usize
+// The chain of a frame that holds this.
+#[tactic(auto, unfolding(crate::specs::Chains::chain_of))]
+fn chain_of(frames: usize, page: Option<PageId>) -> usize
     requires { frames ≤ 65536 }
-    ensures is { result ≡ bucket frames page }
+    ensures is { result ≡ chain_of frames page }
     ensures low { result ≤ frames }
 {
     let Some(page) = page else {
@@ -137,16 +152,16 @@ fn holds(held: Option<PageId>, page: PageId) -> bool
     held == Some(page)
 }
 
-// The last frame of a bucket below a frame.
-fn last_below(heads: &[u32], next: &[u32], bucket: usize, frame: usize) -> Option<usize>
+// The last frame of a chain below a frame.
+fn last_below(heads: &[u32], next: &[u32], chain: usize, frame: usize) -> Option<usize>
     ghost frames: { List ℕ }
     requires chains { AreChains frames heads.now next.now }
-    requires bucket { bucket < length heads.now }
+    requires chain { chain < length heads.now }
     requires frame { frame < length frames }
-    ensures { IsLastBelow frames bucket frame result }
+    ensures { IsLastBelow frames chain frame result }
 {
     let mut last = None;
-    let mut at = heads[bucket] as usize;
+    let mut at = heads[chain] as usize;
     while at < frame {
         last = Some(at);
         at = next[at] as usize;
@@ -154,53 +169,53 @@ fn last_below(heads: &[u32], next: &[u32], bucket: usize, frame: usize) -> Optio
     last
 }
 
-// Lets the link after a frame, or the bucket's own, lead to a frame.
-fn lead(heads: &mut Vec<u32>, next: &mut Vec<u32>, bucket: usize, last: Option<usize>, to: u32)
-    requires bucket { bucket < length heads.old.items }
+// Lets the link after a frame, or the head of its chain, lead to a frame.
+fn lead(heads: &mut Vec<u32>, next: &mut Vec<u32>, chain: usize, last: Option<usize>, to: u32)
+    requires chain { chain < length heads.old.items }
     requires last { after last ≤ length next.old.items }
-    ensures heads { heads.new.items ≡ heads_led heads.old.items bucket last to }
+    ensures heads { heads.new.items ≡ heads_led heads.old.items chain last to }
     ensures next { next.new.items ≡ next_led next.old.items last to }
 {
     match last {
-        None => heads[bucket] = to,
+        None => heads[chain] = to,
         Some(frame) => next[frame] = to,
     }
 }
 
 // Takes a frame out of its chain.
-fn unlink(heads: &mut Vec<u32>, next: &mut Vec<u32>, frame: usize, bucket: usize)
+fn unlink(heads: &mut Vec<u32>, next: &mut Vec<u32>, frame: usize, chain: usize)
     ghost frames: { List ℕ }
     requires frame { frame < length frames }
-    requires bucket { bucket < length heads.old.items }
-    requires is { slice_index frames frame ≡ bucket }
+    requires chain { chain < length heads.old.items }
+    requires is { slice_index frames frame ≡ chain }
     requires chains { AreChains frames heads.old.items next.old.items }
     ensures room { length heads.new.items ≡ length heads.old.items }
-    ensures chains { AreChains (set frames frame (length heads.old.items)) heads.new.items next.new.items }
+    ensures chains { AreChains (loose frames frame heads.old.items) heads.new.items next.new.items }
 {
-    let last = last_below(heads, next, bucket, frame);
+    let last = last_below(heads, next, chain, frame);
     let to = next[frame];
-    lead(heads, next, bucket, last, to);
+    lead(heads, next, chain, last, to);
 }
 
-// Puts a frame that is in no chain into that of a bucket.
-fn link(heads: &mut Vec<u32>, next: &mut Vec<u32>, frame: usize, bucket: usize)
+// Puts a frame that is in no chain into one, after the last frame of the chain below it.
+fn link(heads: &mut Vec<u32>, next: &mut Vec<u32>, frame: usize, chain: usize, last: Option<usize>)
     ghost frames: { List ℕ }
     requires frame { frame < length frames }
-    requires bucket { bucket < length heads.old.items }
+    requires chain { chain < length heads.old.items }
     requires is { slice_index frames frame ≡ length heads.old.items }
     requires chains { AreChains frames heads.old.items next.old.items }
+    requires last { IsLastBelow frames chain frame last }
     ensures room { length heads.new.items ≡ length heads.old.items }
-    ensures chains { AreChains (set frames frame bucket) heads.new.items next.new.items }
+    ensures chains { AreChains (set frames frame chain) heads.new.items next.new.items }
 {
-    let last = last_below(heads, next, bucket, frame);
     next[frame] = match last {
-        None => heads[bucket],
+        None => heads[chain],
         Some(before) => next[before],
     };
-    lead(heads, next, bucket, last, frame as u32);
+    lead(heads, next, chain, last, frame as u32);
 }
 
-// Moves a frame from the chain of the page that it holds into that of another page.
+// Moves a frame from the chain of what it holds into that of another page, or of none.
 fn move_frame(
     pages: &[Option<PageId>],
     heads: &mut Vec<u32>,
@@ -209,14 +224,34 @@ fn move_frame(
     page: Option<PageId>,
 )
     ghost frames: { List ℕ }
-    requires frames { frames ≡ buckets pages.now }
+    requires frames { frames ≡ chains_of pages.now }
     requires frame { frame < length pages.now }
     requires linked { AreLinked pages.now heads.old.items next.old.items }
-    ensures room { length heads.new.items ≡ length heads.old.items }
-    ensures chains { AreChains (set frames frame (bucket (length pages.now) page)) heads.new.items next.new.items }
+    ensures { AreLinked (set pages.now frame page) heads.new.items next.new.items }
 {
-    let from = bucket_of(pages.len(), pages[frame]);
-    let to = bucket_of(pages.len(), page);
+    let from = chain_of(pages.len(), pages[frame]);
+    let to = chain_of(pages.len(), page);
     unlink(heads, next, frame, from);
-    link(heads, next, frame, to);
+    let last = last_below(heads, next, to, frame);
+    link(heads, next, frame, to, last);
+}
+
+// Moves a frame from the chain of its page into that of the frames without one, after the last of them below it.
+fn free_frame(
+    pages: &[Option<PageId>],
+    heads: &mut Vec<u32>,
+    next: &mut Vec<u32>,
+    frame: usize,
+    last: Option<usize>,
+)
+    ghost frames: { List ℕ }
+    requires frames { frames ≡ chains_of pages.now }
+    requires frame { frame < length pages.now }
+    requires linked { AreLinked pages.now heads.old.items next.old.items }
+    requires last { IsLastFree pages.now frame last }
+    ensures { AreLinked (set pages.now frame None) heads.new.items next.new.items }
+{
+    let from = chain_of(pages.len(), pages[frame]);
+    unlink(heads, next, frame, from);
+    link(heads, next, frame, pages.len(), last);
 }

@@ -1,13 +1,12 @@
-use Rattle.std.proofs.Common.{◌≡◌, ◌≤◌, length}
-use Rattle.warm_pool.specs.Closing.{vacated_from}
+use Rattle.std.proofs.Common.{◌≡◌}
+use Rattle.warm_pool.specs.FrameSteps.{pages_held}
+use Rattle.warm_pool.specs.Residents.{IsLastFree}
+use Rattle.warm_pool.proofs.VacateLemmas.{vacated_to}
 use Rattle.warm_pool.proofs.close.vacate_chosen.Given as goal
 
--- the frames from the one at hand on gave their pages up
+-- the frames before the one at hand gave their pages up, and the last free one of them is known
 abbrev pub invariant-loop-at : goal.invariant-loop-at
 invariant-loop-at l = record {
-  within : l.at ≤ length l.fn.frames.frames;
-  vacated : l.frames ≡ record l.fn.frames { frames = vacated_from l.which l.at l.fn.frames.frames };
+  vacated : l.frames ≡ record l.fn.frames { frames = vacated_to l.which l.at l.fn.frames.frames };
+  last : IsLastFree (pages_held l.frames.frames) l.at l.last;
 }
-
-abbrev pub decreases-loop-at : goal.decreases-loop-at
-decreases-loop-at l = l.at

@@ -5,8 +5,8 @@ use Rattle.warm_pool.proofs.residents.last_below.Given as goal
 -- the frame at hand is the first one after the last that was passed
 abbrev pub invariant-loop-at : goal.invariant-loop-at
 invariant-loop-at g l = record {
-  first : IsFirstFrom g.frames l.bucket (after l.last) l.at;
-  passed : IsOf g.frames l.bucket l.last;
+  first : IsFirstFrom g.frames l.chain (after l.last) l.at;
+  passed : IsOf g.frames l.chain l.last;
   below : after l.last ≤ l.frame;
 }
 

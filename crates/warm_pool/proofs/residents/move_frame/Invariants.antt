@@ -6,3 +6,6 @@ ghost-unlink g a = g.frames
 
 abbrev pub ghost-link : goal.ghost-link
 ghost-link g a = set g.frames a.frame (length a.heads.now.items)
+
+abbrev pub ghost-last_below : goal.ghost-last_below
+ghost-last_below g a = set g.frames a.frame (length a.heads.now)
