@@ -1,15 +1,13 @@
 //! The calls on a node's history.
-ghost use Rattle.std.specs.Prelude.{◌≡◌, ◌++◌, IfErr, IfOk, OnOk, map};
-ghost use Rattle.warm_gossip.specs.declared.fault.NodeFault.TheVariants.{Memory};
-ghost use Rattle.warm_history.specs.ReferenceSets.{◌∪◌};
-ghost use Rattle.warm_history.specs.Histories.{holding, history, refs};
+ghost use Rattle.std.specs.Prelude.{◌≡◌, IfErr, IfOk, OnOk, map};
 ghost use Rattle.warm_gossip.specs.declared.call.Call.TheVariants.{Absorb, Send, Offer, Receive, WarmList};
-ghost use Rattle.warm_gossip.specs.declared.call.Reply.TheVariants.{Done, Sent, Answers, Pages};
-ghost use Rattle.warm_gossip.specs.Step.{Refuses, Step};
+ghost use Rattle.warm_gossip.specs.declared.call.Reply.TheVariants.{Sent, Answers, Pages};
+ghost use Rattle.warm_gossip.specs.declared.fault.NodeFault.TheVariants.{Memory};
+ghost use Rattle.warm_gossip.specs.Clauses.{Answered, IsFit, Learns, SameShown, done};
 
-use crate::answers::{answer_to_sums, frames_in};
+use crate::answers::{answer_to_sums, wanted_frames};
 use crate::fault::NodeFault;
-use crate::node::{Node, Shown};
+use crate::node::Node;
 use std::alloc::{AllocError, Global};
 use warm_digest::sums;
 use warm_frames::{EntryList, Frame, FrameList, MAX_ENTRIES};
@@ -20,12 +18,11 @@ use warm_stamps::{Bucket, PageId, PageList, Reference};
 impl Node {
     /// Takes references into the history.
     pub(crate) fn absorb(&mut self, batch: &[Reference]) -> Result<(), NodeFault>
-        requires fit { ⟦<Node as Shown>⟧.is_fit self.old }
-        ensures fit { ⟦<Node as Shown>⟧.is_fit self.new }
-        ensures done { OnOk result (Step (⟦<Node as Shown>⟧.state self.old) (Absorb batch.now) Done (⟦<Node as Shown>⟧.state self.new)) }
-        ensures refused { IfErr result (λ why. Refuses (⟦<Node as Shown>⟧.state self.old) (Absorb batch.now) why (⟦<Node as Shown>⟧.state self.new)) }
+        requires fit { IsFit state self.old }
+        ensures fit { IsFit state self.new }
+        ensures step { Answered state self.old (Absorb batch.now) done result self.new }
     {
-        let Ok(touched) = pages_of(self.alloc, batch) else {
+        let Ok(touched) = pages_of_references(self.alloc, batch) else {
             return Err(NodeFault::Memory);
         };
         let Ok(()) = self.history.absorb(batch) else {
@@ -37,12 +34,12 @@ impl Node {
 
     /// Takes entries into the history.
     pub(crate) fn learn(&mut self, entries: &[Entry]) -> Result<(), NodeFault>
-        requires fit { ⟦<Node as Shown>⟧.is_fit self.old }
-        ensures fit { ⟦<Node as Shown>⟧.is_fit self.new }
-        ensures learnt { OnOk result (⟦<Node as Shown>⟧.state self.new ≡ record (⟦<Node as Shown>⟧.state self.old) { history = history (refs (⟦<Node as Shown>⟧.state self.old).history ∪ refs (holding entries.now)) }) }
-        ensures refused { IfErr result (λ why. (why ≡ Memory) × (⟦<Node as Shown>⟧.state self.new ≡ ⟦<Node as Shown>⟧.state self.old)) }
+        requires fit { IsFit state self.old }
+        ensures fit { IsFit state self.new }
+        ensures learnt { OnOk result (Learns state self.old entries.now self.new) }
+        ensures refused { IfErr result (λ why. (why ≡ Memory) × SameShown state self.old self.new) }
     {
-        let Ok(named) = pages_in(self.alloc, entries) else {
+        let Ok(named) = pages_of_entries(self.alloc, entries) else {
             return Err(NodeFault::Memory);
         };
         let Ok(()) = self.history.join_entries(entries) else {
@@ -54,10 +51,9 @@ impl Node {
 
     /// Takes what a frame says, and gives the frames that answer it.
     pub(crate) fn receive(&mut self, frame: Frame) -> Result<FrameList, NodeFault>
-        requires fit { ⟦<Node as Shown>⟧.is_fit self.old }
-        ensures fit { ⟦<Node as Shown>⟧.is_fit self.new }
-        ensures answers { IfOk result (λ frames. Step (⟦<Node as Shown>⟧.state self.old) (Receive frame) (Answers frames) (⟦<Node as Shown>⟧.state self.new)) }
-        ensures refused { IfErr result (λ why. Refuses (⟦<Node as Shown>⟧.state self.old) (Receive frame) why (⟦<Node as Shown>⟧.state self.new)) }
+        requires fit { IsFit state self.old }
+        ensures fit { IsFit state self.new }
+        ensures step { Answered state self.old (Receive frame) Answers result self.new }
     {
         match frame {
             Frame::Entries { entries, .. } => {
@@ -71,7 +67,7 @@ impl Node {
                 }
             }
             Frame::Want { mask, .. } => {
-                match frames_in(self.alloc, self.id, &self.history, mask) {
+                match wanted_frames(self.alloc, self.id, &self.history, mask) {
                     Ok(frames) => Ok(FrameList::of(frames)),
                     Err(_) => Err(NodeFault::Memory),
                 }
@@ -79,10 +75,9 @@ impl Node {
         }
     }
 
-    /// The first 1000 entries of a bucket, of those whose page is greater than `after`.
+    /// The first entries of a bucket, of those whose page is greater than `after`: as many as a frame carries.
     pub(crate) fn send(&self, bucket: Bucket, after: Option<PageId>) -> Result<Frame, NodeFault>
-        ensures sent { IfOk result (λ frame. Step (⟦<Node as Shown>⟧.state self.now) (Send bucket after) (Sent frame) (⟦<Node as Shown>⟧.state self.now)) }
-        ensures refused { IfErr result (λ why. why ≡ Memory) }
+        ensures { Answered state self.now (Send bucket after) Sent result self.now }
     {
         let _whole = self.history.len();
         let Ok(entries) = self.history.entries(bucket, after, MAX_ENTRIES) else {
@@ -99,8 +94,7 @@ impl Node {
 
     /// The sums of all buckets.
     pub(crate) fn offer(&self) -> Result<Frame, NodeFault>
-        ensures sent { IfOk result (λ frame. Step (⟦<Node as Shown>⟧.state self.now) Offer (Sent frame) (⟦<Node as Shown>⟧.state self.now)) }
-        ensures refused { IfErr result (λ why. why ≡ Memory) }
+        ensures { Answered state self.now Offer Sent result self.now }
     {
         match sums(self.alloc, &self.history) {
             Ok(sums) => Ok(Frame::Digest {
@@ -113,8 +107,7 @@ impl Node {
 
     /// The hottest pages, hottest first.
     pub(crate) fn hottest(&self, n: usize) -> Result<PageList, NodeFault>
-        ensures pages { IfOk result (λ pages. Step (⟦<Node as Shown>⟧.state self.now) (WarmList n) (Pages pages) (⟦<Node as Shown>⟧.state self.now)) }
-        ensures refused { IfErr result (λ why. why ≡ Memory) }
+        ensures { Answered state self.now (WarmList n) Pages result self.now }
     {
         let _whole = self.history.len();
         match warm_list(self.alloc, &self.history, n) {
@@ -125,14 +118,14 @@ impl Node {
 }
 
 // The pages of references, as they come.
-fn pages_of(alloc: Global, batch: &[Reference]) -> Result<Vec<PageId>, AllocError>
+fn pages_of_references(alloc: Global, batch: &[Reference]) -> Result<Vec<PageId>, AllocError>
     ensures { IfOk result (λ pages. pages.items ≡ map (λ r. r.page) batch.now) }
 {
     batch.iter().map(|reference| reference.page).collect(alloc)
 }
 
 // The pages of entries, as they come.
-fn pages_in(alloc: Global, entries: &[Entry]) -> Result<Vec<PageId>, AllocError>
+fn pages_of_entries(alloc: Global, entries: &[Entry]) -> Result<Vec<PageId>, AllocError>
     ensures { IfOk result (λ pages. pages.items ≡ map (λ e. e.page) entries.now) }
 {
     entries.iter().map(|entry| entry.page).collect(alloc)
