@@ -1,6 +1,7 @@
 -- The lines of a schedule, each a command with its fields.
 use Rattle.std.specs.Prelude.{ℕ, ◌+◌, ◌-◌, ◌*◌, List, [], ◌∷◌, Bool, false, ◌&&◌, ◌==◌, nat_le, nat_lt, length, Option, Some, None, option_and_then, option_map, codes, bytes_eq, if◌then◌else◌}
 use Rattle.warm_stamps.specs.declared.PageId.{PageId}
+use Rattle.warm_stamps.specs.declared.TheConstants.{BUCKETS}
 use Rattle.warm_world.specs.declared.event.Event.{Event}
 use Rattle.warm_world.specs.declared.event.Event.TheVariants.{Refer, Flush, Send, Deliver, Warm, Restart, Show}
 use Rattle.warm_schedule.specs.Text.{split, words}
@@ -74,7 +75,7 @@ abbrev pub worker_field : List (List ℕ) → Option (ℕ × List (List ℕ))
 worker_field fields = number_field 65535 fields
 
 abbrev pub bucket_field : List (List ℕ) → Option (ℕ × List (List ℕ))
-bucket_field fields = number_field 63 fields
+bucket_field fields = number_field (BUCKETS - 1) fields
 
 abbrev pub count_field : List (List ℕ) → Option (ℕ × List (List ℕ))
 count_field fields = number_field 4294967295 fields

@@ -6,7 +6,7 @@ ghost use Rattle.warm_schedule.specs.declared.parse.LineFault.TheVariants.{Bad};
 
 use crate::text::{cut, next_word};
 use thiserror::Error;
-use warm_stamps::{Bucket, PageId};
+use warm_stamps::{BUCKETS, Bucket, PageId};
 use warm_world::Event;
 
 /// What a line of a schedule says.
@@ -57,8 +57,6 @@ const MOST_PAGE: u64 = 4294967295;
 const MOST_REPLICA: u64 = 65535;
 
 const MOST_WORKER: u64 = 65535;
-
-const MOST_BUCKET: u64 = 63;
 
 const MOST_COUNT: u64 = 4294967295;
 
@@ -168,7 +166,7 @@ fn send(fields: &[u8]) -> Option<Event>
     ensures { result ≡ send_of (words fields.now) }
 {
     let (replica, rest) = number_at(fields, MOST_REPLICA)?;
-    let (bucket, rest) = number_at(rest, MOST_BUCKET)?;
+    let (bucket, rest) = number_at(rest, BUCKETS as u64 - 1)?;
     let bucket = Bucket::new(bucket as u8)?;
     let (after, rest) = after_at(rest)?;
     if next_word(rest).is_some() {

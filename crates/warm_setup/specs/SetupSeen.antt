@@ -12,7 +12,13 @@ fields_of keys = record { pages = keys.pages; path = keys.path }
 
 abbrev pub settings_of : SetupKeys → Settings
 settings_of keys = record {
-  sizes = record { replicas = keys.replicas; workers = keys.workers; buffer = keys.buffer; frames = keys.frames; page_size = keys.page_size };
+  sizes = record {
+    replicas = keys.replicas;
+    workers = keys.workers;
+    buffer = keys.buffer;
+    frames = keys.frames;
+    page_size = keys.page_size;
+  };
   devices = keys.devices.items;
 }
 

@@ -11,8 +11,10 @@ use Rattle.warm_setup.specs.declared.command.CmdFault.{CmdFault}
 use Rattle.warm_setup.specs.declared.command.CmdFault.TheVariants.{Memory, Refused}
 
 abbrev pub command_for : Asked → Cmd
-command_for (asked.Play file setup) = Play (option_map (λ text. text.now) file) (option_map (λ text. text.now) setup)
-command_for (asked.Random seed events setup) = Random seed events (option_map (λ text. text.now) setup)
+command_for (asked.Play file setup) =
+    Play (option_map (λ text. text.now) file) (option_map (λ text. text.now) setup)
+command_for (asked.Random seed events setup) =
+    Random seed events (option_map (λ text. text.now) setup)
 
 -- clap's want of memory is the program's own
 abbrev pub IsFaultOf : Error → CmdFault → Type 0

@@ -16,6 +16,9 @@ use std::alloc::{AllocError, Global};
 use std::convert::AsStr;
 use thiserror::Error;
 
+/// How many lines a schedule drawn at random may have.
+pub const MAX_EVENTS: u64 = 1_000_000;
+
 /// What the words ask for.
 #[derive(Debug, Drop)]
 pub enum Cmd {
@@ -24,7 +27,7 @@ pub enum Cmd {
         file: Option<PathText>,
         setup: Option<PathText>,
     },
-    /// To write the schedule of `events` lines, at most 1,000,000, that this seed gives with the setup file `setup`, or
+    /// To write the schedule of `events` lines, at most [`MAX_EVENTS`], that this seed gives with the setup file `setup`, or
     /// the defaults.
     Random {
         seed: u64,
@@ -114,7 +117,7 @@ fn random_command<'a>(alloc: Global) -> Result<Command<'a>, AllocError>
     ensures local { IfOk result (λ c. (out-Command c).has_globals ≡ false) }
 {
     let seed = number_argument(alloc, "seed", "What the schedule is drawn from", u64::MAX);
-    let events = number_argument(alloc, "events", "How many lines it has", 1000000);
+    let events = number_argument(alloc, "events", "How many lines it has", MAX_EVENTS);
     let random = Command::new(alloc, "random").about(
         "Write a schedule drawn at random, the same for the same seed",
     );
@@ -136,7 +139,8 @@ fn whole_command<'a>(alloc: Global) -> Result<Command<'a>, AllocError>
 
 // The matches of the words, as clap defines them for these commands.
 fn matches_of<'a, S: AsStr>(alloc: Global, words: &'a [S]) -> Result<ArgMatches<'a>, clap::Error>
-    ensures rows { IfOk result (λ m. subcommand_rows_of m ≡ subcommand_of warmplay (map S.text words.now)) }
+    ensures rows { IfOk result
+        (λ m. subcommand_rows_of m ≡ subcommand_of warmplay (map S.text words.now)) }
     ensures kinds { FailsBy (fault_of warmplay (map S.text words.now)) result }
 {
     let command = whole_command(alloc)?;
@@ -164,7 +168,8 @@ fn random_in<'a>(found: &ArgMatches<'a>) -> Option<Asked<'a>>
 }
 
 fn asked_in<'a>(matches: &ArgMatches<'a>) -> Option<Asked<'a>>
-    ensures { option_map command_for result ≡ option_and_then command_by (subcommand_rows_of matches.now) }
+    ensures { option_map command_for result
+        ≡ option_and_then command_by (subcommand_rows_of matches.now) }
 {
     let (name, found) = matches.subcommand()?;
     let file = found.get_str("file");

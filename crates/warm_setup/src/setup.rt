@@ -18,7 +18,11 @@ use crate::path::PathText;
 use std::alloc::Global;
 use thiserror::Error;
 use toml::{Table, Value};
-use warm_world::Setup;
+use warm_devices::MAX_PAGE_SIZE;
+use warm_rank::MAX_SLOTS;
+use warm_refbuffer::MAX_CAPACITY;
+use warm_stamps::MAX_REPLICAS;
+use warm_world::{MAX_WORKERS, Setup};
 
 /// A device that each replica is to have: `pages` pages (1 to 1048576), kept in memory, or in the file that `path`,
 /// a dot and the replica's number name.
@@ -71,19 +75,11 @@ impl SetupFault {
     }
 }
 
-const BUFFER_LIMIT: u32 = 1024;
+/// How many devices a replica may have.
+pub const MAX_DEVICES: usize = 16;
 
-const FRAMES_LIMIT: u32 = 65536;
-
-const PAGE_SIZE_LIMIT: u32 = 65536;
-
-const REPLICAS_LIMIT: u32 = 64;
-
-const WORKERS_LIMIT: u32 = 16;
-
-const DEVICES_LIMIT: usize = 16;
-
-const PAGES_LIMIT: u32 = 1_048_576;
+/// How many pages a device may have.
+pub const MAX_PAGES: u32 = 1_048_576;
 
 // An integer from 1 to the limit.
 #[tactic(auto, unfolding(crate::specs::Setups::number_to))]
@@ -135,7 +131,7 @@ fn set_device_key(
     ensures { Gives fields_of (with_device_key (fields_of keys) key.now (view value.now)) result }
 {
     if key == "pages" {
-        let pages = number(value, PAGES_LIMIT)?;
+        let pages = number(value, MAX_PAGES)?;
         return Ok(DeviceKeys {
             pages: Some(pages),
             path: keys.path,
@@ -218,7 +214,7 @@ fn devices_of(alloc: Global, values: &[Value]) -> Result<Vec<DeviceSpec>, SetupF
     if values.is_empty() {
         return Err(SetupFault::BadValue);
     }
-    if values.len() > DEVICES_LIMIT {
+    if values.len() > MAX_DEVICES {
         return Err(SetupFault::BadValue);
     }
     each_device(alloc, values)
@@ -253,11 +249,12 @@ fn set_key(
     key: &str,
     value: &Value,
 ) -> Result<SetupKeys, SetupFault>
-    ensures value { Gives settings_of (with_key (settings_of keys) key.now (view value.now)) result }
+    ensures value { Gives settings_of (with_key (settings_of keys) key.now (view value.now))
+        result }
     ensures within { AreWithin keys → IfOk result AreWithin }
 {
     if key == "buffer" {
-        let buffer = number(value, BUFFER_LIMIT)? as u16;
+        let buffer = number(value, MAX_CAPACITY as u32)? as u16;
         return Ok(SetupKeys { buffer, ..keys });
     }
     if key == "device" {
@@ -265,19 +262,19 @@ fn set_key(
         return Ok(SetupKeys { devices, ..keys });
     }
     if key == "frames" {
-        let frames = number(value, FRAMES_LIMIT)?;
+        let frames = number(value, MAX_SLOTS as u32)?;
         return Ok(SetupKeys { frames, ..keys });
     }
     if key == "page_size" {
-        let page_size = number(value, PAGE_SIZE_LIMIT)?;
+        let page_size = number(value, MAX_PAGE_SIZE as u32)?;
         return Ok(SetupKeys { page_size, ..keys });
     }
     if key == "replicas" {
-        let replicas = number(value, REPLICAS_LIMIT)? as u16;
+        let replicas = number(value, u32::from(MAX_REPLICAS))? as u16;
         return Ok(SetupKeys { replicas, ..keys });
     }
     if key == "workers" {
-        let workers = number(value, WORKERS_LIMIT)? as u16;
+        let workers = number(value, u32::from(MAX_WORKERS))? as u16;
         return Ok(SetupKeys { workers, ..keys });
     }
     Err(SetupFault::BadKey)
@@ -365,7 +362,8 @@ pub fn read_setup(alloc: Global, text: &str) -> Result<(Setup, Vec<DeviceSpec>),
 
 /// The setup that a file's bytes hold: [`read_setup`] of the text where they are UTF-8, else [`SetupFault::NotToml`].
 pub fn read_setup_file(alloc: Global, bytes: &[u8]) -> Result<(Setup, Vec<DeviceSpec>), SetupFault>
-    ensures text { IsUtf8 bytes.now → Gives setup_and_devices (setup_in (parse_document bytes.now)) result }
+    ensures text { IsUtf8 bytes.now
+        → Gives setup_and_devices (setup_in (parse_document bytes.now)) result }
     ensures no_text { ¬ IsUtf8 bytes.now → result ≡ Err SetupFault.NotToml }
 {
     match std::str::from_utf8(bytes) {

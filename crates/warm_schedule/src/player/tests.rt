@@ -304,6 +304,61 @@ fn a_schedule_may_come_in_bytes(rt: HostRuntime) -> Result<(), Fail> {
     Ok(())
 }
 
+// A hundred thousand reads of one byte each, with as many that were interrupted.
+#[test]
+fn a_long_trickle_plays_to_its_end(rt: HostRuntime) -> Result<(), Fail> {
+    let mut schedule = Vec::new(rt.alloc());
+    for _ in 0..10_000 {
+        schedule.extend_from_slice(b"  show 001\n")?;
+    }
+    schedule.truncate(100_000);
+    let mut reader = Trickle {
+        rest: schedule.as_slice(),
+        is_ready: false,
+    };
+    let mut answers = Vec::new(rt.alloc());
+    play(rt.alloc(), &mut reader, &mut answers, default_setup())?;
+    // 9,090 lines of 11 bytes, and of the last line 10
+    let mut want = Vec::new(rt.alloc());
+    for _ in 0..9_091 {
+        want.extend_from_slice(b"end 0\n")?;
+    }
+    assert!(rt; answers.as_slice() == want.as_slice());
+    Ok(())
+}
+
+// Marks each flush.
+#[derive(Drop)]
+struct Marked {
+    taken: Vec<u8>,
+}
+
+impl Write for Marked {
+    fn write(&mut self, bytes: &[u8]) -> io::Result<usize> {
+        self.taken.write(bytes)
+    }
+
+    fn flush(&mut self) -> io::Result<()> {
+        self.taken.write_all(b"|")
+    }
+}
+
+// Where lines come in pieces, the answer of each is handed on by itself, and nothing is handed on while a line goes on.
+#[test]
+fn answers_are_handed_on_before_the_next_read(rt: HostRuntime) -> Result<(), Fail> {
+    let mut reader = Trickle {
+        rest: b"show 1\nshow 9\nx",
+        is_ready: false,
+    };
+    let mut writer = Marked { taken: Vec::new(rt.alloc()) };
+    play(rt.alloc(), &mut reader, &mut writer, default_setup())?;
+    assert_eq!(rt;
+        str::from_utf8(writer.taken.as_slice())?,
+        "end 0\n|refused 14 NoSuchReplica\n|bad line 3\n|"
+    );
+    Ok(())
+}
+
 // Gives these bytes, and then fails.
 #[derive(Drop)]
 struct Breaks<'a> {
@@ -429,6 +484,15 @@ fn a_refused_growth_is_as_a_comment(rt: HostRuntime) -> Result<(), Fail> {
         }
     }
     assert_eq!(rt; lines.next(), None);
+    Ok(())
+}
+
+// The limit is parse_line's own, whatever a player keeps of a line.
+#[test]
+fn a_line_has_a_greatest_length(rt: HostRuntime) -> Result<(), Fail> {
+    let comment = vec![in rt.alloc(); b'#'; 262145]?;
+    assert_eq!(rt; parse_line(&comment.as_slice()[1..]), Ok(Line::Nothing));
+    assert_eq!(rt; parse_line(comment.as_slice()), Err(LineFault::Bad));
     Ok(())
 }
 
