@@ -6,4 +6,4 @@ use Rattle.warm_gossip.proofs.node.Node.hottest.Goals as goal
 pub returns-in-Ok-clause-pages : goal.returns-in-Ok-clause-pages
 returns-in-Ok-clause-pages g c =
     let h = c.args.self.now.history in
-    (c.from_vec.ensures ∙ c.in-Ok.ensures (refs h) (sym (history_of_own_references h c.len-whole.ensures.whole)), refl)
+    (c.of.ensures ∙ c.in-Ok.ensures (refs h) (sym (history_of_own_references h c.len-whole.ensures.whole)), refl)
