@@ -8,6 +8,7 @@ use Rattle.std.proofs.lemmas.List.Elements.{filter-append}
 use Rattle.std.proofs.lemmas.Grind.{flat_map-append}
 use Rattle.sha2.specs.Hashers.{Holds256}
 use Rattle.sha2.specs.declared.Sha256.{Sha256}
+use Rattle.warm_stamps.specs.declared.TheConstants.{BUCKETS}
 use Rattle.warm_stamps.specs.Buckets.{page_bucket}
 use Rattle.warm_history.specs.declared.hist.Entry.{Entry}
 use Rattle.warm_history.specs.LatestTwo.{LatestTwo}
@@ -18,15 +19,6 @@ use Rattle.warm_stamps.specs.Bytes.{bytes_of_stamp}
 use Rattle.warm_frames.specs.Entries.{hist_bytes, entry_bytes, entries_bytes}
 use Rattle.warm_digest.specs.BucketSums.{bucket_entries, bucket_sum, sums_of}
 use Rattle.warm_digest.specs.Hashing.{HaveTaken}
-
--- ---- the pieces of an entry
-
-pub once_taken : (m s : List ℕ) (hist : PageHist) (last : Stamp) → hist ≡ Once last → s ≡ bytes_of_stamp last → (m ++ 1 ∷ []) ++ s ≡ m ++ hist_bytes hist
-once_taken m s hist last is spelled = rw (is, spelled) (append_assoc m (1 ∷ []) (bytes_of_stamp last))
-
-pub twice_taken : (m s p : List ℕ) (hist : PageHist) (two : LatestTwo) → hist ≡ Twice two → s ≡ bytes_of_stamp two.last → p ≡ bytes_of_stamp two.prev → ((m ++ 2 ∷ []) ++ s) ++ p ≡ m ++ hist_bytes hist
-twice_taken m s p hist two is last prev =
-    rw (is, last, prev) (append_assoc (m ++ 2 ∷ []) (bytes_of_stamp two.last) (bytes_of_stamp two.prev) ∙ append_assoc m (2 ∷ []) (bytes_of_stamp two.last ++ bytes_of_stamp two.prev))
 
 -- ---- one entry more
 
@@ -60,5 +52,5 @@ taken_more old next before e inside takes taken b other low =
     (cases_eq here b)
 
 -- the digests are the sums
-pub all_done : (sums : List (List ℕ)) (taken : List Entry) → length sums ≡ 64 → ((b : ℕ) → b < 64 → slice_index_or sums b [] ≡ bucket_sum taken b) → sums ≡ sums_of taken
-all_done sums taken all each = fill_by_all (bucket_sum taken) sums 64 [] all each
+pub all_done : (sums : List (List ℕ)) (taken : List Entry) → length sums ≡ BUCKETS → ((b : ℕ) → b < BUCKETS → slice_index_or sums b [] ≡ bucket_sum taken b) → sums ≡ sums_of taken
+all_done sums taken all each = fill_by_all (bucket_sum taken) sums BUCKETS [] all each

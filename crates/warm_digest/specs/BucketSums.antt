@@ -1,10 +1,13 @@
 -- The sums by which replicas compare histories bucket by bucket.
-use Rattle.std.specs.Prelude.{ℕ, ◌==◌, List, map, filter}
+use Rattle.std.specs.Prelude.{◌≡◌, ◌≢◌, ◌↔◌, ◌<◌, ℕ, ◌==◌, List, map, filter}
+use Rattle.std.specs.Int.{bit_at}
 use Rattle.std.specs.List.{range_with_len}
 use Rattle.sha2.specs.Sha256.{sha256}
+use Rattle.warm_stamps.specs.declared.TheConstants.{BUCKETS}
 use Rattle.warm_stamps.specs.Buckets.{page_bucket}
 use Rattle.warm_history.specs.declared.hist.Entry.{Entry}
 use Rattle.warm_frames.specs.Entries.{entries_bytes}
+use Rattle.warm_frames.specs.Sums.{sum_at}
 
 -- the entries of a bucket, in the order in which they are given
 abbrev pub bucket_entries : ℕ → List Entry → List Entry
@@ -16,4 +19,8 @@ bucket_sum h bucket = sha256 (entries_bytes (bucket_entries bucket h))
 
 -- the sums of a history, that of bucket 0 first
 abbrev pub sums_of : List Entry → List (List ℕ)
-sums_of h = map (bucket_sum h) (range_with_len 0 64)
+sums_of h = map (bucket_sum h) (range_with_len 0 BUCKETS)
+
+-- a bit of the mask is set exactly where the sums of the bucket of its number differ
+abbrev pub MarksDiffering : ℕ → List (List ℕ) → List (List ℕ) → Type 0
+MarksDiffering mask left right = (bucket : ℕ) → bucket < BUCKETS → (bit_at mask bucket ≡ 1) ↔ (sum_at left bucket ≢ sum_at right bucket)

@@ -1,58 +1,36 @@
 //! Bucket sums: two replicas whose sums of a bucket are equal need not send each other its entries.
 //!
-//! The sum of a bucket is the SHA-256 digest (FIPS 180-4) of its entries as they stand in a gossip frame, one after the
-//! other in page order, without a count.
+//! The sum of a bucket is the SHA-256 digest (FIPS 180-4) of its entries as they stand in a gossip
+//! frame, one after the other in page order, without a count.
 #![tactic(auto)]
 
-ghost use Rattle.std.specs.Prelude.{◌≡◌, ◌≢◌, ◌↔◌, ◌<◌, ℕ, List, [], ◌∷◌, ◌++◌, length, IfOk};
-ghost use Rattle.std.specs.Int.{bit_at};
-ghost use Rattle.sha2.specs.Hashers.{Holds256};
+ghost use Rattle.std.specs.Prelude.{◌≡◌, List, [], length, IfOk};
+ghost use Rattle.warm_stamps.specs.declared.TheConstants.{BUCKETS};
 ghost use Rattle.warm_history.specs.declared.hist.Entry.{Entry};
 ghost use Rattle.warm_history.specs.Histories.{entries_of};
-ghost use Rattle.warm_frames.specs.Entries.{hist_bytes, entry_bytes};
-ghost use Rattle.warm_frames.specs.Sums.{sum_at};
-ghost use Rattle.warm_digest.specs.BucketSums.{sums_of};
-ghost use Rattle.warm_digest.specs.Hashing.{HaveTaken};
+ghost use Rattle.warm_frames.specs.Entries.{entry_bytes};
+ghost use Rattle.warm_digest.specs.BucketSums.{sums_of, MarksDiffering};
+ghost use Rattle.warm_digest.specs.Hashing.{TakesBytes, HaveTaken, TakeEntry};
 
 use sha2::{Digest, Sha256};
 use std::alloc::{AllocError, Global};
-use warm_frames::SumTable;
-use warm_history::{Entry, History, PageHist};
-use warm_stamps::{Bucket, bucket_of, page_bytes, stamp_bytes};
-
-const BUCKETS: usize = 64;
-
-fn take_hist(hasher: &mut Sha256, hist: PageHist)
-    ensures { (m : List ℕ) → Holds256 hasher.old m → Holds256 hasher.new (m ++ hist_bytes hist) }
-{
-    match hist {
-        PageHist::Once(last) => {
-            hasher.update([1]);
-            hasher.update(stamp_bytes(last));
-        }
-        PageHist::Twice(two) => {
-            let last = two.last();
-            let prev = two.prev();
-            hasher.update([2]);
-            hasher.update(stamp_bytes(last));
-            hasher.update(stamp_bytes(prev));
-        }
-    }
-}
+use warm_frames::{EntryBytes, SUM_SIZE, SumTable};
+use warm_history::{Entry, History};
+use warm_stamps::{BUCKETS, Bucket, bucket_of};
 
 // Feeds the bytes of an entry to a hasher.
 fn take_entry(hasher: &mut Sha256, entry: Entry)
-    ensures { (m : List ℕ) → Holds256 hasher.old m → Holds256 hasher.new (m ++ entry_bytes entry) }
+    ensures { TakesBytes hasher.old hasher.new (entry_bytes entry) }
 {
-    hasher.update(page_bytes(entry.page));
-    take_hist(hasher, entry.hist);
+    hasher.update(EntryBytes::of(&entry).as_slice());
 }
 
 // A hasher for each bucket, none of which has taken anything.
 fn new_hashers(alloc: Global) -> Result<Vec<Sha256>, AllocError>
-    ensures { IfOk result (λ hashers. (length hashers.items ≡ 64) × HaveTaken hashers.items []) }
+    ensures all { IfOk result (λ hashers. length hashers.items ≡ BUCKETS) }
+    ensures fresh { IfOk result (λ hashers. HaveTaken hashers.items []) }
 {
-    let mut hashers = Vec::with_capacity(alloc, BUCKETS)?;
+    let mut hashers = Vec::with_capacity(alloc, usize::from(BUCKETS))?;
     for _bucket in 0..BUCKETS {
         hashers.push_reserved(Sha256::new());
     }
@@ -61,20 +39,20 @@ fn new_hashers(alloc: Global) -> Result<Vec<Sha256>, AllocError>
 
 // Feeds an entry to the hasher of its bucket.
 fn take_into(hashers: &mut Vec<Sha256>, entry: Entry)
-    requires { length hashers.old.items ≡ 64 }
-    ensures all { length hashers.new.items ≡ 64 }
-    ensures taken { (before : List Entry) → HaveTaken hashers.old.items before → HaveTaken hashers.new.items (before ++ entry ∷ []) }
+    requires { length hashers.old.items ≡ BUCKETS }
+    ensures all { length hashers.new.items ≡ BUCKETS }
+    ensures taken { TakeEntry hashers.old.items hashers.new.items entry }
 {
     let bucket = usize::from(bucket_of(entry.page).get());
     take_entry(&mut hashers[bucket], entry);
 }
 
 // What the hashers have come to.
-fn digests(mut hashers: Vec<Sha256>) -> [[u8; 32]; 64]
-    requires { length hashers.items ≡ 64 }
+fn digests(mut hashers: Vec<Sha256>) -> [[u8; SUM_SIZE]; BUCKETS as usize]
+    requires { length hashers.items ≡ BUCKETS }
     ensures { (taken : List Entry) → HaveTaken hashers.items taken → result ≡ sums_of taken }
 {
-    let mut sums = [[0; 32]; BUCKETS];
+    let mut sums = [[0; SUM_SIZE]; BUCKETS as usize];
     while let Some(hasher) = hashers.pop() {
         sums[hashers.len()] = hasher.finalize();
     }
@@ -94,13 +72,13 @@ pub fn sums(alloc: Global, history: &History) -> Result<SumTable, AllocError>
     Ok(SumTable::of(digests(hashers)))
 }
 
-/// The buckets at which two tables differ, as a mask: bit b, of value 2^b, is set exactly where the sums of bucket b
-/// differ. Takes no memory.
+/// The buckets at which two tables differ, as a mask: bit b, of value 2^b, is set exactly where the
+/// sums of bucket b differ. Takes no memory.
 pub fn differing(left: &SumTable, right: &SumTable) -> u64
-    ensures { (bucket : ℕ) → bucket < 64 → (bit_at result bucket ≡ 1) ↔ (sum_at left.now bucket ≢ sum_at right.now bucket) }
+    ensures { MarksDiffering result left.now right.now }
 {
     let mut mask: u64 = 0;
-    for index in 0..64u8 {
+    for index in 0..BUCKETS {
         let Some(bucket) = Bucket::new(index) else {
             unreachable!()
         };

@@ -27,7 +27,8 @@ fn each_bucket_of_nothing_has_the_sum_of_no_bytes(rt: HostRuntime) -> Result<(),
     Ok(())
 }
 
-// SHA-256, by another program, of the 27 bytes 0000 00000007 02 0000000000000014 0001 000000000000000A 0001.
+// SHA-256, by another program, of the 27 bytes
+// 0000 00000007 02 0000000000000014 0001 000000000000000A 0001.
 const OF_0_7: [u8; 32] = [
     0x7f, 0x8e, 0xd8, 0x72, 0x2a, 0x14, 0x37, 0x39, 0x39, 0x83, 0x3a, 0xa0, 0xf5, 0x45, 0xd0, 0xad,
     0x2b, 0xb5, 0xda, 0xda, 0x04, 0xb5, 0x50, 0x84, 0x46, 0x47, 0x77, 0x1b, 0x69, 0x56, 0xf0, 0xb4,
@@ -80,8 +81,8 @@ fn differing_buckets_are_set_bits(rt: HostRuntime) -> Result<(), Fail> {
     Ok(())
 }
 
-// Run again with each growth refused in turn: `rt try --test --fail-alloc N -- a_refused_growth_of_sums`. What is not
-// refused has the right sums.
+// Run again with each growth refused in turn: `rt try --test --fail-alloc N -- a_refused_growth_of_sums`.
+// What is not refused has the right sums.
 #[test]
 fn a_refused_growth_of_sums(rt: HostRuntime) {
     let history = History::new(rt.alloc());

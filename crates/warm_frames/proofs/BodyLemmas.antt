@@ -7,6 +7,7 @@ use Rattle.std.proofs.lemmas.Bool.{eqb-true}
 use Rattle.std.proofs.lemmas.Bool.Decides.{nat_tests}
 use Rattle.std.proofs.lemmas.List.{append-nil, nil_from_length, take_at, drop_at, take-append-drop, length-append, length-take, length-drop}
 use Rattle.std.proofs.lemmas.List.Concat.{flat_map-cons}
+use Rattle.warm_stamps.specs.declared.TheConstants.{BUCKETS}
 use Rattle.warm_stamps.specs.declared.PageId.{PageId}
 use Rattle.warm_stamps.specs.Bytes.{bytes_of_page}
 use Rattle.warm_stamps.proofs.ByteLemmas.{IsBytes}
@@ -16,9 +17,11 @@ use Rattle.warm_history.specs.declared.hist.Entry.{Entry}
 use Rattle.warm_history.specs.Carried.{comes_after}
 use Rattle.warm_history.specs.Histories.{PagesRise}
 use Rattle.warm_history.proofs.MergeLemmas.{rises_on}
+use Rattle.warm_frames.specs.declared.entries.TheConstants.{MAX_ENTRIES}
 use Rattle.warm_frames.specs.declared.fault.FrameFault.TheVariants.{BadLength, BadCount}
-use Rattle.warm_frames.specs.Entries.{hist_bytes, entry_bytes, entries_bytes, IsEntry, IsEntryList}
-use Rattle.warm_frames.specs.Sums.{IsSumTable}
+use Rattle.warm_frames.specs.declared.sums.TheConstants.{SUM_SIZE}
+use Rattle.warm_frames.specs.Entries.{hist_bytes, entry_bytes, longest_entry, entries_bytes, IsEntry, IsEntryList}
+use Rattle.warm_frames.specs.Sums.{IsSumTable, table_size}
 use Rattle.warm_frames.specs.Reading.{◌>>=◌, number_at, want, entry_at, entries_at, count_at, all_entries, entries_of, sums_of}
 use Rattle.warm_frames.proofs.FieldLemmas.{bind_ok, want_ok, chosen_ok, ok_is, Takes, Takes-then, wide32, number_takes, number_again, entry_takes, entry_again, less_is, less_true}
 
@@ -75,15 +78,15 @@ entries_again (e ∷ es) before rest fits rise =
 
 pub record CountsEntries (body : List ℕ) (x : ℕ × List ℕ) : Type 0 where
   pub taken : Takes body (to_be_bytes w32 x.0) x.1
-  pub few : x.0 ≤ 1000
+  pub few : x.0 ≤ MAX_ENTRIES
 
 pub count_takes : (body : List ℕ) (x : ℕ × List ℕ) → IsBytes body → count_at body ≡ Ok x → CountsEntries body x
 unfolding count_at
 count_takes body x fits e =
-    let a = bind_ok (number_at w32 BadLength body) (λ count. want (leb count.0 1000) BadCount >>= λ few. Ok count) x e in
-    let g = want_ok (leb a.0.0 1000) BadCount (λ few. Ok a.0) x a.2 in
+    let a = bind_ok (number_at w32 BadLength body) (λ count. want (leb count.0 MAX_ENTRIES) BadCount >>= λ few. Ok count) x e in
+    let g = want_ok (leb a.0.0 MAX_ENTRIES) BadCount (λ few. Ok a.0) x a.2 in
     let t = number_takes w32 (2 ^ 32) BadLength wide32 body a.0 fits a.1 in
-    let few : a.0.0 ≤ 1000 = grind (arith, nat_tests, g.0) in
+    let few : a.0.0 ≤ MAX_ENTRIES = grind (arith, nat_tests, g.0) in
     subst (CountsEntries body) (ok_is a.0 x g.1) (record { taken = t.0; few = few })
 
 pub record AreEntries (count : ℕ) (bytes : List ℕ) (es : List Entry) : Type 0 where
@@ -132,7 +135,7 @@ entries_body body es fits e =
 pub body_again : (es : List Entry) → IsEntryList es → entries_of (to_be_bytes w32 (length es) ++ entries_bytes es) ≡ Ok es
 unfolding entries_of count_at all_entries
 body_again es listed =
-    let few : leb (length es) 1000 ≡ true = let h = listed.at_most in grind (arith, nat_tests) in
+    let few : leb (length es) MAX_ENTRIES ≡ true = let h = listed.at_most in grind (arith, nat_tests) in
     let count = number_again w32 (2 ^ 32) BadLength wide32 (length es) (entries_bytes es) (let h = listed.at_most in omega arith) in
     let rest : entries_at (length es) None (entries_bytes es) ≡ Ok (es, []) = ap (entries_at (length es) None) (sym (append-nil (entries_bytes es))) ∙ entries_again es None [] listed.each (rise_from es listed.pages_rise) in
     rw (count, few, rest) refl
@@ -143,7 +146,7 @@ short_hist : (h : PageHist) → length (hist_bytes h) ≤ 21
 short_hist (Once last) = omega arith
 short_hist (Twice two) = omega arith
 
-pub short_entries : (es : List Entry) → length (entries_bytes es) ≤ 27 * length es
+pub short_entries : (es : List Entry) → length (entries_bytes es) ≤ longest_entry * length es
 short_entries [] = omega arith
 short_entries (e ∷ es) =
     let whole : length (entries_bytes (e ∷ es)) ≡ length (entry_bytes e) + length (entries_bytes es) = ap length (flat_map-cons entry_bytes e es) ∙ length-append (entry_bytes e) (entries_bytes es) in
@@ -182,13 +185,13 @@ length-joined n (s ∷ sums) all =
     let whole : length (flat_map (λ x. x) (s ∷ sums)) ≡ length s + length (flat_map (λ x. x) sums) = ap length (flat_map-cons (λ x. x) s sums) ∙ length-append s (flat_map (λ x. x) sums) in
     omega (arith, e, later, all.0, whole)
 
--- sums of 32 bytes each, place by place
-pub sums_long : (sums : List (List ℕ)) → ((i : ℕ) → i < length sums → length (get_or sums i []) ≡ 32) → AllByRecursion (λ sum. length sum ≡ 32) sums
+-- sums of so many bytes each, place by place
+pub sums_long : (sums : List (List ℕ)) → ((i : ℕ) → i < length sums → length (get_or sums i []) ≡ SUM_SIZE) → AllByRecursion (λ sum. length sum ≡ SUM_SIZE) sums
 sums_long [] each = tt
 sums_long (s ∷ sums) each = (each 0 (omega arith), sums_long sums (λ i lt. each (suc i) (omega (arith, lt))))
 
-pub length-sums : (sums : List (List ℕ)) → IsSumTable sums → length (flat_map (λ x. x) sums) ≡ 2048
-length-sums sums table = omega (arith, length-joined 32 sums table.each, table.count)
+pub length-sums : (sums : List (List ℕ)) → IsSumTable sums → length (flat_map (λ x. x) sums) ≡ table_size
+length-sums sums table = omega (arith, length-joined SUM_SIZE sums table.each, table.count)
 
 pub record HoldsSums (body : List ℕ) (sums : List (List ℕ)) : Type 0 where
   pub text : body ≡ flat_map (λ x. x) sums
@@ -197,12 +200,12 @@ pub record HoldsSums (body : List ℕ) (sums : List (List ℕ)) : Type 0 where
 pub sums_body : (body : List ℕ) (sums : List (List ℕ)) → sums_of body ≡ Ok sums → HoldsSums body sums
 unfolding sums_of
 sums_body body sums e =
-    let g = chosen_ok (eqb (length body) 2048) BadLength (first_chunks 32 64 body) sums e in
-    let len : length body ≡ 2048 = eqb-true _ _ g.0 in
-    subst (HoldsSums body) g.1 (record { text = sym (joined_chunks 32 64 body len); table = record { count = length-chunks 32 64 body; each = chunks_long 32 64 body len } })
+    let g = chosen_ok (eqb (length body) table_size) BadLength (first_chunks SUM_SIZE BUCKETS body) sums e in
+    let len : length body ≡ table_size = eqb-true _ _ g.0 in
+    subst (HoldsSums body) g.1 (record { text = sym (joined_chunks SUM_SIZE BUCKETS body len); table = record { count = length-chunks SUM_SIZE BUCKETS body; each = chunks_long SUM_SIZE BUCKETS body len } })
 
 pub sums_again : (sums : List (List ℕ)) → IsSumTable sums → sums_of (flat_map (λ x. x) sums) ≡ Ok sums
 unfolding sums_of
 sums_again sums table =
-    let again : first_chunks 32 64 (flat_map (λ x. x) sums) ≡ sums = subst (λ (k : ℕ). first_chunks 32 k (flat_map (λ x. x) sums) ≡ sums) table.count (chunks_joined 32 sums table.each) in
+    let again : first_chunks SUM_SIZE BUCKETS (flat_map (λ x. x) sums) ≡ sums = subst (λ (k : ℕ). first_chunks SUM_SIZE k (flat_map (λ x. x) sums) ≡ sums) table.count (chunks_joined SUM_SIZE sums table.each) in
     rw (length-sums sums table, again) refl

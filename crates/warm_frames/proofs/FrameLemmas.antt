@@ -1,5 +1,5 @@
 -- Frames: what is read is spelled so, and what is spelled so is read.
-use Rattle.std.proofs.Common.{◌≡◌, ℕ, zero, suc, ◌+◌, ◌^◌, ◌<◌, ◌≤◌, true, eqb, leb, List, [], ◌∷◌, ◌++◌, length, Result, Ok, refl, sym, ap, subst, ◌∙◌, append_assoc, arith}
+use Rattle.std.proofs.Common.{◌≡◌, ℕ, zero, suc, ◌+◌, ◌*◌, ◌^◌, ◌<◌, ◌≤◌, true, eqb, leb, List, [], ◌∷◌, ◌++◌, length, Result, Ok, refl, sym, ap, subst, ◌∙◌, append_assoc, arith}
 use Rattle.std.specs.Int.{w16, w32, w64, to_be_bytes}
 use Rattle.std.specs.List.{flat_map}
 use Rattle.std.proofs.lemmas.Bool.{eqb-true}
@@ -7,13 +7,14 @@ use Rattle.std.proofs.lemmas.Bool.Decides.{nat_tests}
 use Rattle.std.proofs.lemmas.List.{append-nil, nil_from_length, length-append}
 use Rattle.warm_stamps.specs.Bytes.{IsReplica}
 use Rattle.warm_stamps.proofs.ByteLemmas.{IsBytes}
+use Rattle.warm_frames.specs.declared.entries.TheConstants.{MAX_ENTRIES}
 use Rattle.warm_frames.specs.declared.fault.FrameFault.{FrameFault}
 use Rattle.warm_frames.specs.declared.fault.FrameFault.TheVariants.{Truncated, BadMagic, BadSender, BadLength}
 use Rattle.warm_frames.specs.declared.frame.Frame.{Frame}
 use Rattle.warm_frames.specs.declared.frame.Frame.TheVariants as frames
 use Rattle.warm_frames.specs.declared.reading.Kind.{Kind}
 use Rattle.warm_frames.specs.declared.reading.Kind.TheVariants as kinds
-use Rattle.warm_frames.specs.Entries.{entries_bytes}
+use Rattle.warm_frames.specs.Entries.{longest_entry, entries_bytes}
 use Rattle.warm_frames.specs.Spelling.{IsFrame, magic, spelling, Spells}
 use Rattle.warm_frames.specs.Reading.{◌>>=◌, number_at, byte_at, want, is_replica, kind_of, may_have, start_at, body_at, entries_of, sums_of, frame_of, read_frame}
 use Rattle.warm_frames.proofs.FieldLemmas.{bind_ok, want_ok, ok_is, Takes, Takes-then, byte_takes, wide16, wide32, wide64, number_takes, number_again, replica_is, replica_true}
@@ -183,7 +184,7 @@ body_length (frames.Entries sender entries) fits =
     let whole : length (to_be_bytes w32 (length entries) ++ entries_bytes entries) ≡ 4 + length (entries_bytes entries) = length-append (to_be_bytes w32 (length entries)) (entries_bytes entries) in
     let short = short_entries entries in
     let least : 4 ≤ length (to_be_bytes w32 (length entries) ++ entries_bytes entries) = omega arith in
-    let most : length (to_be_bytes w32 (length entries) ++ entries_bytes entries) ≤ 27004 = omega arith in
+    let most : length (to_be_bytes w32 (length entries) ++ entries_bytes entries) ≤ 4 + longest_entry * MAX_ENTRIES = omega arith in
     record { few = omega arith; allowed = grind (arith, nat_tests, least, most) }
 body_length (frames.Digest sender sums) fits =
     let len = length-sums sums fits.1 in

@@ -12,7 +12,7 @@ use Rattle.warm_history.specs.declared.hist.PageHist.TheVariants.{Once, Twice}
 use Rattle.warm_history.specs.LatestTwo.{LatestTwo}
 use Rattle.warm_frames.specs.declared.frame.Frame.TheVariants as frames
 use Rattle.warm_frames.specs.Entries.{hist_bytes, entry_bytes, entries_bytes, IsEntryList}
-use Rattle.warm_frames.specs.Sums.{IsSumTable}
+use Rattle.warm_frames.specs.Sums.{IsSumTable, table_size}
 use Rattle.warm_frames.specs.Spelling.{header_bytes, Spells}
 use Rattle.warm_frames.proofs.BodyLemmas.{length-sums}
 
@@ -56,7 +56,7 @@ entries_spelled text sender len i es good listed e le is =
           ∙ ap (λ (n : ℕ). (header_bytes 1 sender n ++ to_be_bytes w32 (length es)) ++ entries_bytes es) whole;
     }
 
-pub digest_spelled : (text : List ℕ) (sender : ℕ) (sums : List (List ℕ)) → IsReplica sender → IsSumTable sums → text ≡ header_bytes 2 sender 2048 ++ flat_map (λ sum. sum) sums → Spells text (frames.Digest sender sums)
+pub digest_spelled : (text : List ℕ) (sender : ℕ) (sums : List (List ℕ)) → IsReplica sender → IsSumTable sums → text ≡ header_bytes 2 sender table_size ++ flat_map (λ sum. sum) sums → Spells text (frames.Digest sender sums)
 digest_spelled text sender sums good table is = record {
   fits = (good, table);
   text = is ∙ ap (λ (n : ℕ). header_bytes 2 sender n ++ flat_map (λ sum. sum) sums) (sym (length-sums sums table));

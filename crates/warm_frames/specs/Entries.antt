@@ -1,5 +1,5 @@
 -- Lists of entries, and entries as bytes.
-use Rattle.std.specs.Prelude.{◌≡◌, ℕ, ◌≤◌, List, ◌∷◌, ◌++◌, length}
+use Rattle.std.specs.Prelude.{◌≡◌, ℕ, ◌≤◌, ◌+◌, ◌*◌, List, ◌∷◌, ◌++◌, length}
 use Rattle.std.specs.List.{AllByRecursion, flat_map}
 use Rattle.std.specs.declared.cmp.Ordering.TheVariants.{Less}
 use Rattle.warm_stamps.specs.Bytes.{bytes_of_stamp, bytes_of_page, IsStamp, IsPage}
@@ -8,6 +8,7 @@ use Rattle.warm_history.specs.declared.hist.PageHist.{PageHist}
 use Rattle.warm_history.specs.declared.hist.PageHist.TheVariants.{Once, Twice}
 use Rattle.warm_history.specs.declared.hist.Entry.{Entry}
 use Rattle.warm_history.specs.Histories.{PagesRise}
+use Rattle.warm_frames.specs.declared.entries.TheConstants.{MAX_ENTRIES}
 
 -- the stamps of an entry are stamps, and of two the second is older
 abbrev pub IsHist : PageHist → Type 0
@@ -19,10 +20,14 @@ pub record IsEntry (e : Entry) : Type 0 where
   pub page : IsPage e.page
   pub hist : IsHist e.hist
 
--- at most 1000 entries, whose pages rise
+-- entries that one frame carries: their pages rise, and they are not too many
+abbrev pub FitsInFrame : List Entry → Type 0
+FitsInFrame es = PagesRise es × (length es ≤ MAX_ENTRIES)
+
+-- a list that fits in a frame, of entries that there are
 pub record IsEntryList (es : List Entry) : Type 0 where
   pub pages_rise : PagesRise es
-  pub at_most : length es ≤ 1000
+  pub at_most : length es ≤ MAX_ENTRIES
   pub each : AllByRecursion IsEntry es
 
 -- a tag, which is the number of stamps, and the stamps, the later one first
@@ -33,6 +38,10 @@ hist_bytes (Twice two) = 2 ∷ (bytes_of_stamp two.last ++ bytes_of_stamp two.pr
 -- the page, and what is kept of it
 abbrev pub entry_bytes : Entry → List ℕ
 entry_bytes e = bytes_of_page e.page ++ hist_bytes e.hist
+
+-- the most bytes that an entry has: a page, a tag and two stamps
+abbrev pub longest_entry : ℕ
+longest_entry = 6 + 1 + 2 * 10
 
 -- entries one after the other, without a count
 abbrev pub entries_bytes : List Entry → List ℕ

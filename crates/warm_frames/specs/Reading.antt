@@ -1,8 +1,9 @@
 -- Reading a frame from left to right, with the first fault that is met.
-use Rattle.std.specs.Prelude.{◌≡◌, ◌⊎◌, ℕ, zero, suc, ◌<◌, Bool, true, false, ◌&&◌, List, [], ◌∷◌, length, take, drop, Option, Some, None, Result, Ok, Err, nat_lt, nat_le, ◌==◌, if◌then◌else◌}
+use Rattle.std.specs.Prelude.{◌≡◌, ◌⊎◌, ℕ, zero, suc, ◌+◌, ◌*◌, ◌<◌, Bool, true, false, ◌&&◌, List, [], ◌∷◌, length, take, drop, Option, Some, None, Result, Ok, Err, nat_lt, nat_le, ◌==◌, if◌then◌else◌}
 use Rattle.std.specs.Int.{Width, w16, w32, w64, byte_len, from_be_bytes}
 use Rattle.std.specs.Ordering.{is_lt}
 use Rattle.std.specs.Simd.{first_chunks}
+use Rattle.warm_stamps.specs.declared.TheConstants.{BUCKETS, MAX_REPLICAS}
 use Rattle.warm_stamps.specs.declared.Stamp.{Stamp}
 use Rattle.warm_stamps.specs.declared.PageId.{PageId}
 use Rattle.warm_stamps.specs.Bytes.{stamp_of, page_of}
@@ -11,13 +12,17 @@ use Rattle.warm_history.specs.declared.hist.PageHist.{PageHist}
 use Rattle.warm_history.specs.declared.hist.PageHist.TheVariants.{Once, Twice}
 use Rattle.warm_history.specs.declared.hist.Entry.{Entry}
 use Rattle.warm_history.specs.Carried.{comes_after}
+use Rattle.warm_frames.specs.declared.entries.TheConstants.{MAX_ENTRIES}
 use Rattle.warm_frames.specs.declared.fault.FrameFault.{FrameFault}
 use Rattle.warm_frames.specs.declared.fault.FrameFault.TheVariants.{Memory, Truncated, BadMagic, BadKind, BadSender, BadLength, BadCount, BadTag, BadStamp, BadOrder}
 use Rattle.warm_frames.specs.declared.frame.Frame.{Frame}
 use Rattle.warm_frames.specs.declared.frame.Frame.TheVariants as frames
 use Rattle.warm_frames.specs.declared.reading.Kind.{Kind}
 use Rattle.warm_frames.specs.declared.reading.Kind.TheVariants as kinds
-use Rattle.warm_frames.specs.Spelling.{magic}
+use Rattle.warm_frames.specs.declared.sums.TheConstants.{SUM_SIZE}
+use Rattle.warm_frames.specs.Entries.{longest_entry}
+use Rattle.warm_frames.specs.Spelling.{magic, Spells}
+use Rattle.warm_frames.specs.Sums.{table_size}
 
 infixl 10 ◌>>=◌
 abbrev pub ◌>>=◌ : {A B : Type 0} → Result A FrameFault → (A → Result B FrameFault) → Result B FrameFault
@@ -48,7 +53,7 @@ want false fault = Err fault
 -- ---- the header
 
 abbrev pub is_replica : ℕ → Bool
-is_replica n = nat_lt 0 n && nat_le n 64
+is_replica n = nat_lt 0 n && nat_le n MAX_REPLICAS
 
 abbrev pub kind_of : ℕ → Result Kind FrameFault
 kind_of zero = Err BadKind
@@ -59,8 +64,8 @@ kind_of (suc (suc (suc (suc n)))) = Err BadKind
 
 -- the lengths that the body of a frame of this kind can have
 abbrev pub may_have : Kind → ℕ → Bool
-may_have kinds.Entries len = nat_le 4 len && nat_le len 27004
-may_have kinds.Digest len = len == 2048
+may_have kinds.Entries len = nat_le 4 len && nat_le len (4 + longest_entry * MAX_ENTRIES)
+may_have kinds.Digest len = len == table_size
 may_have kinds.Want len = len == 8
 
 -- the magic number, the kind and the sender, and what follows
@@ -128,17 +133,21 @@ entries_at (suc n) before bytes = do
   later ← entries_at n (Some first.0.page) first.1
   Ok (first.0 ∷ later.0, later.1)
 
+-- so many entries, the first of which comes after none
+abbrev pub entries_from : ℕ → List ℕ → Result (List Entry × List ℕ) FrameFault
+entries_from count bytes = entries_at count None bytes
+
 -- how many entries a body has, and what follows the count
 unfoldable pub count_at : List ℕ → Result (ℕ × List ℕ) FrameFault
 count_at body = do
   count ← number_at w32 BadLength body
-  few ← want (nat_le count.0 1000) BadCount
+  few ← want (nat_le count.0 MAX_ENTRIES) BadCount
   Ok count
 
 -- all of these bytes as so many entries
 unfoldable pub all_entries : ℕ → List ℕ → Result (List Entry) FrameFault
 all_entries count bytes = do
-  entries ← entries_at count None bytes
+  entries ← entries_from count bytes
   ended ← want (length entries.1 == 0) BadLength
   Ok entries.0
 
@@ -149,9 +158,9 @@ entries_of body = do
 
 -- ---- frames
 
--- a table of sums, in 2048 bytes
+-- a table of sums
 unfoldable pub sums_of : List ℕ → Result (List (List ℕ)) FrameFault
-sums_of body = if length body == 2048 then Ok (first_chunks 32 64 body) else Err BadLength
+sums_of body = if length body == table_size then Ok (first_chunks SUM_SIZE BUCKETS body) else Err BadLength
 
 unfoldable pub frame_of : Kind → ℕ → List ℕ → Result Frame FrameFault
 frame_of kinds.Entries sender body = do
@@ -196,3 +205,7 @@ TakesRoom room = (n : ℕ) × (0 < n) × (room ≡ Ok n)
 -- A function answered what reading gives, or, where it takes room, that there was no memory for it.
 abbrev pub Gives : {X : Type 0} → Result X FrameFault → Result X FrameFault → Result ℕ FrameFault → Type 0
 Gives result read room = (result ≡ read) ⊎ ((result ≡ Err Memory) × TakesRoom room)
+
+-- The frame that the bytes spell, if one does, was answered, unless there was no memory for it.
+abbrev pub FindsSpelled : List ℕ → Result Frame FrameFault → Type 0
+FindsSpelled bytes result = (frame : Frame) → Spells bytes frame → Gives result (Ok frame) (room_of bytes)

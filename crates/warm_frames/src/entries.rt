@@ -1,8 +1,7 @@
 //! Lists of entries, as frames carry them.
-ghost use Rattle.std.specs.Prelude.{◌≡◌, ◌≤◌, ◌↔◌, length, IfOk, IfErr, IsOk};
+ghost use Rattle.std.specs.Prelude.{◌≡◌, ◌↔◌, IfOk, IfErr, IsOk};
 ghost use Rattle.std.specs.List.{AllByRecursion};
-ghost use Rattle.warm_history.specs.Histories.{PagesRise};
-ghost use Rattle.warm_frames.specs.Entries.{IsHist, IsEntry, IsEntryList};
+ghost use Rattle.warm_frames.specs.Entries.{IsHist, IsEntry, FitsInFrame, IsEntryList};
 
 use std::marker::Model;
 use warm_history::{Entry, PageHist, pages_rise};
@@ -10,7 +9,7 @@ use warm_history::{Entry, PageHist, pages_rise};
 /// The most entries that a frame carries.
 pub const MAX_ENTRIES: usize = 1000;
 
-/// At most 1000 entries, whose pages rise. Contracts see the list of the entries.
+/// At most [`MAX_ENTRIES`] entries, whose pages rise. Contracts see the list of the entries.
 #[derive(Debug, Drop)]
 pub struct EntryList {
     entries: Vec<Entry>,
@@ -31,12 +30,12 @@ impl Model for EntryList {
 impl EntryList {
     /// The entries as a list that a frame may carry. Takes no memory.
     ///
-    /// They are handed back where their pages don't rise, each above the one before it, or where there
-    /// are more than 1000.
+    /// They are handed back where their pages don't rise, each above the one before it, or where
+    /// there are more than [`MAX_ENTRIES`].
     pub fn of(entries: Vec<Entry>) -> Result<EntryList, Vec<Entry>>
         ensures value { IfOk result (λ list. list ≡ entries.items) }
         ensures back { IfErr result (λ back. back ≡ entries) }
-        ensures taken { IsOk result ↔ (PagesRise entries.items × (length entries.items ≤ 1000)) }
+        ensures taken { IsOk result ↔ FitsInFrame entries.items }
     {
         if entries.len() > MAX_ENTRIES || !pages_rise(&entries) {
             return Err(entries);
@@ -89,6 +88,7 @@ fn is_hist(hist: PageHist)
     ensures { IsHist hist }
 {
     if let PageHist::Twice(two) = hist {
+        // Called for what it ensures: the second stamp is older.
         let _prev = two.prev();
     }
 }

@@ -13,16 +13,16 @@ pub enum FrameFault {
     BadMagic,
     /// 4: the kind is none of 1, 2 and 3.
     BadKind,
-    /// 5: the sender is outside 1 to 64.
+    /// 5: the sender's number is no replica's.
     BadSender,
-    /// 6: the kind can't have this length, bytes follow the body, or the body's entries end before it or
-    /// after it.
+    /// 6: the kind can't have this length, bytes follow the body, or the body's entries end before
+    /// it or after it.
     BadLength,
-    /// 7: the count of entries is above 1000.
+    /// 7: the count of entries is above [`crate::MAX_ENTRIES`].
     BadCount,
     /// 8: the tag of an entry is neither 1 nor 2.
     BadTag,
-    /// 9: a stamp's replica is outside 1 to 64, or the second of two stamps isn't older than the first.
+    /// 9: a stamp's number is no replica's, or the second of two stamps isn't older than the first.
     BadStamp,
     /// 10: the page of an entry isn't greater than that of the entry before.
     BadOrder,

@@ -1,7 +1,7 @@
 //! Frames, and their spelling.
-ghost use Rattle.std.specs.Prelude.{◌≡◌, Ok, IfOk};
-ghost use Rattle.warm_frames.specs.Spelling.{Spells};
-ghost use Rattle.warm_frames.specs.Reading.{Gives, read_frame, room_of};
+ghost use Rattle.std.specs.Prelude.{◌≡◌, IfOk};
+ghost use Rattle.warm_frames.specs.Spelling.{spelling, Spells};
+ghost use Rattle.warm_frames.specs.Reading.{Gives, FindsSpelled, read_frame, room_of};
 
 use crate::entries::EntryList;
 use crate::fault::FrameFault;
@@ -18,7 +18,7 @@ pub enum Frame {
     Entries {
         /// Who sends.
         sender: ReplicaId,
-        /// The entries, at most 1000.
+        /// The entries, at most [`crate::MAX_ENTRIES`].
         entries: EntryList,
     },
     /// The sums of all buckets of the sender's history.
@@ -42,7 +42,10 @@ pub type FrameList = Items<Frame>;
 
 /// The bytes that spell the frame. `AllocError` comes only where room for them was refused.
 pub fn encode(alloc: Global, frame: &Frame) -> Result<Vec<u8>, AllocError>
-    ensures { IfOk result (λ bytes. Spells bytes.items frame.now) }
+    // What is written spells the frame, so that it is decoded again.
+    ensures spells { IfOk result (λ bytes. Spells bytes.items frame.now) }
+    // It is this spelling, whatever others a reader may take.
+    ensures exact { IfOk result (λ bytes. bytes.items ≡ spelling frame.now) }
 {
     match frame {
         Frame::Entries { sender, entries } => entries_text(alloc, *sender, entries),
@@ -56,21 +59,22 @@ pub fn encode(alloc: Global, frame: &Frame) -> Result<Vec<u8>, AllocError>
 /// Refused by the first fault from left to right:
 /// - `Truncated`: fewer than 4 bytes, then `BadMagic`: others than `L2G1`;
 /// - `Truncated`: no byte for the kind, then `BadKind`: none of 1, 2 and 3;
-/// - `Truncated`: fewer than 2 bytes for the sender, then `BadSender`: outside 1 to 64;
-/// - `Truncated`: fewer than 4 bytes for the length, then `BadLength`: not 4 to 27,004 for entries, 2048
-///   for sums, 8 for a wish;
+/// - `Truncated`: fewer than 2 bytes for the sender, then `BadSender`: no number of a replica;
+/// - `Truncated`: fewer than 4 bytes for the length, then `BadLength`: not one of the kind. Entries
+///   have 4 to 27,004 bytes (a count, and 27 for each of the most), sums 2048 and a wish 8;
 /// - `Truncated`: fewer bytes follow than the length says, then `BadLength`: more;
-/// - `BadCount`: more than 1000 entries;
-/// - `Memory`: room for the entries was refused. It is taken here, once, and only where there are any;
-/// - for each entry `BadLength`: fewer than 6 bytes for the page, `BadOrder`: a page not above the one
-///   before, `BadLength`: no byte for the tag, `BadTag`: neither 1 nor 2, `BadLength`: fewer than 10 or
-///   20 bytes for the stamps, `BadStamp`: a replica outside 1 to 64, or a second stamp not older;
+/// - `BadCount`: more entries than [`crate::MAX_ENTRIES`];
+/// - `Memory`: room for the entries was refused. It is taken here, once, only where there are any;
+/// - for each entry `BadLength`: fewer than 6 bytes for the page, `BadOrder`: a page not above the
+///   one before, `BadLength`: no byte for the tag, `BadTag`: neither 1 nor 2, `BadLength`: fewer
+///   than 10 or 20 bytes for the stamps, `BadStamp`: no number of a replica, or a second stamp that
+///   isn't older;
 /// - `BadLength`: bytes after the last entry.
 pub fn decode(alloc: Global, bytes: &[u8]) -> Result<Frame, FrameFault>
     // What is decoded is spelled so.
     ensures found { IfOk result (λ frame. Spells bytes.now frame) }
     // What is spelled so is decoded, unless there is no memory.
-    ensures only { (frame : Frame) → Spells bytes.now frame → Gives result (Ok frame) (room_of bytes.now) }
+    ensures only { FindsSpelled bytes.now result }
     // Which fault it is.
     ensures first { Gives result (read_frame bytes.now) (room_of bytes.now) }
 {

@@ -1,13 +1,15 @@
-//! Reading frames, field by field. Each reader gives what the function of `specs/Reading.antt` gives.
-ghost use Rattle.std.specs.Prelude.{◌≡◌, ◌≤◌, [], None, length, vec_capacity};
+//! Reading frames, field by field. Each reader gives what the function of this name in
+//! `specs/Reading.antt` gives.
+ghost use Rattle.std.specs.Prelude.{◌≡◌, ◌≤◌, [], vec_capacity};
 ghost use Rattle.std.specs.Int.{w16, w32, w64};
 ghost use Rattle.warm_history.specs.Carried.{comes_after};
-ghost use Rattle.warm_frames.specs.Reading.{Reads, number_at, byte_at, kind_of, may_have, start_at, body_at, front_at, stamp_in, two_in, hist_at, entry_at, entries_at, count_at, all_entries, entries_of, sums_of, read_frame, room_of, entries_room, Gives};
+ghost use Rattle.warm_frames.specs.Reading.{Reads, number_at, byte_at, kind_of, may_have, start_at, body_at, front_at, stamp_in, two_in, hist_at, entry_at, entries_from, count_at, all_entries, entries_of, sums_of, read_frame, room_of, entries_room, Gives};
 
-use crate::entries::EntryList;
+use crate::entries::{EntryList, MAX_ENTRIES};
+use crate::entry_bytes::MAX_ENTRY_SIZE;
 use crate::fault::FrameFault;
 use crate::frame::Frame;
-use crate::sums::SumTable;
+use crate::sums::{SUM_SIZE, SUMS, SumTable, TABLE_SIZE};
 use std::alloc::Global;
 use warm_history::{Entry, PageHist, Two};
 use warm_stamps::{PageId, ReplicaId, Stamp, page_from, stamp_from};
@@ -82,8 +84,8 @@ fn may_have(kind: Kind, len: usize) -> bool
     ensures { result ≡ may_have kind len }
 {
     match kind {
-        Kind::Entries => 4 <= len && len <= 27_004,
-        Kind::Digest => len == 2048,
+        Kind::Entries => 4 <= len && len <= 4 + MAX_ENTRY_SIZE * MAX_ENTRIES,
+        Kind::Digest => len == TABLE_SIZE,
         Kind::Want => len == 8,
     }
 }
@@ -202,7 +204,7 @@ fn entries_at<'a>(
 ) -> Result<&'a [u8], FrameFault>
     requires empty { entries.old.items ≡ [] }
     requires room { count ≤ vec_capacity entries.old }
-    ensures { Reads (λ rest. (entries.new.items, rest.now)) result (entries_at count None bytes.now) }
+    ensures { Reads (λ rest. (entries.new.items, rest.now)) result (entries_from count bytes.now) }
 {
     let mut before = None;
     let mut rest = bytes;
@@ -224,7 +226,7 @@ fn count_at(body: &[u8]) -> Result<(u32, &[u8]), FrameFault>
     ensures { Reads (λ x. (x.0, x.1.now)) result (count_at body.now) }
 {
     let (count, rest) = u32_at(body, FrameFault::BadLength)?;
-    if count > 1000 {
+    if count as usize > MAX_ENTRIES {
         return Err(FrameFault::BadCount);
     }
     Ok((count, rest))
@@ -261,8 +263,8 @@ fn entries_of(alloc: Global, body: &[u8]) -> Result<EntryList, FrameFault>
 fn sums_of(body: &[u8]) -> Result<SumTable, FrameFault>
     ensures { result ≡ sums_of body.now }
 {
-    let (sums, rest) = body.as_chunks::<32>();
-    match sums.as_array::<64>() {
+    let (sums, rest) = body.as_chunks::<SUM_SIZE>();
+    match sums.as_array::<SUMS>() {
         Some(sums) if rest.is_empty() => Ok(SumTable::of(*sums)),
         _ => Err(FrameFault::BadLength),
     }

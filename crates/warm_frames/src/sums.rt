@@ -1,16 +1,25 @@
-//! The 64 sums by which two replicas find the buckets that differ.
+//! The sums by which two replicas find the buckets that differ.
 ghost use Rattle.std.specs.Prelude.{◌≡◌, length};
 ghost use Rattle.std.specs.List.{AllByRecursion, flat_map};
+ghost use Rattle.warm_frames.specs.declared.sums.TheConstants.{SUM_SIZE};
 ghost use Rattle.warm_frames.specs.Sums.{IsSumTable, sum_at};
 
 use std::marker::Model;
-use warm_stamps::Bucket;
+use warm_stamps::{BUCKETS, Bucket};
 
-/// A sum of 32 bytes for each of the 64 buckets. Contracts see the list of the sums, that of bucket 0
-/// first, each as the list of its bytes. Takes no memory.
+/// How many bytes a sum has.
+pub const SUM_SIZE: usize = 32;
+
+// How many sums a table has, and how many bytes.
+pub(crate) const SUMS: usize = BUCKETS as usize;
+
+pub(crate) const TABLE_SIZE: usize = SUM_SIZE * SUMS;
+
+/// A sum for each bucket. Contracts see the list of the sums, that of bucket 0 first, each as the list
+/// of its bytes. Takes no memory.
 #[derive(Debug, Clone, Copy, PartialEq, Eq)]
 pub struct SumTable {
-    sums: [[u8; 32]; 64],
+    sums: [[u8; SUM_SIZE]; SUMS],
 }
 
 impl Model for SumTable {
@@ -28,7 +37,7 @@ impl Model for SumTable {
 
 impl SumTable {
     /// The table of these sums, that of bucket 0 first.
-    pub fn of(sums: [[u8; 32]; 64]) -> SumTable
+    pub fn of(sums: [[u8; SUM_SIZE]; SUMS]) -> SumTable
         ensures { result ≡ sums }
     {
         are_sums(&sums);
@@ -36,7 +45,7 @@ impl SumTable {
     }
 
     /// The sum of the bucket.
-    pub fn sum(&self, bucket: Bucket) -> [u8; 32]
+    pub fn sum(&self, bucket: Bucket) -> [u8; SUM_SIZE]
         ensures { result ≡ sum_at self.now bucket }
     {
         self.sums[usize::from(bucket.get())]
@@ -52,6 +61,6 @@ impl SumTable {
 }
 
 // What the type of sums says of them. Nothing is done.
-fn are_sums(sums: &[[u8; 32]])
-    ensures { AllByRecursion (λ sum. length sum ≡ 32) sums.now }
+fn are_sums(sums: &[[u8; SUM_SIZE]])
+    ensures { AllByRecursion (λ sum. length sum ≡ SUM_SIZE) sums.now }
 {}

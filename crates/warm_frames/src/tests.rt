@@ -1,14 +1,16 @@
-//! Frames and their bytes, written out by hand from the format, and calls that memory is refused to.
+//! Frames and their bytes, written out by hand from the format, and calls that memory is refused
+//! to.
 //!
-//! With `rt try --test --fail-alloc N`, for N from 1 on, each growth is refused in turn: the call is then
-//! made a second time.
+//! With `rt try --test --fail-alloc N`, for N from 1 on, each growth is refused in turn: the call is
+//! then made a second time.
 use crate::entries::EntryList;
+use crate::entry_bytes::EntryBytes;
 use crate::fault::FrameFault;
 use crate::frame::{Frame, decode, encode};
 use crate::sums::SumTable;
 use std::alloc::{AllocError, Global};
 use std::test::Fail;
-use warm_history::{Entry, PageHist};
+use warm_history::{Entry, PageHist, Two};
 use warm_stamps::{Bucket, PageId, ReplicaId, Stamp};
 
 // Sender 1 says that 0:7 has 20@1 and 10@1.
@@ -211,15 +213,55 @@ fn a_list_has_at_most_1000_entries(rt: HostRuntime) -> Result<(), Fail> {
     let back = EntryList::of(rising(rt.alloc(), 1001)?).err();
     assert_eq!(rt; back.map(|entries| entries.len()), Some(1001));
 
-    let Ok(entries) = EntryList::of(rising(rt.alloc(), 1000)?) else {
-        return Err("refused".into());
-    };
+    let entries = EntryList::of(rising(rt.alloc(), 1000)?).map_err(|_| "refused")?;
     assert_eq!(rt; entries.as_slice().len(), 1000);
+    Ok(())
+}
+
+#[test]
+fn a_frame_of_1000_entries_both_ways(rt: HostRuntime) -> Result<(), Fail> {
+    let entries = EntryList::of(rising(rt.alloc(), 1000)?).map_err(|_| "refused")?;
     let sender = ReplicaId::new(1)?;
     let bytes = encoded(rt.alloc(), &Frame::Entries { sender, entries })?;
-    assert_eq!(rt; bytes.len(), 17_015);
-    let frame = decoded(rt.alloc(), &bytes)?;
-    assert_eq!(rt; encoded(rt.alloc(), &frame)?.as_slice(), bytes.as_slice());
+    assert_eq!(rt; bytes.len(), 11 + 4 + 1000 * 17);
+
+    // The header says 17,004 bytes and then 1000 entries, of which the last is that of 0:999.
+    let header = [
+        0x4C, 0x32, 0x47, 0x31, 1, 0, 1, 0, 0, 0x42, 0x6C, 0, 0, 3, 0xE8,
+    ];
+    assert!(rt; bytes.as_slice().starts_with(&header));
+    let last = [0, 0, 0, 0, 3, 0xE7, 1, 0, 0, 0, 0, 0, 0, 0, 20, 0, 1];
+    assert!(rt; bytes.as_slice().ends_with(&last));
+
+    let Frame::Entries {
+        sender: from,
+        entries,
+    } = decoded(rt.alloc(), &bytes)?
+    else {
+        return Err("another kind".into());
+    };
+    assert_eq!(rt; from, sender);
+    assert_eq!(rt; entries.as_slice(), rising(rt.alloc(), 1000)?.as_slice());
+    Ok(())
+}
+
+#[test]
+fn an_entry_has_17_or_27_bytes(rt: HostRuntime) -> Result<(), Fail> {
+    let page = PageId { dev: 258, no: 3 };
+    let (last, prev) = (stamp(20, 1)?, stamp(10, 2)?);
+    let hist = PageHist::Once(last);
+    assert_eq!(rt;
+        EntryBytes::of(&Entry { page, hist }).as_slice(),
+        [1, 2, 0, 0, 0, 3, 1, 0, 0, 0, 0, 0, 0, 0, 20, 0, 1].as_slice()
+    );
+    let hist = PageHist::Twice(Two::new(last, prev));
+    assert_eq!(rt;
+        EntryBytes::of(&Entry { page, hist }).as_slice(),
+        [
+            1, 2, 0, 0, 0, 3, 2, 0, 0, 0, 0, 0, 0, 0, 20, 0, 1, 0, 0, 0, 0, 0, 0, 0, 10, 0, 2
+        ]
+        .as_slice()
+    );
     Ok(())
 }
 

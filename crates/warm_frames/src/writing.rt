@@ -1,16 +1,18 @@
 //! Writing frames. The room for all bytes is taken first.
-ghost use Rattle.std.specs.Prelude.{◌≡◌, ◌≤◌, ◌++◌, length, IfOk, OnOk};
+ghost use Rattle.std.specs.Prelude.{◌≡◌, ◌≤◌, ◌*◌, ◌++◌, length, IfOk, OnOk};
 ghost use Rattle.warm_stamps.specs.Bytes.{IsReplica};
+ghost use Rattle.warm_frames.specs.declared.entries.TheConstants.{MAX_ENTRIES};
 ghost use Rattle.warm_frames.specs.declared.frame.Frame.TheVariants as frames;
-ghost use Rattle.warm_frames.specs.Entries.{hist_bytes, entry_bytes, entries_bytes};
+ghost use Rattle.warm_frames.specs.Entries.{longest_entry, hist_bytes, entry_bytes, entries_bytes};
 ghost use Rattle.warm_frames.specs.Spelling.{header_bytes, Spells};
 
 use crate::entries::EntryList;
+use crate::entry_bytes::EntryBytes;
 use crate::reading::MAGIC;
-use crate::sums::SumTable;
+use crate::sums::{SumTable, TABLE_SIZE};
 use std::alloc::{AllocError, Global};
 use warm_history::{Entry, PageHist};
-use warm_stamps::{ReplicaId, page_bytes, stamp_bytes};
+use warm_stamps::ReplicaId;
 
 // The header of a frame, with room for a body of this length.
 fn header(alloc: Global, kind: u8, sender: ReplicaId, len: u32) -> Result<Vec<u8>, AllocError>
@@ -25,30 +27,11 @@ fn header(alloc: Global, kind: u8, sender: ReplicaId, len: u32) -> Result<Vec<u8
     Ok(text)
 }
 
-fn put_hist(text: &mut Vec<u8>, hist: PageHist) -> Result<(), AllocError>
-    ensures { OnOk result (text.new.items ≡ text.old.items ++ hist_bytes hist) }
-{
-    match hist {
-        PageHist::Once(last) => {
-            text.push(1)?;
-            text.extend_from_slice(&stamp_bytes(last))?;
-        }
-        PageHist::Twice(two) => {
-            let last = two.last();
-            let prev = two.prev();
-            text.push(2)?;
-            text.extend_from_slice(&stamp_bytes(last))?;
-            text.extend_from_slice(&stamp_bytes(prev))?;
-        }
-    }
-    Ok(())
-}
-
 fn put_entry(text: &mut Vec<u8>, entry: &Entry) -> Result<(), AllocError>
     ensures { OnOk result (text.new.items ≡ text.old.items ++ entry_bytes entry.now) }
 {
-    text.extend_from_slice(&page_bytes(entry.page))?;
-    put_hist(text, entry.hist)
+    text.extend_from_slice(EntryBytes::of(entry).as_slice())?;
+    Ok(())
 }
 
 fn hist_len(hist: PageHist) -> u32
@@ -63,9 +46,9 @@ fn hist_len(hist: PageHist) -> u32
 
 // How many bytes the entries take.
 fn entries_len(entries: &[Entry]) -> u32
-    requires { length entries.now ≤ 1000 }
+    requires { length entries.now ≤ MAX_ENTRIES }
     ensures value { result ≡ length (entries_bytes entries.now) }
-    ensures most { result ≤ 27000 }
+    ensures most { result ≤ longest_entry * MAX_ENTRIES }
 {
     let mut len = 0;
     for entry in entries {
@@ -97,7 +80,7 @@ pub(crate) fn digest_text(
 ) -> Result<Vec<u8>, AllocError>
     ensures { IfOk result (λ text. Spells text.items (frames.Digest sender sums.now)) }
 {
-    let mut text = header(alloc, 2, sender, 2048)?;
+    let mut text = header(alloc, 2, sender, TABLE_SIZE as u32)?;
     text.extend_from_slice(sums.as_bytes())?;
     Ok(text)
 }

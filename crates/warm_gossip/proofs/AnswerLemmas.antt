@@ -10,18 +10,20 @@ use Rattle.std.proofs.lemmas.Bool.{eq-eqb, ne_eqb, true≢false}
 use Rattle.std.proofs.lemmas.List.{length-drop, length-map, get_or-map, take_min, drop_min}
 use Rattle.std.proofs.lemmas.List.Elements.{All-push}
 use Rattle.std.proofs.lemmas.List.FromFn.{fill_by_all}
+use Rattle.warm_stamps.specs.declared.TheConstants.{BUCKETS}
 use Rattle.warm_stamps.specs.Buckets.{page_bucket}
 use Rattle.warm_stamps.specs.Distinct.{IsRising}
 use Rattle.warm_stamps.specs.Stamps.{page_cmp}
 use Rattle.warm_stamps.proofs.DistinctLemmas.{rising_filter, rising_take}
 use Rattle.warm_history.specs.declared.hist.Entry.{Entry}
 use Rattle.warm_history.specs.Histories.{HistoryView, entries_of, PagesRise, IsHistory}
+use Rattle.warm_frames.specs.declared.entries.TheConstants.{MAX_ENTRIES}
 use Rattle.warm_frames.specs.declared.frame.Frame.{Frame}
-use Rattle.warm_frames.specs.declared.frame.Frame.TheVariants.{Entries, Digest, Want}
+use Rattle.warm_frames.specs.declared.frame.Frame.TheVariants.{Entries, Want}
 use Rattle.warm_frames.specs.Sums.{sum_at}
 use Rattle.warm_digest.specs.BucketSums.{bucket_entries, sums_of}
-use Rattle.warm_gossip.specs.Answers.{pieces_of, pieces, bucket_frames, buckets_in, frames_in, IsDiffering, IsAnswer}
-use Rattle.warm_gossip.specs.Gathering.{wanted, HaveGathered, in_frames}
+use Rattle.warm_gossip.specs.Answers.{pieces_of, pieces, entry_frames, bucket_frames, buckets_in, wanted_frames, IsDiffering, AnswersSums}
+use Rattle.warm_gossip.specs.Gathering.{wanted, HaveGathered, list_frames}
 
 -- ---- pieces
 
@@ -44,14 +46,14 @@ pieces-cons size (x ∷ xs) pos some =
     ap (λ t. take size (x ∷ xs) ∷ t) (same_pieces size (length xs) (length (drop size (x ∷ xs))) (drop size (x ∷ xs)) pos (omega arith) (omega arith))
 
 -- a frame of the first entries, and then those of the others
-pub frame_more : (id : ℕ) (frames : List Frame) (rest part later : List Entry) (frame : Frame) → 0 < length rest → part ≡ take (min 1000 (length rest)) rest → later ≡ drop (min 1000 (length rest)) rest → frame ≡ Entries id part → (frames ++ frame ∷ []) ++ in_frames id later ≡ frames ++ in_frames id rest
+pub frame_more : (id : ℕ) (frames : List Frame) (rest part later : List Entry) (frame : Frame) → 0 < length rest → part ≡ take (min MAX_ENTRIES (length rest)) rest → later ≡ drop (min MAX_ENTRIES (length rest)) rest → frame ≡ Entries id part → (frames ++ frame ∷ []) ++ entry_frames id later ≡ frames ++ entry_frames id rest
 frame_more id frames rest part later frame some front back is =
-    let first : frame ≡ Entries id (take 1000 rest) = is ∙ ap (Entries id) (front ∙ take_min 1000 rest) in
-    let others : in_frames id later ≡ in_frames id (drop 1000 rest) = ap (in_frames id) (back ∙ drop_min 1000 rest) in
-    append_assoc frames (frame ∷ []) (in_frames id later)
-    ∙ ap (λ (f : Frame). frames ++ f ∷ in_frames id later) first
-    ∙ ap (λ (fs : List Frame). frames ++ Entries id (take 1000 rest) ∷ fs) others
-    ∙ ap (λ (parts : List (List Entry)). frames ++ map (λ part. Entries id part) parts) (sym (pieces-cons 1000 rest (omega arith) some))
+    let first : frame ≡ Entries id (take MAX_ENTRIES rest) = is ∙ ap (Entries id) (front ∙ take_min MAX_ENTRIES rest) in
+    let others : entry_frames id later ≡ entry_frames id (drop MAX_ENTRIES rest) = ap (entry_frames id) (back ∙ drop_min MAX_ENTRIES rest) in
+    append_assoc frames (frame ∷ []) (entry_frames id later)
+    ∙ ap (λ (f : Frame). frames ++ f ∷ entry_frames id later) first
+    ∙ ap (λ (fs : List Frame). frames ++ Entries id (take MAX_ENTRIES rest) ∷ fs) others
+    ∙ ap (λ (parts : List (List Entry)). frames ++ map (λ part. Entries id part) parts) (sym (pieces-cons MAX_ENTRIES rest (omega arith) some))
 
 -- there is more where a list is not empty
 pub some_left : (n : ℕ) (empty : Bool) → empty ≡ (n == 0) → empty ≡ false → 0 < n
@@ -91,7 +93,7 @@ flat_map-map f g [] = refl
 flat_map-map f g (x ∷ xs) = ap (λ t. f (g x) ++ t) (flat_map-map f g xs)
 
 -- a bucket whose bit is clear gives no frame
-set_alone : (id mask : ℕ) (h : HistoryView) (ks : List ℕ) → flat_map (λ k. in_frames id (wanted mask (entries_of h) k)) ks ≡ flat_map (bucket_frames id h) (filter (λ k. bit_at mask k == 1) ks)
+set_alone : (id mask : ℕ) (h : HistoryView) (ks : List ℕ) → flat_map (λ k. entry_frames id (wanted mask (entries_of h) k)) ks ≡ flat_map (bucket_frames id h) (filter (λ k. bit_at mask k == 1) ks)
 set_alone id mask h [] = refl
 set_alone id mask h (k ∷ ks) = cases (bit_at mask k == 1) (set_alone id mask h ks)
   where
@@ -99,14 +101,14 @@ set_alone id mask h (k ∷ ks) = cases (bit_at mask k == 1) (set_alone id mask h
     chosen = filter (λ k. bit_at mask k == 1) ks
 
     others : List Frame
-    others = flat_map (λ k. in_frames id (wanted mask (entries_of h) k)) ks
+    others = flat_map (λ k. entry_frames id (wanted mask (entries_of h) k)) ks
 
-    cases : (t : Bool) → others ≡ flat_map (bucket_frames id h) chosen → in_frames id (cond t (bucket_entries k (entries_of h)) []) ++ others ≡ flat_map (bucket_frames id h) (cond t (k ∷ chosen) chosen)
+    cases : (t : Bool) → others ≡ flat_map (bucket_frames id h) chosen → entry_frames id (cond t (bucket_entries k (entries_of h)) []) ++ others ≡ flat_map (bucket_frames id h) (cond t (k ∷ chosen) chosen)
     cases true later = ap (λ fs. bucket_frames id h k ++ fs) later
     cases false later = later
 
 frames_below : (id mask n : ℕ) (lists : List (Vec Entry)) (h : HistoryView) → length lists ≡ n → ((k : ℕ) (other : Vec Entry) → k < n → (slice_index_or lists k other).items ≡ wanted mask (entries_of h) k)
-    → flat_map (λ list. in_frames id list.items) lists ≡ flat_map (bucket_frames id h) (filter (λ k. bit_at mask k == 1) (range_with_len 0 n))
+    → flat_map (λ list. entry_frames id list.items) lists ≡ flat_map (bucket_frames id h) (filter (λ k. bit_at mask k == 1) (range_with_len 0 n))
 frames_below id mask zero [] h count each = refl
 frames_below id mask (suc n) [] h count each = absurd (omega (arith, count))
 frames_below id mask n (v ∷ vs) h count each =
@@ -114,17 +116,17 @@ frames_below id mask n (v ∷ vs) h count each =
     let lists : List (Vec Entry) = v ∷ vs in
     let all : map items lists ≡ map (wanted mask (entries_of h)) (range_with_len 0 n) =
     fill_by_all (wanted mask (entries_of h)) (map items lists) n [] (length-map lists items ∙ count) (λ k low. get_or-map items lists k v [] (omega (arith, count)) ∙ each k v low) in
-    sym (flat_map-map (in_frames id) items lists)
-    ∙ ap (flat_map (in_frames id)) all
-    ∙ flat_map-map (in_frames id) (wanted mask (entries_of h)) (range_with_len 0 n)
+    sym (flat_map-map (entry_frames id) items lists)
+    ∙ ap (flat_map (entry_frames id)) all
+    ∙ flat_map-map (entry_frames id) (wanted mask (entries_of h)) (range_with_len 0 n)
     ∙ set_alone id mask h (range_with_len 0 n)
 
-pub all_frames : (id mask : ℕ) (lists : List (Vec Entry)) (h : HistoryView) → HaveGathered mask lists (entries_of h) → flat_map (λ list. in_frames id list.items) lists ≡ frames_in id h mask
+pub all_frames : (id mask : ℕ) (lists : List (Vec Entry)) (h : HistoryView) → HaveGathered mask lists (entries_of h) → list_frames id lists ≡ wanted_frames id h mask
 unfolding buckets_in
-all_frames id mask lists h have = frames_below id mask 64 lists h have.count have.each
+all_frames id mask lists h have = frames_below id mask BUCKETS lists h have.count have.each
 
 pub all_framed : {E : Type 0} (id mask : ℕ) (lists : List (Vec Entry)) (h : HistoryView) (result : Result (Vec Frame) E) → HaveGathered mask lists (entries_of h)
-    → IfOk result (λ frames. frames.items ≡ flat_map (λ list. in_frames id list.items) lists) → IfOk result (λ frames. frames.items ≡ frames_in id h mask)
+    → IfOk result (λ frames. frames.items ≡ list_frames id lists) → IfOk result (λ frames. frames.items ≡ wanted_frames id h mask)
 all_framed id mask lists h (Ok frames) have is = is ∙ all_frames id mask lists h have
 all_framed id mask lists h (Err e) have is = tt
 
@@ -136,15 +138,15 @@ zero_chosen mask x y none = sym (ap (λ (t : Bool). if t then x else y) (eq-eqb 
 other_chosen : {A : Type 0} (mask : ℕ) (x y : A) → (mask ≡ 0 → ⊥) → y ≡ if mask == 0 then x else y
 other_chosen mask x y some = sym (ap (λ (t : Bool). if t then x else y) (ne_eqb mask 0 some))
 
-differing_from : (theirs own : List (List ℕ)) (h : HistoryView) (mask : ℕ) → own ≡ sums_of (entries_of h) → ((bucket : ℕ) → bucket < 64 → (bit_at mask bucket ≡ 1) ↔ (sum_at theirs bucket ≢ sum_at own bucket)) → IsDiffering theirs h mask
+differing_from : (theirs own : List (List ℕ)) (h : HistoryView) (mask : ℕ) → own ≡ sums_of (entries_of h) → ((bucket : ℕ) → bucket < BUCKETS → (bit_at mask bucket ≡ 1) ↔ (sum_at theirs bucket ≢ sum_at own bucket)) → IsDiffering theirs h mask
 differing_from theirs own h mask is differ = λ bucket low. subst (λ (sums : List (List ℕ)). (bit_at mask bucket ≡ 1) ↔ (sum_at theirs bucket ≢ sum_at sums bucket)) is (differ bucket low)
 
-pub nothing_differs : (id sender : ℕ) (theirs own : List (List ℕ)) (h : HistoryView) (frames : List Frame) (mask : ℕ) → mask < 18446744073709551616 → own ≡ sums_of (entries_of h)
-    → ((bucket : ℕ) → bucket < 64 → (bit_at mask bucket ≡ 1) ↔ (sum_at theirs bucket ≢ sum_at own bucket)) → mask ≡ 0 → frames ≡ [] → IsAnswer id h (Digest sender theirs) frames
-nothing_differs id sender theirs own h frames mask fits is differ none all =
-    (mask, fits, differing_from theirs own h mask is differ, all ∙ zero_chosen mask [] (frames_in id h mask ++ Want id mask ∷ []) none)
+pub nothing_differs : (id : ℕ) (theirs own : List (List ℕ)) (h : HistoryView) (frames : List Frame) (mask : ℕ) → mask < 18446744073709551616 → own ≡ sums_of (entries_of h)
+    → ((bucket : ℕ) → bucket < BUCKETS → (bit_at mask bucket ≡ 1) ↔ (sum_at theirs bucket ≢ sum_at own bucket)) → mask ≡ 0 → frames ≡ [] → AnswersSums id h theirs frames
+nothing_differs id theirs own h frames mask fits is differ none all =
+    (mask, fits, differing_from theirs own h mask is differ, all ∙ zero_chosen mask [] (wanted_frames id h mask ++ Want id mask ∷ []) none)
 
-pub some_differ : (id sender : ℕ) (theirs own : List (List ℕ)) (h : HistoryView) (frames : List Frame) (mask : ℕ) → mask < 18446744073709551616 → own ≡ sums_of (entries_of h)
-    → ((bucket : ℕ) → bucket < 64 → (bit_at mask bucket ≡ 1) ↔ (sum_at theirs bucket ≢ sum_at own bucket)) → (mask ≡ 0 → ⊥) → frames ≡ frames_in id h mask ++ Want id mask ∷ [] → IsAnswer id h (Digest sender theirs) frames
-some_differ id sender theirs own h frames mask fits is differ some all =
-    (mask, fits, differing_from theirs own h mask is differ, all ∙ other_chosen mask [] (frames_in id h mask ++ Want id mask ∷ []) some)
+pub some_differ : (id : ℕ) (theirs own : List (List ℕ)) (h : HistoryView) (frames : List Frame) (mask : ℕ) → mask < 18446744073709551616 → own ≡ sums_of (entries_of h)
+    → ((bucket : ℕ) → bucket < BUCKETS → (bit_at mask bucket ≡ 1) ↔ (sum_at theirs bucket ≢ sum_at own bucket)) → (mask ≡ 0 → ⊥) → frames ≡ wanted_frames id h mask ++ Want id mask ∷ [] → AnswersSums id h theirs frames
+some_differ id theirs own h frames mask fits is differ some all =
+    (mask, fits, differing_from theirs own h mask is differ, all ∙ other_chosen mask [] (wanted_frames id h mask ++ Want id mask ∷ []) some)

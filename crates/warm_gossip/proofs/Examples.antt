@@ -5,7 +5,7 @@ use Rattle.warm_history.specs.declared.hist.Entry.{Entry}
 use Rattle.warm_history.specs.declared.hist.PageHist.TheVariants.{Once, Twice}
 use Rattle.warm_history.specs.Histories.{holding, history}
 use Rattle.warm_frames.specs.declared.frame.Frame.TheVariants.{Entries, Want}
-use Rattle.warm_gossip.specs.Answers.{buckets_in, frames_in, pieces, sent, taught}
+use Rattle.warm_gossip.specs.Answers.{buckets_in, wanted_frames, pieces, sent, taught}
 
 -- ---- pieces
 
@@ -31,7 +31,7 @@ abbrev once : ℕ → Stamp → Entry
 once n stamp = record { page = record { dev = 0; no = n }; hist = Once stamp }
 
 -- two pages of two buckets, which a replica sends in two frames; bucket 3 is empty, and gives none
-two_frames : frames_in 1 (holding (once 1 (at 10 1) ∷ once 2 (at 11 2) ∷ [])) 14 ≡ Entries 1 (once 1 (at 10 1) ∷ []) ∷ Entries 1 (once 2 (at 11 2) ∷ []) ∷ []
+two_frames : wanted_frames 1 (holding (once 1 (at 10 1) ∷ once 2 (at 11 2) ∷ [])) 14 ≡ Entries 1 (once 1 (at 10 1) ∷ []) ∷ Entries 1 (once 2 (at 11 2) ∷ []) ∷ []
 unfolding buckets_in
 two_frames = refl
 

@@ -3,9 +3,12 @@ use Rattle.std.specs.Prelude.{◌≡◌, ◌≢◌, ◌↔◌, ℕ, zero, suc, �
 use Rattle.std.specs.List.{flat_map, range_with_len}
 use Rattle.std.specs.Int.{bit_at}
 use Rattle.warm_stamps.specs.declared.PageId.{PageId}
+use Rattle.warm_stamps.specs.declared.TheConstants.{BUCKETS}
+use Rattle.warm_history.specs.declared.hist.Entry.{Entry}
 use Rattle.warm_history.specs.ReferenceSets.{◌∪◌}
 use Rattle.warm_history.specs.Histories.{HistoryView, entries_of, holding, history, refs}
 use Rattle.warm_history.specs.Carried.{carried}
+use Rattle.warm_frames.specs.declared.entries.TheConstants.{MAX_ENTRIES}
 use Rattle.warm_frames.specs.declared.frame.Frame.{Frame}
 use Rattle.warm_frames.specs.declared.frame.Frame.TheVariants.{Entries, Digest, Want}
 use Rattle.warm_frames.specs.Sums.{sum_at}
@@ -20,35 +23,47 @@ pieces_of size (suc n) (x ∷ xs) = take size (x ∷ xs) ∷ pieces_of size n (d
 abbrev pub pieces : {A : Type 0} → ℕ → List A → List (List A)
 pieces size xs = pieces_of size (length xs) xs
 
--- a bucket of the history in frames of up to 1000 entries; none where it is empty
+-- the entries, in frames that are as full as can be
+abbrev pub entry_frames : ℕ → List Entry → List Frame
+entry_frames id es = map (λ part. Entries id part) (pieces MAX_ENTRIES es)
+
+-- a bucket of the history in frames; none where it is empty
 abbrev pub bucket_frames : ℕ → HistoryView → ℕ → List Frame
-bucket_frames id h bucket = map (λ es. Entries id es) (pieces 1000 (bucket_entries bucket (entries_of h)))
+bucket_frames id h bucket = entry_frames id (bucket_entries bucket (entries_of h))
 
 -- the buckets whose bit is set, in rising order
 unfoldable pub buckets_in : ℕ → List ℕ
-buckets_in mask = filter (λ bucket. bit_at mask bucket == 1) (range_with_len 0 64)
+buckets_in mask = filter (λ bucket. bit_at mask bucket == 1) (range_with_len 0 BUCKETS)
 
--- these buckets of the history, in frames
-abbrev pub frames_in : ℕ → HistoryView → ℕ → List Frame
-frames_in id h mask = flat_map (bucket_frames id h) (buckets_in mask)
+-- the buckets of the history whose bit is set, in frames
+abbrev pub wanted_frames : ℕ → HistoryView → ℕ → List Frame
+wanted_frames id h mask = flat_map (bucket_frames id h) (buckets_in mask)
 
 -- the bits of the buckets of which the history has other sums
 abbrev pub IsDiffering : List (List ℕ) → HistoryView → ℕ → Type 0
-IsDiffering sums h mask = (bucket : ℕ) → bucket < 64 → (bit_at mask bucket ≡ 1) ↔ (sum_at sums bucket ≢ sum_at (sums_of (entries_of h)) bucket)
+IsDiffering sums h mask = (bucket : ℕ) → bucket < BUCKETS → (bit_at mask bucket ≡ 1) ↔ (sum_at sums bucket ≢ sum_at (sums_of (entries_of h)) bucket)
 
--- What a replica of this id and history answers to a frame: nothing to entries; to a wish its entries of these buckets; to sums its
--- entries of the buckets that differ, and then a wish for these, or nothing where none differs.
+-- The answer to sums: the entries of the buckets that differ, and then a wish for these; nothing where none differs.
+abbrev pub AnswersSums : ℕ → HistoryView → List (List ℕ) → List Frame → Type 0
+AnswersSums id h sums frames = (mask : ℕ) × (mask < 18446744073709551616) × IsDiffering sums h mask
+    × (frames ≡ if mask == 0 then [] else wanted_frames id h mask ++ Want id mask ∷ [])
+
+-- What a replica of this id and history answers to a frame: nothing to entries; to a wish its entries of these buckets.
 abbrev pub IsAnswer : ℕ → HistoryView → Frame → List Frame → Type 0
 IsAnswer id h (Entries sender entries) frames = frames ≡ []
-IsAnswer id h (Want sender mask) frames = frames ≡ frames_in id h mask
-IsAnswer id h (Digest sender sums) frames = (mask : ℕ) × (mask < 18446744073709551616) × IsDiffering sums h mask × (frames ≡ if mask == 0 then [] else frames_in id h mask ++ Want id mask ∷ [])
+IsAnswer id h (Want sender mask) frames = frames ≡ wanted_frames id h mask
+IsAnswer id h (Digest sender sums) frames = AnswersSums id h sums frames
+
+-- the history that has taken these entries in
+abbrev pub joined_with : HistoryView → List Entry → HistoryView
+joined_with h entries = history (refs h ∪ refs (holding entries))
 
 -- the history after a frame was taken
 abbrev pub taught : HistoryView → Frame → HistoryView
-taught h (Entries sender entries) = history (refs h ∪ refs (holding entries))
+taught h (Entries sender entries) = joined_with h entries
 taught h (Digest sender sums) = h
 taught h (Want sender mask) = h
 
--- the frame of the first 1000 entries of the bucket whose page comes after the one given
+-- the frame of the first entries of the bucket whose page comes after the one given, as many as a frame carries
 abbrev pub sent : ℕ → HistoryView → ℕ → Option PageId → Frame
-sent id h bucket after = Entries id (entries_of (history (carried (refs h) bucket after 1000)))
+sent id h bucket after = Entries id (entries_of (history (carried (refs h) bucket after MAX_ENTRIES)))

@@ -1,4 +1,7 @@
 pub mod Faults
+pub mod State
 pub mod Answers
 pub mod Gathering
+pub mod Pieces
 pub mod Step
+pub mod Clauses

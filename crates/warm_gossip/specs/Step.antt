@@ -1,12 +1,12 @@
--- A node as plain data, and what each call does to it.
-use Rattle.std.specs.Prelude.{◌≡◌, ◌⊎◌, ℕ, ◌+◌, ◌<◌, ◌≤◌, List, [], length, Option, Some, None, slice_index_or}
+-- What each call does to a node, and why it is refused, as a caller sees it.
+use Rattle.std.specs.Prelude.{◌≡◌, ℕ, ◌+◌, ◌<◌, ◌≤◌, List, [], length, Option, Some, None, slice_index_or}
 use Rattle.warm_stamps.specs.declared.PageId.{PageId}
 use Rattle.warm_history.specs.ReferenceSets.{these, ◌∪◌}
 use Rattle.warm_history.specs.Histories.{HistoryView, entries_of, holding, history, refs}
 use Rattle.warm_rank.specs.Ranking.{IsVictim, warm}
 use Rattle.warm_frames.specs.declared.frame.Frame.TheVariants.{Digest}
 use Rattle.warm_digest.specs.BucketSums.{sums_of}
-use Rattle.warm_pool.specs.declared.fault.PoolFault.{PoolFault}
+use Rattle.warm_pool.specs.declared.fault.PoolFault.TheVariants.{OutOfPage, Fixed, Fault}
 use Rattle.warm_pool.specs.declared.slot.Slot.{Slot}
 use Rattle.warm_pool.specs.View.{PoolView, HasPage, IsAbsent, Holds, unfixed_pages}
 use Rattle.warm_pool.specs.Calls.{FailsAt, Pinned as PinnedIn, PinRefused, PutsIn, PutRefused, unpinned, IsRead, Written, IsFixed, IsUnfixed, Emptied}
@@ -15,19 +15,17 @@ use Rattle.warm_gossip.specs.declared.call.Call.TheVariants.{Absorb, Send, Offer
 use Rattle.warm_gossip.specs.declared.call.Reply.{Reply}
 use Rattle.warm_gossip.specs.declared.call.Reply.TheVariants.{Done, Sent, Answers, Pinned, Bytes, Page, Pages, Loaded, Refused}
 use Rattle.warm_gossip.specs.declared.fault.NodeFault.{NodeFault}
-use Rattle.warm_gossip.specs.declared.fault.NodeFault.TheVariants.{Memory, OutOfPage, Fixed, Fault, StaleSlot}
-use Rattle.warm_gossip.specs.Faults.{fault_of}
+use Rattle.warm_gossip.specs.declared.fault.NodeFault.TheVariants.{Memory, Pool, StaleSlot}
+use Rattle.warm_gossip.specs.State.{NodeView}
 use Rattle.warm_gossip.specs.Answers.{IsAnswer, taught, sent}
 
--- who the replica is, what its history holds, and what its pool shows
-pub record NodeState : Type 0 where
-  pub id : ℕ
-  pub history : HistoryView
-  pub pool : PoolView
-
 -- the pool alone may have changed, and has in this way
-abbrev pub OnPool : (PoolView → PoolView → Type 0) → NodeState → NodeState → Type 0
+abbrev pub OnPool : (PoolView → PoolView → Type 0) → NodeView → NodeView → Type 0
 OnPool change old new = (new ≡ record old { pool = new.pool }) × change old.pool new.pool
+
+-- a call of a device has failed
+abbrev pub IsFailed : PoolView → PoolView → Type 0
+IsFailed v w = (k : ℕ) × FailsAt v k w
 
 -- Warming up
 
@@ -45,55 +43,46 @@ IsFirstLoadable v pages None = (j : ℕ) → j < length pages → IsLoadable v (
 IsFirstLoadable v pages (Some p) = (i : ℕ) × (i < length pages) × (nth_page pages i ≡ p) × IsLoadable v p × ((j : ℕ) → j < i → IsLoadable v (nth_page pages j) → ⊥)
 
 -- the page to load next: of as many of the hottest pages as the pool has frames
-abbrev pub IsNextWarm : NodeState → Option PageId → Type 0
+abbrev pub IsNextWarm : NodeView → Option PageId → Type 0
 IsNextWarm s = IsFirstLoadable s.pool (warm (refs s.history) (length s.pool.frames))
 
 -- Refusals
 
--- the node says what its pool said
-abbrev pub Says : (PoolFault → Type 0) → NodeFault → Type 0
-Says pool said = (why : PoolFault) × (said ≡ fault_of why) × pool why
-
--- the bytes are within a page
-abbrev pub IsWithin : NodeState → ℕ → ℕ → Type 0
+-- so many bytes from `at` on are within a page
+abbrev pub IsWithin : NodeView → ℕ → ℕ → Type 0
 IsWithin s at len = at + len ≤ s.pool.page_size
 
-abbrev pub ReadRefused : NodeState → Slot → ℕ → ℕ → NodeFault → Type 0
-ReadRefused s slot at len StaleSlot = Holds s.pool slot → ⊥
-ReadRefused s slot at len OutOfPage = Holds s.pool slot × (IsWithin s at len → ⊥)
-ReadRefused s slot at len Memory = Holds s.pool slot × IsWithin s at len
-ReadRefused s slot at len said = ⊥
+-- nothing has changed, and the slot doesn't hold its page; it does, and the bytes reach beyond the page
+abbrev pub IsStale : NodeView → Slot → NodeView → Type 0
+IsStale old slot new = (Holds old.pool slot → ⊥) × (new ≡ old)
 
-abbrev pub WriteRefused : NodeState → Slot → ℕ → ℕ → NodeFault → Type 0
-WriteRefused s slot at len Memory = ⊥
-WriteRefused s slot at len said = ReadRefused s slot at len said
+abbrev pub IsBeyond : NodeView → Slot → ℕ → ℕ → NodeView → Type 0
+IsBeyond old slot at len new = Holds old.pool slot × (IsWithin old at len → ⊥) × (new ≡ old)
 
-abbrev pub RestartRefused : PoolView → NodeFault → PoolView → Type 0
-RestartRefused old Fixed new = IsFixed old × (new ≡ old)
-RestartRefused old Fault new = IsUnfixed old × ((k : ℕ) × FailsAt old k new)
-RestartRefused old said new = ⊥
-
--- a page that was to be loaded could not be
-abbrev pub WarmRefused : NodeState → NodeFault → NodeState → Type 0
-WarmRefused old said new =
-    ((said ≡ Memory) × (new ≡ old))
-    ⊎ ((p : PageId) × IsNextWarm old (Some p) × OnPool (λ v w. Says (λ why. PutRefused old.history v p why w) said) old new)
-
--- Why a call is refused, and what it then has changed. Room may be refused to each call that needs some.
-abbrev pub Refuses : NodeState → Call → NodeFault → NodeState → Type 0
-Refuses old (Pin p) said new = OnPool (λ v w. Says (λ why. PinRefused old.history v p why w) said) old new
-Refuses old (Unpin slot) said new = (said ≡ StaleSlot) × (Holds old.pool slot → ⊥) × (new ≡ old)
-Refuses old (Read slot at len) said new = ReadRefused old slot at len said × (new ≡ old)
-Refuses old (Write slot at bytes) said new = WriteRefused old slot at (length bytes) said × (new ≡ old)
-Refuses old Victim said new = ⊥
-Refuses old WarmStep said new = WarmRefused old said new
-Refuses old Restart said new = OnPool (λ v w. RestartRefused v said w) old new
-Refuses old call said new = (said ≡ Memory) × (new ≡ old)
+-- Why a call is refused, and what has then changed. A call takes memory where this names Memory for it, and nowhere else.
+abbrev pub Refuses : NodeView → Call → NodeFault → NodeView → Type 0
+Refuses old (Absorb batch) Memory new = new ≡ old
+Refuses old (Send bucket after) Memory new = new ≡ old
+Refuses old Offer Memory new = new ≡ old
+Refuses old (Receive frame) Memory new = new ≡ old
+Refuses old (Pin p) (Pool why) new = OnPool (λ v w. PinRefused old.history v p why w) old new
+Refuses old (Unpin slot) StaleSlot new = IsStale old slot new
+Refuses old (Read slot at len) StaleSlot new = IsStale old slot new
+Refuses old (Read slot at len) (Pool OutOfPage) new = IsBeyond old slot at len new
+Refuses old (Read slot at len) Memory new = Holds old.pool slot × IsWithin old at len × (new ≡ old)
+Refuses old (Write slot at bytes) StaleSlot new = IsStale old slot new
+Refuses old (Write slot at bytes) (Pool OutOfPage) new = IsBeyond old slot at (length bytes) new
+Refuses old (WarmList n) Memory new = new ≡ old
+Refuses old WarmStep Memory new = new ≡ old
+Refuses old WarmStep (Pool why) new = (p : PageId) × IsNextWarm old (Some p) × OnPool (λ v w. PutRefused old.history v p why w) old new
+Refuses old Restart (Pool Fixed) new = IsFixed old.pool × (new ≡ old)
+Refuses old Restart (Pool Fault) new = IsUnfixed old.pool × OnPool IsFailed old new
+Refuses old call said new = ⊥
 
 -- Steps
 
 -- From old the call may be answered so, and lead to new.
-abbrev pub Step : NodeState → Call → Reply → NodeState → Type 0
+abbrev pub Step : NodeView → Call → Reply → NodeView → Type 0
 Step old call (Refused said) new = Refuses old call said new
 Step old (Absorb batch) Done new = new ≡ record old { history = history (refs old.history ∪ these batch) }
 Step old (Send bucket after) (Sent frame) new = (frame ≡ sent old.id old.history bucket after) × (new ≡ old)

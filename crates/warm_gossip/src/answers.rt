@@ -1,24 +1,21 @@
 //! What a node answers to sums and to a wish.
-ghost use Rattle.std.specs.Prelude.{◌≡◌, ◌≤◌, ℕ, List, [], ◌∷◌, ◌++◌, length, IfOk, OnOk};
-ghost use Rattle.std.specs.List.{All, flat_map};
-ghost use Rattle.warm_history.specs.declared.hist.Entry.{Entry};
+ghost use Rattle.std.specs.Prelude.{◌≡◌, ◌≤◌, ◌++◌, length, IfOk, OnOk};
+ghost use Rattle.std.specs.List.{All};
 ghost use Rattle.warm_history.specs.Histories.{PagesRise, entries_of};
-ghost use Rattle.warm_gossip.specs.Answers.{frames_in, IsAnswer};
-ghost use Rattle.warm_gossip.specs.Gathering.{HaveGathered, in_frames};
+ghost use Rattle.warm_gossip.specs.Answers.{AnswersSums, entry_frames, wanted_frames};
+ghost use Rattle.warm_gossip.specs.Gathering.{AreEmpty, HaveGathered, Takes, list_frames};
 
 use std::alloc::{AllocError, Global};
 use warm_digest::differing;
 use warm_frames::{EntryList, Frame, MAX_ENTRIES, SumTable};
 use warm_history::{Entry, History};
-use warm_stamps::{ReplicaId, bucket_of};
-
-const BUCKETS: usize = 64;
+use warm_stamps::{BUCKETS, ReplicaId, bucket_of};
 
 // An empty list for each bucket.
 fn new_lists(alloc: Global) -> Result<Vec<Vec<Entry>>, AllocError>
-    ensures { IfOk result (λ lists. (length lists.items ≡ 64) × All (λ list. list.items ≡ []) lists.items) }
+    ensures { IfOk result (λ lists. AreEmpty lists.items) }
 {
-    let mut lists = Vec::with_capacity(alloc, BUCKETS)?;
+    let mut lists = Vec::with_capacity(alloc, usize::from(BUCKETS))?;
     for _bucket in 0..BUCKETS {
         lists.push_reserved(Vec::new(alloc));
     }
@@ -27,8 +24,8 @@ fn new_lists(alloc: Global) -> Result<Vec<Vec<Entry>>, AllocError>
 
 // Takes an entry into the list of its bucket, if the bucket is wanted.
 fn take_into(lists: &mut Vec<Vec<Entry>>, mask: u64, entry: Entry) -> Result<(), AllocError>
-    requires { length lists.old.items ≡ 64 }
-    ensures { OnOk result ((before : List Entry) → HaveGathered mask lists.old.items before → HaveGathered mask lists.new.items (before ++ entry ∷ [])) }
+    requires { length lists.old.items ≡ BUCKETS }
+    ensures { OnOk result (Takes mask lists.old.items entry lists.new.items) }
 {
     // Taken apart, since the prover loses a whole entry while a list is lent.
     let Entry { page, hist } = entry;
@@ -56,7 +53,7 @@ fn gathered(alloc: Global, history: &History, mask: u64) -> Result<Vec<Vec<Entry
 // A frame of these entries.
 fn frame_of(alloc: Global, id: ReplicaId, part: &[Entry]) -> Result<Frame, AllocError>
     requires rise { PagesRise part.now }
-    requires few { length part.now ≤ 1000 }
+    requires few { length part.now ≤ MAX_ENTRIES }
     ensures { IfOk result (λ frame. frame ≡ Frame.Entries id part.now) }
 {
     let copied = Vec::from_slice(alloc, part)?;
@@ -69,7 +66,7 @@ fn frame_of(alloc: Global, id: ReplicaId, part: &[Entry]) -> Result<Frame, Alloc
     })
 }
 
-// Adds these entries, in frames of up to 1000.
+// Adds these entries, in frames that are as full as can be.
 fn push_frames(
     alloc: Global,
     frames: &mut Vec<Frame>,
@@ -77,7 +74,7 @@ fn push_frames(
     entries: &[Entry],
 ) -> Result<(), AllocError>
     requires { PagesRise entries.now }
-    ensures { OnOk result (frames.new.items ≡ frames.old.items ++ in_frames id entries.now) }
+    ensures { OnOk result (frames.new.items ≡ frames.old.items ++ entry_frames id entries.now) }
 {
     let mut rest = entries;
     while !rest.is_empty() {
@@ -89,10 +86,10 @@ fn push_frames(
     Ok(())
 }
 
-// The entries of each list, in frames of up to 1000, one list after the other.
+// The entries of each list in frames, one list after the other.
 fn frames_of(alloc: Global, id: ReplicaId, lists: Vec<Vec<Entry>>) -> Result<Vec<Frame>, AllocError>
     requires { All (λ list. PagesRise list.items) lists.items }
-    ensures { IfOk result (λ frames. frames.items ≡ flat_map (λ list. in_frames id list.items) lists.items) }
+    ensures { IfOk result (λ frames. frames.items ≡ list_frames id lists.items) }
 {
     let mut frames = Vec::new(alloc);
     for list in lists {
@@ -105,13 +102,13 @@ fn frames_of(alloc: Global, id: ReplicaId, lists: Vec<Vec<Entry>>) -> Result<Vec
 /// each in page order, in frames of up to 1000. It goes over the history once.
 ///
 /// `AllocError` comes only where room was refused.
-pub(crate) fn frames_in(
+pub(crate) fn wanted_frames(
     alloc: Global,
     id: ReplicaId,
     history: &History,
     mask: u64,
 ) -> Result<Vec<Frame>, AllocError>
-    ensures { IfOk result (λ frames. frames.items ≡ frames_in id history.now mask) }
+    ensures { IfOk result (λ frames. frames.items ≡ wanted_frames id history.now mask) }
 {
     let _whole = history.len();
     let lists = gathered(alloc, history, mask)?;
@@ -128,14 +125,14 @@ pub(crate) fn answer_to_sums(
     history: &History,
     sums: &SumTable,
 ) -> Result<Vec<Frame>, AllocError>
-    ensures { (sender : ℕ) → IfOk result (λ frames. IsAnswer id history.now (Frame.Digest sender sums.now) frames.items) }
+    ensures { IfOk result (λ frames. AnswersSums id history.now sums.now frames.items) }
 {
     let own = warm_digest::sums(alloc, history)?;
     let mask = differing(sums, &own);
     if mask == 0 {
         return Ok(Vec::new(alloc));
     }
-    let mut frames = frames_in(alloc, id, history, mask)?;
+    let mut frames = wanted_frames(alloc, id, history, mask)?;
     frames.push(Frame::Want { sender: id, mask })?;
     Ok(frames)
 }

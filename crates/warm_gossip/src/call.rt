@@ -9,7 +9,7 @@ use warm_stamps::{Bucket, ByteList, PageId, PageList, RefList};
 pub enum Call {
     /// Take these references into the history.
     Absorb(RefList),
-    /// Give the first 1000 entries of a bucket, of those whose page is greater than `after`.
+    /// Give the first entries of a bucket, of those whose page is greater than `after`: as many as a frame carries, up to 1000.
     Send {
         /// The bucket.
         bucket: Bucket,
@@ -20,9 +20,11 @@ pub enum Call {
     Offer,
     /// Take what a frame says, and answer it.
     Receive(Frame),
-    /// Give a page a fix, and put it into a frame of the pool where it is in none.
+    /// Give a page a fix, and put it into a frame of the pool where it is in none. A page with a fix does not leave.
+    ///
+    /// A pin is no reference: it changes no rank. Whoever pins also absorbs a reference.
     Pin(PageId),
-    /// Take a fix away.
+    /// Take a fix from the slot's page.
     Unpin(Slot),
     /// Give bytes of the slot's page.
     Read {
@@ -61,7 +63,7 @@ pub enum Reply {
     Sent(Frame),
     /// The frames that answer the one received, in their order.
     Answers(FrameList),
-    /// Where the page is that was fixed.
+    /// Where the page is that was given a fix.
     Pinned(Slot),
     /// The bytes that were asked for.
     Bytes(ByteList),

@@ -1,32 +1,16 @@
 //! Why a node refuses a call.
 ghost use Rattle.std.specs.Prelude.{◌≡◌};
-ghost use Rattle.warm_gossip.specs.Faults.{code_of, name_of, fault_of};
+ghost use Rattle.warm_gossip.specs.Faults.{code_of, name_of};
 
 use warm_pool::PoolFault;
 
-/// Why a node refuses a call. Each has the number of its kind.
+/// Why a node refuses a call. Each has the number and the name of its kind.
 #[derive(Clone, Copy, PartialEq, Eq, Debug)]
 pub enum NodeFault {
     /// 1: room was refused.
     Memory,
-    /// 4: there is no such device.
-    NoDevice,
-    /// 5: the device has no such page.
-    NoPage,
-    /// 6: each frame has a page, and all are fixed.
-    AllFixed,
-    /// 7: the page could not be read from its device.
-    ReadFault,
-    /// 8: the page that would leave could not be written to its device.
-    WriteBack,
-    /// 9: the page has as many fixes as it can, or as many pages as can were put into the frame.
-    FixesFull,
-    /// 10: the bytes reach beyond the end of the page.
-    OutOfPage,
-    /// 11: a page is fixed.
-    Fixed,
-    /// 12: a page could not be written to its device, or a device not flushed.
-    Fault,
+    /// 4 to 12: what its pool says. A pool that is there says nothing of its making, which has the numbers 1 to 3.
+    Pool(PoolFault),
     /// 13: the slot does not hold its page.
     StaleSlot,
 }
@@ -37,56 +21,20 @@ impl NodeFault {
         ensures { result ≡ code_of self }
     {
         match self {
-            NodeFault::Memory => 1,
-            NodeFault::NoDevice => 4,
-            NodeFault::NoPage => 5,
-            NodeFault::AllFixed => 6,
-            NodeFault::ReadFault => 7,
-            NodeFault::WriteBack => 8,
-            NodeFault::FixesFull => 9,
-            NodeFault::OutOfPage => 10,
-            NodeFault::Fixed => 11,
-            NodeFault::Fault => 12,
+            NodeFault::Memory => PoolFault::Memory.code(),
+            NodeFault::Pool(why) => why.code(),
             NodeFault::StaleSlot => 13,
         }
     }
 
-    /// Its name, as the variant is written.
+    /// Its name, as the variant is written, of the pool's where it is one of those.
     pub fn name(self) -> &'static str
         ensures { result.now ≡ name_of self }
     {
         match self {
-            NodeFault::Memory => "Memory",
-            NodeFault::NoDevice => "NoDevice",
-            NodeFault::NoPage => "NoPage",
-            NodeFault::AllFixed => "AllFixed",
-            NodeFault::ReadFault => "ReadFault",
-            NodeFault::WriteBack => "WriteBack",
-            NodeFault::FixesFull => "FixesFull",
-            NodeFault::OutOfPage => "OutOfPage",
-            NodeFault::Fixed => "Fixed",
-            NodeFault::Fault => "Fault",
+            NodeFault::Memory => PoolFault::Memory.name(),
+            NodeFault::Pool(why) => why.name(),
             NodeFault::StaleSlot => "StaleSlot",
         }
-    }
-}
-
-/// The node's name for a refusal of its pool.
-///
-/// A pool that is there answers neither `BadFrames` nor `SizeDiffers`: the node says `Fault` of them.
-pub(crate) fn fault_of(fault: PoolFault) -> NodeFault
-    ensures { result ≡ fault_of fault }
-{
-    match fault {
-        PoolFault::Memory => NodeFault::Memory,
-        PoolFault::NoDevice => NodeFault::NoDevice,
-        PoolFault::NoPage => NodeFault::NoPage,
-        PoolFault::AllFixed => NodeFault::AllFixed,
-        PoolFault::ReadFault => NodeFault::ReadFault,
-        PoolFault::WriteBack => NodeFault::WriteBack,
-        PoolFault::FixesFull => NodeFault::FixesFull,
-        PoolFault::OutOfPage => NodeFault::OutOfPage,
-        PoolFault::Fixed => NodeFault::Fixed,
-        PoolFault::BadFrames | PoolFault::SizeDiffers | PoolFault::Fault => NodeFault::Fault,
     }
 }

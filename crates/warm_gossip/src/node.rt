@@ -1,11 +1,10 @@
 //! The node.
-ghost use Rattle.std.specs.Prelude.{◌≡◌, ℕ, [], None, IfErr, IfOk, OnOk};
-ghost use Rattle.warm_history.specs.Histories.{holding};
-ghost use Rattle.warm_pool.specs.State.{PoolState, IsPool, IsSettled};
-ghost use Rattle.warm_pool.specs.View.{frame_at};
+ghost use Rattle.std.specs.Prelude.{◌≡◌, OnOk};
+ghost use Rattle.warm_pool.specs.State.{IsPool};
 ghost use Rattle.warm_gossip.specs.declared.call.Call.TheVariants.{Restart};
 ghost use Rattle.warm_gossip.specs.declared.call.Reply.TheVariants.{Done};
-ghost use Rattle.warm_gossip.specs.Step.{NodeState, Refuses, Step};
+ghost use Rattle.warm_gossip.specs.State.{NodeState, NodeView, opened};
+ghost use Rattle.warm_gossip.specs.Clauses.{Answered, Goes, IsAtRest, IsBare, IsFit, node_state, pool_state, shown};
 
 use crate::call::{Call, Reply};
 use crate::fault::NodeFault;
@@ -13,12 +12,14 @@ use std::alloc::Global;
 use std::marker::PhantomData;
 use warm_devices::PageDevice;
 use warm_history::History;
-use warm_pool::{Pool, Pooled};
+use warm_pool::Pool;
 use warm_stamps::ReplicaId;
 
 /// One replica: the history of the references that reached it, and its buffer pool, which that history ranks.
 ///
-/// Clauses see [`Shown::state`] of a node. That it is *fit*, its pool a pool and ranked by its history, is a condition that
+/// A pin is no reference: pages are ranked by the references that the node absorbed. Whoever pins a page also absorbs one.
+///
+/// Clauses see [`Shown::shown`] of a node. That it is *fit*, its pool a pool and ranked by its history, is a condition that
 /// `new` gives and each call keeps.
 #[derive(Drop)]
 pub struct Node {
@@ -30,37 +31,35 @@ pub struct Node {
     pub(crate) boxes: PhantomData<Box<dyn PageDevice + Send>>,
 }
 
-/// What a node is to a contract.
+/// What a node is to a contract. The clauses of this crate write the same by the words of `specs/Clauses.antt`.
 pub trait Shown {
-    /// Who it is, what its history holds, and what its pool shows.
+    /// Who it is, what its history holds, and its pool, as plain data.
     ghost state: { Self → NodeState };
 
-    /// What its pool holds.
-    ghost stored: { Self → PoolState };
+    /// What a caller sees of it.
+    ghost shown: { Self → NodeView };
 
     /// Its pool is one, and is ranked by its history.
     ghost is_fit: { Self → Type 0 };
 }
 
 impl Shown for Node {
-    ghost use Rattle.std.specs.Prelude.{length};
-    ghost use Rattle.warm_pool.specs.State.{pool_of, view_of, IsPool, RankedBy};
+    ghost use Rattle.warm_gossip.specs.Clauses as clauses;
 
-    ghost state = { λ n. record { id = n.id; history = n.history; pool = view_of (pool_of (λ b. (PageDevice-box b).state b.value) n.pool.frames (length n.pool.spare.items) n.pool.devices.items) } };
+    ghost state = { clauses.node_state (λ b. (PageDevice-box b).state b.value) };
 
-    ghost stored = { λ n. pool_of (λ b. (PageDevice-box b).state b.value) n.pool.frames (length n.pool.spare.items) n.pool.devices.items };
+    ghost shown = { clauses.shown (λ b. (PageDevice-box b).state b.value) };
 
-    ghost is_fit = { λ n. IsPool (pool_of (λ b. (PageDevice-box b).state b.value) n.pool.frames (length n.pool.spare.items) n.pool.devices.items) × RankedBy (pool_of (λ b. (PageDevice-box b).state b.value) n.pool.frames (length n.pool.spare.items) n.pool.devices.items) n.history };
+    ghost is_fit = { clauses.IsFit (λ b. (PageDevice-box b).state b.value) };
 }
 
 impl Node {
     /// A node that was told nothing, over a pool without a page. Takes no memory.
     pub fn new(alloc: Global, id: ReplicaId, pool: Pool) -> Node
-        requires pool { IsPool (⟦<Pool as Pooled>⟧.state pool) }
-        requires empty { (i : ℕ) → (frame_at (⟦<Pool as Pooled>⟧.shown pool) i).page ≡ None }
-        ensures fit { ⟦<Node as Shown>⟧.is_fit result }
-        ensures opened { ⟦<Node as Shown>⟧.state result ≡ record { id = id; history = holding []; pool = ⟦<Pool as Pooled>⟧.shown pool } }
-        ensures stored { ⟦<Node as Shown>⟧.stored result ≡ ⟦<Pool as Pooled>⟧.state pool }
+        requires pool { IsPool (pool_state state pool) }
+        requires empty { IsBare state pool }
+        ensures fit { IsFit state result }
+        ensures opened { node_state state result ≡ opened id (pool_state state pool) }
     {
         Node {
             alloc,
@@ -73,22 +72,21 @@ impl Node {
 
     /// Which replica it is.
     pub fn id(&self) -> ReplicaId
-        ensures { result ≡ (⟦<Node as Shown>⟧.state self.now).id }
+        ensures { result ≡ (shown state self.now).id }
     {
         self.id
     }
 
     /// The history of what it was told.
     pub fn history(&self) -> &History
-        ensures { result.now ≡ (⟦<Node as Shown>⟧.state self.now).history }
+        ensures { result.now ≡ (shown state self.now).history }
     {
         &self.history
     }
 
     /// Its pool.
     pub fn pool(&self) -> &Pool
-        ensures shown { ⟦<Pool as Pooled>⟧.shown result.now ≡ (⟦<Node as Shown>⟧.state self.now).pool }
-        ensures stored { ⟦<Pool as Pooled>⟧.state result.now ≡ ⟦<Node as Shown>⟧.stored self.now }
+        ensures { pool_state state result.now ≡ (node_state state self.now).pool }
     {
         &self.pool
     }
@@ -98,10 +96,10 @@ impl Node {
     /// What each call does, and each of its refusals with its order, is said by the definition *step*: a refused call changes
     /// nothing but counts of failures. `Memory` comes only where room was refused; pin, unpin, write, victim and restart need none.
     pub fn call(&mut self, call: Call) -> Reply
-        requires fit { ⟦<Node as Shown>⟧.is_fit self.old }
-        ensures fit { ⟦<Node as Shown>⟧.is_fit self.new }
-        ensures step { Step (⟦<Node as Shown>⟧.state self.old) call result (⟦<Node as Shown>⟧.state self.new) }
-        ensures settled { call ≡ Restart → result ≡ Done → IsSettled (⟦<Node as Shown>⟧.stored self.new) }
+        requires fit { IsFit state self.old }
+        ensures fit { IsFit state self.new }
+        ensures step { Goes state self.old call result self.new }
+        ensures settled { call ≡ Restart → result ≡ Done → IsAtRest state self.new }
     {
         match self.answer(call) {
             Ok(reply) => reply,
@@ -111,11 +109,10 @@ impl Node {
 
     // Answers a call, or says why not.
     fn answer(&mut self, call: Call) -> Result<Reply, NodeFault>
-        requires fit { ⟦<Node as Shown>⟧.is_fit self.old }
-        ensures fit { ⟦<Node as Shown>⟧.is_fit self.new }
-        ensures answered { IfOk result (λ reply. Step (⟦<Node as Shown>⟧.state self.old) call reply (⟦<Node as Shown>⟧.state self.new)) }
-        ensures refused { IfErr result (λ why. Refuses (⟦<Node as Shown>⟧.state self.old) call why (⟦<Node as Shown>⟧.state self.new)) }
-        ensures settled { OnOk result (call ≡ Restart → IsSettled (⟦<Node as Shown>⟧.stored self.new)) }
+        requires fit { IsFit state self.old }
+        ensures fit { IsFit state self.new }
+        ensures step { Answered state self.old call (λ reply. reply) result self.new }
+        ensures settled { OnOk result (call ≡ Restart → IsAtRest state self.new) }
     {
         match call {
             Call::Absorb(batch) => {
@@ -147,10 +144,9 @@ impl Node {
 
     /// Its pool, and no node any more.
     pub fn into_pool(self) -> Pool
-        requires fit { ⟦<Node as Shown>⟧.is_fit self }
-        ensures pool { IsPool (⟦<Pool as Pooled>⟧.state result) }
-        ensures shown { ⟦<Pool as Pooled>⟧.shown result ≡ (⟦<Node as Shown>⟧.state self).pool }
-        ensures stored { ⟦<Pool as Pooled>⟧.state result ≡ ⟦<Node as Shown>⟧.stored self }
+        requires fit { IsFit state self }
+        ensures pool { IsPool (pool_state state result) }
+        ensures same { pool_state state result ≡ (node_state state self).pool }
     {
         let Node {
             alloc: _,

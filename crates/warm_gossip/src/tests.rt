@@ -1,17 +1,18 @@
 //! Rows of a node's life, run. Calls stand in a function of their own, which keeps that the node is fit.
 ghost use Rattle.std.specs.Prelude.{IfOk};
+ghost use Rattle.warm_gossip.specs.Clauses.{IsFit};
 
-use crate::answers::frames_in;
+use crate::answers::wanted_frames;
 use crate::call::{Call, Reply};
 use crate::fault::NodeFault;
-use crate::node::{Node, Shown};
+use crate::node::Node;
 use std::alloc::Global;
 use std::process::Abort;
 use std::test::Fail;
 use warm_devices::{MemDevice, PageDevice};
 use warm_frames::{Frame, encode};
 use warm_history::History;
-use warm_pool::{Pool, Slot};
+use warm_pool::{Pool, PoolFault, Slot};
 use warm_stamps::{ByteList, PageId, RefList, Reference, ReplicaId, Stamp};
 
 const fn page(no: u32) -> PageId {
@@ -24,7 +25,7 @@ const fn slot(index: u32, generation: u64) -> Slot {
 
 // A node of so many frames over a device of 256 pages of 16 bytes.
 fn fresh(alloc: Global, id: u16, frames: usize) -> Result<Node, Fail>
-    ensures { IfOk result (λ node. ⟦<Node as Shown>⟧.is_fit node) }
+    ensures { IfOk result (λ node. IsFit state node) }
 {
     let device: Box<dyn PageDevice + Send> = Box::new(alloc, MemDevice::new(alloc, 256, 16)?)?;
     let mut devices = Vec::with_capacity(alloc, 1)?;
@@ -36,8 +37,8 @@ fn fresh(alloc: Global, id: u16, frames: usize) -> Result<Node, Fail>
 }
 
 fn call(node: &mut Node, call: Call) -> Reply
-    requires { ⟦<Node as Shown>⟧.is_fit node.old }
-    ensures { ⟦<Node as Shown>⟧.is_fit node.new }
+    requires { IsFit state node.old }
+    ensures { IsFit state node.new }
 {
     node.call(call)
 }
@@ -49,8 +50,8 @@ fn told(
     node: &mut Node,
     references: &[(u32, u64)],
 ) -> Result<(), Fail>
-    requires { ⟦<Node as Shown>⟧.is_fit node.old }
-    ensures { ⟦<Node as Shown>⟧.is_fit node.new }
+    requires { IsFit state node.old }
+    ensures { IsFit state node.new }
 {
     let replica = node.id();
     let mut batch = Vec::new(alloc);
@@ -73,8 +74,8 @@ fn told(
 }
 
 fn pinned(node: &mut Node, no: u32) -> Result<Slot, NodeFault>
-    requires { ⟦<Node as Shown>⟧.is_fit node.old }
-    ensures { ⟦<Node as Shown>⟧.is_fit node.new }
+    requires { IsFit state node.old }
+    ensures { IsFit state node.new }
 {
     match node.call(Call::Pin(page(no))) {
         Reply::Pinned(slot) => Ok(slot),
@@ -84,8 +85,8 @@ fn pinned(node: &mut Node, no: u32) -> Result<Slot, NodeFault>
 }
 
 fn is_done(node: &mut Node, call: Call) -> Result<(), NodeFault>
-    requires { ⟦<Node as Shown>⟧.is_fit node.old }
-    ensures { ⟦<Node as Shown>⟧.is_fit node.new }
+    requires { IsFit state node.old }
+    ensures { IsFit state node.new }
 {
     match node.call(call) {
         Reply::Done => Ok(()),
@@ -95,8 +96,8 @@ fn is_done(node: &mut Node, call: Call) -> Result<(), NodeFault>
 }
 
 fn loaded(node: &mut Node) -> Result<Option<PageId>, NodeFault>
-    requires { ⟦<Node as Shown>⟧.is_fit node.old }
-    ensures { ⟦<Node as Shown>⟧.is_fit node.new }
+    requires { IsFit state node.old }
+    ensures { IsFit state node.new }
 {
     match node.call(Call::WarmStep) {
         Reply::Loaded(page) => Ok(page),
@@ -106,8 +107,8 @@ fn loaded(node: &mut Node) -> Result<Option<PageId>, NodeFault>
 }
 
 fn bytes(node: &mut Node, slot: Slot, at: usize, len: usize) -> Result<ByteList, NodeFault>
-    requires { ⟦<Node as Shown>⟧.is_fit node.old }
-    ensures { ⟦<Node as Shown>⟧.is_fit node.new }
+    requires { IsFit state node.old }
+    ensures { IsFit state node.new }
 {
     match node.call(Call::Read { slot, at, len }) {
         Reply::Bytes(bytes) => Ok(bytes),
@@ -117,8 +118,8 @@ fn bytes(node: &mut Node, slot: Slot, at: usize, len: usize) -> Result<ByteList,
 }
 
 fn put(alloc: Global, node: &mut Node, slot: Slot, at: usize, text: &[u8]) -> Result<(), Fail>
-    requires { ⟦<Node as Shown>⟧.is_fit node.old }
-    ensures { ⟦<Node as Shown>⟧.is_fit node.new }
+    requires { IsFit state node.old }
+    ensures { IsFit state node.new }
 {
     let mut bytes = Vec::new(alloc);
     bytes.extend_from_slice(text)?;
@@ -130,8 +131,8 @@ fn put(alloc: Global, node: &mut Node, slot: Slot, at: usize, text: &[u8]) -> Re
 }
 
 fn answers(node: &mut Node, frame: Frame) -> Result<Vec<Frame>, Fail>
-    requires { ⟦<Node as Shown>⟧.is_fit node.old }
-    ensures { ⟦<Node as Shown>⟧.is_fit node.new }
+    requires { IsFit state node.old }
+    ensures { IsFit state node.new }
 {
     match node.call(Call::Receive(frame)) {
         Reply::Answers(frames) => Ok(frames.into_vec()),
@@ -140,8 +141,8 @@ fn answers(node: &mut Node, frame: Frame) -> Result<Vec<Frame>, Fail>
 }
 
 fn offered(node: &mut Node) -> Result<Frame, Fail>
-    requires { ⟦<Node as Shown>⟧.is_fit node.old }
-    ensures { ⟦<Node as Shown>⟧.is_fit node.new }
+    requires { IsFit state node.old }
+    ensures { IsFit state node.new }
 {
     match node.call(Call::Offer) {
         Reply::Sent(frame) => Ok(frame),
@@ -195,7 +196,7 @@ fn bytes_stay_with_their_page(rt: HostRuntime) -> Result<(), Fail> {
     assert_eq!(rt; read.as_slice(), [0xCA, 0xFE].as_slice());
     assert_eq!(rt;
         bytes(&mut node, slot(0, 3), 15, 2).err(),
-        Some(NodeFault::OutOfPage)
+        Some(NodeFault::Pool(PoolFault::OutOfPage))
     );
     let Ok(none) = bytes(&mut node, slot(0, 3), 16, 0) else {
         return Err("no bytes are read".into());
@@ -211,7 +212,10 @@ fn a_restart_waits_for_fixes(rt: HostRuntime) -> Result<(), Fail> {
     told(&rt, alloc, &mut node, &[(1, 10)])?;
     assert_eq!(rt; pinned(&mut node, 1), Ok(slot(0, 1)));
     put(alloc, &mut node, slot(0, 1), 15, &[0xAB])?;
-    assert_eq!(rt; is_done(&mut node, Call::Restart), Err(NodeFault::Fixed));
+    assert_eq!(rt;
+        is_done(&mut node, Call::Restart),
+        Err(NodeFault::Pool(PoolFault::Fixed))
+    );
     assert_eq!(rt; node.history().len(), 1);
     assert_eq!(rt; is_done(&mut node, Call::Unpin(slot(0, 1))), Ok(()));
     assert_eq!(rt; is_done(&mut node, Call::Restart), Ok(()));
@@ -281,7 +285,7 @@ fn a_long_bucket_goes_in_frames_of_a_thousand(rt: HostRuntime) -> Result<(), Fai
     let alloc = rt.alloc();
     let history = of_one_bucket(alloc, 2001)?;
     let id = ReplicaId::new(3)?;
-    let frames = frames_in(alloc, id, &history, 1)?;
+    let frames = wanted_frames(alloc, id, &history, 1)?;
     assert_eq!(rt; frames.len(), 3);
     let lengths = [
         entries_in(&frames[0]),
@@ -289,6 +293,6 @@ fn a_long_bucket_goes_in_frames_of_a_thousand(rt: HostRuntime) -> Result<(), Fai
         entries_in(&frames[2]),
     ];
     assert_eq!(rt; lengths, [1000, 1000, 1]);
-    assert_eq!(rt; frames_in(alloc, id, &history, 2)?.len(), 0);
+    assert_eq!(rt; wanted_frames(alloc, id, &history, 2)?.len(), 0);
     Ok(())
 }

@@ -9,7 +9,7 @@ use Rattle.warm_stamps.specs.declared.PageId.{PageId}
 use Rattle.warm_stamps.specs.declared.Reference.{Reference}
 use Rattle.warm_stamps.specs.Stamps.{stamp_cmp, page_cmp}
 use Rattle.warm_stamps.specs.Distinct.{distinct, IsRising}
-use Rattle.warm_stamps.proofs.DistinctLemmas.{distinct_rises, rising_filter, rising_take, all_filter, all_of_has}
+use Rattle.warm_stamps.proofs.DistinctLemmas.{is_equal, distinct_rises, rising_filter, rising_take, all_filter, all_of_has}
 use Rattle.warm_stamps.proofs.StampLemmas.{page_order}
 use Rattle.warm_history.specs.declared.hist.PageHist.{PageHist}
 use Rattle.warm_history.specs.declared.hist.Entry.{Entry}
@@ -57,11 +57,6 @@ any-named (q ∷ qs) p = rw (any-named qs p) (elim (is_eq (page_cmp q p)) as (λ
 -- the references of S to the pages ps
 abbrev among : List Reference → List PageId → List Reference
 among S ps = filter (λ r. list_any (λ p. is_eq (page_cmp p r.page)) ps) S
-
-is_equal : (o : Ordering) → is_eq o ≡ true → o ≡ Equal
-is_equal Less e = absurd (cc)
-is_equal Equal e = refl
-is_equal Greater e = absurd (cc)
 
 nothing : (b : Bool) (none : List Reference) → none ≡ [] → none ≡ cond b none []
 nothing true none is = refl

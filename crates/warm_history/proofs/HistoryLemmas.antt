@@ -6,18 +6,20 @@ use Rattle.std.specs.Ordering.{is_eq, on, flip_args}
 use Rattle.std.specs.declared.cmp.Ordering.{Ordering}
 use Rattle.std.specs.declared.cmp.Ordering.TheVariants.{Less, Equal, Greater}
 use Rattle.std.proofs.lemmas.Cmp.{tied_itself}
+use Rattle.std.proofs.lemmas.List.{append-nil, map-append}
+use Rattle.std.proofs.lemmas.List.Elements.{filter-append}
 use Rattle.warm_stamps.specs.declared.Stamp.{Stamp}
 use Rattle.warm_stamps.specs.declared.PageId.{PageId}
 use Rattle.warm_stamps.specs.declared.Reference.{Reference}
 use Rattle.warm_stamps.specs.Stamps.{stamp_cmp, page_cmp}
 use Rattle.warm_stamps.specs.Distinct.{insert_distinct, distinct, IsRising}
-use Rattle.warm_stamps.proofs.DistinctLemmas.{Has, by_cases, flipped, distinct_same, distinct_swap, distinct_rises}
+use Rattle.warm_stamps.proofs.DistinctLemmas.{is_equal, Has, by_cases, flipped, distinct_same, distinct_swap, distinct_rises}
 use Rattle.warm_stamps.proofs.StampLemmas.{stamp_order, page_order, IsStrictOrder-flip}
 use Rattle.warm_history.specs.declared.hist.PageHist.{PageHist}
 use Rattle.warm_history.specs.declared.hist.PageHist.TheVariants.{Once, Twice}
 use Rattle.warm_history.specs.declared.hist.Entry.{Entry}
 use Rattle.warm_history.specs.Histories.{references_to, stamps, first_two, hist, pages, history, stamps_held, held, entry_refs, refs, IsFalling, IsHistory}
-use Rattle.warm_history.proofs.Lists.{front_two, front_two-both, map-append, filter-append}
+use Rattle.warm_history.proofs.Lists.{front_two, front_two-both}
 
 -- the latest stamps that a list of entries holds of the page p
 abbrev pub get : List Entry → PageId → Option PageHist
@@ -172,11 +174,6 @@ get_later d e h g same above_d above_e alike p = cases (is_eq (page_cmp d.page p
     cases true here =
         let tied : d.page ≡ p = page_order.same d.page p (is_equal (page_cmp d.page p) here) in
         ap (get h) (sym tied) ∙ get_above d.page h above_d ∙ sym (get_above e.page g above_e) ∙ ap (get g) (sym same ∙ tied)
-      where
-        is_equal : (o : Ordering) → is_eq o ≡ true → o ≡ Equal
-        is_equal Less e = absurd (cc)
-        is_equal Equal e = refl
-        is_equal Greater e = absurd (cc)
     cases false other =
         let other_e : is_eq (page_cmp e.page p) ≡ false = ap (λ q. is_eq (page_cmp q p)) (sym same) ∙ other in
         let both = alike p in
@@ -225,19 +222,10 @@ told_refs (e ∷ h) rising p =
     ∙ ap (λ ss. cond (is_eq (page_cmp e.page p)) (stamps_held e.hist) [] ++ ss) (told_refs h rising.1 p)
     ∙ cases (is_eq (page_cmp e.page p)) refl
   where
-    append_nil : {A : Type 0} (xs : List A) → xs ++ [] ≡ xs
-    append_nil [] = refl
-    append_nil (x ∷ xs) = ap (λ t. x ∷ t) (append_nil xs)
-
-    is_equal : (o : Ordering) → is_eq o ≡ true → o ≡ Equal
-    is_equal Less e = absurd (cc)
-    is_equal Equal e = refl
-    is_equal Greater e = absurd (cc)
-
     cases : (b : Bool) → is_eq (page_cmp e.page p) ≡ b → cond (is_eq (page_cmp e.page p)) (stamps_held e.hist) [] ++ held (get h p) ≡ held (cond (is_eq (page_cmp e.page p)) (Some e.hist) (get h p))
     cases true here =
         let tied : e.page ≡ p = page_order.same e.page p (is_equal (page_cmp e.page p) here) in
-        rw here (ap (λ x. stamps_held e.hist ++ held x) (ap (get h) (sym tied) ∙ get_above e.page h rising.0) ∙ append_nil (stamps_held e.hist))
+        rw here (ap (λ x. stamps_held e.hist ++ held x) (ap (get h) (sym tied) ∙ get_above e.page h rising.0) ∙ append-nil (stamps_held e.hist))
     cases false other = rw other refl
 
 pub first_two-held : (x : Option PageHist) → IsFallingIfAny x → first_two (distinct (flip_args stamp_cmp) (held x)) ≡ x

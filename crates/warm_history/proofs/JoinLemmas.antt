@@ -8,7 +8,7 @@ use Rattle.warm_stamps.specs.Stamps.{stamp_cmp}
 use Rattle.warm_stamps.proofs.DistinctLemmas.{distinct_absorbs}
 use Rattle.warm_stamps.proofs.StampLemmas.{stamp_order, IsStrictOrder-flip}
 use Rattle.warm_history.specs.Histories.{history, hist, first_two, refs}
-use Rattle.warm_history.specs.Laws.{HistoriesTellBoth, HistoryOfOwnReferences, JoinCommutes, JoinAssociates, JoinRepeats, JoinIsLeast}
+use Rattle.warm_history.specs.Laws.{HistoriesTellBoth, HistoryOfOwnReferences, JoinCommutes, JoinAssociates, JoinRepeats, JoinIsLeast, TakingInMovesUp}
 use Rattle.warm_history.proofs.HistoryLemmas.{told, told-append, same_gets, same_hists, joined, hist-append, hist_swap, hist-refs, hist_refs-history, get-history, IsHistory-history}
 
 -- what a list says of each page decides what it says beside another list
@@ -53,12 +53,15 @@ hist_repeat S p =
 pub join_repeats : JoinRepeats
 join_repeats h whole = same_hists (refs h ++ refs h) (refs h) (hist_repeat (refs h)) ∙ history_of_own_references h whole
 
+pub taking_in_moves_up : TakingInMovesUp
+taking_in_moves_up h B =
+    history_second (refs h) (refs h ++ B)
+    ∙ ap history (sym (append_assoc (refs h) (refs h) B))
+    ∙ history_alike (refs h ++ refs h) (refs h) B B (hist_repeat (refs h)) (λ p. refl)
+
 pub join_is_least : JoinIsLeast
 join_is_least h g = record {
-  first =
-      history_second (refs h) (refs h ++ refs g)
-      ∙ ap history (sym (append_assoc (refs h) (refs h) (refs g)))
-      ∙ history_alike (refs h ++ refs h) (refs h) (refs g) (refs g) (hist_repeat (refs h)) (λ p. refl);
+  first = taking_in_moves_up h (refs g);
   second =
       history_second (refs g) (refs h ++ refs g)
       ∙ history_swap (refs g) (refs h ++ refs g)

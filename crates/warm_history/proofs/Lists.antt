@@ -11,17 +11,6 @@ front_two [] = []
 front_two (x ∷ []) = x ∷ []
 front_two (x ∷ y ∷ ys) = x ∷ y ∷ []
 
-pub map-append : {A B : Type 0} (f : A → B) (xs ys : List A) → map f (xs ++ ys) ≡ map f xs ++ map f ys
-map-append f [] ys = refl
-map-append f (x ∷ xs) ys = ap (λ t. f x ∷ t) (map-append f xs ys)
-
-pub filter-append : {A : Type 0} (test : A → Bool) (xs ys : List A) → filter test (xs ++ ys) ≡ filter test xs ++ filter test ys
-filter-append test [] ys = refl
-filter-append test (x ∷ xs) ys = elim (test x) as (λ b. Rattle.std.proofs.Common.cond b (x ∷ filter test (xs ++ ys)) (filter test (xs ++ ys)) ≡ Rattle.std.proofs.Common.cond b (x ∷ filter test xs) (filter test xs) ++ filter test ys) [
-  | true ↦ ap (λ t. x ∷ t) (filter-append test xs ys)
-  | false ↦ filter-append test xs ys
-]
-
 module _ {A : Type 0} (cmp : A → A → Ordering) (order : IsStrictOrder cmp) where
   -- what is put into a list shows in its first two items as it would with these alone
   front_two-insert : (x : A) (ys : List A) → front_two (insert_distinct cmp x ys) ≡ front_two (insert_distinct cmp x (front_two ys))

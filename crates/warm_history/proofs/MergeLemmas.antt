@@ -4,18 +4,17 @@ use Rattle.std.specs.List.{AllByRecursion}
 use Rattle.std.specs.Ordering.{is_eq, flip_args}
 use Rattle.std.specs.declared.cmp.Ordering.{Ordering}
 use Rattle.std.specs.declared.cmp.Ordering.TheVariants.{Less, Equal, Greater}
-use Rattle.std.proofs.lemmas.List.{drop_all}
+use Rattle.std.proofs.lemmas.List.{append-nil, map-append, drop_all}
 use Rattle.warm_stamps.specs.declared.PageId.{PageId}
 use Rattle.warm_stamps.specs.declared.Reference.{Reference}
 use Rattle.warm_stamps.specs.Stamps.{stamp_cmp, page_cmp}
 use Rattle.warm_stamps.specs.Distinct.{distinct}
-use Rattle.warm_stamps.proofs.DistinctLemmas.{flipped, below_distinct}
+use Rattle.warm_stamps.proofs.DistinctLemmas.{is_equal, flipped, below_distinct}
 use Rattle.warm_stamps.proofs.StampLemmas.{page_order}
 use Rattle.warm_history.specs.declared.hist.PageHist.{PageHist}
 use Rattle.warm_history.specs.declared.hist.PageHist.TheVariants.{Once, Twice}
 use Rattle.warm_history.specs.declared.hist.Entry.{Entry}
 use Rattle.warm_history.specs.Histories.{PagesRise, first_two, latest_of, hist, pages, history, stamps_held, held, entry_refs, refs, join, IsHistory}
-use Rattle.warm_history.proofs.Lists.{map-append}
 use Rattle.warm_history.proofs.HistoryLemmas.{get, joined, AllAbove, IsFallingIfAny, below_entries, above_less, get_above, first_two-held, hist-refs, hist-append, get-history, IsHistory-history, same_gets, told_refs, hist_swap}
 use Rattle.warm_history.proofs.JoinLemmas.{history_of_own_references, histories_tell_both, join_commutes}
 use Rattle.warm_history.proofs.PlaceLemmas.{hist_entry, refs-append}
@@ -68,21 +67,12 @@ above_join p h g above_h above_g =
 
 -- ---- the join, from its least page on
 
-append_nil : {A : Type 0} (xs : List A) → xs ++ [] ≡ xs
-append_nil [] = refl
-append_nil (x ∷ xs) = ap (λ t. x ∷ t) (append_nil xs)
-
-is_equal : (o : Ordering) → is_eq o ≡ true → o ≡ Equal
-is_equal Less e = absurd (cc)
-is_equal Equal e = refl
-is_equal Greater e = absurd (cc)
-
 joined-alone : (x : Option PageHist) → IsFallingIfAny x → joined x None ≡ x
-joined-alone x falls = ap (λ ss. first_two (distinct (flip_args stamp_cmp) ss)) (append_nil (held x)) ∙ first_two-held x falls
+joined-alone x falls = ap (λ ss. first_two (distinct (flip_args stamp_cmp) ss)) (append-nil (held x)) ∙ first_two-held x falls
 
 -- nothing joins to a history without a change
 pub join-none : (h : List Entry) → IsHistory h → join h [] ≡ h
-join-none h whole = ap history (append_nil (refs h)) ∙ history_of_own_references h whole
+join-none h whole = ap history (append-nil (refs h)) ∙ history_of_own_references h whole
 
 pub join-all : (g : List Entry) → IsHistory g → join [] g ≡ g
 join-all g whole = history_of_own_references g whole
@@ -222,7 +212,7 @@ copies_on out all i e new rising in_range is_e is goes =
 -- at the end nothing is left
 pub copied_all : (out all : List Entry) (i : ℕ) → length all ≤ i → out ++ history (refs (drop i all)) ≡ history (refs all) → out ≡ history (refs all)
 unfolding history
-copied_all out all i end goes = sym (append_nil out) ∙ ap (λ h. out ++ history (refs h)) (sym (drop_all i all end)) ∙ goes
+copied_all out all i end goes = sym (append-nil out) ∙ ap (λ h. out ++ history (refs h)) (sym (drop_all i all end)) ∙ goes
 
 -- ---- whether pages rise
 

@@ -7,12 +7,13 @@ use Rattle.std.specs.declared.cmp.Ordering.{Ordering}
 use Rattle.std.specs.declared.cmp.Ordering.TheVariants.{Less, Equal, Greater}
 use Rattle.std.proofs.lemmas.Cmp.{tied_itself}
 use Rattle.std.proofs.lemmas.List.Sorted.{searchable_from_sorted}
+use Rattle.std.proofs.lemmas.List.{append-nil}
 use Rattle.warm_stamps.specs.declared.Stamp.{Stamp}
 use Rattle.warm_stamps.specs.declared.PageId.{PageId}
 use Rattle.warm_stamps.specs.declared.Reference.{Reference}
 use Rattle.warm_stamps.specs.Stamps.{stamp_cmp, page_cmp}
 use Rattle.warm_stamps.specs.Distinct.{distinct, IsRising}
-use Rattle.warm_stamps.proofs.DistinctLemmas.{flipped, distinct_swap}
+use Rattle.warm_stamps.proofs.DistinctLemmas.{is_equal, flipped, distinct_swap}
 use Rattle.warm_stamps.proofs.StampLemmas.{stamp_order, page_order, IsStrictOrder-flip}
 use Rattle.warm_history.specs.declared.hist.PageHist.{PageHist}
 use Rattle.warm_history.specs.declared.hist.Entry.{Entry}
@@ -34,15 +35,6 @@ latest_of_more s ss r is =
     ∙ first_two-front_two (distinct falls (s ∷ ss))
 
 -- ---- one reference more
-
-append_nil : {A : Type 0} (xs : List A) → xs ++ [] ≡ xs
-append_nil [] = refl
-append_nil (x ∷ xs) = ap (λ t. x ∷ t) (append_nil xs)
-
-is_equal : (o : Ordering) → is_eq o ≡ true → o ≡ Equal
-is_equal Less e = absurd (cc)
-is_equal Equal e = refl
-is_equal Greater e = absurd (cc)
 
 -- what a list of stamps says beside others, its two latest say
 pub latest_of_first : (xs ys : List Stamp) → latest_of (xs ++ ys) ≡ latest_of (held (latest_of xs) ++ ys)
@@ -68,7 +60,7 @@ hist_entry S e q = ap latest_of (told-append S (entry_refs e) q ∙ ap (λ t. to
         latest_of_first (told S q) (stamps_held e.hist)
         ∙ latest_of_swap (held (hist S q)) (stamps_held e.hist)
         ∙ ap (λ p. latest_of (stamps_held e.hist ++ held (hist S p))) (sym same))
-    cases false other = rw other (ap latest_of (append_nil (told S q)))
+    cases false other = rw other (ap latest_of (append-nil (told S q)))
 
 -- what new holds is what old holds, with an entry more
 abbrev pub HoldsMore : List Entry → List Entry → Entry → Type 0
@@ -232,4 +224,4 @@ refs-append (e ∷ h) g = ap (λ t. entry_refs e ++ t) (refs-append h g) ∙ sym
 
 -- the references of one entry more
 pub refs_more : (h : List Entry) (e : Entry) → refs (h ++ e ∷ []) ≡ refs h ++ entry_refs e
-refs_more h e = refs-append h (e ∷ []) ∙ ap (λ t. refs h ++ t) (append_nil (entry_refs e))
+refs_more h e = refs-append h (e ∷ []) ∙ ap (λ t. refs h ++ t) (append-nil (entry_refs e))

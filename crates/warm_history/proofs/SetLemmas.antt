@@ -8,16 +8,11 @@ use Rattle.warm_stamps.specs.declared.Stamp.{Stamp}
 use Rattle.warm_stamps.specs.declared.PageId.{PageId}
 use Rattle.warm_stamps.specs.declared.Reference.{Reference}
 use Rattle.warm_stamps.specs.Stamps.{stamp_cmp, page_cmp}
-use Rattle.warm_stamps.proofs.DistinctLemmas.{Has, distinct_same}
+use Rattle.warm_stamps.proofs.DistinctLemmas.{is_equal, Has, distinct_same}
 use Rattle.warm_stamps.proofs.StampLemmas.{stamp_order, page_order, IsStrictOrder-flip}
 use Rattle.warm_history.specs.Histories.{first_two, hist}
 use Rattle.warm_history.specs.References.{IsIn, HoldSame, HistoryOfSet}
 use Rattle.warm_history.proofs.HistoryLemmas.{told, same_hists}
-
-is_equal : (o : Ordering) → is_eq o ≡ true → o ≡ Equal
-is_equal Less e = absurd (cc)
-is_equal Equal e = refl
-is_equal Greater e = absurd (cc)
 
 told_is_in : (S : List Reference) (p : PageId) (s : Stamp) → Has (told S p) s → IsIn (record { page = p; stamp = s }) S
 told_is_in [] p s has = absurd has

@@ -1,5 +1,5 @@
 -- What a replica sends of a bucket at a time.
-use Rattle.std.specs.Prelude.{ℕ, ◌==◌, ◌&&◌, Bool, true, List, filter, take, Option, Some, None}
+use Rattle.std.specs.Prelude.{◌≡◌, ℕ, ◌==◌, ◌&&◌, Bool, true, List, filter, take, Option, Some, None}
 use Rattle.std.specs.List.{list_any}
 use Rattle.std.specs.Ordering.{is_eq, is_lt}
 use Rattle.warm_stamps.specs.declared.PageId.{PageId}
@@ -7,7 +7,8 @@ use Rattle.warm_stamps.specs.declared.Reference.{Reference}
 use Rattle.warm_stamps.specs.Buckets.{page_bucket}
 use Rattle.warm_stamps.specs.Stamps.{page_cmp}
 use Rattle.warm_history.specs.ReferenceSets.{ReferenceSet, those}
-use Rattle.warm_history.specs.Histories.{pages}
+use Rattle.warm_history.specs.declared.hist.Entry.{Entry}
+use Rattle.warm_history.specs.Histories.{HistoryView, entries_of, history, pages, StandsFor}
 
 -- the page p is greater than the one given, if one is
 abbrev pub comes_after : Option PageId → PageId → Bool
@@ -25,3 +26,11 @@ pages_carried S bucket after limit = take limit (filter (is_chosen bucket after)
 -- the references of S to these pages
 abbrev pub carried : ReferenceSet → ℕ → Option PageId → ℕ → ReferenceSet
 carried S bucket after limit = those (λ r. list_any (λ p. is_eq (page_cmp p r.page)) (pages_carried S bucket after limit)) S
+
+-- these are the entries of what is carried, whichever references the history stands for
+abbrev pub AreCarried : HistoryView → ℕ → Option PageId → ℕ → List Entry → Type 0
+AreCarried h bucket after limit es = (S : ReferenceSet) → StandsFor h S → es ≡ entries_of (history (carried S bucket after limit))
+
+-- the first entries of a list, at most limit, of those whose page is in the bucket and after the one given
+abbrev pub first_chosen : List Entry → ℕ → Option PageId → ℕ → List Entry
+first_chosen es bucket after limit = take limit (filter (λ e. is_chosen bucket after e.page) es)

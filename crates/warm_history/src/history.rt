@@ -1,9 +1,8 @@
 //! Histories, as vectors in page order.
-ghost use Rattle.std.specs.Prelude.{◌≡◌, ℕ, ◌+◌, ◌<◌, ◌≤◌, List, [], ◌∷◌, ◌++◌, length, OnOk, OnErr, IfOk, IfErr, filter, take, slice_get, vec_len, vec_capacity};
-ghost use Rattle.warm_stamps.specs.declared.Reference.{Reference};
+ghost use Rattle.std.specs.Prelude.{◌≡◌, ◌+◌, ◌<◌, ◌≤◌, [], length, OnOk, OnErr, IfOk, IfErr, slice_get, vec_len, vec_capacity};
 ghost use Rattle.warm_history.specs.ReferenceSets.{ReferenceSet, these, ◌∪◌};
-ghost use Rattle.warm_history.specs.Histories.{HistoryView, entries_of, holding, hist, refs, entry_refs, history, join, StandsFor, IsHistory};
-ghost use Rattle.warm_history.specs.Carried.{carried, is_chosen};
+ghost use Rattle.warm_history.specs.Histories.{entries_of, holding, hist, refs, entry_refs, history, join, StandsFor, TakesIn, EntriesTakeIn, IsHistory};
+ghost use Rattle.warm_history.specs.Carried.{AreCarried, first_chosen, is_chosen};
 ghost use Rattle.warm_history.specs.Places.{IsAt, IsGapFor};
 
 use crate::hist::{Entry, PageHist, join_known};
@@ -88,7 +87,7 @@ impl History {
     /// `AllocError` comes only where room for `batch.len()` entries more was refused, and changes
     /// nothing.
     pub fn absorb(&mut self, batch: &[Reference]) -> Result<(), AllocError>
-        ensures ok { OnOk result ((S : ReferenceSet) → StandsFor self.old S → StandsFor self.new (S ∪ these batch.now)) }
+        ensures ok { OnOk result (TakesIn self.old (these batch.now) self.new) }
         ensures exact { OnOk result (self.new ≡ history (refs self.old ∪ these batch.now)) }
         ensures err { OnErr result (self.new ≡ self.old) }
     {
@@ -102,7 +101,7 @@ impl History {
     /// Both are gone over once. `AllocError` comes only where room for the entries of both was
     /// refused, and changes nothing.
     pub fn join(&mut self, other: &History) -> Result<(), AllocError>
-        ensures ok { OnOk result ((S : ReferenceSet) → StandsFor self.old S → StandsFor self.new (S ∪ refs other.now)) }
+        ensures ok { OnOk result (TakesIn self.old (refs other.now) self.new) }
         ensures exact { OnOk result (self.new ≡ join self.old other.now) }
         ensures err { OnErr result (self.new ≡ self.old) }
     {
@@ -116,7 +115,7 @@ impl History {
     /// only where room for the entries in order, or for those of both, was refused, and changes
     /// nothing.
     pub fn join_entries(&mut self, more: &[Entry]) -> Result<(), AllocError>
-        ensures ok { OnOk result ((S : ReferenceSet) → StandsFor self.old S → StandsFor self.new (S ∪ refs (holding more.now))) }
+        ensures ok { OnOk result (TakesIn self.old (refs (holding more.now)) self.new) }
         ensures exact { OnOk result (self.new ≡ join self.old (holding more.now)) }
         ensures err { OnErr result (self.new ≡ self.old) }
     {
@@ -147,7 +146,7 @@ impl History {
         after: Option<PageId>,
         limit: usize,
     ) -> Result<Vec<Entry>, AllocError>
-        ensures carried { (S : ReferenceSet) → StandsFor self.now S → IfOk result (λ es. es.items ≡ entries_of (history (carried S bucket after limit))) }
+        ensures carried { IfOk result (λ es. AreCarried self.now bucket after limit es.items) }
         ensures whole { IfOk result (λ es. IsHistory (holding es.items)) }
         ensures limited { IfOk result (λ es. length es.items ≤ limit) }
     {
@@ -196,7 +195,7 @@ fn chosen(
     after: Option<PageId>,
     limit: usize,
 ) -> Result<Vec<Entry>, AllocError>
-    ensures { IfOk result (λ es. es.items ≡ take limit (filter (λ e. is_chosen bucket after e.page) entries.entry)) }
+    ensures { IfOk result (λ es. es.items ≡ first_chosen entries.entry bucket after limit) }
 {
     entries
         .filter(|entry| is_wanted(entry.page, bucket, after))
@@ -231,7 +230,7 @@ fn record(entries: &mut Vec<Entry>, entry: Entry)
     requires whole { IsHistory (holding entries.old.items) }
     requires room { vec_len entries.old < vec_capacity entries.old }
 
-    ensures told { (S : ReferenceSet) → StandsFor (holding entries.old.items) S → StandsFor (holding entries.new.items) (S ∪ these (entry_refs entry)) }
+    ensures told { EntriesTakeIn entries.old.items (these (entry_refs entry)) entries.new.items }
     ensures whole { IsHistory (holding entries.new.items) }
     ensures room { vec_capacity entries.old ≤ vec_capacity entries.new }
     ensures one { vec_len entries.new ≤ vec_len entries.old + 1 }
@@ -257,7 +256,7 @@ fn record_references(entries: &mut Vec<Entry>, batch: &[Reference])
     requires whole { IsHistory (holding entries.old.items) }
     requires room { vec_len entries.old + length batch.now ≤ vec_capacity entries.old }
 
-    ensures told { (S : ReferenceSet) → StandsFor (holding entries.old.items) S → StandsFor (holding entries.new.items) (S ∪ these batch.now) }
+    ensures told { EntriesTakeIn entries.old.items (these batch.now) entries.new.items }
     ensures whole { IsHistory (holding entries.new.items) }
 {
     for reference in batch {

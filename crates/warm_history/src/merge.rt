@@ -1,6 +1,6 @@
 //! Joining sorted entries in one pass over both lists.
 ghost use Rattle.std.specs.Prelude.{◌≡◌, ℕ, ◌+◌, ◌<◌, ◌≤◌, ◌↔◌, List, IfOk, IsTrue};
-ghost use Rattle.warm_history.specs.Histories.{entries_of, holding, history, refs, join, PagesRise, IsHistory};
+ghost use Rattle.warm_history.specs.Histories.{entries_of, holding, history, refs, entries_joined, PagesRise, IsHistory};
 
 use crate::hist::{Entry, join_hist, join_known};
 use std::alloc::{AllocError, Global};
@@ -14,7 +14,7 @@ pub(crate) fn merged(
 ) -> Result<Vec<Entry>, AllocError>
     requires here { IsHistory (holding here.now) }
     requires there { IsHistory (holding there.now) }
-    ensures { IfOk result (λ both. both.items ≡ entries_of (join (holding here.now) (holding there.now))) }
+    ensures { IfOk result (λ both. both.items ≡ entries_joined here.now there.now) }
 {
     let mut both = Vec::with_capacity(alloc, here.len() + there.len())?;
     let (mut left, mut right) = (here, there);

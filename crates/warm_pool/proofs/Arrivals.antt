@@ -15,7 +15,7 @@ use Rattle.warm_pool.specs.DeviceCalls.{PageRead}
 use Rattle.warm_pool.specs.Steps.{KeptDevices, Cleans, CleanFails, LoadsInto}
 use Rattle.warm_pool.proofs.Slots.{at_set}
 use Rattle.warm_pool.proofs.Keeps.{pool_from, stored_honest, devices_keep_pool}
-use Rattle.warm_pool.proofs.DeviceSteps.{read_keeps, fails_at, same_view, may_fail}
+use Rattle.warm_pool.proofs.DeviceSteps.{read_keeps, read_same, fails_at, same_view, may_fail}
 use Rattle.warm_pool.proofs.Loads.{Failed, on_ok, PutsPage, put_pool, put_keeps}
 use Rattle.warm_pool.proofs.WriteBacks.{cleans_view}
 
@@ -67,8 +67,14 @@ module _ {s : PoolState} {ds : List DeviceState} {p : PageId} {bytes : List ℕ}
 
     -- the page that was to leave was not written
     pub leave_failed : {n : ℕ} (i : ℕ) (t : PoolState) → CleanFails (record s { spare = n; devices = ds }) i t
-        → (t.frames ≡ s.frames) × ((q : PageId) × ((nth_frame s.frames i).page ≡ Some q) × FailsAt (view_of s) q.dev (view_of t))
-    leave_failed i t c = (c.frames, (c.page, c.holds, subst (λ v. FailsAt v c.page.dev (view_of t)) fetched_view c.fails))
+        → CleanFails s i t
+    leave_failed i t c = record {
+      page = c.page;
+      holds = c.holds;
+      dirty = c.dirty;
+      frames = c.frames;
+      fails = subst (λ v. FailsAt v c.page.dev (view_of t)) fetched_view c.fails;
+    }
 
     module _ {n m : ℕ} {es : List DeviceState} (fs : FramesState) (i : ℕ) (there : i < length s.frames) (size : length bytes ≡ s.page_size)
         (w : IsPool (pool_from fs m es)) (c : Cleans (record s { spare = n; devices = ds }) i (pool_from fs m es)) where
@@ -128,6 +134,7 @@ module _ {s : PoolState} {ds : List DeviceState} {p : PageId} {bytes : List ℕ}
             frames = ap (λ l. set l i (arrival fs.frames i p key fixes b)) c.frames
                 ∙ set-set s.frames i (cleaned (nth_frame s.frames i)) (arrival fs.frames i p key fixes b)
                 ∙ ap (λ (f : FrameState). let r : FrameState = record { page = Some p; key = Some key; generation = f.generation + 1; fixes = fixes; dirty = false; bytes = b } in set s.frames i r) nth_old;
+            devices = λ clean. c.untouched clean ∙ read_same s.devices ds p.dev p.no bytes result h.call ok;
             rest = ap (λ (v : PoolView). let x : PoolView = record v {
               frames = (view_of (pool_from (record fs { frames = set fs.frames i (arrival fs.frames i p key fixes b) }) k es)).frames;
               contents = (view_of (pool_from (record fs { frames = set fs.frames i (arrival fs.frames i p key fixes b) }) k es)).contents;

@@ -1,5 +1,5 @@
 -- What a call of one device does to a list of devices, and to a pool over them.
-use Rattle.std.proofs.Common.{◌≡◌, ◌≢◌, ℕ, ◌+◌, ◌<◌, cond, Bool, true, false, IsTrue, List, [], ◌++◌, length, map, set, get_or, take, drop, Some, Result, Err, OnOk, IsOk, refl, sym, ◌∙◌, ap, subst, inl, inr, arith}
+use Rattle.std.proofs.Common.{◌≡◌, ◌≢◌, ℕ, ◌+◌, ◌<◌, cond, Bool, true, false, IsTrue, List, [], ◌++◌, length, map, set, get_or, take, drop, Some, Result, Ok, Err, OnOk, IsOk, refl, sym, ◌∙◌, ap, subst, inl, inr, arith}
 use Rattle.std.proofs.Math.Path.{ap₂}
 use Rattle.std.proofs.Math.ListN.{get_or-map as mapped}
 use Rattle.std.proofs.lemmas.Grind.{common_steps}
@@ -119,6 +119,22 @@ pub same_view : (s : PoolState) (new : List DeviceState) (k : ℕ) (e : DeviceSt
 same_view s new k e is kept same =
     view_of_kept s new kept
     ∙ ap (λ (failures : List ℕ). let v : PoolView = record (view_of s) { failures = failures } in v) (failures_kept s.devices new k e is same)
+
+-- a device of which a page was read is as it was
+pub read_same : (old new : List DeviceState) (k n : ℕ) (bytes : List ℕ) (result : Result (Unit {0}) DeviceFault)
+    → PageRead old new k n bytes result → result ≡ Ok tt → new ≡ old
+read_same old new k n bytes result r ok =
+    let failures : r.after.failures ≡ (nth_device old k).failures = subst (λ x. CountsFault Read x (nth_device old k) r.after) ok r.faults in
+    let same : r.after ≡ nth_device old k = λ i. record {
+      pages = r.shape.pages i;
+      page_size = r.shape.page_size i;
+      contents = r.contents i;
+      waiting = r.waiting i;
+      failures = failures i;
+      honest = r.shape.honest i;
+      unfailing = r.shape.unfailing i;
+    } in
+    r.becomes ∙ ap (set old k) same ∙ set-get_or old k no_device
 
 -- a device that answered an error isn't unfailing
 pub may_fail : (unfailing : Bool) (fault : DeviceFault) (result : Result (Unit {0}) DeviceFault) → result ≡ Err fault → (IsTrue unfailing → IsOk result) → unfailing ≡ false

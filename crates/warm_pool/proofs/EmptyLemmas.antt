@@ -156,6 +156,7 @@ module _ (t : PoolState) (w : IsPool t) (clean : (i : ℕ) → (nth_frame t.fram
     honest = honest_kept;
     resident = λ p was is. absurd (empty_away t.frames p is.frame (sym (ap (λ f. f.page) (frame_seen u is.frame)) ∙ is.holds));
     absent = λ p isnt away. absent_none p isnt;
+    sized = λ p is. absurd (empty_away t.frames p is.frame (sym (ap (λ f. f.page) (frame_seen u is.frame)) ∙ is.holds));
   }
 
   pub empty_view : (s : PoolState) → view_of t ≡ view_of s → AreUnfixed None s.frames → Emptied (view_of s) (view_of u)

@@ -21,3 +21,4 @@ pub mod Slots
 pub mod VacateLemmas
 pub mod WriteBacks
 pub mod Writes
+pub mod KeepingLemmas

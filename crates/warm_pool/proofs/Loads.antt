@@ -7,8 +7,8 @@ use Rattle.warm_stamps.specs.declared.PageId.{PageId}
 use Rattle.warm_devices.specs.Device.{page_at}
 use Rattle.warm_devices.specs.declared.fault.DeviceFault.{DeviceFault}
 use Rattle.warm_pool.specs.Frames.{FrameState, nth_frame, fresh_frame}
-use Rattle.warm_pool.specs.State.{PoolState, IsPool, IsNowhere, nth_device, stored, bytes_of, device_view, view_of}
-use Rattle.warm_pool.specs.View.{contents_at}
+use Rattle.warm_pool.specs.State.{PoolState, IsPool, IsNowhere, nth_device, stored, bytes_of, device_view, frame_view, view_of}
+use Rattle.warm_pool.specs.View.{contents_at, IsResident}
 use Rattle.warm_pool.specs.Calls.{KeepsContents}
 use Rattle.warm_pool.proofs.Bytes.{where_is, bytes_held, bytes_nowhere, contents_seen, contents_beyond, device_there, frame_seen, device_seen, nowhere_seen}
 use Rattle.warm_pool.proofs.Keeps.{Fits, set_keeps_pool, stored_honest}
@@ -39,6 +39,14 @@ contents_absent s q lies away = elim (cases_lt q.no (nth_device s.devices q.dev)
 
 pub on_err : {P : Type 0} (r : Result (Unit {0}) DeviceFault) → Failed r → OnErr r P → P
 on_err {P} r f h = subst (λ q. OnErr q P) f.is h
+
+-- a resident page has the size of a page
+pub held_size : (s : PoolState) → IsPool s → (q : PageId) → IsResident (view_of s) q → length (contents_at (view_of s) q) ≡ s.page_size
+held_size s w q is =
+    let holds : (nth_frame s.frames is.frame).page ≡ Some q = sym (ap (λ f. f.page) (frame_seen s is.frame)) ∙ is.holds in
+    let there : is.frame < length s.frames = subst (λ n. is.frame < n) (length-map s.frames frame_view) is.there in
+    ap length (contents_seen s q (w.has_device is.frame q holds) (w.has_page is.frame q holds) ∙ bytes_held s is.frame q (stored s.devices q) w holds)
+    ∙ w.frame_size is.frame there
 
 -- a page that is in no frame comes into one whose page is on its device
 pub record PutsPage (s : PoolState) (i : ℕ) (g : FrameState) (p : PageId) : Type 0 where
@@ -112,4 +120,5 @@ module _ (s : PoolState) (i : ℕ) (g : FrameState) (p : PageId) (w : IsPool s) 
     absent = λ q lies away.
         contents_absent (record s { frames = set s.frames i g }) q (sym (ap (λ x. x.honest) (device_seen (record s { frames = set s.frames i g }) q.dev)) ∙ lies)
         (nowhere_seen (record s { frames = set s.frames i g }) q away);
+    sized = λ q is. held_size (record s { frames = set s.frames i g }) put_pool q is;
   }

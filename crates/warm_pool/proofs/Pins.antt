@@ -28,7 +28,7 @@ pub put_refused : {s t : PoolState} → IsPool s → IsPool t → (h : HistoryVi
 put_refused {s} {t} w v h i p place room ReadFault l =
     ((i, record { place = place; room = subst (λ f. f.generation < 2 ^ 64 - 1) (sym (frame_seen s i)) room }), l.1)
 put_refused {s} {t} w v h i p place room WriteBack l =
-    (i, l.1.0, record { place = place; room = subst (λ f. f.generation < 2 ^ 64 - 1) (sym (frame_seen s i)) room }, ap (λ f. f.page) (frame_seen s i) ∙ l.1.1, l.1.2)
+    (i, l.page, record { place = place; room = subst (λ f. f.generation < 2 ^ 64 - 1) (sym (frame_seen s i)) room }, ap (λ f. f.page) (frame_seen s i) ∙ l.holds, l.fails)
 put_refused {s} {t} w v h i p place room Memory l = absurd l
 put_refused {s} {t} w v h i p place room BadFrames l = absurd l
 put_refused {s} {t} w v h i p place room SizeDiffers l = absurd l
@@ -40,9 +40,9 @@ put_refused {s} {t} w v h i p place room OutOfPage l = absurd l
 put_refused {s} {t} w v h i p place room Fixed l = absurd l
 put_refused {s} {t} w v h i p place room Fault l = absurd l
 
-same_frames : (s t : PoolState) (i : ℕ) (p : PageId) (why : PoolFault) → LoadFails s i p why t → t.frames ≡ s.frames
+pub same_frames : (s t : PoolState) (i : ℕ) (p : PageId) (why : PoolFault) → LoadFails s i p why t → t.frames ≡ s.frames
 same_frames s t i p ReadFault l = l.0
-same_frames s t i p WriteBack l = l.0
+same_frames s t i p WriteBack l = l.frames
 same_frames s t i p Memory l = absurd l
 same_frames s t i p BadFrames l = absurd l
 same_frames s t i p SizeDiffers l = absurd l

@@ -15,8 +15,10 @@ use Rattle.warm_pool.specs.State.{PoolState, IsPool, RankedBy, IsNowhere, frame_
 use Rattle.warm_pool.specs.View.{PoolView, FrameView}
 use Rattle.warm_pool.specs.Calls.{AgreeOutside}
 use Rattle.warm_pool.specs.Steps.{Renews}
+use Rattle.warm_pool.specs.Keeping.{KeepsBytes}
 use Rattle.warm_pool.proofs.Slots.{at_set}
 use Rattle.warm_pool.proofs.Bytes.{same_page}
+use Rattle.warm_pool.proofs.KeepingLemmas.{same_bytes, more_bytes}
 use Rattle.warm_pool.proofs.Keeps.{IsAlike, pool_from, step_pool, step_view}
 
 -- one page is renewed
@@ -51,13 +53,14 @@ renews_none {s} w p key away = record { pages = λ i. refl; here = λ i e. absur
 pub record Renewed (s t : PoolState) (h : HistoryView) (pages : List PageId) (k : ℕ) : Type 0 where
   pub pool : IsPool t
   pub same : view_of t ≡ view_of s
+  pub kept : KeepsBytes s t
   pub held : (i : ℕ) → (nth_frame t.frames i).page ≡ (nth_frame s.frames i).page
   pub keys : (i : ℕ) (p : PageId) → (nth_frame s.frames i).page ≡ Some p
       → ((nth_frame t.frames i).key ≡ Some (rank_key p (hist (refs h) p)))
       ⊎ (((nth_frame t.frames i).key ≡ (nth_frame s.frames i).key) × ((j : ℕ) → j < k → get_or pages j p ≢ p))
 
 pub none_renewed : {s : PoolState} → IsPool s → (h : HistoryView) (pages : List PageId) → Renewed s s h pages 0
-none_renewed {s} w h pages = record { pool = w; same = refl; held = λ i. refl; keys = λ i p e. inr (refl, λ j lt. absurd (omega arith)) }
+none_renewed {s} w h pages = record { pool = w; same = refl; kept = same_bytes s; held = λ i. refl; keys = λ i p e. inr (refl, λ j lt. absurd (omega arith)) }
 
 page_cases : (p q : PageId) → (p ≡ q) ⊎ (p ≢ q)
 page_cases p q = elim (cases_eq p.dev q.dev) [
@@ -69,19 +72,20 @@ page_cases p q = elim (cases_eq p.dev q.dev) [
 ]
 
 pub one_renewed : {s t u : PoolState} (h : HistoryView) (pages : List PageId) (k : ℕ) (q : PageId) → Renewed s t h pages k → ((d : PageId) → get_or pages k d ≡ q) → IsPool u
-    → view_of u ≡ view_of t → Renews t q (rank_key q (hist (refs h) q)) u → Renewed s u h pages (k + 1)
-one_renewed {s} {t} {u} h pages k q r at w same n = record {
+    → view_of u ≡ view_of t → KeepsBytes t u → Renews t q (rank_key q (hist (refs h) q)) u → Renewed s u h pages (k + 1)
+one_renewed {s} {t} {u} h pages k q r at w same kept n = record {
   pool = w;
   same = same ∙ r.same;
+  kept = more_bytes s t u r.kept kept;
   held = λ i. n.pages i ∙ r.held i;
   keys = λ i p e. elim (page_cases p q) [
     | inl is ↦ inl (n.here i (r.held i ∙ e ∙ ap Some is) ∙ ap (λ x. Some (rank_key x (hist (refs h) x))) (sym is))
     | inr ne ↦
-        let kept : (nth_frame u.frames i).key ≡ (nth_frame t.frames i).key = n.others i (λ o. ne (same_Some p q (sym (r.held i ∙ e) ∙ o))) in
+        let stays : (nth_frame u.frames i).key ≡ (nth_frame t.frames i).key = n.others i (λ o. ne (same_Some p q (sym (r.held i ∙ e) ∙ o))) in
         elim (r.keys i p e) [
-          | inl new ↦ inl (kept ∙ new)
+          | inl new ↦ inl (stays ∙ new)
           | inr old ↦ inr (
-            kept ∙ old.0,
+            stays ∙ old.0,
             λ j lt. elim (cases_eq j k) [
               | inl here ↦ λ found. ne (sym found ∙ ap (λ m. get_or pages m p) here ∙ at p)
               | inr apart ↦ old.1 j (omega arith)

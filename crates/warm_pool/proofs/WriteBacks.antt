@@ -85,6 +85,7 @@ module _ (s : PoolState) (new : List DeviceState) (i : ℕ) (q : PageId) (bytes 
     write_cleans = record {
       frames = refl;
       devices = kept;
+      untouched = λ clean. let bad : true ≡ false = sym h.dirty ∙ clean in absurd (cc);
       failures = failures_kept s.devices new q.dev h.call.after h.call.becomes same;
       same = (refl, refl);
     }
@@ -97,6 +98,7 @@ pub already_clean : (s : PoolState) (i : ℕ) → (nth_frame s.frames i).dirty �
 already_clean s i e = record {
   frames = sym (ap (set s.frames i) same ∙ set-get_or s.frames i (fresh_frame []));
   devices = record { count = refl; shape = λ k. same_shape (nth_device s.devices k); absent = λ p _. refl; clean = λ j p _ _. refl };
+  untouched = λ _. refl;
   failures = refl;
   same = (refl, refl);
 }

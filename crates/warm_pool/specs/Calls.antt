@@ -21,11 +21,12 @@ pub record FailsAt (old : PoolView) (k : ℕ) (new : PoolView) : Type 0 where
   pub becomes : new ≡ record old { failures = set old.failures k (one_more (failures_at old k)) }
 
 -- The pages of honest devices, and those resident before and after, have the bytes that they had. A page of another device that
--- isn't resident has none.
+-- isn't resident has none, and one that is has the size of a page.
 pub record KeepsContents (old new : PoolView) : Type 0 where
   pub honest : (p : PageId) → HasPage old p → IsTrue (device_at old p.dev).honest → contents_at new p ≡ contents_at old p
   pub resident : (p : PageId) → IsResident old p → IsResident new p → contents_at new p ≡ contents_at old p
   pub absent : (p : PageId) → (device_at new p.dev).honest ≡ false → IsAbsent new p → contents_at new p ≡ []
+  pub sized : (p : PageId) → IsResident new p → length (contents_at new p) ≡ new.page_size
 
 -- Making a pool
 

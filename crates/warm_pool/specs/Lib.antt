@@ -8,5 +8,6 @@ pub mod Flushes
 pub mod Calls
 pub mod Closing
 pub mod Steps
+pub mod Keeping
 pub mod Faults
 pub mod Laws

@@ -20,6 +20,7 @@ pub record KeptDevices (frames : List FrameState) (old new : List DeviceState) :
 pub record Cleans (old : PoolState) (i : ℕ) (new : PoolState) : Type 0 where
   pub frames : new.frames ≡ set old.frames i (cleaned (nth_frame old.frames i))
   pub devices : KeptDevices old.frames old.devices new.devices
+  pub untouched : (nth_frame old.frames i).dirty ≡ false → new.devices ≡ old.devices
   pub failures : map (λ d. d.failures) new.devices ≡ map (λ d. d.failures) old.devices
   pub same : (new.page_size ≡ old.page_size) × (new.spare ≡ old.spare)
 
@@ -35,13 +36,14 @@ pub record CleanFails (old : PoolState) (i : ℕ) (new : PoolState) : Type 0 whe
 pub record LoadsInto (old : PoolState) (i : ℕ) (p : PageId) (key : RankKey) (n : ℕ) (new : PoolState) : Type 0 where
   pub bytes : List ℕ
   pub frames : new.frames ≡ set old.frames i (record { page = Some p; key = Some key; generation = (nth_frame old.frames i).generation + 1; fixes = n; dirty = false; bytes = bytes })
+  pub devices : (nth_frame old.frames i).dirty ≡ false → new.devices ≡ old.devices
   pub rest : view_of new ≡ record (view_of old) { frames = (view_of new).frames; contents = (view_of new).contents }
   pub contents : KeepsContents (view_of old) (view_of new)
 
 -- the page was not read, or that of the frame not written
 abbrev pub LoadFails : PoolState → ℕ → PageId → PoolFault → PoolState → Type 0
 LoadFails old i p ReadFault new = (new.frames ≡ old.frames) × FailsAt (view_of old) p.dev (view_of new)
-LoadFails old i p WriteBack new = (new.frames ≡ old.frames) × ((q : PageId) × ((nth_frame old.frames i).page ≡ Some q) × FailsAt (view_of old) q.dev (view_of new))
+LoadFails old i p WriteBack new = CleanFails old i new
 LoadFails old i p why new = ⊥
 
 -- the frame that holds the page, if one does, has this rank

@@ -9,6 +9,7 @@ ghost use Rattle.warm_pool.specs.State.{PoolState, IsPool, RankedBy, IsNowhere, 
 ghost use Rattle.warm_pool.specs.View.{PoolView, HasPage, IsResident, IsAbsent, Holds, IsPlace, unfixed_pages, frame_at};
 ghost use Rattle.warm_pool.specs.Calls.{SameButFailures, IsUpTo, IsSize, NewRefused, AddsFix, Pinned, PinRefused, Loaded, LoadRefused, PutsIn, PutRefused, unpinned, IsRead, Written, AgreeOutside};
 ghost use Rattle.warm_pool.specs.Steps.{LoadsInto, LoadFails, Cleans, CleanFails, Renews};
+ghost use Rattle.warm_pool.specs.Keeping.{KeepsBytes, KeepsFrames, KeepsOthers, TakesFrame, WritesDirty, MakesDirty};
 ghost use Rattle.warm_pool.specs.declared.fault.PoolFault.TheVariants.{OutOfPage, FixesFull};
 
 use crate::device_list::{all_sized, pages_of, read_page, write_page};
@@ -152,6 +153,9 @@ impl Pool {
         requires ranked { RankedBy (⟦<Pool as Pooled>⟧.state self.old) history.now }
         ensures pool { IsPool (⟦<Pool as Pooled>⟧.state self.new) }
         ensures ranked { RankedBy (⟦<Pool as Pooled>⟧.state self.new) history.now }
+        ensures frame { IfOk result (λ slot. TakesFrame (⟦<Pool as Pooled>⟧.state self.old) page slot (⟦<Pool as Pooled>⟧.state self.new)) }
+        ensures frames { OnErr result (KeepsFrames (⟦<Pool as Pooled>⟧.state self.old) (⟦<Pool as Pooled>⟧.state self.new)) }
+        ensures writes { IfErr result (λ fault. WritesDirty history.now (⟦<Pool as Pooled>⟧.state self.old) fault) }
         ensures pinned { IfOk result (λ slot. Pinned history.now (⟦<Pool as Pooled>⟧.shown self.old) page slot (⟦<Pool as Pooled>⟧.shown self.new)) }
         ensures holds { IfOk result (λ slot. Holds (⟦<Pool as Pooled>⟧.shown self.new) slot) }
         ensures refused { IfErr result (λ fault. PinRefused history.now (⟦<Pool as Pooled>⟧.shown self.old) page fault (⟦<Pool as Pooled>⟧.shown self.new)) }
@@ -175,6 +179,9 @@ impl Pool {
         requires ranked { RankedBy (⟦<Pool as Pooled>⟧.state self.old) history.now }
         ensures pool { IsPool (⟦<Pool as Pooled>⟧.state self.new) }
         ensures ranked { RankedBy (⟦<Pool as Pooled>⟧.state self.new) history.now }
+        ensures frame { IfOk result (λ slot. TakesFrame (⟦<Pool as Pooled>⟧.state self.old) page slot (⟦<Pool as Pooled>⟧.state self.new)) }
+        ensures frames { OnErr result (KeepsFrames (⟦<Pool as Pooled>⟧.state self.old) (⟦<Pool as Pooled>⟧.state self.new)) }
+        ensures writes { IfErr result (λ fault. WritesDirty history.now (⟦<Pool as Pooled>⟧.state self.old) fault) }
         ensures loaded { IfOk result (λ slot. Loaded history.now (⟦<Pool as Pooled>⟧.shown self.old) page slot (⟦<Pool as Pooled>⟧.shown self.new)) }
         ensures refused { IfErr result (λ fault. LoadRefused history.now (⟦<Pool as Pooled>⟧.shown self.old) page fault (⟦<Pool as Pooled>⟧.shown self.new)) }
         ensures stays { OnErr result (SameButFailures (⟦<Pool as Pooled>⟧.shown self.old) (⟦<Pool as Pooled>⟧.shown self.new)) }
@@ -212,6 +219,7 @@ impl Pool {
         requires holds { Holds (⟦<Pool as Pooled>⟧.shown self.old) slot }
         ensures pool { IsPool (⟦<Pool as Pooled>⟧.state self.new) }
         ensures ranked { (h : HistoryView) → RankedBy (⟦<Pool as Pooled>⟧.state self.old) h → RankedBy (⟦<Pool as Pooled>⟧.state self.new) h }
+        ensures kept { KeepsBytes (⟦<Pool as Pooled>⟧.state self.old) (⟦<Pool as Pooled>⟧.state self.new) }
         ensures unpinned { ⟦<Pool as Pooled>⟧.shown self.new ≡ unpinned (⟦<Pool as Pooled>⟧.shown self.old) slot }
     {
         self.frames.unfix(slot.index as usize);
@@ -245,6 +253,7 @@ impl Pool {
         requires holds { Holds (⟦<Pool as Pooled>⟧.shown self.old) slot }
         ensures pool { IsPool (⟦<Pool as Pooled>⟧.state self.new) }
         ensures ranked { (h : HistoryView) → RankedBy (⟦<Pool as Pooled>⟧.state self.old) h → RankedBy (⟦<Pool as Pooled>⟧.state self.new) h }
+        ensures dirty { OnOk result (MakesDirty (⟦<Pool as Pooled>⟧.state self.old) slot (⟦<Pool as Pooled>⟧.state self.new)) }
         ensures written { OnOk result (Written (⟦<Pool as Pooled>⟧.shown self.old) slot at bytes.now (⟦<Pool as Pooled>⟧.shown self.new)) }
         ensures refused { IfErr result (λ fault. (fault ≡ OutOfPage) × ((⟦<Pool as Pooled>⟧.shown self.old).page_size < at + length bytes.now) × (⟦<Pool as Pooled>⟧.state self.new ≡ ⟦<Pool as Pooled>⟧.state self.old)) }
     {
@@ -259,6 +268,7 @@ impl Pool {
     pub fn refresh(&mut self, history: &History, pages: &[PageId])
         requires pool { IsPool (⟦<Pool as Pooled>⟧.state self.old) }
         ensures pool { IsPool (⟦<Pool as Pooled>⟧.state self.new) }
+        ensures kept { KeepsBytes (⟦<Pool as Pooled>⟧.state self.old) (⟦<Pool as Pooled>⟧.state self.new) }
         ensures ranked { (g : HistoryView) → RankedBy (⟦<Pool as Pooled>⟧.state self.old) g → AgreeOutside pages.now g history.now → RankedBy (⟦<Pool as Pooled>⟧.state self.new) history.now }
         ensures same { ⟦<Pool as Pooled>⟧.shown self.new ≡ ⟦<Pool as Pooled>⟧.shown self.old }
     {
@@ -272,6 +282,7 @@ impl Pool {
         requires pool { IsPool (⟦<Pool as Pooled>⟧.state self.old) }
         ensures pool { IsPool (⟦<Pool as Pooled>⟧.state self.new) }
         ensures same { ⟦<Pool as Pooled>⟧.shown self.new ≡ ⟦<Pool as Pooled>⟧.shown self.old }
+        ensures kept { KeepsBytes (⟦<Pool as Pooled>⟧.state self.old) (⟦<Pool as Pooled>⟧.state self.new) }
         ensures keys { Renews (⟦<Pool as Pooled>⟧.state self.old) page (rank_key page (hist (refs history.now) page)) (⟦<Pool as Pooled>⟧.state self.new) }
     {
         if let Some(at) = self.frames.find(page) {
@@ -313,6 +324,8 @@ impl Pool {
         requires held { (nth_frame (⟦<Pool as Pooled>⟧.state self.old).frames at).page ≢ None }
         ensures pool { IsPool (⟦<Pool as Pooled>⟧.state self.new) }
         ensures ranked { (h : HistoryView) → RankedBy (⟦<Pool as Pooled>⟧.state self.old) h → RankedBy (⟦<Pool as Pooled>⟧.state self.new) h }
+        ensures kept { KeepsBytes (⟦<Pool as Pooled>⟧.state self.old) (⟦<Pool as Pooled>⟧.state self.new) }
+        ensures others { IfOk result (λ slot. KeepsOthers slot.index (⟦<Pool as Pooled>⟧.state self.old) (⟦<Pool as Pooled>⟧.state self.new)) }
         ensures fixed { (p : PageId) → (nth_frame (⟦<Pool as Pooled>⟧.state self.old).frames at).page ≡ Some p → IfOk result (λ slot. AddsFix (⟦<Pool as Pooled>⟧.shown self.old) p slot (⟦<Pool as Pooled>⟧.shown self.new)) }
         ensures holds { IfOk result (λ slot. Holds (⟦<Pool as Pooled>⟧.shown self.new) slot) }
         ensures refused { IfErr result (λ fault. (fault ≡ FixesFull) × ((nth_frame (⟦<Pool as Pooled>⟧.state self.old).frames at).fixes ≡ 2 ^ 32 - 1) × (⟦<Pool as Pooled>⟧.state self.new ≡ ⟦<Pool as Pooled>⟧.state self.old)) }
@@ -350,6 +363,9 @@ impl Pool {
         requires absent { IsNowhere (⟦<Pool as Pooled>⟧.state self.old).frames page }
         ensures pool { IsPool (⟦<Pool as Pooled>⟧.state self.new) }
         ensures ranked { RankedBy (⟦<Pool as Pooled>⟧.state self.new) history.now }
+        ensures frame { IfOk result (λ slot. TakesFrame (⟦<Pool as Pooled>⟧.state self.old) page slot (⟦<Pool as Pooled>⟧.state self.new)) }
+        ensures frames { OnErr result (KeepsFrames (⟦<Pool as Pooled>⟧.state self.old) (⟦<Pool as Pooled>⟧.state self.new)) }
+        ensures writes { IfErr result (λ fault. WritesDirty history.now (⟦<Pool as Pooled>⟧.state self.old) fault) }
         ensures put { IfOk result (λ slot. PutsIn history.now (⟦<Pool as Pooled>⟧.shown self.old) page fixes slot (⟦<Pool as Pooled>⟧.shown self.new)) }
         ensures refused { IfErr result (λ fault. PutRefused history.now (⟦<Pool as Pooled>⟧.shown self.old) page fault (⟦<Pool as Pooled>⟧.shown self.new)) }
     {

@@ -55,7 +55,8 @@ impl Line {
 
     // Writes the line and its end.
     fn write_to<W: Write>(self, writer: &mut W) -> io::Result<()>
-        ensures { OnOk result (Appends (W.contents writer.old) (W.contents writer.new) (line_text self)) }
+        ensures { let text = line_text self in
+            OnOk result (Appends (W.contents writer.old) (W.contents writer.new) text) }
     {
         match self {
             Line::Ref {
@@ -132,7 +133,8 @@ pub fn write_schedule<W: Write>(
 ) -> io::Result<()>
     requires replicas { 0 < replicas }
     requires workers { 0 < workers }
-    ensures { OnOk result (Appends (W.contents writer.old) (W.contents writer.new) (schedule_text seed events replicas workers)) }
+    ensures { let text = schedule_text seed events replicas workers in
+        OnOk result (Appends (W.contents writer.old) (W.contents writer.new) text) }
 {
     let mut words = Lcg64Xsh32::new(seed, 1);
     let mut sends: u64 = 0;

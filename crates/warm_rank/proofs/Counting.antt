@@ -18,7 +18,7 @@ use Rattle.warm_history.specs.ReferenceSets.{ReferenceSet, references}
 use Rattle.warm_history.specs.Histories.{stamps}
 use Rattle.warm_rank.specs.Ranking.{count_later}
 
-abbrev later : Stamp → Reference → Bool
+abbrev pub later : Stamp → Reference → Bool
 later s r = is_lt (stamp_cmp s r.stamp)
 
 -- what is later than the later of two stamps is later than the earlier one
@@ -30,10 +30,10 @@ later_both s t r less is = cases (stamp_cmp t r.stamp) refl
     cases Equal e = let no : false ≡ true = rw e at is in absurd (cc)
     cases Greater e = let no : false ≡ true = rw e at is in absurd (cc)
 
-counted : (p : Reference → Bool) (x : Reference) (xs : List Reference) → p x ≡ true → count_by p (x ∷ xs) ≡ 1 + count_by p xs
+pub counted : (p : Reference → Bool) (x : Reference) (xs : List Reference) → p x ≡ true → count_by p (x ∷ xs) ≡ 1 + count_by p xs
 counted p x xs holds = sum_by-cons (λ y. cond (p y) 1 0) x xs ∙ ap (λ b. cond b 1 0 + count_by p xs) holds
 
-passed : (p : Reference → Bool) (x : Reference) (xs : List Reference) → p x ≡ false → count_by p (x ∷ xs) ≡ 0 + count_by p xs
+pub passed : (p : Reference → Bool) (x : Reference) (xs : List Reference) → p x ≡ false → count_by p (x ∷ xs) ≡ 0 + count_by p xs
 passed p x xs fails = sum_by-cons (λ y. cond (p y) 1 0) x xs ∙ ap (λ b. cond b 1 0 + count_by p xs) fails
 
 count_le : (s t : Stamp) → stamp_cmp s t ≡ Less → (rs : List Reference) → count_by (later t) rs ≤ count_by (later s) rs

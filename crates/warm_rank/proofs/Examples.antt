@@ -4,7 +4,8 @@ use Rattle.std.specs.List.{Contains}
 use Rattle.std.specs.declared.cmp.Ordering.TheVariants.{Less}
 use Rattle.warm_stamps.specs.declared.PageId.{PageId}
 use Rattle.warm_stamps.specs.declared.Reference.{Reference}
-use Rattle.warm_history.specs.ReferenceSets.{ReferenceSet, these, ◌∪◌}
+use Rattle.warm_history.specs.ReferenceSets.{ReferenceSet, references, these, ◌∪◌}
+use Rattle.warm_rank.specs.Backward.{StampsRise, places_back}
 use Rattle.warm_rank.specs.Ranking.{dist, leaving_cmp, IsBefore, IsVictim, warm}
 
 -- the page 0:n
@@ -28,6 +29,20 @@ scan_first_infinite = refl
 
 scan_second_infinite : dist scan (page 6) ≡ None
 scan_second_infinite = refl
+
+-- the scan is given in the order of its stamps: three places from its end to the last but one reference to the page
+scan_rises : StampsRise (references scan)
+scan_rises = ((refl, (refl, (refl, tt))), ((refl, (refl, tt)), ((refl, tt), (tt, tt))))
+
+scan_places : places_back (references scan) (page 1) ≡ Some 3
+scan_places = refl
+
+scan_no_place : places_back (references scan) (page 5) ≡ None
+scan_no_place = refl
+
+-- a page with three references: the first of them doesn't matter
+three_times : places_back (seen 4 1 ∷ seen 4 2 ∷ seen 5 3 ∷ seen 4 4 ∷ seen 6 5 ∷ []) (page 4) ≡ Some 3
+three_times = refl
 
 -- a reference that is told twice counts once
 told_twice : dist (these (seen 5 10 ∷ seen 1 2 ∷ []) ∪ scan) (page 1) ≡ Some 3

@@ -2,6 +2,7 @@ pub mod Counting
 mod Examples
 pub mod KeyLemmas
 pub mod LeavingLemmas
+pub mod PlacesBack
 pub mod SlotLemmas
 pub mod SortLemmas
 pub mod WarmUpLemmas

@@ -17,11 +17,11 @@ use Rattle.warm_stamps.proofs.DistinctLemmas.{Has, by_cases, distinct_rises, has
 use Rattle.warm_stamps.proofs.StampLemmas.{page_order}
 use Rattle.warm_history.specs.ReferenceSets.{ReferenceSet, references}
 use Rattle.warm_history.specs.declared.hist.PageHist.{PageHist}
-use Rattle.warm_history.specs.Histories.{entries_of, hist, pages, history}
+use Rattle.warm_history.specs.Histories.{hist, pages, history}
 use Rattle.warm_history.proofs.HistoryLemmas.{some_named}
 use Rattle.warm_rank.specs.declared.RankKey.{RankKey}
 use Rattle.warm_rank.specs.Greatest.{AreGreatest}
-use Rattle.warm_rank.specs.Keys.{rank_key, key_cmp, entry_key, page_of}
+use Rattle.warm_rank.specs.Keys.{rank_key, key_cmp, entry_key, keys_in, page_of}
 use Rattle.warm_rank.specs.Ranking.{leaving_cmp, warm}
 use Rattle.warm_rank.proofs.KeyLemmas.{keys_rank, key_order, page_of-rank_key}
 use Rattle.warm_rank.proofs.SortLemmas.{ties, ties-here, ties-other, HasNoTies, IsAbove, distinct-falling, above_from_split}
@@ -46,7 +46,7 @@ keys_of_entries f (p ∷ ps) some = go (f p) (some p (inl refl)) (keys_of_entrie
     go None is later = absurd (cc)
     go (Some h) is later = ap (λ t. rank_key p (Some h) ∷ t) later
 
-keys_of_pages : (S : ReferenceSet) → map entry_key (entries_of (history S)) ≡ map (λ p. rank_key p (hist S p)) (pages S)
+keys_of_pages : (S : ReferenceSet) → keys_in (history S) ≡ map (λ p. rank_key p (hist S p)) (pages S)
 unfolding history
 keys_of_pages S = keys_of_entries (hist S) (pages S) (λ p has. some_named S p (has_from_distinct page_cmp page_order (map (λ (r : Reference). r.page) (references S)) p has))
 
@@ -55,7 +55,7 @@ map_inverse f g back [] = refl
 map_inverse f g back (x ∷ xs) = ap (λ y. y ∷ map g (map f xs)) (back x) ∙ ap (λ t. x ∷ t) (map_inverse f g back xs)
 
 -- the pages of the greatest keys are the warm-up list
-pub warm_from_keys : (S : ReferenceSet) (n : ℕ) → map page_of (take n (distinct (flip_args key_cmp) (map entry_key (entries_of (history S))))) ≡ warm S n
+pub warm_from_keys : (S : ReferenceSet) (n : ℕ) → map page_of (take n (distinct (flip_args key_cmp) (keys_in (history S)))) ≡ warm S n
 warm_from_keys S n =
     let key = λ (p : PageId). rank_key p (hist S p) in
     ap (λ ks. map page_of (take n (distinct (flip_args key_cmp) ks))) (keys_of_pages S)
@@ -90,7 +90,7 @@ no_ties f (p ∷ ps) rising x =
     omega (arith, ties-here key_cmp key_order x key keys tied, ap (λ k. ties key_cmp k keys) same ∙ none_tied f p ps rising.0))
     (λ more. omega (arith, ties-other key_cmp key_order x key keys (ap is_eq more), no_ties f ps rising.1 x))
 
-history_has_no_ties : (S : ReferenceSet) (keys : List RankKey) → keys ≡ map entry_key (entries_of (history S)) → HasNoTies key_cmp keys
+history_has_no_ties : (S : ReferenceSet) (keys : List RankKey) → keys ≡ keys_in (history S) → HasNoTies key_cmp keys
 history_has_no_ties S keys is = subst (HasNoTies key_cmp) (sym (is ∙ keys_of_pages S)) (no_ties (hist S) (pages S) (distinct_rises page_cmp page_order (map (λ (r : Reference). r.page) (references S))))
 
 -- ---- the warm-up list from a part of the keys, or from all, once it is sorted
@@ -109,7 +109,7 @@ all_of (x ∷ xs) zero short = absurd (omega arith)
 all_of (x ∷ xs) (suc n) short = ap (λ t. x ∷ t) (all_of xs n (omega arith))
 
 -- keys of which no item of top is below one of rest
-warm_from_parts : (S : ReferenceSet) (n : ℕ) (keys rest top sorted : List RankKey) → keys ≡ map entry_key (entries_of (history S)) → IsPermutation keys (rest ++ top) → IsAbove key_cmp rest top → IsPermutation top sorted → IsSorted key_cmp sorted
+warm_from_parts : (S : ReferenceSet) (n : ℕ) (keys rest top sorted : List RankKey) → keys ≡ keys_in (history S) → IsPermutation keys (rest ++ top) → IsAbove key_cmp rest top → IsPermutation top sorted → IsSorted key_cmp sorted
     → take n (reverse sorted ++ distinct (flip_args key_cmp) rest) ≡ reverse sorted → map page_of (reverse sorted) ≡ warm S n
 warm_from_parts S n keys rest top sorted is parted above moved in_order first =
     ap (map page_of) (sym first ∙ ap (take n) (sym (distinct-falling key_cmp key_order keys rest top sorted (history_has_no_ties S keys is) parted above moved in_order)))
@@ -117,13 +117,13 @@ warm_from_parts S n keys rest top sorted is parted above moved in_order first =
     ∙ warm_from_keys S n
 
 -- the n greatest keys
-pub warm_from_greatest : (S : ReferenceSet) (n : ℕ) (keys top sorted : List RankKey) → keys ≡ map entry_key (entries_of (history S)) → AreGreatest key_cmp keys n top → IsPermutation top sorted → IsSorted key_cmp sorted → map page_of (reverse sorted) ≡ warm S n
+pub warm_from_greatest : (S : ReferenceSet) (n : ℕ) (keys top sorted : List RankKey) → keys ≡ keys_in (history S) → AreGreatest key_cmp keys n top → IsPermutation top sorted → IsSorted key_cmp sorted → map page_of (reverse sorted) ≡ warm S n
 warm_from_greatest S n keys top sorted is great moved in_order =
     warm_from_parts S n keys (great.others ++ great.next ∷ []) top sorted is (subst (IsPermutation keys) (sym (append_assoc great.others (great.next ∷ []) top)) great.parts) (above_from_split key_cmp key_order great.others great.next top great.split) moved in_order
     (first_of (reverse sorted) _ n (length-reverse sorted ∙ length_permutation top sorted moved ∙ great.count))
 
 -- all keys
-pub warm_from_all : (S : ReferenceSet) (n : ℕ) (keys sorted : List RankKey) → keys ≡ map entry_key (entries_of (history S)) → length keys ≤ n → IsPermutation keys sorted → IsSorted key_cmp sorted → map page_of (reverse sorted) ≡ warm S n
+pub warm_from_all : (S : ReferenceSet) (n : ℕ) (keys sorted : List RankKey) → keys ≡ keys_in (history S) → length keys ≤ n → IsPermutation keys sorted → IsSorted key_cmp sorted → map page_of (reverse sorted) ≡ warm S n
 warm_from_all S n keys sorted is short moved in_order =
     warm_from_parts S n keys [] keys sorted is (IsPermutation-refl keys) (λ r t none has. absurd none) moved in_order
     (all_of (reverse sorted) n (omega (arith, length-reverse sorted, length_permutation keys sorted moved)))

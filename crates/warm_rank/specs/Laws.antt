@@ -3,13 +3,18 @@ use Rattle.std.specs.Prelude.{◌≡◌, ◌≢◌, ◌⊎◌, ℕ, List, Option
 use Rattle.std.specs.List.{filter_map}
 use Rattle.std.specs.Option.{option_and_then, option_map}
 use Rattle.warm_stamps.specs.declared.PageId.{PageId}
-use Rattle.warm_history.specs.ReferenceSets.{ReferenceSet}
+use Rattle.warm_history.specs.ReferenceSets.{ReferenceSet, references}
 use Rattle.warm_history.specs.Histories.{HistoryView, hist, refs, StandsFor}
 use Rattle.warm_history.specs.References.{HoldSame}
 use Rattle.warm_rank.specs.declared.RankKey.{RankKey}
 use Rattle.warm_rank.specs.Keys.{rank_key, key_cmp}
-use Rattle.warm_rank.specs.Ranking.{leaving_cmp, IsBefore, IsVictim, warm}
+use Rattle.warm_rank.specs.Backward.{StampsRise, places_back}
+use Rattle.warm_rank.specs.Ranking.{dist, leaving_cmp, IsBefore, IsVictim, warm}
 use Rattle.warm_rank.specs.Slots.{key_at, IsLeast}
+
+-- over references in the order of their stamps, no two of which share one, the distance is counted in places
+abbrev pub DistanceIsPlacesBack : Type 0
+DistanceIsPlacesBack = (S : ReferenceSet) (p : PageId) → StampsRise (references S) → dist S p ≡ places_back (references S) p
 
 -- of two pages, the one with the lesser key leaves first: keys compare as their pages do
 abbrev pub KeysRank : Type 0

@@ -2,13 +2,19 @@
 ghost use Rattle.std.specs.Prelude.{◌≡◌};
 ghost use Rattle.warm_rank.specs.declared.RankKey.{RankKey};
 ghost use Rattle.warm_rank.specs.Keys.{key_cmp};
-ghost use Rattle.warm_rank.specs.Laws.{KeysRank, LeavingIsOrder, LeastKeyIsVictim, OrderKept, SameReferencesRankAlike};
+ghost use Rattle.warm_rank.specs.Laws.{DistanceIsPlacesBack, KeysRank, LeavingIsOrder, LeastKeyIsVictim, OrderKept, SameReferencesRankAlike};
 
 use crate::RankKey;
 
 /// The order of `RankKey` in Rust is the order of keys of which the other laws speak.
 pub fn keys_compare()
     ensures { (j k : RankKey) → ⟦<RankKey as Ord>⟧.cmp j k ≡ key_cmp j k }
+{}
+
+/// Over references given in the order of their stamps, no two of which share one, the distance is the backward
+/// 2-distance of LRU-2: the number of places from the end to the last but one reference to the page.
+pub fn distance_is_places_back()
+    ensures { DistanceIsPlacesBack }
 {}
 
 /// Keys compare as their pages leave: of two pages, the one with the lesser key leaves first.

@@ -28,6 +28,9 @@ use warm_history::{History, PageHist};
 use warm_stamps::{PageId, Stamp};
 pub use warm_up::warm_list;
 
+/// The most slots of a contest, and so the most frames of a pool.
+pub const MAX_SLOTS: usize = 65_536;
+
 /// The rank of a page, by its two latest stamps. Of two pages, the one with the lesser key leaves first.
 ///
 /// The derived order is the eviction order: pages that were never referenced, by page; then pages that were referenced

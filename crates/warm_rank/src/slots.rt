@@ -3,7 +3,7 @@ ghost use Rattle.std.specs.Prelude.{◌≡◌, ◌+◌, ◌<◌, ◌≤◌, leng
 ghost use Rattle.warm_rank.specs.Keys.{key_cmp};
 ghost use Rattle.warm_rank.specs.Slots.{IsLeast, IsLeastBelow};
 
-use crate::RankKey;
+use crate::{MAX_SLOTS, RankKey};
 use std::alloc::{AllocError, Global};
 use std::marker::Model;
 
@@ -26,13 +26,13 @@ impl Model for Contest {
 }
 
 impl Contest {
-    /// A contest of 1 to 65,536 slots, none of which has a key.
+    /// A contest of 1 to [`MAX_SLOTS`] slots, none of which has a key.
     ///
     /// # Errors
     /// `AllocError` where there is no memory for the slots.
     pub fn new(alloc: Global, slots: usize) -> Result<Contest, AllocError>
         requires some { 0 < slots }
-        requires few { slots ≤ 65536 }
+        requires few { slots ≤ MAX_SLOTS }
         ensures { IfOk result (λ contest. contest ≡ replicate slots None) }
     {
         let mut keys = Vec::new(alloc);

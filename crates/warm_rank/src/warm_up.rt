@@ -1,10 +1,8 @@
 //! The pages to load first.
 ghost use Rattle.std.specs.Prelude.{◌≡◌, ◌<◌, length, map, reverse, IfOk, IsPermutation, IsSorted};
-ghost use Rattle.warm_history.specs.ReferenceSets.{ReferenceSet};
-ghost use Rattle.warm_history.specs.Histories.{StandsFor, entries_of, history};
 ghost use Rattle.warm_rank.specs.Greatest.{AreGreatest};
-ghost use Rattle.warm_rank.specs.Keys.{entry_key, key_cmp, page_of};
-ghost use Rattle.warm_rank.specs.Ranking.{warm};
+ghost use Rattle.warm_rank.specs.Keys.{entry_key, key_cmp, keys_in, page_of};
+ghost use Rattle.warm_rank.specs.WarmUp.{IsWarmUp, IsWarmUpOfKeys};
 
 use crate::{RankKey, key_of};
 use std::alloc::{AllocError, Global};
@@ -18,7 +16,7 @@ use warm_stamps::PageId;
 /// # Errors
 /// `AllocError` where there is no memory for a key of each page and for the list.
 pub fn warm_list(alloc: Global, history: &History, n: usize) -> Result<Vec<PageId>, AllocError>
-    ensures { (S : ReferenceSet) → StandsFor history.now S → IfOk result (λ pages. pages.items ≡ warm S n) }
+    ensures { IfOk result (λ pages. IsWarmUp history.now n pages.items) }
 {
     let mut keys = keys_of(alloc, history)?;
     let pages = hottest_pages(alloc, &mut keys, n)?;
@@ -27,7 +25,7 @@ pub fn warm_list(alloc: Global, history: &History, n: usize) -> Result<Vec<PageI
 
 // The keys of all entries.
 fn keys_of(alloc: Global, history: &History) -> Result<Vec<RankKey>, AllocError>
-    ensures { IfOk result (λ keys. keys.items ≡ map entry_key (entries_of history.now)) }
+    ensures { IfOk result (λ keys. keys.items ≡ keys_in history.now) }
 {
     let mut keys = Vec::with_capacity(alloc, history.len())?;
     for entry in history.iter() {
@@ -45,7 +43,7 @@ fn key_of_entry(entry: Entry) -> RankKey
 // The warm-up list from the keys of a history's entries, in any order. Where only some are asked for, the rest is set
 // apart first and never sorted.
 fn hottest_pages(alloc: Global, keys: &mut [RankKey], n: usize) -> Result<Vec<PageId>, AllocError>
-    ensures { (S : ReferenceSet) → keys.old ≡ map entry_key (entries_of (history S)) → IfOk result (λ pages. pages.items ≡ warm S n) }
+    ensures { IfOk result (λ pages. IsWarmUpOfKeys keys.old n pages.items) }
 {
     if n < keys.len() {
         return falling_pages(alloc, greatest(keys, n));

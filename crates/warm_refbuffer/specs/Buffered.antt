@@ -1,6 +1,7 @@
 -- What waits in a buffer, and how its refusals are numbered.
 use Rattle.std.specs.Prelude.{ℕ, ◌≤◌, List, codes}
 use Rattle.warm_stamps.specs.declared.Reference.{Reference}
+use Rattle.warm_refbuffer.specs.declared.TheConstants.{MAX_CAPACITY}
 use Rattle.warm_refbuffer.specs.declared.BufferFault.{BufferFault}
 use Rattle.warm_refbuffer.specs.declared.BufferFault.TheVariants.{Memory, BadCapacity}
 
@@ -12,7 +13,13 @@ pub record Buffered : Type 0 where
 -- a capacity that a buffer can have
 pub record IsCapacity (cap : ℕ) : Type 0 where
   pub from_one : 1 ≤ cap
-  pub in_range : cap ≤ 1024
+  pub in_range : cap ≤ MAX_CAPACITY
+
+-- a buffer in which so many references wait has a capacity for them, and room for its capacity
+pub record IsBuffer (waiting cap room : ℕ) : Type 0 where
+  pub capacity : IsCapacity cap
+  pub within : waiting ≤ cap
+  pub has_room : cap ≤ room
 
 -- the number and the name of each refusal
 abbrev pub code_of : BufferFault → ℕ

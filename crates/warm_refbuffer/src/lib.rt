@@ -13,10 +13,11 @@ use std::marker::Model;
 use warm_stamps::Reference;
 
 /// The most references that a buffer may be made for.
-const MOST: usize = 1024;
+pub const MAX_CAPACITY: usize = 1024;
 
 /// The references that a worker has made since its buffer was last cleared, oldest first, and how many
-/// the buffer holds (1 to 1024). Contracts see `Buffered`: the list `refs` and the number `cap`.
+/// the buffer holds (1 to [`MAX_CAPACITY`]). Contracts see `Buffered`: the list `refs` and the number
+/// `cap`.
 #[derive(Debug, Drop)]
 pub struct RefBuffer {
     refs: Vec<Reference>,
@@ -24,14 +25,14 @@ pub struct RefBuffer {
 }
 
 impl Model for RefBuffer {
-    ghost use Rattle.std.specs.Prelude.{◌≤◌, length, vec_capacity};
-    ghost use Rattle.warm_refbuffer.specs.Buffered.{Buffered, IsCapacity};
+    ghost use Rattle.std.specs.Prelude.{length, vec_capacity};
+    ghost use Rattle.warm_refbuffer.specs.Buffered.{Buffered, IsBuffer};
 
     ghost Value = { Buffered };
 
     ghost view = { λ b. record { refs = b.refs.items; cap = b.cap } };
 
-    ghost invariant = { λ b. IsCapacity b.cap × (length b.refs.items ≤ b.cap) × (b.cap ≤ vec_capacity b.refs) };
+    ghost invariant = { λ b. IsBuffer (length b.refs.items) b.cap (vec_capacity b.refs) };
 }
 
 /// Why no buffer was made.
@@ -39,7 +40,7 @@ impl Model for RefBuffer {
 pub enum BufferFault {
     /// 1: there was no memory for the room.
     Memory,
-    /// 2: the capacity is outside 1 to 1024.
+    /// 2: the capacity is outside 1 to [`MAX_CAPACITY`].
     BadCapacity,
 }
 
@@ -88,14 +89,14 @@ impl Full {
 impl RefBuffer {
     /// An empty buffer for `cap` references, whose room is taken here.
     ///
-    /// Refused as `BadCapacity` where `cap` is outside 1 to 1024, and else as `Memory` where the room is
-    /// refused.
+    /// Refused as `BadCapacity` where `cap` is outside 1 to [`MAX_CAPACITY`], and else as `Memory` where
+    /// the room is refused.
     pub fn new(alloc: Global, cap: usize) -> Result<RefBuffer, BufferFault>
         ensures value { IfOk result (λ b. b ≡ record { refs = []; cap = cap }) }
         ensures capacity { IsOk result → IsCapacity cap }
         ensures bad { (result ≡ Err BufferFault.BadCapacity) ↔ (¬ IsCapacity cap) }
     {
-        if cap < 1 || cap > MOST {
+        if cap < 1 || cap > MAX_CAPACITY {
             return Err(BufferFault::BadCapacity);
         }
         match Vec::with_capacity(alloc, cap) {

@@ -8,7 +8,7 @@ use Rattle.warm_stamps.specs.declared.Reference.{Reference}
 use Rattle.warm_history.specs.Histories.{history}
 use Rattle.warm_world.specs.Lists.{IsNumber}
 use Rattle.warm_world.specs.States.{ModelState, opening}
-use Rattle.warm_schedule.specs.Printed.{meaning, Printed}
+use Rattle.warm_schedule.specs.Printed.{Printed}
 use Rattle.warm_history.specs.declared.hist.Entry.{Entry}
 use Rattle.warm_history.specs.declared.hist.PageHist.TheVariants.{Once, Twice}
 use Rattle.warm_world.specs.declared.event.Event.{Event}
@@ -18,7 +18,7 @@ use Rattle.warm_world.specs.declared.event.WorldFault.TheVariants.{NoSuchReplica
 use Rattle.warm_schedule.specs.declared.parse.Line.{Line}
 use Rattle.warm_schedule.specs.declared.parse.Line.TheVariants.{Nothing, Act}
 use Rattle.warm_schedule.specs.Text.{lines, words}
-use Rattle.warm_schedule.specs.Grammar.{line_of, number_up_to, page_of, number_field, page_field, after_field, refer_of, flush_of, send_of, deliver_of, warm_of, restart_of, show_of}
+use Rattle.warm_schedule.specs.Grammar.{line_of, meaning, number_up_to, page_of, number_field, page_field, after_field, refer_of, flush_of, send_of, deliver_of, warm_of, restart_of, show_of}
 use Rattle.warm_schedule.specs.Answers.{answer_text}
 
 abbrev page : ℕ → ℕ → PageId

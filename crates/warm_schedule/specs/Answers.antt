@@ -1,5 +1,6 @@
 -- What is printed for an answer of the world. Numbers are in decimal, and each line ends with byte 0A.
-use Rattle.std.specs.Prelude.{ℕ, zero, suc, List, ◌++◌, length, flat_map, codes, decimal}
+use Rattle.std.specs.Prelude.{ℕ, zero, suc, List, ◌++◌, length, flat_map, codes, decimal, Option, Result, OnOk}
+use Rattle.std.specs.Io.KnownBytes.{Appends}
 use Rattle.warm_stamps.specs.declared.PageId.{PageId}
 use Rattle.warm_stamps.specs.declared.Stamp.{Stamp}
 use Rattle.warm_history.specs.declared.hist.Entry.{Entry}
@@ -8,6 +9,11 @@ use Rattle.warm_history.specs.declared.hist.PageHist.TheVariants.{Once, Twice}
 use Rattle.warm_world.specs.declared.event.Answer.{Answer}
 use Rattle.warm_world.specs.declared.event.Answer.TheVariants.{Done, Shown, FrameNo, Took, Pages, Refused}
 use Rattle.warm_world.specs.Faults.{code_of, name_of}
+
+-- a call that answers Ok has written this text after what was there, and nothing else
+abbrev pub Prints : {E : Type 0} → Result (Unit {0}) E → Option (List ℕ) → Option (List ℕ)
+    → List ℕ → Type 0
+Prints result old new text = OnOk result (Appends old new text)
 
 -- DEVICE:NUMBER
 abbrev pub page_text : PageId → List ℕ
@@ -37,13 +43,17 @@ took_text (suc n) first = codes "took " ++ decimal (suc n) ++ codes " from " ++ 
 abbrev pub listed_text : PageId → List ℕ
 listed_text page = codes " " ++ page_text page
 
+abbrev pub pages_text : List PageId → List ℕ
+pages_text pages = flat_map listed_text pages
+
 abbrev pub answer_text : Answer → List ℕ
 answer_text Done = codes "ok\n"
 answer_text (Shown entries) = shown_text entries
 answer_text (FrameNo k) = codes "frame " ++ decimal k ++ codes "\n"
 answer_text (Took count first) = took_text count first
-answer_text (Pages pages) = codes "pages" ++ flat_map listed_text pages ++ codes "\n"
-answer_text (Refused fault) = codes "refused " ++ decimal (code_of fault) ++ codes " " ++ name_of fault ++ codes "\n"
+answer_text (Pages pages) = codes "pages" ++ pages_text pages ++ codes "\n"
+answer_text (Refused fault) =
+    codes "refused " ++ decimal (code_of fault) ++ codes " " ++ name_of fault ++ codes "\n"
 
 -- what is printed for a bad line
 abbrev pub bad_line : ℕ → List ℕ

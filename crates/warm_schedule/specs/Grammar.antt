@@ -1,11 +1,12 @@
 -- The lines of a schedule, each a command with its fields.
-use Rattle.std.specs.Prelude.{ℕ, ◌+◌, ◌-◌, ◌*◌, List, [], ◌∷◌, Bool, false, ◌&&◌, ◌==◌, nat_le, Option, Some, None, option_and_then, option_map, codes, bytes_eq, if◌then◌else◌}
+use Rattle.std.specs.Prelude.{ℕ, ◌+◌, ◌-◌, ◌*◌, List, [], ◌∷◌, Bool, false, ◌&&◌, ◌==◌, nat_le, nat_lt, length, Option, Some, None, option_and_then, option_map, codes, bytes_eq, if◌then◌else◌}
 use Rattle.warm_stamps.specs.declared.PageId.{PageId}
 use Rattle.warm_world.specs.declared.event.Event.{Event}
 use Rattle.warm_world.specs.declared.event.Event.TheVariants.{Refer, Flush, Send, Deliver, Warm, Restart, Show}
 use Rattle.warm_schedule.specs.Text.{split, words}
 use Rattle.warm_schedule.specs.declared.parse.Line.{Line}
 use Rattle.warm_schedule.specs.declared.parse.Line.TheVariants.{Nothing, Act}
+use Rattle.warm_schedule.specs.declared.parse.TheConstants.{MAX_LINE}
 
 infixl 10 ◌>>=◌
 abbrev pub ◌>>=◌ : {A B : Type 0} → Option A → (A → Option B) → Option B
@@ -159,6 +160,10 @@ abbrev pub line_of_words : List (List ℕ) → Option Line
 line_of_words [] = Some Nothing
 line_of_words (word ∷ rest) = if begins_with 35 word then Some Nothing else option_map Act (event_of word rest)
 
--- what a line says, or None where it is bad
+-- what a line of any length says, or None where it isn't of the language
 unfoldable pub line_of : List ℕ → Option Line
 line_of line = line_of_words (words line)
+
+-- what a line says, or None where it is bad, for its length or otherwise
+unfoldable pub meaning : List ℕ → Option Line
+meaning line = if nat_lt MAX_LINE (length line) then None else line_of line

@@ -3,10 +3,3 @@ pub mod Grammar
 pub mod Answers
 pub mod Printed
 pub mod Stream
-pub mod Faults
-pub mod SetupFaults
-pub mod SetupSeen
-pub mod Setups
-pub mod Words
-pub mod WordsSeen
-pub mod Endings

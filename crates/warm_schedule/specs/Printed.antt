@@ -1,34 +1,28 @@
 -- What may be printed for a schedule: each line answered from the state that the lines before it left.
-use Rattle.std.specs.Prelude.{◌≡◌, ℕ, ◌+◌, List, [], ◌∷◌, ◌++◌, length, Option, Some, None, nat_lt, if◌then◌else◌}
+use Rattle.std.specs.Prelude.{◌≡◌, ℕ, ◌+◌, List, [], ◌∷◌, ◌++◌, Option, Some, None}
 use Rattle.warm_world.specs.declared.event.Answer.{Answer}
 use Rattle.warm_world.specs.States.{ModelState}
 use Rattle.warm_world.specs.Next.{Next}
 use Rattle.warm_schedule.specs.declared.parse.Line.{Line}
 use Rattle.warm_schedule.specs.declared.parse.Line.TheVariants.{Nothing, Act}
 use Rattle.warm_schedule.specs.Text.{lines}
-use Rattle.warm_schedule.specs.Grammar.{line_of}
+use Rattle.warm_schedule.specs.Grammar.{meaning}
 use Rattle.warm_schedule.specs.Answers.{answer_text, bad_line}
-
--- a line of more bytes is bad
-abbrev pub line_limit : ℕ
-line_limit = 262144
-
--- what a line says, or None where it is bad, for its length or otherwise
-unfoldable pub meaning : List ℕ → Option Line
-meaning line = if nat_lt line_limit (length line) then None else line_of line
 
 -- A line of this meaning and number may print `out` and lead from `old` to `new`. An event is answered as the world's
 -- relation has it, so that want of memory, where that relation allows it, prints its refusal and leaves the state.
 abbrev pub Answered : ModelState → ℕ → Option Line → List ℕ → ModelState → Type 0
 Answered old number None out new = (out ≡ bad_line number) × (new ≡ old)
 Answered old number (Some Nothing) out new = (out ≡ []) × (new ≡ old)
-Answered old number (Some (Act event)) out new = (answer : Answer) × Next old event answer new × (out ≡ answer_text answer)
+Answered old number (Some (Act event)) out new =
+    (answer : Answer) × Next old event answer new × (out ≡ answer_text answer)
 
 -- lines, of which the first has this number, may print `out` from `state` on
 abbrev pub PrintedFrom : ModelState → ℕ → List (List ℕ) → List ℕ → Type 0
 PrintedFrom state number [] out = out ≡ []
 PrintedFrom state number (line ∷ rest) out =
-    (front back : List ℕ) × (next : ModelState) × Answered state number (meaning line) front next × PrintedFrom next (number + 1) rest back × (out ≡ front ++ back)
+    (front back : List ℕ) × (next : ModelState) × Answered state number (meaning line) front next
+    × PrintedFrom next (number + 1) rest back × (out ≡ front ++ back)
 
 -- a schedule may print `out` from `state` on
 abbrev pub Printed : ModelState → List ℕ → List ℕ → Type 0

@@ -1,7 +1,7 @@
 //! The lines of a schedule.
 ghost use Rattle.std.specs.Prelude.{◌≡◌, ◌<◌, ◌≤◌, IfSome, option_map, ok_or, codes};
 ghost use Rattle.warm_schedule.specs.Text.{words};
-ghost use Rattle.warm_schedule.specs.Grammar.{digit_of, number_up_to, page_of, number_field, page_field, after_field, refer_of, flush_of, send_of, deliver_of, warm_of, restart_of, show_of, event_of, line_of};
+ghost use Rattle.warm_schedule.specs.Grammar.{digit_of, number_up_to, page_of, number_field, page_field, after_field, refer_of, flush_of, send_of, deliver_of, warm_of, restart_of, show_of, event_of, meaning};
 ghost use Rattle.warm_schedule.specs.declared.parse.LineFault.TheVariants.{Bad};
 
 use crate::text::{cut, next_word};
@@ -46,6 +46,9 @@ impl LineFault {
         }
     }
 }
+
+/// How many bytes a line may have, its line end not included: a longer one is bad, whatever it begins with.
+pub const MAX_LINE: usize = 262144;
 
 const MOST_DEVICE: u64 = 65535;
 
@@ -105,7 +108,8 @@ fn page(word: &[u8]) -> Option<PageId>
 
 #[tactic(auto, unfolding(crate::specs::Grammar::number_field))]
 fn number_at(fields: &[u8], limit: u64) -> Option<(u64, &[u8])>
-    ensures value { option_map (λ x. (x.0, words x.1.now)) result ≡ number_field limit (words fields.now) }
+    ensures value { option_map (λ x. (x.0, words x.1.now)) result
+        ≡ number_field limit (words fields.now) }
     ensures bound { IfSome result (λ x. x.0 ≤ limit) }
 {
     let (word, rest) = next_word(fields)?;
@@ -252,11 +256,15 @@ fn event(command: &[u8], fields: &[u8]) -> Option<Event>
 /// Words are parted by one or more spaces (byte 20); every other byte, a tab, a NUL and the CR of a foreign line end among
 /// them, is part of a word. Numbers are decimal, with any number of leading zeros. docs/FORMATS.md has each line.
 ///
-/// `Bad` comes exactly for a line that has a word, is no comment and isn't of the language.
-#[tactic(auto, unfolding(crate::specs::Grammar::line_of))]
+/// `Bad` comes exactly for a line of more than [`MAX_LINE`] bytes, and for one that has a word, is no comment and isn't of
+/// the language.
+#[tactic(auto, unfolding(crate::specs::Grammar::meaning, crate::specs::Grammar::line_of))]
 pub fn parse_line(line: &[u8]) -> Result<Line, LineFault>
-    ensures { result ≡ ok_or (line_of line.now) Bad }
+    ensures { result ≡ ok_or (meaning line.now) Bad }
 {
+    if line.len() > MAX_LINE {
+        return Err(LineFault::Bad);
+    }
     let Some((command, fields)) = next_word(line) else {
         return Ok(Line::Nothing);
     };

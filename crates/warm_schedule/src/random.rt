@@ -1,10 +1,10 @@
 //! Schedules drawn at random.
-ghost use Rattle.std.specs.Prelude.{◌≡◌, OnOk, IfErr};
-ghost use Rattle.std.specs.Io.KnownBytes.{Appends};
+ghost use Rattle.std.specs.Prelude.{◌≡◌, IfErr};
 ghost use Rattle.warm_random.specs.Drawing.{schedule_text};
+ghost use Rattle.warm_schedule.specs.Answers.{Prints};
 
-use crate::play::PlayFault;
 use std::io::Write;
+use warm_playfault::PlayFault;
 use warm_random::write_schedule;
 use warm_world::Setup;
 
@@ -18,7 +18,8 @@ pub fn random_schedule<W: Write>(
     events: u32,
     setup: &Setup,
 ) -> Result<(), PlayFault>
-    ensures written { OnOk result (Appends (W.contents writer.old) (W.contents writer.new) (schedule_text seed events setup.now.replicas setup.now.workers)) }
+    ensures written { Prints result (W.contents writer.old) (W.contents writer.new)
+        (schedule_text seed events setup.now.replicas setup.now.workers) }
     ensures fault { IfErr result (λ fault. fault ≡ PlayFault.WriteFault) }
 {
     let setup = *setup;

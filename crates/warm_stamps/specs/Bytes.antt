@@ -1,8 +1,9 @@
 -- Stamps and pages as bytes: their fields one after the other, each with its highest byte first.
-use Rattle.std.specs.Prelude.{ℕ, ◌<◌, ◌≤◌, ◌^◌, List, ◌++◌, take, drop}
+use Rattle.std.specs.Prelude.{ℕ, ◌<◌, ◌^◌, List, ◌++◌, take, drop}
 use Rattle.std.specs.Int.{w16, w32, w64, to_be_bytes, from_be_bytes}
 use Rattle.warm_stamps.specs.declared.Stamp.{Stamp}
 use Rattle.warm_stamps.specs.declared.PageId.{PageId}
+pub use Rattle.warm_stamps.specs.Replicas.{IsReplica}
 
 -- eight bytes of time, and two of the replica's number
 abbrev pub bytes_of_stamp : Stamp → List ℕ
@@ -19,10 +20,6 @@ bytes_of_page p = to_be_bytes w16 p.dev ++ to_be_bytes w32 p.no
 -- the page that six bytes spell
 abbrev pub page_of : List ℕ → PageId
 page_of bytes = record { dev = from_be_bytes w16 (take 2 bytes); no = from_be_bytes w32 (drop 2 bytes) }
-
--- the numbers of replicas
-abbrev pub IsReplica : ℕ → Type 0
-IsReplica n = (0 < n) × (n ≤ 64)
 
 -- the stamps and the pages that there are
 pub record IsStamp (s : Stamp) : Type 0 where

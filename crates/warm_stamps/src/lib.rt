@@ -2,20 +2,22 @@
 //!
 //! A *page* is a block of a numbered device. A *stamp* says when, by the clock of whoever reports
 //! it, and at which replica a page was referenced. A *reference* is a page with a stamp; the same
-//! page with the same stamp, reported twice, is one reference. A *bucket* is one of 64 classes of
-//! pages, by which replicas exchange what they know in parts.
+//! page with the same stamp, reported twice, is one reference. A *bucket* is one of [`BUCKETS`]
+//! classes of pages, by which replicas exchange what they know in parts.
 //!
-//! The order of each type is total, and only equal values tie; `specs/Stamps.antt` defines it.
-//! Nothing here takes memory.
+//! The order of each type is total, and only equal values tie: `specs/Stamps.antt` defines the
+//! orders, and [`laws`] says so. Nothing here takes memory.
 #![tactic(auto)]
 
 ghost use Rattle.std.specs.Prelude.{◌≡◌, ℕ, ◌+◌, ◌<◌, ◌≤◌, ◌↔◌, IfOk, IfSome, IsOk, IsSome};
-ghost use Rattle.warm_stamps.specs.Buckets.{page_bucket};
+ghost use Rattle.warm_stamps.specs.Buckets.{IsBucket, page_bucket};
+ghost use Rattle.warm_stamps.specs.Replicas.{IsReplica};
 
 use std::marker::Model;
 
 mod bytes;
 mod items;
+pub mod laws;
 
 pub use bytes::{page_bytes, page_from, stamp_bytes, stamp_from};
 pub use items::{ByteList, Items, PageList, RefList};
@@ -26,35 +28,36 @@ pub const MAX_REPLICAS: u16 = 64;
 /// How many buckets there are. They are numbered from 0.
 pub const BUCKETS: u8 = 64;
 
-/// The number of a replica, from 1 to 64.
+/// The number of a replica, from 1 to [`MAX_REPLICAS`].
 #[derive(Debug, Clone, Copy, PartialEq, Eq, PartialOrd, Ord)]
 pub struct ReplicaId {
     number: u16,
 }
 
 impl Model for ReplicaId {
-    ghost use Rattle.std.specs.Prelude.{ℕ, ◌<◌, ◌≤◌};
+    ghost use Rattle.std.specs.Prelude.{ℕ};
+    ghost use Rattle.warm_stamps.specs.Replicas.{IsReplica};
 
     ghost Value = { ℕ };
 
     ghost view = { λ replica. replica.number };
 
-    ghost invariant = { λ replica. (0 < replica.number) × (replica.number ≤ 64) };
+    ghost invariant = { λ replica. IsReplica replica.number };
 
     ghost inverse = { λ number. record { number = number } };
 }
 
-/// A number that names no replica: 0, or one above 64.
+/// A number that names no replica: 0, or one above [`MAX_REPLICAS`].
 #[derive(Debug, Clone, Copy, PartialEq, Eq)]
 pub struct BadReplica;
 
 impl ReplicaId {
-    /// The replica of this number. `BadReplica` comes exactly for a number outside 1 to 64.
+    /// The replica of this number. `BadReplica` comes exactly for a number that names none.
     pub fn new(number: u16) -> Result<ReplicaId, BadReplica>
         ensures value { IfOk result (λ replica. replica ≡ number) }
-        ensures taken { IsOk result ↔ ((0 < number) × (number ≤ 64)) }
+        ensures taken { IsOk result ↔ IsReplica number }
     {
-        if number == 0 || number > 64 {
+        if number == 0 || number > MAX_REPLICAS {
             return Err(BadReplica);
         }
         Ok(ReplicaId { number })
@@ -64,7 +67,7 @@ impl ReplicaId {
     pub fn get(self) -> u16
         ensures value { result ≡ self }
         ensures low { 0 < result }
-        ensures high { result ≤ 64 }
+        ensures high { result ≤ MAX_REPLICAS }
     {
         self.number
     }
@@ -97,31 +100,32 @@ pub struct Reference {
     pub stamp: Stamp,
 }
 
-/// One of the 64 classes, 0 to 63, into which pages fall.
+/// One of the [`BUCKETS`] classes into which pages fall.
 #[derive(Debug, Clone, Copy, PartialEq, Eq, PartialOrd, Ord)]
 pub struct Bucket {
     index: u8,
 }
 
 impl Model for Bucket {
-    ghost use Rattle.std.specs.Prelude.{ℕ, ◌<◌};
+    ghost use Rattle.std.specs.Prelude.{ℕ};
+    ghost use Rattle.warm_stamps.specs.Buckets.{IsBucket};
 
     ghost Value = { ℕ };
 
     ghost view = { λ bucket. bucket.index };
 
-    ghost invariant = { λ bucket. bucket.index < 64 };
+    ghost invariant = { λ bucket. IsBucket bucket.index };
 
     ghost inverse = { λ index. record { index = index } };
 }
 
 impl Bucket {
-    /// The bucket of this number. `None` comes exactly for a number above 63.
+    /// The bucket of this number. `None` comes exactly for a number of [`BUCKETS`] or more.
     pub fn new(number: u8) -> Option<Bucket>
         ensures value { IfSome result (λ bucket. bucket ≡ number) }
-        ensures taken { IsSome result ↔ (number < 64) }
+        ensures taken { IsSome result ↔ IsBucket number }
     {
-        if number < 64 {
+        if number < BUCKETS {
             Some(Bucket { index: number })
         } else {
             None
@@ -131,19 +135,19 @@ impl Bucket {
     /// The bucket's number.
     pub fn get(self) -> u8
         ensures value { result ≡ self }
-        ensures below { result < 64 }
+        ensures below { result < BUCKETS }
     {
         self.index
     }
 }
 
-/// The bucket of a page: its device's number plus its own, modulo 64. The sum doesn't wrap.
+/// The bucket of a page: its device's number plus its own, modulo [`BUCKETS`]. The sum doesn't wrap.
 pub fn bucket_of(page: PageId) -> Bucket
     ensures { result ≡ page_bucket page }
 {
     let sum = u64::from(page.dev) + u64::from(page.no);
     Bucket {
-        index: (sum % 64) as u8,
+        index: (sum % u64::from(BUCKETS)) as u8,
     }
 }
 

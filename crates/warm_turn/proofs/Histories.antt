@@ -51,10 +51,10 @@ module _ {X C R : Type 0} where
 
   -- what the history says of a seat does not rest on its ticket or its marks
   pub same_recorded : (o : X) (log : List (Entry C R)) (x : X) (owner : ℕ → ℕ) (vs : List (View X C R)) (me : ℕ) (v w : View X C R)
-      → get_elem? vs me ≡ some v → v.sees ≡ true → w.sees ≡ v.sees → w.owns ≡ v.owns → w.serves ≡ v.serves → w.number ≡ v.number → w.opening ≡ v.opening → w.state ≡ v.state → w.seen ≡ v.seen → w.also ≡ v.also → w.mine ≡ v.mine → w.ended ≡ v.ended
+      → get_elem? vs me ≡ some v → v.sees ≡ true → w.sees ≡ v.sees → w.owns ≡ v.owns → w.serves ≡ v.serves → w.number ≡ v.number → w.opening ≡ v.opening → w.state ≡ v.state → w.seen ≡ v.seen → w.also ≡ v.also → w.also_opening ≡ v.also_opening → w.mine ≡ v.mine → w.ended ≡ v.ended
       → IsRecorded o log x owner vs me v → IsRecorded o log x owner (set vs me w) me w
-  same_recorded o log x owner vs me v w at sees sees' owns serves number opening state seen also mine ended f = record {
-    sight = λ h. let z = f.sight sees in (opening ∙ z.0, subst (λ l. IsPrefix l log) (sym seen) z.1, subst (λ l. IsPrefix l log) (sym also) z.2);
+  same_recorded o log x owner vs me v w at sees sees' owns serves number opening state seen also also_opening mine ended f = record {
+    sight = λ h. let z = f.sight sees in (opening ∙ z.0, subst (λ l. IsPrefix l log) (sym seen) z.1, subst (λ l. IsPrefix l log) (sym also) z.2, also_opening ∙ z.3);
     unused = λ h no. f.unused sees (sym owns ∙ no);
     own = λ h. let z = f.own (sym owns ∙ h) in (sees' ∙ z.0, number ∙ z.1, z.2 ∙ sym mine);
     others = λ h a e here. let z = f.others (sym owns ∙ h) a e (subst (λ (l : List (Ended C R)). get_elem? l a ≡ some e) ended here) in (z.0, z.1, gone_set vs me v w at sees e.number z.2);
@@ -72,16 +72,17 @@ module _ {M X C R : Type 0} (meaning : M → X) (goes : X → C → R → X → 
   abbrev Homes : Type 0
   Homes = List (maybe.Option (Option H))
 
-  abbrev One : Homes → List V → Type 0
+  abbrev One : ℕ → Homes → List V → Type 0
   One = OneHistory meaning goes o
 
   -- a step that changes a view alone
-  pub stays : (homes : Homes) (vs : List V) (r : One homes vs) (me : ℕ) (v w : V) → get_elem? vs me ≡ some v → v.sees ≡ true → IsRecorded o r.log r.state r.owner (set vs me w) me w → One homes (set vs me w)
+  pub stays : {n : ℕ} (homes : Homes) (vs : List V) (r : One n homes vs) (me : ℕ) (v w : V) → get_elem? vs me ≡ some v → v.sees ≡ true → IsRecorded o r.log r.state r.owner (set vs me w) me w → One n homes (set vs me w)
   stays homes vs r me v w at sees mine = record {
     log = r.log;
     state = r.state;
     owner = r.owner;
     legal = r.legal;
+    count = r.count;
     home = r.home;
     each = each_set (IsRecorded o r.log r.state r.owner (set vs me w)) vs me w mine
         (λ j u n e. more_gone o r.log r.state r.owner vs (set vs me w) j u (gone_set vs me v w at sees) (r.each j u e));
@@ -89,14 +90,14 @@ module _ {M X C R : Type 0} (meaning : M → X) (goes : X → C → R → X → 
   }
 
   -- an idle pass sees the history so far
-  pub settles : (homes : Homes) (vs : List V) (r : One homes vs) (me : ℕ) (v : V) → get_elem? vs me ≡ some v → v.owns ≡ true → v.waits ≡ false → v.serves ≡ false
+  pub settles : {n : ℕ} (homes : Homes) (vs : List V) (r : One n homes vs) (me : ℕ) (v : V) → get_elem? vs me ≡ some v → v.owns ≡ true → v.waits ≡ false → v.serves ≡ false
       → IsRecorded o r.log r.state r.owner (set vs me (settled v r.log)) me (settled v r.log) × IsPass goes (settled v r.log)
   settles homes vs r me v at owns idle rests =
       let f = r.each me v at in
       let sees = (f.own owns).0 in
       let w = settled v r.log in (
         record {
-          sight = λ h. ((f.sight sees).0, IsPrefix-self r.log, (r.log, refl));
+          sight = λ h. ((f.sight sees).0, IsPrefix-self r.log, (r.log, refl), (f.sight sees).0);
           unused = f.unused;
           own = f.own;
           others = λ h a e at'. let z = f.others owns a e at' in (z.0, z.1, gone_set vs me v w at sees e.number z.2);
@@ -114,7 +115,7 @@ module _ {M X C R : Type 0} (meaning : M → X) (goes : X → C → R → X → 
       )
 
   -- a note becomes a pass of a number that has no entry
-  pub becomes : (homes : Homes) (vs : List V) (r : One homes vs) (me : ℕ) (v : V) → get_elem? vs me ≡ some v → v.sees ≡ true → v.owns ≡ false
+  pub becomes : {n : ℕ} (homes : Homes) (vs : List V) (r : One n homes vs) (me : ℕ) (v : V) → get_elem? vs me ≡ some v → v.sees ≡ true → v.owns ≡ false
       → IsRecorded o r.log r.state r.owner (set vs me (new_pass v me)) me (new_pass v me) × IsPass goes (new_pass v me)
   becomes homes vs r me v at sees not_yet =
       let f = r.each me v at in
@@ -122,7 +123,7 @@ module _ {M X C R : Type 0} (meaning : M → X) (goes : X → C → R → X → 
       let here = f.sight sees in
       let front = Runs-front goes o r.state v.seen here.1.0 (subst (λ l. Runs goes o l r.state) (sym here.1.1) r.legal) in (
         record {
-          sight = λ h. (here.0, here.1, (r.log, refl));
+          sight = λ h. (here.0, here.1, (r.log, refl), here.0);
           unused = λ _ h. off refl h;
           own = λ h. (refl, refl, none_yet);
           others = λ h a e at'. absurd (some-ne-none e (sym at'));
@@ -140,8 +141,8 @@ module _ {M X C R : Type 0} (meaning : M → X) (goes : X → C → R → X → 
       )
 
   -- a pass takes the machine, and sees the history so far
-  pub takes_machine : (homes : Homes) (vs : List V) (r : One homes vs) (me : ℕ) (v : V) (h : H) → get_elem? vs me ≡ some v → v.owns ≡ true → get_elem? homes 0 ≡ some (some (Some h))
-      → One (set homes 0 maybe.none) (set vs me (server v r.log (meaning h.machine)))
+  pub takes_machine : {n : ℕ} (homes : Homes) (vs : List V) (r : One n homes vs) (me : ℕ) (v : V) (h : H) → get_elem? vs me ≡ some v → v.owns ≡ true → get_elem? homes 0 ≡ some (some (Some h))
+      → One n (set homes 0 maybe.none) (set vs me (server v r.log (meaning h.machine)))
   takes_machine homes vs r me v h at owns home =
       let w : V = server v r.log (meaning h.machine) in
       let ws : List V = set vs me w in
@@ -152,10 +153,11 @@ module _ {M X C R : Type 0} (meaning : M → X) (goes : X → C → R → X → 
         state = r.state;
         owner = r.owner;
         legal = r.legal;
+        count = r.count;
         home = λ k there. absurd (some-ne-none (Some k) (sym (same_at (set homes 0 maybe.none) 0 maybe.none (some (Some k)) (now_at homes 0 (some (Some h)) maybe.none home) there)));
         each = each_set (IsRecorded o r.log r.state r.owner ws) vs me w
             record {
-              sight = λ _. ((f.sight sees).0, IsPrefix-self r.log, (f.sight sees).2);
+              sight = λ _. ((f.sight sees).0, IsPrefix-self r.log, (f.sight sees).2, (f.sight sees).3);
               unused = f.unused;
               own = f.own;
               others = λ h' b e at'. let z = f.others h' b e at' in (z.0, z.1, gone_set vs me v w at sees e.number z.2);
@@ -167,9 +169,9 @@ module _ {M X C R : Type 0} (meaning : M → X) (goes : X → C → R → X → 
       }
 
   -- the pass that has the machine adds its call to the history and gives the machine back. It has then seen the whole history, and is idle
-  pub passes_on : (homes : Homes) (vs : List V) (r : One homes vs) (me : ℕ) (v : V) (h : H) (x : X) (e : Entry C R) → get_elem? vs me ≡ some v → v.owns ≡ true → v.serves ≡ true → v.also ≡ [] → v.state ≡ Some x
+  pub passes_on : {n : ℕ} (homes : Homes) (vs : List V) (r : One n homes vs) (me : ℕ) (v : V) (h : H) (x : X) (e : Entry C R) → get_elem? vs me ≡ some v → v.owns ≡ true → v.serves ≡ true → v.also ≡ [] → v.state ≡ Some x
       → length homes ≡ 1 → ((j : ℕ) (u : V) → j ≢ me → get_elem? vs j ≡ some u → u.serves ≡ true → ⊥) → e.by ≡ v.number → goes x e.call e.reply (meaning h.machine)
-      → One (set homes 0 (some (Some h))) (set vs me (after_call v e)) × IsPass goes (after_call v e)
+      → One (n + 1) (set homes 0 (some (Some h))) (set vs me (after_call v e)) × IsPass goes (after_call v e)
   passes_on homes vs r me v h x e at owns serves also state one alone by did =
       let f = r.each me v at in
       let a = f.serving serves in
@@ -192,10 +194,11 @@ module _ {M X C R : Type 0} (meaning : M → X) (goes : X → C → R → X → 
           state = y;
           owner = r.owner;
           legal = legal;
+          count = length-append r.log (e ∷ []) ∙ ap (λ k. k + 1) r.count;
           home = λ k there. ap (λ (z : H). meaning z.machine) (sym (Some_same h k (some-injective (Some h) (Some k) (some-injective (some (Some h)) (some (Some k)) (sym (set_here homes 0 (some (Some h)) (omega arith)) ∙ there)))));
           each = each_set (IsRecorded o log y r.owner ws) vs me w
               record {
-                sight = λ _. (sight'.0, ([], append-nil (v.seen ++ e ∷ []) ∙ grown), IsPrefix-append v.also r.log (e ∷ []) sight'.2);
+                sight = λ _. (sight'.0, ([], append-nil (v.seen ++ e ∷ []) ∙ grown), IsPrefix-append v.also r.log (e ∷ []) sight'.2, sight'.3);
                 unused = λ _ no. off owns no;
                 own = λ _. (sees, (f.own owns).1, own');
                 others = λ _ b c at'. let z = f.others owns b c at' in (z.0, (others' b c at').0, gone_set vs me v w at sees c.number z.2);
@@ -205,7 +208,7 @@ module _ {M X C R : Type 0} (meaning : M → X) (goes : X → C → R → X → 
               (λ j u other at'.
               let g = r.each j u at' in
               record {
-                sight = λ sees'. let z = g.sight sees' in (z.0, IsPrefix-append u.seen r.log (e ∷ []) z.1, IsPrefix-append u.also r.log (e ∷ []) z.2);
+                sight = λ sees'. let z = g.sight sees' in (z.0, IsPrefix-append u.seen r.log (e ∷ []) z.1, IsPrefix-append u.also r.log (e ∷ []) z.2, z.3);
                 unused = λ sees' no. calls_by-other j r.log e (elsewhere j other) ∙ g.unused sees' no;
                 own = λ owns'. let z = g.own owns' in (z.0, z.1, calls_by-other j r.log e (elsewhere j other) ∙ z.2);
                 others = λ owns' b c at''. let z = g.others owns' b c at'' in let not = apart_of vs me c.number v at sees z.2 in
@@ -226,23 +229,23 @@ module _ {M X C R : Type 0} (meaning : M → X) (goes : X → C → R → X → 
         },
       )
 
-  -- a new seat has seen what the old one has, and no entry has its number
-  pub splits : (homes : Homes) (vs : List V) (r : One homes vs) (me : ℕ) (v : V) → get_elem? vs me ≡ some v → v.sees ≡ true → One homes (set vs me v ++ note_of v ∷ [])
-  splits homes vs r me v at sees =
+  -- a new seat has seen what some view has, and no entry has its number
+  pub enters : {n : ℕ} (homes : Homes) (vs : List V) (r : One n homes vs) (v : V) → v.opening ≡ Some o → IsPrefix v.seen r.log → One n homes (vs ++ note_of v ∷ [])
+  enters homes vs r v opens begins_with =
       let w : V = note_of v in
       let ws : List V = vs ++ w ∷ [] in
-      let f = r.each me v at in
-      subst (λ (l : List V). One homes (l ++ w ∷ [])) (sym (set_again vs me v at)) record {
+      record {
         log = r.log;
         state = r.state;
         owner = r.owner;
         legal = r.legal;
+        count = r.count;
         home = r.home;
         each = λ j u e. ⊎_elim
             (λ (old : get_elem? vs j ≡ some u). more_gone o r.log r.state r.owner vs ws j u (gone_longer vs (w ∷ [])) (r.each j u old))
             (λ (new : (j ≡ length vs) × (w ≡ u)).
             subst (λ (z : V). IsRecorded o r.log r.state r.owner ws j z) new.1 record {
-              sight = λ _. ((f.sight sees).0, (f.sight sees).1, (r.log, refl));
+              sight = λ _. (opens, begins_with, (r.log, refl), opens);
               unused = λ _ _. let here = new.0 in r.unborn j (omega arith);
               own = λ no. off no refl;
               others = λ no. off no refl;
@@ -254,10 +257,10 @@ module _ {M X C R : Type 0} (meaning : M → X) (goes : X → C → R → X → 
       }
 
   -- a seat is spent, and another takes what it knows and holds
-  merges : (homes : Homes) (vs : List V) (r : One homes vs) (me other : ℕ) (w : V) (owner : ℕ → ℕ)
+  merges : {n : ℕ} (homes : Homes) (vs : List V) (r : One n homes vs) (me other : ℕ) (w : V) (owner : ℕ → ℕ)
       → IsRecorded o r.log r.state owner (set (set vs me w) other nobody) me w
       → ((j : ℕ) (z : V) → j ≢ me → j ≢ other → get_elem? vs j ≡ some z → IsRecorded o r.log r.state owner (set (set vs me w) other nobody) j z)
-      → One homes (set (set vs me w) other nobody)
+      → One n homes (set (set vs me w) other nobody)
   merges homes vs r me other w owner mine others =
       let us : List V = set (set vs me w) other nobody in
       let F = IsRecorded o r.log r.state owner us in
@@ -266,6 +269,7 @@ module _ {M X C R : Type 0} (meaning : M → X) (goes : X → C → R → X → 
         state = r.state;
         owner = owner;
         legal = r.legal;
+        count = r.count;
         home = r.home;
         each = each_set F (set vs me w) other nobody (nobody_recorded o r.log r.state owner us other)
             (λ j z n e. each_set (λ i y. i ≢ other → F i y) vs me w (λ _. mine) (λ i y n' e' n''. others i y n' n'' e') j z e n);
@@ -278,8 +282,8 @@ module _ {M X C R : Type 0} (meaning : M → X) (goes : X → C → R → X → 
   gone_both vs me other v u w at there sees sees' n g = gone_set (set vs me w) other u nobody there sees' n (gone_set vs me v w at sees n g)
 
   -- a pass learns what a note says
-  pub learns : (homes : Homes) (vs : List V) (r : One homes vs) (me other : ℕ) (v u : V) → get_elem? vs me ≡ some v → other ≢ me → get_elem? (set vs me (learned v u)) other ≡ some u → v.owns ≡ true → IsNote u
-      → One homes (set (set vs me (learned v u)) other nobody)
+  pub learns : {n : ℕ} (homes : Homes) (vs : List V) (r : One n homes vs) (me other : ℕ) (v u : V) → get_elem? vs me ≡ some v → other ≢ me → get_elem? (set vs me (learned v u)) other ≡ some u → v.owns ≡ true → IsNote u
+      → One n homes (set (set vs me (learned v u)) other nobody)
   learns homes vs r me other v u at apart there owns note =
       let w : V = learned v u in
       let f = r.each me v at in
@@ -288,7 +292,7 @@ module _ {M X C R : Type 0} (meaning : M → X) (goes : X → C → R → X → 
       let more = gone_both vs me other v u w at there sees note.0 in
       merges homes vs r me other w r.owner
       record {
-        sight = λ _. ((f.sight sees).0, (f.sight sees).1, (g.sight note.0).1);
+        sight = λ _. ((f.sight sees).0, (f.sight sees).1, (g.sight note.0).1, (g.sight note.0).0);
         unused = f.unused;
         own = f.own;
         others = λ h a e at'. let z = f.others h a e at' in (z.0, z.1, more e.number z.2);
@@ -298,8 +302,8 @@ module _ {M X C R : Type 0} (meaning : M → X) (goes : X → C → R → X → 
       (λ j z _ _ e. more_gone o r.log r.state r.owner vs (set (set vs me w) other nobody) j z more (r.each j z e))
 
   -- a pass is ended into another
-  pub ends : (homes : Homes) (vs : List V) (r : One homes vs) (me other : ℕ) (v u : V) → get_elem? vs me ≡ some v → other ≢ me → get_elem? (set vs me (joined v u)) other ≡ some u → v.owns ≡ true → u.owns ≡ true
-      → One homes (set (set vs me (joined v u)) other nobody)
+  pub ends : {n : ℕ} (homes : Homes) (vs : List V) (r : One n homes vs) (me other : ℕ) (v u : V) → get_elem? vs me ≡ some v → other ≢ me → get_elem? (set vs me (joined v u)) other ≡ some u → v.owns ≡ true → u.owns ≡ true
+      → One n homes (set (set vs me (joined v u)) other nobody)
   ends homes vs r me other v u at apart there owns owns' =
       let w : V = joined v u in
       let f = r.each me v at in
@@ -328,7 +332,7 @@ module _ {M X C R : Type 0} (meaning : M → X) (goes : X → C → R → X → 
       (at_either v.ended (as_ended u ∷ u.ended) a e at') in
       merges homes vs r me other w owner
       record {
-        sight = λ _. ((f.sight sees).0, (f.sight sees).1, (g.sight sees').1);
+        sight = λ _. ((f.sight sees).0, (f.sight sees).1, (g.sight sees').1, (g.sight sees').0);
         unused = f.unused;
         own = f.own;
         others = λ _. held;
@@ -352,15 +356,16 @@ module _ {M X C R : Type 0} (meaning : M → X) (goes : X → C → R → X → 
         serving = i.serving;
       })
 
-  pub begins : (h : H) → meaning h.machine ≡ o → One (some (Some h) ∷ []) (first_pass o ∷ [])
+  pub begins : (h : H) → meaning h.machine ≡ o → One 0 (some (Some h) ∷ []) (first_pass o ∷ [])
   begins h is = record {
     log = [];
     state = o;
     owner = λ _. 0;
     legal = refl;
+    count = refl;
     home = λ k there. ap (λ (z : H). meaning z.machine) (sym (Some_same h k (some-injective (Some h) (Some k) (some-injective (some (Some h)) (some (Some k)) there)))) ∙ is;
     each = λ j u e. subst (λ (z : V). IsRecorded o [] o (λ _. 0) (first_pass o ∷ []) j z) (one_member (first_pass o) u j e) record {
-      sight = λ _. (refl, ([], refl), ([], refl));
+      sight = λ _. (refl, ([], refl), ([], refl), refl);
       unused = λ _ no. off refl no;
       own = λ _. (refl, number_of j u e, refl);
       others = λ _ a c at'. absurd (some-ne-none c (sym at'));

@@ -1,20 +1,24 @@
 -- Each step keeps both passes of the rule, and tells its seat what it says.
-use Rattle.std.proofs.Common.{◌≡◌, ◌≢◌, ℕ, ◌+◌, ◌%◌, ◌^◌, ◌<◌, eqb, List, [], ◌∷◌, get_or, set, Option, Some, Bool, true, false, refl, sym, ap, ◌∙◌, subst, ⊎_elim, arith, eq-eqb, ne_eqb}
+use Rattle.std.proofs.Common.{◌≡◌, ◌≢◌, ℕ, ◌+◌, ◌%◌, ◌^◌, ◌<◌, eqb, List, [], ◌∷◌, get_or, ◌++◌, set, Option, Some, Bool, true, false, refl, sym, ap, ◌∙◌, subst, ⊎_elim, arith, eq-eqb, ne_eqb, get_or-set_other}
 use mathlib.Core.Logic.{dite}
 use mathlib.Core.Option.{some}
 use mathlib.Core.Option as maybe
+use mathlib.Core.List.{IsPrefix}
 use native.Mathlib.Decide.{ℕ_discrete}
 use lib.ListN.{get_elem?}
+use lib.Seq.{set-get_or}
+use Rattle.atomic_table.proofs.Lists.{set_again}
+use Rattle.warm_turn.specs.declared.fault.Busy.{Busy}
 use prog.Atomic.{either}
-use Rattle.atomic_table.specs.Table.{State, Me, step, keeps, takes, gives, stepped, Allows, Splits, Joins, Final, Seen, opening}
+use Rattle.atomic_table.specs.Table.{State, Me, step, keeps, takes, gives, stepped, Allows, Enters, Splits, Joins, Final, Seen, opening}
 use Rattle.warm_turn.specs.declared.board.Entry.{Entry}
 use Rattle.warm_turn.specs.declared.board.View.{View}
 use Rattle.warm_turn.specs.declared.board.Made.{Made}
 use Rattle.warm_turn.specs.declared.board.Held.{Held}
 use Rattle.warm_turn.specs.Turns.{nobody, entry, calls_by, Runs, IsLast, IsNote, IsPass, first_pass, note_of, new_pass, marked, learned, joined, settled}
-use Rattle.warm_turn.specs.Rule.{ticket_word, serving_word, IsQueued, IsRecorded, Kept}
-use Rattle.warm_turn.specs.Steps.{waiting, server, after_call, took, looked, passed, caught_up, became_pass}
-use Rattle.warm_turn.proofs.Lists.{off, Some_same, same_at, same_carried}
+use Rattle.warm_turn.specs.Rule.{ticket_word, serving_word, IsQueued, IsRecorded, OneHistory, Kept, AreWords}
+use Rattle.warm_turn.specs.Steps.{waiting, server, after_call, took, looked, passed, caught_up, came, became_pass}
+use Rattle.warm_turn.proofs.Lists.{off, never, Some_same, same_at, same_carried}
 use Rattle.warm_turn.proofs.Tickets as tickets
 use Rattle.warm_turn.proofs.Histories as histories
 
@@ -31,19 +35,23 @@ module _ {M X C R : Type 0} (meaning : M → X) (fit : M → Type 0) (goes : X �
   abbrev Rule : St → Type 0
   Rule = Kept meaning fit goes o
 
+  -- a history of as many calls
+  of_count : {n k : ℕ} (homes : List (maybe.Option (Option H))) (vs : List V) → k ≡ n → OneHistory meaning goes o n homes vs → OneHistory meaning goes o k homes vs
+  of_count homes vs e h = subst (λ m. OneHistory meaning goes o m homes vs) (sym e) h
+
   -- a step that changes a view alone
   quiet : (s : St) (r : Rule s) (i me : ℕ) (cs : List (ℕ × Option H)) (v w : V) → get_elem? s.views me ≡ some v → v.sees ≡ true → (v.serves ≡ true → w.serves ≡ true)
       → IsQueued (ticket_word s) (serving_word s) r.turns.turn me w → IsRecorded o r.history.log r.history.state r.history.owner (set s.views me w) me w
       → Rule (stepped s i (get_or s.words i 0) me cs w keeps)
   quiet s r i me cs v w at sees serves queued recorded = record {
     turns = tickets.stays fit s r.turns i me cs v w at serves queued;
-    history = histories.stays meaning goes o s.homes s.views r.history me v w at sees recorded;
+    history = of_count s.homes (set s.views me w) (ap (λ ws. get_or ws 1 0) (set-get_or s.words i 0)) (histories.stays meaning goes o s.homes s.views r.history me v w at sees recorded);
   }
 
   -- a step that changes nothing
   still : (s : St) (r : Rule s) (i me : ℕ) (cs : List (ℕ × Option H)) (v : V) → get_elem? s.views me ≡ some v → v.sees ≡ true → Rule (stepped s i (get_or s.words i 0) me cs v keeps)
   still s r i me cs v at sees = quiet s r i me cs v v at sees (λ h. h) (r.turns.each me v at)
-      (histories.same_recorded o r.history.log r.history.state r.history.owner s.views me v v at sees refl refl refl refl refl refl refl refl refl refl (r.history.each me v at))
+      (histories.same_recorded o r.history.log r.history.state r.history.owner s.views me v v at sees refl refl refl refl refl refl refl refl refl refl refl (r.history.each me v at))
 
   pub catches_up : (slots me : ℕ) (v : V) (cs : List (ℕ × Option H)) → v.owns ≡ true → v.waits ≡ false → v.serves ≡ false
       → Allows Rule slots me (v, cs) 0 (λ n. n) (caught_up goes (step slots 0 0 0 maybe.none) (v, cs))
@@ -57,7 +65,7 @@ module _ {M X C R : Type 0} (meaning : M → X) (fit : M → Type 0) (goes : X �
         keeps,
         tt,
         quiet s r 0 me cs v w at sees (λ h. h) queued t.0,
-        (r.history.log, refl, (f.sight sees).1, (f.sight sees).2, t.1),
+        (r.history.log, refl, (f.sight sees).1, (f.sight sees).2, t.1, (f.sight sees).0 ∙ sym (f.sight sees).3),
       )
 
   pub becomes_pass : (slots me : ℕ) (v : V) (cs : List (ℕ × Option H)) → v.sees ≡ true → v.owns ≡ false
@@ -85,16 +93,17 @@ module _ {M X C R : Type 0} (meaning : M → X) (fit : M → Type 0) (goes : X �
       dite (ℕ_discrete t old)
       (λ (hit : t ≡ old).
       let w : V = waiting v t in
+      let unmarked : v.found_last ≡ false = never v.found_last (λ h. let full = q.full h in omega arith) in
       let kept : Rule (stepped s 0 new me cs w keeps) = record {
         turns = tickets.takes_ticket fit s r.turns me cs v at owns rests new (up ∙ ap (λ k. k + 1) (sym hit)) small;
-        history = histories.stays meaning goes o s.homes s.views r.history me v w at sees
-            (histories.same_recorded o r.history.log r.history.state r.history.owner s.views me v w at sees refl refl refl refl refl refl refl refl refl refl f);
+        history = of_count s.homes (set s.views me w) (get_or-set_other s.words 0 1 new 0 (λ e. omega arith)) (histories.stays meaning goes o s.homes s.views r.history me v w at sees
+            (histories.same_recorded o r.history.log r.history.state r.history.owner s.views me v w at sees refl refl refl refl refl refl refl refl refl refl refl f));
       } in (
         w,
         keeps,
         tt,
         subst (λ (b : Bool). Rule (stepped s 0 (either b new t) me cs w keeps)) (sym (eq-eqb t old hit)) kept,
-        ((λ _. refl), (λ miss. absurd (miss hit)), (λ miss. absurd (miss hit))),
+        ((λ _. (unmarked, refl)), (λ miss. absurd (miss hit)), (λ miss. absurd (miss hit))),
       ))
       (λ (miss : t ≢ old). dite (ℕ_discrete (t + 1) (2 ^ 64))
       (λ (most : t + 1 ≡ 2 ^ 64).
@@ -108,7 +117,7 @@ module _ {M X C R : Type 0} (meaning : M → X) (fit : M → Type 0) (goes : X �
               serving = q.serving;
               full = λ _. most;
             }
-            (histories.same_recorded o r.history.log r.history.state r.history.owner s.views me v w at sees refl refl refl refl refl refl refl refl refl refl f)),
+            (histories.same_recorded o r.history.log r.history.state r.history.owner s.views me v w at sees refl refl refl refl refl refl refl refl refl refl refl f)),
         ((λ hit. absurd (miss hit)), (λ _ _. refl), (λ _ less. absurd (less most))),
       ))
       (λ (less : t + 1 ≢ 2 ^ 64). (
@@ -135,7 +144,8 @@ module _ {M X C R : Type 0} (meaning : M → X) (fit : M → Type 0) (goes : X �
         a.1,
         record {
           turns = tickets.takes_machine fit s r.turns me v h r.history.log (meaning h.machine) at waits mine a.1;
-          history = histories.takes_machine meaning goes o s.homes s.views r.history me v h at owns a.1;
+          history = of_count (set s.homes 0 maybe.none) (set s.views me (server v r.history.log (meaning h.machine))) (ap (λ ws. get_or ws 1 0) (set-get_or s.words 1 0))
+              (histories.takes_machine meaning goes o s.homes s.views r.history me v h at owns a.1);
         },
         ((λ not. absurd (not mine)), (λ _. (r.history.log, h, refl, (f.sight sees).1, a.2))),
       ))
@@ -164,7 +174,7 @@ module _ {M X C R : Type 0} (meaning : M → X) (fit : M → Type 0) (goes : X �
         tt,
         record {
           turns = tickets.passes_on fit s r.turns me v h e at serves sound;
-          history = t.0;
+          history = of_count (set s.homes 0 (some (Some h))) (set s.views me w) (tickets.serves_next fit s r.turns me v at serves) t.0;
         },
         λ h' d' took' made'.
             let one_slot : h ≡ h' = same_carried h h' 0 took' in
@@ -174,11 +184,20 @@ module _ {M X C R : Type 0} (meaning : M → X) (fit : M → Type 0) (goes : X �
             ),
       )
 
-  pub tells : (me : ℕ) (v : V) → v.sees ≡ true → Splits Rule me v v (note_of v)
-  tells me v sees s r at = record {
-    turns = tickets.splits fit s r.turns me v at;
-    history = histories.splits meaning goes o s.homes s.views r.history me v at sees;
+  -- a new seat, which knows what some view does
+  sits : (s : St) (r : Rule s) (v : V) → v.opening ≡ Some o → IsPrefix v.seen r.history.log → Rule record { words = s.words; homes = s.homes; views = s.views ++ note_of v ∷ [] }
+  sits s r v opens begins_with = record {
+    turns = tickets.enters fit s r.turns v;
+    history = histories.enters meaning goes o s.homes s.views r.history v opens begins_with;
   }
+
+  pub comes : (slots : ℕ) → Enters Rule slots 0 (λ n w. came {M = M} (step slots 0 0 0 maybe.none) (first_pass o, []) n (w, []))
+  comes slots s r wide small = (note_of (first_pass o), sits s r (first_pass o) refl (r.history.log, refl), refl)
+
+  pub tells : (me : ℕ) (v : V) → v.sees ≡ true → Splits Rule me v v (note_of v)
+  tells me v sees s r at =
+      let sight = (r.history.each me v at).sight sees in
+      subst (λ (l : List V). Rule record { words = s.words; homes = s.homes; views = l ++ note_of v ∷ [] }) (sym (set_again s.views me v at)) (sits s r v sight.0 sight.1)
 
   pub learns : (me other : ℕ) (v u : V) → v.owns ≡ true → IsNote u → Joins Rule me v other u (learned v u) nobody
   learns me other v u owns note s r at apart there = record {
@@ -234,3 +253,15 @@ module _ {M X C R : Type 0} (meaning : M → X) (fit : M → Type 0) (goes : X �
   -- at the end a mark is that of the last number
   pub mark_at_end : (me : ℕ) (v : V) (ws : List ℕ) (xs : List (Option H)) → Final (Seen Rule me v) ws xs → v.found_last ≡ true → get_or ws 0 0 + 1 ≡ 2 ^ 64
   mark_at_end me v ws xs last mark = ap (λ l. get_or l 0 0 + 1) (sym last.2) ∙ (last.1.0.turns.each me v last.1.1).full mark
+
+  -- at the end the words are those of a state that the rule allows, in which the pass has its view
+  pub words_at_end : (me : ℕ) (v : V) (ws : List ℕ) (xs : List (Option H)) (found : Busy) → Final (Seen Rule me v) ws xs → get_or ws 0 0 ≡ found.ticket → get_or ws 1 0 ≡ found.serving
+      → AreWords meaning fit goes o v found
+  words_at_end me v ws xs found last ticket serving = record {
+    state = last.0;
+    kept = last.1.0;
+    seat = me;
+    view = last.1.1;
+    ticket = ap (λ l. get_or l 0 0) last.2 ∙ ticket;
+    serving = ap (λ l. get_or l 1 0) last.2 ∙ serving;
+  }

@@ -12,6 +12,11 @@ use Rattle.warm_turn.specs.Turns.{calls_by, NoRepeat, Runs}
 pub off : {A : Type 0} {b : Bool} → b ≡ true → b ≡ false → A
 off t f = absurd (true≢false (sym t ∙ f))
 
+-- what is never true is false
+pub never : (b : Bool) → (b ≡ true → ⊥) → b ≡ false
+never true not = absurd (not refl)
+never false not = refl
+
 pub Some_same : {A : Type 0} (a b : A) → Some a ≡ Some b → a ≡ b
 Some_same a b e = cc e
 

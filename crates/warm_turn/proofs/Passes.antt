@@ -1,20 +1,20 @@
 -- What calls, notes and ends say of a pass, for the crates above.
-use Rattle.std.proofs.Common.{◌≡◌, List, [], ◌∷◌, ◌++◌, refl, sym, ap, ◌∙◌, subst, append_assoc, append-nil}
+use Rattle.std.proofs.Common.{◌≡◌, List, [], ◌∷◌, ◌++◌, Some, true, refl, sym, ap, ◌∙◌, subst, append_assoc, append-nil}
 use mathlib.Core.Option.{some-ne-none}
 use mathlib.Core.List.{IsPrefix}
 use Rattle.warm_turn.specs.declared.board.Entry.{Entry}
 use Rattle.warm_turn.specs.declared.board.View.{View}
-use Rattle.warm_turn.specs.Turns.{entry, Called, Extended, IsPass, IsStep, Learned, Runs, first_pass, marked}
-use Rattle.warm_turn.proofs.Lists.{IsPrefix-self, IsPrefix-trans}
+use Rattle.warm_turn.specs.Turns.{entry, Called, Extended, IsPass, IsStep, Learned, Runs, first_pass, marked, note_of}
+use Rattle.warm_turn.proofs.Lists.{off, IsPrefix-self, IsPrefix-trans}
 
 module _ {X C R : Type 0} where
   -- a pass is an extension of itself by no calls
   pub Extended-self : (v : View X C R) → Extended v [] v
-  Extended-self v = record { seen = IsPrefix-self v.seen; mine = sym (append-nil v.mine); number = refl; ended = refl; opening = refl }
+  Extended-self v = record { seen = IsPrefix-self v.seen; mine = sym (append-nil v.mine); number = refl; ended = refl; opening = refl; mark = λ h. h }
 
   -- the mark that no ticket was left adds no call
   pub Extended-marked : (v w : View X C R) → w ≡ marked v → Extended v [] w
-  Extended-marked v w e = subst (λ (u : View X C R). Extended v [] u) (sym e) record { seen = IsPrefix-self v.seen; mine = sym (append-nil v.mine); number = refl; ended = refl; opening = refl }
+  Extended-marked v w e = subst (λ (u : View X C R). Extended v [] u) (sym e) record { seen = IsPrefix-self v.seen; mine = sym (append-nil v.mine); number = refl; ended = refl; opening = refl; mark = λ _. refl }
 
   -- extensions add up
   pub Extended-trans : (u v w : View X C R) (xs ys : List (Entry C R)) → Extended u xs v → Extended v ys w → Extended u (xs ++ ys) w
@@ -24,6 +24,7 @@ module _ {X C R : Type 0} where
     number = b.number ∙ a.number;
     ended = b.ended ∙ a.ended;
     opening = b.opening ∙ a.opening;
+    mark = λ h. b.mark (a.mark h);
   }
 
 module _ {X C R : Type 0} (goes : X → C → R → X → Type 0) where
@@ -41,11 +42,12 @@ module _ {X C R : Type 0} (goes : X → C → R → X → Type 0) where
   -- a call adds its entry
   pub Extended-called : (v w : View X C R) (c : C) (r : R) → Called goes v c r w → Extended v (entry v.number c r ∷ []) w
   Extended-called v w c r h = record {
-    seen = (h.0 ++ entry v.number c r ∷ [], sym (append_assoc v.seen h.0 (entry v.number c r ∷ [])) ∙ sym h.1);
-    mine = h.2;
-    number = h.3;
-    ended = h.4;
-    opening = h.5;
+    seen = (h.between ++ entry v.number c r ∷ [], sym (append_assoc v.seen h.between (entry v.number c r ∷ [])) ∙ sym h.seen);
+    mine = h.mine;
+    number = h.number;
+    ended = h.ended;
+    opening = h.opening;
+    mark = λ marked_once. off marked_once h.unmarked.0;
   }
 
   -- learning adds no call
@@ -56,7 +58,12 @@ module _ {X C R : Type 0} (goes : X → C → R → X → Type 0) where
     number = ap (λ (z : View X C R). z.number) h.1;
     ended = ap (λ (z : View X C R). z.ended) h.1;
     opening = ap (λ (z : View X C R). z.opening) h.1;
+    mark = λ marked_once. ap (λ (z : View X C R). z.found_last) h.1 ∙ marked_once;
   }
+
+  -- a pass that learns the note of a turn's opening opened with that state
+  pub opens_as_learned : (o : X) (v w : View X C R) → Learned goes v (note_of (first_pass o)) w → (v.opening ≡ Some o) × (w.opening ≡ Some o)
+  opens_as_learned o v w h = (h.5, ap (λ (z : View X C R). z.opening) h.1 ∙ h.5)
 
   -- the last entry of a run is a step
   last_step : (x z : X) (xs : List (Entry C R)) (e : Entry C R) → Runs goes x (xs ++ e ∷ []) z → IsStep goes e.call e.reply
@@ -66,5 +73,9 @@ module _ {X C R : Type 0} (goes : X → C → R → X → Type 0) where
   -- an answered call is a step of the machine
   pub called_step : (v w : View X C R) (c : C) (r : R) → Called goes v c r w → IsStep goes c r
   called_step v w c r h =
-      let l = h.7.legal in
-      last_step l.0 l.1 (v.seen ++ h.0) (entry v.number c r) (subst (λ (es : List (Entry C R)). Runs goes l.0 es l.1) h.1 l.3)
+      let l = h.legal.legal in
+      last_step l.0 l.1 (v.seen ++ h.between) (entry v.number c r) (subst (λ (es : List (Entry C R)). Runs goes l.0 es l.1) h.seen l.3)
+
+  -- a pass that has found the last number is not answered any more
+  pub spent_for_good : (v w : View X C R) (c : C) (r : R) → v.found_last ≡ true → Called goes v c r w → ⊥
+  spent_for_good v w c r mark h = off mark h.unmarked.0

@@ -8,7 +8,7 @@ use Rattle.warm_turn.specs.declared.board.View.{View}
 use Rattle.warm_turn.specs.declared.board.Held.{Held}
 use Rattle.warm_turn.specs.Turns.{entry, Called, IsPass}
 use Rattle.warm_turn.specs.Rule.{Kept}
-use Rattle.warm_turn.specs.Steps.{Sat, waiting, server, after_call, took, looked, passed, caught_up, became_pass, HasMachine, IsMade, Served}
+use Rattle.warm_turn.specs.Steps.{Sat, waiting, server, after_call, HasPassedOn, took, looked, passed, caught_up, became_pass, HasMachine, IsMade, Served}
 use Rattle.warm_turn.proofs.Keeps as keeping
 
 module _ {M X C R : Type 0} (meaning : M → X) (fit : M → Type 0) (goes : X → C → R → X → Type 0) (o : X) where
@@ -51,7 +51,7 @@ module _ {M X C R : Type 0} (meaning : M → X) (fit : M → Type 0) (goes : X �
 
   -- what passing on told, of a call that was made
   pub has_passed : (slots : ℕ) (me me' : S) (found : ℕ) (c : C) (r : R) → IsMade meaning fit goes me c r → passed goes (step slots 1 1 0 maybe.none) me found me'
-      → (me' ≡ (after_call me.0 (entry me.0.number c r), [])) × IsPass goes me'.0
+      → HasPassedOn goes me c r me'
   has_passed slots me me' found c r m p =
       let q = p m.0 m.1 m.3 m.7 in
       (subst (λ (z : C × R). me' ≡ (after_call me.0 (entry me.0.number z.0 z.1), [])) (λ i. (m.8 i, m.9 i)) q.0, q.1)
@@ -98,20 +98,21 @@ module _ {M X C R : Type 0} (meaning : M → X) (fit : M → Type 0) (goes : X �
       )
 
   -- a ticket, a turn, a call and passing on make a call
-  pub is_called : (was : V) (ticket : ℕ) (m1 m2 m3 m4 : S) (c : C) (r : R) → m1.0 ≡ waiting was ticket → HasMachine meaning fit m1.0 m2 → Served meaning fit goes m2 c r m3
+  pub is_called : (was : V) (ticket : ℕ) (m1 m2 m3 m4 : S) (c : C) (r : R) → was.found_last ≡ false → m1.0 ≡ waiting was ticket → HasMachine meaning fit m1.0 m2 → Served meaning fit goes m2 c r m3
       → m4 ≡ (after_call m3.0 (entry m3.0.number c r), []) → IsPass goes m4.0 → Called goes was c r m4.0
-  is_called was ticket m1 m2 m3 m4 c r waits has served added pass =
+  is_called was ticket m1 m2 m3 m4 c r unmarked waits has served added pass =
       let h : H = has.1 in
       let t = served h (ap (λ (m : S). m.1) has.2) in
       let view : m3.0 ≡ server (waiting was ticket) has.0 (meaning h.machine) = ap (λ (m : S). m.0) t.2 ∙ (ap (λ (m : S). m.0) has.2 ∙ ap (λ (v : V). server v has.0 (meaning h.machine)) waits) in
       let now : m4.0 ≡ after_call (server (waiting was ticket) has.0 (meaning h.machine)) (entry was.number c r) = ap (λ (m : S). m.0) added ∙ ap (λ (v : V). after_call v (entry v.number c r)) view in
-      let longer : IsPrefix was.seen has.0 = subst (λ (v : V). IsPrefix v.seen has.0) waits has.3 in (
-        longer.0,
-        ap (λ (v : V). v.seen) now ∙ ap (λ l. l ++ entry was.number c r ∷ []) (sym longer.1),
-        ap (λ (v : V). v.mine) now,
-        ap (λ (v : V). v.number) now,
-        ap (λ (v : V). v.ended) now,
-        ap (λ (v : V). v.opening) now,
-        ap (λ (v : V). v.found_last) now,
-        pass,
-      )
+      let longer : IsPrefix was.seen has.0 = subst (λ (v : V). IsPrefix v.seen has.0) waits has.3 in
+      record {
+        between = longer.0;
+        seen = ap (λ (v : V). v.seen) now ∙ ap (λ l. l ++ entry was.number c r ∷ []) (sym longer.1);
+        mine = ap (λ (v : V). v.mine) now;
+        number = ap (λ (v : V). v.number) now;
+        ended = ap (λ (v : V). v.ended) now;
+        opening = ap (λ (v : V). v.opening) now;
+        unmarked = (unmarked, ap (λ (v : V). v.found_last) now ∙ unmarked);
+        legal = pass;
+      }

@@ -175,11 +175,22 @@ module _ {M X C R : Type 0} (fit : M → Type 0) where
         full = g.full;
       }))
 
+  -- one more ticket is served
+  pub serves_next : (s : State (Option (Held M C R)) (View X C R)) (r : InTurn fit s) (me : ℕ) (v : View X C R) → get_elem? s.views me ≡ some v → v.serves ≡ true
+      → get_or (set s.words 1 ((serving_word s + 1) % 2 ^ 64)) 1 0 ≡ serving_word s + 1
+  serves_next s r me v at serves =
+      let n : ℕ = serving_word s in
+      let two = r.two in
+      let small = r.small in
+      let below : n < ticket_word s = (away_below s r me v at serves).0 in
+      let up : (n + 1) % 2 ^ 64 ≡ n + 1 = omega arith in
+      get_or-set_same s.words 1 ((n + 1) % 2 ^ 64) 0 (omega arith) ∙ up
+
   -- a new seat has no ticket
-  pub splits : (s : State (Option (Held M C R)) (View X C R)) (r : InTurn fit s) (me : ℕ) (v : View X C R) → get_elem? s.views me ≡ some v → InTurn fit record { words = s.words; homes = s.homes; views = set s.views me v ++ note_of v ∷ [] }
-  splits s r me v at =
+  pub enters : (s : State (Option (Held M C R)) (View X C R)) (r : InTurn fit s) (v : View X C R) → InTurn fit record { words = s.words; homes = s.homes; views = s.views ++ note_of v ∷ [] }
+  enters s r v =
       let w : View X C R = note_of v in
-      subst (λ (l : List (View X C R)). InTurn fit record { words = s.words; homes = s.homes; views = l ++ w ∷ [] }) (sym (set_again s.views me v at)) record {
+      record {
         turn = r.turn;
         two = r.two;
         one = r.one;

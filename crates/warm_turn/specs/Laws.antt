@@ -21,6 +21,10 @@ MarkIsOfTheLast {M} {X} {C} {R} meaning fit goes =
     (opening : X) (s : State (Option (Held M C R)) (View X C R)) → Kept meaning fit goes opening s
     → (j : ℕ) (v : View X C R) → get_elem? s.views j ≡ some v → v.found_last ≡ true → ticket_word s + 1 ≡ 2 ^ 64
 
+-- a pass that has the mark is answered no more
+abbrev pub SpentStaysSpent : {X C R : Type 0} → (X → C → R → X → Type 0) → Type 0
+SpentStaysSpent {X} {C} {R} goes = (v w : View X C R) (c : C) (r : R) → v.found_last ≡ true → Called goes v c r w → ⊥
+
 -- an answered call is a step
 abbrev pub CallsAreSteps : {X C R : Type 0} → (X → C → R → X → Type 0) → Type 0
 CallsAreSteps {X} {C} {R} goes = (v w : View X C R) (c : C) (r : R) → Called goes v c r w → IsStep goes c r

@@ -10,6 +10,7 @@ use Rattle.warm_turn.specs.declared.board.Entry.{Entry}
 use Rattle.warm_turn.specs.declared.board.Ended.{Ended}
 use Rattle.warm_turn.specs.declared.board.View.{View}
 use Rattle.warm_turn.specs.declared.board.Held.{Held}
+use Rattle.warm_turn.specs.declared.fault.Busy.{Busy}
 use Rattle.warm_turn.specs.Turns.{calls_by, NoRepeat, Runs}
 
 abbrev pub ticket_word : {S V : Type 0} → State S V → ℕ
@@ -53,19 +54,20 @@ module _ {X C R : Type 0} where
 
   -- what the history says of the seat j with the view v, where `owner` is the pass that each ended pass was ended into
   pub record IsRecorded (opening : X) (log : List (Entry C R)) (state : X) (owner : ℕ → ℕ) (views : List (View X C R)) (j : ℕ) (v : View X C R) : Type 0 where
-    pub sight : v.sees ≡ true → (v.opening ≡ Some opening) × IsPrefix v.seen log × IsPrefix v.also log
+    pub sight : v.sees ≡ true → (v.opening ≡ Some opening) × IsPrefix v.seen log × IsPrefix v.also log × (v.also_opening ≡ Some opening)
     pub unused : v.sees ≡ true → v.owns ≡ false → calls_by j log ≡ []
     pub own : v.owns ≡ true → (v.sees ≡ true) × (v.number ≡ j) × (calls_by j log ≡ v.mine)
     pub others : v.owns ≡ true → (a : ℕ) (e : Ended C R) → get_elem? v.ended a ≡ some e → (owner e.number ≡ j) × (calls_by e.number log ≡ e.calls) × IsGone views e.number
     pub apart : v.owns ≡ true → NoRepeat v.ended
     pub serving : v.serves ≡ true → (v.seen ≡ log) × (v.state ≡ Some state)
 
--- there is one legal history, in which the calls of each pass stand once. A machine at home is in the state that it reaches
-pub record OneHistory {M X C R : Type 0} (meaning : M → X) (goes : X → C → R → X → Type 0) (opening : X) (homes : List (maybe.Option (Option (Held M C R)))) (views : List (View X C R)) : Type 0 where
+-- there is one legal history, of as many calls as tickets were served, in which the calls of each pass stand once. A machine at home is in the state that it reaches
+pub record OneHistory {M X C R : Type 0} (meaning : M → X) (goes : X → C → R → X → Type 0) (opening : X) (served : ℕ) (homes : List (maybe.Option (Option (Held M C R)))) (views : List (View X C R)) : Type 0 where
   pub log : List (Entry C R)
   pub state : X
   pub owner : ℕ → ℕ
   pub legal : Runs goes opening log state
+  pub count : length log ≡ served
   pub home : (h : Held M C R) → get_elem? homes 0 ≡ some (some (Some h)) → meaning h.machine ≡ state
   pub each : (j : ℕ) (v : View X C R) → get_elem? views j ≡ some v → IsRecorded opening log state owner views j v
   pub unborn : (j : ℕ) → length views ≤ j → calls_by j log ≡ []
@@ -73,4 +75,13 @@ pub record OneHistory {M X C R : Type 0} (meaning : M → X) (goes : X → C →
 -- The rule
 pub record Kept {M X C R : Type 0} (meaning : M → X) (fit : M → Type 0) (goes : X → C → R → X → Type 0) (opening : X) (s : State (Option (Held M C R)) (View X C R)) : Type 0 where
   pub turns : InTurn fit s
-  pub history : OneHistory meaning goes opening s.homes s.views
+  pub history : OneHistory meaning goes opening (serving_word s) s.homes s.views
+
+-- What the words of a refused close are: those of a state that the rule allows, in which a seat has this view
+pub record AreWords {M X C R : Type 0} (meaning : M → X) (fit : M → Type 0) (goes : X → C → R → X → Type 0) (opening : X) (v : View X C R) (found : Busy) : Type 0 where
+  pub state : State (Option (Held M C R)) (View X C R)
+  pub kept : Kept meaning fit goes opening state
+  pub seat : ℕ
+  pub view : get_elem? state.views seat ≡ some v
+  pub ticket : ticket_word state ≡ found.ticket
+  pub serving : serving_word state ≡ found.serving

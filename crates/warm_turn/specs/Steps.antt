@@ -6,7 +6,7 @@ use Rattle.warm_turn.specs.declared.board.Entry.{Entry}
 use Rattle.warm_turn.specs.declared.board.View.{View}
 use Rattle.warm_turn.specs.declared.board.Made.{Made}
 use Rattle.warm_turn.specs.declared.board.Held.{Held}
-use Rattle.warm_turn.specs.Turns.{entry, IsPass, marked, new_pass, settled}
+use Rattle.warm_turn.specs.Turns.{entry, IsPass, marked, new_pass, note_of, settled}
 
 -- a seat: its view, and the slots that it has taken
 abbrev pub Sat : Type 0 → Type 0 → Type 0 → Type 0 → Type 0
@@ -29,10 +29,18 @@ module _ {X C R : Type 0} where
   after_call v e = record v { waits = false; serves = false; ticket = 0; state = None; seen = v.seen ++ e ∷ []; mine = v.mine ++ e ∷ [] }
 
 module _ {M X C R : Type 0} where
+  -- the seat took this ticket, which it can only where it had not found the last number
+  abbrev pub HasTicket : Sat M X C R → ℕ → Sat M X C R → Type 0
+  HasTicket m k m' = (m.0.found_last ≡ false) × (m' ≡ (waiting m.0 k, m.1))
+
+  -- the entry of this call was added to the history, and the machine is at home
+  abbrev pub HasPassedOn : (X → C → R → X → Type 0) → Sat M X C R → C → R → Sat M X C R → Type 0
+  HasPassedOn goes m c r m' = (m' ≡ (after_call m.0 (entry m.0.number c r), [])) × IsPass goes m'.0
+
   -- a ticket was taken, or the last number was found, or neither
   abbrev pub took : At M C R → Sat M X C R → ℕ → Sat M X C R → Type 0
   took st m found m' =
-      (found ≡ st.first → m' ≡ (waiting m.0 found, m.1))
+      (found ≡ st.first → HasTicket m found m')
       × (found ≢ st.first → found + 1 ≡ 2 ^ 64 → m' ≡ (marked m.0, m.1))
       × (found ≢ st.first → found + 1 ≢ 2 ^ 64 → m' ≡ m)
 
@@ -46,12 +54,16 @@ module _ {M X C R : Type 0} where
   abbrev pub passed : (X → C → R → X → Type 0) → At M C R → Sat M X C R → ℕ → Sat M X C R → Type 0
   passed goes st m found m' =
       (h : Held M C R) (d : Made C R) → m.1 ≡ (0, Some h) ∷ [] → h.made ≡ Some d
-      → (m' ≡ (after_call m.0 (entry m.0.number d.call.value d.reply.value), [])) × IsPass goes m'.0
+      → HasPassedOn goes m d.call.value d.reply.value m'
 
-  -- the seat has seen the history so far, in which what it knew stands
+  -- the seat has seen the history so far, in which what it knew stands, and the state that it learned is that with which the turn opened
   abbrev pub caught_up : (X → C → R → X → Type 0) → At M C R → Sat M X C R → ℕ → Sat M X C R → Type 0
   caught_up goes st m found m' =
-      (log : List (Entry C R)) × (m' ≡ (settled m.0 log, m.1)) × IsPrefix m.0.seen log × IsPrefix m.0.also log × IsPass goes (settled m.0 log)
+      (log : List (Entry C R)) × (m' ≡ (settled m.0 log, m.1)) × IsPrefix m.0.seen log × IsPrefix m.0.also log × IsPass goes (settled m.0 log) × (m.0.opening ≡ m.0.also_opening)
+
+  -- a new seat knows with which state the turn opened, as the first pass did
+  abbrev pub came : At M C R → Sat M X C R → ℕ → Sat M X C R → Type 0
+  came st m found m' = m' ≡ (note_of m.0, [])
 
   -- a note's seat becomes a pass, with a number of its own
   abbrev pub became_pass : (X → C → R → X → Type 0) → At M C R → Sat M X C R → ℕ → Sat M X C R → Type 0

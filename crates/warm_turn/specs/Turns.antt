@@ -49,29 +49,30 @@ module _ {X C R : Type 0} where
     state = None;
     seen = [];
     also = [];
+    also_opening = None;
     mine = [];
     ended = [];
   }
 
   -- the pass that a turn begins with: it has seen nothing, and made no call
   abbrev pub first_pass : X → View X C R
-  first_pass o = record nobody { sees = true; owns = true; opening = Some o }
+  first_pass o = record nobody { sees = true; owns = true; opening = Some o; also_opening = Some o }
 
   -- a note of what the pass has seen
   abbrev pub note_of : View X C R → View X C R
-  note_of v = record nobody { sees = v.sees; opening = v.opening; seen = v.seen }
+  note_of v = record nobody { sees = v.sees; opening = v.opening; also_opening = v.opening; seen = v.seen }
 
   -- a pass of this number, which has seen what this view has
   abbrev pub new_pass : View X C R → ℕ → View X C R
-  new_pass v n = record nobody { sees = true; owns = true; number = n; opening = v.opening; seen = v.seen }
+  new_pass v n = record nobody { sees = true; owns = true; number = n; opening = v.opening; also_opening = v.opening; seen = v.seen }
 
   -- the pass found the last number in the ticket word
   abbrev pub marked : View X C R → View X C R
   marked v = record v { found_last = true }
 
-  -- the pass learned of the list that the other has seen
+  -- the pass learned of the list that the other has seen, and with which state the turn opened
   abbrev pub learned : View X C R → View X C R → View X C R
-  learned v w = record v { also = w.seen }
+  learned v w = record v { also = w.seen; also_opening = w.opening }
 
   -- what is kept of a pass that is ended
   abbrev pub as_ended : View X C R → Ended C R
@@ -79,11 +80,11 @@ module _ {X C R : Type 0} where
 
   -- the pass learned of the list that the other has seen, and holds its number and calls, and those that it held
   abbrev pub joined : View X C R → View X C R → View X C R
-  joined v w = record v { also = w.seen; ended = v.ended ++ as_ended w ∷ w.ended }
+  joined v w = record v { also = w.seen; also_opening = w.opening; ended = v.ended ++ as_ended w ∷ w.ended }
 
   -- the pass has seen this history
   abbrev pub settled : View X C R → List (Entry C R) → View X C R
-  settled v log = record v { seen = log; also = [] }
+  settled v log = record v { seen = log; also = []; also_opening = v.opening }
 
   -- What a pass knows between two calls: its list is legal, and the entries of each number that it holds are just that pass's calls, each once, in their order. The numbers differ
   pub record IsPass (goes : X → C → R → X → Type 0) (v : View X C R) : Type 0 where
@@ -98,29 +99,35 @@ module _ {X C R : Type 0} where
   abbrev pub IsNote : View X C R → Type 0
   IsNote v = (v.sees ≡ true) × (v.owns ≡ false) × (v.serves ≡ false)
 
-  -- What a call tells: the list begins with the list that the pass had and ends with the call, which is one more of its own. Nothing else of the pass changed
-  abbrev pub Called : (X → C → R → X → Type 0) → View X C R → C → R → View X C R → Type 0
-  Called goes v c r w =
-      (between : List (Entry C R)) × (w.seen ≡ (v.seen ++ between) ++ entry v.number c r ∷ []) × (w.mine ≡ v.mine ++ entry v.number c r ∷ [])
-      × (w.number ≡ v.number) × (w.ended ≡ v.ended) × (w.opening ≡ v.opening) × (w.found_last ≡ v.found_last) × IsPass goes w
+  -- What an answered call tells: the list begins with the list that the pass had and ends with the call, which is one more of its own. The pass had no mark, and nothing else of it changed
+  pub record Called (goes : X → C → R → X → Type 0) (v : View X C R) (c : C) (r : R) (w : View X C R) : Type 0 where
+    pub between : List (Entry C R)
+    pub seen : w.seen ≡ (v.seen ++ between) ++ entry v.number c r ∷ []
+    pub mine : w.mine ≡ v.mine ++ entry v.number c r ∷ []
+    pub number : w.number ≡ v.number
+    pub ended : w.ended ≡ v.ended
+    pub opening : w.opening ≡ v.opening
+    pub unmarked : (v.found_last ≡ false) × (w.found_last ≡ false)
+    pub legal : IsPass goes w
 
-  -- both lists begin the new one, and nothing else of the pass changed
+  -- both lists begin the new one, both opened with one state, and nothing else of the pass changed
   abbrev pub Learned : (X → C → R → X → Type 0) → View X C R → View X C R → View X C R → Type 0
   Learned goes v u w =
-      (log : List (Entry C R)) × (w ≡ settled v log) × IsPrefix v.seen log × IsPrefix u.seen log × IsPass goes w
+      (log : List (Entry C R)) × (w ≡ settled v log) × IsPrefix v.seen log × IsPrefix u.seen log × IsPass goes w × (v.opening ≡ u.opening)
 
   -- the same, and the pass holds the ended one's number and calls, and those that the ended one held
   abbrev pub Joined : (X → C → R → X → Type 0) → View X C R → View X C R → View X C R → Type 0
   Joined goes v u w =
-      (log : List (Entry C R)) × (w ≡ settled (joined v u) log) × IsPrefix v.seen log × IsPrefix u.seen log × IsPass goes w
+      (log : List (Entry C R)) × (w ≡ settled (joined v u) log) × IsPrefix v.seen log × IsPrefix u.seen log × IsPass goes w × (v.opening ≡ u.opening)
 
-  -- the pass has seen more, and these calls are more of its own. Else it is as before, but for the mark that no ticket was left
+  -- the pass has seen more, and these calls are more of its own. Else it is as before, but that it may have a mark, which then stays
   pub record Extended (v : View X C R) (more : List (Entry C R)) (w : View X C R) : Type 0 where
     pub seen : IsPrefix v.seen w.seen
     pub mine : w.mine ≡ v.mine ++ more
     pub number : w.number ≡ v.number
     pub ended : w.ended ≡ v.ended
     pub opening : w.opening ≡ v.opening
+    pub mark : v.found_last ≡ true → w.found_last ≡ true
 
 -- What a closed turn gives: the machine is in a state that a history which is legal from the opening state reaches. The history begins with the list of the pass, and has no further entry of any number that the pass holds
 pub record IsLast {X C R : Type 0} (goes : X → C → R → X → Type 0) (opening : X) (v : View X C R) (x : X) : Type 0 where

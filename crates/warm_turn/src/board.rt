@@ -50,6 +50,8 @@ pub struct View<X, C, R> {
     pub seen: LinkedList<Entry<C, R>>,
     /// A beginning that was learned, and is not looked up yet.
     pub also: LinkedList<Entry<C, R>>,
+    /// The state that the turn opened with, as it was learned.
+    pub also_opening: Option<X>,
     /// The pass's own calls, in their order.
     pub mine: LinkedList<Entry<C, R>>,
     /// The passes that were ended into this one, and those that they held.

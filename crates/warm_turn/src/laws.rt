@@ -1,6 +1,6 @@
 //! What holds of every state that the rule of a turn allows, and of every answered call. These are
 //! theorems: the functions do nothing.
-ghost use Rattle.warm_turn.specs.Laws.{MachineIsAlone, MarkIsOfTheLast, CallsAreSteps};
+ghost use Rattle.warm_turn.specs.Laws.{MachineIsAlone, MarkIsOfTheLast, SpentStaysSpent, CallsAreSteps};
 
 use crate::machine::Machine;
 
@@ -12,6 +12,11 @@ pub fn machine_is_alone<M: Machine>()
 /// No pass has the mark that `u64::MAX` was found in the ticket word while the word is less.
 pub fn mark_is_of_the_last<M: Machine>()
     ensures { MarkIsOfTheLast M.meaning M.is_fit M.goes }
+{}
+
+/// A pass that was once refused with `TurnsSpent` is never answered again.
+pub fn spent_stays_spent<M: Machine>()
+    ensures { SpentStaysSpent M.goes }
 {}
 
 /// What [`crate::Turn::call`] says of an answered call makes it a step of the machine.

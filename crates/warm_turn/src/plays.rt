@@ -42,6 +42,15 @@ impl<M: Machine> Play<Option<Held<M, M::Call, M::Reply>>, View<M::State, M::Call
     ghost then = { caught_up M.goes };
 }
 
+// Sits down at the table, and sees nothing but with which state the turn opened.
+pub(crate) struct Come;
+
+impl<M, X, C, R> Play<Option<Held<M, C, R>>, View<X, C, R>> for Come {
+    ghost use Rattle.warm_turn.specs.Steps.{came};
+
+    ghost then = { came };
+}
+
 // Looks at the table, and makes a note a pass with a number of its own.
 pub(crate) struct Become;
 

@@ -1,13 +1,14 @@
 //! The turn, its passes and notes.
 ghost use Rattle.std.specs.Prelude.{◌≡◌, ◌≢◌, ℕ, ◌+◌, ◌^◌, ◌<◌, true, false, [], ◌∷◌, Some, IfOk, IfErr, IfSome, IfNone};
 ghost use Rattle.warm_turn.specs.declared.board.Held.{Held};
-ghost use Rattle.warm_turn.specs.Turns.{entry, calls_by, first_pass, new_pass, note_of, marked, IsPass, IsStep, IsLast, Called, Learned, Joined};
-ghost use Rattle.warm_turn.specs.Steps.{waiting, after_call, HasMachine, IsMade, Served};
+ghost use Rattle.warm_turn.specs.Turns.{calls_by, first_pass, new_pass, note_of, marked, IsPass, IsStep, IsLast, Called, Learned, Joined};
+ghost use Rattle.warm_turn.specs.Rule.{AreWords};
+ghost use Rattle.warm_turn.specs.Steps.{HasTicket, HasMachine, IsMade, Served, HasPassedOn};
 
 use crate::board::{Board, Held, Made, Place, Top};
 use crate::fault::{Busy, Memory, TurnsSpent};
 use crate::machine::Machine;
-use crate::plays::{Become, CatchUp, End, Learn, Look, PassOn, Take, Tell};
+use crate::plays::{Become, CatchUp, Come, End, Learn, Look, PassOn, Take, Tell};
 use atomic_table::{Refused, Table};
 use std::alloc::{AllocFailed, Global};
 use std::marker::Model;
@@ -81,7 +82,7 @@ fn take_ticket<M: Machine, R: Wait>(rt: &R, top: &Top<M>, place: &mut Place<M>) 
     requires table { (place.old.table_id ≡ top.now.table_id) × (top.now.table_id.words ≡ 2) }
     requires idle { IsPass M.goes place.old.me.0 }
     ensures table { (place.new.table_id ≡ place.old.table_id) × (place.new.id ≡ place.old.id) }
-    ensures some { IfSome result (λ k. (place.new.me ≡ (waiting place.old.me.0 k, place.old.me.1))) }
+    ensures some { IfSome result (λ k. HasTicket place.old.me k place.new.me) }
     ensures none { IfNone result (place.new.me ≡ (marked place.old.me.0, place.old.me.1)) }
 {
     let mut expected = 0;
@@ -151,8 +152,7 @@ fn pass_on<M: Machine>(
         × (top.now.table_id.slots ≡ 1) }
     requires made { IsMade M.meaning M.is_fit M.goes place.old.me call.value reply.now }
     ensures table { (place.new.table_id ≡ place.old.table_id) × (place.new.id ≡ place.old.id) }
-    ensures added { (place.new.me ≡ (after_call place.old.me.0 (entry place.old.me.0.number call.value reply.now), []))
-        × IsPass M.goes place.new.me.0 }
+    ensures added { HasPassedOn M.goes place.old.me call.value reply.now place.new.me }
 {
     let _ = (call, reply);
     top.fetch_add::<PassOn>(place, 1, 1);
@@ -268,6 +268,16 @@ impl<M: Machine> Turn<M> {
         Note { place }
     }
 
+    /// A note that has seen nothing, and opened with the turn's state. It is for code that was handed a
+    /// turn and a pass: a pass that learns this note is seen to have opened with that state.
+    pub fn opening_note(&self) -> Note<M>
+        ensures table { result.table ≡ self.now.table }
+        ensures given { result.view ≡ note_of (first_pass self.now.opening) }
+    {
+        let (_, place) = self.table.shared.load_new_seat::<Come>(0);
+        Note { place }
+    }
+
     /// Learns what the note says. From now on the pass's list begins with what it had seen and with
     /// what the note says, and may have further entries of other passes. Its own calls, and those
     /// that it holds, stay.
@@ -333,6 +343,7 @@ impl<M: Machine> Turn<M> {
         ensures last { IfOk result (λ m. IsLast M.goes self.opening pass.view (M.meaning m)) }
         ensures fit { IfOk result M.is_fit }
         ensures busy { IfErr result (λ b. b.serving < b.ticket) }
+        ensures words { IfErr result (AreWords M.meaning M.is_fit M.goes self.opening pass.view) }
         ensures mark { IfErr result (λ b. pass.view.found_last ≡ true → b.ticket + 1 ≡ 2 ^ 64) }
     {
         let Turn { table } = self;

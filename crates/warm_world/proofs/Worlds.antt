@@ -8,8 +8,6 @@ use Rattle.std.specs.declared.alloc.Global.{Global}
 use Rattle.warm_history.specs.declared.hist.Entry.{Entry}
 use Rattle.warm_history.specs.ReferenceSets.{ReferenceSet, these}
 use Rattle.warm_history.specs.Histories.{entries_of, history}
-use Rattle.warm_frames.specs.declared.frame.Frame.TheVariants.{Entries}
-use Rattle.warm_frames.specs.Spelling.{Spells}
 use Rattle.warm_world.specs.declared.world.World.{World}
 use Rattle.warm_world.specs.declared.world.Replica.{Replica}
 use Rattle.warm_world.specs.declared.event.Event.{Event}
@@ -20,7 +18,7 @@ use Rattle.warm_world.specs.declared.event.WorldFault.TheVariants.{Memory, NoSuc
 use Rattle.warm_world.specs.Lists.{Pairwise, place}
 use Rattle.warm_world.specs.States.{ModelState, ReplicaState, FrameRecord, References, replica, set_replica, record_at, add_record, received, nobody}
 use Rattle.warm_world.specs.Next.{Shape, shape, replica_of, IsNamed, IsMissing, IsRefused, Next, Delivered}
-use Rattle.warm_world.specs.Stands.{StandsFor, ReplicaStands, SpellsRecord, Stepped, seen_shape, buffered}
+use Rattle.warm_world.specs.Stands.{StandsFor, ReplicaStands, SpellsRecord, AreSpelled, Stepped, seen_shape, buffered}
 use Rattle.warm_world.proofs.Pairs.{Pairwise-set, Pairwise-push, Pairwise-map}
 
 -- the world with another replica at a place
@@ -87,5 +85,5 @@ pub changes : (w : World) (m : ModelState) (event : Event) (answer : Answer) (k 
 changes w m event answer k x r st lt here next = record { new = set_replica m k r; next = next; stands = replica_changes w m k x r st lt here }
 
 -- a frame that spells references comes, and its entries were found
-pub delivered : (m : ModelState) (j : ℕ) (bytes : List ℕ) (found : List Entry) (kept : FrameRecord) (x : Replica) → SpellsRecord bytes kept → ((sender : ℕ) (entries : List Entry) → Spells bytes (Entries sender entries) → found ≡ entries) → ((refs : ReferenceSet) → found ≡ entries_of (history refs) → ReplicaStands m.room (place j) x (received refs (replica m (place j)))) → (r : ReplicaState) × ReplicaStands m.room (place j) x r × Delivered m j kept 0 0 (set_replica m (place j) r)
-delivered m j bytes found (References sender refs) x spells finds there = (received refs (replica m (place j)), there refs (finds sender (entries_of (history refs)) spells), (refl, refl, refl))
+pub delivered : (m : ModelState) (j : ℕ) (bytes : List ℕ) (found : List Entry) (kept : FrameRecord) (x : Replica) → SpellsRecord bytes kept → AreSpelled bytes found → ((refs : ReferenceSet) → found ≡ entries_of (history refs) → ReplicaStands m.room (place j) x (received refs (replica m (place j)))) → (r : ReplicaState) × ReplicaStands m.room (place j) x r × Delivered m j kept 0 0 (set_replica m (place j) r)
+delivered m j bytes found (References sender refs) x spells finds there = (received refs (replica m (place j)), there refs (finds sender (entries_of (history refs)) spells.spells), (refl, refl, refl))

@@ -4,6 +4,7 @@ use Rattle.warm_stamps.specs.declared.PageId.{PageId}
 use Rattle.warm_stamps.specs.declared.Reference.{Reference}
 use Rattle.warm_history.specs.Histories.{history}
 use Rattle.warm_history.specs.Carried.{carried}
+use Rattle.warm_frames.specs.declared.entries.TheConstants.{MAX_ENTRIES}
 use Rattle.warm_rank.specs.Ranking.{warm}
 use Rattle.warm_world.specs.declared.event.Event.{Event}
 use Rattle.warm_world.specs.declared.event.Event.TheVariants.{Refer, Flush, Send, Deliver, Warm, Restart, Show}
@@ -97,7 +98,7 @@ Effect old (Refer i w page time) Done new =
 Effect old (Flush i w) Done new =
     new ≡ set_replica old (place i) (flushed (place w) (replica old (place i)))
 Effect old (Send i bucket after) (FrameNo k) new =
-    (k ≡ length new.records) × (new ≡ add_record old (References i (carried (reach_of old i) bucket after 1000)))
+    (k ≡ length new.records) × (new ≡ add_record old (References i (carried (reach_of old i) bucket after MAX_ENTRIES)))
 Effect old (Deliver j k) (Took count first) new =
     Delivered old j (record_at old (place k)) count first new
 Effect old (Warm i n) (Pages pages) new =

@@ -1,5 +1,10 @@
--- The numbers of a setup.
+-- The numbers of a setup, and their limits.
 use Rattle.std.specs.Prelude.{ℕ}
+use Rattle.warm_stamps.specs.declared.TheConstants.{MAX_REPLICAS}
+use Rattle.warm_rank.specs.declared.TheConstants.{MAX_SLOTS}
+use Rattle.warm_refbuffer.specs.declared.TheConstants.{MAX_CAPACITY}
+use Rattle.warm_devices.specs.declared.flaky.TheConstants.{MAX_PAGE_SIZE}
+use Rattle.warm_world.specs.declared.TheConstants.{MAX_WORKERS}
 use Rattle.warm_world.specs.Limits.{IsWithin}
 
 pub record Sizes : Type 0 where
@@ -16,8 +21,8 @@ pub record Sizes : Type 0 where
 
 -- each number is within its limits
 pub record IsSetup (s : Sizes) : Type 0 where
-  pub replicas : IsWithin 64 s.replicas
-  pub workers : IsWithin 16 s.workers
-  pub buffer : IsWithin 1024 s.buffer
-  pub frames : IsWithin 65536 s.frames
-  pub page_size : IsWithin 65536 s.page_size
+  pub replicas : IsWithin MAX_REPLICAS s.replicas
+  pub workers : IsWithin MAX_WORKERS s.workers
+  pub buffer : IsWithin MAX_CAPACITY s.buffer
+  pub frames : IsWithin MAX_SLOTS s.frames
+  pub page_size : IsWithin MAX_PAGE_SIZE s.page_size

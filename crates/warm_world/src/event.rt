@@ -14,8 +14,8 @@ pub enum Event {
     Refer(u16, u16, PageId, u64),
     /// What waits in a worker's buffer reaches the replica's history: replica, worker.
     Flush(u16, u16),
-    /// A replica sends its first 1000 entries of a bucket, of those on pages after the one given, as a
-    /// frame: replica, bucket, page.
+    /// A replica sends its first [`warm_frames::MAX_ENTRIES`] entries of a bucket, of those on pages after
+    /// the one given, as a frame: replica, bucket, page.
     Send(u16, Bucket, Option<PageId>),
     /// A kept frame comes to a replica, its sender or another: replica, number of the frame. Its entries
     /// are joined into the replica's history, all of them or none.

@@ -1,9 +1,9 @@
 //! Replicas that gossip what was referenced, in one value.
 //!
-//! A *world* holds up to 64 replicas. Each replica keeps a history, the two latest stamps of every page
-//! that it heard of, and a buffer of references for each of its workers. The world also keeps every
-//! frame that a replica sent, so that a frame may be delivered to any replica, never, once or many
-//! times, and in any order.
+//! A *world* holds up to [`warm_stamps::MAX_REPLICAS`] replicas. Each replica keeps a history, the two
+//! latest stamps of every page that it heard of, and a buffer of references for each of its workers.
+//! The world also keeps every frame that a replica sent, so that a frame may be delivered to any
+//! replica, never, once or many times, and in any order.
 //!
 //! [`World::step`] answers one event and [`World::run`] a list of them. What they promise is told over
 //! a model that is plain lists of references (`specs/States.antt`, `specs/Next.antt`); nothing of it is
@@ -17,3 +17,6 @@ mod world;
 pub use event::{Answer, Event, WorldFault};
 pub use setup::{BadSetup, Setup};
 pub use world::World;
+
+/// The most workers that a replica has. They are numbered from 1.
+pub const MAX_WORKERS: u16 = 16;

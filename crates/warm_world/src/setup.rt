@@ -1,9 +1,19 @@
 //! How large a world is.
 ghost use Rattle.std.specs.Prelude.{◌≡◌, ◌↔◌, IsOk, IfOk, IsTrue};
+ghost use Rattle.warm_stamps.specs.declared.TheConstants.{MAX_REPLICAS};
+ghost use Rattle.warm_rank.specs.declared.TheConstants.{MAX_SLOTS};
+ghost use Rattle.warm_refbuffer.specs.declared.TheConstants.{MAX_CAPACITY};
+ghost use Rattle.warm_devices.specs.declared.flaky.TheConstants.{MAX_PAGE_SIZE};
+ghost use Rattle.warm_world.specs.declared.TheConstants.{MAX_WORKERS};
 ghost use Rattle.warm_world.specs.Limits.{IsWithin};
 ghost use Rattle.warm_world.specs.Sizes.{IsSetup};
 
+use crate::MAX_WORKERS;
 use std::marker::Model;
+use warm_devices::MAX_PAGE_SIZE;
+use warm_rank::MAX_SLOTS;
+use warm_refbuffer::MAX_CAPACITY;
+use warm_stamps::MAX_REPLICAS;
 
 /// How large a world is. Contracts see `Sizes`, the five numbers, each within its limits.
 #[derive(Clone, Copy, Debug, PartialEq, Eq)]
@@ -49,16 +59,17 @@ impl Model for Setup {
 #[derive(Clone, Copy, Debug, PartialEq, Eq)]
 pub struct BadSetup;
 
-fn is_within(most: u32, n: u32) -> bool
+fn is_within(most: usize, n: usize) -> bool
     ensures { IsTrue result ↔ IsWithin most n }
 {
     1 <= n && n <= most
 }
 
 impl Setup {
-    /// A setup of `replicas` (1 to 64), `workers` of each (1 to 16), references that the `buffer` of a
-    /// worker holds (1 to 1024), `frames` of each replica's pool (1 to 65,536), and bytes of a page
-    /// (`page_size`, 1 to 65,536). `BadSetup` exactly where one of them is outside these limits.
+    /// A setup of `replicas` (1 to [`MAX_REPLICAS`]), `workers` of each (1 to [`MAX_WORKERS`]), references
+    /// that the `buffer` of a worker holds (1 to [`MAX_CAPACITY`]), `frames` of each replica's pool (1 to
+    /// [`MAX_SLOTS`]), and bytes of a page (`page_size`, 1 to [`MAX_PAGE_SIZE`]). `BadSetup` exactly where
+    /// one of them is outside these limits.
     pub fn new(
         replicas: u16,
         workers: u16,
@@ -81,11 +92,11 @@ impl Setup {
           page_size = page_size;
         }) }
     {
-        if is_within(64, u32::from(replicas))
-            && is_within(16, u32::from(workers))
-            && is_within(1024, u32::from(buffer))
-            && is_within(65536, frames)
-            && is_within(65536, page_size)
+        if is_within(MAX_REPLICAS as usize, replicas as usize)
+            && is_within(MAX_WORKERS as usize, workers as usize)
+            && is_within(MAX_CAPACITY, buffer as usize)
+            && is_within(MAX_SLOTS, frames as usize)
+            && is_within(MAX_PAGE_SIZE, page_size as usize)
         {
             return Ok(Setup {
                 replicas,
@@ -98,42 +109,42 @@ impl Setup {
         Err(BadSetup)
     }
 
-    /// How many replicas there are: 1 to 64.
+    /// How many replicas there are: 1 to [`MAX_REPLICAS`].
     pub fn replicas(self) -> u16
         ensures value { result ≡ self.replicas }
-        ensures limits { IsWithin 64 result }
+        ensures limits { IsWithin MAX_REPLICAS result }
     {
         self.replicas
     }
 
-    /// How many workers each replica has: 1 to 16.
+    /// How many workers each replica has: 1 to [`MAX_WORKERS`].
     pub fn workers(self) -> u16
         ensures value { result ≡ self.workers }
-        ensures limits { IsWithin 16 result }
+        ensures limits { IsWithin MAX_WORKERS result }
     {
         self.workers
     }
 
-    /// How many references the buffer of a worker holds: 1 to 1024.
+    /// How many references the buffer of a worker holds: 1 to [`MAX_CAPACITY`].
     pub fn buffer(self) -> u16
         ensures value { result ≡ self.buffer }
-        ensures limits { IsWithin 1024 result }
+        ensures limits { IsWithin MAX_CAPACITY result }
     {
         self.buffer
     }
 
-    /// How many frames the pool of each replica has: 1 to 65,536.
+    /// How many frames the pool of each replica has: 1 to [`MAX_SLOTS`].
     pub fn frames(self) -> u32
         ensures value { result ≡ self.frames }
-        ensures limits { IsWithin 65536 result }
+        ensures limits { IsWithin MAX_SLOTS result }
     {
         self.frames
     }
 
-    /// How many bytes a page has: 1 to 65,536.
+    /// How many bytes a page has: 1 to [`MAX_PAGE_SIZE`].
     pub fn page_size(self) -> u32
         ensures value { result ≡ self.page_size }
-        ensures limits { IsWithin 65536 result }
+        ensures limits { IsWithin MAX_PAGE_SIZE result }
     {
         self.page_size
     }

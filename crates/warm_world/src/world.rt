@@ -1,16 +1,16 @@
 //! The world: its replicas, their workers' buffers, and the frames that were sent.
-ghost use Rattle.std.specs.Prelude.{◌≡◌, ℕ, ◌+◌, ◌<◌, ◌≤◌, List, [], ◌++◌, length, OnOk, OnErr, IfOk, IfErr, IsTrue, ◌↔◌, replicate};
+ghost use Rattle.std.specs.Prelude.{◌≡◌, ℕ, ◌+◌, ◌<◌, [], length};
+ghost use Rattle.std.specs.Prelude.{OnOk, OnErr, IfOk, IfErr, IsTrue, ◌↔◌, replicate};
 ghost use Rattle.warm_stamps.specs.declared.Reference.{Reference};
 ghost use Rattle.warm_history.specs.ReferenceSets.{ReferenceSet};
 ghost use Rattle.warm_history.specs.Histories.{entries_of, history};
-ghost use Rattle.warm_history.specs.declared.hist.Entry.{Entry};
-ghost use Rattle.warm_frames.specs.declared.frame.Frame.TheVariants.{Entries};
-ghost use Rattle.warm_frames.specs.Spelling.{Spells};
 ghost use Rattle.warm_refbuffer.specs.Buffered.{IsCapacity};
 ghost use Rattle.warm_world.specs.Lists.{IsNumber};
-ghost use Rattle.warm_world.specs.States.{ModelState, ReplicaState, pending, flushed, put_last, referred, received, restarted, opening, fresh};
+ghost use Rattle.warm_world.specs.States.{ReplicaState, pending, opening, fresh};
+ghost use Rattle.warm_world.specs.States.{flushed, put_last, referred, received, restarted};
 ghost use Rattle.warm_world.specs.Next.{IsNamed, IsMissing, stamped};
-ghost use Rattle.warm_world.specs.Stands.{ReplicaStands, StandsFor, seen_shape, Stepped, Ran, buffered};
+ghost use Rattle.warm_world.specs.Stands.{buffered, ReplicaStands, Becomes, IsFull, AreSpelled};
+ghost use Rattle.warm_world.specs.Stands.{StandsFor, seen_shape, Steps, Runs};
 
 use crate::event::{Answer, Event, WorldFault};
 use crate::setup::Setup;
@@ -69,9 +69,10 @@ fn empty_buffers(alloc: Global, workers: u16, room: usize) -> Result<Vec<RefBuff
     Ok(buffers)
 }
 
-// The entries that a kept frame spells. Send keeps frames of entries alone, so any other frame brings none.
+// The entries that a kept frame spells. Send keeps frames of entries alone, so any other frame brings
+// none.
 fn entries_in(alloc: Global, bytes: &[u8]) -> Result<EntryList, AllocError>
-    ensures { (sender : ℕ) (entries : List Entry) → Spells bytes.now (Entries sender entries) → IfOk result (λ found. found ≡ entries) }
+    ensures { IfOk result (λ found. AreSpelled bytes.now found) }
 {
     match decode(alloc, bytes) {
         Ok(Frame::Entries { entries, .. }) => Ok(entries),
@@ -91,7 +92,8 @@ fn no_entries(alloc: Global) -> EntryList {
 impl Replica {
     fn new(alloc: Global, id: ReplicaId, workers: u16, room: usize) -> Result<Self, AllocError>
         requires { IsCapacity room }
-        ensures { IfOk result (λ r. (place : ℕ) → id ≡ place + 1 → ReplicaStands room place r (fresh workers)) }
+        ensures { (place : ℕ) → id ≡ place + 1
+            → IfOk result (λ r. ReplicaStands room place r (fresh workers)) }
     {
         Ok(Replica {
             id,
@@ -102,8 +104,7 @@ impl Replica {
 
     fn flush(&mut self, worker: usize) -> Result<(), AllocError>
         requires { worker < length self.old.buffers.items }
-        ensures ok { (room place : ℕ) (m : ReplicaState) → ReplicaStands room place self.old m
-            → OnOk result (ReplicaStands room place self.new (flushed worker m)) }
+        ensures ok { (room : ℕ) → OnOk result (Becomes room self.old self.new (flushed worker)) }
         ensures err { OnErr result (self.new ≡ self.old) }
         ensures same { length self.new.buffers.items ≡ length self.old.buffers.items }
     {
@@ -124,11 +125,10 @@ impl Replica {
 
     fn refer(&mut self, worker: usize, page: PageId, time: u64) -> Result<(), AllocError>
         requires { worker < length self.old.buffers.items }
-        ensures ok { (room place : ℕ) (m : ReplicaState) → ReplicaStands room place self.old m
-            → OnOk result (ReplicaStands room place self.new (referred room worker (stamped (place + 1) page time) m)) }
+        ensures ok { (room : ℕ) (made : Reference) → made ≡ stamped self.old.id page time
+            → OnOk result (Becomes room self.old self.new (referred room worker made)) }
         ensures err { OnErr result (self.new ≡ self.old) }
-        ensures full { (room place : ℕ) (m : ReplicaState) → ReplicaStands room place self.old m
-            → OnErr result (room ≤ length (pending m worker)) }
+        ensures full { OnErr result (IsFull self.old worker) }
     {
         let stamp = Stamp {
             time,
@@ -145,8 +145,8 @@ impl Replica {
     }
 
     fn receive(&mut self, entries: &[Entry]) -> Result<(), AllocError>
-        ensures ok { (room place : ℕ) (m : ReplicaState) (refs : ReferenceSet) → ReplicaStands room place self.old m
-            → entries.now ≡ entries_of (history refs) → OnOk result (ReplicaStands room place self.new (received refs m)) }
+        ensures ok { (room : ℕ) (refs : ReferenceSet) → entries.now ≡ entries_of (history refs)
+            → OnOk result (Becomes room self.old self.new (received refs)) }
         ensures err { OnErr result (self.new ≡ self.old) }
     {
         self.history.join_entries(entries)?;
@@ -154,8 +154,7 @@ impl Replica {
     }
 
     fn restart(&mut self, alloc: Global)
-        ensures { (room place : ℕ) (m : ReplicaState) → ReplicaStands room place self.old m
-            → ReplicaStands room place self.new (restarted m) }
+        ensures { (room : ℕ) → Becomes room self.old self.new restarted }
     {
         self.history = History::new(alloc);
         for buffer in self.buffers.iter_mut() {
@@ -170,7 +169,8 @@ impl World {
     ///
     /// Refused where there is no memory for that.
     pub fn new(alloc: Global, setup: Setup) -> Result<Self, AllocError>
-        ensures { IfOk result (λ w. StandsFor w (opening setup.replicas setup.workers setup.buffer)) }
+        ensures { IfOk result (λ world.
+            StandsFor world (opening setup.replicas setup.workers setup.buffer)) }
     {
         let count = setup.replicas();
         let workers = setup.workers();
@@ -214,7 +214,7 @@ impl World {
 
     fn refer(&mut self, i: u16, w: u16, page: PageId, time: u64) -> Answer
         requires { IsNamed (seen_shape self.old) (Event.Refer i w page time) }
-        ensures { (m : ModelState) → StandsFor self.old m → Stepped m (Event.Refer i w page time) result self.new }
+        ensures { Steps self.old (Event.Refer i w page time) result self.new }
     {
         let worker = w as usize - 1;
         match self.replicas[i as usize - 1].refer(worker, page, time) {
@@ -225,7 +225,7 @@ impl World {
 
     fn flush(&mut self, i: u16, w: u16) -> Answer
         requires { IsNamed (seen_shape self.old) (Event.Flush i w) }
-        ensures { (m : ModelState) → StandsFor self.old m → Stepped m (Event.Flush i w) result self.new }
+        ensures { Steps self.old (Event.Flush i w) result self.new }
     {
         let worker = w as usize - 1;
         match self.replicas[i as usize - 1].flush(worker) {
@@ -236,7 +236,7 @@ impl World {
 
     fn send(&mut self, i: u16, bucket: Bucket, after: Option<PageId>) -> Answer
         requires { IsNamed (seen_shape self.old) (Event.Send i bucket after) }
-        ensures { (m : ModelState) → StandsFor self.old m → Stepped m (Event.Send i bucket after) result self.new }
+        ensures { Steps self.old (Event.Send i bucket after) result self.new }
     {
         let replica = &self.replicas[i as usize - 1];
         let sender = replica.id;
@@ -257,7 +257,7 @@ impl World {
 
     fn deliver(&mut self, j: u16, k: u64) -> Answer
         requires { IsNamed (seen_shape self.old) (Event.Deliver j k) }
-        ensures { (m : ModelState) → StandsFor self.old m → Stepped m (Event.Deliver j k) result self.new }
+        ensures { Steps self.old (Event.Deliver j k) result self.new }
     {
         let Ok(entries) = entries_in(self.alloc, &self.frames[k as usize - 1]) else {
             return Answer::Refused(WorldFault::Memory);
@@ -270,7 +270,7 @@ impl World {
 
     fn warm(&self, i: u16, n: u32) -> Answer
         requires { IsNamed (seen_shape self.now) (Event.Warm i n) }
-        ensures { (m : ModelState) → StandsFor self.now m → Stepped m (Event.Warm i n) result self.now }
+        ensures { Steps self.now (Event.Warm i n) result self.now }
     {
         let replica = &self.replicas[i as usize - 1];
         match warm_list(self.alloc, &replica.history, n as usize) {
@@ -281,7 +281,7 @@ impl World {
 
     fn restart(&mut self, i: u16) -> Answer
         requires { IsNamed (seen_shape self.old) (Event.Restart i) }
-        ensures { (m : ModelState) → StandsFor self.old m → Stepped m (Event.Restart i) result self.new }
+        ensures { Steps self.old (Event.Restart i) result self.new }
     {
         self.replicas[i as usize - 1].restart(self.alloc);
         Answer::Done
@@ -289,7 +289,7 @@ impl World {
 
     fn show(&self, i: u16) -> Answer
         requires { IsNamed (seen_shape self.now) (Event.Show i) }
-        ensures { (m : ModelState) → StandsFor self.now m → Stepped m (Event.Show i) result self.now }
+        ensures { Steps self.now (Event.Show i) result self.now }
     {
         match self.replicas[i as usize - 1].history.copy() {
             Ok(history) => Answer::Shown(history),
@@ -300,7 +300,7 @@ impl World {
     /// Answers one event. Whatever model state the world stands for, `Next` leads from it, by the event
     /// and its answer, to one that the world stands for afterwards. A refused event changes nothing.
     pub fn step(&mut self, event: Event) -> Answer
-        ensures { (m : ModelState) → StandsFor self.old m → Stepped m event result self.new }
+        ensures { Steps self.old event result self.new }
     {
         if let Err(fault) = self.check(&event) {
             return Answer::Refused(fault);
@@ -327,8 +327,7 @@ impl World {
     /// Room for the answers is taken before the first event. Where there is none the events come back,
     /// and nothing has happened.
     pub fn run(&mut self, events: Vec<Event>) -> Result<Vec<Answer>, Vec<Event>>
-        ensures ran { (m : ModelState) → StandsFor self.old m
-            → IfOk result (λ answers. Ran m events.items answers.items self.new) }
+        ensures ran { IfOk result (λ answers. Runs self.old events.items answers.items self.new) }
         ensures refused { IfErr result (λ back. (back ≡ events) × (self.new ≡ self.old)) }
     {
         let Ok(mut answers) = Vec::with_capacity(self.alloc, events.len()) else {

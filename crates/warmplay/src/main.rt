@@ -7,11 +7,11 @@ use std::env;
 use std::fs::{self, File};
 use std::io::{self, BufWriter, Read, Write};
 use std::process::ExitCode;
-use warm_schedule::command::{Cmd, CmdFault, command_of, not_text};
-use warm_schedule::outcome::{RunFault, outcome_of};
-use warm_schedule::play::{PlayFault, play};
-use warm_schedule::random::random_schedule;
-use warm_schedule::setup::{DeviceSpec, PathText, SetupFault, read_setup, read_setup_file};
+use warm_schedule::{PlayFault, play, random_schedule};
+use warm_setup::{
+    Cmd, CmdFault, DeviceSpec, PathText, RunFault, SetupFault, command_of, not_text, outcome_of,
+    read_setup, read_setup_file,
+};
 use warm_world::Setup;
 
 // How many bytes of answers are gathered before they are written.

@@ -1,4 +1,5 @@
 use Rattle.std.proofs.Common.{◌≡◌, ◌++◌, length}
+use Rattle.warm_stamps.specs.declared.TheConstants.{BUCKETS}
 use Rattle.warm_digest.specs.Hashing.{HaveTaken}
 use Rattle.warm_digest.proofs.sums.Given as goal
 use Rattle.warm_history.specs.Histories.{entries_of}
@@ -6,6 +7,6 @@ use Rattle.warm_history.specs.Histories.{entries_of}
 abbrev pub invariant-loop-entry : goal.invariant-loop-entry
 invariant-loop-entry l = record {
   split : l.yielded ++ l.entry-iterator ≡ entries_of l.history;
-  all : length l.hashers.items ≡ 64;
+  all : length l.hashers.items ≡ BUCKETS;
   taken : HaveTaken l.hashers.items l.yielded;
 }

@@ -1,6 +1,6 @@
 //! Schedules drawn at random, played.
 use super::*;
-use crate::play::play;
+use crate::player::play;
 use std::str;
 use std::test::Fail;
 

@@ -1,13 +1,13 @@
 use Rattle.std.proofs.Common.{◌≡◌, ◌++◌, length}
 use Rattle.warm_history.specs.Histories.{PagesRise}
-use Rattle.warm_gossip.specs.Gathering.{in_frames}
+use Rattle.warm_gossip.specs.Answers.{entry_frames}
 use Rattle.warm_gossip.proofs.answers.push_frames.Given as goal
 
 -- the frames of what is left would make it whole
 abbrev pub invariant-loop-rest : goal.invariant-loop-rest
 invariant-loop-rest l = record {
   rise : PagesRise l.rest;
-  goes_on : l.frames.items ++ in_frames l.id l.rest ≡ l.fn.frames.items ++ in_frames l.id l.fn.entries;
+  goes_on : l.frames.items ++ entry_frames l.id l.rest ≡ l.fn.frames.items ++ entry_frames l.id l.fn.entries;
 }
 
 abbrev pub decreases-loop-rest : goal.decreases-loop-rest

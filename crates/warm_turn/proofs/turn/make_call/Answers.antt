@@ -9,13 +9,15 @@ serve-reply-requires-clause-has g c = let h = c.wait_turn.ensures.serves in (h.1
 
 pub pass_on-requires-clause-made : goal.pass_on-requires-clause-made
 pass_on-requires-clause-made g c =
-    let waits : c.take_ticket.new.place.me.0 ≡ waiting c.args.place.now.me.0 c.in-Some.ticket = ap (λ m. m.0) c.in-Some.ensures.some in
+    let waits : c.take_ticket.new.place.me.0 ≡ waiting c.args.place.now.me.0 c.in-Some.ticket = ap (λ m. m.0) c.in-Some.ensures.some.1 in
     is_made g.M.Machine.meaning g.M.Machine.is_fit g.M.Machine.goes (g.M.Machine.meaning c.args.top.now.key.value) c.args.place.now.me.0 c.in-Some.ticket c.take_ticket.new.place.me c.wait_turn.new.place.me c.serve-reply.new.place.me c.of-asked.result.value c.serve-reply.result
     c.requires.idle.1 waits c.wait_turn.ensures.serves (rw c.of-asked.ensures c.serve-reply.ensures.made)
 
+pub returns-clause-ok : goal.returns-clause-ok
+returns-clause-ok g c =
+    let waits : c.take_ticket.new.place.me.0 ≡ waiting c.args.place.now.me.0 c.in-Some.ticket = ap (λ m. m.0) c.in-Some.ensures.some.1 in
+    is_called g.M.Machine.meaning g.M.Machine.is_fit g.M.Machine.goes (g.M.Machine.meaning c.args.top.now.key.value) c.args.place.now.me.0 c.in-Some.ticket c.take_ticket.new.place.me c.wait_turn.new.place.me c.serve-reply.new.place.me c.pass_on.new.place.me c.args.call c.serve-reply.result
+    c.in-Some.ensures.some.0 waits c.wait_turn.ensures.serves c.serve-reply.ensures.made (rw (sym c.of-asked.ensures) c.pass_on.ensures.added.0) c.pass_on.ensures.added.1
+
 pub returns-clause-step : goal.returns-clause-step
-returns-clause-step g c =
-    let waits : c.take_ticket.new.place.me.0 ≡ waiting c.args.place.now.me.0 c.in-Some.ticket = ap (λ m. m.0) c.in-Some.ensures.some in
-    called_step g.M.Machine.goes c.args.place.now.me.0 c.pass_on.new.place.me.0 c.args.call c.serve-reply.result
-    (is_called g.M.Machine.meaning g.M.Machine.is_fit g.M.Machine.goes (g.M.Machine.meaning c.args.top.now.key.value) c.args.place.now.me.0 c.in-Some.ticket c.take_ticket.new.place.me c.wait_turn.new.place.me c.serve-reply.new.place.me c.pass_on.new.place.me c.args.call c.serve-reply.result
-    waits c.wait_turn.ensures.serves c.serve-reply.ensures.made (rw (sym c.of-asked.ensures) c.pass_on.ensures.added.0) c.pass_on.ensures.added.1)
+returns-clause-step g c = called_step g.M.Machine.goes _ _ _ _ (returns-clause-ok g c)

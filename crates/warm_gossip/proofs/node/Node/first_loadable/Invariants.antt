@@ -1,5 +1,5 @@
-use Rattle.std.proofs.Common.{ℕ, ◌<◌, length}
-use Rattle.warm_pool.specs.State.{pool_of, view_of}
+use Rattle.std.proofs.Common.{ℕ, ◌<◌}
+use Rattle.warm_gossip.specs.Clauses.{shown}
 use Rattle.warm_gossip.specs.Step.{IsLoadable, nth_page}
 use Rattle.warm_gossip.proofs.node.Node.first_loadable.Given as goal
 
@@ -7,5 +7,5 @@ use Rattle.warm_gossip.proofs.node.Node.first_loadable.Given as goal
 abbrev pub invariant-loop-page : goal.invariant-loop-page
 invariant-loop-page g l =
     (j : ℕ) → j < l.page-index
-    → IsLoadable (view_of (pool_of (λ b. (goal.PageDevice-dyn g (b.vtable, b.value)).state b.value) l.self.pool.frames (length l.self.pool.spare.items) l.self.pool.devices.items)) (nth_page l.pages j)
+    → IsLoadable (shown (λ b. (goal.PageDevice-dyn g (b.vtable, b.value)).state b.value) l.self).pool (nth_page l.pages j)
     → ⊥

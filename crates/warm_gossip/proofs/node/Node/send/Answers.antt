@@ -4,8 +4,8 @@ use Rattle.warm_history.proofs.JoinLemmas.{history_of_own_references}
 use Rattle.warm_frames.specs.declared.frame.Frame.TheVariants.{Entries}
 use Rattle.warm_gossip.proofs.node.Node.send.Goals as goal
 
-pub returns-clause-sent : goal.returns-clause-sent
-returns-clause-sent g c =
+pub returns : goal.returns
+returns g c =
     let h = c.args.self.now.history in
     let own = sym (history_of_own_references h c.len-whole.ensures.whole) in
     (ap (Entries c.args.self.now.id) (c.in-Ok-of.ensures.value ∙ c.in-Ok.ensures.carried (refs h) own), refl)

@@ -14,7 +14,7 @@ length_within : (n : ℕ) (h es : List Entry) → es ≡ take n h → length es 
 length_within n h es is = omega (arith, ap length is, length-take n h)
 
 pub returns-clause-carried : goal.returns-clause-carried
-returns-clause-carried c S stands = IfOk-weaker c.chosen.result _ _ (λ es is.
+returns-clause-carried c = IfOk-weaker c.chosen.result _ _ (λ es is S stands.
     is
     ∙ ap (λ h. take c.args.limit (filter (λ e. is_chosen c.args.bucket c.args.after e.page) h)) (c.iter.ensures ∙ stands)
     ∙ history-carried S c.args.bucket c.args.after c.args.limit) c.chosen.ensures
@@ -24,8 +24,8 @@ returns-clause-whole c =
     let whole : IsHistory c.args.self.now = subst IsHistory c.self.view_is c.self.invariant in
     let S = refs c.args.self.now in
     IfOk-weaker c.chosen.result _ _
-    (λ es is. subst IsHistory (sym is) (IsHistory-history (carried S c.args.bucket c.args.after c.args.limit)))
-    (returns-clause-carried c S (sym (history_of_own_references c.args.self.now whole)))
+    (λ es are. subst IsHistory (sym (are S (sym (history_of_own_references c.args.self.now whole)))) (IsHistory-history (carried S c.args.bucket c.args.after c.args.limit)))
+    (returns-clause-carried c)
 
 pub returns-clause-limited : goal.returns-clause-limited
 returns-clause-limited c = IfOk-weaker c.chosen.result _ _ (λ es is. length_within c.args.limit _ es.items is) c.chosen.ensures

@@ -1,6 +1,7 @@
 use Rattle.std.proofs.Common.{◌≡◌, ◌<◌, refl, ap, subst, ◌∙◌, arith}
 use Rattle.warm_pool.proofs.PoolSteps.{has_device, has_number, seen_frame}
 use Rattle.warm_pool.proofs.Pins.{put_refused, failed_ranked, loaded_ranked, loaded_puts}
+use Rattle.warm_pool.proofs.KeepingLemmas.{loaded_takes}
 use Rattle.warm_pool.proofs.pool.Pool.bring.Goals as goal
 
 pub returns-in_default-clause-refused : goal.returns-in_default-clause-refused
@@ -47,3 +48,7 @@ returns-clause-refused g c =
       ),
       refl,
     )
+
+pub returns-then-generation-lt18446744073709551615-clause-frame : goal.returns-then-generation-lt18446744073709551615-clause-frame
+returns-then-generation-lt18446744073709551615-clause-frame g c =
+    loaded_takes _ _ c.in-Some.at c.args.page c.known_key-key.result c.args.fixes c.in_default-load_into.ensures.put c.in-Some.ensures.there c.requires.absent _ refl

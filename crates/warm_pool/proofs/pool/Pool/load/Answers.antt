@@ -1,6 +1,7 @@
 use Rattle.std.proofs.Common.{refl, sym, ap, inl}
 use Rattle.warm_pool.proofs.PoolSteps.{found_there, found_holds, found_nowhere, seen_there, seen_page, seen_frame}
 use Rattle.warm_pool.proofs.Pins.{load_puts, load_put_refused, stays_put}
+use Rattle.warm_pool.proofs.KeepingLemmas.{same_bytes, stays_in_frame, unknown_writes_none}
 use Rattle.warm_pool.proofs.pool.Pool.load.Goals as goal
 
 pub returns-in-Some-clause-loaded : goal.returns-in-Some-clause-loaded
@@ -29,3 +30,11 @@ returns-in-None-clause-refused g c =
 pub returns-in-None-clause-stays : goal.returns-in-None-clause-stays
 returns-in-None-clause-stays g c =
     stays_put c.requires.pool c.bring.ensures.pool c.args.history.now c.args.page c.in_default.ensures.known _ c.bring.ensures.refused
+
+pub returns-in-Err-clause-writes : goal.returns-in-Err-clause-writes
+returns-in-Err-clause-writes g c =
+    unknown_writes_none c.args.history.now _ c.args.page c.in-Err.ensures.unknown _ (c.in-Err.ensures.load c.args.history.now)
+
+pub returns-in-Some-clause-frame : goal.returns-in-Some-clause-frame
+returns-in-Some-clause-frame g c =
+    stays_in_frame _ _ c.in-Some.at c.args.page _ (found_holds c.requires.pool _ _ c.in-Some.ensures) (λ j ne. refl) (same_bytes _)

@@ -1,5 +1,6 @@
 use Rattle.warm_pool.proofs.PoolSteps.{found_there, found_holds, found_nowhere}
 use Rattle.warm_pool.proofs.Pins.{pin_adds, pin_puts, pin_holds, pin_put_refused, stays_put, pin_full, full_stays}
+use Rattle.warm_pool.proofs.KeepingLemmas.{unknown_writes_none, fix_takes}
 use Rattle.warm_pool.proofs.pool.Pool.pin.Goals as goal
 
 pub add_fix-requires-clause-there : goal.add_fix-requires-clause-there
@@ -43,3 +44,11 @@ returns-in-None-clause-refused g c =
 pub returns-in-None-clause-stays : goal.returns-in-None-clause-stays
 returns-in-None-clause-stays g c =
     stays_put c.requires.pool c.bring.ensures.pool c.args.history.now c.args.page c.in_default.ensures.known _ c.bring.ensures.refused
+
+pub returns-in-Err-clause-writes : goal.returns-in-Err-clause-writes
+returns-in-Err-clause-writes g c =
+    unknown_writes_none c.args.history.now _ c.args.page c.in-Err.ensures.unknown _ (c.in-Err.ensures.load c.args.history.now)
+
+pub returns-in-Some-clause-frame : goal.returns-in-Some-clause-frame
+returns-in-Some-clause-frame g c =
+    fix_takes _ _ c.in-Some.at c.args.page (found_holds c.requires.pool _ _ c.in-Some.ensures) c.add_fix.ensures.kept _ c.add_fix.ensures.others

@@ -7,7 +7,7 @@ loop-page-init g c = none_renewed c.requires.pool _ _
 
 pub loop-page-preserved : goal.loop-page-preserved
 loop-page-preserved g c =
-    one_renewed _ _ _ _ c.loop-page.invariant (λ d. get_or_default _ _ _ _ c.loop-page-test.true) c.renew.ensures.pool c.renew.ensures.same c.renew.ensures.keys
+    one_renewed _ _ _ _ c.loop-page.invariant (λ d. get_or_default _ _ _ _ c.loop-page-test.true) c.renew.ensures.pool c.renew.ensures.same c.renew.ensures.kept c.renew.ensures.keys
 
 pub returns-clause-pool : goal.returns-clause-pool
 returns-clause-pool g c = c.loop-page.invariant.pool
@@ -17,3 +17,6 @@ returns-clause-same g c = c.loop-page.invariant.same
 
 pub returns-clause-ranked : goal.returns-clause-ranked
 returns-clause-ranked g c history ranked agree = all_renewed _ _ _ c.loop-page.invariant c.loop-page-test.false history ranked agree
+
+pub returns-clause-kept : goal.returns-clause-kept
+returns-clause-kept g c = c.loop-page.invariant.kept

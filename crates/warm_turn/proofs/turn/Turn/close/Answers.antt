@@ -1,7 +1,9 @@
 use Rattle.std.proofs.Common.{◌≡◌, ◌+◌, ◌^◌, sym, ap, ◌∙◌, subst}
 use Rattle.warm_turn.specs.Turns.{IsLast}
 use Rattle.warm_turn.proofs.Lists.{word_of}
-use Rattle.warm_turn.proofs.Keeps.{closes, mark_at_end}
+use Rattle.warm_turn.proofs.Keeps.{closes, mark_at_end, words_at_end}
+use Rattle.warm_turn.specs.Rule.{AreWords}
+use Rattle.warm_turn.specs.declared.fault.Busy.{Busy}
 use Rattle.warm_turn.proofs.turn.Turn.close.Goals as goal
 
 pub machine_of-requires : goal.machine_of-requires
@@ -32,3 +34,14 @@ pub returns-then-ticket-serving-clause-mark : goal.returns-then-ticket-serving-c
 returns-then-ticket-serving-clause-mark g c mark =
     let found = ap (λ p. p.view.found_last) c.pass.view_is ∙ mark in
     subst (λ z. z + 1 ≡ 2 ^ 64) (word_of _ 0 _ c.word-ticket.ensures) (mark_at_end g.M.Machine.meaning g.M.Machine.is_fit g.M.Machine.goes _ _ c.pass.inside.place.me.0 _ _ c.close_with-closed.ensures.values.2 found)
+
+pub returns-then-ticket-serving-clause-words : goal.returns-then-ticket-serving-clause-words
+returns-then-ticket-serving-clause-words g c =
+    let meaning = g.M.Machine.meaning in
+    let fit = g.M.Machine.is_fit in
+    let goes = g.M.Machine.goes in
+    let found : Busy = record { ticket = c.word-ticket.result; serving = c.word-serving.result } in
+    let o = meaning c.self.inside.table.shared.key.value in
+    let here = words_at_end meaning fit goes o _ c.pass.inside.place.me.0 _ _ found c.close_with-closed.ensures.values.2 (word_of _ 0 _ c.word-ticket.ensures) (word_of _ 1 _ c.word-serving.ensures) in
+    let seen = subst (λ v. AreWords meaning fit goes o v found) (ap (λ p. p.view) c.pass.view_is) here in
+    subst (λ x. AreWords meaning fit goes x c.args.pass.view found) (ap (λ s. s.opening) c.self.view_is) seen

@@ -8,7 +8,7 @@ use Rattle.warm_world.proofs.Replicas.{buffer_is, referred_when_full, referred_w
 use Rattle.warm_world.proofs.world.Replica.refer.Goals as goal
 
 pub returns-then-is_full-clause-ok : goal.returns-then-is_full-clause-ok
-returns-then-is_full-clause-ok c = λ room place m st.
+returns-then-is_full-clause-ok c = λ room made is place m st.
     let k = c.args.worker in
     let was : c.index.result.now ≡ buffered room (get_or m.pending c.args.worker []) =
     buffer_is room c.args.self.now.buffers.items m.pending k c.index.result.now st.buffers_are c.requires c.index.ensures in
@@ -19,12 +19,11 @@ returns-then-is_full-clause-ok c = λ room place m st.
     let empty : length (pending (flushed c.args.worker m) c.args.worker) ≡ 0 =
     ap length (flushed_is_empty room k c.args.self.now.buffers.items m st.buffers_are c.requires) in
     let few : length (pending (flushed c.args.worker m) c.args.worker) < room = omega (arith, empty, st.has_room) in
-    let P : ℕ → Type 0 = λ i. ReplicaStands room place c.put.new.self (put_last k (stamped i c.args.page c.args.time) (flushed k m)) in
-    rw (referred_when_full room k (stamped (place + 1) c.args.page c.args.time) m full)
-    (subst P st.id (c.put.ensures room place (flushed k m) (c.in_ok-flush.ensures.ok room place m st) few))
+    let here = c.put.ensures room place (flushed k m) (c.in_ok-flush.ensures.ok room place m st) few in
+    rw is (rw (referred_when_full room k (stamped c.args.self.now.id c.args.page c.args.time) m full) here)
 
 pub returns-clause-ok : goal.returns-clause-ok
-returns-clause-ok c = λ room place m st.
+returns-clause-ok c = λ room made is place m st.
     let k = c.args.worker in
     let was : c.index.result.now ≡ buffered room (get_or m.pending c.args.worker []) =
     buffer_is room c.args.self.now.buffers.items m.pending k c.index.result.now st.buffers_are c.requires c.index.ensures in
@@ -38,6 +37,4 @@ returns-clause-ok c = λ room place m st.
           let never : false ≡ true = c.if-is_full.ensures.1 seen in
           cc
     ] in
-    let P : ℕ → Type 0 = λ i. ReplicaStands room place c.put-2.new.self (put_last k (stamped i c.args.page c.args.time) m) in
-    rw (referred_with_room room k (stamped (place + 1) c.args.page c.args.time) m few)
-    (subst P st.id (c.put-2.ensures room place m st few))
+    rw is (rw (referred_with_room room k (stamped c.args.self.now.id c.args.page c.args.time) m few) (c.put-2.ensures room place m st few))

@@ -21,5 +21,5 @@ returns-in-Ok-receive c = λ m st.
     let spells = frame_at w m n c.index.result.now st in_range c.index.ensures in
     let led = delivered m c.args.j c.index.result.now.items c.in-Ok.entries (record_at m n) c.receive.new.self spells
     (λ sender entries is. c.in-Ok.ensures sender entries (subst (λ bytes. Spells bytes (Entries sender entries)) (sym c.deref.ensures.value) is))
-    (λ refs e. c.in-Ok-receive.ensures.ok m.room p (replica m p) refs here (c.as_slice.ensures.value ∙ e)) in
+    (λ refs e. c.in-Ok-receive.ensures.ok m.room refs (c.as_slice.ensures.value ∙ e) p (replica m p) here) in
     changes w m event (Took 0 0) p c.receive.new.self led.0 st lt led.1 (named, led.2)

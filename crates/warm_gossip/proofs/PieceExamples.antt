@@ -1,0 +1,50 @@
+-- Worked rows: a bucket of three pages in pieces of two, and what is sent of it at a time, computed.
+use Rattle.std.proofs.Common.{◌≡◌, ℕ, [], ◌∷◌, None, Some, refl}
+use Rattle.warm_stamps.specs.declared.PageId.{PageId}
+use Rattle.warm_stamps.specs.declared.Stamp.{Stamp}
+use Rattle.warm_stamps.specs.declared.Reference.{Reference}
+use Rattle.warm_history.specs.declared.hist.Entry.{Entry}
+use Rattle.warm_history.specs.declared.hist.PageHist.TheVariants.{Once, Twice}
+use Rattle.warm_history.specs.ReferenceSets.{ReferenceSet, these}
+use Rattle.warm_history.specs.Histories.{entries_of, history}
+use Rattle.warm_digest.specs.BucketSums.{bucket_entries}
+use Rattle.warm_gossip.specs.Answers.{pieces}
+use Rattle.warm_gossip.specs.Pieces.{piece_after, last_page}
+
+abbrev page : ℕ → PageId
+page n = record { dev = 0; no = n }
+
+abbrev at : ℕ → Stamp
+at time = record { time = time; replica = 1 }
+
+abbrev reference : ℕ → ℕ → Reference
+reference n time = record { page = page n; stamp = at time }
+
+-- the pages 0:1, 0:65 and 0:129 are of bucket 1, and 0:2 is not; the page 0:65 is referenced twice
+abbrev four : ReferenceSet
+four = these (reference 129 10 ∷ reference 65 20 ∷ reference 2 30 ∷ reference 1 40 ∷ reference 65 50 ∷ [])
+
+abbrev once : ℕ → ℕ → Entry
+once n time = record { page = page n; hist = Once (at time) }
+
+abbrev twice : ℕ → ℕ → ℕ → Entry
+twice n last prev = record { page = page n; hist = Twice (record { last = at last; prev = at prev }) }
+
+in_pieces : pieces 2 (bucket_entries 1 (entries_of (history four))) ≡ (once 1 40 ∷ twice 65 50 20 ∷ []) ∷ (once 129 10 ∷ []) ∷ []
+unfolding history
+in_pieces = refl
+
+first_piece : piece_after four 1 2 None ≡ once 1 40 ∷ twice 65 50 20 ∷ []
+unfolding history
+first_piece = refl
+
+first_ends : last_page (once 1 40 ∷ twice 65 50 20 ∷ []) ≡ Some (page 65)
+first_ends = refl
+
+second_piece : piece_after four 1 2 (Some (page 65)) ≡ once 129 10 ∷ []
+unfolding history
+second_piece = refl
+
+nothing_left : piece_after four 1 2 (Some (page 129)) ≡ []
+unfolding history
+nothing_left = refl

@@ -1,0 +1,30 @@
+-- The pieces in which a bucket is answered, against what a replica sends of it at a time.
+use Rattle.std.specs.Prelude.{◌≡◌, ℕ, ◌<◌, List, [], ◌∷◌, length, Option, Some, None}
+use Rattle.warm_stamps.specs.declared.PageId.{PageId}
+use Rattle.warm_history.specs.declared.hist.Entry.{Entry}
+use Rattle.warm_history.specs.ReferenceSets.{ReferenceSet}
+use Rattle.warm_history.specs.Histories.{entries_of, history}
+use Rattle.warm_history.specs.Carried.{carried}
+use Rattle.warm_digest.specs.BucketSums.{bucket_entries}
+use Rattle.warm_gossip.specs.Answers.{pieces}
+
+-- the page of the last of the entries, where there are any
+abbrev pub last_page : List Entry → Option PageId
+last_page [] = None
+last_page (e ∷ []) = Some e.page
+last_page (e ∷ f ∷ es) = last_page (f ∷ es)
+
+-- what is sent of the bucket at a time: the history of what S carries of up to limit pages after the one given
+abbrev pub piece_after : ReferenceSet → ℕ → ℕ → Option PageId → List Entry
+piece_after S bucket limit after = entries_of (history (carried S bucket after limit))
+
+-- each piece is what is sent after the last page of the one before, and after the last piece no page is left
+abbrev pub AreInTurn : ReferenceSet → ℕ → ℕ → Option PageId → List (List Entry) → Type 0
+AreInTurn S bucket limit after [] = piece_after S bucket limit after ≡ []
+AreInTurn S bucket limit after (piece ∷ others) =
+    (piece ≡ piece_after S bucket limit after) × (0 < length piece) × AreInTurn S bucket limit (last_page piece) others
+
+-- the pieces of a bucket are what is sent of it, one after the other, from the first page on
+abbrev pub PiecesInTurn : Type 0
+PiecesInTurn = (S : ReferenceSet) (bucket limit : ℕ) → 0 < limit
+    → AreInTurn S bucket limit None (pieces limit (bucket_entries bucket (entries_of (history S))))

@@ -1,0 +1,28 @@
+-- A node as plain data, what holds of every node, and what a caller sees of it.
+use Rattle.std.specs.Prelude.{ℕ, []}
+use Rattle.warm_history.specs.Histories.{HistoryView, holding}
+use Rattle.warm_pool.specs.State.{PoolState, IsPool, RankedBy, view_of}
+use Rattle.warm_pool.specs.View.{PoolView}
+
+-- a node: who it is, what its history holds, and its pool
+pub record NodeState : Type 0 where
+  pub id : ℕ
+  pub history : HistoryView
+  pub pool : PoolState
+
+-- the same, with what a caller sees of its pool
+pub record NodeView : Type 0 where
+  pub id : ℕ
+  pub history : HistoryView
+  pub pool : PoolView
+
+abbrev pub node_view : NodeState → NodeView
+node_view s = record { id = s.id; history = s.history; pool = view_of s.pool }
+
+-- a node is fit: its pool is one, and is ranked by its history
+abbrev pub IsNode : NodeState → Type 0
+IsNode s = IsPool s.pool × RankedBy s.pool s.history
+
+-- a node that was told nothing
+abbrev pub opened : ℕ → PoolState → NodeState
+opened id pool = record { id = id; history = holding []; pool = pool }

@@ -1,0 +1,53 @@
+//! Warming up a node's pool, a page at a time.
+ghost use Rattle.std.specs.Prelude.{◌↔◌, IsTrue};
+ghost use Rattle.warm_gossip.specs.declared.call.Call.TheVariants.{WarmStep};
+ghost use Rattle.warm_gossip.specs.declared.call.Reply.TheVariants.{Loaded};
+ghost use Rattle.warm_gossip.specs.Clauses.{Answered, IsFit, shown};
+ghost use Rattle.warm_gossip.specs.Step.{IsFirstLoadable, IsLoadable};
+
+use crate::fault::NodeFault;
+use crate::node::Node;
+use warm_rank::warm_list;
+use warm_stamps::PageId;
+
+impl Node {
+    /// Loads the hottest page that is not resident, of as many as the pool has frames.
+    pub(crate) fn warm_step(&mut self) -> Result<Option<PageId>, NodeFault>
+        requires fit { IsFit state self.old }
+        ensures fit { IsFit state self.new }
+        ensures step { Answered state self.old WarmStep Loaded result self.new }
+    {
+        let _whole = self.history.len();
+        let Ok(pages) = warm_list(self.alloc, &self.history, self.pool.frames()) else {
+            return Err(NodeFault::Memory);
+        };
+        let Some(page) = self.first_loadable(&pages) else {
+            return Ok(None);
+        };
+        match self.pool.load(page, &self.history) {
+            Ok(_) => Ok(Some(page)),
+            Err(fault) => Err(NodeFault::Pool(fault)),
+        }
+    }
+
+    // The first of the pages that a device has and no frame.
+    fn first_loadable(&self, pages: &[PageId]) -> Option<PageId>
+        requires fit { IsFit state self.now }
+        ensures { IsFirstLoadable (shown state self.now).pool pages.now result }
+    {
+        for page in pages {
+            if self.is_loadable(*page) {
+                return Some(*page);
+            }
+        }
+        None
+    }
+
+    // Whether a device has the page, and no frame.
+    fn is_loadable(&self, page: PageId) -> bool
+        requires fit { IsFit state self.now }
+        ensures { IsTrue result ↔ IsLoadable (shown state self.now).pool page }
+    {
+        self.pool.has(page) && !self.pool.resident(page)
+    }
+}

@@ -1,0 +1,14 @@
+-- The numbers and names of the faults of a play.
+use Rattle.std.specs.Prelude.{ℕ, List, codes}
+use Rattle.warm_playfault.specs.declared.PlayFault.{PlayFault}
+use Rattle.warm_playfault.specs.declared.PlayFault.TheVariants.{Memory, ReadFault, WriteFault}
+
+abbrev pub play_fault_code : PlayFault → ℕ
+play_fault_code Memory = 1
+play_fault_code ReadFault = 2
+play_fault_code WriteFault = 3
+
+abbrev pub play_fault_name : PlayFault → List ℕ
+play_fault_name Memory = codes "Memory"
+play_fault_name ReadFault = codes "ReadFault"
+play_fault_name WriteFault = codes "WriteFault"

@@ -1,0 +1,52 @@
+//! Why a play came to no end.
+//!
+//! [`PlayFault`] stands in a crate of its own, below the players (`warm_schedule`) and the endings of the program
+//! (`warm_setup`), so that neither of these stands on the other.
+#![tactic(auto)]
+
+ghost use Rattle.std.specs.Prelude.{◌≡◌};
+ghost use Rattle.warm_playfault.specs.Faults.{play_fault_code, play_fault_name};
+
+use thiserror::Error;
+
+/// Why a play came to no end. What was written by then is a beginning of nothing in particular: no word is said of it.
+#[derive(Clone, Copy, Debug, PartialEq, Eq, Error)]
+pub enum PlayFault {
+    /// There was no room for the read buffer, for the world or for a line: 1. Want of memory inside an event is no fault of
+    /// the play: it is printed, and the schedule goes on.
+    #[error("Memory")]
+    Memory,
+    /// The reader failed, or 2^40 reads came to no end: 2.
+    #[error("ReadFault")]
+    ReadFault,
+    /// The writer failed: 3.
+    #[error("WriteFault")]
+    WriteFault,
+}
+
+impl PlayFault {
+    /// Its number.
+    pub fn code(self) -> u8
+        ensures { result ≡ play_fault_code self }
+    {
+        match self {
+            PlayFault::Memory => 1,
+            PlayFault::ReadFault => 2,
+            PlayFault::WriteFault => 3,
+        }
+    }
+
+    /// Its name.
+    pub fn name(self) -> &'static str
+        ensures { result.now ≡ play_fault_name self }
+    {
+        match self {
+            PlayFault::Memory => "Memory",
+            PlayFault::ReadFault => "ReadFault",
+            PlayFault::WriteFault => "WriteFault",
+        }
+    }
+}
+
+#[cfg(test)]
+mod tests;

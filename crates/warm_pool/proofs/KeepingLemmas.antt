@@ -1,0 +1,50 @@
+-- What a call leaves as it was, from its steps.
+use Rattle.std.proofs.Common.{◌≡◌, ℕ, ◌+◌, ◌<◌, false, [], length, Some, Result, Ok, Err, IfOk, refl, sym, ◌∙◌, ap, subst}
+use Rattle.std.proofs.lemmas.List.{get_or-set_same, get_or-set_other}
+use Rattle.warm_stamps.specs.declared.PageId.{PageId}
+use Rattle.warm_history.specs.Histories.{HistoryView}
+use Rattle.warm_rank.specs.declared.RankKey.{RankKey}
+use Rattle.warm_pool.specs.declared.slot.Slot.{Slot}
+use Rattle.warm_pool.specs.declared.fault.PoolFault.{PoolFault}
+use Rattle.warm_pool.specs.Frames.{FrameState, nth_frame, fresh_frame}
+use Rattle.warm_pool.specs.State.{PoolState, IsNowhere, view_of}
+use Rattle.warm_pool.specs.View.{HasPage}
+use Rattle.warm_pool.specs.Calls.{LoadRefused}
+use Rattle.warm_pool.specs.Steps.{LoadsInto}
+use Rattle.warm_pool.specs.Keeping.{KeepsOthers, KeepsBytes, TakesFrame, WritesDirty}
+use Rattle.warm_pool.proofs.Bytes.{absent_seen, frame_seen}
+
+pub same_bytes : (s : PoolState) → KeepsBytes s s
+same_bytes s = record { devices = refl; bytes = λ i. refl; dirty = λ i. refl }
+
+pub more_bytes : (s t u : PoolState) → KeepsBytes s t → KeepsBytes t u → KeepsBytes s u
+more_bytes s t u a b = record { devices = b.devices ∙ a.devices; bytes = λ i. b.bytes i ∙ a.bytes i; dirty = λ i. b.dirty i ∙ a.dirty i }
+
+-- a resident page was given a slot
+pub stays_in_frame : (s t : PoolState) (i : ℕ) (p : PageId) (slot : Slot) → (nth_frame s.frames i).page ≡ Some p → KeepsOthers slot.index s t → KeepsBytes s t → TakesFrame s p slot t
+stays_in_frame s t i p slot holds others kept = record {
+  others = others;
+  resident = λ _. kept;
+  clean = λ away. absurd (away i (ap (λ f. f.page) (frame_seen s i) ∙ holds));
+  devices = λ _. kept.devices;
+}
+
+pub fix_takes : (s t : PoolState) (i : ℕ) (p : PageId) → (nth_frame s.frames i).page ≡ Some p → KeepsBytes s t
+    → (r : Result Slot PoolFault) → IfOk r (λ slot. KeepsOthers slot.index s t) → IfOk r (λ slot. TakesFrame s p slot t)
+fix_takes s t i p holds kept (Ok slot) others = stays_in_frame s t i p slot holds others kept
+fix_takes s t i p holds kept (Err why) others = tt
+
+-- a page came into a frame
+pub loaded_takes : (s t : PoolState) (i : ℕ) (p : PageId) (key : RankKey) (n : ℕ) → LoadsInto s i p key n t → i < length s.frames → IsNowhere s.frames p
+    → (slot : Slot) → slot.index ≡ i → TakesFrame s p slot t
+loaded_takes s t i p key n l there away slot at =
+    let came : FrameState = record { page = Some p; key = Some key; generation = (nth_frame s.frames i).generation + 1; fixes = n; dirty = false; bytes = l.bytes } in record {
+      others = λ j ne. ap (λ fs. nth_frame fs j) l.frames ∙ get_or-set_other s.frames i j came (fresh_frame []) (λ e. ne (e ∙ sym at));
+      resident = λ r. absurd (absent_seen s p away r.frame r.holds);
+      clean = λ _. ap (λ k. (nth_frame t.frames k).dirty) at ∙ ap (λ fs. (nth_frame fs i).dirty) l.frames ∙ ap (λ f. f.dirty) (get_or-set_same s.frames i came (fresh_frame []) there);
+      devices = λ clean. l.devices (sym (ap (λ k. (nth_frame s.frames k).dirty) at) ∙ clean);
+    }
+
+-- a page that no device has is not refused for a write
+pub unknown_writes_none : (h : HistoryView) (s : PoolState) (p : PageId) → (HasPage (view_of s) p → ⊥) → (why : PoolFault) → LoadRefused h (view_of s) p why (view_of s) → WritesDirty h s why
+unknown_writes_none h s p hasnt why refused is = absurd (hasnt (subst (λ x. LoadRefused h (view_of s) p x (view_of s)) is refused).0)

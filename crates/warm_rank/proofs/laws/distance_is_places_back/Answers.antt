@@ -1,0 +1,5 @@
+use Rattle.warm_rank.proofs.PlacesBack.{distance_is_places_back}
+use Rattle.warm_rank.proofs.laws.distance_is_places_back.Goals as goal
+
+pub returns : goal.returns
+returns c = distance_is_places_back

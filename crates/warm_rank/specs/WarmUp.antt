@@ -1,0 +1,16 @@
+-- Warm-up lists, made from what a history keeps.
+use Rattle.std.specs.Prelude.{◌≡◌, ℕ, List}
+use Rattle.warm_stamps.specs.declared.PageId.{PageId}
+use Rattle.warm_history.specs.ReferenceSets.{ReferenceSet}
+use Rattle.warm_history.specs.Histories.{HistoryView, history, StandsFor}
+use Rattle.warm_rank.specs.declared.RankKey.{RankKey}
+use Rattle.warm_rank.specs.Keys.{keys_in}
+use Rattle.warm_rank.specs.Ranking.{warm}
+
+-- the n pages that leave last, whichever references the history stands for
+abbrev pub IsWarmUp : HistoryView → ℕ → List PageId → Type 0
+IsWarmUp h n ps = (S : ReferenceSet) → StandsFor h S → ps ≡ warm S n
+
+-- the n pages that leave last, whichever references have a history with these keys
+abbrev pub IsWarmUpOfKeys : List RankKey → ℕ → List PageId → Type 0
+IsWarmUpOfKeys keys n ps = (S : ReferenceSet) → keys ≡ keys_in (history S) → ps ≡ warm S n

@@ -1,7 +1,0 @@
-use Rattle.warm_schedule.proofs.Stream.{Appends-kept, Ends-answer}
-use Rattle.warm_schedule.proofs.play.Session.finish.Goals as goal
-
-pub returns : goal.returns
-returns g c =
-    let last = c.in_ok-answer.ensures.answered in
-    (last.0, Appends-kept _ _ _ last.0 last.1 c.flush.ensures.bytes, Ends-answer c.args.self.now last.0 c.answer.new.self.world last.2)

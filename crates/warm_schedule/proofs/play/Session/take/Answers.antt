@@ -1,6 +1,0 @@
-use Rattle.std.proofs.Common.{[]}
-use Rattle.warm_schedule.proofs.Stream.{Appends-none, Goes-add}
-use Rattle.warm_schedule.proofs.play.Session.take.Goals as goal
-
-pub returns-in-Ok-clause-goes : goal.returns-in-Ok-clause-goes
-returns-in-Ok-clause-goes g c = ([], Appends-none _, Goes-add c.args.self.now c.add.new.self c.args.byte c.in-Ok.ensures.holds c.in-Ok.ensures.same.0 c.in-Ok.ensures.same.1)

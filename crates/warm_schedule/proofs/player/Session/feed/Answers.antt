@@ -1,0 +1,34 @@
+use Rattle.std.proofs.Common.{List, ℕ, [], ◌∷◌, ◌++◌, take, get_or, subst, sym, arith}
+use Rattle.std.proofs.lemmas.List.{take_more, take_all}
+use Rattle.warm_schedule.specs.Stream.{Goes}
+use Rattle.warm_schedule.proofs.Stream.{Appends-none, Appends-then, Goes-none, Goes-then}
+use Rattle.warm_schedule.proofs.player.Session.feed.Goals as goal
+
+pub loop-byte-init : goal.loop-byte-init
+loop-byte-init g c = record {
+  goes = ([], Appends-none _, Goes-none c.args.self.now);
+  number = omega arith;
+}
+
+pub loop-byte-preserved : goal.loop-byte-preserved
+loop-byte-preserved g c =
+    let so_far = c.loop-byte.invariant.goes in
+    let next = c.in_ok-take.ensures.goes in
+    let i = c.loop-byte.byte-index in
+    record {
+      goes = (
+        so_far.0 ++ next.0,
+        Appends-then _ _ _ so_far.0 next.0 so_far.1 next.1,
+        subst (λ (bytes : List ℕ). Goes c.args.self.now bytes (so_far.0 ++ next.0) c.take.new.self) (sym (take_more c.args.bytes.now i 0 c.loop-byte-test.true))
+            (Goes-then c.args.self.now c.loop-byte.self c.take.new.self (take i c.args.bytes.now) (get_or c.args.bytes.now i 0 ∷ []) so_far.0 next.0 so_far.2 next.2),
+      );
+      number = omega (arith, c.in_ok-take.ensures.number);
+    }
+
+pub returns : goal.returns
+returns g c =
+    let so_far = c.loop-byte.invariant.goes in
+    record {
+      goes = (so_far.0, so_far.1, subst (λ (bytes : List ℕ). Goes c.args.self.now bytes so_far.0 c.loop-byte.self) (take_all c.loop-byte.byte-index c.args.bytes.now c.loop-byte-test.false) so_far.2);
+      number = omega (arith, c.loop-byte.invariant.number);
+    }

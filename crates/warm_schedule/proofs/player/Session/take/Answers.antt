@@ -1,0 +1,6 @@
+use Rattle.std.proofs.Common.{[]}
+use Rattle.warm_schedule.proofs.Stream.{Appends-none, Goes-add}
+use Rattle.warm_schedule.proofs.player.Session.take.Goals as goal
+
+pub returns-in-Ok-clause-goes : goal.returns-in-Ok-clause-goes
+returns-in-Ok-clause-goes g c = ([], Appends-none _, Goes-add c.args.self.now c.add.new.self c.args.byte c.in-Ok.ensures)

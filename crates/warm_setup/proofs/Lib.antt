@@ -1,0 +1,5 @@
+pub mod SetupRows
+pub mod SetupDevices
+pub mod SetupSteps
+pub mod WordsAsked
+pub mod WordsFound

@@ -1,0 +1,53 @@
+-- How a run of the program ends: its exit status, and its line on standard error.
+use Rattle.std.specs.Prelude.{ℕ, List, [], ◌∷◌, ◌++◌, Result, Ok, Err, codes}
+use Rattle.clap.specs.Words.{kind_of}
+use Rattle.clap.specs.declared.error.kind.ErrorKind.{ErrorKind}
+use Rattle.clap.specs.declared.error.kind.ErrorKind.TheVariants.{DisplayHelp, DisplayVersion}
+use Rattle.warm_setup.specs.declared.command.CmdFault.{CmdFault}
+use Rattle.warm_setup.specs.declared.command.CmdFault.TheVariants as command
+use Rattle.warm_setup.specs.declared.outcome.RunFault.{RunFault}
+use Rattle.warm_setup.specs.declared.outcome.RunFault.TheVariants.{Command, CannotOpen, Setup, Play}
+use Rattle.warm_playfault.specs.Faults.{play_fault_name}
+use Rattle.warm_setup.specs.SetupFaults.{name_of}
+
+-- what was asked for is no mistake
+abbrev pub status_of_kind : ErrorKind → ℕ
+status_of_kind DisplayHelp = 0
+status_of_kind DisplayVersion = 0
+status_of_kind _ = 2
+
+abbrev pub status_of_command : CmdFault → ℕ
+status_of_command command.Memory = 1
+status_of_command (command.Refused error) = status_of_kind (kind_of error)
+
+abbrev pub status_of : Result (Unit {0}) RunFault → ℕ
+status_of (Ok _) = 0
+status_of (Err (Command fault)) = status_of_command fault
+status_of (Err (CannotOpen name)) = 1
+status_of (Err (Setup fault)) = 2
+status_of (Err (Play fault)) = 1
+
+abbrev pub line_end : List ℕ
+line_end = 10 ∷ []
+
+-- clap has a text of its own
+abbrev pub line_of_command : CmdFault → List ℕ
+line_of_command command.Memory = codes "warmplay: " ++ codes "Memory" ++ line_end
+line_of_command (command.Refused error) = []
+
+abbrev pub line_of : Result (Unit {0}) RunFault → List ℕ
+line_of (Ok _) = []
+line_of (Err (Command fault)) = line_of_command fault
+line_of (Err (CannotOpen name)) = codes "warmplay: cannot open " ++ name ++ line_end
+line_of (Err (Setup fault)) = codes "warmplay: setup: " ++ name_of fault ++ line_end
+line_of (Err (Play fault)) = codes "warmplay: " ++ play_fault_name fault ++ line_end
+
+-- ---- the faults of a command line, by number and name
+
+abbrev pub command_fault_code : CmdFault → ℕ
+command_fault_code command.Memory = 1
+command_fault_code (command.Refused error) = 2
+
+abbrev pub command_fault_name : CmdFault → List ℕ
+command_fault_name command.Memory = codes "Memory"
+command_fault_name (command.Refused error) = codes "Refused"

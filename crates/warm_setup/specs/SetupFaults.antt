@@ -1,0 +1,21 @@
+-- The faults of a setup, by number and name, and what a reader of settings may answer.
+use Rattle.std.specs.Prelude.{◌≡◌, ◌⊎◌, ℕ, List, Result, Ok, Err, codes}
+use Rattle.warm_setup.specs.declared.setup.SetupFault.{SetupFault}
+use Rattle.warm_setup.specs.declared.setup.SetupFault.TheVariants.{Memory, NotToml, BadKey, BadValue}
+
+abbrev pub code_of : SetupFault → ℕ
+code_of Memory = 1
+code_of NotToml = 2
+code_of BadKey = 3
+code_of BadValue = 4
+
+abbrev pub name_of : SetupFault → List ℕ
+name_of Memory = codes "Memory"
+name_of NotToml = codes "NotToml"
+name_of BadKey = codes "BadKey"
+name_of BadValue = codes "BadValue"
+
+-- a reader answers what is meant, as `seen` shows its value; want of memory may come in place of any answer
+abbrev pub Gives : {A B : Type 0} → (A → B) → Result B SetupFault → Result A SetupFault → Type 0
+Gives seen meant (Ok value) = meant ≡ Ok (seen value)
+Gives seen meant (Err fault) = (fault ≡ Memory) ⊎ (meant ≡ Err fault)

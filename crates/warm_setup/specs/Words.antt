@@ -1,0 +1,85 @@
+-- The program's commands, and what its words ask for.
+use Rattle.std.specs.Prelude.{◌≡◌, ◌⊎◌, ℕ, ◌-◌, ◌^◌, List, [], true, Option, Some, None, Result, Ok, Err, codes, bytes_eq, option_map, option_and_then, if◌then◌else◌}
+use Rattle.clap.specs.Words.{App, Row, Rule, Shape, Text, IsAmong, first_of, kind_of, one_of, new_app, new_rule, subcommand_of, with_rule, with_subcommand}
+use Rattle.std.specs.Str.Parse.{digits_value, without_leading_plus}
+use Rattle.clap.specs.Simple.{on_top}
+use Rattle.clap.specs.ValueTests.{is_unsigned_in}
+use Rattle.clap.specs.declared.builder.value_parser.ValueParser.TheVariants.{Unsigned}
+use Rattle.clap.specs.declared.error.kind.ErrorKind.TheVariants.{ValueValidation}
+use Rattle.clap.specs.Faults.{fault_of}
+use Rattle.clap.specs.declared.error.kind.ErrorKind.{ErrorKind}
+use Rattle.warm_setup.specs.declared.command.Cmd.{Cmd}
+use Rattle.warm_setup.specs.declared.command.Cmd.TheVariants.{Play, Random}
+use Rattle.warm_setup.specs.declared.command.CmdFault.{CmdFault}
+use Rattle.warm_setup.specs.declared.command.CmdFault.TheVariants.{Memory, Refused}
+
+-- ---- the commands
+
+-- an argument whose help names its value
+abbrev pub argument : Text → Rule
+argument id = record (new_rule id) { value_names = 1 }
+
+-- `[FILE]`
+abbrev pub file : Rule
+file = argument (codes "file")
+
+-- `--setup FILE`
+abbrev pub setup : Rule
+setup = record (argument (codes "setup")) { long = Some (codes "setup") }
+
+-- `play [FILE] [--setup FILE]`
+abbrev pub play : App
+play = with_rule (with_rule (new_app (codes "play")) file) setup
+
+-- `--NAME N`, a number up to `most`, which is wanted
+abbrev pub number : Text → ℕ → Rule
+number name most = record (argument name) { long = Some name; parser = Some (Unsigned 0 most); required = true }
+
+-- `random --seed S --events N [--setup FILE]`
+abbrev pub random : App
+random = with_rule (with_rule (with_rule (new_app (codes "random")) (number (codes "seed") 18446744073709551615)) (number (codes "events") 1000000)) setup
+
+abbrev pub wants_command : Shape → Shape
+wants_command top = record top { subcommand_required = true }
+
+abbrev pub warmplay : App
+warmplay = with_subcommand (with_subcommand (on_top wants_command (new_app (codes "warmplay"))) play.top) random.top
+
+-- ---- what words ask for
+
+-- the number that a text spells, where it spells one up to `most`
+unfoldable pub number_in : ℕ → Text → Option ℕ
+number_in most text = if is_unsigned_in 0 most text then Some (digits_value 10 (without_leading_plus text)) else None
+
+-- the number of an argument
+abbrev pub number_of : ℕ → Text → List Row → Option ℕ
+number_of most id rows = option_and_then (number_in most) (one_of id rows)
+
+abbrev pub random_by : List Row → Option Cmd
+random_by rows = option_and_then (λ seed. option_map (λ events. Random seed events (first_of (codes "setup") rows)) (number_of (2 ^ 32 - 1) (codes "events") rows)) (number_of (2 ^ 64 - 1) (codes "seed") rows)
+
+abbrev pub command_by : Text × List Row → Option Cmd
+command_by found =
+    if bytes_eq found.0 (codes "play") then Some (Play (first_of (codes "file") found.1) (first_of (codes "setup") found.1))
+    else (if bytes_eq found.0 (codes "random") then random_by found.1
+    else None)
+
+-- the command and the values of clap's own definition of the matches
+abbrev pub command_in : List Text → Option Cmd
+command_in words = option_and_then command_by (subcommand_of warmplay words)
+
+-- the words ask for a schedule drawn at random, in clap's own definition without a fault, but with a number that is none
+abbrev pub LacksNumber : List Text → Type 0
+LacksNumber words = (fault_of warmplay words ≡ []) × (option_map (λ found. bytes_eq found.0 (codes "random")) (subcommand_of warmplay words) ≡ Some true) × (command_in words ≡ None)
+
+-- A command comes only where clap's own definition has no fault in the words, a refusal only with a fault that it has,
+-- or for want of a number.
+abbrev pub Answers : List Text → Result Cmd CmdFault → Type 0
+Answers words (Ok command) = (fault_of warmplay words ≡ []) × (Some command ≡ command_in words)
+Answers words (Err Memory) = Unit {0}
+Answers words (Err (Refused error)) = IsAmong (kind_of error) (fault_of warmplay words) ⊎ (LacksNumber words × (kind_of error ≡ ValueValidation))
+
+-- a refusal of this kind, or want of memory
+abbrev pub IsRefusal : ErrorKind → CmdFault → Type 0
+IsRefusal kind Memory = Unit {0}
+IsRefusal kind (Refused error) = kind_of error ≡ kind

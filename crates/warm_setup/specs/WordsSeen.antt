@@ -1,0 +1,20 @@
+-- What the readers of the command line hold, as the definitions see it.
+use Rattle.std.specs.Prelude.{◌≡◌, ◌≢◌, option_map}
+use Rattle.clap.specs.Words.{kind_of}
+use Rattle.clap.specs.declared.error.Error.{Error}
+use Rattle.clap.specs.declared.error.kind.ErrorKind.TheVariants.{OutOfMemory}
+use Rattle.warm_setup.specs.declared.command.Asked.{Asked}
+use Rattle.warm_setup.specs.declared.command.Asked.TheVariants as asked
+use Rattle.warm_setup.specs.declared.command.Cmd.{Cmd}
+use Rattle.warm_setup.specs.declared.command.Cmd.TheVariants.{Play, Random}
+use Rattle.warm_setup.specs.declared.command.CmdFault.{CmdFault}
+use Rattle.warm_setup.specs.declared.command.CmdFault.TheVariants.{Memory, Refused}
+
+abbrev pub command_for : Asked → Cmd
+command_for (asked.Play file setup) = Play (option_map (λ text. text.now) file) (option_map (λ text. text.now) setup)
+command_for (asked.Random seed events setup) = Random seed events (option_map (λ text. text.now) setup)
+
+-- clap's want of memory is the program's own
+abbrev pub IsFaultOf : Error → CmdFault → Type 0
+IsFaultOf error Memory = kind_of error ≡ OutOfMemory
+IsFaultOf error (Refused kept) = (kept ≡ error) × (kind_of error ≢ OutOfMemory)

@@ -1,0 +1,272 @@
+//! The command line: `warmplay play [FILE] [--setup FILE]` and `warmplay random --seed S --events N [--setup FILE]`.
+
+ghost use Rattle.std.specs.Prelude.{◌≡◌, IfOk, Some, map, option_map, option_and_then, codes, List, ℕ, ◌-◌, ◌^◌, false};
+ghost use Rattle.clap.specs.Words.{app_of, found_of, rows_of, rule_of, subcommand_of, subcommand_rows_of, FailsBy};
+ghost use Rattle.clap.specs.Faults.{fault_of};
+ghost use Rattle.clap.specs.declared.builder.Command.TheViews.{out-Command};
+ghost use Rattle.warm_setup.specs.Endings.{command_fault_code, command_fault_name};
+ghost use Rattle.warm_setup.specs.Words.{setup, number, number_of, play, random, random_by, warmplay, command_by, Answers, IsRefusal};
+ghost use Rattle.warm_setup.specs.WordsSeen.{command_for, IsFaultOf};
+
+use crate::path::PathText;
+use clap::builder::ValueParser;
+use clap::error::ErrorKind;
+use clap::{Arg, ArgMatches, Command};
+use std::alloc::{AllocError, Global};
+use std::convert::AsStr;
+use thiserror::Error;
+
+/// What the words ask for.
+#[derive(Debug, Drop)]
+pub enum Cmd {
+    /// To play the schedule `file`, or standard input where there is none, with the setup file `setup`, or the defaults.
+    Play {
+        file: Option<PathText>,
+        setup: Option<PathText>,
+    },
+    /// To write the schedule of `events` lines, at most 1,000,000, that this seed gives with the setup file `setup`, or
+    /// the defaults.
+    Random {
+        seed: u64,
+        events: u32,
+        setup: Option<PathText>,
+    },
+}
+
+/// Why the words give no command.
+#[derive(Debug, Drop, Error)]
+pub enum CmdFault {
+    /// Room was refused. It says nothing of the words.
+    #[error("Memory")]
+    Memory,
+    /// A mistake in the words, or a request for help. The error has the text for the user.
+    #[error("{0}")]
+    Refused(clap::Error),
+}
+
+impl CmdFault {
+    /// The fault's number: 1 Memory, 2 Refused.
+    pub fn code(&self) -> u8
+        ensures { result ≡ command_fault_code self.now }
+    {
+        match self {
+            CmdFault::Memory => 1,
+            CmdFault::Refused(_) => 2,
+        }
+    }
+
+    /// The fault's name.
+    pub fn name(&self) -> &'static str
+        ensures { result.now ≡ command_fault_name self.now }
+    {
+        match self {
+            CmdFault::Memory => "Memory",
+            CmdFault::Refused(_) => "Refused",
+        }
+    }
+}
+
+// What the words ask for, in their own text.
+#[derive(Clone, Copy)]
+enum Asked<'a> {
+    Play(Option<&'a str>, Option<&'a str>),
+    Random(u64, u32, Option<&'a str>),
+}
+
+fn setup_argument<'a>(alloc: Global) -> Arg<'a>
+    ensures rule { rule_of result ≡ setup }
+    ensures local { result.global ≡ false }
+{
+    Arg::new(alloc, "setup")
+        .value_name("FILE")
+        .help("The setup, a TOML file; the defaults where it is left out")
+        .long("setup")
+}
+
+fn play_command<'a>(alloc: Global) -> Result<Command<'a>, AllocError>
+    ensures app { IfOk result (λ c. app_of c ≡ play) }
+    ensures local { IfOk result (λ c. (out-Command c).has_globals ≡ false) }
+{
+    let file = Arg::new(alloc, "file")
+        .value_name("FILE")
+        .help("The schedule; standard input where it is left out");
+    let play = Command::new(alloc, "play").about(
+        "Play a schedule, and print what each line answers",
+    );
+    play.arg(file)?.arg(setup_argument(alloc))
+}
+
+// A number up to `most`, which clap tests, so that a refusal names the argument and its limits.
+fn number_argument<'a>(alloc: Global, name: &'a str, help: &'a str, most: u64) -> Arg<'a>
+    ensures rule { rule_of result ≡ number name.entry.now most }
+    ensures local { result.global ≡ false }
+{
+    Arg::new(alloc, name)
+        .value_name("N")
+        .help(help)
+        .long(name)
+        .required(true)
+        .value_parser(ValueParser::unsigned(0, most))
+}
+
+fn random_command<'a>(alloc: Global) -> Result<Command<'a>, AllocError>
+    ensures app { IfOk result (λ c. app_of c ≡ random) }
+    ensures local { IfOk result (λ c. (out-Command c).has_globals ≡ false) }
+{
+    let seed = number_argument(alloc, "seed", "What the schedule is drawn from", u64::MAX);
+    let events = number_argument(alloc, "events", "How many lines it has", 1000000);
+    let random = Command::new(alloc, "random").about(
+        "Write a schedule drawn at random, the same for the same seed",
+    );
+    random.arg(seed)?.arg(events)?.arg(setup_argument(alloc))
+}
+
+fn whole_command<'a>(alloc: Global) -> Result<Command<'a>, AllocError>
+    ensures app { IfOk result (λ c. app_of c ≡ warmplay) }
+    ensures local { IfOk result (λ c. (out-Command c).has_globals ≡ false) }
+{
+    let play = play_command(alloc)?;
+    let top = Command::new(alloc, "warmplay")
+        .about("Warm-standby buffer pools that merge LRU-2 histories")
+        .subcommand_required(true);
+    let random = random_command(alloc)?;
+    let whole = top.subcommand(play)?.subcommand(random)?;
+    Ok(whole)
+}
+
+// The matches of the words, as clap defines them for these commands.
+fn matches_of<'a, S: AsStr>(alloc: Global, words: &'a [S]) -> Result<ArgMatches<'a>, clap::Error>
+    ensures rows { IfOk result (λ m. subcommand_rows_of m ≡ subcommand_of warmplay (map S.text words.now)) }
+    ensures kinds { FailsBy (fault_of warmplay (map S.text words.now)) result }
+{
+    let command = whole_command(alloc)?;
+    command.try_get_matches_from(words)
+}
+
+fn seed_in(found: &ArgMatches<'_>) -> Option<u64>
+    ensures { result ≡ number_of (2 ^ 64 - 1) (codes "seed") (rows_of (found_of found.now)) }
+{
+    found.get_one("seed")
+}
+
+fn events_in(found: &ArgMatches<'_>) -> Option<u32>
+    ensures { result ≡ number_of (2 ^ 32 - 1) (codes "events") (rows_of (found_of found.now)) }
+{
+    found.get_one("events")
+}
+
+fn random_in<'a>(found: &ArgMatches<'a>) -> Option<Asked<'a>>
+    ensures { option_map command_for result ≡ random_by (rows_of (found_of found.now)) }
+{
+    let seed = seed_in(found)?;
+    let events = events_in(found)?;
+    Some(Asked::Random(seed, events, found.get_str("setup")))
+}
+
+fn asked_in<'a>(matches: &ArgMatches<'a>) -> Option<Asked<'a>>
+    ensures { option_map command_for result ≡ option_and_then command_by (subcommand_rows_of matches.now) }
+{
+    let (name, found) = matches.subcommand()?;
+    let file = found.get_str("file");
+    let setup = found.get_str("setup");
+    if name == "play" {
+        return Some(Asked::Play(file, setup));
+    }
+    if name == "random" {
+        return random_in(found);
+    }
+    None
+}
+
+fn fault_from(error: clap::Error) -> CmdFault
+    ensures { IsFaultOf error result }
+{
+    match error.kind() {
+        ErrorKind::OutOfMemory => CmdFault::Memory,
+        _ => CmdFault::Refused(error),
+    }
+}
+
+fn command_for<'a>(alloc: Global, asked: Asked<'a>) -> Result<Cmd, AllocError>
+    ensures { IfOk result (λ command. command ≡ command_for asked.entry) }
+{
+    match asked {
+        Asked::Play(file, setup) => {
+            let file = copied(alloc, file)?;
+            let setup = copied(alloc, setup)?;
+            Ok(Cmd::Play { file, setup })
+        }
+        Asked::Random(seed, events, setup) => {
+            let setup = copied(alloc, setup)?;
+            Ok(Cmd::Random {
+                seed,
+                events,
+                setup,
+            })
+        }
+    }
+}
+
+fn copied(alloc: Global, text: Option<&str>) -> Result<Option<PathText>, AllocError>
+    ensures { IfOk result (λ path. path ≡ option_map (λ t. t.now) text.entry) }
+{
+    match text {
+        None => Ok(None),
+        Some(text) => {
+            let path = PathText::copied_from(alloc, text)?;
+            Ok(Some(path))
+        }
+    }
+}
+
+/// The fault of a command line with a word that is not UTF-8, which no command takes: [`CmdFault::Refused`], or
+/// [`CmdFault::Memory`] where room for its text was refused.
+pub fn not_text(alloc: Global) -> CmdFault
+    ensures { IsRefusal ErrorKind.InvalidValue result }
+{
+    refused(
+        alloc,
+        ErrorKind::InvalidValue,
+        "a word of the command line is not UTF-8",
+    )
+}
+
+fn refused(alloc: Global, kind: ErrorKind, why: &str) -> CmdFault
+    ensures { IsRefusal kind result }
+{
+    let Ok(mut command) = whole_command(alloc) else {
+        return CmdFault::Memory;
+    };
+    match command.error(kind, why) {
+        Ok(error) => CmdFault::Refused(error),
+        Err(_) => CmdFault::Memory,
+    }
+}
+
+/// The command that the words ask for. The first word is the program's own name.
+///
+/// The command and its values are those that clap's own definition of the matches gives for the words. The error is
+/// [`CmdFault::Refused`] where clap refuses them, or answers a request for help, or where the numbers of `random` are
+/// none, and [`CmdFault::Memory`] where room was refused, which clap's own kind `OutOfMemory` becomes too.
+pub fn command_of<S: AsStr>(alloc: Global, words: &[S]) -> Result<Cmd, CmdFault>
+    ensures { Answers (map S.text words.now) result }
+{
+    let matches = match matches_of(alloc, words) {
+        Ok(matches) => matches,
+        Err(error) => return Err(fault_from(error)),
+    };
+    let Some(asked) = asked_in(&matches) else {
+        return Err(refused(
+            alloc,
+            ErrorKind::ValueValidation,
+            "--seed and --events want numbers",
+        ));
+    };
+    match command_for(alloc, asked) {
+        Ok(command) => Ok(command),
+        Err(_) => Err(CmdFault::Memory),
+    }
+}
+
+#[cfg(test)]
+mod tests;

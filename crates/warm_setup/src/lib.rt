@@ -1,0 +1,16 @@
+//! What a run of the program `warmplay` begins with, and how it ends.
+//!
+//! [`command_of`] reads the words of the command line, [`read_setup`] and [`read_setup_file`] the text of a setup file, and
+//! [`outcome_of`] says with what status and line on standard error a run ends. docs/FORMATS.md has the program's words, the setup's
+//! keys, and the endings.
+#![tactic(auto)]
+
+mod command;
+mod outcome;
+mod path;
+mod setup;
+
+pub use command::{Cmd, CmdFault, command_of, not_text};
+pub use outcome::{ErrorLine, Outcome, RunFault, outcome_of};
+pub use path::PathText;
+pub use setup::{DeviceSpec, SetupFault, read_setup, read_setup_file};

@@ -1,0 +1,147 @@
+//! How a run of the program ends: the exit status, and the line on standard error.
+
+ghost use Rattle.std.specs.Prelude.{◌≡◌, OnOk};
+ghost use Rattle.std.specs.Io.KnownBytes.{Appends};
+ghost use Rattle.warm_setup.specs.Endings.{status_of, status_of_command, line_of, line_of_command};
+
+use crate::command::CmdFault;
+use crate::path::PathText;
+use crate::setup::SetupFault;
+use clap::error::ErrorKind;
+use std::io::{self, Write};
+use std::marker::Model;
+use warm_playfault::PlayFault;
+
+/// Why a run of the program came to no end. They are found in this order: the command line, the setup file, its text,
+/// the schedule's file, the play.
+#[derive(Debug, Drop)]
+pub enum RunFault {
+    /// The words gave no command.
+    Command(CmdFault),
+    /// The file of this name could not be opened, or, for the setup file, not read.
+    CannotOpen(PathText),
+    /// The setup file's text is no setup.
+    Setup(SetupFault),
+    /// The play stopped.
+    Play(PlayFault),
+}
+
+/// What the program does at its end.
+#[derive(Drop)]
+pub struct Outcome<'a> {
+    /// The exit status.
+    pub status: u8,
+    /// What goes to standard error, beside clap's own text.
+    pub line: ErrorLine<'a>,
+}
+
+/// One line of text with its end, or nothing. Contracts see its bytes.
+#[derive(Drop)]
+pub struct ErrorLine<'a> {
+    opening: &'a str,
+    subject: &'a str,
+    end: &'a str,
+}
+
+impl<'a> Model for ErrorLine<'a> {
+    ghost use Rattle.std.specs.Prelude.{List, ℕ, ◌++◌};
+
+    ghost Value = { List ℕ };
+
+    ghost view = { λ line. line.opening.now ++ line.subject.now ++ line.end.now };
+}
+
+impl<'a> ErrorLine<'a> {
+    ghost use Rattle.std.specs.Prelude.{◌≡◌, ◌++◌, OnOk, [], ◌∷◌};
+    ghost use Rattle.std.specs.Io.KnownBytes.{Appends};
+    ghost use Rattle.warm_setup.specs.Endings.{line_end};
+
+    fn nothing() -> ErrorLine<'a>
+        ensures { result ≡ [] }
+    {
+        ErrorLine {
+            opening: "",
+            subject: "",
+            end: "",
+        }
+    }
+
+    fn of(opening: &'a str, subject: &'a str) -> ErrorLine<'a>
+        ensures { result ≡ opening.entry.now ++ subject.entry.now ++ line_end }
+    {
+        ErrorLine {
+            opening,
+            subject,
+            end: "\n",
+        }
+    }
+
+    /// Writes the line. After an error nothing is said of how much of it was written.
+    pub fn write_to<W: Write>(&self, writer: &mut W) -> io::Result<()>
+        ensures { OnOk result (Appends (W.contents writer.old) (W.contents writer.new) self.now) }
+    {
+        write!(writer, "{}{}{}", self.opening, self.subject, self.end)
+    }
+}
+
+fn command_status(fault: &CmdFault) -> u8
+    ensures { result ≡ status_of_command fault.now }
+{
+    match fault {
+        CmdFault::Memory => 1,
+        CmdFault::Refused(error) => match error.kind() {
+            ErrorKind::DisplayHelp | ErrorKind::DisplayVersion => 0,
+            _ => 2,
+        },
+    }
+}
+
+fn command_line<'a>(fault: &'a CmdFault) -> ErrorLine<'a>
+    ensures { result ≡ line_of_command fault.entry.now }
+{
+    match fault {
+        CmdFault::Memory => ErrorLine::of("warmplay: ", "Memory"),
+        CmdFault::Refused(_) => ErrorLine::nothing(),
+    }
+}
+
+/// The exit status and the line on standard error of a run of the program:
+///
+/// | What happened | Status | On standard error |
+/// |---|---|---|
+/// | the schedule was played, bad lines and refused events included | 0 | nothing |
+/// | help was asked for | 0 | nothing: clap's text goes to standard output |
+/// | the command line was refused | 2 | clap's text, and no line |
+/// | a file could not be opened | 1 | `warmplay: cannot open NAME` |
+/// | the setup was refused | 2 | `warmplay: setup: ` and the fault's name |
+/// | the play stopped, or there was no room for the command line | 1 | `warmplay: ` and the fault's name |
+pub fn outcome_of<'a>(ended: &'a Result<(), RunFault>) -> Outcome<'a>
+    ensures status { result.status ≡ status_of ended.entry.now }
+    ensures line { result.line ≡ line_of ended.entry.now }
+{
+    match ended {
+        Ok(()) => Outcome {
+            status: 0,
+            line: ErrorLine::nothing(),
+        },
+        Err(RunFault::Command(fault)) => Outcome {
+            status: command_status(fault),
+            line: command_line(fault),
+        },
+        Err(RunFault::CannotOpen(name)) => Outcome {
+            status: 1,
+            line: ErrorLine::of("warmplay: cannot open ", name.as_str()),
+        },
+        Err(RunFault::Setup(fault)) => Outcome {
+            status: 2,
+            line: ErrorLine::of("warmplay: setup: ", fault.name()),
+        },
+        Err(RunFault::Play(fault)) => Outcome {
+            status: 1,
+            line: ErrorLine::of("warmplay: ", fault.name()),
+        },
+    }
+}
+
+#[cfg(test)]
+mod tests;

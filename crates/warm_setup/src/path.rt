@@ -1,0 +1,52 @@
+//! Paths, as texts.
+
+use std::alloc::{AllocError, Global};
+use std::marker::Model;
+
+/// A path as the setup file or the command line wrote it. Contracts see its bytes.
+#[derive(Debug, Drop)]
+pub struct PathText {
+    text: String,
+}
+
+impl Model for PathText {
+    ghost use Rattle.std.specs.Prelude.{List, ℕ, string_bytes};
+
+    ghost Value = { List ℕ };
+
+    ghost view = { λ p. string_bytes p.text };
+}
+
+impl PathText {
+    ghost use Rattle.std.specs.Prelude.{◌≡◌, IfOk, string_bytes};
+
+    /// A copy of the text. `AllocError` where its room is refused.
+    pub fn copied_from(alloc: Global, text: &str) -> Result<PathText, AllocError>
+        ensures { IfOk result (λ path. path ≡ text.now) }
+    {
+        let text = String::from_str(alloc, text)?;
+        Ok(PathText { text })
+    }
+
+    /// The path, taking no memory.
+    pub fn from_string(string: String) -> PathText
+        ensures { result ≡ string_bytes string }
+    {
+        PathText { text: string }
+    }
+
+    /// The text, taking no memory.
+    pub fn into_string(self) -> String
+        ensures { string_bytes result ≡ self }
+    {
+        let PathText { text } = self;
+        text
+    }
+
+    /// The text.
+    pub fn as_str(&self) -> &str
+        ensures { result.now ≡ self.now }
+    {
+        self.text.as_str()
+    }
+}

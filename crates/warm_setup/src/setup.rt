@@ -1,0 +1,378 @@
+//! The setup file: how large the world is, and which devices its replicas have.
+//!
+//! A setup is a TOML document. Every key is optional: `buffer` (1 to 1024), `device` (an array of 1 to 16
+//! tables), `frames` (1 to 65536), `page_size` (1 to 65536), `replicas` (1 to 64) and `workers` (1 to 16). A
+//! device's table has `pages` (1 to 1048576), which it must have, and perhaps `path`, a text of at least one byte.
+
+ghost use Rattle.std.specs.Prelude.{◌≡◌, ◌≤◌, ◌<◌, ℕ, IfOk, IfErr, Some, None, Ok, Err, map};
+ghost use Rattle.std.specs.List.{list_all};
+ghost use Rattle.std.specs.Str.{IsUtf8};
+ghost use Rattle.toml.specs.Parse.{parse_document};
+ghost use Rattle.toml.specs.View.{view, table_view};
+ghost use Rattle.warm_world.specs.Limits.{IsWithin};
+ghost use Rattle.warm_setup.specs.SetupFaults.{Gives, code_of, name_of};
+ghost use Rattle.warm_setup.specs.Setups.{number_to, text_in, with_device_key, device_in, devices_of, devices_in, with_key, setup_of, setup_in, key_by_key, no_fields, each, is_table, defaults};
+ghost use Rattle.warm_setup.specs.SetupSeen.{fields_of, settings_of, setup_and_devices, AreWithin};
+
+use crate::path::PathText;
+use std::alloc::Global;
+use thiserror::Error;
+use toml::{Table, Value};
+use warm_world::Setup;
+
+/// A device that each replica is to have: `pages` pages (1 to 1048576), kept in memory, or in the file that `path`,
+/// a dot and the replica's number name.
+#[derive(Debug, Drop)]
+pub struct DeviceSpec {
+    pub pages: u32,
+    pub path: Option<PathText>,
+}
+
+/// Why a text is no setup.
+#[derive(Clone, Copy, Debug, PartialEq, Eq, Drop, Error)]
+pub enum SetupFault {
+    /// Room was refused. It says nothing of the text.
+    #[error("Memory")]
+    Memory,
+    /// The text is no TOML document.
+    #[error("NotToml")]
+    NotToml,
+    /// A key that there is not, a value of a wrong type, or a device without `pages`.
+    #[error("BadKey")]
+    BadKey,
+    /// A number out of its range, an empty `path`, no device or more than 16.
+    #[error("BadValue")]
+    BadValue,
+}
+
+impl SetupFault {
+    /// The fault's number, 1 to 4 in the order above.
+    pub fn code(self) -> u8
+        ensures { result ≡ code_of self }
+    {
+        match self {
+            SetupFault::Memory => 1,
+            SetupFault::NotToml => 2,
+            SetupFault::BadKey => 3,
+            SetupFault::BadValue => 4,
+        }
+    }
+
+    /// The fault's name, as the program prints it.
+    pub fn name(self) -> &'static str
+        ensures { result.now ≡ name_of self }
+    {
+        match self {
+            SetupFault::Memory => "Memory",
+            SetupFault::NotToml => "NotToml",
+            SetupFault::BadKey => "BadKey",
+            SetupFault::BadValue => "BadValue",
+        }
+    }
+}
+
+const BUFFER_LIMIT: u32 = 1024;
+
+const FRAMES_LIMIT: u32 = 65536;
+
+const PAGE_SIZE_LIMIT: u32 = 65536;
+
+const REPLICAS_LIMIT: u32 = 64;
+
+const WORKERS_LIMIT: u32 = 16;
+
+const DEVICES_LIMIT: usize = 16;
+
+const PAGES_LIMIT: u32 = 1_048_576;
+
+// An integer from 1 to the limit.
+#[tactic(auto, unfolding(crate::specs::Setups::number_to))]
+fn number(value: &Value, limit: u32) -> Result<u32, SetupFault>
+    ensures value { result ≡ number_to limit (view value.now) }
+    ensures within { IfOk result (IsWithin limit) }
+{
+    let Some(number) = value.as_integer() else {
+        return Err(SetupFault::BadKey);
+    };
+    if number < 1 || number > i64::from(limit) {
+        return Err(SetupFault::BadValue);
+    }
+    Ok(number as u32)
+}
+
+// A text of at least one byte.
+#[tactic(auto, unfolding(crate::specs::Setups::text_in))]
+fn path_in(alloc: Global, value: &Value) -> Result<PathText, SetupFault>
+    ensures { Gives (λ p. p) (text_in (view value.now)) result }
+{
+    let Some(text) = value.as_str() else {
+        return Err(SetupFault::BadKey);
+    };
+    if text.is_empty() {
+        return Err(SetupFault::BadValue);
+    }
+    match PathText::copied_from(alloc, text) {
+        Ok(path) => Ok(path),
+        Err(_) => Err(SetupFault::Memory),
+    }
+}
+
+// What a device's table has said so far.
+#[derive(Drop)]
+struct DeviceKeys {
+    pages: Option<u32>,
+    path: Option<PathText>,
+}
+
+// The fields with the value of one key.
+#[tactic(auto, unfolding(crate::specs::Setups::with_device_key))]
+fn set_device_key(
+    alloc: Global,
+    keys: DeviceKeys,
+    key: &str,
+    value: &Value,
+) -> Result<DeviceKeys, SetupFault>
+    ensures { Gives fields_of (with_device_key (fields_of keys) key.now (view value.now)) result }
+{
+    if key == "pages" {
+        let pages = number(value, PAGES_LIMIT)?;
+        return Ok(DeviceKeys {
+            pages: Some(pages),
+            path: keys.path,
+        });
+    }
+    if key == "path" {
+        let path = path_in(alloc, value)?;
+        return Ok(DeviceKeys {
+            pages: keys.pages,
+            path: Some(path),
+        });
+    }
+    Err(SetupFault::BadKey)
+}
+
+fn device_keys(alloc: Global, table: &Table) -> Result<DeviceKeys, SetupFault>
+    ensures { Gives fields_of (key_by_key with_device_key no_fields (table_view table.now)) result }
+{
+    let mut keys = DeviceKeys {
+        pages: None,
+        path: None,
+    };
+    for (key, value) in table {
+        match set_device_key(alloc, keys, key.as_str(), value) {
+            Ok(changed) => keys = changed,
+            Err(fault) => return Err(fault),
+        }
+    }
+    Ok(keys)
+}
+
+#[tactic(auto, unfolding(crate::specs::Setups::device_in))]
+fn device(alloc: Global, value: &Value) -> Result<DeviceSpec, SetupFault>
+    ensures { Gives (λ d. d) (device_in (view value.now)) result }
+{
+    let Some(table) = value.as_table() else {
+        return Err(SetupFault::BadKey);
+    };
+    let keys = device_keys(alloc, table)?;
+    let Some(pages) = keys.pages else {
+        return Err(SetupFault::BadKey);
+    };
+    Ok(DeviceSpec {
+        pages,
+        path: keys.path,
+    })
+}
+
+// Each device in turn, up to the first fault.
+fn each_device(alloc: Global, values: &[Value]) -> Result<Vec<DeviceSpec>, SetupFault>
+    ensures { Gives (λ devices. devices.items) (each device_in (map view values.now)) result }
+{
+    let mut devices = Vec::new(alloc);
+    for value in values {
+        let found = match device(alloc, value) {
+            Ok(found) => found,
+            Err(fault) => return Err(fault),
+        };
+        match devices.push(found) {
+            Ok(()) => {}
+            Err(_) => return Err(SetupFault::Memory),
+        }
+    }
+    Ok(devices)
+}
+
+fn are_tables(values: &[Value]) -> bool
+    ensures { result ≡ list_all (λ value. is_table (view value)) values.now }
+{
+    values.iter().all(|value| value.is_table())
+}
+
+// The types come first, then how many there are, then each device.
+fn devices_of(alloc: Global, values: &[Value]) -> Result<Vec<DeviceSpec>, SetupFault>
+    ensures { Gives (λ devices. devices.items) (devices_of (map view values.now)) result }
+{
+    if !are_tables(values) {
+        return Err(SetupFault::BadKey);
+    }
+    if values.is_empty() {
+        return Err(SetupFault::BadValue);
+    }
+    if values.len() > DEVICES_LIMIT {
+        return Err(SetupFault::BadValue);
+    }
+    each_device(alloc, values)
+}
+
+#[tactic(auto, unfolding(crate::specs::Setups::devices_in))]
+fn devices(alloc: Global, value: &Value) -> Result<Vec<DeviceSpec>, SetupFault>
+    ensures { Gives (λ devices. devices.items) (devices_in (view value.now)) result }
+{
+    let Some(values) = value.as_array() else {
+        return Err(SetupFault::BadKey);
+    };
+    devices_of(alloc, values.as_slice())
+}
+
+// The settings so far.
+#[derive(Drop)]
+struct SetupKeys {
+    buffer: u16,
+    devices: Vec<DeviceSpec>,
+    frames: u32,
+    page_size: u32,
+    replicas: u16,
+    workers: u16,
+}
+
+// The settings with the value of one key.
+#[tactic(auto, unfolding(crate::specs::Setups::with_key))]
+fn set_key(
+    alloc: Global,
+    keys: SetupKeys,
+    key: &str,
+    value: &Value,
+) -> Result<SetupKeys, SetupFault>
+    ensures value { Gives settings_of (with_key (settings_of keys) key.now (view value.now)) result }
+    ensures within { AreWithin keys → IfOk result AreWithin }
+{
+    if key == "buffer" {
+        let buffer = number(value, BUFFER_LIMIT)? as u16;
+        return Ok(SetupKeys { buffer, ..keys });
+    }
+    if key == "device" {
+        let devices = devices(alloc, value)?;
+        return Ok(SetupKeys { devices, ..keys });
+    }
+    if key == "frames" {
+        let frames = number(value, FRAMES_LIMIT)?;
+        return Ok(SetupKeys { frames, ..keys });
+    }
+    if key == "page_size" {
+        let page_size = number(value, PAGE_SIZE_LIMIT)?;
+        return Ok(SetupKeys { page_size, ..keys });
+    }
+    if key == "replicas" {
+        let replicas = number(value, REPLICAS_LIMIT)? as u16;
+        return Ok(SetupKeys { replicas, ..keys });
+    }
+    if key == "workers" {
+        let workers = number(value, WORKERS_LIMIT)? as u16;
+        return Ok(SetupKeys { workers, ..keys });
+    }
+    Err(SetupFault::BadKey)
+}
+
+// The settings of a table: the defaults, and then its keys in their order.
+fn setup_keys(alloc: Global, table: &Table) -> Result<SetupKeys, SetupFault>
+    ensures value { Gives settings_of (setup_of (table_view table.now)) result }
+    ensures within { IfOk result AreWithin }
+{
+    let mut keys = SetupKeys {
+        buffer: 64,
+        devices: one_device(alloc)?,
+        frames: 4,
+        page_size: 16,
+        replicas: 3,
+        workers: 2,
+    };
+    for (key, value) in table {
+        match set_key(alloc, keys, key.as_str(), value) {
+            Ok(changed) => keys = changed,
+            Err(fault) => return Err(fault),
+        }
+    }
+    Ok(keys)
+}
+
+// The devices of a setup that names none.
+fn one_device(alloc: Global) -> Result<Vec<DeviceSpec>, SetupFault>
+    ensures value { IfOk result (λ devices. devices.items ≡ defaults.devices) }
+    ensures memory { IfErr result (λ fault. fault ≡ SetupFault.Memory) }
+{
+    let mut devices = Vec::new(alloc);
+    let device = DeviceSpec {
+        pages: 256,
+        path: None,
+    };
+    match devices.push(device) {
+        Ok(()) => Ok(devices),
+        Err(_) => Err(SetupFault::Memory),
+    }
+}
+
+// The setup and the devices that the settings name.
+fn made_from(keys: SetupKeys) -> (Setup, Vec<DeviceSpec>)
+    requires { AreWithin keys }
+    ensures { setup_and_devices result ≡ settings_of keys }
+{
+    match Setup::new(
+        keys.replicas,
+        keys.workers,
+        keys.buffer,
+        keys.frames,
+        keys.page_size,
+    ) {
+        Ok(setup) => (setup, keys.devices),
+        Err(_) => unreachable!(),
+    }
+}
+
+/// The setup and the devices that a text means: each key's value, or its default where the text lacks the key.
+///
+/// Keys are looked at in the order of their bytes, the devices of `device` in their order, and a device's keys in the
+/// order of their bytes, its missing `pages` last; the first fault is answered. For one key [`SetupFault::BadKey`] comes
+/// before [`SetupFault::BadValue`]. For `device` the types of the array and its elements come first, then its length,
+/// then its devices. [`SetupFault::NotToml`] is answered exactly where the text is no TOML document (TOML 1.1, nested at
+/// most 80 deep), and [`SetupFault::Memory`] where room was refused.
+pub fn read_setup(alloc: Global, text: &str) -> Result<(Setup, Vec<DeviceSpec>), SetupFault>
+    ensures { Gives setup_and_devices (setup_in (parse_document text.now)) result }
+{
+    let table = match toml::table_from_str(alloc, text) {
+        Ok(table) => table,
+        Err(error) => {
+            if error.is_memory() {
+                return Err(SetupFault::Memory);
+            }
+            return Err(SetupFault::NotToml);
+        }
+    };
+    match setup_keys(alloc, &table) {
+        Ok(keys) => Ok(made_from(keys)),
+        Err(fault) => Err(fault),
+    }
+}
+
+/// The setup that a file's bytes hold: [`read_setup`] of the text where they are UTF-8, else [`SetupFault::NotToml`].
+pub fn read_setup_file(alloc: Global, bytes: &[u8]) -> Result<(Setup, Vec<DeviceSpec>), SetupFault>
+    ensures text { IsUtf8 bytes.now → Gives setup_and_devices (setup_in (parse_document bytes.now)) result }
+    ensures no_text { ¬ IsUtf8 bytes.now → result ≡ Err SetupFault.NotToml }
+{
+    match std::str::from_utf8(bytes) {
+        Ok(text) => read_setup(alloc, text),
+        Err(_) => Err(SetupFault::NotToml),
+    }
+}
+
+#[cfg(test)]
+mod tests;

@@ -1,0 +1,21 @@
+-- The laws of the orders of stamps, pages and references.
+use Rattle.std.specs.Prelude.{◌≡◌}
+use Rattle.std.specs.Ordering.{ordering_reverse}
+use Rattle.std.specs.declared.cmp.Ordering.{Ordering}
+use Rattle.std.specs.declared.cmp.Ordering.TheVariants.{Less, Equal}
+use Rattle.warm_stamps.specs.Stamps.{stamp_cmp, page_cmp, reference_cmp}
+
+-- only equal values tie, exchanging two turns the answer, and what is below the lesser of two is below the greater
+pub record OrdersTotally {A : Type 0} (cmp : A → A → Ordering) : Type 0 where
+  pub ties : (x y : A) → cmp x y ≡ Equal → x ≡ y
+  pub turns : (x y : A) → cmp y x ≡ ordering_reverse (cmp x y)
+  pub transitive : (x y z : A) → cmp x y ≡ Less → cmp y z ≡ Less → cmp x z ≡ Less
+
+abbrev pub StampsAreOrdered : Type 0
+StampsAreOrdered = OrdersTotally stamp_cmp
+
+abbrev pub PagesAreOrdered : Type 0
+PagesAreOrdered = OrdersTotally page_cmp
+
+abbrev pub ReferencesAreOrdered : Type 0
+ReferencesAreOrdered = OrdersTotally reference_cmp

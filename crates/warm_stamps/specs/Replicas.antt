@@ -1,0 +1,7 @@
+-- How replicas are numbered.
+use Rattle.std.specs.Prelude.{ℕ, ◌<◌, ◌≤◌}
+use Rattle.warm_stamps.specs.declared.TheConstants.{MAX_REPLICAS}
+
+-- the numbers of replicas
+abbrev pub IsReplica : ℕ → Type 0
+IsReplica n = (0 < n) × (n ≤ MAX_REPLICAS)

@@ -1,0 +1,42 @@
+//! The laws of the orders of stamps, pages and references.
+//!
+//! Each function does nothing. What it ensures is a theorem, for the crates above to cite and for a
+//! reader to look up: `specs/Stamps.antt` has the orders, `specs/Laws.antt` what it is to order totally.
+ghost use Rattle.std.specs.Prelude.{◌≡◌};
+ghost use Rattle.warm_stamps.specs.declared.Stamp.{Stamp};
+ghost use Rattle.warm_stamps.specs.declared.PageId.{PageId};
+ghost use Rattle.warm_stamps.specs.declared.Reference.{Reference};
+ghost use Rattle.warm_stamps.specs.Stamps.{stamp_cmp, page_cmp, reference_cmp};
+ghost use Rattle.warm_stamps.specs.Laws.{StampsAreOrdered, PagesAreOrdered, ReferencesAreOrdered};
+
+use crate::{PageId, Reference, Stamp};
+
+/// The order of `Stamp` in Rust is by time, then replica.
+pub fn stamps_compare()
+    ensures { (s t : Stamp) → ⟦<Stamp as Ord>⟧.cmp s t ≡ stamp_cmp s t }
+{}
+
+/// The order of `PageId` in Rust is by device, then number.
+pub fn pages_compare()
+    ensures { (p q : PageId) → ⟦<PageId as Ord>⟧.cmp p q ≡ page_cmp p q }
+{}
+
+/// The order of `Reference` in Rust is by page, then stamp.
+pub fn references_compare()
+    ensures { (r s : Reference) → ⟦<Reference as Ord>⟧.cmp r s ≡ reference_cmp r s }
+{}
+
+/// The order of stamps is total, and only equal stamps tie.
+pub fn stamps_are_ordered()
+    ensures { StampsAreOrdered }
+{}
+
+/// The order of pages is total, and only equal pages tie.
+pub fn pages_are_ordered()
+    ensures { PagesAreOrdered }
+{}
+
+/// The order of references is total, and only equal references tie.
+pub fn references_are_ordered()
+    ensures { ReferencesAreOrdered }
+{}
