@@ -16,8 +16,11 @@ use warm_rank::warm_list;
 use warm_stamps::{Bucket, PageId, PageList, Reference};
 
 impl Node {
-    /// Takes references into the history.
-    pub(crate) fn absorb(&mut self, batch: &[Reference]) -> Result<(), NodeFault>
+    /// Takes references into the history: the call `Absorb`.
+    ///
+    /// # Errors
+    /// `Memory`: room was refused; nothing has changed.
+    pub fn absorb(&mut self, batch: &[Reference]) -> Result<(), NodeFault>
         requires fit { IsFit state self.old }
         ensures fit { IsFit state self.new }
         ensures step { Answered state self.old (Absorb batch.now) done result self.new }
@@ -49,8 +52,11 @@ impl Node {
         Ok(())
     }
 
-    /// Takes what a frame says, and gives the frames that answer it.
-    pub(crate) fn receive(&mut self, frame: Frame) -> Result<FrameList, NodeFault>
+    /// Takes what a frame says, and gives the frames that answer it, in order: the call `Receive`.
+    ///
+    /// # Errors
+    /// `Memory`: room was refused; nothing has changed.
+    pub fn receive(&mut self, frame: Frame) -> Result<FrameList, NodeFault>
         requires fit { IsFit state self.old }
         ensures fit { IsFit state self.new }
         ensures step { Answered state self.old (Receive frame) Answers result self.new }
@@ -75,8 +81,12 @@ impl Node {
         }
     }
 
-    /// The first entries of a bucket, of those whose page is greater than `after`: as many as a frame carries.
-    pub(crate) fn send(&self, bucket: Bucket, after: Option<PageId>) -> Result<Frame, NodeFault>
+    /// A frame of the first entries of a bucket, of those whose page is greater than `after`, as many as a frame carries: the call
+    /// `Send`.
+    ///
+    /// # Errors
+    /// `Memory`: room was refused; nothing has changed.
+    pub fn send(&self, bucket: Bucket, after: Option<PageId>) -> Result<Frame, NodeFault>
         ensures { Answered state self.now (Send bucket after) Sent result self.now }
     {
         let _whole = self.history.len();
@@ -92,8 +102,11 @@ impl Node {
         })
     }
 
-    /// The sums of all buckets.
-    pub(crate) fn offer(&self) -> Result<Frame, NodeFault>
+    /// A frame of the sums of all buckets: the call `Offer`.
+    ///
+    /// # Errors
+    /// `Memory`: room was refused; nothing has changed.
+    pub fn offer(&self) -> Result<Frame, NodeFault>
         ensures { Answered state self.now Offer Sent result self.now }
     {
         match sums(self.alloc, &self.history) {
@@ -105,8 +118,11 @@ impl Node {
         }
     }
 
-    /// The hottest pages, hottest first.
-    pub(crate) fn hottest(&self, n: usize) -> Result<PageList, NodeFault>
+    /// The `n` hottest pages, hottest first, or all where there are fewer: the call `WarmList`.
+    ///
+    /// # Errors
+    /// `Memory`: room was refused; nothing has changed.
+    pub fn warm_list(&self, n: usize) -> Result<PageList, NodeFault>
         ensures { Answered state self.now (WarmList n) Pages result self.now }
     {
         let _whole = self.history.len();

@@ -9,6 +9,9 @@
 //! **A pin is no reference.** A node ranks pages by the references that it absorbed, and by nothing else: whoever pins a page also
 //! makes a reference to it, with the time and the replica of its own clock, and has the node absorb it.
 //!
+//! Each call is also a method of its own, as [`Node::pin`], which gives its result or the [`NodeFault`]. [`Node::call`] is for whoever
+//! keeps, sends or replays calls as values.
+//!
 //! Clauses see a node by its `shown`, the plain data of `specs/State.antt`; `specs/Step.antt` says what each call does to that, and why
 //! it is refused.
 #![tactic(auto)]

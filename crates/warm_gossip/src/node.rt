@@ -133,7 +133,7 @@ impl Node {
                 Ok(Reply::Done)
             }
             Call::Victim => Ok(Reply::Page(self.victim())),
-            Call::WarmList(n) => Ok(Reply::Pages(self.hottest(n)?)),
+            Call::WarmList(n) => Ok(Reply::Pages(self.warm_list(n)?)),
             Call::WarmStep => Ok(Reply::Loaded(self.warm_step()?)),
             Call::Restart => {
                 self.restart()?;

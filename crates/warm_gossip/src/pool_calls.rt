@@ -13,8 +13,13 @@ use warm_pool::{PoolFault, Slot};
 use warm_stamps::{ByteList, PageId};
 
 impl Node {
-    /// Gives a page a fix, and puts it into a frame where it is in none.
-    pub(crate) fn pin(&mut self, page: PageId) -> Result<Slot, NodeFault>
+    /// Gives a page a fix, and puts it into a frame where it is in none: the call `Pin`. Takes no memory.
+    ///
+    /// **A pin is no reference**: whoever pins a page also absorbs a reference to it.
+    ///
+    /// # Errors
+    /// `Pool`, with the fault and the order of [`warm_pool::Pool::pin`]. Pages, fixes and contents are as they were.
+    pub fn pin(&mut self, page: PageId) -> Result<Slot, NodeFault>
         requires fit { IsFit state self.old }
         ensures fit { IsFit state self.new }
         ensures step { Answered state self.old (Pin page) Pinned result self.new }
@@ -25,8 +30,11 @@ impl Node {
         }
     }
 
-    /// Takes a fix away.
-    pub(crate) fn unpin(&mut self, slot: Slot) -> Result<(), NodeFault>
+    /// Takes a fix away: the call `Unpin`. Takes no memory.
+    ///
+    /// # Errors
+    /// `StaleSlot`: the slot doesn't hold its page; nothing has changed.
+    pub fn unpin(&mut self, slot: Slot) -> Result<(), NodeFault>
         requires fit { IsFit state self.old }
         ensures fit { IsFit state self.new }
         ensures step { Answered state self.old (Unpin slot) done result self.new }
@@ -38,8 +46,12 @@ impl Node {
         Ok(())
     }
 
-    /// Bytes of the slot's page.
-    pub(crate) fn read(&self, slot: Slot, at: usize, len: usize) -> Result<ByteList, NodeFault>
+    /// So many bytes of the slot's page, from `at` on: the call `Read`.
+    ///
+    /// # Errors
+    /// In this order: `StaleSlot`, where the slot doesn't hold its page; `Pool(OutOfPage)`, where the bytes reach beyond its end;
+    /// `Memory`.
+    pub fn read(&self, slot: Slot, at: usize, len: usize) -> Result<ByteList, NodeFault>
         requires fit { IsFit state self.now }
         ensures step { Answered state self.now (Read slot at len) Bytes result self.now }
     {
@@ -70,8 +82,12 @@ impl Node {
         }
     }
 
-    /// Writes bytes into the slot's page.
-    pub(crate) fn write(&mut self, slot: Slot, at: usize, bytes: &[u8]) -> Result<(), NodeFault>
+    /// Writes bytes into the slot's page, from `at` on: the call `Write`. Takes no memory.
+    ///
+    /// # Errors
+    /// In this order: `StaleSlot`, where the slot doesn't hold its page; `Pool(OutOfPage)`, where the bytes reach beyond its end.
+    /// Nothing has changed.
+    pub fn write(&mut self, slot: Slot, at: usize, bytes: &[u8]) -> Result<(), NodeFault>
         requires fit { IsFit state self.old }
         ensures fit { IsFit state self.new }
         ensures step { Answered state self.old (Write slot at bytes.now) done result self.new }
@@ -85,16 +101,21 @@ impl Node {
         }
     }
 
-    /// The page that would leave next.
-    pub(crate) fn victim(&self) -> Option<PageId>
+    /// The page that would leave next, where there is one: the call `Victim`. Takes no memory.
+    pub fn victim(&self) -> Option<PageId>
         requires fit { IsFit state self.now }
         ensures { Goes state self.now Victim (Page result) self.now }
     {
         self.pool.victim()
     }
 
-    /// Forgets everything, when all pages are written back.
-    pub(crate) fn restart(&mut self) -> Result<(), NodeFault>
+    /// Writes all pages back, and then forgets the history and takes every page out of its frame: the call `Restart`. Takes no
+    /// memory.
+    ///
+    /// # Errors
+    /// `Pool(Fixed)`: a page is fixed, and nothing has changed. `Pool(Fault)`: a page could not be written to its device, or a
+    /// device not flushed; counts of failures alone have changed.
+    pub fn restart(&mut self) -> Result<(), NodeFault>
         requires fit { IsFit state self.old }
         ensures fit { IsFit state self.new }
         ensures step { Answered state self.old Restart done result self.new }

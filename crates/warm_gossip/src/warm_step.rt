@@ -11,8 +11,13 @@ use warm_rank::warm_list;
 use warm_stamps::PageId;
 
 impl Node {
-    /// Loads the hottest page that is not resident, of as many as the pool has frames.
-    pub(crate) fn warm_step(&mut self) -> Result<Option<PageId>, NodeFault>
+    /// Loads the hottest page that is not resident and that a device has, of as many as the pool has frames, and gives it; `None`
+    /// where there is none: the call `WarmStep`. On a standby it is called until it gives none, before the standby takes over.
+    ///
+    /// # Errors
+    /// `Memory`: there was no room for the list of the hottest pages. `Pool`, with the fault and the order of
+    /// [`warm_pool::Pool::load`]. Pages, fixes and contents are as they were.
+    pub fn warm_step(&mut self) -> Result<Option<PageId>, NodeFault>
         requires fit { IsFit state self.old }
         ensures fit { IsFit state self.new }
         ensures step { Answered state self.old WarmStep Loaded result self.new }

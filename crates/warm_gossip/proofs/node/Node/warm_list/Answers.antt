@@ -1,7 +1,7 @@
 use Rattle.std.proofs.Common.{refl, sym, ◌∙◌}
 use Rattle.warm_history.specs.Histories.{refs}
 use Rattle.warm_history.proofs.JoinLemmas.{history_of_own_references}
-use Rattle.warm_gossip.proofs.node.Node.hottest.Goals as goal
+use Rattle.warm_gossip.proofs.node.Node.warm_list.Goals as goal
 
 pub returns-in-Ok : goal.returns-in-Ok
 returns-in-Ok g c =

@@ -1,0 +1,189 @@
+//! Two replicas of a database in one program, each with a buffer pool of its own over a device in memory.
+//!
+//! The primary is told of references to pages. The standby hears of them by frames, handed over as bytes, until both histories are
+//! equal. It loads the hottest pages before it takes over; then a page is pinned, written to and unpinned, and the standby ends in
+//! an orderly way.
+#![tactic(auto)]
+
+ghost use Rattle.std.specs.Prelude.{IfOk};
+
+use anyhow::{Result, bail};
+use std::alloc::Global;
+use std::io::Print;
+use warm_devices::{MemDevice, PageDevice};
+use warm_frames::{Frame, decode, encode};
+use warm_gossip::{Node, NodeFault, Shown};
+use warm_pool::Pool;
+use warm_stamps::{PageId, Reference, ReplicaId, Stamp};
+
+// How many frames each pool has, and how many bytes a page.
+const FRAMES: usize = 4;
+
+const PAGE_SIZE: usize = 16;
+
+// How often the replicas gossip at most. Where all frames arrive, one round makes them equal.
+const MOST_ROUNDS: u32 = 3;
+
+// A page of device 0.
+const fn page(no: u32) -> PageId {
+    PageId { dev: 0, no }
+}
+
+// A node that was told nothing, with a pool over the device.
+fn opened(alloc: Global, number: u16, device: Box<dyn PageDevice + Send>) -> Result<Node>
+    ensures { IfOk result (λ node. ⟦<Node as Shown>⟧.is_fit node) }
+{
+    let Ok(id) = ReplicaId::new(number) else {
+        bail!("no replica has the number {number}")
+    };
+    let mut devices = Vec::with_capacity(alloc, 1)?;
+    devices.push_reserved(device);
+    match Pool::new(alloc, FRAMES, PAGE_SIZE, devices) {
+        Ok(pool) => Ok(Node::new(alloc, id, pool)),
+        Err(unmade) => bail!("no pool: {}", unmade.fault.name()),
+    }
+}
+
+// A refusal as an error of this program.
+fn refused<T>(fault: NodeFault) -> Result<T> {
+    bail!("refused {} {}", fault.code(), fault.name())
+}
+
+// Tells a node that these pages were referenced, one after the other, from a time on.
+fn refer(alloc: Global, node: &mut Node, from: u64, pages: &[u32]) -> Result<()>
+    requires { ⟦<Node as Shown>⟧.is_fit node.old }
+    ensures { ⟦<Node as Shown>⟧.is_fit node.new }
+{
+    let replica = node.id();
+    let mut batch = Vec::with_capacity(alloc, pages.len())?;
+    let mut time = from;
+    for no in pages {
+        batch.push(Reference {
+            page: page(*no),
+            stamp: Stamp { time, replica },
+        })?;
+        time = time.wrapping_add(1);
+    }
+    match node.absorb(&batch) {
+        Ok(()) => Ok(()),
+        Err(fault) => refused(fault),
+    }
+}
+
+// What one replica sends another, as bytes: the sums of what it has heard of.
+fn offer(alloc: Global, node: &Node) -> Result<Vec<u8>> {
+    match node.offer() {
+        Ok(frame) => Ok(encode(alloc, &frame)?),
+        Err(fault) => refused(fault),
+    }
+}
+
+// Hands a frame's bytes to a node, and gives those of the frames that it answers.
+fn deliver(alloc: Global, node: &mut Node, bytes: &[u8]) -> Result<Vec<Vec<u8>>>
+    requires { ⟦<Node as Shown>⟧.is_fit node.old }
+    ensures { ⟦<Node as Shown>⟧.is_fit node.new }
+{
+    let frame = match decode(alloc, bytes) {
+        Ok(frame) => frame,
+        Err(fault) => bail!("no frame: {}", fault.name()),
+    };
+    match node.receive(frame) {
+        Ok(frames) => spelled(alloc, frames.as_slice()),
+        Err(fault) => refused(fault),
+    }
+}
+
+fn spelled(alloc: Global, frames: &[Frame]) -> Result<Vec<Vec<u8>>> {
+    let mut all = Vec::with_capacity(alloc, frames.len())?;
+    for frame in frames {
+        all.push(encode(alloc, frame)?)?;
+    }
+    Ok(all)
+}
+
+// Hands each of these frames to a node, and gives the bytes of all that it answers.
+fn deliver_all(alloc: Global, node: &mut Node, sent: &[Vec<u8>]) -> Result<Vec<Vec<u8>>>
+    requires { ⟦<Node as Shown>⟧.is_fit node.old }
+    ensures { ⟦<Node as Shown>⟧.is_fit node.new }
+{
+    let mut answered = Vec::new(alloc);
+    for bytes in sent {
+        answered.append(&mut deliver(alloc, node, bytes)?)?;
+    }
+    Ok(answered)
+}
+
+// Rounds of gossip until the second has nothing to answer to the sums of the first: then both hold the same. Gives how many it took.
+fn make_equal(alloc: Global, first: &mut Node, second: &mut Node) -> Result<u32>
+    requires first { ⟦<Node as Shown>⟧.is_fit first.old }
+    requires second { ⟦<Node as Shown>⟧.is_fit second.old }
+    ensures first { ⟦<Node as Shown>⟧.is_fit first.new }
+    ensures second { ⟦<Node as Shown>⟧.is_fit second.new }
+{
+    for round in 0..MOST_ROUNDS {
+        let sums = offer(alloc, first)?;
+        let entries_and_wish = deliver(alloc, second, &sums)?;
+        if entries_and_wish.is_empty() {
+            return Ok(round);
+        }
+        let wanted = deliver_all(alloc, first, &entries_and_wish)?;
+        let _none = deliver_all(alloc, second, &wanted)?;
+    }
+    bail!("the histories still differ")
+}
+
+// Loads the hottest pages, and says which.
+fn warm(rt: &impl Print, node: &mut Node) -> Result<()>
+    requires { ⟦<Node as Shown>⟧.is_fit node.old }
+    ensures { ⟦<Node as Shown>⟧.is_fit node.new }
+{
+    for _ in 0..FRAMES {
+        match node.warm_step() {
+            Ok(Some(page)) => println!(rt; "loaded page {}", page.no)?,
+            Ok(None) => return Ok(()),
+            Err(fault) => return refused(fault),
+        }
+    }
+    Ok(())
+}
+
+// Pins a page, writes to it, reads it again and unpins it.
+fn change(node: &mut Node, no: u32, text: &[u8]) -> Result<Vec<u8>, NodeFault>
+    requires { ⟦<Node as Shown>⟧.is_fit node.old }
+    ensures { ⟦<Node as Shown>⟧.is_fit node.new }
+{
+    let slot = node.pin(page(no))?;
+    node.write(slot, 0, text)?;
+    let bytes = node.read(slot, 0, text.len())?;
+    node.unpin(slot)?;
+    Ok(bytes.into_vec())
+}
+
+fn main(rt: HostRuntime) -> Result<()> {
+    let alloc = rt.alloc();
+    let device = Box::new(alloc, MemDevice::new(alloc, 64, PAGE_SIZE)?)?;
+    let mut primary = opened(alloc, 1, device)?;
+    let device = Box::new(alloc, MemDevice::new(alloc, 64, PAGE_SIZE)?)?;
+    let mut standby = opened(alloc, 2, device)?;
+
+    refer(alloc, &mut primary, 1, &[3, 5, 3, 9, 5, 7])?;
+    let rounds = make_equal(alloc, &mut primary, &mut standby)?;
+    println!(rt;
+        "{} pages known after round {}",
+        standby.history().len(),
+        rounds
+    )?;
+    warm(&rt, &mut standby)?;
+
+    // The primary is gone, and the standby takes over. A pin is no reference, so it absorbs one beside it.
+    refer(alloc, &mut standby, 7, &[5])?;
+    match change(&mut standby, 5, b"warm") {
+        Ok(bytes) => println!(rt; "wrote {} bytes", bytes.len())?,
+        Err(fault) => return refused(fault),
+    }
+    match standby.into_pool().close() {
+        Ok(()) => println!(rt; "closed")?,
+        Err(unclosed) => bail!("not closed: {}", unclosed.fault.name()),
+    }
+    Ok(())
+}
