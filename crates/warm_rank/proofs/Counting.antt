@@ -1,5 +1,5 @@
 -- Counting later references turns the order of stamps round.
-use Rattle.std.proofs.Common.{◌≡◌, ℕ, ◌+◌, ◌<◌, ◌≤◌, Bool, true, false, cond, List, [], ◌∷◌, map, filter, sym, ap, refl, ◌∙◌, inl, inr, arith}
+use Rattle.std.proofs.Common.{◌≡◌, ℕ, ◌+◌, ◌<◌, ◌≤◌, Bool, true, false, cond, List, [], ◌∷◌, sym, ap, refl, ◌∙◌, inl, inr, arith}
 use Rattle.std.specs.List.{count_by}
 use Rattle.std.specs.Ordering.{is_eq, is_lt, nat_cmp, flip_args}
 use Rattle.std.specs.declared.cmp.Ordering.{Ordering}
@@ -16,6 +16,7 @@ use Rattle.warm_stamps.proofs.DistinctLemmas.{Has, by_cases, flipped, has_distin
 use Rattle.warm_stamps.proofs.StampLemmas.{stamp_order, reference_order, IsStrictOrder-flip}
 use Rattle.warm_history.specs.ReferenceSets.{ReferenceSet, references}
 use Rattle.warm_history.specs.Histories.{stamps}
+use Rattle.warm_history.proofs.HistoryLemmas.{told}
 use Rattle.warm_rank.specs.Ranking.{count_later}
 
 abbrev pub later : Stamp → Reference → Bool
@@ -88,10 +89,7 @@ counts_rank S s t of_s of_t = by_cases (stamp_cmp s t) _
     nat_greater : (m n : ℕ) → n < m → nat_cmp m n ≡ Greater
     nat_greater m n lt = grind (arith, nat_tests)
 
--- the stamps that the references have at the page p
-abbrev told : List Reference → PageId → List Stamp
-told rs p = map (λ r. r.stamp) (filter (λ r. is_eq (page_cmp r.page p)) rs)
-
+-- a stamp that references tell of a page is the stamp of one of them
 told_of : (rs : List Reference) (p : PageId) (s : Stamp) → Has (told rs p) s → (r : Reference) × Has rs r × (r.stamp ≡ s)
 told_of [] p s has = absurd has
 told_of (r ∷ rs) p s has = cases (told_of rs p s) (is_eq (page_cmp r.page p)) refl
