@@ -7,7 +7,7 @@ use native.Mathlib.Decide.{ℕ_discrete}
 use lib.ListN.{get_elem?}
 use lib.Seq.{set-get_or}
 use Rattle.atomic_table.specs.Table.{State, keeps, stepped, opening}
-use Rattle.atomic_table.proofs.Lists.{at_longer, set_again, set_else, set_here}
+use Rattle.atomic_table.proofs.Lists.{at_longer, set_else, set_here}
 use Rattle.warm_turn.specs.declared.board.Entry.{Entry}
 use Rattle.warm_turn.specs.declared.board.View.{View}
 use Rattle.warm_turn.specs.declared.board.Held.{Held}
