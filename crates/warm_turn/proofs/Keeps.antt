@@ -41,7 +41,7 @@ module _ {M X C R : Type 0} (meaning : M → X) (fit : M → Type 0) (goes : X �
 
   -- a step that changes a view alone
   quiet : (s : St) (r : Rule s) (i me : ℕ) (cs : List (ℕ × Option H)) (v w : V) → get_elem? s.views me ≡ some v → v.sees ≡ true → (v.serves ≡ true → w.serves ≡ true)
-      → IsQueued (ticket_word s) (serving_word s) r.turns.turn me w → IsRecorded o r.history.log r.history.state r.history.owner (set s.views me w) me w
+      → IsQueued (ticket_word s) (serving_word s) r.turns.taker me w → IsRecorded o r.history.log r.history.state r.history.owner (set s.views me w) me w
       → Rule (stepped s i (get_or s.words i 0) me cs w keeps)
   quiet s r i me cs v w at sees serves queued recorded = record {
     turns = tickets.stays fit s r.turns i me cs v w at serves queued;
@@ -60,7 +60,7 @@ module _ {M X C R : Type 0} (meaning : M → X) (fit : M → Type 0) (goes : X �
       let t = histories.settles meaning goes o s.homes s.views r.history me v at owns idle rests in
       let f = r.history.each me v at in
       let sees = (f.own owns).0 in
-      let queued = tickets.same_queued (ticket_word s) (serving_word s) r.turns.turn me v w refl refl refl refl refl (r.turns.each me v at) in (
+      let queued = tickets.same_queued (ticket_word s) (serving_word s) r.turns.taker me v w refl refl refl refl refl (r.turns.each me v at) in (
         w,
         keeps,
         tt,
@@ -75,7 +75,7 @@ module _ {M X C R : Type 0} (meaning : M → X) (fit : M → Type 0) (goes : X �
       let t = histories.becomes meaning goes o s.homes s.views r.history me v at sees not_yet in
       let q = r.turns.each me v at in
       let never : v.serves ≡ true → w.serves ≡ true = λ h. off ((q.ticket (q.serving h).0).0) not_yet in
-      let queued = tickets.idle_queued (ticket_word s) (serving_word s) r.turns.turn me w refl refl refl in (
+      let queued = tickets.idle_queued (ticket_word s) (serving_word s) r.turns.taker me w refl refl refl in (
         w,
         keeps,
         tt,
@@ -149,8 +149,8 @@ module _ {M X C R : Type 0} (meaning : M → X) (fit : M → Type 0) (goes : X �
         },
         ((λ not. absurd (not mine)), (λ _. (r.history.log, h, refl, (f.sight sees).1, a.2))),
       ))
-      (λ (a : (u : V) × (get_elem? s.homes 0 ≡ some maybe.none) × (get_elem? s.views (r.turns.turn n) ≡ some u) × (u.serves ≡ true)).
-      off (ap (λ (u : V). u.serves) (same_at s.views me v a.0 at (subst (λ q. get_elem? s.views q ≡ some a.0) (ap r.turns.turn mine ∙ k.3) a.2)) ∙ a.3) rests)
+      (λ (a : (u : V) × (get_elem? s.homes 0 ≡ some maybe.none) × (get_elem? s.views (r.turns.taker n) ≡ some u) × (u.serves ≡ true)).
+      off (ap (λ (u : V). u.serves) (same_at s.views me v a.0 at (subst (λ q. get_elem? s.views q ≡ some a.0) (ap r.turns.taker mine ∙ k.3) a.2)) ∙ a.3) rests)
       r.turns.home)
       (λ (not : n ≢ v.ticket). (
         v,
@@ -202,14 +202,14 @@ module _ {M X C R : Type 0} (meaning : M → X) (fit : M → Type 0) (goes : X �
   pub learns : (me other : ℕ) (v u : V) → v.owns ≡ true → IsNote u → Joins Rule me v other u (learned v u) nobody
   learns me other v u owns note s r at apart there = record {
     turns = tickets.merges fit s r.turns me other v u (learned v u) at there note.2 (λ h. h)
-        (tickets.same_queued (ticket_word s) (serving_word s) r.turns.turn me v (learned v u) refl refl refl refl refl (r.turns.each me v at));
+        (tickets.same_queued (ticket_word s) (serving_word s) r.turns.taker me v (learned v u) refl refl refl refl refl (r.turns.each me v at));
     history = histories.learns meaning goes o s.homes s.views r.history me other v u at apart there owns note;
   }
 
   pub ends : (me other : ℕ) (v u : V) → v.owns ≡ true → u.owns ≡ true → u.serves ≡ false → Joins Rule me v other u (joined v u) nobody
   ends me other v u owns owns' rests s r at apart there = record {
     turns = tickets.merges fit s r.turns me other v u (joined v u) at there rests (λ h. h)
-        (tickets.same_queued (ticket_word s) (serving_word s) r.turns.turn me v (joined v u) refl refl refl refl refl (r.turns.each me v at));
+        (tickets.same_queued (ticket_word s) (serving_word s) r.turns.taker me v (joined v u) refl refl refl refl refl (r.turns.each me v at));
     history = histories.ends meaning goes o s.homes s.views r.history me other v u at apart there owns owns';
   }
 
@@ -246,8 +246,8 @@ module _ {M X C R : Type 0} (meaning : M → X) (fit : M → Type 0) (goes : X �
         },
         a.2,
       ))
-      (λ (a : (u : V) × (get_elem? s.homes 0 ≡ some maybe.none) × (get_elem? s.views (r.turns.turn (serving_word s)) ≡ some u) × (u.serves ≡ true)).
-      let below = (tickets.away_below fit s r.turns (r.turns.turn (serving_word s)) a.0 a.2 a.3).0 in absurd (omega arith))
+      (λ (a : (u : V) × (get_elem? s.homes 0 ≡ some maybe.none) × (get_elem? s.views (r.turns.taker (serving_word s)) ≡ some u) × (u.serves ≡ true)).
+      let below = (tickets.away_below fit s r.turns (r.turns.taker (serving_word s)) a.0 a.2 a.3).0 in absurd (omega arith))
       r.turns.home
 
   -- at the end a mark is that of the last number

@@ -3,8 +3,9 @@ use Rattle.std.proofs.Common.{◌≡◌, List, [], ◌∷◌, ◌++◌, Some, tr
 use mathlib.Core.Option.{some-ne-none}
 use mathlib.Core.List.{IsPrefix}
 use Rattle.warm_turn.specs.declared.board.Entry.{Entry}
+use Rattle.warm_turn.specs.declared.board.Ended.{Ended}
 use Rattle.warm_turn.specs.declared.board.View.{View}
-use Rattle.warm_turn.specs.Turns.{entry, Called, Extended, IsPass, IsStep, Learned, Runs, first_pass, marked, note_of}
+use Rattle.warm_turn.specs.Turns.{entry, Called, Extended, IsPass, IsStep, Joined, Learned, Runs, Widened, as_ended, first_pass, marked, note_of}
 use Rattle.warm_turn.proofs.Lists.{off, IsPrefix-self, IsPrefix-trans}
 
 module _ {X C R : Type 0} where
@@ -25,6 +26,21 @@ module _ {X C R : Type 0} where
     ended = b.ended ∙ a.ended;
     opening = b.opening ∙ a.opening;
     mark = λ h. b.mark (a.mark h);
+  }
+
+  -- a pass is as wide as itself
+  pub Widened-self : (v : View X C R) → Widened v [] v
+  Widened-self v = record { seen = IsPrefix-self v.seen; mine = refl; number = refl; ended = sym (append-nil v.ended); opening = refl; mark = refl }
+
+  -- widenings add up
+  pub Widened-trans : (u v w : View X C R) (xs ys : List (Ended C R)) → Widened u xs v → Widened v ys w → Widened u (xs ++ ys) w
+  Widened-trans u v w xs ys a b = record {
+    seen = IsPrefix-trans u.seen v.seen w.seen a.seen b.seen;
+    mine = b.mine ∙ a.mine;
+    number = b.number ∙ a.number;
+    ended = b.ended ∙ (ap (λ l. l ++ ys) a.ended ∙ append_assoc u.ended xs ys);
+    opening = b.opening ∙ a.opening;
+    mark = b.mark ∙ a.mark;
   }
 
 module _ {X C R : Type 0} (goes : X → C → R → X → Type 0) where
@@ -59,6 +75,17 @@ module _ {X C R : Type 0} (goes : X → C → R → X → Type 0) where
     ended = ap (λ (z : View X C R). z.ended) h.1;
     opening = ap (λ (z : View X C R). z.opening) h.1;
     mark = λ marked_once. ap (λ (z : View X C R). z.found_last) h.1 ∙ marked_once;
+  }
+
+  -- a pass holds the one that is ended into it, and those that this one held
+  pub Widened-joined : (v u w : View X C R) → Joined goes v u w → Widened v (as_ended u ∷ u.ended) w
+  Widened-joined v u w h = record {
+    seen = subst (λ l. IsPrefix v.seen l) (sym (ap (λ (z : View X C R). z.seen) h.1)) h.2;
+    mine = ap (λ (z : View X C R). z.mine) h.1;
+    number = ap (λ (z : View X C R). z.number) h.1;
+    ended = ap (λ (z : View X C R). z.ended) h.1;
+    opening = ap (λ (z : View X C R). z.opening) h.1;
+    mark = ap (λ (z : View X C R). z.found_last) h.1;
   }
 
   -- a pass that learns the note of a turn's opening opened with that state

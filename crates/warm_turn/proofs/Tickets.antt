@@ -7,7 +7,7 @@ use native.Mathlib.Decide.{ℕ_discrete}
 use lib.ListN.{get_elem?}
 use lib.Seq.{set-get_or}
 use Rattle.atomic_table.specs.Table.{State, keeps, stepped, opening}
-use Rattle.atomic_table.proofs.Lists.{at_longer, set_again, set_else, set_here}
+use Rattle.atomic_table.proofs.Lists.{at_longer, set_else, set_here}
 use Rattle.warm_turn.specs.declared.board.Entry.{Entry}
 use Rattle.warm_turn.specs.declared.board.View.{View}
 use Rattle.warm_turn.specs.declared.board.Held.{Held}
@@ -18,30 +18,30 @@ use Rattle.warm_turn.proofs.Lists.{off, same_at, now_at, at_end, one_member, eac
 
 module _ {X C R : Type 0} where
   -- what the words say of a seat that has no ticket and no mark
-  pub idle_queued : (t n : ℕ) (turn : ℕ → ℕ) (j : ℕ) (v : View X C R) → v.waits ≡ false → v.serves ≡ false → v.found_last ≡ false → IsQueued t n turn j v
-  idle_queued t n turn j v idle rests unmarked = record {
+  pub idle_queued : (t n : ℕ) (taker : ℕ → ℕ) (j : ℕ) (v : View X C R) → v.waits ≡ false → v.serves ≡ false → v.found_last ≡ false → IsQueued t n taker j v
+  idle_queued t n taker j v idle rests unmarked = record {
     ticket = λ h. off h idle;
     serving = λ h. off h rests;
     full = λ h. off h unmarked;
   }
 
   -- what the words say of a seat rests on its ticket and its marks alone
-  pub same_queued : (t n : ℕ) (turn : ℕ → ℕ) (j : ℕ) (v w : View X C R) → v.owns ≡ w.owns → v.waits ≡ w.waits → v.serves ≡ w.serves → v.found_last ≡ w.found_last → v.ticket ≡ w.ticket
-      → IsQueued t n turn j v → IsQueued t n turn j w
-  same_queued t n turn j v w owns waits serves found ticket q = record {
-    ticket = λ h. let k = q.ticket (waits ∙ h) in (sym owns ∙ k.0, subst (λ z. n ≤ z) ticket k.1, subst (λ z. z < t) ticket k.2, ap turn (sym ticket) ∙ k.3);
+  pub same_queued : (t n : ℕ) (taker : ℕ → ℕ) (j : ℕ) (v w : View X C R) → v.owns ≡ w.owns → v.waits ≡ w.waits → v.serves ≡ w.serves → v.found_last ≡ w.found_last → v.ticket ≡ w.ticket
+      → IsQueued t n taker j v → IsQueued t n taker j w
+  same_queued t n taker j v w owns waits serves found ticket q = record {
+    ticket = λ h. let k = q.ticket (waits ∙ h) in (sym owns ∙ k.0, subst (λ z. n ≤ z) ticket k.1, subst (λ z. z < t) ticket k.2, ap taker (sym ticket) ∙ k.3);
     serving = λ h. let k = q.serving (serves ∙ h) in (sym waits ∙ k.0, sym ticket ∙ k.1);
     full = λ h. q.full (found ∙ h);
   }
 
 module _ {M X C R : Type 0} (fit : M → Type 0) where
   -- a seat that has the machine has the served ticket
-  pub away_below : (s : State (Option (Held M C R)) (View X C R)) (r : InTurn fit s) (j : ℕ) (u : View X C R) → get_elem? s.views j ≡ some u → u.serves ≡ true → (serving_word s < ticket_word s) × (r.turn (serving_word s) ≡ j)
+  pub away_below : (s : State (Option (Held M C R)) (View X C R)) (r : InTurn fit s) (j : ℕ) (u : View X C R) → get_elem? s.views j ≡ some u → u.serves ≡ true → (serving_word s < ticket_word s) × (r.taker (serving_word s) ≡ j)
   away_below s r j u at serves =
       let f = r.each j u at in
       let t = f.serving serves in
       let k = f.ticket t.0 in
-      (subst (λ z. z < ticket_word s) t.1 k.2, ap r.turn (sym t.1) ∙ k.3)
+      (subst (λ z. z < ticket_word s) t.1 k.2, ap r.taker (sym t.1) ∙ k.3)
 
   -- no two seats have the machine
   pub alone : (s : State (Option (Held M C R)) (View X C R)) (r : InTurn fit s) (i j : ℕ) (v u : View X C R) → get_elem? s.views i ≡ some v → v.serves ≡ true → get_elem? s.views j ≡ some u → u.serves ≡ true → j ≡ i
@@ -56,28 +56,28 @@ module _ {M X C R : Type 0} (fit : M → Type 0) where
 
   -- a step that changes a view alone
   pub stays : (s : State (Option (Held M C R)) (View X C R)) (r : InTurn fit s) (i me : ℕ) (cs : List (ℕ × Option (Held M C R))) (v w : View X C R) → get_elem? s.views me ≡ some v → (v.serves ≡ true → w.serves ≡ true)
-      → IsQueued (ticket_word s) (serving_word s) r.turn me w → InTurn fit (stepped s i (get_or s.words i 0) me cs w keeps)
+      → IsQueued (ticket_word s) (serving_word s) r.taker me w → InTurn fit (stepped s i (get_or s.words i 0) me cs w keeps)
   stays s r i me cs v w at serves mine = subst (λ (ws : List ℕ). InTurn fit record { words = ws; homes = s.homes; views = set s.views me w }) (sym (set-get_or s.words i 0)) record {
-    turn = r.turn;
+    taker = r.taker;
     two = r.two;
     one = r.one;
     order = r.order;
     small = r.small;
-    home = home_set (r.turn (serving_word s)) s.homes s.views me v w at serves r.home;
-    each = each_set (IsQueued (ticket_word s) (serving_word s) r.turn) s.views me w mine (λ j u n e. r.each j u e);
+    home = home_set (r.taker (serving_word s)) s.homes s.views me v w at serves r.home;
+    each = each_set (IsQueued (ticket_word s) (serving_word s) r.taker) s.views me w mine (λ j u n e. r.each j u e);
   }
 
   -- the rule, at words that are known
   makes : (ws : List ℕ) (homes : List (maybe.Option (Option (Held M C R)))) (vs : List (View X C R)) (t n : ℕ) → get_or ws 0 0 ≡ t → get_or ws 1 0 ≡ n → length ws ≡ 2 → length homes ≡ 1 → n ≤ t → t < 2 ^ 64
-      → (turn : ℕ → ℕ) → HomeOrOut fit (turn n) homes vs → ((j : ℕ) (u : View X C R) → get_elem? vs j ≡ some u → IsQueued t n turn j u) → InTurn fit record { words = ws; homes = homes; views = vs }
-  makes ws homes vs t n et en two one le small turn home each = record {
-    turn = turn;
+      → (taker : ℕ → ℕ) → HomeOrOut fit (taker n) homes vs → ((j : ℕ) (u : View X C R) → get_elem? vs j ≡ some u → IsQueued t n taker j u) → InTurn fit record { words = ws; homes = homes; views = vs }
+  makes ws homes vs t n et en two one le small taker home each = record {
+    taker = taker;
     two = two;
     one = one;
     order = subst (λ (z : ℕ × ℕ). z.1 ≤ z.0) (λ i. (sym et i, sym en i)) le;
     small = subst (λ (z : ℕ). z < 2 ^ 64) (sym et) small;
-    home = subst (λ (z : ℕ). HomeOrOut fit (turn z) homes vs) (sym en) home;
-    each = subst (λ (z : ℕ × ℕ). (j : ℕ) (u : View X C R) → get_elem? vs j ≡ some u → IsQueued z.0 z.1 turn j u) (λ i. (sym et i, sym en i)) each;
+    home = subst (λ (z : ℕ). HomeOrOut fit (taker z) homes vs) (sym en) home;
+    each = subst (λ (z : ℕ × ℕ). (j : ℕ) (u : View X C R) → get_elem? vs j ≡ some u → IsQueued z.0 z.1 taker j u) (λ i. (sym et i, sym en i)) each;
   }
 
   -- the next ticket is taken
@@ -88,26 +88,26 @@ module _ {M X C R : Type 0} (fit : M → Type 0) where
       let n : ℕ = serving_word s in
       let w : View X C R = waiting v t in
       let vs : List (View X C R) = set s.views me w in
-      let turn : ℕ → ℕ = put r.turn t me in
+      let taker : ℕ → ℕ = put r.taker t me in
       let f = r.each me v at in
       let two = r.two in
       let le = r.order in
       makes (set s.words 0 new) s.homes vs (t + 1) n (get_or-set_same s.words 0 new 0 (omega arith) ∙ up) (get_or-set_other s.words 0 1 new 0 (λ e. omega arith))
-      (length-set s.words 0 new ∙ two) r.one (omega arith) (omega arith) turn
+      (length-set s.words 0 new ∙ two) r.one (omega arith) (omega arith) taker
       (⊎_elim (λ a. inl a)
-      (λ a. let b = away_below s r (r.turn n) a.0 a.2 a.3 in let l = b.0 in
-      subst (λ (q : ℕ). HomeOrOut fit q s.homes vs) (sym (put_else r.turn t me n (λ e. omega arith))) (home_set (r.turn n) s.homes s.views me v w at (λ h. off h rests) (inr a)))
+      (λ a. let b = away_below s r (r.taker n) a.0 a.2 a.3 in let l = b.0 in
+      subst (λ (q : ℕ). HomeOrOut fit q s.homes vs) (sym (put_else r.taker t me n (λ e. omega arith))) (home_set (r.taker n) s.homes s.views me v w at (λ h. off h rests) (inr a)))
       r.home)
-      (each_set (IsQueued (t + 1) n turn) s.views me w
+      (each_set (IsQueued (t + 1) n taker) s.views me w
       record {
-        ticket = λ h. (owns, le, omega arith, put_here r.turn t me t refl);
+        ticket = λ h. (owns, le, omega arith, put_here r.taker t me t refl);
         serving = λ h. off h rests;
         full = λ h. let z = f.full h in absurd (omega arith);
       }
       (λ j u other e.
       let g = r.each j u e in
       record {
-        ticket = λ h. let z = g.ticket h in let l = z.2 in (z.0, z.1, omega arith, put_else r.turn t me u.ticket (λ b. omega arith) ∙ z.3);
+        ticket = λ h. let z = g.ticket h in let l = z.2 in (z.0, z.1, omega arith, put_else r.taker t me u.ticket (λ b. omega arith) ∙ z.3);
         serving = g.serving;
         full = λ h. let z = g.full h in absurd (omega arith);
       }))
@@ -121,7 +121,7 @@ module _ {M X C R : Type 0} (fit : M → Type 0) where
       let f = r.each me v at in
       let k = f.ticket waits in
       subst (λ (ws : List ℕ). InTurn fit record { words = ws; homes = set s.homes 0 maybe.none; views = vs }) (sym (set-get_or s.words 1 0)) record {
-        turn = r.turn;
+        taker = r.taker;
         two = r.two;
         one = length-set s.homes 0 maybe.none ∙ r.one;
         order = r.order;
@@ -129,10 +129,10 @@ module _ {M X C R : Type 0} (fit : M → Type 0) where
         home = inr (
           w,
           now_at s.homes 0 (some (Some h)) maybe.none home,
-          subst (λ q. get_elem? vs q ≡ some w) (sym (ap r.turn mine ∙ k.3)) (now_at s.views me v w at),
+          subst (λ q. get_elem? vs q ≡ some w) (sym (ap r.taker mine ∙ k.3)) (now_at s.views me v w at),
           refl,
         );
-        each = each_set (IsQueued (ticket_word s) (serving_word s) r.turn) s.views me w
+        each = each_set (IsQueued (ticket_word s) (serving_word s) r.taker) s.views me w
             record {
               ticket = f.ticket;
               serving = λ _. (waits, sym mine);
@@ -155,13 +155,13 @@ module _ {M X C R : Type 0} (fit : M → Type 0) where
       let le = r.order in
       let small = r.small in
       let below : n < t = (away_below s r me v at serves).0 in
-      let seat : r.turn n ≡ me = (away_below s r me v at serves).1 in
+      let seat : r.taker n ≡ me = (away_below s r me v at serves).1 in
       let up : (n + 1) % 2 ^ 64 ≡ n + 1 = omega arith in
       makes (set s.words 1 ((n + 1) % 2 ^ 64)) (set s.homes 0 (some (Some h))) vs t (n + 1)
       (get_or-set_other s.words 1 0 ((n + 1) % 2 ^ 64) 0 (λ z. omega arith)) (get_or-set_same s.words 1 ((n + 1) % 2 ^ 64) 0 (omega arith) ∙ up)
-      (length-set s.words 1 ((n + 1) % 2 ^ 64) ∙ two) (length-set s.homes 0 (some (Some h)) ∙ one) (omega arith) small r.turn
+      (length-set s.words 1 ((n + 1) % 2 ^ 64) ∙ two) (length-set s.homes 0 (some (Some h)) ∙ one) (omega arith) small r.taker
       (inl (h, set_here s.homes 0 (some (Some h)) (omega arith), sound))
-      (each_set (IsQueued t (n + 1) r.turn) s.views me w
+      (each_set (IsQueued t (n + 1) r.taker) s.views me w
       record {
         ticket = λ no. off no refl;
         serving = λ no. off no refl;
@@ -170,7 +170,7 @@ module _ {M X C R : Type 0} (fit : M → Type 0) where
       (λ j u other at'.
       let g = r.each j u at' in
       record {
-        ticket = λ waits'. let z = g.ticket waits' in let least = z.1 in let apart : u.ticket ≢ n = (λ q. other (sym z.3 ∙ (ap r.turn q ∙ seat))) in (z.0, omega arith, z.2, z.3);
+        ticket = λ waits'. let z = g.ticket waits' in let least = z.1 in let apart : u.ticket ≢ n = (λ q. other (sym z.3 ∙ (ap r.taker q ∙ seat))) in (z.0, omega arith, z.2, z.3);
         serving = λ serves'. absurd (other (alone s r me j v u at serves at' serves'));
         full = g.full;
       }))
@@ -191,39 +191,39 @@ module _ {M X C R : Type 0} (fit : M → Type 0) where
   enters s r v =
       let w : View X C R = note_of v in
       record {
-        turn = r.turn;
+        taker = r.taker;
         two = r.two;
         one = r.one;
         order = r.order;
         small = r.small;
-        home = ⊎_elim (λ a. inl a) (λ a. inr (a.0, a.1, at_longer s.views (w ∷ []) (r.turn (serving_word s)) a.0 a.2, a.3)) r.home;
+        home = ⊎_elim (λ a. inl a) (λ a. inr (a.0, a.1, at_longer s.views (w ∷ []) (r.taker (serving_word s)) a.0 a.2, a.3)) r.home;
         each = λ j u e. ⊎_elim
             (λ (old : get_elem? s.views j ≡ some u). r.each j u old)
             (λ (new : (j ≡ length s.views) × (w ≡ u)).
-            subst (λ (z : View X C R). IsQueued (ticket_word s) (serving_word s) r.turn j z) new.1 (idle_queued (ticket_word s) (serving_word s) r.turn j w refl refl refl))
+            subst (λ (z : View X C R). IsQueued (ticket_word s) (serving_word s) r.taker j z) new.1 (idle_queued (ticket_word s) (serving_word s) r.taker j w refl refl refl))
             (at_end s.views w u j e);
       }
 
   -- a seat that has not the machine is spent, and another changes no more than what it has learned
   pub merges : (s : State (Option (Held M C R)) (View X C R)) (r : InTurn fit s) (me other : ℕ) (v u w : View X C R) → get_elem? s.views me ≡ some v → get_elem? (set s.views me w) other ≡ some u → u.serves ≡ false → (v.serves ≡ true → w.serves ≡ true)
-      → IsQueued (ticket_word s) (serving_word s) r.turn me w → InTurn fit record { words = s.words; homes = s.homes; views = set (set s.views me w) other nobody }
+      → IsQueued (ticket_word s) (serving_word s) r.taker me w → InTurn fit record { words = s.words; homes = s.homes; views = set (set s.views me w) other nobody }
   merges s r me other v u w at there rests serves mine =
       let vs : List (View X C R) = set s.views me w in
-      let P = IsQueued (ticket_word s) (serving_word s) r.turn in
+      let P = IsQueued (ticket_word s) (serving_word s) r.taker in
       record {
-        turn = r.turn;
+        taker = r.taker;
         two = r.two;
         one = r.one;
         order = r.order;
         small = r.small;
-        home = home_set (r.turn (serving_word s)) s.homes vs other u nobody there (λ h. off h rests) (home_set (r.turn (serving_word s)) s.homes s.views me v w at serves r.home);
-        each = each_set P vs other nobody (idle_queued (ticket_word s) (serving_word s) r.turn other nobody refl refl refl)
+        home = home_set (r.taker (serving_word s)) s.homes vs other u nobody there (λ h. off h rests) (home_set (r.taker (serving_word s)) s.homes s.views me v w at serves r.home);
+        each = each_set P vs other nobody (idle_queued (ticket_word s) (serving_word s) r.taker other nobody refl refl refl)
             (λ j z n e. each_set P s.views me w mine (λ i y n' e'. r.each i y e') j z e);
       }
 
   pub begins : (h : Held M C R) (o : X) → fit h.machine → InTurn fit (opening (0 ∷ 0 ∷ []) (Some h ∷ []) (first_pass o))
   begins h o sound = record {
-    turn = λ _. 0;
+    taker = λ _. 0;
     two = refl;
     one = refl;
     order = le_refl 0;

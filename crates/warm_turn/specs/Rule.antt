@@ -27,9 +27,9 @@ IsBoard table = (table.words ≡ 2) × (table.slots ≡ 1)
 -- The first pass: the words and the slot
 
 module _ {X C R : Type 0} where
-  -- what the words say of the seat j with the view v, where `turn` is the seat that took each ticket
-  pub record IsQueued (next served : ℕ) (turn : ℕ → ℕ) (j : ℕ) (v : View X C R) : Type 0 where
-    pub ticket : v.waits ≡ true → (v.owns ≡ true) × (served ≤ v.ticket) × (v.ticket < next) × (turn v.ticket ≡ j)
+  -- what the words say of the seat j with the view v, where `taker` is the seat that took each ticket
+  pub record IsQueued (next served : ℕ) (taker : ℕ → ℕ) (j : ℕ) (v : View X C R) : Type 0 where
+    pub ticket : v.waits ≡ true → (v.owns ≡ true) × (served ≤ v.ticket) × (v.ticket < next) × (taker v.ticket ≡ j)
     pub serving : v.serves ≡ true → (v.waits ≡ true) × (v.ticket ≡ served)
     pub full : v.found_last ≡ true → next + 1 ≡ 2 ^ 64
 
@@ -42,13 +42,13 @@ module _ {M X C R : Type 0} where
 
   -- tickets are served in the order in which they were taken, and the machine is out only with the holder of the served ticket
   pub record InTurn (fit : M → Type 0) (s : State (Option (Held M C R)) (View X C R)) : Type 0 where
-    pub turn : ℕ → ℕ
+    pub taker : ℕ → ℕ
     pub two : length s.words ≡ 2
     pub one : length s.homes ≡ 1
     pub order : serving_word s ≤ ticket_word s
     pub small : ticket_word s < 2 ^ 64
-    pub home : HomeOrOut fit (turn (serving_word s)) s.homes s.views
-    pub each : (j : ℕ) (v : View X C R) → get_elem? s.views j ≡ some v → IsQueued (ticket_word s) (serving_word s) turn j v
+    pub home : HomeOrOut fit (taker (serving_word s)) s.homes s.views
+    pub each : (j : ℕ) (v : View X C R) → get_elem? s.views j ≡ some v → IsQueued (ticket_word s) (serving_word s) taker j v
 
 -- The second pass: entries, old lists, numbers and own calls
 

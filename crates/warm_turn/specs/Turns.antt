@@ -129,6 +129,15 @@ module _ {X C R : Type 0} where
     pub opening : w.opening ≡ v.opening
     pub mark : v.found_last ≡ true → w.found_last ≡ true
 
+  -- the pass has seen more, and holds these passes besides. Else it is as before
+  pub record Widened (v : View X C R) (more : List (Ended C R)) (w : View X C R) : Type 0 where
+    pub seen : IsPrefix v.seen w.seen
+    pub mine : w.mine ≡ v.mine
+    pub number : w.number ≡ v.number
+    pub ended : w.ended ≡ v.ended ++ more
+    pub opening : w.opening ≡ v.opening
+    pub mark : w.found_last ≡ v.found_last
+
 -- What a closed turn gives: the machine is in a state that a history which is legal from the opening state reaches. The history begins with the list of the pass, and has no further entry of any number that the pass holds
 pub record IsLast {X C R : Type 0} (goes : X → C → R → X → Type 0) (opening : X) (v : View X C R) (x : X) : Type 0 where
   pub history : List (Entry C R)

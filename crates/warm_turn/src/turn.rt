@@ -161,6 +161,7 @@ fn pass_on<M: Machine>(
     ensures table { (place.new.table_id ≡ place.old.table_id) × (place.new.id ≡ place.old.id) }
     ensures added { HasPassedOn M.goes place.old.me call.value reply.now place.new.me }
 {
+    // Both are for the proof alone: the slot says which call was made.
     let _ = (call, reply);
     top.fetch_add::<PassOn>(place, 1, 1);
 }
