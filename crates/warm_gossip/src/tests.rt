@@ -9,11 +9,11 @@ use crate::node::Node;
 use std::alloc::Global;
 use std::process::Abort;
 use std::test::Fail;
-use warm_devices::{MemDevice, PageDevice};
+use warm_devices::{Flaky, MemDevice, PageDevice};
 use warm_frames::{Frame, encode};
 use warm_history::History;
 use warm_pool::{Pool, PoolFault, Slot};
-use warm_stamps::{ByteList, PageId, RefList, Reference, ReplicaId, Stamp};
+use warm_stamps::{Bucket, ByteList, PageId, RefList, Reference, ReplicaId, Stamp};
 
 const fn page(no: u32) -> PageId {
     PageId { dev: 0, no }
@@ -23,17 +23,38 @@ const fn slot(index: u32, generation: u64) -> Slot {
     Slot { index, generation }
 }
 
-// A node of so many frames over a device of 256 pages of 16 bytes.
-fn fresh(alloc: Global, id: u16, frames: usize) -> Result<Node, Fail>
+// A node of so many frames over a device whose pages have 16 bytes.
+fn over(
+    alloc: Global,
+    id: u16,
+    frames: usize,
+    device: Box<dyn PageDevice + Send>,
+) -> Result<Node, Fail>
     ensures { IfOk result (λ node. IsFit state node) }
 {
-    let device: Box<dyn PageDevice + Send> = Box::new(alloc, MemDevice::new(alloc, 256, 16)?)?;
     let mut devices = Vec::with_capacity(alloc, 1)?;
     devices.push_reserved(device);
     match Pool::new(alloc, frames, 16, devices) {
         Ok(pool) => Ok(Node::new(alloc, ReplicaId::new(id)?, pool)),
         Err(_) => Err("no pool".into()),
     }
+}
+
+// A node of so many frames over a device of 256 pages.
+fn fresh(alloc: Global, id: u16, frames: usize) -> Result<Node, Fail>
+    ensures { IfOk result (λ node. IsFit state node) }
+{
+    let device: Box<dyn PageDevice + Send> = Box::new(alloc, MemDevice::new(alloc, 256, 16)?)?;
+    over(alloc, id, frames, device)
+}
+
+// A node of one frame over a device of 8 pages, whose first call fails.
+fn flaky(alloc: Global) -> Result<Node, Fail>
+    ensures { IfOk result (λ node. IsFit state node) }
+{
+    let memory = MemDevice::new(alloc, 8, 16)?;
+    let device: Box<dyn PageDevice + Send> = Box::new(alloc, Flaky::new(memory, 1))?;
+    over(alloc, 1, 1, device)
 }
 
 fn call(node: &mut Node, call: Call) -> Reply
@@ -73,14 +94,57 @@ fn told(
     Ok(())
 }
 
+fn pinned_at(node: &mut Node, page: PageId) -> Result<Slot, NodeFault>
+    requires { IsFit state node.old }
+    ensures { IsFit state node.new }
+{
+    match node.call(Call::Pin(page)) {
+        Reply::Pinned(slot) => Ok(slot),
+        Reply::Refused(fault) => Err(fault),
+        _ => Err(NodeFault::Memory),
+    }
+}
+
 fn pinned(node: &mut Node, no: u32) -> Result<Slot, NodeFault>
     requires { IsFit state node.old }
     ensures { IsFit state node.new }
 {
-    match node.call(Call::Pin(page(no))) {
-        Reply::Pinned(slot) => Ok(slot),
-        Reply::Refused(fault) => Err(fault),
-        _ => Err(NodeFault::Memory),
+    pinned_at(node, page(no))
+}
+
+// Pins a page and takes the fix away again.
+fn visit(node: &mut Node, no: u32) -> Result<(), Fail>
+    requires { IsFit state node.old }
+    ensures { IsFit state node.new }
+{
+    let Ok(slot) = pinned(node, no) else {
+        return Err("the page is pinned".into());
+    };
+    match is_done(node, Call::Unpin(slot)) {
+        Ok(()) => Ok(()),
+        Err(_) => Err("the fix is taken away".into()),
+    }
+}
+
+fn victim(node: &mut Node) -> Result<Option<PageId>, Fail>
+    requires { IsFit state node.old }
+    ensures { IsFit state node.new }
+{
+    match node.call(Call::Victim) {
+        Reply::Page(page) => Ok(page),
+        _ => Err("the victim is named".into()),
+    }
+}
+
+// The frame of the first entries of bucket 1.
+fn sent(node: &mut Node, after: Option<PageId>) -> Result<Frame, Fail>
+    requires { IsFit state node.old }
+    ensures { IsFit state node.new }
+{
+    let bucket = Bucket::new(1).ok_or("a bucket")?;
+    match node.call(Call::Send { bucket, after }) {
+        Reply::Sent(frame) => Ok(frame),
+        _ => Err("the bucket is sent".into()),
     }
 }
 
@@ -225,6 +289,80 @@ fn a_restart_waits_for_fixes(rt: HostRuntime) -> Result<(), Fail> {
         return Err("the byte is read".into());
     };
     assert_eq!(rt; read.as_slice(), [0xAB].as_slice());
+    Ok(())
+}
+
+#[test]
+fn the_greatest_distance_leaves_first(rt: HostRuntime) -> Result<(), Fail> {
+    let alloc = rt.alloc();
+    let mut node = fresh(alloc, 1, 4)?;
+    told(&rt, alloc, &mut node, &[(1, 1), (1, 2), (5, 10), (6, 11)])?;
+    visit(&mut node, 1)?;
+    visit(&mut node, 5)?;
+    visit(&mut node, 6)?;
+    assert_eq!(rt; victim(&mut node)?, Some(page(5)), "the scan leaves first");
+    let mut node = fresh(alloc, 1, 4)?;
+    told(&rt, alloc, &mut node, &[(1, 1), (1, 100), (2, 50), (2, 60)])?;
+    visit(&mut node, 1)?;
+    visit(&mut node, 2)?;
+    assert_eq!(rt; victim(&mut node)?, Some(page(1)), "distance 3 against 2");
+    Ok(())
+}
+
+#[test]
+fn pages_with_a_fix_stay(rt: HostRuntime) -> Result<(), Fail> {
+    let alloc = rt.alloc();
+    let mut node = fresh(alloc, 1, 2)?;
+    assert_eq!(rt; pinned(&mut node, 3), Ok(slot(0, 1)));
+    assert_eq!(rt; pinned(&mut node, 4), Ok(slot(1, 1)));
+    assert_eq!(rt; victim(&mut node)?, None);
+    let all_fixed = NodeFault::Pool(PoolFault::AllFixed);
+    assert_eq!(rt; pinned(&mut node, 5), Err(all_fixed));
+    assert_eq!(rt; (all_fixed.code(), all_fixed.name()), (6, "AllFixed"));
+    told(&rt, alloc, &mut node, &[(9, 1)])?;
+    assert_eq!(rt; loaded(&mut node), Err(all_fixed));
+    assert_eq!(rt; is_done(&mut node, Call::Unpin(slot(1, 1))), Ok(()));
+    assert_eq!(rt; victim(&mut node)?, Some(page(4)));
+    assert_eq!(rt; loaded(&mut node), Ok(Some(page(9))));
+    Ok(())
+}
+
+#[test]
+fn pages_that_cannot_come_in_are_refused(rt: HostRuntime) -> Result<(), Fail> {
+    let alloc = rt.alloc();
+    let mut node = flaky(alloc)?;
+    let elsewhere = PageId { dev: 1, no: 0 };
+    let no_device = NodeFault::Pool(PoolFault::NoDevice);
+    assert_eq!(rt; pinned_at(&mut node, elsewhere), Err(no_device));
+    assert_eq!(rt;
+        pinned(&mut node, 8),
+        Err(NodeFault::Pool(PoolFault::NoPage))
+    );
+    told(&rt, alloc, &mut node, &[(1, 1), (1, 2)])?;
+    assert_eq!(rt;
+        loaded(&mut node),
+        Err(NodeFault::Pool(PoolFault::ReadFault))
+    );
+    assert_eq!(rt; loaded(&mut node), Ok(Some(page(1))));
+    assert_eq!(rt; loaded(&mut node), Ok(None));
+    Ok(())
+}
+
+#[test]
+fn what_was_sent_comes_back_after_a_restart(rt: HostRuntime) -> Result<(), Fail> {
+    let alloc = rt.alloc();
+    let mut node = fresh(alloc, 1, 4)?;
+    told(&rt, alloc, &mut node, &[(1, 10), (1, 20)])?;
+    let known = node.history().at(0);
+    let frame = sent(&mut node, None)?;
+    assert_eq!(rt; entries_in(&frame), 1);
+    let rest = sent(&mut node, Some(page(1)))?;
+    assert_eq!(rt; entries_in(&rest), 0);
+    assert_eq!(rt; is_done(&mut node, Call::Restart), Ok(()));
+    assert_eq!(rt; node.history().len(), 0);
+    assert_eq!(rt; answers(&mut node, frame)?.len(), 0);
+    assert_eq!(rt; node.history().at(0), known);
+    assert_eq!(rt; node.history().len(), 1);
     Ok(())
 }
 
