@@ -283,41 +283,43 @@ fn warms_the_hottest_first(rt: HostRuntime) {
     assert_eq!(rt; none.as_slice().len(), 0);
 }
 
-// No clause forbids that memory is said to be wanting while there is plenty, so a long list is run.
-#[test]
-fn seventy_thousand_events_run_at_once(rt: HostRuntime) -> Result<(), Fail> {
-    let mut world = opened(&rt, rt.alloc(), 1);
-    let mut events = Vec::new(rt.alloc());
-    for time in 0..70_000u64 {
-        let page = PageId {
-            dev: 0,
-            no: (time % 10_000) as u32,
+// References to 10,000 pages in turn, one at each time, all in one run.
+fn referred_in_turn(rt: &impl Abort, alloc: Global, world: &mut World, count: u64) {
+    let mut events = Vec::new(alloc);
+    for time in 0..count {
+        let no = (time % 10_000) as u32;
+        let Ok(()) = events.push(Event::Refer(1, 1, PageId { dev: 0, no }, time)) else {
+            panic!(rt; "memory is ample");
         };
-        events.push(Event::Refer(1, 1, page, time))?;
     }
     let Ok(answers) = world.run(events) else {
         panic!(rt; "memory is ample");
     };
-    assert_eq!(rt; answers.len(), 70_000);
+    assert_eq!(rt; answers.len() as u64, count);
     for answer in &answers {
         let Answer::Done = answer else {
             panic!(rt; "each reference is taken");
         };
     }
+}
+
+// No clause forbids that memory is said to be wanting while there is plenty, so a long list is run. Each page
+// is referenced seven times, in turn: the last of them is the hottest.
+#[test]
+fn seventy_thousand_events_run_at_once(rt: HostRuntime) {
+    let mut world = opened(&rt, rt.alloc(), 1);
+    referred_in_turn(&rt, rt.alloc(), &mut world, 70_000);
     done(&rt, &mut world, Event::Flush(1, 1));
     let Answer::Pages(pages) = world.step(Event::Warm(1, 10_000)) else {
         panic!(rt; "the replica has a warm-up list");
     };
-    // Each page was referenced seven times, in turn: the last of them is the hottest.
-    let ends = [0, 9_999].map(|place| pages.as_slice().get(place).map(|page| page.no));
-    assert_eq!(rt; ends, [Some(9_999), Some(0)]);
+    assert_eq!(rt; pages.as_slice().len(), 10_000);
+    let hottest = PageId { dev: 0, no: 9_999 };
+    assert_eq!(rt; pages.as_slice().first().copied(), Some(hottest));
     let Answer::Shown(history) = world.step(Event::Show(1)) else {
         panic!(rt; "the replica is shown");
     };
     assert_eq!(rt; history.len(), 10_000);
-    let hottest = history.at(9_999).map(|entry| seen(entry.hist));
-    assert_eq!(rt; hottest, Some((69_999, 1, Some((59_999, 1)))));
-    Ok(())
 }
 
 impl Replica {
