@@ -1,7 +1,6 @@
 -- What has been drawn and written, line by line.
 use Rattle.std.proofs.Common.{◌≡◌, ℕ, ◌+◌, ◌≤◌, Bool, true, false, cond, List, [], ◌∷◌, ◌++◌, Option, Some, None, refl, sym, ap, arith, ◌∙◌, append_assoc, add-one, count_by, flat_map}
 use Rattle.std.specs.Prelude.{nat_le}
-use Rattle.std.specs.Io.KnownBytes.{Appends}
 use Rattle.std.proofs.lemmas.List.{append-nil}
 use Rattle.std.proofs.lemmas.Grind.{flat_map-append}
 use Rattle.std.proofs.lemmas.List.Concat.{flat_map-cons}
@@ -11,16 +10,6 @@ use Rattle.rand_pcg.specs.Lcg.{Lcg}
 use Rattle.warm_random.specs.Drawing.{Draw, ◌>>=◌, always, below, up_to, fields, line, is_send, lines, line_text}
 use Rattle.warm_random.specs.declared.Line.{Line}
 use Rattle.warm_random.specs.declared.Line.TheVariants.{Ref}
-
-pub Appends-none : (old : Option (List ℕ)) → Appends old old []
-Appends-none None = tt
-Appends-none (Some xs) = sym (append-nil xs)
-
-pub Appends-then : (a b c : Option (List ℕ)) (x y : List ℕ) → Appends a b x → Appends b c y → Appends a c (x ++ y)
-Appends-then None b c x y h k = tt
-Appends-then (Some xs) None c x y h k = absurd h
-Appends-then (Some xs) (Some ys) None x y h k = absurd k
-Appends-then (Some xs) (Some ys) (Some zs) x y h k = k ∙ ap (λ (t : List ℕ). t ++ y) h ∙ append_assoc xs x y
 
 -- what is drawn first, and then the rest
 drawn_then : {A B : Type 0} (first : Draw A) (next : A → Draw B) (a : A) (g g1 : Lcg) (rest : B × Lcg) → (a, g1) ≡ first g → rest ≡ next a g1 → rest ≡ (first >>= next) g

@@ -74,16 +74,6 @@ says held line read is h = ap (λ (r : Result Line LineFault). result_ok r) is �
 
 -- ---- what was written
 
-pub Appends-none : (old : Option (List ℕ)) → Appends old old []
-Appends-none None = tt
-Appends-none (Some xs) = sym (append-nil xs)
-
-pub Appends-then : (a b c : Option (List ℕ)) (x y : List ℕ) → Appends a b x → Appends b c y → Appends a c (x ++ y)
-Appends-then None b c x y h k = tt
-Appends-then (Some xs) None c x y h k = absurd h
-Appends-then (Some xs) (Some ys) None x y h k = absurd k
-Appends-then (Some xs) (Some ys) (Some zs) x y h k = k ∙ ap (λ (t : List ℕ). t ++ y) h ∙ append_assoc xs x y
-
 pub Appends-kept : (a b c : Option (List ℕ)) (x : List ℕ) → Appends a b x → Keeps b c → Appends a c x
 Appends-kept None b c x h k = tt
 Appends-kept (Some xs) None c x h k = absurd h

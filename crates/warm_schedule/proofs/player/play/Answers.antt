@@ -1,7 +1,8 @@
 use Rattle.std.proofs.Common.{◌≡◌, List, ℕ, [], ◌++◌, subst, sym, arith}
 use Rattle.warm_world.specs.States.{ModelState, opening}
 use Rattle.warm_schedule.specs.Printed.{Printed}
-use Rattle.warm_schedule.proofs.Stream.{Appends-none, Appends-then, Consumes-none, Consumes-then, Consumes-all, if_some_map, Goes-none, Goes-then, Goes-whole}
+use Rattle.warm_random.proofs.Written.{Appends-none, Appends-then}
+use Rattle.warm_schedule.proofs.Stream.{Consumes-none, Consumes-then, Consumes-all, if_some_map, Goes-none, Goes-then, Goes-whole}
 use Rattle.warm_schedule.proofs.player.play.Goals as goal
 
 pub loop-init : goal.loop-init

@@ -1,7 +1,8 @@
 use Rattle.std.proofs.Common.{[], ap, ◌∙◌, Some}
 use Rattle.std.specs.Result.{result_ok}
 use Rattle.warm_schedule.specs.Answers.{answer_text, bad_line}
-use Rattle.warm_schedule.proofs.Stream.{Appends-none, answers_event, answers_bad, answers_nothing, done}
+use Rattle.warm_random.proofs.Written.{Appends-none}
+use Rattle.warm_schedule.proofs.Stream.{answers_event, answers_bad, answers_nothing, done}
 use Rattle.warm_schedule.proofs.player.Session.answer.Goals as goal
 
 pub returns-in_ok-map_err-in-Err-clause-answered : goal.returns-in_ok-map_err-in-Err-clause-answered

@@ -1,7 +1,8 @@
 use Rattle.std.proofs.Common.{List, ℕ, [], ◌∷◌, ◌++◌, take, get_or, subst, sym, arith}
 use Rattle.std.proofs.lemmas.List.{take_more, take_all}
 use Rattle.warm_schedule.specs.Stream.{Goes}
-use Rattle.warm_schedule.proofs.Stream.{Appends-none, Appends-then, Goes-none, Goes-then}
+use Rattle.warm_random.proofs.Written.{Appends-none, Appends-then}
+use Rattle.warm_schedule.proofs.Stream.{Goes-none, Goes-then}
 use Rattle.warm_schedule.proofs.player.Session.feed.Goals as goal
 
 pub loop-byte-init : goal.loop-byte-init

@@ -1,6 +1,7 @@
 use Rattle.std.proofs.Common.{[]}
 use Rattle.std.specs.Io.KnownBytes.{Consumes}
-use Rattle.warm_schedule.proofs.Stream.{Appends-none, Consumes-kept, Goes-none}
+use Rattle.warm_random.proofs.Written.{Appends-none}
+use Rattle.warm_schedule.proofs.Stream.{Consumes-kept, Goes-none}
 use Rattle.warm_schedule.proofs.player.Session.read_some.Goals as goal
 
 pub returns-in-Ok-eq0-clause-goes : goal.returns-in-Ok-eq0-clause-goes

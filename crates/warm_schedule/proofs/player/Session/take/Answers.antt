@@ -1,5 +1,6 @@
 use Rattle.std.proofs.Common.{[]}
-use Rattle.warm_schedule.proofs.Stream.{Appends-none, Goes-add}
+use Rattle.warm_random.proofs.Written.{Appends-none}
+use Rattle.warm_schedule.proofs.Stream.{Goes-add}
 use Rattle.warm_schedule.proofs.player.Session.take.Goals as goal
 
 pub returns-in-Ok-clause-goes : goal.returns-in-Ok-clause-goes
