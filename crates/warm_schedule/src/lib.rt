@@ -15,4 +15,4 @@ pub use parse::{Line, LineFault, MAX_LINE, parse_line};
 pub use player::play;
 pub use printer::{print_answer, print_bad_line};
 pub use random::random_schedule;
-pub use warm_playfault::PlayFault;
+pub use warm_play_fault::PlayFault;

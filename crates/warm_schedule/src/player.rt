@@ -9,7 +9,7 @@ use crate::parse::{Line, MAX_LINE, parse_line};
 use crate::printer::{print_answer, print_bad_line};
 use std::alloc::{AllocError, Global};
 use std::io::{ErrorKind, Read, Write};
-use warm_playfault::PlayFault;
+use warm_play_fault::PlayFault;
 use warm_world::{Setup, World};
 
 // A world, and the line that has begun: its bytes, no more of them than make it too long.

@@ -4,7 +4,7 @@ ghost use Rattle.warm_random.specs.Drawing.{schedule_text};
 ghost use Rattle.warm_schedule.specs.Answers.{Prints};
 
 use std::io::Write;
-use warm_playfault::PlayFault;
+use warm_play_fault::PlayFault;
 use warm_random::write_schedule;
 use warm_world::Setup;
 

@@ -7,7 +7,7 @@ use Rattle.warm_setup.specs.declared.command.CmdFault.{CmdFault}
 use Rattle.warm_setup.specs.declared.command.CmdFault.TheVariants as command
 use Rattle.warm_setup.specs.declared.outcome.RunFault.{RunFault}
 use Rattle.warm_setup.specs.declared.outcome.RunFault.TheVariants.{Command, CannotOpen, Setup, Play}
-use Rattle.warm_playfault.specs.Faults.{play_fault_name}
+use Rattle.warm_play_fault.specs.Faults.{play_fault_name}
 use Rattle.warm_setup.specs.SetupFaults.{name_of}
 
 -- what was asked for is no mistake

@@ -10,7 +10,7 @@ use crate::setup::SetupFault;
 use clap::error::ErrorKind;
 use std::io::{self, Write};
 use std::marker::Model;
-use warm_playfault::PlayFault;
+use warm_play_fault::PlayFault;
 
 /// Why a run of the program came to no end. They are found in this order: the command line, the setup file, its text,
 /// the schedule's file, the play.

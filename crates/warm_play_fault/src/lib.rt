@@ -5,7 +5,7 @@
 #![tactic(auto)]
 
 ghost use Rattle.std.specs.Prelude.{◌≡◌};
-ghost use Rattle.warm_playfault.specs.Faults.{play_fault_code, play_fault_name};
+ghost use Rattle.warm_play_fault.specs.Faults.{play_fault_code, play_fault_name};
 
 use thiserror::Error;
 

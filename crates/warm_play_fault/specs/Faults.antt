@@ -1,7 +1,7 @@
 -- The numbers and names of the faults of a play.
 use Rattle.std.specs.Prelude.{ℕ, List, codes}
-use Rattle.warm_playfault.specs.declared.PlayFault.{PlayFault}
-use Rattle.warm_playfault.specs.declared.PlayFault.TheVariants.{Memory, ReadFault, WriteFault}
+use Rattle.warm_play_fault.specs.declared.PlayFault.{PlayFault}
+use Rattle.warm_play_fault.specs.declared.PlayFault.TheVariants.{Memory, ReadFault, WriteFault}
 
 abbrev pub play_fault_code : PlayFault → ℕ
 play_fault_code Memory = 1
