@@ -1,9 +1,9 @@
-use Rattle.std.proofs.Common.{◌≡◌, ℕ, ◌+◌, ◌<◌, ◌≤◌, subst, length, get_or, [], ap, refl, arith, inl, inr, true, false}
+use Rattle.std.proofs.Common.{◌≡◌, ◌<◌, ◌≤◌, length, get_or, [], ap, refl, arith, inl, inr, true, false}
 use Rattle.std.proofs.lemmas.Bool.{cases_lt}
 use Rattle.warm_refbuffer.specs.Buffered.{Buffered}
-use Rattle.warm_world.specs.States.{pending, flushed, put_last}
+use Rattle.warm_world.specs.States.{pending, flushed}
 use Rattle.warm_world.specs.Next.{stamped}
-use Rattle.warm_world.specs.Stands.{buffered, ReplicaStands}
+use Rattle.warm_world.specs.Stands.{buffered}
 use Rattle.warm_world.proofs.Replicas.{buffer_is, referred_when_full, referred_with_room, flushed_is_empty}
 use Rattle.warm_world.proofs.world.Replica.refer.Goals as goal
 
