@@ -1,5 +1,6 @@
 -- What a history that takes something in says of the pages that it is not told of: what it said before.
 use Rattle.std.proofs.Common.{◌≡◌, suc, false, List, [], ◌∷◌, ◌++◌, map, sym, ap, refl, subst, ◌∙◌, arith}
+use Rattle.std.proofs.lemmas.List.{append-nil}
 use Rattle.std.specs.List.{Contains}
 use Rattle.std.specs.Ordering.{is_eq, flip_args}
 use Rattle.warm_stamps.specs.declared.PageId.{PageId}
@@ -31,14 +32,10 @@ untold_entries (e ∷ es) p unnamed =
     ∙ ap (λ ss. ss ++ told (refs es) p) (told_entry e.page e.hist p)
     ∙ (rw (differs e.page p (λ is. unnamed (0, omega arith, is))) (untold_entries es p (λ has. unnamed (suc has.0, omega arith, has.2))))
 
-append_nil : {A : Type 0} (xs : List A) → xs ++ [] ≡ xs
-append_nil [] = refl
-append_nil (x ∷ xs) = ap (λ t. x ∷ t) (append_nil xs)
-
 hist_as_before : (S T : List Reference) (p : PageId) → told T p ≡ [] → hist S p ≡ hist (refs (history (S ++ T))) p
 hist_as_before S T p none =
     sym (hist_refs-history (S ++ T) p
-    ∙ ap (λ ss. first_two (distinct (flip_args stamp_cmp) ss)) (told-append S T p ∙ ap (λ ss. told S p ++ ss) none ∙ append_nil (told S p)))
+    ∙ ap (λ ss. first_two (distinct (flip_args stamp_cmp) ss)) (told-append S T p ∙ ap (λ ss. told S p ++ ss) none ∙ append-nil (told S p)))
 
 -- a history that takes references in agrees with itself outside their pages
 pub absorbed_agrees : (h : HistoryView) (batch : List Reference) → AgreeOutside (map (λ r. r.page) batch) h (history (refs h ∪ these batch))

@@ -110,6 +110,7 @@ pub(crate) fn wanted_frames(
 ) -> Result<Vec<Frame>, AllocError>
     ensures { IfOk result (λ frames. frames.items ≡ wanted_frames id history.now mask) }
 {
+    // Asked for what holds of every history: its pages rise.
     let _whole = history.len();
     let lists = gathered(alloc, history, mask)?;
     frames_of(alloc, id, lists)

@@ -89,6 +89,7 @@ impl Node {
     pub fn send(&self, bucket: Bucket, after: Option<PageId>) -> Result<Frame, NodeFault>
         ensures { Answered state self.now (Send bucket after) Sent result self.now }
     {
+        // Asked for what holds of every history: its pages rise.
         let _whole = self.history.len();
         let Ok(entries) = self.history.entries(bucket, after, MAX_ENTRIES) else {
             return Err(NodeFault::Memory);
@@ -125,6 +126,7 @@ impl Node {
     pub fn warm_list(&self, n: usize) -> Result<PageList, NodeFault>
         ensures { Answered state self.now (WarmList n) Pages result self.now }
     {
+        // Asked for what holds of every history: its pages rise.
         let _whole = self.history.len();
         match warm_list(self.alloc, &self.history, n) {
             Ok(pages) => Ok(PageList::of(pages)),

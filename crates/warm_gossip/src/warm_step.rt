@@ -22,6 +22,7 @@ impl Node {
         ensures fit { IsFit state self.new }
         ensures step { Answered state self.old WarmStep Loaded result self.new }
     {
+        // Asked for what holds of every history: its pages rise.
         let _whole = self.history.len();
         let Ok(pages) = warm_list(self.alloc, &self.history, self.pool.frames()) else {
             return Err(NodeFault::Memory);
