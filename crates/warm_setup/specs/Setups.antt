@@ -90,8 +90,8 @@ unfoldable pub devices_of : List Data → Result (List DeviceSpec) SetupFault
 devices_of found =
     if list_all is_table found
     then (if nat_le 1 (length found) && nat_le (length found) MAX_DEVICES
-        then each device_in found
-        else Err BadValue)
+    then each device_in found
+    else Err BadValue)
     else Err BadKey
 
 unfoldable pub devices_in : Data → Result (List DeviceSpec) SetupFault

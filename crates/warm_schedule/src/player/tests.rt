@@ -350,7 +350,9 @@ fn answers_are_handed_on_before_the_next_read(rt: HostRuntime) -> Result<(), Fai
         rest: b"show 1\nshow 9\nx",
         is_ready: false,
     };
-    let mut writer = Marked { taken: Vec::new(rt.alloc()) };
+    let mut writer = Marked {
+        taken: Vec::new(rt.alloc()),
+    };
     play(rt.alloc(), &mut reader, &mut writer, default_setup())?;
     assert_eq!(rt;
         str::from_utf8(writer.taken.as_slice())?,
