@@ -17,13 +17,10 @@ use crate::fault::{PoolFault, Unmade};
 use crate::frames::Frames;
 use crate::slot::Slot;
 use std::alloc::{AllocError, Global};
-use warm_devices::{DeviceFault, PageDevice};
+use warm_devices::{DeviceFault, MAX_PAGE_SIZE, PageDevice};
 use warm_history::History;
-use warm_rank::{RankKey, key_of};
+use warm_rank::{MAX_SLOTS, RankKey, key_of};
 use warm_stamps::PageId;
-
-/// The most frames of a pool, and the most bytes of a page.
-const MOST: usize = 65_536;
 
 /// Pages of devices in frames.
 ///
@@ -65,8 +62,8 @@ impl Pool {
     /// There may be 65,536 devices at most.
     ///
     /// # Errors
-    /// `BadFrames` where `frames` is outside 1 to 65,536; else `SizeDiffers` where `page_size` is, or is not that of each device; else
-    /// `Memory`. Each hands the devices back.
+    /// `BadFrames` where `frames` is outside 1 to [`warm_rank::MAX_SLOTS`]; else `SizeDiffers` where `page_size` is outside 1 to
+    /// [`MAX_PAGE_SIZE`], or is not that of each device; else `Memory`. Each hands the devices back.
     pub fn new(
         alloc: Global,
         frames: usize,
@@ -496,14 +493,14 @@ fn shape_fault(
     page_size: usize,
     devices: &[Box<dyn PageDevice + Send>],
 ) -> Option<PoolFault>
-    ensures { MatchOption result (IsUpTo 65536 frames
+    ensures { MatchOption result (IsUpTo MAX_SLOTS frames
         × IsSize page_size (map (λ b. state b) devices.now))
         (λ fault. NewRefused frames page_size (map (λ b. state b) devices.now) fault) }
 {
-    if frames < 1 || frames > MOST {
+    if frames < 1 || frames > MAX_SLOTS {
         return Some(PoolFault::BadFrames);
     }
-    if page_size < 1 || page_size > MOST || !all_sized(devices, page_size) {
+    if page_size < 1 || page_size > MAX_PAGE_SIZE || !all_sized(devices, page_size) {
         return Some(PoolFault::SizeDiffers);
     }
     None
@@ -512,7 +509,7 @@ fn shape_fault(
 // The frames and the spare buffer of a pool.
 fn parts(alloc: Global, frames: usize, page_size: usize) -> Result<(Frames, Vec<u8>), AllocError>
     requires some { 0 < frames }
-    requires few { frames ≤ 65536 }
+    requires few { frames ≤ MAX_SLOTS }
     ensures { IfOk result (λ made. (made.0 ≡ unused_frames frames page_size)
         × (length made.1.items ≡ page_size)) }
 {
