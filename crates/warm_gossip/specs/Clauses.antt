@@ -7,7 +7,8 @@ use Rattle.warm_history.specs.declared.hist.Entry.{Entry}
 use Rattle.warm_devices.specs.Device.{DeviceState}
 use Rattle.warm_pool.specs.declared.fault.PoolFault.TheVariants.{Fault}
 use Rattle.warm_pool.specs.declared.pool.Pool as pool
-use Rattle.warm_pool.specs.State.{PoolState, IsSettled, pool_of, view_of}
+use Rattle.warm_pool.specs.Clauses.{pool_state}
+use Rattle.warm_pool.specs.State.{IsSettled, view_of}
 use Rattle.warm_pool.specs.View.{frame_at}
 use Rattle.warm_gossip.specs.declared.call.Call.{Call}
 use Rattle.warm_gossip.specs.declared.call.Reply.{Reply}
@@ -19,11 +20,7 @@ use Rattle.warm_gossip.specs.Answers.{joined_with}
 use Rattle.warm_gossip.specs.State.{NodeState, NodeView, IsNode, node_view}
 use Rattle.warm_gossip.specs.Step.{IsFailed, OnPool, Step}
 
--- what a pool holds
-abbrev pub pool_state : {X : Type 0} {P : X → Type 0} → (DynBox X Global P → DeviceState) → pool.Pool X P → PoolState
-pool_state state p = pool_of state p.frames (length p.spare.items) p.devices.items
-
--- it has no page
+-- a pool has no page
 abbrev pub IsBare : {X : Type 0} {P : X → Type 0} → (DynBox X Global P → DeviceState) → pool.Pool X P → Type 0
 IsBare state p = (i : ℕ) → (frame_at (view_of (pool_state state p)) i).page ≡ None
 

@@ -4,7 +4,8 @@ ghost use Rattle.warm_pool.specs.State.{IsPool};
 ghost use Rattle.warm_gossip.specs.declared.call.Call.TheVariants.{Restart};
 ghost use Rattle.warm_gossip.specs.declared.call.Reply.TheVariants.{Done};
 ghost use Rattle.warm_gossip.specs.State.{NodeState, NodeView, opened};
-ghost use Rattle.warm_gossip.specs.Clauses.{Answered, Goes, IsAtRest, IsBare, IsFit, node_state, pool_state, shown};
+ghost use Rattle.warm_pool.specs.Clauses.{pool_state};
+ghost use Rattle.warm_gossip.specs.Clauses.{Answered, Goes, IsAtRest, IsBare, IsFit, node_state, shown};
 
 use crate::call::{Call, Reply};
 use crate::fault::NodeFault;

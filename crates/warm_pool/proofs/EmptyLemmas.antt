@@ -8,6 +8,7 @@ use Rattle.warm_stamps.specs.declared.PageId.{PageId}
 use Rattle.warm_history.specs.Histories.{HistoryView, hist, refs}
 use Rattle.warm_rank.specs.Keys.{rank_key}
 use Rattle.warm_devices.specs.Device.{DeviceState, page_at}
+use Rattle.warm_rank.specs.declared.TheConstants.{MAX_SLOTS}
 use Rattle.warm_pool.specs.Frames.{FrameState, FramesState, nth_frame, fresh_frame, vacated}
 use Rattle.warm_pool.specs.State.{PoolState, IsPool, IsNowhere, IsSettled, nth_device, stored, view_of, frame_view, bytes_of}
 use Rattle.warm_pool.specs.View.{PoolView, HasPage, contents_at, device_at}
@@ -90,7 +91,7 @@ vacated_pool which s unfixed w =
     let count = length-vacated which s.frames in
     record {
       some_frames = subst (λ n. 0 < n) (sym count) w.some_frames;
-      few_frames = subst (λ n. n ≤ 65536) (sym count) w.few_frames;
+      few_frames = subst (λ n. n ≤ MAX_SLOTS) (sym count) w.few_frames;
       some_bytes = w.some_bytes;
       few_bytes = w.few_bytes;
       few_devices = w.few_devices;

@@ -8,9 +8,9 @@ use Rattle.warm_pool.specs.declared.slot.Slot.{Slot}
 use Rattle.warm_pool.specs.declared.fault.PoolFault.{PoolFault}
 use Rattle.warm_pool.specs.Frames.{FrameState, nth_frame, fresh_frame}
 use Rattle.warm_pool.specs.State.{PoolState, IsNowhere, view_of}
-use Rattle.warm_pool.specs.View.{HasPage}
+use Rattle.warm_pool.specs.View.{HasPage, IsPlace}
 use Rattle.warm_pool.specs.Calls.{LoadRefused}
-use Rattle.warm_pool.specs.Steps.{LoadsInto}
+use Rattle.warm_pool.specs.Steps.{LoadsInto, LoadFails}
 use Rattle.warm_pool.specs.Keeping.{KeepsOthers, KeepsBytes, TakesFrame, WritesDirty}
 use Rattle.warm_pool.proofs.Bytes.{absent_seen, frame_seen}
 
@@ -48,3 +48,9 @@ loaded_takes s t i p key n l there away slot at =
 -- a page that no device has is not refused for a write
 pub unknown_writes_none : (h : HistoryView) (s : PoolState) (p : PageId) → (HasPage (view_of s) p → ⊥) → (why : PoolFault) → LoadRefused h (view_of s) p why (view_of s) → WritesDirty h s why
 unknown_writes_none h s p hasnt why refused is = absurd (hasnt (subst (λ x. LoadRefused h (view_of s) p x (view_of s)) is refused).0)
+
+-- where the page that would leave could not be written, its frame is dirty
+pub failed_writes_dirty : (h : HistoryView) (s t : PoolState) (i : ℕ) (p : PageId) → IsPlace h (view_of s) (Some i)
+    → (why : PoolFault) → LoadFails s i p why t → WritesDirty h s why
+failed_writes_dirty h s t i p place why fails is =
+    let failed = subst (λ x. LoadFails s i p x t) is fails in record { frame = i; place = place; dirty = failed.dirty }

@@ -7,6 +7,7 @@ use Rattle.warm_stamps.specs.declared.PageId.{PageId}
 use Rattle.warm_history.specs.Histories.{HistoryView, hist, refs}
 use Rattle.warm_rank.specs.Keys.{rank_key}
 use Rattle.warm_devices.specs.Device.{DeviceState, page_at}
+use Rattle.warm_rank.specs.declared.TheConstants.{MAX_SLOTS}
 use Rattle.warm_pool.specs.declared.slot.Slot.{Slot}
 use Rattle.warm_pool.specs.Frames.{FrameState, FramesState, nth_frame, fresh_frame}
 use Rattle.warm_pool.specs.State.{PoolState, IsPool, RankedBy, no_device, nth_device, stored, contents_of, frame_view, device_view, view_of}
@@ -30,7 +31,7 @@ pub record Fits (s : PoolState) (i : ℕ) (g : FrameState) : Type 0 where
 pub set_keeps_pool : (s : PoolState) (i : ℕ) (g : FrameState) → Fits s i g → IsPool s → IsPool (record s { frames = set s.frames i g })
 set_keeps_pool s i g f w = record {
   some_frames = subst (λ n. 0 < n) (sym (length-set s.frames i g)) w.some_frames;
-  few_frames = subst (λ n. n ≤ 65536) (sym (length-set s.frames i g)) w.few_frames;
+  few_frames = subst (λ n. n ≤ MAX_SLOTS) (sym (length-set s.frames i g)) w.few_frames;
   some_bytes = w.some_bytes;
   few_bytes = w.few_bytes;
   few_devices = w.few_devices;

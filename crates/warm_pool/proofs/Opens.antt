@@ -7,6 +7,7 @@ use Rattle.warm_stamps.specs.declared.PageId.{PageId}
 use Rattle.warm_history.specs.Histories.{HistoryView, hist, refs}
 use Rattle.warm_rank.specs.Keys.{rank_key}
 use Rattle.warm_devices.specs.Device.{DeviceState}
+use Rattle.warm_rank.specs.declared.TheConstants.{MAX_SLOTS}
 use Rattle.warm_pool.specs.Frames.{FrameState, FramesState, nth_frame, fresh_frame}
 use Rattle.warm_pool.specs.State.{IsPool, RankedBy, opened}
 use Rattle.warm_pool.specs.Calls.{IsUpTo, IsSize}
@@ -29,10 +30,10 @@ nth_bare (suc n) bytes (suc i) = nth_bare n bytes i
 no_page : (n : ℕ) (bytes : List ℕ) (i : ℕ) (p : PageId) → (nth_frame (replicate n (fresh_frame bytes)) i).page ≡ Some p → ⊥
 no_page n bytes i p e = let none : None ≡ Some p = sym (nth_bare n bytes i).page ∙ e in absurd (cc)
 
-opened_is_pool : (n size : ℕ) (ds : List DeviceState) → IsUpTo 65536 n → IsSize size ds → length ds ≤ 65536 → IsPool (opened n size ds)
+opened_is_pool : (n size : ℕ) (ds : List DeviceState) → IsUpTo MAX_SLOTS n → IsSize size ds → length ds ≤ 65536 → IsPool (opened n size ds)
 opened_is_pool n size ds up sized few = record {
   some_frames = subst (λ k. 0 < k) (sym (length-replicate n (fresh_frame (replicate size 0)))) up.0;
-  few_frames = subst (λ k. k ≤ 65536) (sym (length-replicate n (fresh_frame (replicate size 0)))) up.1;
+  few_frames = subst (λ k. k ≤ MAX_SLOTS) (sym (length-replicate n (fresh_frame (replicate size 0)))) up.1;
   some_bytes = sized.range.0;
   few_bytes = sized.range.1;
   few_devices = few;
@@ -53,7 +54,7 @@ module _ (frames : FramesState) (spare n size : ℕ) (ds : List DeviceState)
   pub opened_state : pool_from frames spare ds ≡ opened n size ds
   opened_state = ap₂ (λ (f : FramesState) (k : ℕ). pool_from f k ds) is room
 
-  pub opened_pool : IsUpTo 65536 n → IsSize size ds → length ds ≤ 65536 → IsPool (pool_from frames spare ds)
+  pub opened_pool : IsUpTo MAX_SLOTS n → IsSize size ds → length ds ≤ 65536 → IsPool (pool_from frames spare ds)
   opened_pool up sized few = subst IsPool (sym opened_state) (opened_is_pool n size ds up sized few)
 
   pub opened_ranked : (h : HistoryView) → RankedBy (pool_from frames spare ds) h

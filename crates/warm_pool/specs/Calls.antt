@@ -2,7 +2,9 @@
 use Rattle.std.specs.Prelude.{◌≡◌, ◌≢◌, ◌⊎◌, ℕ, ◌+◌, ◌-◌, ◌^◌, ◌==◌, ◌<◌, ◌≤◌, Bool, true, false, IsTrue, List, [], ◌++◌, take, drop, map, length, Option, Some, None, set, if◌then◌else◌, Contains}
 use Rattle.warm_stamps.specs.declared.PageId.{PageId}
 use Rattle.warm_history.specs.Histories.{HistoryView, hist, refs}
+use Rattle.warm_rank.specs.declared.TheConstants.{MAX_SLOTS}
 use Rattle.warm_rank.specs.Ranking.{IsVictim}
+use Rattle.warm_devices.specs.declared.flaky.TheConstants.{MAX_PAGE_SIZE}
 use Rattle.warm_devices.specs.Device.{DeviceState, one_more, page_at}
 use Rattle.warm_pool.specs.declared.slot.Slot.{Slot}
 use Rattle.warm_pool.specs.declared.fault.PoolFault.{PoolFault}
@@ -37,13 +39,13 @@ IsUpTo most n = (0 < n) × (n ≤ most)
 
 -- pages of this size may be those of a pool over these devices
 pub record IsSize (size : ℕ) (devices : List DeviceState) : Type 0 where
-  pub range : IsUpTo 65536 size
+  pub range : IsUpTo MAX_PAGE_SIZE size
   pub each : (k : ℕ) → k < length devices → (nth_device devices k).page_size ≡ size
 
 abbrev pub NewRefused : ℕ → ℕ → List DeviceState → PoolFault → Type 0
-NewRefused frames size devices BadFrames = IsUpTo 65536 frames → ⊥
-NewRefused frames size devices SizeDiffers = IsUpTo 65536 frames × (IsSize size devices → ⊥)
-NewRefused frames size devices Memory = IsUpTo 65536 frames × IsSize size devices
+NewRefused frames size devices BadFrames = IsUpTo MAX_SLOTS frames → ⊥
+NewRefused frames size devices SizeDiffers = IsUpTo MAX_SLOTS frames × (IsSize size devices → ⊥)
+NewRefused frames size devices Memory = IsUpTo MAX_SLOTS frames × IsSize size devices
 NewRefused frames size devices why = ⊥
 
 -- Pinning and loading

@@ -12,3 +12,4 @@ pub mod Steps
 pub mod Keeping
 pub mod Faults
 pub mod Laws
+pub mod Clauses

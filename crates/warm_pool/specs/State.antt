@@ -4,7 +4,9 @@ use Rattle.std.specs.List.{range_with_len}
 use Rattle.std.specs.Option.{option_map}
 use Rattle.warm_stamps.specs.declared.PageId.{PageId}
 use Rattle.warm_history.specs.Histories.{HistoryView, hist, refs}
+use Rattle.warm_rank.specs.declared.TheConstants.{MAX_SLOTS}
 use Rattle.warm_rank.specs.Keys.{rank_key}
+use Rattle.warm_devices.specs.declared.flaky.TheConstants.{MAX_PAGE_SIZE}
 use Rattle.warm_devices.specs.Device.{DeviceState, page_at}
 use Rattle.warm_pool.specs.Frames.{FrameState, FramesState, nth_frame, fresh_frame}
 use Rattle.warm_pool.specs.View.{DeviceView, FrameView, PoolView}
@@ -44,9 +46,9 @@ IsNowhere frames p = (i : ℕ) → (nth_frame frames i).page ≢ Some p
 -- honest device gives; a frame without a page is neither fixed nor dirty, and has no rank.
 pub record IsPool (s : PoolState) : Type 0 where
   pub some_frames : 0 < length s.frames
-  pub few_frames : length s.frames ≤ 65536
+  pub few_frames : length s.frames ≤ MAX_SLOTS
   pub some_bytes : 0 < s.page_size
-  pub few_bytes : s.page_size ≤ 65536
+  pub few_bytes : s.page_size ≤ MAX_PAGE_SIZE
   pub few_devices : length s.devices ≤ 65536
   pub spare_size : s.spare ≡ s.page_size
   pub frame_size : (i : ℕ) → i < length s.frames → length (nth_frame s.frames i).bytes ≡ s.page_size

@@ -11,6 +11,7 @@ ghost use Rattle.warm_pool.specs.Flushes.{NoneWaits};
 ghost use Rattle.warm_pool.specs.Closing.{AreUnfixed, IsFixedIn, MakesWay, PutsAllDown, PutsOneDown, ChosenFails, StopsAt, clean_if, is_chosen, retired, vacate_if, vacated_from};
 ghost use Rattle.warm_pool.specs.declared.fault.PoolFault.TheVariants.{Fault};
 ghost use Rattle.warm_pool.specs.Keeping.{KeepsRanks};
+ghost use Rattle.warm_pool.specs.Clauses.{pool_state, shown};
 
 use crate::fault::{PoolFault, Unretired};
 use crate::flush::{exchange, flush_all, flush_device, let_all_go};
@@ -35,15 +36,13 @@ impl Pool {
     /// # Errors
     /// `Fault` at the first write or flush that fails. Pages, fixes and contents stay, and so does what was written by then.
     pub fn write_back_all(&mut self) -> Result<(), PoolFault>
-        requires pool { IsPool (⟦<Pool as Pooled>⟧.state self.old) }
-        ensures pool { IsPool (⟦<Pool as Pooled>⟧.state self.new) }
-        ensures ranked { KeepsRanks
-            (⟦<Pool as Pooled>⟧.state self.old) (⟦<Pool as Pooled>⟧.state self.new) }
-        ensures same { OnOk result
-            (⟦<Pool as Pooled>⟧.shown self.new ≡ ⟦<Pool as Pooled>⟧.shown self.old) }
-        ensures settled { OnOk result (IsSettled (⟦<Pool as Pooled>⟧.state self.new)) }
+        requires pool { IsPool (pool_state state self.old) }
+        ensures pool { IsPool (pool_state state self.new) }
+        ensures ranked { KeepsRanks (pool_state state self.old) (pool_state state self.new) }
+        ensures same { OnOk result (shown state self.new ≡ shown state self.old) }
+        ensures settled { OnOk result (IsSettled (pool_state state self.new)) }
         ensures refused { IfErr result (λ fault. (fault ≡ Fault) × WriteBackFails
-            (⟦<Pool as Pooled>⟧.state self.old) (⟦<Pool as Pooled>⟧.state self.new)) }
+            (pool_state state self.old) (pool_state state self.new)) }
     {
         match self.settle() {
             Ok(()) => Ok(()),
@@ -56,16 +55,14 @@ impl Pool {
     /// # Errors
     /// `Fixed` where a page is fixed, which changes nothing; else `Fault`, which leaves what it leaves there.
     pub fn empty(&mut self) -> Result<(), PoolFault>
-        requires pool { IsPool (⟦<Pool as Pooled>⟧.state self.old) }
-        ensures pool { IsPool (⟦<Pool as Pooled>⟧.state self.new) }
-        ensures emptied { OnOk result (Emptied
-            (⟦<Pool as Pooled>⟧.shown self.old) (⟦<Pool as Pooled>⟧.shown self.new)) }
-        ensures settled { OnOk result (IsSettled (⟦<Pool as Pooled>⟧.state self.new)) }
-        ensures unranked { OnOk result (IsRankedByAll (⟦<Pool as Pooled>⟧.state self.new)) }
-        ensures ranked { KeepsRanks
-            (⟦<Pool as Pooled>⟧.state self.old) (⟦<Pool as Pooled>⟧.state self.new) }
+        requires pool { IsPool (pool_state state self.old) }
+        ensures pool { IsPool (pool_state state self.new) }
+        ensures emptied { OnOk result (Emptied (shown state self.old) (shown state self.new)) }
+        ensures settled { OnOk result (IsSettled (pool_state state self.new)) }
+        ensures unranked { OnOk result (IsRankedByAll (pool_state state self.new)) }
+        ensures ranked { KeepsRanks (pool_state state self.old) (pool_state state self.new) }
         ensures refused { IfErr result (λ fault. EmptyRefused
-            (⟦<Pool as Pooled>⟧.state self.old) fault (⟦<Pool as Pooled>⟧.state self.new)) }
+            (pool_state state self.old) fault (pool_state state self.new)) }
     {
         self.put_down()?;
         vacate_chosen(&mut self.frames, None);
@@ -77,14 +74,14 @@ impl Pool {
     /// # Errors
     /// As [`Pool::empty`]; the pool comes back.
     pub fn close(mut self) -> Result<(), Unclosed>
-        requires pool { IsPool (⟦<Pool as Pooled>⟧.state self) }
-        ensures unfixed { OnOk result (IsUnfixed (⟦<Pool as Pooled>⟧.shown self)) }
+        requires pool { IsPool (pool_state state self) }
+        ensures unfixed { OnOk result (IsUnfixed (shown state self)) }
         ensures refused { IfErr result (λ unclosed. EmptyRefused
-            (⟦<Pool as Pooled>⟧.state self) unclosed.fault
-            (⟦<Pool as Pooled>⟧.state unclosed.pool)) }
-        ensures pool { IfErr result (λ unclosed. IsPool (⟦<Pool as Pooled>⟧.state unclosed.pool)) }
+            (pool_state state self) unclosed.fault
+            (pool_state state unclosed.pool)) }
+        ensures pool { IfErr result (λ unclosed. IsPool (pool_state state unclosed.pool)) }
         ensures ranked { IfErr result (λ unclosed. KeepsRanks
-            (⟦<Pool as Pooled>⟧.state self) (⟦<Pool as Pooled>⟧.state unclosed.pool)) }
+            (pool_state state self) (pool_state state unclosed.pool)) }
     {
         match self.put_down() {
             Ok(()) => {
@@ -112,16 +109,15 @@ impl Pool {
     /// - `Fixed`: a page of the device is fixed.
     /// - `Fault`: a write or the flush of the device failed, whose count of failures has grown.
     pub fn retire(&mut self, dev: u16, device: Box<dyn PageDevice + Send>) -> Result<(), Unretired>
-        requires pool { IsPool (⟦<Pool as Pooled>⟧.state self.old) }
-        ensures pool { IsPool (⟦<Pool as Pooled>⟧.state self.new) }
-        ensures retired { OnOk result (Retired (⟦<Pool as Pooled>⟧.shown self.old) dev
-            (state device) (⟦<Pool as Pooled>⟧.shown self.new)) }
+        requires pool { IsPool (pool_state state self.old) }
+        ensures pool { IsPool (pool_state state self.new) }
+        ensures retired { OnOk result (Retired (shown state self.old) dev
+            (state device) (shown state self.new)) }
         ensures refused { IfErr result (λ unretired. RetireRefused
-            (⟦<Pool as Pooled>⟧.shown self.old) dev (state device) unretired.fault
-            (⟦<Pool as Pooled>⟧.shown self.new)) }
+            (shown state self.old) dev (state device) unretired.fault
+            (shown state self.new)) }
         ensures given_back { IfErr result (λ unretired. unretired.device ≡ device) }
-        ensures ranked { KeepsRanks
-            (⟦<Pool as Pooled>⟧.state self.old) (⟦<Pool as Pooled>⟧.state self.new) }
+        ensures ranked { KeepsRanks (pool_state state self.old) (pool_state state self.new) }
     {
         match self.make_way(dev, device.page_size()) {
             Ok(()) => {
@@ -134,15 +130,14 @@ impl Pool {
 
     // Writes the pages of a device back and flushes it, where a device with pages of this size may take its place.
     fn make_way(&mut self, dev: u16, page_size: usize) -> Result<(), PoolFault>
-        requires pool { IsPool (⟦<Pool as Pooled>⟧.state self.old) }
-        ensures pool { IsPool (⟦<Pool as Pooled>⟧.state self.new) }
+        requires pool { IsPool (pool_state state self.old) }
+        ensures pool { IsPool (pool_state state self.new) }
         ensures way { OnOk result (MakesWay
-            (⟦<Pool as Pooled>⟧.state self.old) dev page_size (⟦<Pool as Pooled>⟧.state self.new)) }
+            (pool_state state self.old) dev page_size (pool_state state self.new)) }
         ensures refused { IfErr result (λ fault. (device : DeviceState) → device.page_size
-            ≡ page_size → RetireRefused (⟦<Pool as Pooled>⟧.shown self.old) dev device fault
-            (⟦<Pool as Pooled>⟧.shown self.new)) }
-        ensures ranked { KeepsRanks
-            (⟦<Pool as Pooled>⟧.state self.old) (⟦<Pool as Pooled>⟧.state self.new) }
+            ≡ page_size → RetireRefused (shown state self.old) dev device fault
+            (shown state self.new)) }
+        ensures ranked { KeepsRanks (pool_state state self.old) (pool_state state self.new) }
     {
         if dev as usize >= self.devices.len() {
             return Err(PoolFault::NoDevice);
@@ -161,17 +156,15 @@ impl Pool {
 
     // Writes the pages of one device back and flushes it.
     fn settle_device(&mut self, dev: u16) -> Result<(), DeviceFault>
-        requires pool { IsPool (⟦<Pool as Pooled>⟧.state self.old) }
-        requires there { dev < length (⟦<Pool as Pooled>⟧.state self.old).devices }
-        ensures pool { IsPool (⟦<Pool as Pooled>⟧.state self.new) }
+        requires pool { IsPool (pool_state state self.old) }
+        requires there { dev < length (pool_state state self.old).devices }
+        ensures pool { IsPool (pool_state state self.new) }
         ensures down { OnOk result (PutsAllDown (Some dev)
-            (⟦<Pool as Pooled>⟧.state self.old) (⟦<Pool as Pooled>⟧.state self.new)) }
+            (pool_state state self.old) (pool_state state self.new)) }
         ensures flushed { OnOk result ((nth_device
-            (⟦<Pool as Pooled>⟧.state self.new).devices dev).waiting ≡ false) }
-        ensures stopped { OnErr result (FailsAt
-            (⟦<Pool as Pooled>⟧.shown self.old) dev (⟦<Pool as Pooled>⟧.shown self.new)) }
-        ensures ranked { KeepsRanks
-            (⟦<Pool as Pooled>⟧.state self.old) (⟦<Pool as Pooled>⟧.state self.new) }
+            (pool_state state self.new).devices dev).waiting ≡ false) }
+        ensures stopped { OnErr result (FailsAt (shown state self.old) dev (shown state self.new)) }
+        ensures ranked { KeepsRanks (pool_state state self.old) (pool_state state self.new) }
     {
         self.clean_chosen(Some(dev))?;
         flush_device(&mut self.devices, dev as usize)?;
@@ -180,12 +173,11 @@ impl Pool {
 
     // Lets a device take the place of one on which nothing waits, and whose pages leave their frames.
     fn take_in(&mut self, dev: u16, device: Box<dyn PageDevice + Send>)
-        requires there { dev < length (⟦<Pool as Pooled>⟧.state self.old).devices }
-        requires unfixed { AreUnfixed (Some dev) (⟦<Pool as Pooled>⟧.state self.old).frames }
-        requires quiet { (nth_device
-            (⟦<Pool as Pooled>⟧.state self.old).devices dev).waiting ≡ false }
-        ensures { ⟦<Pool as Pooled>⟧.state self.new ≡ retired
-            (⟦<Pool as Pooled>⟧.state self.old) dev (state device) }
+        requires there { dev < length (pool_state state self.old).devices }
+        requires unfixed { AreUnfixed (Some dev) (pool_state state self.old).frames }
+        requires quiet { (nth_device (pool_state state self.old).devices dev).waiting ≡ false }
+        ensures { pool_state state self.new ≡ retired
+            (pool_state state self.old) dev (state device) }
     {
         vacate_chosen(&mut self.frames, Some(dev));
         exchange(&mut self.devices, dev as usize, device);
@@ -193,16 +185,15 @@ impl Pool {
 
     // Writes all pages back and flushes all devices, where no page is fixed.
     fn put_down(&mut self) -> Result<(), PoolFault>
-        requires pool { IsPool (⟦<Pool as Pooled>⟧.state self.old) }
-        ensures pool { IsPool (⟦<Pool as Pooled>⟧.state self.new) }
-        ensures unfixed { OnOk result (AreUnfixed None (⟦<Pool as Pooled>⟧.state self.old).frames) }
+        requires pool { IsPool (pool_state state self.old) }
+        ensures pool { IsPool (pool_state state self.new) }
+        ensures unfixed { OnOk result (AreUnfixed None (pool_state state self.old).frames) }
         ensures down { OnOk result (PutsAllDown None
-            (⟦<Pool as Pooled>⟧.state self.old) (⟦<Pool as Pooled>⟧.state self.new)) }
-        ensures flushed { OnOk result (NoneWaits (⟦<Pool as Pooled>⟧.state self.new).devices) }
+            (pool_state state self.old) (pool_state state self.new)) }
+        ensures flushed { OnOk result (NoneWaits (pool_state state self.new).devices) }
         ensures refused { IfErr result (λ fault. EmptyRefused
-            (⟦<Pool as Pooled>⟧.state self.old) fault (⟦<Pool as Pooled>⟧.state self.new)) }
-        ensures ranked { KeepsRanks
-            (⟦<Pool as Pooled>⟧.state self.old) (⟦<Pool as Pooled>⟧.state self.new) }
+            (pool_state state self.old) fault (pool_state state self.new)) }
+        ensures ranked { KeepsRanks (pool_state state self.old) (pool_state state self.new) }
     {
         if is_fixed(&self.frames, None) {
             return Err(PoolFault::Fixed);
@@ -215,15 +206,14 @@ impl Pool {
 
     // Writes all pages back and flushes all devices.
     fn settle(&mut self) -> Result<(), DeviceFault>
-        requires pool { IsPool (⟦<Pool as Pooled>⟧.state self.old) }
-        ensures pool { IsPool (⟦<Pool as Pooled>⟧.state self.new) }
+        requires pool { IsPool (pool_state state self.old) }
+        ensures pool { IsPool (pool_state state self.new) }
         ensures down { OnOk result (PutsAllDown None
-            (⟦<Pool as Pooled>⟧.state self.old) (⟦<Pool as Pooled>⟧.state self.new)) }
-        ensures flushed { OnOk result (NoneWaits (⟦<Pool as Pooled>⟧.state self.new).devices) }
+            (pool_state state self.old) (pool_state state self.new)) }
+        ensures flushed { OnOk result (NoneWaits (pool_state state self.new).devices) }
         ensures stopped { OnErr result (WriteBackFails
-            (⟦<Pool as Pooled>⟧.state self.old) (⟦<Pool as Pooled>⟧.state self.new)) }
-        ensures ranked { KeepsRanks
-            (⟦<Pool as Pooled>⟧.state self.old) (⟦<Pool as Pooled>⟧.state self.new) }
+            (pool_state state self.old) (pool_state state self.new)) }
+        ensures ranked { KeepsRanks (pool_state state self.old) (pool_state state self.new) }
     {
         self.clean_chosen(None)?;
         flush_all(&mut self.devices)?;
@@ -232,12 +222,12 @@ impl Pool {
 
     // Writes the pages of the frames that are concerned back.
     fn clean_chosen(&mut self, which: Option<u16>) -> Result<(), DeviceFault>
-        requires pool { IsPool (⟦<Pool as Pooled>⟧.state self.old) }
-        ensures pool { IsPool (⟦<Pool as Pooled>⟧.state self.new) }
+        requires pool { IsPool (pool_state state self.old) }
+        ensures pool { IsPool (pool_state state self.new) }
         ensures down { OnOk result (PutsAllDown which
-            (⟦<Pool as Pooled>⟧.state self.old) (⟦<Pool as Pooled>⟧.state self.new)) }
+            (pool_state state self.old) (pool_state state self.new)) }
         ensures stopped { OnErr result (StopsAt which
-            (⟦<Pool as Pooled>⟧.state self.old) (⟦<Pool as Pooled>⟧.state self.new)) }
+            (pool_state state self.old) (pool_state state self.new)) }
     {
         for at in 0..self.frames.len() {
             self.clean_if(at, which)?;
@@ -247,13 +237,13 @@ impl Pool {
 
     // Writes the page of a frame back, where it is concerned.
     fn clean_if(&mut self, at: usize, which: Option<u16>) -> Result<(), DeviceFault>
-        requires pool { IsPool (⟦<Pool as Pooled>⟧.state self.old) }
-        requires there { at < length (⟦<Pool as Pooled>⟧.state self.old).frames }
-        ensures pool { IsPool (⟦<Pool as Pooled>⟧.state self.new) }
+        requires pool { IsPool (pool_state state self.old) }
+        requires there { at < length (pool_state state self.old).frames }
+        ensures pool { IsPool (pool_state state self.new) }
         ensures down { OnOk result (PutsOneDown which
-            (⟦<Pool as Pooled>⟧.state self.old) at (⟦<Pool as Pooled>⟧.state self.new)) }
+            (pool_state state self.old) at (pool_state state self.new)) }
         ensures failed { OnErr result (ChosenFails which
-            (⟦<Pool as Pooled>⟧.state self.old) at (⟦<Pool as Pooled>⟧.state self.new)) }
+            (pool_state state self.old) at (pool_state state self.new)) }
     {
         if !is_chosen(which, self.frames.frame(at).page) {
             return Ok(());

@@ -11,19 +11,17 @@ ghost use Rattle.warm_pool.specs.Calls.{SameButFailures, IsUpTo, IsSize, NewRefu
 ghost use Rattle.warm_pool.specs.Steps.{LoadsInto, LoadFails, Cleans, CleanFails, Renews, FixesPage, FixRefused, IsNextPlace};
 ghost use Rattle.warm_pool.specs.Keeping.{KeepsRanks, RefreshesRanks, KeepsBytes, KeepsFrames, KeepsOthers, TakesFrame, WritesDirty, MakesDirty};
 ghost use Rattle.warm_pool.specs.declared.fault.PoolFault.TheVariants.{OutOfPage, FixesFull};
+ghost use Rattle.warm_pool.specs.Clauses.{pool_state, shown};
 
 use crate::device_list::{all_sized, pages_of, read_page, write_page};
 use crate::fault::{PoolFault, Unmade};
 use crate::frames::Frames;
 use crate::slot::Slot;
 use std::alloc::{AllocError, Global};
-use warm_devices::{DeviceFault, PageDevice};
+use warm_devices::{DeviceFault, MAX_PAGE_SIZE, PageDevice};
 use warm_history::History;
-use warm_rank::{RankKey, key_of};
+use warm_rank::{MAX_SLOTS, RankKey, key_of};
 use warm_stamps::PageId;
-
-/// The most frames of a pool, and the most bytes of a page.
-const MOST: usize = 65_536;
 
 /// Pages of devices in frames.
 ///
@@ -65,8 +63,8 @@ impl Pool {
     /// There may be 65,536 devices at most.
     ///
     /// # Errors
-    /// `BadFrames` where `frames` is outside 1 to 65,536; else `SizeDiffers` where `page_size` is, or is not that of each device; else
-    /// `Memory`. Each hands the devices back.
+    /// `BadFrames` where `frames` is outside 1 to [`warm_rank::MAX_SLOTS`]; else `SizeDiffers` where `page_size` is outside 1 to
+    /// [`MAX_PAGE_SIZE`], or is not that of each device; else `Memory`. Each hands the devices back.
     pub fn new(
         alloc: Global,
         frames: usize,
@@ -74,10 +72,10 @@ impl Pool {
         devices: Vec<Box<dyn PageDevice + Send>>,
     ) -> Result<Pool, Unmade>
         requires few { length devices.items ≤ 65536 }
-        ensures pool { IfOk result (λ pool. IsPool (⟦<Pool as Pooled>⟧.state pool)) }
-        ensures opened { IfOk result (λ pool. ⟦<Pool as Pooled>⟧.state pool
+        ensures pool { IfOk result (λ pool. IsPool (pool_state state pool)) }
+        ensures opened { IfOk result (λ pool. pool_state state pool
             ≡ opened frames page_size (map (λ b. state b) devices.items)) }
-        ensures ranked { IfOk result (λ pool. IsRankedByAll (⟦<Pool as Pooled>⟧.state pool)) }
+        ensures ranked { IfOk result (λ pool. IsRankedByAll (pool_state state pool)) }
         ensures refused { IfErr result (λ unmade. NewRefused frames page_size
             (map (λ b. state b) devices.items) unmade.fault
             × (unmade.devices.items ≡ devices.items)) }
@@ -100,16 +98,16 @@ impl Pool {
 
     /// How many frames there are, with a page or without.
     pub fn frames(&self) -> usize
-        requires pool { IsPool (⟦<Pool as Pooled>⟧.state self.now) }
-        ensures { result ≡ length (⟦<Pool as Pooled>⟧.shown self.now).frames }
+        requires pool { IsPool (pool_state state self.now) }
+        ensures { result ≡ length (shown state self.now).frames }
     {
         self.frames.len()
     }
 
     /// Whether a device has the page.
     pub fn has(&self, page: PageId) -> bool
-        requires pool { IsPool (⟦<Pool as Pooled>⟧.state self.now) }
-        ensures { IsTrue result ↔ HasPage (⟦<Pool as Pooled>⟧.shown self.now) page }
+        requires pool { IsPool (pool_state state self.now) }
+        ensures { IsTrue result ↔ HasPage (shown state self.now) page }
     {
         match self.check(page) {
             Ok(()) => true,
@@ -119,8 +117,8 @@ impl Pool {
 
     /// Whether the page is in a frame.
     pub fn resident(&self, page: PageId) -> bool
-        requires pool { IsPool (⟦<Pool as Pooled>⟧.state self.now) }
-        ensures { IsTrue result ↔ IsResident (⟦<Pool as Pooled>⟧.shown self.now) page }
+        requires pool { IsPool (pool_state state self.now) }
+        ensures { IsTrue result ↔ IsResident (shown state self.now) page }
     {
         match self.frames.find(page) {
             Some(_) => true,
@@ -130,8 +128,8 @@ impl Pool {
 
     /// Whether the slot's frame has a fix, and no other page was put into it since the slot was given.
     pub fn holds(&self, slot: Slot) -> bool
-        requires pool { IsPool (⟦<Pool as Pooled>⟧.state self.now) }
-        ensures { IsTrue result ↔ Holds (⟦<Pool as Pooled>⟧.shown self.now) slot }
+        requires pool { IsPool (pool_state state self.now) }
+        ensures { IsTrue result ↔ Holds (shown state self.now) slot }
     {
         let at = slot.index as usize;
         if at >= self.frames.len() {
@@ -155,23 +153,23 @@ impl Pool {
     /// - `WriteBack`: the page that would leave was written to, and could not be written to its device, whose count of failures has
     ///   grown.
     pub fn pin(&mut self, page: PageId, history: &History) -> Result<Slot, PoolFault>
-        requires pool { IsPool (⟦<Pool as Pooled>⟧.state self.old) }
-        requires ranked { RankedBy (⟦<Pool as Pooled>⟧.state self.old) history.now }
-        ensures pool { IsPool (⟦<Pool as Pooled>⟧.state self.new) }
-        ensures ranked { RankedBy (⟦<Pool as Pooled>⟧.state self.new) history.now }
+        requires pool { IsPool (pool_state state self.old) }
+        requires ranked { RankedBy (pool_state state self.old) history.now }
+        ensures pool { IsPool (pool_state state self.new) }
+        ensures ranked { RankedBy (pool_state state self.new) history.now }
         ensures pinned { IfOk result (λ slot. Pinned history.now
-            (⟦<Pool as Pooled>⟧.shown self.old) page slot (⟦<Pool as Pooled>⟧.shown self.new)) }
-        ensures holds { IfOk result (λ slot. Holds (⟦<Pool as Pooled>⟧.shown self.new) slot) }
+            (shown state self.old) page slot (shown state self.new)) }
+        ensures holds { IfOk result (λ slot. Holds (shown state self.new) slot) }
         ensures frame { IfOk result (λ slot. TakesFrame
-            (⟦<Pool as Pooled>⟧.state self.old) page slot (⟦<Pool as Pooled>⟧.state self.new)) }
+            (pool_state state self.old) page slot (pool_state state self.new)) }
         ensures refused { IfErr result (λ fault. PinRefused history.now
-            (⟦<Pool as Pooled>⟧.shown self.old) page fault (⟦<Pool as Pooled>⟧.shown self.new)) }
+            (shown state self.old) page fault (shown state self.new)) }
         ensures stays { OnErr result (SameButFailures
-            (⟦<Pool as Pooled>⟧.shown self.old) (⟦<Pool as Pooled>⟧.shown self.new)) }
+            (shown state self.old) (shown state self.new)) }
         ensures frames { OnErr result (KeepsFrames
-            (⟦<Pool as Pooled>⟧.state self.old) (⟦<Pool as Pooled>⟧.state self.new)) }
+            (pool_state state self.old) (pool_state state self.new)) }
         ensures writes { IfErr result (λ fault. WritesDirty history.now
-            (⟦<Pool as Pooled>⟧.state self.old) fault) }
+            (pool_state state self.old) fault) }
     {
         if let Err(fault) = self.check(page) {
             return Err(fault);
@@ -187,22 +185,22 @@ impl Pool {
     /// # Errors
     /// Those of a pin, in its order, and with what it leaves; a resident page is never refused.
     pub fn load(&mut self, page: PageId, history: &History) -> Result<Slot, PoolFault>
-        requires pool { IsPool (⟦<Pool as Pooled>⟧.state self.old) }
-        requires ranked { RankedBy (⟦<Pool as Pooled>⟧.state self.old) history.now }
-        ensures pool { IsPool (⟦<Pool as Pooled>⟧.state self.new) }
-        ensures ranked { RankedBy (⟦<Pool as Pooled>⟧.state self.new) history.now }
+        requires pool { IsPool (pool_state state self.old) }
+        requires ranked { RankedBy (pool_state state self.old) history.now }
+        ensures pool { IsPool (pool_state state self.new) }
+        ensures ranked { RankedBy (pool_state state self.new) history.now }
         ensures loaded { IfOk result (λ slot. Loaded history.now
-            (⟦<Pool as Pooled>⟧.shown self.old) page slot (⟦<Pool as Pooled>⟧.shown self.new)) }
+            (shown state self.old) page slot (shown state self.new)) }
         ensures frame { IfOk result (λ slot. TakesFrame
-            (⟦<Pool as Pooled>⟧.state self.old) page slot (⟦<Pool as Pooled>⟧.state self.new)) }
+            (pool_state state self.old) page slot (pool_state state self.new)) }
         ensures refused { IfErr result (λ fault. LoadRefused history.now
-            (⟦<Pool as Pooled>⟧.shown self.old) page fault (⟦<Pool as Pooled>⟧.shown self.new)) }
+            (shown state self.old) page fault (shown state self.new)) }
         ensures stays { OnErr result (SameButFailures
-            (⟦<Pool as Pooled>⟧.shown self.old) (⟦<Pool as Pooled>⟧.shown self.new)) }
+            (shown state self.old) (shown state self.new)) }
         ensures frames { OnErr result (KeepsFrames
-            (⟦<Pool as Pooled>⟧.state self.old) (⟦<Pool as Pooled>⟧.state self.new)) }
+            (pool_state state self.old) (pool_state state self.new)) }
         ensures writes { IfErr result (λ fault. WritesDirty history.now
-            (⟦<Pool as Pooled>⟧.state self.old) fault) }
+            (pool_state state self.old) fault) }
     {
         if let Err(fault) = self.check(page) {
             return Err(fault);
@@ -222,8 +220,8 @@ impl Pool {
     /// The page that would leave next: of the resident pages without a fix the one of the greatest backward 2-distance; `None` where
     /// there is none.
     pub fn victim(&self) -> Option<PageId>
-        requires pool { IsPool (⟦<Pool as Pooled>⟧.state self.now) }
-        ensures { IsNextVictim (⟦<Pool as Pooled>⟧.state self.now) result }
+        requires pool { IsPool (pool_state state self.now) }
+        ensures { IsNextVictim (pool_state state self.now) result }
     {
         let Some(at) = self.frames.least() else {
             return None;
@@ -233,15 +231,12 @@ impl Pool {
 
     /// Takes a fix from the slot's page. Without a fix it may leave. What was written to it stays to be written back.
     pub fn unpin(&mut self, slot: Slot)
-        requires pool { IsPool (⟦<Pool as Pooled>⟧.state self.old) }
-        requires holds { Holds (⟦<Pool as Pooled>⟧.shown self.old) slot }
-        ensures pool { IsPool (⟦<Pool as Pooled>⟧.state self.new) }
-        ensures ranked { KeepsRanks
-            (⟦<Pool as Pooled>⟧.state self.old) (⟦<Pool as Pooled>⟧.state self.new) }
-        ensures unpinned { ⟦<Pool as Pooled>⟧.shown self.new ≡ unpinned
-            (⟦<Pool as Pooled>⟧.shown self.old) slot }
-        ensures kept { KeepsBytes
-            (⟦<Pool as Pooled>⟧.state self.old) (⟦<Pool as Pooled>⟧.state self.new) }
+        requires pool { IsPool (pool_state state self.old) }
+        requires holds { Holds (shown state self.old) slot }
+        ensures pool { IsPool (pool_state state self.new) }
+        ensures ranked { KeepsRanks (pool_state state self.old) (pool_state state self.new) }
+        ensures unpinned { shown state self.new ≡ unpinned (shown state self.old) slot }
+        ensures kept { KeepsBytes (pool_state state self.old) (pool_state state self.new) }
     {
         self.frames.unfix(slot.index as usize);
     }
@@ -251,11 +246,11 @@ impl Pool {
     /// # Errors
     /// `OutOfPage` where they reach beyond the end of the page; `into` is as it was.
     pub fn read(&self, slot: Slot, at: usize, into: &mut [u8]) -> Result<(), PoolFault>
-        requires pool { IsPool (⟦<Pool as Pooled>⟧.state self.now) }
-        requires holds { Holds (⟦<Pool as Pooled>⟧.shown self.now) slot }
-        ensures read { OnOk result (IsRead (⟦<Pool as Pooled>⟧.shown self.now) slot at into.new) }
+        requires pool { IsPool (pool_state state self.now) }
+        requires holds { Holds (shown state self.now) slot }
+        ensures read { OnOk result (IsRead (shown state self.now) slot at into.new) }
         ensures refused { IfErr result (λ fault. ReadRefused
-            (⟦<Pool as Pooled>⟧.state self.now) at into.old fault into.new) }
+            (pool_state state self.now) at into.old fault into.new) }
         ensures len { length into.new ≡ length into.old }
     {
         if !self.is_within(at, into.len()) {
@@ -271,18 +266,17 @@ impl Pool {
     /// # Errors
     /// `OutOfPage` where they reach beyond the end of the page; nothing is changed.
     pub fn write(&mut self, slot: Slot, at: usize, bytes: &[u8]) -> Result<(), PoolFault>
-        requires pool { IsPool (⟦<Pool as Pooled>⟧.state self.old) }
-        requires holds { Holds (⟦<Pool as Pooled>⟧.shown self.old) slot }
-        ensures pool { IsPool (⟦<Pool as Pooled>⟧.state self.new) }
-        ensures ranked { KeepsRanks
-            (⟦<Pool as Pooled>⟧.state self.old) (⟦<Pool as Pooled>⟧.state self.new) }
-        ensures written { OnOk result (Written (⟦<Pool as Pooled>⟧.shown self.old) slot at bytes.now
-            (⟦<Pool as Pooled>⟧.shown self.new)) }
+        requires pool { IsPool (pool_state state self.old) }
+        requires holds { Holds (shown state self.old) slot }
+        ensures pool { IsPool (pool_state state self.new) }
+        ensures ranked { KeepsRanks (pool_state state self.old) (pool_state state self.new) }
+        ensures written { OnOk result (Written (shown state self.old) slot at bytes.now
+            (shown state self.new)) }
         ensures dirty { OnOk result (MakesDirty
-            (⟦<Pool as Pooled>⟧.state self.old) slot (⟦<Pool as Pooled>⟧.state self.new)) }
+            (pool_state state self.old) slot (pool_state state self.new)) }
         ensures refused { IfErr result (λ fault. WriteRefused
-            (⟦<Pool as Pooled>⟧.state self.old) at bytes.now fault
-            (⟦<Pool as Pooled>⟧.state self.new)) }
+            (pool_state state self.old) at bytes.now fault
+            (pool_state state self.new)) }
     {
         if !self.is_within(at, bytes.len()) {
             return Err(PoolFault::OutOfPage);
@@ -293,13 +287,12 @@ impl Pool {
 
     /// Renews the ranks of those of the pages that are resident.
     pub fn refresh(&mut self, history: &History, pages: &[PageId])
-        requires pool { IsPool (⟦<Pool as Pooled>⟧.state self.old) }
-        ensures pool { IsPool (⟦<Pool as Pooled>⟧.state self.new) }
+        requires pool { IsPool (pool_state state self.old) }
+        ensures pool { IsPool (pool_state state self.new) }
         ensures ranked { RefreshesRanks pages.now history.now
-            (⟦<Pool as Pooled>⟧.state self.old) (⟦<Pool as Pooled>⟧.state self.new) }
-        ensures same { ⟦<Pool as Pooled>⟧.shown self.new ≡ ⟦<Pool as Pooled>⟧.shown self.old }
-        ensures kept { KeepsBytes
-            (⟦<Pool as Pooled>⟧.state self.old) (⟦<Pool as Pooled>⟧.state self.new) }
+            (pool_state state self.old) (pool_state state self.new) }
+        ensures same { shown state self.new ≡ shown state self.old }
+        ensures kept { KeepsBytes (pool_state state self.old) (pool_state state self.new) }
     {
         for page in pages {
             self.renew(history, *page);
@@ -308,13 +301,12 @@ impl Pool {
 
     // Renews the rank of a page, where it is resident.
     fn renew(&mut self, history: &History, page: PageId)
-        requires pool { IsPool (⟦<Pool as Pooled>⟧.state self.old) }
-        ensures pool { IsPool (⟦<Pool as Pooled>⟧.state self.new) }
-        ensures same { ⟦<Pool as Pooled>⟧.shown self.new ≡ ⟦<Pool as Pooled>⟧.shown self.old }
-        ensures kept { KeepsBytes
-            (⟦<Pool as Pooled>⟧.state self.old) (⟦<Pool as Pooled>⟧.state self.new) }
-        ensures keys { Renews (⟦<Pool as Pooled>⟧.state self.old) page
-            (rank_key page (hist (refs history.now) page)) (⟦<Pool as Pooled>⟧.state self.new) }
+        requires pool { IsPool (pool_state state self.old) }
+        ensures pool { IsPool (pool_state state self.new) }
+        ensures same { shown state self.new ≡ shown state self.old }
+        ensures kept { KeepsBytes (pool_state state self.old) (pool_state state self.new) }
+        ensures keys { Renews (pool_state state self.old) page
+            (rank_key page (hist (refs history.now) page)) (pool_state state self.new) }
     {
         if let Some(at) = self.frames.find(page) {
             let key = known_key(history, page);
@@ -324,13 +316,13 @@ impl Pool {
 
     // Whether a device has the page, and else why it can't come in.
     fn check(&self, page: PageId) -> Result<(), PoolFault>
-        requires pool { IsPool (⟦<Pool as Pooled>⟧.state self.now) }
-        ensures known { OnOk result (HasPage (⟦<Pool as Pooled>⟧.shown self.now) page) }
-        ensures unknown { OnErr result (HasPage (⟦<Pool as Pooled>⟧.shown self.now) page → ⊥) }
+        requires pool { IsPool (pool_state state self.now) }
+        ensures known { OnOk result (HasPage (shown state self.now) page) }
+        ensures unknown { OnErr result (HasPage (shown state self.now) page → ⊥) }
         ensures load { IfErr result (λ fault. (h : HistoryView) → LoadRefused h
-            (⟦<Pool as Pooled>⟧.shown self.now) page fault (⟦<Pool as Pooled>⟧.shown self.now)) }
+            (shown state self.now) page fault (shown state self.now)) }
         ensures pin { IfErr result (λ fault. (h : HistoryView) → PinRefused h
-            (⟦<Pool as Pooled>⟧.shown self.now) page fault (⟦<Pool as Pooled>⟧.shown self.now)) }
+            (shown state self.now) page fault (shown state self.now)) }
     {
         let device = page.dev as usize;
         if device >= self.devices.len() {
@@ -344,7 +336,7 @@ impl Pool {
 
     // Whether so many bytes from `at` on are within a page.
     fn is_within(&self, at: usize, len: usize) -> bool
-        ensures { IsTrue result ↔ (at + len ≤ (⟦<Pool as Pooled>⟧.shown self.now).page_size) }
+        ensures { IsTrue result ↔ (at + len ≤ (shown state self.now).page_size) }
     {
         let size = self.frames.page_size();
         at <= size && len <= size - at
@@ -352,21 +344,19 @@ impl Pool {
 
     // Adds a fix to a resident page.
     fn add_fix(&mut self, at: usize) -> Result<Slot, PoolFault>
-        requires pool { IsPool (⟦<Pool as Pooled>⟧.state self.old) }
-        requires there { at < length (⟦<Pool as Pooled>⟧.state self.old).frames }
-        requires held { (nth_frame (⟦<Pool as Pooled>⟧.state self.old).frames at).page ≢ None }
-        ensures pool { IsPool (⟦<Pool as Pooled>⟧.state self.new) }
-        ensures ranked { KeepsRanks
-            (⟦<Pool as Pooled>⟧.state self.old) (⟦<Pool as Pooled>⟧.state self.new) }
+        requires pool { IsPool (pool_state state self.old) }
+        requires there { at < length (pool_state state self.old).frames }
+        requires held { (nth_frame (pool_state state self.old).frames at).page ≢ None }
+        ensures pool { IsPool (pool_state state self.new) }
+        ensures ranked { KeepsRanks (pool_state state self.old) (pool_state state self.new) }
         ensures fixed { FixesPage
-            (⟦<Pool as Pooled>⟧.state self.old) at result (⟦<Pool as Pooled>⟧.state self.new) }
-        ensures holds { IfOk result (λ slot. Holds (⟦<Pool as Pooled>⟧.shown self.new) slot) }
-        ensures kept { KeepsBytes
-            (⟦<Pool as Pooled>⟧.state self.old) (⟦<Pool as Pooled>⟧.state self.new) }
+            (pool_state state self.old) at result (pool_state state self.new) }
+        ensures holds { IfOk result (λ slot. Holds (shown state self.new) slot) }
+        ensures kept { KeepsBytes (pool_state state self.old) (pool_state state self.new) }
         ensures others { IfOk result (λ slot. KeepsOthers slot.index
-            (⟦<Pool as Pooled>⟧.state self.old) (⟦<Pool as Pooled>⟧.state self.new)) }
+            (pool_state state self.old) (pool_state state self.new)) }
         ensures refused { IfErr result (λ fault. FixRefused
-            (⟦<Pool as Pooled>⟧.state self.old) at fault (⟦<Pool as Pooled>⟧.state self.new)) }
+            (pool_state state self.old) at fault (pool_state state self.new)) }
     {
         let frame = self.frames.frame(at);
         let generation = frame.generation;
@@ -382,12 +372,11 @@ impl Pool {
 
     // The frame into which a page goes that comes in.
     fn place(&self) -> Option<usize>
-        requires pool { IsPool (⟦<Pool as Pooled>⟧.state self.now) }
-        ensures place { IsNextPlace (⟦<Pool as Pooled>⟧.state self.now) result }
-        ensures there { IfSome result (λ at. at < length
-            (⟦<Pool as Pooled>⟧.state self.now).frames) }
+        requires pool { IsPool (pool_state state self.now) }
+        ensures place { IsNextPlace (pool_state state self.now) result }
+        ensures there { IfSome result (λ at. at < length (pool_state state self.now).frames) }
         ensures unfixed { IfSome result (λ at. (nth_frame
-            (⟦<Pool as Pooled>⟧.state self.now).frames at).fixes ≡ 0) }
+            (pool_state state self.now).frames at).fixes ≡ 0) }
     {
         match self.frames.first_free() {
             Some(at) => Some(at),
@@ -397,23 +386,23 @@ impl Pool {
 
     // Puts a page that is in no frame into one, with so many fixes.
     fn bring(&mut self, page: PageId, history: &History, fixes: u32) -> Result<Slot, PoolFault>
-        requires pool { IsPool (⟦<Pool as Pooled>⟧.state self.old) }
-        requires ranked { RankedBy (⟦<Pool as Pooled>⟧.state self.old) history.now }
-        requires known { HasPage (⟦<Pool as Pooled>⟧.shown self.old) page }
-        requires absent { IsNowhere (⟦<Pool as Pooled>⟧.state self.old).frames page }
-        ensures pool { IsPool (⟦<Pool as Pooled>⟧.state self.new) }
-        ensures ranked { RankedBy (⟦<Pool as Pooled>⟧.state self.new) history.now }
+        requires pool { IsPool (pool_state state self.old) }
+        requires ranked { RankedBy (pool_state state self.old) history.now }
+        requires known { HasPage (shown state self.old) page }
+        requires absent { IsNowhere (pool_state state self.old).frames page }
+        ensures pool { IsPool (pool_state state self.new) }
+        ensures ranked { RankedBy (pool_state state self.new) history.now }
         ensures put { IfOk result (λ slot. PutsIn history.now
-            (⟦<Pool as Pooled>⟧.shown self.old) page fixes slot
-            (⟦<Pool as Pooled>⟧.shown self.new)) }
+            (shown state self.old) page fixes slot
+            (shown state self.new)) }
         ensures frame { IfOk result (λ slot. TakesFrame
-            (⟦<Pool as Pooled>⟧.state self.old) page slot (⟦<Pool as Pooled>⟧.state self.new)) }
+            (pool_state state self.old) page slot (pool_state state self.new)) }
         ensures refused { IfErr result (λ fault. PutRefused history.now
-            (⟦<Pool as Pooled>⟧.shown self.old) page fault (⟦<Pool as Pooled>⟧.shown self.new)) }
+            (shown state self.old) page fault (shown state self.new)) }
         ensures frames { OnErr result (KeepsFrames
-            (⟦<Pool as Pooled>⟧.state self.old) (⟦<Pool as Pooled>⟧.state self.new)) }
+            (pool_state state self.old) (pool_state state self.new)) }
         ensures writes { IfErr result (λ fault. WritesDirty history.now
-            (⟦<Pool as Pooled>⟧.state self.old) fault) }
+            (pool_state state self.old) fault) }
     {
         let Some(at) = self.place() else {
             return Err(PoolFault::AllFixed);
@@ -440,19 +429,17 @@ impl Pool {
         key: RankKey,
         fixes: u32,
     ) -> Result<(), PoolFault>
-        requires pool { IsPool (⟦<Pool as Pooled>⟧.state self.old) }
-        requires there { at < length (⟦<Pool as Pooled>⟧.state self.old).frames }
-        requires room { (nth_frame
-            (⟦<Pool as Pooled>⟧.state self.old).frames at).generation < 2 ^ 64 - 1 }
-        requires device { page.dev < length (⟦<Pool as Pooled>⟧.state self.old).devices }
-        requires known { page.no < (nth_device
-            (⟦<Pool as Pooled>⟧.state self.old).devices page.dev).pages }
-        requires absent { IsNowhere (⟦<Pool as Pooled>⟧.state self.old).frames page }
-        ensures pool { IsPool (⟦<Pool as Pooled>⟧.state self.new) }
-        ensures put { OnOk result (LoadsInto (⟦<Pool as Pooled>⟧.state self.old) at page key fixes
-            (⟦<Pool as Pooled>⟧.state self.new)) }
+        requires pool { IsPool (pool_state state self.old) }
+        requires there { at < length (pool_state state self.old).frames }
+        requires room { (nth_frame (pool_state state self.old).frames at).generation < 2 ^ 64 - 1 }
+        requires device { page.dev < length (pool_state state self.old).devices }
+        requires known { page.no < (nth_device (pool_state state self.old).devices page.dev).pages }
+        requires absent { IsNowhere (pool_state state self.old).frames page }
+        ensures pool { IsPool (pool_state state self.new) }
+        ensures put { OnOk result (LoadsInto (pool_state state self.old) at page key fixes
+            (pool_state state self.new)) }
         ensures refused { IfErr result (λ fault. LoadFails
-            (⟦<Pool as Pooled>⟧.state self.old) at page fault (⟦<Pool as Pooled>⟧.state self.new)) }
+            (pool_state state self.old) at page fault (pool_state state self.new)) }
     {
         if read_page(&mut self.devices, page, &mut self.spare).is_err() {
             return Err(PoolFault::ReadFault);
@@ -466,13 +453,13 @@ impl Pool {
 
     // Writes the page of a frame to its device, where it isn't there as it is in the frame.
     pub(crate) fn write_back(&mut self, at: usize) -> Result<(), DeviceFault>
-        requires pool { IsPool (⟦<Pool as Pooled>⟧.state self.old) }
-        requires there { at < length (⟦<Pool as Pooled>⟧.state self.old).frames }
-        ensures pool { IsPool (⟦<Pool as Pooled>⟧.state self.new) }
+        requires pool { IsPool (pool_state state self.old) }
+        requires there { at < length (pool_state state self.old).frames }
+        ensures pool { IsPool (pool_state state self.new) }
         ensures done { OnOk result (Cleans
-            (⟦<Pool as Pooled>⟧.state self.old) at (⟦<Pool as Pooled>⟧.state self.new)) }
+            (pool_state state self.old) at (pool_state state self.new)) }
         ensures failed { OnErr result (CleanFails
-            (⟦<Pool as Pooled>⟧.state self.old) at (⟦<Pool as Pooled>⟧.state self.new)) }
+            (pool_state state self.old) at (pool_state state self.new)) }
         ensures spare { self.new.spare.items ≡ self.old.spare.items }
     {
         let frame = self.frames.frame(at);
@@ -496,14 +483,14 @@ fn shape_fault(
     page_size: usize,
     devices: &[Box<dyn PageDevice + Send>],
 ) -> Option<PoolFault>
-    ensures { MatchOption result (IsUpTo 65536 frames
+    ensures { MatchOption result (IsUpTo MAX_SLOTS frames
         × IsSize page_size (map (λ b. state b) devices.now))
         (λ fault. NewRefused frames page_size (map (λ b. state b) devices.now) fault) }
 {
-    if frames < 1 || frames > MOST {
+    if frames < 1 || frames > MAX_SLOTS {
         return Some(PoolFault::BadFrames);
     }
-    if page_size < 1 || page_size > MOST || !all_sized(devices, page_size) {
+    if page_size < 1 || page_size > MAX_PAGE_SIZE || !all_sized(devices, page_size) {
         return Some(PoolFault::SizeDiffers);
     }
     None
@@ -512,7 +499,7 @@ fn shape_fault(
 // The frames and the spare buffer of a pool.
 fn parts(alloc: Global, frames: usize, page_size: usize) -> Result<(Frames, Vec<u8>), AllocError>
     requires some { 0 < frames }
-    requires few { frames ≤ 65536 }
+    requires few { frames ≤ MAX_SLOTS }
     ensures { IfOk result (λ made. (made.0 ≡ unused_frames frames page_size)
         × (length made.1.items ≡ page_size)) }
 {

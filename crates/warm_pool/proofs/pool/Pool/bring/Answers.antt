@@ -1,7 +1,7 @@
 use Rattle.std.proofs.Common.{◌≡◌, ◌<◌, refl, ap, subst, ◌∙◌, arith}
 use Rattle.warm_pool.proofs.PoolSteps.{has_device, has_number, seen_frame}
 use Rattle.warm_pool.proofs.Pins.{put_refused, failed_ranked, loaded_ranked, loaded_puts}
-use Rattle.warm_pool.proofs.KeepingLemmas.{loaded_takes}
+use Rattle.warm_pool.proofs.KeepingLemmas.{loaded_takes, failed_writes_dirty}
 use Rattle.warm_pool.proofs.pool.Pool.bring.Goals as goal
 
 pub returns-in_default-clause-refused : goal.returns-in_default-clause-refused
@@ -52,3 +52,7 @@ returns-clause-refused g c =
 pub returns-then-generation-lt18446744073709551615-clause-frame : goal.returns-then-generation-lt18446744073709551615-clause-frame
 returns-then-generation-lt18446744073709551615-clause-frame g c =
     loaded_takes _ _ c.in-Some.at c.args.page c.known_key-key.result c.args.fixes c.in_default-load_into.ensures.put c.in-Some.ensures.there c.requires.absent _ refl
+
+pub returns-in-Err-clause-writes : goal.returns-in-Err-clause-writes
+returns-in-Err-clause-writes g c =
+    failed_writes_dirty c.args.history.now _ _ c.in-Some.at c.args.page (c.in-Some.ensures.place _ c.requires.ranked) c.in-Err.fault c.in-Err.ensures.refused
