@@ -8,8 +8,10 @@ use warm_devices::{DeviceFault, PageDevice, let_go};
 
 /// Flushes each device on which something waits, in rising order, up to the first that fails.
 pub(crate) fn flush_all(devices: &mut Vec<Box<dyn PageDevice + Send>>) -> Result<(), DeviceFault>
-    ensures flushed { OnOk result (FlushedTo (length devices.old.items) (map (λ b. state b) devices.old.items) (map (λ b. state b) devices.new.items)) }
-    ensures stopped { OnErr result (FlushStops (map (λ b. state b) devices.old.items) (map (λ b. state b) devices.new.items)) }
+    ensures flushed { OnOk result (FlushedTo (length devices.old.items)
+        (map (λ b. state b) devices.old.items) (map (λ b. state b) devices.new.items)) }
+    ensures stopped { OnErr result (FlushStops
+        (map (λ b. state b) devices.old.items) (map (λ b. state b) devices.new.items)) }
 {
     for at in 0..devices.len() {
         flush_device(devices, at)?;
@@ -23,7 +25,8 @@ pub(crate) fn flush_device(
     at: usize,
 ) -> Result<(), DeviceFault>
     requires { at < length devices.old.items }
-    ensures { DeviceFlush (map (λ b. state b) devices.old.items) (map (λ b. state b) devices.new.items) at result }
+    ensures { DeviceFlush (map (λ b. state b) devices.old.items)
+        (map (λ b. state b) devices.new.items) at result }
 {
     if !devices[at].waiting() {
         return Ok(());
@@ -48,7 +51,8 @@ pub(crate) fn exchange(
 )
     requires there { at < length devices.old.items }
     requires quiet { (nth_device (map (λ b. state b) devices.old.items) at).waiting ≡ false }
-    ensures { map (λ b. state b) devices.new.items ≡ set (map (λ b. state b) devices.old.items) at (state device) }
+    ensures { map (λ b. state b) devices.new.items
+        ≡ set (map (λ b. state b) devices.old.items) at (state device) }
 {
     let old = mem::replace(&mut devices[at], device);
     let_go(old);
