@@ -1,5 +1,6 @@
 #!/usr/bin/env python3
-"""Measures visits to resident pages of a pool beside those in plain Rust, and prints the table of docs/PERFORMANCE.md.
+"""Measures visits to resident pages of a pool beside those in plain Rust, and how emptying a pool grows with its frames, and
+prints the tables of docs/PERFORMANCE.md.
 
 usage: measure.py [VISITS]      how many visits a run makes (5,000,000, where no number is given)
 
@@ -15,6 +16,9 @@ from pathlib import Path
 HERE = Path(__file__).resolve().parent
 OURS = HERE.parent.parent / "crates/bench_pool/out/bench_pool"
 RUNS = 5
+FEW, MANY = 4_096, 65_536
+# what holds pages as a pool is emptied, and the program's word for it
+HELD = {"none": "none", "the lower half": "lower", "the upper half": "upper", "all": "all"}
 
 
 def one_run(command: list[str | Path], visits: int) -> tuple[str, float]:
@@ -25,8 +29,24 @@ def one_run(command: list[str | Path], visits: int) -> tuple[str, float]:
     return read, int(spent.split()[0]) / visits
 
 
+def emptying(frames: int, held: str) -> float:
+    """The microseconds to empty a pool of so many frames, of which these hold pages."""
+    said = [subprocess.run([OURS, "empty", str(frames), held], stdout=subprocess.PIPE, check=True, text=True).stdout for _ in range(4 * RUNS)]
+    return min(int(line.split()[0]) for line in said) / 1000
+
+
+def print_emptying() -> None:
+    print(f"| frames that hold a page | {FEW:,} frames, µs | {MANY:,} frames, µs | times |")
+    print("|---|---|---|---|")
+    for name, word in HELD.items():
+        few, many = emptying(FEW, word), emptying(MANY, word)
+        print(f"| {name} | {few:.0f} | {many:.0f} | {many / few:.1f} |")
+
+
 def main() -> None:
     visits = int(sys.argv[1]) if len(sys.argv) > 1 else 5_000_000
+    print_emptying()
+    print()
     with tempfile.TemporaryDirectory() as folder:
         plain = Path(folder) / "plain"
         subprocess.run(["rustc", "-O", "--edition", "2024", "-o", plain, HERE / "plain.rs"], check=True)

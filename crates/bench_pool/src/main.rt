@@ -1,18 +1,19 @@
 //! Visits resident pages of a pool of 65,536 frames, drawn evenly: each visit pins a page, reads eight bytes of it, writes
-//! eight, and unpins it.
+//! eight, and unpins it. Or takes the pages out of the frames of a pool.
 //!
-//! With no argument 1,000 visits are made, and what was read is printed. With a number so many are made, and the
-//! nanoseconds are printed too, for `bench/pool/measure.py`.
+//! With no argument 1,000 visits are made, what was read is printed, and a pool of 4,096 frames whose upper half holds pages is
+//! emptied. For `bench/pool/measure.py`: with a number so many visits are made, and the nanoseconds are printed too; with `empty`, a
+//! number of frames and a word, that many frames are emptied, and the nanoseconds are printed.
 #![tactic(auto)]
 
-ghost use Rattle.std.specs.Prelude.{IfOk, List};
-ghost use Rattle.warm_history.specs.declared.hist.Entry.{Entry};
+ghost use Rattle.std.specs.Prelude.{IfOk};
+ghost use Rattle.warm_history.specs.Histories.{HistoryView};
 ghost use Rattle.warm_pool.specs.State.{IsPool, RankedBy};
 
 use anyhow::{Context, Result, bail};
 use std::alloc::Global;
 use std::env;
-use std::time::Instant;
+use std::time::{Clock, Duration, Instant};
 use warm_devices::{MemDevice, PageDevice};
 use warm_history::History;
 use warm_pool::{Pool, PoolFault, Pooled};
@@ -22,8 +23,25 @@ const FRAMES: u32 = 65_536;
 
 const PAGE_SIZE: usize = 64;
 
-fn page(no: u32) -> PageId {
-    PageId { dev: 0, no }
+/// Which frames hold a page as a pool is emptied.
+#[derive(Clone, Copy, PartialEq, Eq, Debug)]
+enum Held {
+    None,
+    LowerHalf,
+    UpperHalf,
+    All,
+}
+
+impl Held {
+    fn from_word(word: &str) -> Result<Held> {
+        match word {
+            "none" => Ok(Held::None),
+            "lower" => Ok(Held::LowerHalf),
+            "upper" => Ok(Held::UpperHalf),
+            "all" => Ok(Held::All),
+            _ => bail!("which frames hold a page: none, lower, upper or all"),
+        }
+    }
 }
 
 // Pins, reads, writes and unpins a page, and gives the first byte that was read.
@@ -33,7 +51,7 @@ fn visit(pool: &mut Pool, history: &History, no: u32, byte: u8) -> Result<u8, Po
     ensures pool { IsPool (⟦<Pool as Pooled>⟧.state pool.new) }
     ensures ranked { RankedBy (⟦<Pool as Pooled>⟧.state pool.new) history.now }
 {
-    let slot = pool.pin(page(no), history)?;
+    let slot = pool.pin(PageId { dev: 0, no }, history)?;
     let mut bytes = [0u8; 8];
     pool.read(slot, 0, &mut bytes)?;
     pool.write(slot, 0, &[byte; 8])?;
@@ -41,15 +59,15 @@ fn visit(pool: &mut Pool, history: &History, no: u32, byte: u8) -> Result<u8, Po
     Ok(bytes[0])
 }
 
-// Brings every page into a frame.
-fn load_all(pool: &mut Pool, history: &History) -> Result<(), PoolFault>
+// Brings so many pages of a device into frames.
+fn load_pages(pool: &mut Pool, history: &History, dev: u16, pages: u32) -> Result<(), PoolFault>
     requires pool { IsPool (⟦<Pool as Pooled>⟧.state pool.old) }
     requires ranked { RankedBy (⟦<Pool as Pooled>⟧.state pool.old) history.now }
     ensures pool { IsPool (⟦<Pool as Pooled>⟧.state pool.new) }
     ensures ranked { RankedBy (⟦<Pool as Pooled>⟧.state pool.new) history.now }
 {
-    for no in 0..FRAMES {
-        pool.load(page(no), history)?;
+    for no in 0..pages {
+        pool.load(PageId { dev, no }, history)?;
     }
     Ok(())
 }
@@ -74,46 +92,106 @@ fn visit_often(pool: &mut Pool, history: &History, visits: u64) -> Result<u64, P
     Ok(sum)
 }
 
-// A pool over the device, without a page.
-fn opened(alloc: Global, device: Box<dyn PageDevice + Send>) -> Result<Pool>
-    ensures pool { IfOk result (λ pool. IsPool (⟦<Pool as Pooled>⟧.state pool)) }
-    ensures ranked { IfOk result (λ pool. (h : List Entry) → RankedBy (⟦<Pool as Pooled>⟧.state pool) h) }
-{
-    let Ok(mut devices) = Vec::with_capacity(alloc, 1) else {
+fn device(alloc: Global, pages: u32) -> Result<Box<dyn PageDevice + Send>> {
+    let Ok(device) = MemDevice::new(alloc, pages, PAGE_SIZE) else {
         bail!("no memory")
     };
-    devices.push_reserved(device);
-    match Pool::new(alloc, FRAMES as usize, PAGE_SIZE, devices) {
+    let Ok(device) = Box::new(alloc, device) else {
+        bail!("no memory")
+    };
+    Ok(device)
+}
+
+// A pool over two devices, of so many pages each, without a page.
+fn opened(alloc: Global, frames: u32, pages: u32) -> Result<Pool>
+    ensures pool { IfOk result (λ pool. IsPool (⟦<Pool as Pooled>⟧.state pool)) }
+    ensures ranked { IfOk result (λ pool. (h : HistoryView) → RankedBy (⟦<Pool as Pooled>⟧.state pool) h) }
+{
+    let Ok(mut devices) = Vec::with_capacity(alloc, 2) else {
+        bail!("no memory")
+    };
+    devices.push_reserved(device(alloc, pages)?);
+    devices.push_reserved(device(alloc, pages)?);
+    match Pool::new(alloc, frames as usize, PAGE_SIZE, devices) {
         Ok(pool) => Ok(pool),
         Err(_) => bail!("no pool"),
     }
 }
 
-fn main(rt: HostRuntime) -> Result<()> {
-    let asked = env::args(&rt)?.nth(1);
-    let visits = match &asked {
-        None => 1_000,
-        Some(word) => word.parse::<u64>().context("the number of visits")?,
-    };
-    let Ok(device) = MemDevice::new(rt.alloc(), FRAMES, PAGE_SIZE) else {
-        bail!("no memory")
-    };
-    let Ok(device) = Box::new(rt.alloc(), device) else {
-        bail!("no memory")
-    };
-    let mut pool = opened(rt.alloc(), device)?;
-    let history = History::new(rt.alloc());
-    let Ok(()) = load_all(&mut pool, &history) else {
+// The sum of what so many visits read, and the time that they took.
+fn visited(clock: &impl Clock, alloc: Global, visits: u64) -> Result<(u64, Duration)> {
+    let mut pool = opened(alloc, FRAMES, FRAMES)?;
+    let history = History::new(alloc);
+    let Ok(()) = load_pages(&mut pool, &history, 0, FRAMES) else {
         bail!("a page was not loaded")
     };
-    let start = Instant::now(&rt)?;
+    let start = Instant::now(clock)?;
     let Ok(sum) = visit_often(&mut pool, &history, visits) else {
         bail!("a visit was refused")
     };
-    let spent = start.elapsed(&rt)?;
-    println!(rt; "{} visits: {}", visits, sum)?;
-    if asked.is_some() {
-        println!(rt; "{} ns", spent.as_nanos())?;
+    Ok((sum, start.elapsed(clock)?))
+}
+
+// A pool of which these frames hold a page: those of the lower half one of device 0, those of the upper half one of device 1.
+fn filled(alloc: Global, frames: u32, held: Held) -> Result<Pool>
+    ensures { IfOk result (λ pool. IsPool (⟦<Pool as Pooled>⟧.state pool)) }
+{
+    let half = frames / 2;
+    let mut pool = opened(alloc, frames, half)?;
+    let history = History::new(alloc);
+    let (lower, upper) = match held {
+        Held::None => (0, 0),
+        Held::LowerHalf => (half, 0),
+        Held::UpperHalf | Held::All => (half, half),
+    };
+    if load_pages(&mut pool, &history, 0, lower).is_err() {
+        bail!("a page was not loaded")
     }
+    if load_pages(&mut pool, &history, 1, upper).is_err() {
+        bail!("a page was not loaded")
+    }
+    Ok(pool)
+}
+
+// The time to empty a pool. Where the upper half alone holds pages, those of the lower half left as their device was retired, which
+// counts too.
+fn emptied(clock: &impl Clock, alloc: Global, frames: u32, held: Held) -> Result<Duration> {
+    let mut pool = filled(alloc, frames, held)?;
+    let another = device(alloc, frames / 2)?;
+    let start = Instant::now(clock)?;
+    if held == Held::UpperHalf && pool.retire(0, another).is_err() {
+        bail!("the device was not retired")
+    }
+    if pool.empty().is_err() {
+        bail!("the pool was not emptied")
+    }
+    let spent = start.elapsed(clock)?;
+    if pool.victim().is_some() {
+        bail!("a page is left")
+    }
+    Ok(spent)
+}
+
+fn main(rt: HostRuntime) -> Result<()> {
+    let mut words = env::args(&rt)?.skip(1);
+    let Some(word) = words.next() else {
+        let (sum, _) = visited(&rt, rt.alloc(), 1_000)?;
+        println!(rt; "1000 visits: {}", sum)?;
+        emptied(&rt, rt.alloc(), 4_096, Held::UpperHalf)?;
+        println!(rt; "4096 frames emptied")?;
+        return Ok(());
+    };
+    if word.as_str() == "empty" {
+        let frames = words.next().context("the number of frames")?;
+        let frames = frames.parse::<u32>().context("the number of frames")?;
+        let held = words.next().context("which frames hold a page")?;
+        let spent = emptied(&rt, rt.alloc(), frames, Held::from_word(&held)?)?;
+        println!(rt; "{} ns", spent.as_nanos())?;
+        return Ok(());
+    }
+    let visits = word.parse::<u64>().context("the number of visits")?;
+    let (sum, spent) = visited(&rt, rt.alloc(), visits)?;
+    println!(rt; "{} visits: {}", visits, sum)?;
+    println!(rt; "{} ns", spent.as_nanos())?;
     Ok(())
 }

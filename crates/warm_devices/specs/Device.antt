@@ -44,6 +44,25 @@ pub record ChangesPage (page : ℕ) (old new : List (List ℕ)) : Type 0 where
   pub count : length new ≡ length old
   pub others : (k : ℕ) → k ≢ page → page_at new k ≡ page_at old k
 
+abbrev pub ChangesOnly : ℕ → DeviceState → DeviceState → Type 0
+ChangesOnly page old new = ChangesPage page old.contents new.contents
+
+-- these are the bytes of the page, where the device is honest
+abbrev pub GivesPage : DeviceState → ℕ → List ℕ → Type 0
+GivesPage device page bytes = IsTrue device.honest → bytes ≡ page_at device.contents page
+
+-- the page then has these bytes, where the device is honest
+abbrev pub TakesPage : DeviceState → ℕ → List ℕ → DeviceState → Type 0
+TakesPage old page bytes new = IsTrue old.honest → page_at new.contents page ≡ bytes
+
+-- what waited still waits, and nothing else does
+abbrev pub SameWaiting : DeviceState → DeviceState → Type 0
+SameWaiting old new = new.waiting ≡ old.waiting
+
+-- an unfailing device has nothing left to put down
+abbrev pub SettlesSurely : DeviceState → DeviceState → Type 0
+SettlesSurely old new = IsTrue old.unfailing → new.waiting ≡ false
+
 -- a device of zero pages in memory: it never fails and gives back what was written
 abbrev pub zeroed : ℕ → ℕ → DeviceState
 zeroed pages page_size = record {

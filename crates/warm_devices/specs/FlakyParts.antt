@@ -1,6 +1,6 @@
 -- What a `Flaky` shows.
-use Rattle.std.specs.Prelude.{◌≡◌, ◌≢◌, ℕ, ◌+◌, ◌-◌, ◌^◌, min, false, IsTrue, IsOk, Result, Err, Bool, if◌then◌else◌}
-use Rattle.warm_devices.specs.Device.{DeviceState}
+use Rattle.std.specs.Prelude.{◌≡◌, ◌≢◌, ℕ, ◌+◌, ◌-◌, ◌^◌, min, replicate, false, IsTrue, IsOk, Result, Err, Bool, if◌then◌else◌}
+use Rattle.warm_devices.specs.Device.{DeviceState, SameWaiting, page_at}
 use Rattle.warm_devices.specs.declared.fault.DeviceFault.{DeviceFault}
 use Rattle.warm_devices.specs.declared.device.PageDevice.{Ghosts}
 use Rattle.warm_devices.specs.declared.flaky.Flaky.{Flaky}
@@ -25,3 +25,18 @@ pub record FailsWhenDue {D : Type 0} {g : Ghosts D} (kind : DeviceFault) (result
   pub counted : calls_left new ≡ calls_left old - 1
   pub due : calls_left old ≡ 1 → result ≡ Err kind
   pub passed_on : calls_left old ≢ 1 → IsTrue (g.state old.inner).unfailing → IsOk result
+
+-- a device of which a call may fail, and whose count of failures fits 64 bits
+abbrev pub may_fail : DeviceState → DeviceState
+may_fail d = record d { failures = min d.failures (2 ^ 64 - 1); unfailing = false }
+
+-- the write that is to fail fills the page with EE (hexadecimal), over an unfailing and honest device
+abbrev pub TearsWhenDue : {D : Type 0} {g : Ghosts D} → ℕ → Flaky D g → Flaky D g → Type 0
+TearsWhenDue {D} {g} page old new =
+    calls_left old ≡ 1 → IsTrue (g.state old.inner).unfailing → IsTrue (g.state old.inner).honest
+    → page_at (flaky_state new).contents page ≡ replicate (g.state old.inner).page_size 0xEE
+
+-- A flush where something waits counts as a call; where it is the one that is to fail, what waited still waits.
+pub record SettlesUnlessDue {D : Type 0} {g : Ghosts D} (old new : Flaky D g) : Type 0 where
+  pub counted : calls_left new ≡ (if (flaky_state old).waiting then calls_left old - 1 else calls_left old)
+  pub due : calls_left old ≡ 1 → SameWaiting (flaky_state old) (flaky_state new)

@@ -1,6 +1,6 @@
 //! What every page device promises.
 ghost use Rattle.std.specs.Prelude.{◌≡◌, ◌<◌, IsTrue, IsOk, OnOk, OnErr, length, true, false};
-ghost use Rattle.warm_devices.specs.Device.{DeviceState, SameShape, CountsFault, ChangesPage, Settles, page_at};
+ghost use Rattle.warm_devices.specs.Device.{DeviceState, SameShape, CountsFault, ChangesPage, GivesPage, TakesPage, Settles};
 ghost use Rattle.warm_devices.specs.declared.fault.DeviceFault.TheVariants.{Read, Write, Flush};
 
 use crate::DeviceFault;
@@ -40,7 +40,7 @@ pub trait PageDevice: Drop {
         ensures unfailing { IsTrue (state self.old).unfailing → IsOk result }
         ensures waiting { (state self.new).waiting ≡ (state self.old).waiting }
         ensures contents { (state self.new).contents ≡ (state self.old).contents }
-        ensures bytes { OnOk result (IsTrue (state self.old).honest → into.new ≡ page_at (state self.old).contents no) };
+        ensures bytes { OnOk result (GivesPage (state self.old) no into.new) };
 
     /// Writes the bytes of page `no`, which have the size of a page. They wait until the next flush.
     ///
@@ -54,7 +54,7 @@ pub trait PageDevice: Drop {
         ensures unfailing { IsTrue (state self.old).unfailing → IsOk result }
         ensures waiting { (state self.new).waiting ≡ true }
         ensures others { ChangesPage no (state self.old).contents (state self.new).contents }
-        ensures bytes { OnOk result (IsTrue (state self.old).honest → page_at (state self.new).contents no ≡ bytes.now) };
+        ensures bytes { OnOk result (TakesPage (state self.old) no bytes.now (state self.new)) };
 
     /// Puts down what waits.
     ///

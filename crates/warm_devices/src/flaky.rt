@@ -1,12 +1,8 @@
 //! A device that fails one chosen call, to show what stands above it what a failing device does.
-ghost use Rattle.std.specs.Prelude.{◌≡◌, ◌+◌, ◌-◌, ◌^◌, ◌<◌, ◌≤◌, ◌==◌, min, ℕ, IsTrue, IsOk, OnOk, OnErr, length, replicate, true, false, if◌then◌else◌};
-ghost use Rattle.warm_devices.specs.Device.{DeviceState};
-ghost use Rattle.warm_devices.specs.declared.flaky.TheConstants.{MAX_PAGE_SIZE};
+ghost use Rattle.std.specs.Prelude.{◌≡◌, ◌-◌, ◌≤◌, ◌==◌, replicate};
+ghost use Rattle.warm_devices.specs.declared.TheConstants.{MAX_PAGE_SIZE};
 
-use crate::{DeviceFault, PageDevice};
-
-/// The largest page, in bytes.
-pub const MAX_PAGE_SIZE: usize = 65536;
+use crate::{DeviceFault, MAX_PAGE_SIZE, PageDevice};
 
 /// The bytes of torn pages.
 static TORN: [u8; MAX_PAGE_SIZE] = [0xEE; MAX_PAGE_SIZE];
@@ -24,14 +20,14 @@ pub struct Flaky<D: PageDevice> {
 }
 
 impl<D: PageDevice> Flaky<D> {
-    ghost use Rattle.warm_devices.specs.FlakyParts.{inner_of, calls_left, flaky_state};
+    ghost use Rattle.warm_devices.specs.FlakyParts.{inner_of, calls_left, flaky_state, may_fail};
 
     /// Passes calls on to `inner` and fails the `n`-th, or none where `n` is 0. The pages have at most `MAX_PAGE_SIZE` bytes.
     pub fn new(inner: D, n: u64) -> Flaky<D>
         requires { (D.PageDevice.state inner).page_size ≤ MAX_PAGE_SIZE }
         ensures inner { inner_of result ≡ inner }
         ensures calls { calls_left result ≡ n }
-        ensures state { flaky_state result ≡ record (D.PageDevice.state inner) { failures = min (D.PageDevice.state inner).failures (2 ^ 64 - 1); unfailing = false } }
+        ensures state { flaky_state result ≡ may_fail (D.PageDevice.state inner) }
     {
         Flaky {
             inner,
@@ -60,9 +56,10 @@ fn torn_page(len: usize) -> &'static [u8]
 }
 
 impl<D: PageDevice> PageDevice for Flaky<D> {
-    ghost use Rattle.std.specs.Prelude.{◌≡◌, ◌-◌, ◌<◌, IsTrue, IsOk, OnOk, OnErr, length, replicate, true, false, if◌then◌else◌};
-    ghost use Rattle.warm_devices.specs.Device.{DeviceState, SameShape, CountsFault, ChangesPage, Settles, page_at};
-    ghost use Rattle.warm_devices.specs.FlakyParts.{inner_of, calls_left, flaky_state, FailsWhenDue};
+    ghost use Rattle.std.specs.Prelude.{◌≡◌, ◌<◌, IsTrue, IsOk, OnOk, OnErr, length, true, false};
+    ghost use Rattle.warm_devices.specs.Device.{DeviceState, SameShape, CountsFault, ChangesOnly, GivesPage};
+    ghost use Rattle.warm_devices.specs.Device.{TakesPage, SameWaiting, Settles, SettlesSurely};
+    ghost use Rattle.warm_devices.specs.FlakyParts.{flaky_state, FailsWhenDue, TearsWhenDue, SettlesUnlessDue};
     ghost use Rattle.warm_devices.specs.declared.fault.DeviceFault.TheVariants.{Read, Write, Flush};
 
     ghost state = { flaky_state };
@@ -91,7 +88,7 @@ impl<D: PageDevice> PageDevice for Flaky<D> {
         ensures unfailing { IsTrue (flaky_state self.old).unfailing → IsOk result }
         ensures waiting { (flaky_state self.new).waiting ≡ (flaky_state self.old).waiting }
         ensures contents { (flaky_state self.new).contents ≡ (flaky_state self.old).contents }
-        ensures bytes { OnOk result (IsTrue (flaky_state self.old).honest → into.new ≡ page_at (flaky_state self.old).contents no) }
+        ensures bytes { OnOk result (GivesPage (flaky_state self.old) no into.new) }
         ensures chosen { FailsWhenDue Read result self.old self.new }
     {
         if is_due(&mut self.calls_left) {
@@ -108,11 +105,11 @@ impl<D: PageDevice> PageDevice for Flaky<D> {
         ensures faults { CountsFault Write result (flaky_state self.old) (flaky_state self.new) }
         ensures unfailing { IsTrue (flaky_state self.old).unfailing → IsOk result }
         ensures waiting { (flaky_state self.new).waiting ≡ true }
-        ensures others { ChangesPage no (flaky_state self.old).contents (flaky_state self.new).contents }
-        ensures bytes { OnOk result (IsTrue (flaky_state self.old).honest → page_at (flaky_state self.new).contents no ≡ bytes.now) }
+        ensures others { ChangesOnly no (flaky_state self.old) (flaky_state self.new) }
+        ensures bytes { OnOk result
+            (TakesPage (flaky_state self.old) no bytes.now (flaky_state self.new)) }
         ensures chosen { FailsWhenDue Write result self.old self.new }
-        ensures torn { calls_left self.old ≡ 1 → IsTrue (D.PageDevice.state (inner_of self.old)).unfailing → IsTrue (flaky_state self.old).honest
-            → page_at (flaky_state self.new).contents no ≡ replicate (flaky_state self.old).page_size 0xEE }
+        ensures torn { TearsWhenDue no self.old self.new }
     {
         if is_due(&mut self.calls_left) {
             // A failure of the inner write has been counted by it.
@@ -129,7 +126,7 @@ impl<D: PageDevice> PageDevice for Flaky<D> {
         ensures faults { CountsFault Flush result (flaky_state self.old) (flaky_state self.new) }
         ensures unfailing { IsTrue (flaky_state self.old).unfailing → IsOk result }
         ensures flushed { OnOk result ((flaky_state self.new).waiting ≡ false) }
-        ensures failed { OnErr result ((flaky_state self.new).waiting ≡ (flaky_state self.old).waiting) }
+        ensures failed { OnErr result (SameWaiting (flaky_state self.old) (flaky_state self.new)) }
         ensures contents { (flaky_state self.new).contents ≡ (flaky_state self.old).contents }
         ensures chosen { FailsWhenDue Flush result self.old self.new }
     {
@@ -144,10 +141,9 @@ impl<D: PageDevice> PageDevice for Flaky<D> {
     fn settle(&mut self)
         ensures shape { SameShape (flaky_state self.old) (flaky_state self.new) }
         ensures settled { Settles (flaky_state self.old) (flaky_state self.new) }
-        ensures unfailing { IsTrue (flaky_state self.old).unfailing → (flaky_state self.new).waiting ≡ false }
+        ensures unfailing { SettlesSurely (flaky_state self.old) (flaky_state self.new) }
         ensures contents { (flaky_state self.new).contents ≡ (flaky_state self.old).contents }
-        ensures counted { calls_left self.new ≡ (if (flaky_state self.old).waiting then calls_left self.old - 1 else calls_left self.old) }
-        ensures due { calls_left self.old ≡ 1 → (flaky_state self.new).waiting ≡ (flaky_state self.old).waiting }
+        ensures counted { SettlesUnlessDue self.old self.new }
     {
         if self.waiting() {
             let _ = self.flush();

@@ -18,8 +18,11 @@ mod memory;
 pub use device::{PageDevice, let_go};
 pub use fault::{DeviceFault, OpenFault};
 pub use file::FileDevice;
-pub use flaky::{Flaky, MAX_PAGE_SIZE};
+pub use flaky::Flaky;
 pub use memory::MemDevice;
+
+/// The most bytes of a page that a pool takes, or that a failed write fills.
+pub const MAX_PAGE_SIZE: usize = 65_536;
 
 #[cfg(test)]
 mod tests;

@@ -29,7 +29,8 @@ impl Model for MemDevice {
       unfailing = true;
     } };
 
-    ghost invariant = { λ m. (length m.pages.items < 2 ^ 32) × AllSized m.page_size (map (λ page. page.items) m.pages.items) };
+    ghost invariant = { λ m. (length m.pages.items < 2 ^ 32)
+        × AllSized m.page_size (map (λ page. page.items) m.pages.items) };
 }
 
 impl MemDevice {

@@ -1,12 +1,6 @@
 use super::*;
 use std::fs;
-use std::sync::Arc;
-use std::sync::atomic::{AtomicU64, Ordering};
 use std::test::Fail;
-
-mod noting;
-
-use noting::{DROPPED_SETTLED, DROPPED_WAITING, Noting};
 
 #[test]
 fn a_device_in_memory_keeps_its_pages(rt: HostRuntime) -> Result<(), Fail> {
@@ -60,30 +54,6 @@ fn the_chosen_call_may_be_a_read_or_a_flush(rt: HostRuntime) -> Result<(), Fail>
     assert_eq!(rt; none.write(0, &[5]), Ok(()));
     none.settle();
     assert_eq!(rt; (none.waiting(), none.failures()), (false, 0));
-    Ok(())
-}
-
-#[test]
-fn a_flaky_device_settles_as_it_is_dropped(rt: HostRuntime) -> Result<(), Fail> {
-    let alloc = rt.alloc();
-    for (n, want) in [
-        (0, DROPPED_SETTLED),
-        (2, DROPPED_WAITING),
-        (3, DROPPED_SETTLED),
-    ] {
-        let note = Arc::new(alloc, AtomicU64::new(0))?;
-        let noting = Noting::new(MemDevice::new(alloc, 1, 1)?, Arc::try_clone(&note)?);
-        let mut device = Flaky::new(noting, n);
-        assert_eq!(rt; device.write(0, &[5]), Ok(()));
-        assert_eq!(rt; note.load(Ordering::SeqCst), 0);
-        drop(device);
-        assert_eq!(rt; note.load(Ordering::SeqCst), want, "call {n} fails");
-    }
-    let note = Arc::new(alloc, AtomicU64::new(0))?;
-    let mut device = Flaky::new(Noting::new(MemDevice::new(alloc, 1, 1)?, note), 2);
-    assert_eq!(rt; device.write(0, &[5]), Ok(()));
-    device.settle();
-    assert_eq!(rt; (device.waiting(), device.failures()), (true, 1));
     Ok(())
 }
 

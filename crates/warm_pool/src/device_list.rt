@@ -1,7 +1,7 @@
 //! Calls of one of a pool's devices, and what they do to the list of them.
-ghost use Rattle.std.specs.Prelude.{◌≡◌, ◌↔◌, ◌<◌, ℕ, IsTrue, map, length, true};
+ghost use Rattle.std.specs.Prelude.{◌≡◌, ◌↔◌, ◌<◌, IsTrue, map, length};
 ghost use Rattle.warm_pool.specs.State.{nth_device};
-ghost use Rattle.warm_pool.specs.DeviceCalls.{PageRead, PageWrite};
+ghost use Rattle.warm_pool.specs.DeviceCalls.{AreOfSize, PageRead, PageWrite};
 
 use warm_devices::{DeviceFault, PageDevice};
 use warm_stamps::PageId;
@@ -14,8 +14,8 @@ pub(crate) fn read_page(
 ) -> Result<(), DeviceFault>
     requires device { page.dev < length devices.old.items }
     requires known { page.no < (nth_device (map (λ b. state b) devices.old.items) page.dev).pages }
-    requires sized { length into.old.items ≡ (nth_device
-        (map (λ b. state b) devices.old.items) page.dev).page_size }
+    requires sized { length into.old.items
+        ≡ (nth_device (map (λ b. state b) devices.old.items) page.dev).page_size }
     ensures call { PageRead (map (λ b. state b) devices.old.items)
         (map (λ b. state b) devices.new.items) page.dev page.no into.new.items result }
     ensures len { length into.new.items ≡ length into.old.items }
@@ -31,8 +31,8 @@ pub(crate) fn write_page(
 ) -> Result<(), DeviceFault>
     requires device { page.dev < length devices.old.items }
     requires known { page.no < (nth_device (map (λ b. state b) devices.old.items) page.dev).pages }
-    requires sized { length bytes.now ≡ (nth_device
-        (map (λ b. state b) devices.old.items) page.dev).page_size }
+    requires sized { length bytes.now
+        ≡ (nth_device (map (λ b. state b) devices.old.items) page.dev).page_size }
     ensures { PageWrite (map (λ b. state b) devices.old.items)
         (map (λ b. state b) devices.new.items) page.dev page.no bytes.now result }
 {
@@ -49,8 +49,8 @@ pub(crate) fn pages_of(devices: &[Box<dyn PageDevice + Send>], device: usize) ->
 
 /// Whether each device has pages of this size.
 pub(crate) fn all_sized(devices: &[Box<dyn PageDevice + Send>], page_size: usize) -> bool
-    ensures { IsTrue result ↔ ((k : ℕ) → k < length devices.now → (nth_device
-        (map (λ b. state b) devices.now) k).page_size ≡ page_size) }
+    ensures { IsTrue result
+        ↔ AreOfSize page_size (length devices.now) (map (λ b. state b) devices.now) }
 {
     for device in devices {
         if device.page_size() != page_size {

@@ -25,8 +25,8 @@ pub(crate) fn flush_device(
     at: usize,
 ) -> Result<(), DeviceFault>
     requires { at < length devices.old.items }
-    ensures { DeviceFlush
-        (map (λ b. state b) devices.old.items) (map (λ b. state b) devices.new.items) at result }
+    ensures { DeviceFlush (map (λ b. state b) devices.old.items)
+        (map (λ b. state b) devices.new.items) at result }
 {
     if !devices[at].waiting() {
         return Ok(());
@@ -51,8 +51,8 @@ pub(crate) fn exchange(
 )
     requires there { at < length devices.old.items }
     requires quiet { (nth_device (map (λ b. state b) devices.old.items) at).waiting ≡ false }
-    ensures { map (λ b. state b) devices.new.items ≡ set
-        (map (λ b. state b) devices.old.items) at (state device) }
+    ensures { map (λ b. state b) devices.new.items
+        ≡ set (map (λ b. state b) devices.old.items) at (state device) }
 {
     let old = mem::replace(&mut devices[at], device);
     let_go(old);

@@ -20,5 +20,12 @@ impl Model for Frame {
 
     ghost Value = { FrameState };
 
-    ghost view = { λ f. record { page = f.page; key = f.key; generation = f.generation; fixes = f.fixes; dirty = f.dirty; bytes = f.bytes.items } };
+    ghost view = { λ f. record {
+      page = f.page;
+      key = f.key;
+      generation = f.generation;
+      fixes = f.fixes;
+      dirty = f.dirty;
+      bytes = f.bytes.items;
+    } };
 }

@@ -9,18 +9,14 @@ ghost use Rattle.warm_pool.specs.State.{IsPool, RankedBy};
 
 use crate::residents::Residents;
 use crate::{Pool, PoolFault, Pooled, Slot, Unretired};
+use noting_device::{Found, Note, Noting};
 use std::alloc::{AllocError, Global};
 use std::process::Abort;
 use std::sync::Arc;
-use std::sync::atomic::{AtomicU64, Ordering};
 use std::test::Fail;
 use warm_devices::{Flaky, MemDevice, PageDevice};
 use warm_history::History;
-use warm_stamps::PageId;
-
-mod noting;
-
-use noting::{Noting, SETTLED};
+use warm_stamps::{PageId, Reference, ReplicaId, Stamp};
 
 const fn page(no: u32) -> PageId {
     PageId { dev: 0, no }
@@ -329,34 +325,37 @@ fn a_device_stays_where_its_flush_fails(rt: HostRuntime) -> Result<(), Fail> {
     Ok(())
 }
 
-// Where a device notes what its drop sees.
-fn blank_note(alloc: Global) -> Result<Arc<AtomicU64, Global>, Fail> {
-    match Arc::new(alloc, AtomicU64::new(0)) {
-        Ok(note) => Ok(note),
-        Err(_) => Ok(Arc::new(alloc, AtomicU64::new(0))?),
-    }
-}
+// What a device of eight pages holds before the pool writes to it.
+const STORED: [u8; 16] = [0x55; 16];
 
+// A device that notes what its drop sees, and the note.
 fn new_witness(
     alloc: Global,
-    note: &Arc<AtomicU64, Global>,
-) -> Result<Box<dyn PageDevice + Send>, AllocError> {
-    let note = Arc::try_clone(note)?;
-    Ok(Box::new(alloc, Noting::new(MemDevice::new(alloc, 8, 16)?, note))?)
-}
-
-// A device that notes what its drop sees. One that found no room for its box has noted it too, which is wiped out.
-fn witness(
-    alloc: Global,
-    note: &Arc<AtomicU64, Global>,
-) -> Result<Box<dyn PageDevice + Send>, Fail> {
-    match new_witness(alloc, note) {
-        Ok(device) => Ok(device),
-        Err(_) => {
-            note.store(0, Ordering::SeqCst);
-            Ok(new_witness(alloc, note)?)
+) -> Result<(Box<dyn PageDevice + Send>, Arc<Note, Global>), AllocError> {
+    let note = Note::blank(alloc, 8, 16)?;
+    let mut device = MemDevice::new(alloc, 8, 16)?;
+    for no in 0..8 {
+        if no < device.pages() && device.page_size() == 16 {
+            let _ = device.write(no, &STORED);
         }
     }
+    let _ = device.flush();
+    let device = Noting::new(alloc, device, Arc::try_clone(&note)?)?;
+    Ok((Box::new(alloc, device)?, note))
+}
+
+fn witness(alloc: Global) -> Result<(Box<dyn PageDevice + Send>, Arc<Note, Global>), Fail> {
+    match new_witness(alloc) {
+        Ok(made) => Ok(made),
+        Err(_) => Ok(new_witness(alloc)?),
+    }
+}
+
+// Whether nothing waited on the device as its drop began, and it held page 0 as it was written, and all others as they were.
+fn is_kept(note: &Note) -> bool {
+    note.found() == Found::Settled
+        && note.has(0, &[0xAA; 16])
+        && (1..8).all(|no| note.has(no, &STORED))
 }
 
 // A pool over such a device. Its page 0:0 is filled with AA, and went to no device yet.
@@ -364,34 +363,33 @@ fn noted_pool(
     rt: &impl Abort,
     alloc: Global,
     history: &History,
-    note: &Arc<AtomicU64, Global>,
-) -> Result<(Pool, Slot), Fail>
+) -> Result<(Pool, Slot, Arc<Note, Global>), Fail>
     ensures pool { IfOk result (λ made. IsPool (⟦<Pool as Pooled>⟧.state made.0)) }
     ensures ranked { IfOk result (λ made. RankedBy (⟦<Pool as Pooled>⟧.state made.0) history.now) }
 {
-    let mut pool = pool_over(rt, alloc, 2, witness(alloc, note)?)?;
+    let (device, note) = witness(alloc)?;
+    let mut pool = pool_over(rt, alloc, 2, device)?;
     let held = pinned(&mut pool, history, 0)?;
     let written = write(rt, &mut pool, history, held, 0, &[0xAA; 16]);
     assert_eq!(rt; written, Ok(()));
-    Ok((pool, held))
+    Ok((pool, held, note))
 }
 
 #[test]
 fn a_retired_device_has_what_was_written(rt: HostRuntime) -> Result<(), Fail> {
     let alloc = rt.alloc();
     let history = History::new(alloc);
-    let note = blank_note(alloc)?;
-    let (mut pool, held) = noted_pool(&rt, alloc, &history, &note)?;
+    let (mut pool, held, note) = noted_pool(&rt, alloc, &history)?;
     let unretired = retire(&mut pool, &history, 0, memory(alloc, 8)?)
         .err()
         .ok_or("retired")?;
     assert_eq!(rt;
-        (unretired.fault, note.load(Ordering::SeqCst)),
-        (PoolFault::Fixed, 0)
+        (unretired.fault, note.found()),
+        (PoolFault::Fixed, Found::NoDrop)
     );
     unpin(&rt, &mut pool, &history, held);
     assert!(rt; retire(&mut pool, &history, 0, unretired.device).is_ok());
-    assert_eq!(rt; note.load(Ordering::SeqCst), SETTLED);
+    assert!(rt; is_kept(&note));
     assert!(rt; pool.close().is_ok());
     Ok(())
 }
@@ -400,13 +398,12 @@ fn a_retired_device_has_what_was_written(rt: HostRuntime) -> Result<(), Fail> {
 fn a_closed_pools_device_has_what_was_written(rt: HostRuntime) -> Result<(), Fail> {
     let alloc = rt.alloc();
     let history = History::new(alloc);
-    let note = blank_note(alloc)?;
-    let (pool, held) = noted_pool(&rt, alloc, &history, &note)?;
+    let (pool, held, note) = noted_pool(&rt, alloc, &history)?;
     let mut pool = not_closed(&rt, pool, &history)?;
-    assert_eq!(rt; note.load(Ordering::SeqCst), 0);
+    assert_eq!(rt; note.found(), Found::NoDrop);
     unpin(&rt, &mut pool, &history, held);
     assert!(rt; pool.close().is_ok());
-    assert_eq!(rt; note.load(Ordering::SeqCst), SETTLED);
+    assert!(rt; is_kept(&note));
     Ok(())
 }
 
@@ -427,6 +424,99 @@ fn an_emptied_pool_keeps_its_pages(rt: HostRuntime) -> Result<(), Fail> {
     let bytes = read(&rt, &pool, slot(0, 2));
     assert_eq!(rt; bytes, [0, 0, 0, 0, 0, 0, 0, 0, 0, 0, 0, 0, 0, 0, 7, 8]);
     unpin(&rt, &mut pool, &history, slot(0, 2));
+    assert!(rt; pool.close().is_ok());
+    Ok(())
+}
+
+// References to pages at times, all seen at one replica.
+fn history_of(alloc: Global, seen: &[(u32, u64)]) -> Result<History, Fail> {
+    let replica = ReplicaId::new(1)?;
+    let mut history = History::new(alloc);
+    for &(no, time) in seen {
+        let batch = [Reference {
+            page: page(no),
+            stamp: Stamp { time, replica },
+        }];
+        if history.absorb(&batch).is_err() {
+            history.absorb(&batch)?;
+        }
+    }
+    Ok(history)
+}
+
+// Brings a page in without a fix, which no fault hinders.
+fn load(pool: &mut Pool, history: &History, no: u32) -> Result<(), Fail>
+    requires pool { IsPool (⟦<Pool as Pooled>⟧.state pool.old) }
+    requires ranked { RankedBy (⟦<Pool as Pooled>⟧.state pool.old) history.now }
+    ensures pool { IsPool (⟦<Pool as Pooled>⟧.state pool.new) }
+    ensures ranked { RankedBy (⟦<Pool as Pooled>⟧.state pool.new) history.now }
+{
+    match pool.load(page(no), history) {
+        Ok(_) => Ok(()),
+        Err(_) => Err("the page is loaded".into()),
+    }
+}
+
+// Of two frames with the pages 1 and 2, the page that leaves for a third one, by what was seen.
+fn leaving(rt: &impl Abort, alloc: Global, seen: &[(u32, u64)]) -> Result<Option<PageId>, Fail> {
+    let history = history_of(alloc, seen)?;
+    let mut pool = pool_over(rt, alloc, 2, memory(alloc, 8)?)?;
+    load(&mut pool, &history, 1)?;
+    load(&mut pool, &history, 2)?;
+    let victim = pool.victim();
+    load(&mut pool, &history, 3)?;
+    assert!(rt; pool.resident(page(1)) != (victim == Some(page(1))));
+    assert!(rt; pool.resident(page(2)) != (victim == Some(page(2))));
+    assert!(rt; pool.close().is_ok());
+    Ok(victim)
+}
+
+#[test]
+fn the_history_says_which_page_leaves(rt: HostRuntime) -> Result<(), Fail> {
+    let alloc = rt.alloc();
+    let farther = [(1, 1), (1, 100), (2, 50), (2, 60)];
+    assert_eq!(rt; leaving(&rt, alloc, &farther)?, Some(page(1)));
+    let once = [(1, 1), (1, 2), (2, 100), (2, 100)];
+    assert_eq!(rt; leaving(&rt, alloc, &once)?, Some(page(2)));
+    let older = [(1, 7), (2, 6)];
+    assert_eq!(rt; leaving(&rt, alloc, &older)?, Some(page(2)));
+    assert_eq!(rt; leaving(&rt, alloc, &[])?, Some(page(1)));
+    Ok(())
+}
+
+fn refresh(pool: &mut Pool, history: &History, no: u32)
+    requires { IsPool (⟦<Pool as Pooled>⟧.state pool.old) }
+    ensures { IsPool (⟦<Pool as Pooled>⟧.state pool.new) }
+{
+    pool.refresh(history, &[page(no)]);
+}
+
+#[test]
+fn a_refreshed_page_has_a_new_rank(rt: HostRuntime) -> Result<(), Fail> {
+    let alloc = rt.alloc();
+    let history = History::new(alloc);
+    let mut pool = pool_over(&rt, alloc, 2, memory(alloc, 8)?)?;
+    load(&mut pool, &history, 1)?;
+    load(&mut pool, &history, 2)?;
+    assert_eq!(rt; pool.victim(), Some(page(1)));
+    let later = history_of(alloc, &[(1, 5)])?;
+    refresh(&mut pool, &later, 1);
+    assert_eq!(rt; pool.victim(), Some(page(2)));
+    assert!(rt; pool.close().is_ok());
+    Ok(())
+}
+
+#[test]
+fn a_page_stays_out_where_no_frame_or_no_byte_is_to_be_had(rt: HostRuntime) -> Result<(), Fail> {
+    let alloc = rt.alloc();
+    let history = History::new(alloc);
+    let mut pool = pool_over(&rt, alloc, 1, flaky(alloc, 1)?)?;
+    assert_eq!(rt; pool.pin(page(1), &history), Err(PoolFault::ReadFault));
+    assert!(rt; !pool.resident(page(1)));
+    assert_eq!(rt; pool.pin(page(1), &history), Ok(slot(0, 1)));
+    assert_eq!(rt; pool.pin(page(2), &history), Err(PoolFault::AllFixed));
+    assert_eq!(rt; (pool.resident(page(1)), pool.victim()), (true, None));
+    unpin(&rt, &mut pool, &history, slot(0, 1));
     assert!(rt; pool.close().is_ok());
     Ok(())
 }

@@ -3,7 +3,7 @@ ghost use Rattle.std.specs.Prelude.{◌≡◌, ◌↔◌, IsOk, IfOk, IsTrue};
 ghost use Rattle.warm_stamps.specs.declared.TheConstants.{MAX_REPLICAS};
 ghost use Rattle.warm_rank.specs.declared.TheConstants.{MAX_SLOTS};
 ghost use Rattle.warm_refbuffer.specs.declared.TheConstants.{MAX_CAPACITY};
-ghost use Rattle.warm_devices.specs.declared.flaky.TheConstants.{MAX_PAGE_SIZE};
+ghost use Rattle.warm_devices.specs.declared.TheConstants.{MAX_PAGE_SIZE};
 ghost use Rattle.warm_world.specs.declared.TheConstants.{MAX_WORKERS};
 ghost use Rattle.warm_world.specs.Limits.{IsWithin};
 ghost use Rattle.warm_world.specs.Sizes.{IsSetup};

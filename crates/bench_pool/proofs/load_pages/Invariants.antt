@@ -1,6 +1,6 @@
 use Rattle.std.proofs.Common.{length}
 use Rattle.warm_pool.specs.State.{IsPool, RankedBy, pool_of}
-use Rattle.bench_pool.proofs.load_all.Given as goal
+use Rattle.bench_pool.proofs.load_pages.Given as goal
 
 -- it stays a pool, ranked by the history
 abbrev pub invariant-loop-no : goal.invariant-loop-no
