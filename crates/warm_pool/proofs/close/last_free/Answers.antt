@@ -1,6 +1,4 @@
 use Rattle.std.proofs.Common.{◌≡◌, Some, None, ap, sym, ◌∙◌}
-use Rattle.warm_pool.specs.Chains.{page_in}
-use Rattle.warm_pool.specs.FrameSteps.{pages_held}
 use Rattle.warm_pool.proofs.VacateLemmas.{page_held, last_stays, last_here}
 use Rattle.warm_pool.proofs.close.last_free.Goals as goal
 
