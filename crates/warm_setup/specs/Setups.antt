@@ -6,7 +6,7 @@ use Rattle.toml.specs.Data.{Data, Items, no_items, item, Members, no_members, me
 use Rattle.warm_stamps.specs.declared.TheConstants.{MAX_REPLICAS}
 use Rattle.warm_rank.specs.declared.TheConstants.{MAX_SLOTS}
 use Rattle.warm_refbuffer.specs.declared.TheConstants.{MAX_CAPACITY}
-use Rattle.warm_devices.specs.declared.flaky.TheConstants.{MAX_PAGE_SIZE}
+use Rattle.warm_devices.specs.declared.TheConstants.{MAX_PAGE_SIZE}
 use Rattle.warm_world.specs.declared.TheConstants.{MAX_WORKERS}
 use Rattle.warm_world.specs.Sizes.{Sizes}
 use Rattle.warm_setup.specs.declared.setup.TheConstants.{MAX_DEVICES, MAX_PAGES}
