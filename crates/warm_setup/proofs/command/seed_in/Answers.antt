@@ -1,4 +1,4 @@
-use Rattle.std.proofs.Common.{◌∙◌, ◌-◌, ◌^◌, sym, ap, arith, codes, Result, ℕ, List}
+use Rattle.std.proofs.Common.{◌∙◌, ◌-◌, ◌^◌, ap, arith, codes}
 use Rattle.std.specs.Prelude.{option_and_then}
 use Rattle.std.specs.Str.Parse.{ParsesUnsigned, HasUnsignedDigitsIfOk, ExplainsUnsignedError}
 use Rattle.clap.specs.Words.{found_of}
