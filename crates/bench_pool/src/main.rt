@@ -7,8 +7,7 @@
 #![tactic(auto)]
 
 ghost use Rattle.std.specs.Prelude.{IfOk};
-ghost use Rattle.warm_history.specs.Histories.{HistoryView};
-ghost use Rattle.warm_pool.specs.State.{IsPool, RankedBy};
+ghost use Rattle.warm_pool.specs.State.{IsPool, IsRankedByAll, RankedBy};
 
 use anyhow::{Context, Result, bail};
 use std::alloc::Global;
@@ -105,7 +104,7 @@ fn device(alloc: Global, pages: u32) -> Result<Box<dyn PageDevice + Send>> {
 // A pool over two devices, of so many pages each, without a page.
 fn opened(alloc: Global, frames: u32, pages: u32) -> Result<Pool>
     ensures pool { IfOk result (λ pool. IsPool (⟦<Pool as Pooled>⟧.state pool)) }
-    ensures ranked { IfOk result (λ pool. (h : HistoryView) → RankedBy (⟦<Pool as Pooled>⟧.state pool) h) }
+    ensures ranked { IfOk result (λ pool. IsRankedByAll (⟦<Pool as Pooled>⟧.state pool)) }
 {
     let Ok(mut devices) = Vec::with_capacity(alloc, 2) else {
         bail!("no memory")

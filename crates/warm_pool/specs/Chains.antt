@@ -1,6 +1,7 @@
 -- Frames in chains: each frame is followed by the next one of its chain, in rising order. The number of frames ends a chain.
 use Rattle.std.specs.Prelude.{◌≡◌, ◌≢◌, ℕ, suc, ◌+◌, ◌*◌, ◌/◌, ◌%◌, ◌<◌, ◌≤◌, List, length, map, set, Option, Some, None, slice_index, slice_index_or}
 use Rattle.warm_stamps.specs.declared.PageId.{PageId}
+use Rattle.warm_rank.specs.declared.TheConstants.{MAX_SLOTS}
 
 -- what a frame holds
 abbrev pub page_in : List (Option PageId) → ℕ → Option PageId
@@ -66,7 +67,7 @@ loose frames frame heads = set frames frame (length heads)
 
 -- the pages of frames and the chains over them
 pub record AreLinked (pages : List (Option PageId)) (heads next : List ℕ) : Type 0 where
-  pub few : length pages ≤ 65536
+  pub few : length pages ≤ MAX_SLOTS
   pub room : length heads ≡ length pages + 1
   pub chains : AreChains (chains_of pages) heads next
 

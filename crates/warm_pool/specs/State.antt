@@ -5,6 +5,7 @@ use Rattle.std.specs.Option.{option_map}
 use Rattle.warm_stamps.specs.declared.PageId.{PageId}
 use Rattle.warm_history.specs.Histories.{HistoryView, hist, refs}
 use Rattle.warm_rank.specs.declared.TheConstants.{MAX_SLOTS}
+use Rattle.warm_pool.specs.declared.TheConstants.{MAX_DEVICES}
 use Rattle.warm_rank.specs.Keys.{rank_key}
 use Rattle.warm_devices.specs.declared.TheConstants.{MAX_PAGE_SIZE}
 use Rattle.warm_devices.specs.Device.{DeviceState, page_at}
@@ -49,7 +50,7 @@ pub record IsPool (s : PoolState) : Type 0 where
   pub few_frames : length s.frames ≤ MAX_SLOTS
   pub some_bytes : 0 < s.page_size
   pub few_bytes : s.page_size ≤ MAX_PAGE_SIZE
-  pub few_devices : length s.devices ≤ 65536
+  pub few_devices : length s.devices ≤ MAX_DEVICES
   pub spare_size : s.spare ≡ s.page_size
   pub frame_size : (i : ℕ) → i < length s.frames → length (nth_frame s.frames i).bytes ≡ s.page_size
   pub device_size : (k : ℕ) → k < length s.devices → (nth_device s.devices k).page_size ≡ s.page_size

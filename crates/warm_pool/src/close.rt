@@ -294,7 +294,8 @@ fn vacate_chosen(frames: &mut Frames, which: Option<u16>)
 // Takes the page out of a frame that is concerned.
 fn vacate_if(frames: &mut Frames, at: usize, which: Option<u16>, last: Option<usize>)
     requires there { at < length frames.old.frames }
-    requires unfixed { IsTrue (is_chosen which (nth_frame frames.old.frames at).page) → (nth_frame frames.old.frames at).fixes ≡ 0 }
+    requires unfixed { IsTrue (is_chosen which (nth_frame frames.old.frames at).page)
+        → (nth_frame frames.old.frames at).fixes ≡ 0 }
     requires last { IsLastFree (pages_held frames.old.frames) at last }
     ensures { frames.new ≡ changed_at frames.old at (vacate_if which) }
 {

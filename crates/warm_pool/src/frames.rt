@@ -11,7 +11,7 @@ use crate::residents::Residents;
 use std::alloc::{AllocError, Global};
 use std::marker::Model;
 use std::mem;
-use warm_rank::{Contest, RankKey};
+use warm_rank::{Contest, MAX_SLOTS, RankKey};
 use warm_stamps::PageId;
 
 /// The frames of a pool, where each page is, and the rank of each page that may leave.
@@ -37,7 +37,7 @@ impl Frames {
     /// Frames without a page, whose room is taken here.
     pub(crate) fn new(alloc: Global, frames: usize, page_size: usize) -> Result<Frames, AllocError>
         requires some { 0 < frames }
-        requires few { frames ≤ 65536 }
+        requires few { frames ≤ MAX_SLOTS }
         ensures { IfOk result (λ made. made ≡ fresh_frames frames page_size) }
     {
         let mut slots = Vec::with_capacity(alloc, frames)?;

@@ -26,5 +26,8 @@ pub use fault::{PoolFault, Unmade, Unretired};
 pub use pool::{Pool, Pooled};
 pub use slot::Slot;
 
+/// The most devices of a pool: a page names its device in 16 bits.
+pub const MAX_DEVICES: usize = 65_536;
+
 #[cfg(test)]
 mod tests;

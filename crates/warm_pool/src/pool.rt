@@ -13,6 +13,7 @@ ghost use Rattle.warm_pool.specs.Keeping.{KeepsRanks, RefreshesRanks, KeepsBytes
 ghost use Rattle.warm_pool.specs.declared.fault.PoolFault.TheVariants.{OutOfPage, FixesFull};
 ghost use Rattle.warm_pool.specs.Clauses.{pool_state, shown};
 
+use crate::MAX_DEVICES;
 use crate::device_list::{all_sized, pages_of, read_page, write_page};
 use crate::fault::{PoolFault, Unmade};
 use crate::frames::Frames;
@@ -60,7 +61,7 @@ impl Pooled for Pool {
 impl Pool {
     /// A pool of this many frames, none with a page, over these devices. All room that it needs is taken here.
     ///
-    /// There may be 65,536 devices at most.
+    /// There may be [`MAX_DEVICES`] devices at most.
     ///
     /// # Errors
     /// `BadFrames` where `frames` is outside 1 to [`warm_rank::MAX_SLOTS`]; else `SizeDiffers` where `page_size` is outside 1 to
@@ -71,7 +72,7 @@ impl Pool {
         page_size: usize,
         devices: Vec<Box<dyn PageDevice + Send>>,
     ) -> Result<Pool, Unmade>
-        requires few { length devices.items ≤ 65536 }
+        requires few { length devices.items ≤ MAX_DEVICES }
         ensures pool { IfOk result (λ pool. IsPool (pool_state state pool)) }
         ensures opened { IfOk result (λ pool. pool_state state pool
             ≡ opened frames page_size (map (λ b. state b) devices.items)) }

@@ -9,6 +9,7 @@ ghost use Rattle.warm_pool.specs.Residents.{IsFirstFree, IsLastFree, IsPlaceOf};
 
 use std::alloc::{AllocError, Global};
 use std::marker::Model;
+use warm_rank::MAX_SLOTS;
 use warm_stamps::PageId;
 
 /// The page of each frame, where it holds one. Contracts see the list of them.
@@ -32,12 +33,12 @@ impl Model for Residents {
 }
 
 impl Residents {
-    /// Frames without a page, up to 65,536 of them.
+    /// Frames without a page, up to [`MAX_SLOTS`] of them.
     ///
     /// # Errors
     /// `AllocError` where there is no memory for them.
     pub(crate) fn new(alloc: Global, frames: usize) -> Result<Residents, AllocError>
-        requires few { frames ≤ 65536 }
+        requires few { frames ≤ MAX_SLOTS }
         ensures { IfOk result (λ residents. residents ≡ replicate frames None) }
     {
         let pages = no_pages(alloc, frames)?;
@@ -96,7 +97,7 @@ fn no_pages(alloc: Global, frames: usize) -> Result<Vec<Option<PageId>>, AllocEr
 
 // The heads of the chains where no frame holds a page: only the last chain has frames, from the first on.
 fn heads_of_none(alloc: Global, frames: usize) -> Result<Vec<u32>, AllocError>
-    requires { frames ≤ 65536 }
+    requires { frames ≤ MAX_SLOTS }
     ensures { IfOk result (λ heads. heads.items ≡ set (replicate (frames + 1) frames) frames 0) }
 {
     let mut heads = Vec::new(alloc);
@@ -107,7 +108,7 @@ fn heads_of_none(alloc: Global, frames: usize) -> Result<Vec<u32>, AllocError>
 
 // Each frame is followed by the next.
 fn links_in_turn(alloc: Global, frames: usize) -> Result<Vec<u32>, AllocError>
-    requires { frames ≤ 65536 }
+    requires { frames ≤ MAX_SLOTS }
     ensures { IfOk result (λ next. AreInTurn frames next.items) }
 {
     let mut next = Vec::with_capacity(alloc, frames)?;
@@ -135,7 +136,7 @@ fn find_in(pages: &[Option<PageId>], heads: &[u32], next: &[u32], page: PageId) 
 // The chain of a frame that holds this.
 #[tactic(auto, unfolding(crate::specs::Chains::chain_of))]
 fn chain_of(frames: usize, page: Option<PageId>) -> usize
-    requires { frames ≤ 65536 }
+    requires { frames ≤ MAX_SLOTS }
     ensures is { result ≡ chain_of frames page }
     ensures low { result ≤ frames }
 {

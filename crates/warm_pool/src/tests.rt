@@ -4,8 +4,7 @@
 //! With `rt try --test --fail-alloc N`, for N from 1 on, each growth is refused in turn: what takes room is then asked for once
 //! more, with what the refusal handed back.
 ghost use Rattle.std.specs.Prelude.{◌≡◌, List, IfOk, length};
-ghost use Rattle.warm_history.specs.Histories.{HistoryView};
-ghost use Rattle.warm_pool.specs.State.{IsPool, RankedBy};
+ghost use Rattle.warm_pool.specs.State.{IsPool, IsRankedByAll, RankedBy};
 
 use crate::residents::Residents;
 use crate::{Pool, PoolFault, Pooled, Slot, Unretired};
@@ -70,7 +69,7 @@ fn pool_over(
     device: Box<dyn PageDevice + Send>,
 ) -> Result<Pool, Fail>
     ensures pool { IfOk result (λ pool. IsPool (⟦<Pool as Pooled>⟧.state pool)) }
-    ensures ranked { IfOk result (λ pool. (h : HistoryView) → RankedBy (⟦<Pool as Pooled>⟧.state pool) h) }
+    ensures ranked { IfOk result (λ pool. IsRankedByAll (⟦<Pool as Pooled>⟧.state pool)) }
 {
     let devices = alone(alloc, device)?;
     match Pool::new(alloc, frames, 16, devices) {
