@@ -13,7 +13,7 @@ use Rattle.warm_history.specs.declared.hist.Entry.{Entry}
 use Rattle.warm_history.specs.ReferenceSets.{these, ◌∪◌}
 use Rattle.warm_history.specs.Histories.{HistoryView, holding, first_two, hist, history, entry_refs, refs}
 use Rattle.warm_history.proofs.HistoryLemmas.{told, told-append, told_entry, hist_refs-history}
-use Rattle.warm_pool.specs.Calls.{AgreeOutside}
+use Rattle.warm_pool.specs.Refreshing.{AgreeOutside}
 
 differs : (q p : PageId) → (q ≡ p → ⊥) → is_eq (page_cmp q p) ≡ false
 differs q p apart = by_cases (page_cmp q p) _ (λ less. ap is_eq less) (λ tied. absurd (apart (page_order.same q p tied))) (λ more. ap is_eq more)

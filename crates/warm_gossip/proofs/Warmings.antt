@@ -6,9 +6,9 @@ use Rattle.warm_rank.specs.Ranking.{warm}
 use Rattle.warm_pool.specs.declared.slot.Slot.{Slot}
 use Rattle.warm_pool.specs.declared.fault.PoolFault.{PoolFault}
 use Rattle.warm_pool.specs.declared.fault.PoolFault.TheVariants.{Memory, BadFrames, SizeDiffers, NoDevice, NoPage, AllFixed, ReadFault, WriteBack, FixesFull, OutOfPage, Fixed, Fault}
-use Rattle.warm_pool.specs.State.{PoolState, IsPool, view_of}
-use Rattle.warm_pool.specs.View.{PoolView}
-use Rattle.warm_pool.specs.Calls.{Loaded, LoadRefused, PutsIn, PutRefused}
+use Rattle.warm_pool.specs.State.{PoolState, IsPool}
+use Rattle.warm_pool.specs.View.{view_of, PoolView}
+use Rattle.warm_pool.specs.Pinning.{Loaded, LoadRefused, PutsIn, PutRefused}
 use Rattle.warm_gossip.specs.Step.{IsFirstLoadable, IsLoadable}
 
 -- it is put into a frame

@@ -8,8 +8,8 @@ use Rattle.warm_devices.specs.Device.{DeviceState}
 use Rattle.warm_pool.specs.declared.fault.PoolFault.TheVariants.{Fault}
 use Rattle.warm_pool.specs.declared.pool.Pool as pool
 use Rattle.warm_pool.specs.Clauses.{pool_state}
-use Rattle.warm_pool.specs.State.{IsSettled, view_of}
-use Rattle.warm_pool.specs.View.{frame_at}
+use Rattle.warm_pool.specs.State.{IsSettled}
+use Rattle.warm_pool.specs.View.{view_of, frame_at}
 use Rattle.warm_gossip.specs.declared.call.Call.{Call}
 use Rattle.warm_gossip.specs.declared.call.Reply.{Reply}
 use Rattle.warm_gossip.specs.declared.call.Reply.TheVariants.{Done, Refused}

@@ -1,8 +1,8 @@
 -- A node as plain data, what holds of every node, and what a caller sees of it.
 use Rattle.std.specs.Prelude.{ℕ, []}
 use Rattle.warm_history.specs.Histories.{HistoryView, holding}
-use Rattle.warm_pool.specs.State.{PoolState, IsPool, RankedBy, view_of}
-use Rattle.warm_pool.specs.View.{PoolView}
+use Rattle.warm_pool.specs.State.{PoolState, IsPool, RankedBy}
+use Rattle.warm_pool.specs.View.{view_of, PoolView}
 
 -- a node: who it is, what its history holds, and its pool
 pub record NodeState : Type 0 where

@@ -8,8 +8,10 @@ use Rattle.warm_frames.specs.declared.frame.Frame.TheVariants.{Digest}
 use Rattle.warm_digest.specs.BucketSums.{sums_of}
 use Rattle.warm_pool.specs.declared.fault.PoolFault.TheVariants.{OutOfPage, Fixed, Fault}
 use Rattle.warm_pool.specs.declared.slot.Slot.{Slot}
-use Rattle.warm_pool.specs.View.{PoolView, HasPage, IsAbsent, Holds, unfixed_pages}
-use Rattle.warm_pool.specs.Calls.{FailsAt, Pinned as PinnedIn, PinRefused, PutsIn, PutRefused, unpinned, IsRead, Written, IsFixed, IsUnfixed, Emptied}
+use Rattle.warm_pool.specs.View.{PoolView, HasPage, IsAbsent, Holds, unfixed_pages, FailsAt, IsFixed, IsUnfixed}
+use Rattle.warm_pool.specs.Pinning.{Pinned as PinnedIn, PinRefused, PutsIn, PutRefused, unpinned}
+use Rattle.warm_pool.specs.PageBytes.{IsRead, Written}
+use Rattle.warm_pool.specs.Retiring.{Emptied}
 use Rattle.warm_gossip.specs.declared.call.Call.{Call}
 use Rattle.warm_gossip.specs.declared.call.Call.TheVariants.{Absorb, Send, Offer, Receive, Pin, Unpin, Read, Write, Victim, WarmList, WarmStep, Restart}
 use Rattle.warm_gossip.specs.declared.call.Reply.{Reply}

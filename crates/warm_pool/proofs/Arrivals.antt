@@ -8,11 +8,11 @@ use Rattle.warm_devices.specs.Device.{DeviceState, CountsFault, page_at}
 use Rattle.warm_devices.specs.declared.fault.DeviceFault.{DeviceFault}
 use Rattle.warm_devices.specs.declared.fault.DeviceFault.TheVariants.{Read}
 use Rattle.warm_pool.specs.Frames.{FrameState, FramesState, nth_frame, fresh_frame, cleaned}
-use Rattle.warm_pool.specs.State.{PoolState, IsPool, IsNowhere, nth_device, view_of}
-use Rattle.warm_pool.specs.View.{PoolView}
-use Rattle.warm_pool.specs.Calls.{FailsAt, KeepsContents}
+use Rattle.warm_pool.specs.State.{PoolState, IsPool, IsNowhere, nth_device}
+use Rattle.warm_pool.specs.View.{view_of, PoolView, FailsAt, KeepsContents}
+use Rattle.warm_pool.specs.WritingBack.{KeptDevices, Cleans, CleanFails}
+use Rattle.warm_pool.specs.Pinning.{LoadsInto}
 use Rattle.warm_pool.specs.DeviceCalls.{PageRead}
-use Rattle.warm_pool.specs.Steps.{KeptDevices, Cleans, CleanFails, LoadsInto}
 use Rattle.warm_pool.proofs.Slots.{at_set}
 use Rattle.warm_pool.proofs.Keeps.{pool_from, stored_honest, devices_keep_pool}
 use Rattle.warm_pool.proofs.DeviceSteps.{read_keeps, read_same, fails_at, same_view, may_fail}

@@ -9,8 +9,8 @@ use Rattle.std.proofs.Math.ListN.{get_or-map as mapped}
 use Rattle.warm_stamps.specs.declared.PageId.{PageId}
 use Rattle.warm_devices.specs.Device.{DeviceState}
 use Rattle.warm_pool.specs.Frames.{FrameState, nth_frame}
-use Rattle.warm_pool.specs.State.{PoolState, IsPool, IsNowhere, is_page, bytes_in, bytes_of, contents_of, nth_device, frame_view, device_view, view_of}
-use Rattle.warm_pool.specs.View.{frame_at, device_at, contents_at, IsAbsent}
+use Rattle.warm_pool.specs.State.{PoolState, IsPool, IsNowhere, nth_device}
+use Rattle.warm_pool.specs.View.{is_page, bytes_in, bytes_of, contents_of, frame_view, device_view, view_of, frame_at, device_at, contents_at, IsAbsent}
 
 -- a page by its two numbers
 pub same_page : (p q : PageId) → p.dev ≡ q.dev → p.no ≡ q.no → p ≡ q

@@ -3,10 +3,9 @@ use Rattle.std.proofs.Common.{◌≡◌, ℕ, zero, suc, ◌+◌, ◌<◌, ◌�
 use Rattle.std.proofs.lemmas.List.{set-get_or}
 use Rattle.warm_devices.specs.Device.{DeviceState, SameShape}
 use Rattle.warm_pool.specs.Frames.{FrameState, nth_frame, cleaned, fresh_frame}
-use Rattle.warm_pool.specs.State.{PoolState, nth_device, view_of}
-use Rattle.warm_pool.specs.Calls.{FailsAt}
-use Rattle.warm_pool.specs.Steps.{KeptDevices, Cleans, CleanFails}
-use Rattle.warm_pool.specs.Closing.{PutsDown, StopsAt, clean_if, cleaned_chosen, is_chosen}
+use Rattle.warm_pool.specs.State.{PoolState, nth_device}
+use Rattle.warm_pool.specs.View.{view_of, FailsAt}
+use Rattle.warm_pool.specs.WritingBack.{KeptDevices, Cleans, CleanFails, PutsDown, StopsAt, clean_if, cleaned_chosen, is_chosen}
 use Rattle.warm_pool.proofs.FlushLemmas.{same_shape}
 
 -- a frame that may have been cleaned has the page that it had, and isn't dirty if it wasn't

@@ -10,11 +10,10 @@ use Rattle.warm_devices.specs.declared.fault.DeviceFault.TheVariants.{Read, Writ
 use Rattle.warm_devices.specs.Device.{DeviceState, SameShape, CountsFault, ChangesPage, page_at, one_more}
 use Rattle.warm_devices.specs.declared.fault.DeviceFault.{DeviceFault}
 use Rattle.warm_pool.specs.Frames.{FrameState, nth_frame}
-use Rattle.warm_pool.specs.State.{PoolState, IsPool, no_device, nth_device, stored, view_of, device_view}
-use Rattle.warm_pool.specs.View.{PoolView}
-use Rattle.warm_pool.specs.Calls.{FailsAt}
+use Rattle.warm_pool.specs.State.{PoolState, IsPool, no_device, nth_device}
+use Rattle.warm_pool.specs.View.{stored, view_of, device_view, PoolView, FailsAt}
+use Rattle.warm_pool.specs.WritingBack.{KeptDevices}
 use Rattle.warm_pool.specs.DeviceCalls.{PageRead, PageWrite}
-use Rattle.warm_pool.specs.Steps.{KeptDevices}
 use Rattle.warm_pool.proofs.Slots.{at_set}
 use Rattle.warm_pool.proofs.Bytes.{same_page, device_seen}
 use Rattle.warm_pool.proofs.Keeps.{view_of_kept}

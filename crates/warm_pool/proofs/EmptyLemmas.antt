@@ -10,10 +10,10 @@ use Rattle.warm_rank.specs.Keys.{rank_key}
 use Rattle.warm_devices.specs.Device.{DeviceState, page_at}
 use Rattle.warm_rank.specs.declared.TheConstants.{MAX_SLOTS}
 use Rattle.warm_pool.specs.Frames.{FrameState, FramesState, nth_frame, fresh_frame, vacated}
-use Rattle.warm_pool.specs.State.{PoolState, IsPool, IsNowhere, IsSettled, nth_device, stored, view_of, frame_view, bytes_of}
-use Rattle.warm_pool.specs.View.{PoolView, HasPage, contents_at, device_at}
-use Rattle.warm_pool.specs.Calls.{Emptied, KeepsContents, emptied}
-use Rattle.warm_pool.specs.Closing.{AreUnfixed, PutsDown, is_chosen, vacate_if, vacated_from, clean_if, cleaned_chosen}
+use Rattle.warm_pool.specs.State.{PoolState, IsPool, IsNowhere, IsSettled, nth_device}
+use Rattle.warm_pool.specs.View.{stored, view_of, frame_view, bytes_of, PoolView, HasPage, contents_at, device_at, KeepsContents}
+use Rattle.warm_pool.specs.WritingBack.{PutsDown, is_chosen, clean_if, cleaned_chosen}
+use Rattle.warm_pool.specs.Retiring.{Emptied, emptied, AreUnfixed, vacate_if, vacated_from}
 use Rattle.warm_pool.specs.Flushes.{NoneWaits}
 use Rattle.warm_pool.proofs.Bytes.{bytes_nowhere, where_is, contents_seen, contents_beyond, device_seen, device_there, frame_seen}
 use Rattle.warm_pool.proofs.Keeps.{stored_honest}

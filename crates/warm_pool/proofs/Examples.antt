@@ -6,9 +6,12 @@ use Rattle.warm_history.specs.Histories.{holding as alone, refs}
 use Rattle.warm_rank.specs.Ranking.{IsBefore}
 use Rattle.warm_devices.specs.Device.{DeviceState}
 use Rattle.warm_pool.specs.Frames.{FrameState, fresh_frame}
-use Rattle.warm_pool.specs.State.{PoolState, view_of}
-use Rattle.warm_pool.specs.View.{PoolView, contents_at, frame_at, unfixed_pages, IsFull, IsPlace}
-use Rattle.warm_pool.specs.Calls.{cleaned_to, emptied, patched, unpinned}
+use Rattle.warm_pool.specs.State.{PoolState}
+use Rattle.warm_pool.specs.View.{view_of, PoolView, contents_at, frame_at, unfixed_pages}
+use Rattle.warm_pool.specs.WritingBack.{cleaned_to}
+use Rattle.warm_pool.specs.Pinning.{IsFull, IsPlace, unpinned}
+use Rattle.warm_pool.specs.PageBytes.{patched}
+use Rattle.warm_pool.specs.Retiring.{emptied}
 
 -- the page 0:n
 abbrev page : ℕ → PageId

@@ -7,11 +7,10 @@ use Rattle.warm_rank.specs.declared.RankKey.{RankKey}
 use Rattle.warm_pool.specs.declared.slot.Slot.{Slot}
 use Rattle.warm_pool.specs.declared.fault.PoolFault.{PoolFault}
 use Rattle.warm_pool.specs.Frames.{FrameState, nth_frame, fresh_frame}
-use Rattle.warm_pool.specs.State.{PoolState, IsNowhere, view_of}
-use Rattle.warm_pool.specs.View.{HasPage, IsPlace}
-use Rattle.warm_pool.specs.Calls.{LoadRefused}
-use Rattle.warm_pool.specs.Steps.{LoadsInto, LoadFails}
-use Rattle.warm_pool.specs.Keeping.{KeepsOthers, KeepsBytes, TakesFrame, WritesDirty}
+use Rattle.warm_pool.specs.State.{PoolState, IsNowhere}
+use Rattle.warm_pool.specs.View.{view_of, HasPage}
+use Rattle.warm_pool.specs.Keeping.{KeepsOthers, KeepsBytes}
+use Rattle.warm_pool.specs.Pinning.{IsPlace, LoadRefused, LoadsInto, LoadFails, TakesFrame, WritesDirty}
 use Rattle.warm_pool.proofs.Bytes.{absent_seen, frame_seen}
 
 pub same_bytes : (s : PoolState) → KeepsBytes s s

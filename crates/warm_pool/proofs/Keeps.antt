@@ -10,10 +10,10 @@ use Rattle.warm_devices.specs.Device.{DeviceState, page_at}
 use Rattle.warm_rank.specs.declared.TheConstants.{MAX_SLOTS}
 use Rattle.warm_pool.specs.declared.slot.Slot.{Slot}
 use Rattle.warm_pool.specs.Frames.{FrameState, FramesState, nth_frame, fresh_frame}
-use Rattle.warm_pool.specs.State.{PoolState, IsPool, RankedBy, no_device, nth_device, stored, contents_of, frame_view, device_view, view_of}
-use Rattle.warm_pool.specs.View.{PoolView, FrameView, Holds, frame_at}
-use Rattle.warm_pool.specs.Calls.{unpinned}
-use Rattle.warm_pool.specs.Steps.{KeptDevices}
+use Rattle.warm_pool.specs.State.{PoolState, IsPool, RankedBy, no_device, nth_device}
+use Rattle.warm_pool.specs.View.{stored, contents_of, frame_view, device_view, view_of, PoolView, FrameView, Holds, frame_at}
+use Rattle.warm_pool.specs.WritingBack.{KeptDevices}
+use Rattle.warm_pool.specs.Pinning.{unpinned}
 use Rattle.warm_pool.proofs.Slots.{at_set, same_maps}
 use Rattle.warm_pool.proofs.Bytes.{bytes_alike, bytes_kept, contents_same, frame_seen}
 

@@ -10,7 +10,7 @@ use Rattle.warm_devices.specs.Device.{DeviceState}
 use Rattle.warm_rank.specs.declared.TheConstants.{MAX_SLOTS}
 use Rattle.warm_pool.specs.Frames.{FrameState, FramesState, nth_frame, fresh_frame}
 use Rattle.warm_pool.specs.State.{IsPool, RankedBy, opened}
-use Rattle.warm_pool.specs.Calls.{IsUpTo, IsSize}
+use Rattle.warm_pool.specs.Opening.{IsUpTo, IsSize}
 use Rattle.warm_pool.proofs.Keeps.{pool_from}
 
 record IsBare (f : FrameState) : Type 0 where

@@ -10,10 +10,9 @@ use Rattle.warm_pool.specs.declared.slot.Slot.{Slot}
 use Rattle.warm_pool.specs.declared.fault.PoolFault.{PoolFault}
 use Rattle.warm_pool.specs.declared.fault.PoolFault.TheVariants.{Memory, BadFrames, SizeDiffers, NoDevice, NoPage, AllFixed, ReadFault, WriteBack, FixesFull, OutOfPage, Fixed, Fault}
 use Rattle.warm_pool.specs.Frames.{nth_frame}
-use Rattle.warm_pool.specs.State.{PoolState, IsPool, RankedBy, IsNowhere, frame_view, view_of}
-use Rattle.warm_pool.specs.View.{PoolView, FrameView, frame_at, HasPage, IsAbsent, Holds, IsPlace}
-use Rattle.warm_pool.specs.Calls.{SameButFailures, AddsFix, PutsIn, Pinned, Loaded, PutRefused, LoadRefused, PinRefused}
-use Rattle.warm_pool.specs.Steps.{LoadsInto, LoadFails}
+use Rattle.warm_pool.specs.State.{PoolState, IsPool, RankedBy, IsNowhere}
+use Rattle.warm_pool.specs.View.{frame_view, view_of, PoolView, FrameView, frame_at, HasPage, IsAbsent, Holds, SameButFailures}
+use Rattle.warm_pool.specs.Pinning.{IsPlace, AddsFix, PutsIn, Pinned, Loaded, PutRefused, LoadRefused, PinRefused, LoadsInto, LoadFails}
 use Rattle.warm_pool.proofs.Bytes.{frame_seen, absent_seen}
 use Rattle.warm_pool.proofs.Keeps.{ranked_set}
 use Rattle.warm_pool.proofs.PoolSteps.{seen_there, seen_page}

@@ -14,8 +14,9 @@ use Rattle.warm_rank.specs.Slots.{IsLeast}
 use Rattle.warm_rank.proofs.SlotLemmas.{least_key_is_victim}
 use Rattle.warm_pool.specs.Frames.{FrameState, nth_frame, fresh_frame, leaving_key}
 use Rattle.warm_pool.specs.Residents.{IsPlaceOf, IsFirstFree}
-use Rattle.warm_pool.specs.State.{PoolState, IsPool, RankedBy, IsNowhere, nth_device, frame_view, device_view, view_of}
-use Rattle.warm_pool.specs.View.{frame_at, HasPage, IsResident, IsFull, IsLeastFree, IsPlace, unfixed_page, unfixed_pages}
+use Rattle.warm_pool.specs.State.{PoolState, IsPool, RankedBy, IsNowhere, nth_device}
+use Rattle.warm_pool.specs.View.{frame_view, device_view, view_of, frame_at, HasPage, IsResident, unfixed_page, unfixed_pages}
+use Rattle.warm_pool.specs.Pinning.{IsFull, IsLeastFree, IsPlace}
 use Rattle.warm_pool.proofs.Bytes.{frame_seen, device_seen}
 
 -- what a device has, as a caller sees it

@@ -11,11 +11,10 @@ use Rattle.warm_rank.specs.declared.RankKey.{RankKey}
 use Rattle.warm_rank.specs.Keys.{rank_key}
 use Rattle.warm_devices.specs.Device.{DeviceState}
 use Rattle.warm_pool.specs.Frames.{FramesState, nth_frame, fresh_frame}
-use Rattle.warm_pool.specs.State.{PoolState, IsPool, RankedBy, IsNowhere, frame_view, view_of}
-use Rattle.warm_pool.specs.View.{PoolView, FrameView}
-use Rattle.warm_pool.specs.Calls.{AgreeOutside}
-use Rattle.warm_pool.specs.Steps.{Renews}
+use Rattle.warm_pool.specs.State.{PoolState, IsPool, RankedBy, IsNowhere}
+use Rattle.warm_pool.specs.View.{frame_view, view_of, PoolView, FrameView}
 use Rattle.warm_pool.specs.Keeping.{KeepsBytes}
+use Rattle.warm_pool.specs.Refreshing.{AgreeOutside, Renews}
 use Rattle.warm_pool.proofs.Slots.{at_set}
 use Rattle.warm_pool.proofs.Bytes.{same_page}
 use Rattle.warm_pool.proofs.KeepingLemmas.{same_bytes, more_bytes}

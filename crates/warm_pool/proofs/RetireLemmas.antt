@@ -8,12 +8,11 @@ use Rattle.warm_stamps.specs.declared.PageId.{PageId}
 use Rattle.warm_history.specs.Histories.{HistoryView}
 use Rattle.warm_devices.specs.Device.{DeviceState, SameShape, one_more, page_at}
 use Rattle.warm_pool.specs.Frames.{FrameState, FramesState, nth_frame, vacated}
-use Rattle.warm_pool.specs.State.{PoolState, IsPool, RankedBy, nth_device, no_device, stored, view_of, frame_view, device_view, is_page, bytes_in}
-use Rattle.warm_pool.specs.View.{FrameView, HasPage, contents_at}
-use Rattle.warm_pool.specs.Calls.{FailsAt, Retired, MayRetire, IsFixedOn, emptied, is_on}
-use Rattle.warm_pool.specs.Steps.{KeptDevices}
+use Rattle.warm_pool.specs.State.{PoolState, IsPool, RankedBy, nth_device, no_device}
+use Rattle.warm_pool.specs.View.{stored, view_of, frame_view, device_view, is_page, bytes_in, FrameView, HasPage, contents_at, FailsAt}
+use Rattle.warm_pool.specs.WritingBack.{is_on, KeptDevices, PutsDown, StopsAt, cleaned_chosen}
+use Rattle.warm_pool.specs.Retiring.{Retired, MayRetire, IsFixedOn, emptied, AreUnfixed, IsFixedIn, MakesWay, retired, vacate_if, vacated_from}
 use Rattle.warm_pool.specs.Flushes.{IsFlushed, FlushFails}
-use Rattle.warm_pool.specs.Closing.{AreUnfixed, IsFixedIn, MakesWay, PutsDown, StopsAt, cleaned_chosen, retired, vacate_if, vacated_from}
 use Rattle.warm_pool.proofs.FlushLemmas.{same_shape}
 use Rattle.warm_pool.proofs.Bytes.{bytes_nowhere, contents_seen, device_seen, frame_seen, page_found}
 use Rattle.warm_pool.proofs.Keeps.{view_of_kept}

@@ -10,11 +10,9 @@ use Rattle.warm_history.specs.Histories.{HistoryView, hist, refs}
 use Rattle.warm_rank.specs.Keys.{rank_key}
 use Rattle.warm_devices.specs.Device.{DeviceState, SameShape, one_more, page_at}
 use Rattle.warm_pool.specs.Frames.{FrameState, nth_frame, cleaned}
-use Rattle.warm_pool.specs.State.{PoolState, IsSettled, nth_device, no_device, stored, view_of, frame_view, is_page, bytes_in}
-use Rattle.warm_pool.specs.View.{PoolView, FrameView}
-use Rattle.warm_pool.specs.Calls.{FailsAt, WriteBackFails}
-use Rattle.warm_pool.specs.Steps.{KeptDevices}
-use Rattle.warm_pool.specs.Closing.{PutsDown, StopsAt, clean_if, cleaned_chosen, is_chosen}
+use Rattle.warm_pool.specs.State.{PoolState, IsSettled, nth_device, no_device}
+use Rattle.warm_pool.specs.View.{stored, view_of, frame_view, is_page, bytes_in, PoolView, FrameView, FailsAt}
+use Rattle.warm_pool.specs.WritingBack.{WriteBackFails, KeptDevices, PutsDown, StopsAt, clean_if, cleaned_chosen, is_chosen}
 use Rattle.warm_pool.specs.Flushes.{FlushedTo, FlushStops, NoneWaits}
 use Rattle.warm_pool.proofs.FlushLemmas.{same_shape}
 use Rattle.warm_pool.proofs.ClosingLemmas.{nth_page, kept_both}

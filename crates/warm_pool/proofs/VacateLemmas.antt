@@ -9,7 +9,8 @@ use Rattle.warm_pool.specs.Chains.{after, page_in}
 use Rattle.warm_pool.specs.Residents.{IsFree, IsLastFree}
 use Rattle.warm_pool.specs.Frames.{FrameState, FramesState, nth_frame, fresh_frame, vacated}
 use Rattle.warm_pool.specs.FrameSteps.{changed_at, pages_held}
-use Rattle.warm_pool.specs.Closing.{is_chosen, vacate_if, vacated_from}
+use Rattle.warm_pool.specs.WritingBack.{is_chosen}
+use Rattle.warm_pool.specs.Retiring.{vacate_if, vacated_from}
 
 -- of the first n frames those that are concerned without a page, the others as they are
 abbrev pub vacated_to : Option ℕ → ℕ → List FrameState → List FrameState

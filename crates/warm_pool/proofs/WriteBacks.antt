@@ -8,10 +8,10 @@ use Rattle.warm_devices.specs.Device.{DeviceState, CountsFault, page_at, one_mor
 use Rattle.warm_devices.specs.declared.fault.DeviceFault.TheVariants.{Write}
 use Rattle.warm_devices.specs.declared.fault.DeviceFault.{DeviceFault}
 use Rattle.warm_pool.specs.Frames.{FrameState, FramesState, nth_frame, fresh_frame, cleaned}
-use Rattle.warm_pool.specs.State.{PoolState, IsPool, no_device, nth_device, frame_view, view_of}
-use Rattle.warm_pool.specs.View.{PoolView, FrameView}
+use Rattle.warm_pool.specs.State.{PoolState, IsPool, no_device, nth_device}
+use Rattle.warm_pool.specs.View.{frame_view, view_of, PoolView, FrameView}
+use Rattle.warm_pool.specs.WritingBack.{KeptDevices, Cleans, CleanFails}
 use Rattle.warm_pool.specs.DeviceCalls.{PageWrite}
-use Rattle.warm_pool.specs.Steps.{KeptDevices, Cleans, CleanFails}
 use Rattle.warm_pool.proofs.Keeps.{pool_from, set_keeps_pool, view-set, devices_keep_pool, view_of_kept}
 use Rattle.warm_pool.proofs.DeviceSteps.{same_shape, write_keeps, failures_kept, fails_at, may_fail}
 use Rattle.warm_pool.proofs.Loads.{Failed, on_ok}

@@ -8,9 +8,9 @@ use Rattle.warm_history.specs.Histories.{HistoryView}
 use Rattle.warm_devices.specs.Device.{DeviceState}
 use Rattle.warm_pool.specs.declared.slot.Slot.{Slot}
 use Rattle.warm_pool.specs.Frames.{FrameState, FramesState, nth_frame, fresh_frame}
-use Rattle.warm_pool.specs.State.{PoolState, IsPool, RankedBy, nth_device, stored, is_page, bytes_in, frame_view, device_view, view_of}
-use Rattle.warm_pool.specs.View.{PoolView, FrameView, frame_at, contents_at, Holds}
-use Rattle.warm_pool.specs.Calls.{patched, Written, IsRead}
+use Rattle.warm_pool.specs.State.{PoolState, IsPool, RankedBy, nth_device}
+use Rattle.warm_pool.specs.View.{stored, is_page, bytes_in, frame_view, device_view, view_of, PoolView, FrameView, frame_at, contents_at, Holds}
+use Rattle.warm_pool.specs.PageBytes.{patched, Written, IsRead}
 use Rattle.warm_pool.proofs.Bytes.{page_found, bytes_held, contents_seen, frame_seen, device_seen}
 use Rattle.warm_pool.proofs.Keeps.{Fits, pool_from, set_keeps_pool, ranked_set, held_fixed, fixed_some}
 use Rattle.warm_pool.proofs.PoolSteps.{some_page}

@@ -5,8 +5,8 @@ use Rattle.std.specs.declared.alloc.Global.{Global}
 use Rattle.std.specs.declared.dyn_box.DynBox.{DynBox}
 use Rattle.warm_devices.specs.Device.{DeviceState}
 use Rattle.warm_pool.specs.declared.pool.Pool.{Pool}
-use Rattle.warm_pool.specs.State.{PoolState, pool_of, view_of}
-use Rattle.warm_pool.specs.View.{PoolView}
+use Rattle.warm_pool.specs.State.{PoolState, pool_of}
+use Rattle.warm_pool.specs.View.{view_of, PoolView}
 
 -- what a pool holds
 abbrev pub pool_state : {X : Type 0} {P : X → Type 0} → (DynBox X Global P → DeviceState) → Pool X P → PoolState

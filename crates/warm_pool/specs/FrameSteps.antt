@@ -3,7 +3,7 @@ use Rattle.std.specs.Prelude.{ℕ, ◌+◌, ◌-◌, true, false, List, map, rep
 use Rattle.warm_stamps.specs.declared.PageId.{PageId}
 use Rattle.warm_rank.specs.declared.RankKey.{RankKey}
 use Rattle.warm_pool.specs.Frames.{FrameState, FramesState, fresh_frame, nth_frame}
-use Rattle.warm_pool.specs.Calls.{patched}
+use Rattle.warm_pool.specs.PageBytes.{patched}
 
 -- so many frames without a page
 abbrev pub fresh_frames : ℕ → ℕ → FramesState

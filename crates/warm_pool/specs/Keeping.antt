@@ -1,22 +1,12 @@
--- What a call leaves of a pool as it was, and which frame it leaves dirty or clean.
-use Rattle.std.specs.Prelude.{◌≡◌, ◌≢◌, ℕ, List, true, false, Some}
-use Rattle.warm_stamps.specs.declared.PageId.{PageId}
+-- What a call leaves of a pool as it was.
+use Rattle.std.specs.Prelude.{ℕ, ◌≡◌, ◌≢◌}
 use Rattle.warm_history.specs.Histories.{HistoryView}
-use Rattle.warm_pool.specs.declared.slot.Slot.{Slot}
-use Rattle.warm_pool.specs.declared.fault.PoolFault.{PoolFault}
-use Rattle.warm_pool.specs.declared.fault.PoolFault.TheVariants.{WriteBack}
 use Rattle.warm_pool.specs.Frames.{nth_frame}
-use Rattle.warm_pool.specs.State.{PoolState, RankedBy, view_of}
-use Rattle.warm_pool.specs.View.{IsResident, IsAbsent, IsPlace}
-use Rattle.warm_pool.specs.Calls.{AgreeOutside}
+use Rattle.warm_pool.specs.State.{PoolState, RankedBy}
 
 -- every history that ranked the old pool ranks the new one
 abbrev pub KeepsRanks : PoolState → PoolState → Type 0
 KeepsRanks old new = (h : HistoryView) → RankedBy old h → RankedBy new h
-
--- a history that agrees with one that ranked the old pool, but for these pages, ranks the new one
-abbrev pub RefreshesRanks : List PageId → HistoryView → PoolState → PoolState → Type 0
-RefreshesRanks pages h old new = (g : HistoryView) → RankedBy old g → AgreeOutside pages g h → RankedBy new h
 
 -- the frames are as they were; all of them but one are
 abbrev pub KeepsFrames : PoolState → PoolState → Type 0
@@ -30,27 +20,3 @@ pub record KeepsBytes (old new : PoolState) : Type 0 where
   pub devices : new.devices ≡ old.devices
   pub bytes : (i : ℕ) → (nth_frame new.frames i).bytes ≡ (nth_frame old.frames i).bytes
   pub dirty : (i : ℕ) → (nth_frame new.frames i).dirty ≡ (nth_frame old.frames i).dirty
-
--- A page that was resident leaves all bytes as they were. One that comes in changes the slot's frame alone, which is then clean,
--- and leaves the devices as they were unless that frame was dirty.
-pub record TakesFrame (old : PoolState) (p : PageId) (slot : Slot) (new : PoolState) : Type 0 where
-  pub others : KeepsOthers slot.index old new
-  pub resident : IsResident (view_of old) p → KeepsBytes old new
-  pub clean : IsAbsent (view_of old) p → (nth_frame new.frames slot.index).dirty ≡ false
-  pub devices : (nth_frame old.frames slot.index).dirty ≡ false → new.devices ≡ old.devices
-
--- the frame into which a page would come is dirty
-pub record IsPlaceDirty (h : HistoryView) (s : PoolState) : Type 0 where
-  pub frame : ℕ
-  pub place : IsPlace h (view_of s) (Some frame)
-  pub dirty : (nth_frame s.frames frame).dirty ≡ true
-
--- a write was refused only of a page that was written to
-abbrev pub WritesDirty : HistoryView → PoolState → PoolFault → Type 0
-WritesDirty h s fault = fault ≡ WriteBack → IsPlaceDirty h s
-
--- the slot's frame is dirty, and nothing else has changed
-pub record MakesDirty (old : PoolState) (slot : Slot) (new : PoolState) : Type 0 where
-  pub dirty : (nth_frame new.frames slot.index).dirty ≡ true
-  pub others : KeepsOthers slot.index old new
-  pub devices : new.devices ≡ old.devices

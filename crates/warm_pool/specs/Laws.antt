@@ -1,8 +1,8 @@
 -- What holds of every pool.
 use Rattle.std.specs.Prelude.{◌≡◌, ℕ, None}
 use Rattle.warm_history.specs.Histories.{HistoryView}
-use Rattle.warm_pool.specs.State.{PoolState, IsPool, RankedBy, view_of}
-use Rattle.warm_pool.specs.View.{frame_at}
+use Rattle.warm_pool.specs.State.{PoolState, IsPool, RankedBy}
+use Rattle.warm_pool.specs.View.{view_of, frame_at}
 
 -- a pool that holds no page is ranked by every history
 abbrev pub EmptyPoolIsRanked : Type 0

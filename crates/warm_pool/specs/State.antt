@@ -1,6 +1,5 @@
--- A buffer pool as plain data, what holds of every pool, and what a caller sees of it.
-use Rattle.std.specs.Prelude.{◌≡◌, ◌≢◌, ℕ, ◌<◌, ◌≤◌, ◌==◌, ◌&&◌, Bool, false, IsTrue, List, [], ◌∷◌, map, length, replicate, Option, Some, None, slice_index_or, if◌then◌else◌}
-use Rattle.std.specs.List.{range_with_len}
+-- What a pool is: its frames and its devices as plain data, and what holds of every pool.
+use Rattle.std.specs.Prelude.{ℕ, ◌≡◌, ◌≢◌, ◌<◌, ◌≤◌, false, IsTrue, List, [], map, length, replicate, Some, None, slice_index_or}
 use Rattle.std.specs.Option.{option_map}
 use Rattle.warm_stamps.specs.declared.PageId.{PageId}
 use Rattle.warm_history.specs.Histories.{HistoryView, hist, refs}
@@ -10,7 +9,6 @@ use Rattle.warm_rank.specs.Keys.{rank_key}
 use Rattle.warm_devices.specs.declared.TheConstants.{MAX_PAGE_SIZE}
 use Rattle.warm_devices.specs.Device.{DeviceState, page_at}
 use Rattle.warm_pool.specs.Frames.{FrameState, FramesState, nth_frame, fresh_frame}
-use Rattle.warm_pool.specs.View.{DeviceView, FrameView, PoolView}
 
 -- A pool: the size of a page, the length of the buffer into which a page is first read, its frames and its devices.
 pub record PoolState : Type 0 where
@@ -74,41 +72,3 @@ IsRankedByAll s = (h : HistoryView) → RankedBy s h
 pub record IsSettled (s : PoolState) : Type 0 where
   pub clean : (i : ℕ) → (nth_frame s.frames i).dirty ≡ false
   pub flushed : (k : ℕ) → (nth_device s.devices k).waiting ≡ false
-
--- whether this is the page of the frame
-abbrev pub is_page : PageId → Option PageId → Bool
-is_page p None = false
-is_page p (Some q) = (q.dev == p.dev) && (q.no == p.no)
-
--- the bytes of the page: those in its frame, or else these
-abbrev pub bytes_in : List FrameState → PageId → List ℕ → List ℕ
-bytes_in [] p others = others
-bytes_in (f ∷ fs) p others = if is_page p f.page then f.bytes else bytes_in fs p others
-
--- the bytes that a device is known to have for a page
-abbrev pub stored : List DeviceState → PageId → List ℕ
-stored devices p = if (nth_device devices p.dev).honest then page_at (nth_device devices p.dev).contents p.no else []
-
-abbrev pub bytes_of : List FrameState → List DeviceState → PageId → List ℕ
-bytes_of frames devices p = bytes_in frames p (stored devices p)
-
--- the bytes of each page of each device
-abbrev pub contents_of : List FrameState → List DeviceState → List (List (List ℕ))
-contents_of frames devices =
-    map (λ k. map (λ n. bytes_of frames devices (record { dev = k; no = n })) (range_with_len 0 (nth_device devices k).pages))
-    (range_with_len 0 (length devices))
-
-abbrev pub frame_view : FrameState → FrameView
-frame_view f = record { page = f.page; generation = f.generation; fixes = f.fixes }
-
-abbrev pub device_view : DeviceState → DeviceView
-device_view d = record { pages = d.pages; honest = d.honest; unfailing = d.unfailing }
-
-abbrev pub view_of : PoolState → PoolView
-view_of s = record {
-  page_size = s.page_size;
-  devices = map device_view s.devices;
-  frames = map frame_view s.frames;
-  contents = contents_of s.frames s.devices;
-  failures = map (λ d. d.failures) s.devices;
-}

@@ -1,10 +1,12 @@
--- What a caller sees of a buffer pool.
-use Rattle.std.specs.Prelude.{◌≡◌, ◌≢◌, ◌⊎◌, ℕ, ◌==◌, ◌<◌, Bool, false, List, [], map, length, Option, Some, None, slice_index_or, if◌then◌else◌}
+-- What a caller sees of a pool, how it is read off the pool, and what a call leaves of it.
+use Rattle.std.specs.Prelude.{ℕ, ◌≡◌, ◌≢◌, ◌<◌, ◌==◌, ◌&&◌, Bool, false, IsTrue, List, [], ◌∷◌, map, length, Option, Some, None, slice_index_or, if◌then◌else◌, set}
+use Rattle.std.specs.List.{range_with_len}
 use Rattle.warm_stamps.specs.declared.PageId.{PageId}
-use Rattle.warm_history.specs.Histories.{HistoryView, refs}
-use Rattle.warm_rank.specs.Ranking.{IsVictim}
+use Rattle.warm_devices.specs.Device.{DeviceState, page_at, one_more}
+use Rattle.warm_pool.specs.Frames.{FrameState}
 use Rattle.warm_rank.specs.Laws.{pages_in}
 use Rattle.warm_pool.specs.declared.slot.Slot.{Slot}
+use Rattle.warm_pool.specs.State.{PoolState, nth_device}
 
 -- what no call but the retirement of a device changes of it
 pub record DeviceView : Type 0 where
@@ -40,6 +42,48 @@ failures_at v k = slice_index_or v.failures k 0
 abbrev pub contents_at : PoolView → PageId → List ℕ
 contents_at v p = slice_index_or (slice_index_or v.contents p.dev []) p.no []
 
+-- How it is read off the pool
+
+-- whether this is the page of the frame
+abbrev pub is_page : PageId → Option PageId → Bool
+is_page p None = false
+is_page p (Some q) = (q.dev == p.dev) && (q.no == p.no)
+
+-- the bytes of the page: those in its frame, or else these
+abbrev pub bytes_in : List FrameState → PageId → List ℕ → List ℕ
+bytes_in [] p others = others
+bytes_in (f ∷ fs) p others = if is_page p f.page then f.bytes else bytes_in fs p others
+
+-- the bytes that a device is known to have for a page
+abbrev pub stored : List DeviceState → PageId → List ℕ
+stored devices p = if (nth_device devices p.dev).honest then page_at (nth_device devices p.dev).contents p.no else []
+
+abbrev pub bytes_of : List FrameState → List DeviceState → PageId → List ℕ
+bytes_of frames devices p = bytes_in frames p (stored devices p)
+
+-- the bytes of each page of each device
+abbrev pub contents_of : List FrameState → List DeviceState → List (List (List ℕ))
+contents_of frames devices =
+    map (λ k. map (λ n. bytes_of frames devices (record { dev = k; no = n })) (range_with_len 0 (nth_device devices k).pages))
+    (range_with_len 0 (length devices))
+
+abbrev pub frame_view : FrameState → FrameView
+frame_view f = record { page = f.page; generation = f.generation; fixes = f.fixes }
+
+abbrev pub device_view : DeviceState → DeviceView
+device_view d = record { pages = d.pages; honest = d.honest; unfailing = d.unfailing }
+
+abbrev pub view_of : PoolState → PoolView
+view_of s = record {
+  page_size = s.page_size;
+  devices = map device_view s.devices;
+  frames = map frame_view s.frames;
+  contents = contents_of s.frames s.devices;
+  failures = map (λ d. d.failures) s.devices;
+}
+
+-- What it says of pages and slots
+
 -- a device has the page
 pub record HasPage (v : PoolView) (p : PageId) : Type 0 where
   pub device : p.dev < length v.devices
@@ -67,25 +111,31 @@ unfixed_page f = if f.fixes == 0 then f.page else None
 abbrev pub unfixed_pages : PoolView → List PageId
 unfixed_pages v = pages_in (map unfixed_page v.frames)
 
--- the first frame without a page
-pub record IsLeastFree (v : PoolView) (i : ℕ) : Type 0 where
-  pub there : i < length v.frames
-  pub free : (frame_at v i).page ≡ None
-  pub least : (j : ℕ) → j < i → (frame_at v j).page ≢ None
+-- a page is fixed
+pub record IsFixed (v : PoolView) : Type 0 where
+  pub frame : ℕ
+  pub there : frame < length v.frames
+  pub fixed : 0 < (frame_at v frame).fixes
 
-abbrev pub IsFull : PoolView → Type 0
-IsFull v = (i : ℕ) → i < length v.frames → (frame_at v i).page ≢ None
+abbrev pub IsUnfixed : PoolView → Type 0
+IsUnfixed v = (i : ℕ) → (frame_at v i).fixes ≡ 0
 
--- every frame has a page, and that of this one is the victim, over what the history holds, among those without a fix
-pub record IsVictimFrame (h : HistoryView) (v : PoolView) (i : ℕ) : Type 0 where
-  pub there : i < length v.frames
-  pub full : IsFull v
-  pub page : PageId
-  pub holds : (frame_at v i).page ≡ Some page
-  pub unfixed : (frame_at v i).fixes ≡ 0
-  pub victim : IsVictim (refs h) (unfixed_pages v) (Some page)
+-- What a call leaves of it
 
--- where a page that comes in goes: into the first free frame, else into that of the victim; nowhere where all pages are fixed
-abbrev pub IsPlace : HistoryView → PoolView → Option ℕ → Type 0
-IsPlace h v None = IsFull v × (unfixed_pages v ≡ [])
-IsPlace h v (Some i) = IsLeastFree v i ⊎ IsVictimFrame h v i
+-- nothing but counts of failures has changed
+abbrev pub SameButFailures : PoolView → PoolView → Type 0
+SameButFailures old new = new ≡ record old { failures = new.failures }
+
+-- a call of device k failed, which may fail: its count of failures has grown, and nothing else has changed
+pub record FailsAt (old : PoolView) (k : ℕ) (new : PoolView) : Type 0 where
+  pub there : k < length old.devices
+  pub may : (device_at old k).unfailing ≡ false
+  pub becomes : new ≡ record old { failures = set old.failures k (one_more (failures_at old k)) }
+
+-- The pages of honest devices, and those resident before and after, have the bytes that they had. A page of another device that
+-- isn't resident has none, and one that is has the size of a page.
+pub record KeepsContents (old new : PoolView) : Type 0 where
+  pub honest : (p : PageId) → HasPage old p → IsTrue (device_at old p.dev).honest → contents_at new p ≡ contents_at old p
+  pub resident : (p : PageId) → IsResident old p → IsResident new p → contents_at new p ≡ contents_at old p
+  pub absent : (p : PageId) → (device_at new p.dev).honest ≡ false → IsAbsent new p → contents_at new p ≡ []
+  pub sized : (p : PageId) → IsResident new p → length (contents_at new p) ≡ new.page_size

@@ -6,11 +6,12 @@ ghost use Rattle.warm_pool.specs.Frames.{nth_frame};
 ghost use Rattle.warm_pool.specs.FrameSteps.{changed_at, pages_held};
 ghost use Rattle.warm_pool.specs.Residents.{IsLastFree};
 ghost use Rattle.warm_pool.specs.State.{IsPool, IsSettled, IsRankedByAll, nth_device};
-ghost use Rattle.warm_pool.specs.Calls.{EmptyRefused, Emptied, FailsAt, IsUnfixed, RetireRefused, Retired, WriteBackFails};
-ghost use Rattle.warm_pool.specs.Flushes.{NoneWaits};
-ghost use Rattle.warm_pool.specs.Closing.{AreUnfixed, IsFixedIn, MakesWay, PutsAllDown, PutsOneDown, ChosenFails, StopsAt, clean_if, is_chosen, retired, vacate_if, vacated_from};
-ghost use Rattle.warm_pool.specs.declared.fault.PoolFault.TheVariants.{Fault};
+ghost use Rattle.warm_pool.specs.View.{FailsAt, IsUnfixed};
 ghost use Rattle.warm_pool.specs.Keeping.{KeepsRanks};
+ghost use Rattle.warm_pool.specs.WritingBack.{WriteBackFails, PutsAllDown, PutsOneDown, ChosenFails, StopsAt, clean_if, is_chosen};
+ghost use Rattle.warm_pool.specs.Retiring.{EmptyRefused, Emptied, RetireRefused, Retired, AreUnfixed, IsFixedIn, MakesWay, retired, vacate_if, vacated_from};
+ghost use Rattle.warm_pool.specs.Flushes.{NoneWaits};
+ghost use Rattle.warm_pool.specs.declared.fault.PoolFault.TheVariants.{Fault};
 ghost use Rattle.warm_pool.specs.Clauses.{pool_state, shown};
 
 use crate::fault::{PoolFault, Unretired};

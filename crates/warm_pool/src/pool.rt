@@ -6,10 +6,13 @@ ghost use Rattle.warm_rank.specs.Keys.{rank_key};
 ghost use Rattle.warm_rank.specs.Ranking.{IsVictim};
 ghost use Rattle.warm_pool.specs.Frames.{nth_frame};
 ghost use Rattle.warm_pool.specs.State.{PoolState, IsPool, RankedBy, IsRankedByAll, IsNowhere, opened, unused_frames, nth_device};
-ghost use Rattle.warm_pool.specs.View.{PoolView, HasPage, IsResident, Holds};
-ghost use Rattle.warm_pool.specs.Calls.{SameButFailures, IsUpTo, IsSize, NewRefused, Pinned, PinRefused, Loaded, LoadRefused, PutsIn, PutRefused, unpinned, IsRead, ReadRefused, Written, WriteRefused, IsNextVictim};
-ghost use Rattle.warm_pool.specs.Steps.{LoadsInto, LoadFails, Cleans, CleanFails, Renews, FixesPage, FixRefused, IsNextPlace};
-ghost use Rattle.warm_pool.specs.Keeping.{KeepsRanks, RefreshesRanks, KeepsBytes, KeepsFrames, KeepsOthers, TakesFrame, WritesDirty, MakesDirty};
+ghost use Rattle.warm_pool.specs.View.{PoolView, HasPage, IsResident, Holds, SameButFailures};
+ghost use Rattle.warm_pool.specs.Keeping.{KeepsRanks, KeepsBytes, KeepsFrames, KeepsOthers};
+ghost use Rattle.warm_pool.specs.Opening.{IsUpTo, IsSize, NewRefused};
+ghost use Rattle.warm_pool.specs.WritingBack.{Cleans, CleanFails};
+ghost use Rattle.warm_pool.specs.Pinning.{Pinned, PinRefused, Loaded, LoadRefused, PutsIn, PutRefused, unpinned, IsNextVictim, LoadsInto, LoadFails, FixesPage, FixRefused, IsNextPlace, TakesFrame, WritesDirty};
+ghost use Rattle.warm_pool.specs.PageBytes.{IsRead, ReadRefused, Written, WriteRefused, MakesDirty};
+ghost use Rattle.warm_pool.specs.Refreshing.{Renews, RefreshesRanks};
 ghost use Rattle.warm_pool.specs.declared.fault.PoolFault.TheVariants.{OutOfPage, FixesFull};
 ghost use Rattle.warm_pool.specs.Clauses.{pool_state, shown};
 
@@ -49,7 +52,8 @@ pub trait Pooled {
 
 impl Pooled for Pool {
     ghost use Rattle.std.specs.Prelude.{length};
-    ghost use Rattle.warm_pool.specs.State.{pool_of, view_of};
+    ghost use Rattle.warm_pool.specs.State.{pool_of};
+    ghost use Rattle.warm_pool.specs.View.{view_of};
 
     ghost state = { λ p. pool_of (λ b. (PageDevice-box b).state b.value) p.frames
         (length p.spare.items) p.devices.items };

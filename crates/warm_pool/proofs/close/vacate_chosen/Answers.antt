@@ -3,7 +3,8 @@ use Rattle.std.proofs.lemmas.List.{length-set}
 use Rattle.warm_pool.specs.Frames.{nth_frame}
 use Rattle.warm_pool.specs.FrameSteps.{pages_held}
 use Rattle.warm_pool.specs.Residents.{IsLastFree}
-use Rattle.warm_pool.specs.Closing.{is_chosen, vacate_if}
+use Rattle.warm_pool.specs.WritingBack.{is_chosen}
+use Rattle.warm_pool.specs.Retiring.{vacate_if}
 use Rattle.warm_pool.proofs.VacateLemmas.{vacated_count, vacated_nth, vacate_step, vacate_done, last_kept, last_none}
 use Rattle.warm_pool.proofs.close.vacate_chosen.Goals as goal
 

@@ -1,6 +1,6 @@
 use Rattle.std.proofs.Common.{length}
 use Rattle.warm_pool.specs.State.{IsPool, pool_of}
-use Rattle.warm_pool.specs.Closing.{PutsDown, cleaned_chosen}
+use Rattle.warm_pool.specs.WritingBack.{PutsDown, cleaned_chosen}
 use Rattle.warm_pool.proofs.pool.Pool.clean_chosen.Given as goal
 
 -- the pages of the frames so far were written back

@@ -1,0 +1,44 @@
+-- Reading and writing the bytes of a page.
+use Rattle.std.specs.Prelude.{ℕ, ◌≡◌, ◌≢◌, ◌<◌, ◌≤◌, List, length, Some, ◌+◌, true, ◌++◌, take, drop}
+use Rattle.warm_stamps.specs.declared.PageId.{PageId}
+use Rattle.warm_pool.specs.Frames.{nth_frame}
+use Rattle.warm_pool.specs.declared.slot.Slot.{Slot}
+use Rattle.warm_pool.specs.declared.fault.PoolFault.{PoolFault}
+use Rattle.warm_pool.specs.declared.fault.PoolFault.TheVariants.{OutOfPage}
+use Rattle.warm_pool.specs.State.{PoolState}
+use Rattle.warm_pool.specs.View.{PoolView, frame_at, contents_at, HasPage}
+use Rattle.warm_pool.specs.Keeping.{KeepsOthers}
+
+-- so many bytes of the slot's page from `at` on
+pub record IsRead (v : PoolView) (slot : Slot) (at : ℕ) (got : List ℕ) : Type 0 where
+  pub page : PageId
+  pub holds : (frame_at v slot.index).page ≡ Some page
+  pub within : at + length got ≤ v.page_size
+  pub bytes : got ≡ take (length got) (drop at (contents_at v page))
+
+-- so many bytes from `at` on are not within a page, and those that were to be filled are as they were
+abbrev pub ReadRefused : PoolState → ℕ → List ℕ → PoolFault → List ℕ → Type 0
+ReadRefused s at old fault new = (fault ≡ OutOfPage) × (s.page_size < at + length old) × (new ≡ old)
+
+-- the bytes with these written from `at` on
+abbrev pub patched : List ℕ → ℕ → List ℕ → List ℕ
+patched old at bytes = take at old ++ bytes ++ drop (at + length bytes) old
+
+-- the bytes of the slot's page from `at` on are these, and no other byte of any page has changed
+pub record Written (old : PoolView) (slot : Slot) (at : ℕ) (put : List ℕ) (new : PoolView) : Type 0 where
+  pub page : PageId
+  pub holds : (frame_at old slot.index).page ≡ Some page
+  pub within : at + length put ≤ old.page_size
+  pub becomes : new ≡ record old { contents = new.contents }
+  pub bytes : contents_at new page ≡ patched (contents_at old page) at put
+  pub others : (q : PageId) → HasPage old q → q ≢ page → contents_at new q ≡ contents_at old q
+
+-- these bytes from `at` on are not within a page, and nothing has changed
+abbrev pub WriteRefused : PoolState → ℕ → List ℕ → PoolFault → PoolState → Type 0
+WriteRefused old at put fault new = (fault ≡ OutOfPage) × (old.page_size < at + length put) × (new ≡ old)
+
+-- the slot's frame is dirty, and nothing else has changed
+pub record MakesDirty (old : PoolState) (slot : Slot) (new : PoolState) : Type 0 where
+  pub dirty : (nth_frame new.frames slot.index).dirty ≡ true
+  pub others : KeepsOthers slot.index old new
+  pub devices : new.devices ≡ old.devices

@@ -1,0 +1,157 @@
+-- Pinning and loading: where a page goes, what an answered call does, why one is refused, and the steps of both.
+use Rattle.std.specs.Prelude.{ℕ, ◌≡◌, ◌≢◌, ◌<◌, ◌≤◌, false, List, [], length, Option, Some, None, ◌⊎◌, ◌+◌, ◌-◌, ◌^◌, true, set, Result, IfOk}
+use Rattle.warm_stamps.specs.declared.PageId.{PageId}
+use Rattle.warm_history.specs.Histories.{HistoryView, refs}
+use Rattle.warm_pool.specs.Frames.{nth_frame}
+use Rattle.warm_rank.specs.Ranking.{IsVictim}
+use Rattle.warm_pool.specs.declared.slot.Slot.{Slot}
+use Rattle.warm_pool.specs.declared.fault.PoolFault.{PoolFault}
+use Rattle.warm_pool.specs.declared.fault.PoolFault.TheVariants.{NoDevice, NoPage, AllFixed, ReadFault, WriteBack, FixesFull}
+use Rattle.warm_rank.specs.declared.RankKey.{RankKey}
+use Rattle.warm_pool.specs.State.{PoolState, RankedBy}
+use Rattle.warm_pool.specs.View.{PoolView, device_at, frame_at, view_of, HasPage, IsResident, IsAbsent, unfixed_pages, FailsAt, KeepsContents}
+use Rattle.warm_pool.specs.Keeping.{KeepsOthers, KeepsBytes}
+use Rattle.warm_pool.specs.WritingBack.{CleanFails}
+
+-- Where a page goes
+
+-- the first frame without a page
+pub record IsLeastFree (v : PoolView) (i : ℕ) : Type 0 where
+  pub there : i < length v.frames
+  pub free : (frame_at v i).page ≡ None
+  pub least : (j : ℕ) → j < i → (frame_at v j).page ≢ None
+
+abbrev pub IsFull : PoolView → Type 0
+IsFull v = (i : ℕ) → i < length v.frames → (frame_at v i).page ≢ None
+
+-- every frame has a page, and that of this one is the victim, over what the history holds, among those without a fix
+pub record IsVictimFrame (h : HistoryView) (v : PoolView) (i : ℕ) : Type 0 where
+  pub there : i < length v.frames
+  pub full : IsFull v
+  pub page : PageId
+  pub holds : (frame_at v i).page ≡ Some page
+  pub unfixed : (frame_at v i).fixes ≡ 0
+  pub victim : IsVictim (refs h) (unfixed_pages v) (Some page)
+
+-- where a page that comes in goes: into the first free frame, else into that of the victim; nowhere where all pages are fixed
+abbrev pub IsPlace : HistoryView → PoolView → Option ℕ → Type 0
+IsPlace h v None = IsFull v × (unfixed_pages v ≡ [])
+IsPlace h v (Some i) = IsLeastFree v i ⊎ IsVictimFrame h v i
+
+-- the page that leaves next, as every history says that ranks the pool
+abbrev pub IsNextVictim : PoolState → Option PageId → Type 0
+IsNextVictim s page = (h : HistoryView) → RankedBy s h → IsVictim (refs h) (unfixed_pages (view_of s)) page
+
+-- What an answered call does
+
+-- the page is in the slot's frame, and has one fix more
+pub record AddsFix (old : PoolView) (p : PageId) (slot : Slot) (new : PoolView) : Type 0 where
+  pub there : slot.index < length old.frames
+  pub resident : (frame_at old slot.index).page ≡ Some p
+  pub room : (frame_at old slot.index).fixes < 2 ^ 32 - 1
+  pub current : slot.generation ≡ (frame_at old slot.index).generation
+  pub becomes : new ≡ record old { frames = set old.frames slot.index (record (frame_at old slot.index) { fixes = (frame_at old slot.index).fixes + 1 }) }
+
+-- the page is in the slot's frame, and nothing has changed
+pub record StaysIn (old : PoolView) (p : PageId) (slot : Slot) (new : PoolView) : Type 0 where
+  pub there : slot.index < length old.frames
+  pub resident : (frame_at old slot.index).page ≡ Some p
+  pub current : slot.generation ≡ (frame_at old slot.index).generation
+  pub same : new ≡ old
+
+-- the page was in no frame, and was put into the slot's frame with so many fixes
+pub record PutsIn (h : HistoryView) (old : PoolView) (p : PageId) (fixes : ℕ) (slot : Slot) (new : PoolView) : Type 0 where
+  pub absent : IsAbsent old p
+  pub place : IsPlace h old (Some slot.index)
+  pub room : (frame_at old slot.index).generation < 2 ^ 64 - 1
+  pub current : slot.generation ≡ (frame_at old slot.index).generation + 1
+  pub becomes : new ≡ record old { frames = set old.frames slot.index (record { page = Some p; generation = slot.generation; fixes = fixes }); contents = new.contents }
+  pub contents : KeepsContents old new
+
+abbrev pub Pinned : HistoryView → PoolView → PageId → Slot → PoolView → Type 0
+Pinned h old p slot new = HasPage old p × (AddsFix old p slot new ⊎ PutsIn h old p 1 slot new)
+
+abbrev pub Loaded : HistoryView → PoolView → PageId → Slot → PoolView → Type 0
+Loaded h old p slot new = HasPage old p × (StaysIn old p slot new ⊎ PutsIn h old p 0 slot new)
+
+-- the slot's page has one fix less
+abbrev pub unpinned : PoolView → Slot → PoolView
+unpinned old slot = record old { frames = set old.frames slot.index (record (frame_at old slot.index) { fixes = (frame_at old slot.index).fixes - 1 }) }
+
+-- A page that was resident leaves all bytes as they were. One that comes in changes the slot's frame alone, which is then clean,
+-- and leaves the devices as they were unless that frame was dirty.
+pub record TakesFrame (old : PoolState) (p : PageId) (slot : Slot) (new : PoolState) : Type 0 where
+  pub others : KeepsOthers slot.index old new
+  pub resident : IsResident (view_of old) p → KeepsBytes old new
+  pub clean : IsAbsent (view_of old) p → (nth_frame new.frames slot.index).dirty ≡ false
+  pub devices : (nth_frame old.frames slot.index).dirty ≡ false → new.devices ≡ old.devices
+
+-- Why it is refused
+
+-- there is a frame for a page that comes in, with room for a generation more
+pub record HasRoom (h : HistoryView) (old : PoolView) (i : ℕ) : Type 0 where
+  pub place : IsPlace h old (Some i)
+  pub room : (frame_at old i).generation < 2 ^ 64 - 1
+
+-- a page that is in no frame isn't put into one: all pages are fixed, the frame's generation is the last, the page wasn't read, or
+-- the page that would leave wasn't written
+abbrev pub PutRefused : HistoryView → PoolView → PageId → PoolFault → PoolView → Type 0
+PutRefused h old p AllFixed new = IsPlace h old None × (new ≡ old)
+PutRefused h old p FixesFull new = ((i : ℕ) × IsPlace h old (Some i) × ((frame_at old i).generation ≡ 2 ^ 64 - 1)) × (new ≡ old)
+PutRefused h old p ReadFault new = ((i : ℕ) × HasRoom h old i) × FailsAt old p.dev new
+PutRefused h old p WriteBack new = (i : ℕ) × (q : PageId) × HasRoom h old i × ((frame_at old i).page ≡ Some q) × FailsAt old q.dev new
+PutRefused h old p why new = ⊥
+
+-- the page is in a frame that can take no fix more
+pub record IsFixesFull (old : PoolView) (p : PageId) : Type 0 where
+  pub frame : ℕ
+  pub there : frame < length old.frames
+  pub resident : (frame_at old frame).page ≡ Some p
+  pub full : (frame_at old frame).fixes ≡ 2 ^ 32 - 1
+
+abbrev pub LoadRefused : HistoryView → PoolView → PageId → PoolFault → PoolView → Type 0
+LoadRefused h old p NoDevice new = (length old.devices ≤ p.dev) × (new ≡ old)
+LoadRefused h old p NoPage new = (p.dev < length old.devices) × ((device_at old p.dev).pages ≤ p.no) × (new ≡ old)
+LoadRefused h old p why new = HasPage old p × IsAbsent old p × PutRefused h old p why new
+
+abbrev pub PinRefused : HistoryView → PoolView → PageId → PoolFault → PoolView → Type 0
+PinRefused h old p FixesFull new = (HasPage old p × IsFixesFull old p × (new ≡ old)) ⊎ LoadRefused h old p FixesFull new
+PinRefused h old p why new = LoadRefused h old p why new
+
+-- the frame into which a page would come is dirty
+pub record IsPlaceDirty (h : HistoryView) (s : PoolState) : Type 0 where
+  pub frame : ℕ
+  pub place : IsPlace h (view_of s) (Some frame)
+  pub dirty : (nth_frame s.frames frame).dirty ≡ true
+
+-- a write was refused only of a page that was written to
+abbrev pub WritesDirty : HistoryView → PoolState → PoolFault → Type 0
+WritesDirty h s fault = fault ≡ WriteBack → IsPlaceDirty h s
+
+-- The steps of both
+
+-- the page of the frame has one fix more; or it has as many as it can, and nothing has changed
+abbrev pub FixesPage : PoolState → ℕ → Result Slot PoolFault → PoolState → Type 0
+FixesPage old i result new =
+    (p : PageId) → (nth_frame old.frames i).page ≡ Some p → IfOk result (λ slot. AddsFix (view_of old) p slot (view_of new))
+
+abbrev pub FixRefused : PoolState → ℕ → PoolFault → PoolState → Type 0
+FixRefused old i fault new = (fault ≡ FixesFull) × ((nth_frame old.frames i).fixes ≡ 2 ^ 32 - 1) × (new ≡ old)
+
+-- the frame into which a page goes that comes in, as every history says that ranks the pool
+abbrev pub IsNextPlace : PoolState → Option ℕ → Type 0
+IsNextPlace s place = (h : HistoryView) → RankedBy s h → IsPlace h (view_of s) place
+
+-- the page is in the frame, as its device has it, with this rank and so many fixes
+pub record LoadsInto (old : PoolState) (i : ℕ) (p : PageId) (key : RankKey) (n : ℕ) (new : PoolState) : Type 0 where
+  pub bytes : List ℕ
+  pub frames : new.frames ≡ set old.frames i (record { page = Some p; key = Some key; generation = (nth_frame old.frames i).generation + 1; fixes = n; dirty = false; bytes = bytes })
+  pub devices : (nth_frame old.frames i).dirty ≡ false → new.devices ≡ old.devices
+  pub rest : view_of new ≡ record (view_of old) { frames = (view_of new).frames; contents = (view_of new).contents }
+  pub contents : KeepsContents (view_of old) (view_of new)
+
+-- the page was not read, or that of the frame not written
+abbrev pub LoadFails : PoolState → ℕ → PageId → PoolFault → PoolState → Type 0
+LoadFails old i p ReadFault new = (new.frames ≡ old.frames) × FailsAt (view_of old) p.dev (view_of new)
+LoadFails old i p WriteBack new = CleanFails old i new
+LoadFails old i p why new = ⊥

@@ -1,0 +1,21 @@
+-- Renewing ranks.
+use Rattle.std.specs.Prelude.{ℕ, ◌≡◌, ◌≢◌, List, Some, Contains}
+use Rattle.warm_stamps.specs.declared.PageId.{PageId}
+use Rattle.warm_history.specs.Histories.{HistoryView, hist, refs}
+use Rattle.warm_pool.specs.Frames.{nth_frame}
+use Rattle.warm_rank.specs.declared.RankKey.{RankKey}
+use Rattle.warm_pool.specs.State.{PoolState, RankedBy}
+
+-- both histories say the same of each page but these
+abbrev pub AgreeOutside : List PageId → HistoryView → HistoryView → Type 0
+AgreeOutside pages g h = (p : PageId) → (Contains pages p → ⊥) → hist (refs g) p ≡ hist (refs h) p
+
+-- the frame that holds the page, if one does, has this rank
+pub record Renews (old : PoolState) (p : PageId) (key : RankKey) (new : PoolState) : Type 0 where
+  pub pages : (i : ℕ) → (nth_frame new.frames i).page ≡ (nth_frame old.frames i).page
+  pub here : (i : ℕ) → (nth_frame old.frames i).page ≡ Some p → (nth_frame new.frames i).key ≡ Some key
+  pub others : (i : ℕ) → (nth_frame old.frames i).page ≢ Some p → (nth_frame new.frames i).key ≡ (nth_frame old.frames i).key
+
+-- a history that agrees with one that ranked the old pool, but for these pages, ranks the new one
+abbrev pub RefreshesRanks : List PageId → HistoryView → PoolState → PoolState → Type 0
+RefreshesRanks pages h old new = (g : HistoryView) → RankedBy old g → AgreeOutside pages g h → RankedBy new h

@@ -1,0 +1,93 @@
+-- Emptying a pool, closing it, and retiring a device: why a call is refused, what it does, and the steps of its body.
+use Rattle.std.specs.Prelude.{ℕ, ◌≡◌, ◌≢◌, ◌<◌, ◌≤◌, false, IsTrue, List, [], map, length, Option, Some, None, if◌then◌else◌, ◌++◌, take, drop, set}
+use Rattle.warm_stamps.specs.declared.PageId.{PageId}
+use Rattle.warm_devices.specs.Device.{DeviceState, page_at}
+use Rattle.warm_pool.specs.Frames.{FrameState, nth_frame, vacated}
+use Rattle.warm_pool.specs.declared.fault.PoolFault.{PoolFault}
+use Rattle.warm_pool.specs.declared.fault.PoolFault.TheVariants.{SizeDiffers, NoDevice, Fixed, Fault}
+use Rattle.warm_pool.specs.State.{PoolState, nth_device}
+use Rattle.warm_pool.specs.View.{FrameView, PoolView, frame_at, contents_at, device_view, view_of, HasPage, IsFixed, IsUnfixed, FailsAt, KeepsContents}
+use Rattle.warm_pool.specs.WritingBack.{WriteBackFails, is_on, is_chosen, PutsAllDown}
+
+-- Emptying and closing
+
+-- why a pool isn't emptied or closed, and what is then changed
+abbrev pub EmptyRefused : PoolState → PoolFault → PoolState → Type 0
+EmptyRefused old Fixed new = IsFixed (view_of old) × (new ≡ old)
+EmptyRefused old Fault new = IsUnfixed (view_of old) × WriteBackFails old new
+EmptyRefused old why new = ⊥
+
+-- a frame without a page, of the same generation
+abbrev pub emptied : FrameView → FrameView
+emptied f = record f { page = None }
+
+-- no page is in a frame, generations stay, and so do the contents of honest devices
+pub record Emptied (old new : PoolView) : Type 0 where
+  pub unfixed : IsUnfixed old
+  pub becomes : new ≡ record old { frames = map emptied old.frames; contents = new.contents }
+  pub contents : KeepsContents old new
+
+-- Retiring
+
+-- a page of the device is fixed
+pub record IsFixedOn (v : PoolView) (dev : ℕ) : Type 0 where
+  pub frame : ℕ
+  pub there : frame < length v.frames
+  pub on : IsTrue (is_on dev (frame_at v frame).page)
+  pub fixed : 0 < (frame_at v frame).fixes
+
+-- a device of this state takes the place of device dev, of which no page is fixed
+pub record MayRetire (v : PoolView) (dev : ℕ) (device : DeviceState) : Type 0 where
+  pub there : dev < length v.devices
+  pub size : device.page_size ≡ v.page_size
+  pub unfixed : (i : ℕ) → IsTrue (is_on dev (frame_at v i).page) → (frame_at v i).fixes ≡ 0
+
+abbrev pub RetireRefused : PoolView → ℕ → DeviceState → PoolFault → PoolView → Type 0
+RetireRefused old dev device NoDevice new = (length old.devices ≤ dev) × (new ≡ old)
+RetireRefused old dev device SizeDiffers new = (dev < length old.devices) × (device.page_size ≢ old.page_size) × (new ≡ old)
+RetireRefused old dev device Fixed new = (dev < length old.devices) × (device.page_size ≡ old.page_size) × IsFixedOn old dev × (new ≡ old)
+RetireRefused old dev device Fault new = MayRetire old dev device × FailsAt old dev new
+RetireRefused old dev device why new = ⊥
+
+-- No page of the device is in a frame, and its contents, its number of pages and its count of failures are those of the new one.
+pub record Retired (old : PoolView) (dev : ℕ) (device : DeviceState) (new : PoolView) : Type 0 where
+  pub may : MayRetire old dev device
+  pub becomes : new ≡ record old {
+    devices = set old.devices dev (device_view device);
+    frames = map (λ f. if is_on dev f.page then emptied f else f) old.frames;
+    contents = new.contents;
+    failures = set old.failures dev device.failures;
+  }
+  pub contents : (n : ℕ) → n < device.pages → contents_at new (record { dev = dev; no = n }) ≡ if device.honest then page_at device.contents n else []
+  pub others : (p : PageId) → HasPage old p → p.dev ≢ dev → contents_at new p ≡ contents_at old p
+
+-- The steps of both
+
+abbrev pub vacate_if : Option ℕ → FrameState → FrameState
+vacate_if which f = if is_chosen which f.page then vacated f else f
+
+-- the first n frames as they are, and of the others those without a page that are concerned
+abbrev pub vacated_from : Option ℕ → ℕ → List FrameState → List FrameState
+vacated_from which n frames = take n frames ++ map (vacate_if which) (drop n frames)
+
+-- a frame that is concerned has a fix, or none has
+pub record IsFixedIn (which : Option ℕ) (frames : List FrameState) : Type 0 where
+  pub frame : ℕ
+  pub there : frame < length frames
+  pub chosen : IsTrue (is_chosen which (nth_frame frames frame).page)
+  pub fixed : 0 < (nth_frame frames frame).fixes
+
+abbrev pub AreUnfixed : Option ℕ → List FrameState → Type 0
+AreUnfixed which frames = (i : ℕ) → IsTrue (is_chosen which (nth_frame frames i).page) → (nth_frame frames i).fixes ≡ 0
+
+-- device dev of a pool may leave for one with pages of this size: none of its pages is fixed, they went to it, and nothing waits on it
+pub record MakesWay (old : PoolState) (dev page_size : ℕ) (new : PoolState) : Type 0 where
+  pub there : dev < length old.devices
+  pub size : page_size ≡ old.page_size
+  pub unfixed : AreUnfixed (Some dev) old.frames
+  pub down : PutsAllDown (Some dev) old new
+  pub quiet : (nth_device new.devices dev).waiting ≡ false
+
+-- the pool once another device has taken the place of device dev
+abbrev pub retired : PoolState → ℕ → DeviceState → PoolState
+retired s dev device = record s { frames = vacated_from (Some dev) 0 s.frames; devices = set s.devices dev device }

@@ -1,0 +1,97 @@
+-- Writing back: the page of one frame, those of the frames that are concerned, and those of all.
+use Rattle.std.specs.Prelude.{ℕ, ◌≡◌, ◌<◌, ◌≤◌, ◌==◌, Bool, false, IsTrue, List, map, length, Option, Some, None, if◌then◌else◌, true, ◌++◌, take, drop, set}
+use Rattle.warm_stamps.specs.declared.PageId.{PageId}
+use Rattle.warm_devices.specs.Device.{DeviceState, SameShape}
+use Rattle.warm_pool.specs.Frames.{FrameState, nth_frame, cleaned}
+use Rattle.warm_pool.specs.State.{PoolState, nth_device, IsNowhere}
+use Rattle.warm_pool.specs.View.{stored, view_of, FailsAt}
+
+-- All pages
+
+-- the first n frames clean, the others as they are
+abbrev pub cleaned_to : ℕ → List FrameState → List FrameState
+cleaned_to n frames = map cleaned (take n frames) ++ drop n frames
+
+-- A call of a device failed, and nothing else has changed to a caller: either the write of the first dirty frame that isn't yet
+-- clean, or, after all writes, the flush of the first device on which something waits.
+pub record WriteBackFails (old new : PoolState) : Type 0 where
+  pub written : ℕ
+  pub device : ℕ
+  pub frames : new.frames ≡ cleaned_to written old.frames
+  pub first : written < length old.frames
+      → ((nth_frame old.frames written).dirty ≡ true) × ((p : PageId) × ((nth_frame old.frames written).page ≡ Some p) × (p.dev ≡ device))
+  pub all : length old.frames ≤ written → ((k : ℕ) → k < device → (nth_device new.devices k).waiting ≡ false) × ((nth_device new.devices device).waiting ≡ true)
+  pub fails : FailsAt (view_of old) device (view_of new)
+
+-- The page of one frame
+
+-- The devices are what they were, and have of each page that is in no frame, or in one that isn't dirty, the bytes that they had.
+pub record KeptDevices (frames : List FrameState) (old new : List DeviceState) : Type 0 where
+  pub count : length new ≡ length old
+  pub shape : (k : ℕ) → SameShape (nth_device old k) (nth_device new k)
+  pub absent : (p : PageId) → IsNowhere frames p → stored new p ≡ stored old p
+  pub clean : (i : ℕ) (p : PageId) → (nth_frame frames i).page ≡ Some p → (nth_frame frames i).dirty ≡ false → stored new p ≡ stored old p
+
+-- the page of the frame is on its device as it is in the frame, and nothing has changed to a caller
+pub record Cleans (old : PoolState) (i : ℕ) (new : PoolState) : Type 0 where
+  pub frames : new.frames ≡ set old.frames i (cleaned (nth_frame old.frames i))
+  pub devices : KeptDevices old.frames old.devices new.devices
+  pub untouched : (nth_frame old.frames i).dirty ≡ false → new.devices ≡ old.devices
+  pub failures : map (λ d. d.failures) new.devices ≡ map (λ d. d.failures) old.devices
+  pub same : (new.page_size ≡ old.page_size) × (new.spare ≡ old.spare)
+
+-- the page of the frame was not written to its device
+pub record CleanFails (old : PoolState) (i : ℕ) (new : PoolState) : Type 0 where
+  pub page : PageId
+  pub holds : (nth_frame old.frames i).page ≡ Some page
+  pub dirty : (nth_frame old.frames i).dirty ≡ true
+  pub frames : new.frames ≡ old.frames
+  pub fails : FailsAt (view_of old) page.dev (view_of new)
+
+-- The frames that are concerned: those of one device, or all
+
+-- the page is one of this device
+abbrev pub is_on : ℕ → Option PageId → Bool
+is_on dev None = false
+is_on dev (Some p) = p.dev == dev
+
+-- whether a frame with this page is concerned: where no device is named, each is
+abbrev pub is_chosen : Option ℕ → Option PageId → Bool
+is_chosen None page = true
+is_chosen (Some dev) page = is_on dev page
+
+abbrev pub clean_if : Option ℕ → FrameState → FrameState
+clean_if which f = if is_chosen which f.page then cleaned f else f
+
+-- those of the first n frames that are concerned clean, the others as they are
+abbrev pub cleaned_chosen : Option ℕ → ℕ → List FrameState → List FrameState
+cleaned_chosen which n frames = map (clean_if which) (take n frames) ++ drop n frames
+
+-- the pages of frames went to their devices, and nothing has changed to a caller
+pub record PutsDown (frames : List FrameState) (old new : PoolState) : Type 0 where
+  pub becomes : new.frames ≡ frames
+  pub devices : KeptDevices old.frames old.devices new.devices
+  pub failures : map (λ d. d.failures) new.devices ≡ map (λ d. d.failures) old.devices
+  pub same : (new.page_size ≡ old.page_size) × (new.spare ≡ old.spare)
+
+-- the pages of all frames that are concerned went to their devices; that of one frame did, where it is concerned
+abbrev pub PutsAllDown : Option ℕ → PoolState → PoolState → Type 0
+PutsAllDown which old new = PutsDown (cleaned_chosen which (length old.frames) old.frames) old new
+
+abbrev pub PutsOneDown : Option ℕ → PoolState → ℕ → PoolState → Type 0
+PutsOneDown which old i new = PutsDown (set old.frames i (clean_if which (nth_frame old.frames i))) old new
+
+-- the page of a frame that is concerned was not written
+abbrev pub ChosenFails : Option ℕ → PoolState → ℕ → PoolState → Type 0
+ChosenFails which old i new = IsTrue (is_chosen which (nth_frame old.frames i).page) × CleanFails old i new
+
+-- the page of one frame that is concerned was not written, those of the frames before it were
+pub record StopsAt (which : Option ℕ) (old new : PoolState) : Type 0 where
+  pub frame : ℕ
+  pub page : PageId
+  pub there : frame < length old.frames
+  pub holds : (nth_frame old.frames frame).page ≡ Some page
+  pub chosen : IsTrue (is_chosen which (Some page))
+  pub dirty : IsTrue (nth_frame old.frames frame).dirty
+  pub frames : new.frames ≡ cleaned_chosen which frame old.frames
+  pub fails : FailsAt (view_of old) page.dev (view_of new)
