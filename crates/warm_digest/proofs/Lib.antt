@@ -1,3 +1,4 @@
 mod Examples
+pub mod ExchangeLemmas
 mod Hashers
 mod Masks

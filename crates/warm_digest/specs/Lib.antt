@@ -1,2 +1,3 @@
 pub mod BucketSums
+pub mod Exchange
 pub mod Hashing

@@ -12,6 +12,8 @@ ghost use Rattle.warm_frames.specs.Entries.{entry_bytes};
 ghost use Rattle.warm_digest.specs.BucketSums.{sums_of, MarksDiffering};
 ghost use Rattle.warm_digest.specs.Hashing.{TakesBytes, HaveTaken, TakeEntry};
 
+pub mod laws;
+
 use sha2::{Digest, Sha256};
 use std::alloc::{AllocError, Global};
 use warm_frames::{MAX_ENTRY_SIZE, SUM_SIZE, SumTable, put_entry};

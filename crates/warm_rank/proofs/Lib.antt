@@ -6,3 +6,4 @@ pub mod PlacesBack
 pub mod SlotLemmas
 pub mod SortLemmas
 pub mod WarmUpLemmas
+pub mod VictimLemmas

@@ -1,5 +1,5 @@
 -- The laws of the order in which pages leave.
-use Rattle.std.specs.Prelude.{◌≡◌, ◌≢◌, ◌⊎◌, ℕ, List, Option, map}
+use Rattle.std.specs.Prelude.{◌≡◌, ◌≢◌, ◌⊎◌, ◌≤◌, ℕ, List, Option, Some, None, map, Contains}
 use Rattle.std.specs.List.{filter_map}
 use Rattle.std.specs.Option.{option_and_then, option_map}
 use Rattle.warm_stamps.specs.declared.PageId.{PageId}
@@ -57,3 +57,18 @@ page_at slots slot = option_and_then (key_at slots) slot
 -- the page in the slot of the least key is the victim among the pages in the slots
 abbrev pub LeastKeyIsVictim : Type 0
 LeastKeyIsVictim = (S : ReferenceSet) (slots : List (Option PageId)) (least : Option ℕ) → IsLeast key_cmp (keys_over S slots) least → IsVictim S (pages_in slots) (page_at slots least)
+
+-- the first distance is at most the second; none is infinite
+abbrev pub IsNotFarther : Option ℕ → Option ℕ → Type 0
+IsNotFarther x None = Unit {0}
+IsNotFarther None (Some n) = ⊥
+IsNotFarther (Some m) (Some n) = m ≤ n
+
+-- the page is one of U, and none of U has a greater backward 2-distance
+pub record IsFarthest (S : ReferenceSet) (U : List PageId) (v : PageId) : Type 0 where
+  pub one_of : Contains U v
+  pub farthest : (p : PageId) → Contains U p → IsNotFarther (dist S p) (dist S v)
+
+-- the victim over what a history holds is one of the pages farthest back over all references for which it stands
+abbrev pub VictimIsFarthest : Type 0
+VictimIsFarthest = (h : HistoryView) (S : ReferenceSet) → StandsFor h S → (U : List PageId) (v : PageId) → IsVictim (refs h) U (Some v) → IsFarthest S U v

@@ -2,7 +2,7 @@
 ghost use Rattle.std.specs.Prelude.{◌≡◌};
 ghost use Rattle.warm_rank.specs.declared.RankKey.{RankKey};
 ghost use Rattle.warm_rank.specs.Keys.{key_cmp};
-ghost use Rattle.warm_rank.specs.Laws.{DistanceIsPlacesBack, KeysRank, LeavingIsOrder, LeastKeyIsVictim, OrderKept, SameReferencesRankAlike};
+ghost use Rattle.warm_rank.specs.Laws.{DistanceIsPlacesBack, KeysRank, LeavingIsOrder, LeastKeyIsVictim, OrderKept, SameReferencesRankAlike, VictimIsFarthest};
 
 use crate::RankKey;
 
@@ -40,4 +40,10 @@ pub fn order_kept()
 /// Lists of the same references rank pages alike and have the same warm-up lists.
 pub fn same_references_rank_alike()
     ensures { SameReferencesRankAlike }
+{}
+
+/// The victim over what a history holds is a page of greatest backward 2-distance, among those that may leave, over all
+/// references for which the history stands.
+pub fn victim_is_farthest()
+    ensures { VictimIsFarthest }
 {}

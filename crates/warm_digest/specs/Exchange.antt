@@ -1,0 +1,40 @@
+-- What an exchange of differing buckets gives.
+use Rattle.std.specs.Prelude.{◌≡◌, ◌≢◌, ◌⊎◌, ◌↔◌, ℕ, ◌==◌, ◌<◌, List}
+use Rattle.std.specs.List.{AllByRecursion}
+use Rattle.std.specs.Int.{bit_at}
+use Rattle.sha2.specs.Sha256.{sha256}
+use Rattle.warm_stamps.specs.declared.TheConstants.{BUCKETS}
+use Rattle.warm_stamps.specs.Buckets.{page_bucket}
+use Rattle.warm_history.specs.ReferenceSets.{ReferenceSet, ◌∪◌, those}
+use Rattle.warm_history.specs.Histories.{HistoryView, entries_of, history}
+use Rattle.warm_frames.specs.Entries.{IsEntry, entries_bytes}
+use Rattle.warm_digest.specs.BucketSums.{bucket_entries}
+
+-- the text of a bucket, of which its sum is taken
+abbrev pub bucket_text : HistoryView → ℕ → List ℕ
+bucket_text h bucket = entries_bytes (bucket_entries bucket (entries_of h))
+
+-- two different texts of one bucket, one of each history, have one SHA-256
+pub record IsCollision (h g : HistoryView) : Type 0 where
+  pub bucket : ℕ
+  pub low : bucket < BUCKETS
+  pub differ : bucket_text h bucket ≢ bucket_text g bucket
+  pub same_sum : sha256 (bucket_text h bucket) ≡ sha256 (bucket_text g bucket)
+
+-- the bits of the buckets of which both have other sums
+abbrev pub IsDifferenceOf : HistoryView → HistoryView → ℕ → Type 0
+IsDifferenceOf h g mask = (bucket : ℕ) → bucket < BUCKETS
+    → (bit_at mask bucket ≡ 1) ↔ (sha256 (bucket_text h bucket) ≢ sha256 (bucket_text g bucket))
+
+-- the references of S to pages of the buckets of the mask
+abbrev pub in_buckets : ℕ → ReferenceSet → ReferenceSet
+in_buckets mask S = those (λ r. bit_at mask (page_bucket r.page) == 1) S
+
+-- the entries of a history are ones that there are
+abbrev pub Fits : HistoryView → Type 0
+Fits h = AllByRecursion IsEntry (entries_of h)
+
+-- of S those in the buckets that differ, taken in with T, give the history of both, or there is a collision
+abbrev pub ExchangeJoins : Type 0
+ExchangeJoins = (S T : ReferenceSet) (mask : ℕ) → Fits (history S) → Fits (history T) → IsDifferenceOf (history S) (history T) mask
+    → (history (T ∪ in_buckets mask S) ≡ history (T ∪ S)) ⊎ IsCollision (history S) (history T)
