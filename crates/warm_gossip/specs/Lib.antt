@@ -5,3 +5,5 @@ pub mod Gathering
 pub mod Pieces
 pub mod Step
 pub mod Clauses
+pub mod Victims
+pub mod WarmUps

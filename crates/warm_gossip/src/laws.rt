@@ -1,8 +1,9 @@
-//! A law of the pieces in which a node answers a bucket, over the definitions alone.
+//! Laws of a node's answers and steps, over the definitions alone.
 //!
-//! The function does nothing. What it ensures is a theorem, for the crates above to cite and for a reader to
-//! look up: `specs/Pieces.antt` says it in full.
+//! The functions do nothing. What each ensures is a theorem, for the crates above to cite and for a reader to
+//! look up: `specs/Pieces.antt`, `specs/Victims.antt` and `specs/WarmUps.antt` say them in full.
 ghost use Rattle.warm_gossip.specs.Pieces.{PiecesInTurn};
+ghost use Rattle.warm_gossip.specs.Victims.{RepliesAreOverReferences, VictimsAreFarthest};
 
 /// The pieces in which a bucket of a history is answered to sums or to a wish are what `Call::Send` gives of that
 /// bucket, one after the other: the first without a page to come after, each next after the last page of
@@ -10,4 +11,16 @@ ghost use Rattle.warm_gossip.specs.Pieces.{PiecesInTurn};
 /// references that the history stands for.
 pub fn pieces_in_turn()
     ensures { PiecesInTurn }
+{}
+
+/// The victim that a node names, and the hottest pages that it lists, are those over all references for which its
+/// history stands: the two stamps of each page that it keeps are enough.
+pub fn replies_are_over_references()
+    ensures { RepliesAreOverReferences }
+{}
+
+/// A page that a node names as its victim, and a page that leaves at any call but `Call::Restart`, is a resident page
+/// without a fix of greatest backward 2-distance, over all references for which the node's history stands.
+pub fn victims_are_farthest()
+    ensures { VictimsAreFarthest }
 {}
