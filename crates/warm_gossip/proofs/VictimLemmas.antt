@@ -149,7 +149,7 @@ victims_are_farthest S old new call reply stands step = record {
 
 -- ---- what a node answers, over the references for which its history stands
 
-victim_over : (h : HistoryView) (S : ReferenceSet) → StandsFor h S → (U : List PageId) (v : Option PageId) → IsVictim (refs h) U v → IsVictim S U v
+pub victim_over : (h : HistoryView) (S : ReferenceSet) → StandsFor h S → (U : List PageId) (v : Option PageId) → IsVictim (refs h) U v → IsVictim S U v
 victim_over h S stands U None none = none
 victim_over h S stands U (Some v) victim = (victim.0, λ q has other. sym ((order_kept h S stands).leave_alike v q) ∙ victim.1 q has other)
 

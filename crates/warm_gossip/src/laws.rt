@@ -4,6 +4,7 @@
 //! look up: `specs/Pieces.antt`, `specs/Victims.antt` and `specs/WarmUps.antt` say them in full.
 ghost use Rattle.warm_gossip.specs.Pieces.{PiecesInTurn};
 ghost use Rattle.warm_gossip.specs.Victims.{RepliesAreOverReferences, VictimsAreFarthest};
+ghost use Rattle.warm_gossip.specs.WarmUps.{WarmUpLoads};
 
 /// The pieces in which a bucket of a history is answered to sums or to a wish are what `Call::Send` gives of that
 /// bucket, one after the other: the first without a page to come after, each next after the last page of
@@ -23,4 +24,10 @@ pub fn replies_are_over_references()
 /// without a fix of greatest backward 2-distance, over all references for which the node's history stands.
 pub fn victims_are_farthest()
     ensures { VictimsAreFarthest }
+{}
+
+/// As many warm-up steps as the pool has frames, none refused and no page fixed before, bring in every page of the
+/// warm-up list cut to the frames that a device has: no page of the list leaves for another.
+pub fn warm_up_loads()
+    ensures { WarmUpLoads }
 {}
