@@ -13,9 +13,10 @@ use Rattle.warm_rank.specs.Laws.{pages_in}
 use Rattle.warm_rank.specs.Ranking.{IsVictim, leaving_cmp, warm}
 use Rattle.warm_rank.proofs.LeavingLemmas.{order_kept}
 use Rattle.warm_pool.specs.declared.slot.Slot.{Slot}
-use Rattle.warm_pool.specs.View.{PoolView, FrameView, frame_at, is_page, HasPage, IsResident, IsAbsent, IsUnfixed, unfixed_page, unfixed_pages}
+use Rattle.warm_pool.specs.State.{PoolState, IsPool}
+use Rattle.warm_pool.specs.View.{PoolView, FrameView, frame_at, is_page, HasPage, IsResident, IsAbsent, IsUnfixed, unfixed_page, unfixed_pages, view_of}
 use Rattle.warm_pool.specs.Pinning.{IsFull, PutsIn}
-use Rattle.warm_pool.proofs.Bytes.{page_found, found_page}
+use Rattle.warm_pool.proofs.Bytes.{page_found, found_page, frame_seen}
 use Rattle.warm_pool.proofs.Slots.{at_set}
 use Rattle.warm_gossip.specs.declared.call.Call.TheVariants.{WarmStep}
 use Rattle.warm_gossip.specs.declared.call.Reply.TheVariants.{Loaded}
@@ -273,3 +274,9 @@ warm_up_loads S old new stands differ unfixed steps p warm_page =
     let n = length old.pool.frames in
     let warming : IsWarming S n old = record { stands = stands; differ = differ; unfixed = unfixed; count = refl } in
     loads S n n old new warming steps (warm S n) (take_short n (distinct (flip_args (leaving_cmp S)) (pages S))) (λ q listed has. inr listed) p (contains_has (warm S n) p warm_page.listed) warm_page.had
+
+-- ---- what a pool gives
+
+-- no page of a pool is in two frames
+pub pages_differ : (s : PoolState) → IsPool s → PagesDiffer (view_of s)
+pages_differ s pool i j p first second = pool.once i j p (sym (ap (λ f. f.page) (frame_seen s i)) ∙ first) (sym (ap (λ f. f.page) (frame_seen s j)) ∙ second)
