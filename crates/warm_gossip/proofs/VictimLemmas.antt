@@ -41,7 +41,7 @@ same_frames v w same i = ap (λ fs. let f : FrameView = get_or fs i (record { pa
 same_pool : (v w : PoolView) → w ≡ v → KeepsPages v w
 same_pool v w same i = ap (λ x. (frame_at x i).page) same
 
-unchanged : (old new : NodeView) → new ≡ old → KeepsPages old.pool new.pool
+pub unchanged : (old new : NodeView) → new ≡ old → KeepsPages old.pool new.pool
 unchanged old new same = same_pool old.pool new.pool (ap (λ n. n.pool) same)
 
 -- where the number of fixes of one frame changes
@@ -71,7 +71,7 @@ pin_refused h v w p FixesFull refused = elim refused [ inl full ↦ same_pool v 
 pin_refused h v w p why refused = load_refused h v w p why refused
 
 -- a refused call leaves every page where it was
-refusal : (old new : NodeView) (call : Call) (why : NodeFault) → Refuses old call why new → KeepsPages old.pool new.pool
+pub refusal : (old new : NodeView) (call : Call) (why : NodeFault) → Refuses old call why new → KeepsPages old.pool new.pool
 refusal old new (Absorb batch) Memory same = unchanged old new same
 refusal old new (Send bucket after) Memory same = unchanged old new same
 refusal old new Offer Memory same = unchanged old new same

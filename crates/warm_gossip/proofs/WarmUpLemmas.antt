@@ -19,12 +19,12 @@ use Rattle.warm_pool.specs.Pinning.{IsFull, PutsIn}
 use Rattle.warm_pool.proofs.Bytes.{page_found, found_page, frame_seen}
 use Rattle.warm_pool.proofs.Slots.{at_set}
 use Rattle.warm_gossip.specs.declared.call.Call.TheVariants.{WarmStep}
-use Rattle.warm_gossip.specs.declared.call.Reply.TheVariants.{Loaded}
+use Rattle.warm_gossip.specs.declared.call.Reply.TheVariants.{Loaded, Refused}
 use Rattle.warm_gossip.specs.State.{NodeView}
 use Rattle.warm_gossip.specs.Step.{IsLoadable, IsNextWarm, Step}
-use Rattle.warm_gossip.specs.WarmUps.{PagesDiffer, WarmSteps, WarmUpLoads}
+use Rattle.warm_gossip.specs.WarmUps.{PagesDiffer, WarmSteps, WarmStepKeepsHottest, WarmUpLoads}
 use Rattle.warm_gossip.proofs.HottestLemmas.{Apart, has_at, has_place, contains_has, has_contains, without, no_longer, after_listed}
-use Rattle.warm_gossip.proofs.VictimLemmas.{others_keep, victim_over}
+use Rattle.warm_gossip.proofs.VictimLemmas.{others_keep, refusal, unchanged, victim_over}
 
 abbrev no_frame : FrameView
 no_frame = record { page = None; generation = 0; fixes = 0 }
@@ -211,6 +211,12 @@ record Advances (S : ReferenceSet) (n : ℕ) (few : ℕ) (old new : NodeView) : 
 list_is : (S : ReferenceSet) (n : ℕ) (s : NodeView) → IsWarming S n s → warm (refs s.history) (length s.pool.frames) ≡ warm S n
 list_is S n s warming = (order_kept s.history S warming.stands).warm_alike (length s.pool.frames) ∙ ap (warm S) warming.count
 
+-- the page that a step loads is one of the list
+next_listed : (S : ReferenceSet) (n : ℕ) (s : NodeView) → IsWarming S n s → (q : PageId) → IsNextWarm s (Some q) → Has (warm S n) q
+next_listed S n s warming q next =
+    let list = warm (refs s.history) (length s.pool.frames) in
+    subst (λ ps. Has ps q) (list_is S n s warming) (subst (Has list) next.2 (has_at list next.0 (record { dev = 0; no = 0 }) next.1))
+
 -- where no page is to be loaded, all are resident
 all_loaded : (S : ReferenceSet) (n : ℕ) (s : NodeView) → IsWarming S n s → IsNextWarm s None → (p : PageId) → Has (warm S n) p → HasPage s.pool p → IsResident s.pool p
 all_loaded S n s warming next p listed has = elim (resident_or_absent s.pool p) [
@@ -235,8 +241,7 @@ advance S n few old new (Some q) warming step ps short left =
     let slot = step.1.1.0 in
     let puts = step.1.1.1 in
     let next = step.0 in
-    let list = warm (refs old.history) (length v.frames) in
-    let listed : Has (warm S n) q = subst (λ ps. Has ps q) (list_is S n old warming) (subst (Has list) next.2 (has_at list next.0 (record { dev = 0; no = 0 }) next.1)) in
+    let listed = next_listed S n old warming q next in
     let waits : Has ps q = elim (left q listed next.3.0) [ inl there ↦ absurd (next.3.1 there.frame there.holds) | inr waits ↦ waits ] in
     let less = without ps q waits in
     let devices : w.devices ≡ v.devices = ap (λ x. x.devices) puts.becomes in
@@ -274,6 +279,16 @@ warm_up_loads S old new stands differ unfixed steps p warm_page =
     let n = length old.pool.frames in
     let warming : IsWarming S n old = record { stands = stands; differ = differ; unfixed = unfixed; count = refl } in
     loads S n n old new warming steps (warm S n) (take_short n (distinct (flip_args (leaving_cmp S)) (pages S))) (λ q listed has. inr listed) p (contains_has (warm S n) p warm_page.listed) warm_page.had
+
+pub warm_step_keeps_hottest : WarmStepKeepsHottest
+warm_step_keeps_hottest S old new (Refused why) stands differ unfixed step p listed (was, gone) = gone was.frame (refusal old new WarmStep why step was.frame ∙ was.holds)
+warm_step_keeps_hottest S old new (Loaded None) stands differ unfixed step p listed (was, gone) = gone was.frame (unchanged old new step.1 was.frame ∙ was.holds)
+warm_step_keeps_hottest S old new (Loaded (Some q)) stands differ unfixed step p listed (was, gone) =
+    let n = length old.pool.frames in
+    let warming : IsWarming S n old = record { stands = stands; differ = differ; unfixed = unfixed; count = refl } in
+    let there = stays S n old.history old.pool new.pool q step.1.1.0 stands differ unfixed refl step.1.1.1 (next_listed S n old warming q step.0) p (contains_has (warm S n) p listed) was in
+    gone there.frame there.holds
+warm_step_keeps_hottest S old new reply stands differ unfixed step p listed leaves = absurd step
 
 -- ---- what a pool gives
 

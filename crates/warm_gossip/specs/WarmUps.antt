@@ -6,9 +6,11 @@ use Rattle.warm_history.specs.Histories.{StandsFor}
 use Rattle.warm_rank.specs.Ranking.{warm}
 use Rattle.warm_pool.specs.View.{PoolView, frame_at, HasPage, IsResident, IsUnfixed}
 use Rattle.warm_gossip.specs.declared.call.Call.TheVariants.{WarmStep}
+use Rattle.warm_gossip.specs.declared.call.Reply.{Reply}
 use Rattle.warm_gossip.specs.declared.call.Reply.TheVariants.{Loaded}
 use Rattle.warm_gossip.specs.State.{NodeView}
 use Rattle.warm_gossip.specs.Step.{Step}
+use Rattle.warm_gossip.specs.Victims.{Leaves}
 
 -- no page is in two frames
 abbrev pub PagesDiffer : PoolView → Type 0
@@ -23,6 +25,11 @@ WarmSteps (suc n) old new = (loaded : Option PageId) × (next : NodeView) × Ste
 pub record IsWarm (S : ReferenceSet) (v : PoolView) (p : PageId) : Type 0 where
   pub listed : Contains (warm S (length v.frames)) p
   pub had : HasPage v p
+
+-- while no page is fixed, none of the hottest leaves at a warm-up step, whatever its reply
+abbrev pub WarmStepKeepsHottest : Type 0
+WarmStepKeepsHottest = (S : ReferenceSet) (old new : NodeView) (reply : Reply) → StandsFor old.history S → PagesDiffer old.pool → IsUnfixed old.pool
+    → Step old WarmStep reply new → (p : PageId) → Contains (warm S (length old.pool.frames)) p → Leaves old.pool new.pool p → ⊥
 
 -- No page is fixed: after as many steps as there are frames, all of the hottest pages that the devices have are resident.
 abbrev pub WarmUpLoads : Type 0

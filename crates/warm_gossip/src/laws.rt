@@ -4,7 +4,7 @@
 //! look up: `specs/Pieces.antt`, `specs/Victims.antt` and `specs/WarmUps.antt` say them in full.
 ghost use Rattle.warm_gossip.specs.Pieces.{PiecesInTurn};
 ghost use Rattle.warm_gossip.specs.Victims.{RepliesAreOverReferences, VictimsAreFarthest};
-ghost use Rattle.warm_gossip.specs.WarmUps.{WarmUpLoads};
+ghost use Rattle.warm_gossip.specs.WarmUps.{WarmStepKeepsHottest, WarmUpLoads};
 
 /// The pieces in which a bucket of a history is answered to sums or to a wish are what `Call::Send` gives of that
 /// bucket, one after the other: the first without a page to come after, each next after the last page of
@@ -24,6 +24,11 @@ pub fn replies_are_over_references()
 /// without a fix of greatest backward 2-distance, over all references for which the node's history stands.
 pub fn victims_are_farthest()
     ensures { VictimsAreFarthest }
+{}
+
+/// While no page is fixed, no page of the warm-up list cut to the frames leaves at a warm-up step, whatever its reply.
+pub fn warm_step_keeps_hottest()
+    ensures { WarmStepKeepsHottest }
 {}
 
 /// As many warm-up steps as the pool has frames, none refused and no page fixed before, bring in every page of the
