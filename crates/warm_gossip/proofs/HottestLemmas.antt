@@ -22,6 +22,7 @@ use Rattle.warm_rank.proofs.LeavingLemmas.{leaving_order}
 
 -- ---- the items of a list
 
+-- what is read at a place is an item
 pub has_at : {A : Type 0} (xs : List A) (k : ℕ) (d : A) → k < length xs → Has xs (get_or xs k d)
 has_at [] k d lt = absurd (omega (arith, lt))
 has_at (x ∷ xs) zero d lt = inl refl
@@ -33,6 +34,7 @@ pub record IsPlaced {A : Type 0} (xs : List A) (x d : A) : Type 0 where
   pub there : place < length xs
   pub is : get_or xs place d ≡ x
 
+-- each item has a place
 pub has_place : {A : Type 0} (xs : List A) (x d : A) → Has xs x → IsPlaced xs x d
 has_place [] x d has = absurd has
 has_place (y ∷ ys) x d (inl is) = record { place = 0; there = omega arith; is = is }
@@ -40,18 +42,21 @@ has_place (y ∷ ys) x d (inr later) =
     let rest = has_place ys x d later in
     record { place = suc rest.place; there = omega (arith, rest.there); is = rest.is }
 
+-- the two ways to say that a list has an item
 pub contains_has : {A : Type 0} (xs : List A) (x : A) → Contains xs x → Has xs x
 contains_has xs x (k, lt, is) = subst (Has xs) is (has_at xs k x lt)
 
 pub has_contains : {A : Type 0} (xs : List A) (x : A) → Has xs x → Contains xs x
 has_contains xs x has = let placed = has_place xs x x has in (placed.place, placed.there, placed.is)
 
+-- the first items of a list are items of it
 pub has_take : {A : Type 0} (n : ℕ) (xs : List A) (x : A) → Has (take n xs) x → Has xs x
 has_take zero xs x has = absurd has
 has_take (suc n) [] x has = absurd has
 has_take (suc n) (y ∷ ys) x (inl is) = inl is
 has_take (suc n) (y ∷ ys) x (inr later) = inr (has_take n ys x later)
 
+-- what is true of all is true of each
 all_has : {A : Type 0} (P : A → Type 0) (xs : List A) (x : A) → AllByRecursion P xs → Has xs x → P x
 all_has P [] x all has = absurd has
 all_has P (y ∷ ys) x all (inl is) = subst P is all.0
@@ -59,6 +64,7 @@ all_has P (y ∷ ys) x all (inr later) = all_has P ys x all.1 later
 
 -- ---- lists without repeats
 
+-- no item is repeated
 abbrev pub Apart : {A : Type 0} → List A → Type 0
 Apart [] = Unit {0}
 Apart (x ∷ xs) = (Has xs x → ⊥) × Apart xs
@@ -69,6 +75,7 @@ pub record Without {A : Type 0} (ys : List A) (x : A) : Type 0 where
   pub count : length ys ≡ suc (length rest)
   pub others : (y : A) → Has ys y → (y ≡ x) ⊎ Has rest y
 
+-- any item can be taken out
 pub without : {A : Type 0} (ys : List A) (x : A) → Has ys x → Without ys x
 without [] x has = absurd has
 without (y ∷ ys) x (inl is) = record { rest = ys; count = refl; others = λ z has. elim has [ inl same ↦ inl (sym same ∙ is) | inr later ↦ inr later ] }
@@ -123,6 +130,7 @@ leaves_first p q None some less = absurd (cc)
 leaves_first p q (Some (Once last)) some less = absurd (cc)
 leaves_first p q (Some (Twice two)) some less = absurd (cc)
 
+-- so a page that leaves after one that is named is named
 after_named : (S : ReferenceSet) (p q : PageId) → Has (pages S) p → IsBefore S p q → Has (pages S) q
 after_named S p q named before = elim (named_or_not S q) [
   | inl has ↦ has_distinct page_cmp page_order (map (λ (r : Reference). r.page) (references S)) q has

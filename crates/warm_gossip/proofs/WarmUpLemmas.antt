@@ -26,28 +26,33 @@ use Rattle.warm_gossip.specs.WarmUps.{PagesDiffer, WarmSteps, WarmStepKeepsHotte
 use Rattle.warm_gossip.proofs.HottestLemmas.{Apart, has_at, has_place, contains_has, has_contains, without, no_longer, after_listed}
 use Rattle.warm_gossip.proofs.VictimLemmas.{others_keep, refusal, unchanged, victim_over}
 
+-- what is read of a frame beyond the last
 abbrev no_frame : FrameView
 no_frame = record { page = None; generation = 0; fixes = 0 }
 
 -- ---- the pages in slots that each may have one
 
+-- a slot has the page
 abbrev HasSlot : List (Option PageId) → PageId → Type 0
 HasSlot slots p = (k : ℕ) × (k < length slots) × (get_or slots k None ≡ Some p)
 
 slot_later : (o : Option PageId) (slots : List (Option PageId)) (p : PageId) → HasSlot slots p → HasSlot (o ∷ slots) p
 slot_later o slots p (k, lt, is) = (suc k, omega (arith, lt), is)
 
+-- each page in the slots has a slot
 slot_of : (slots : List (Option PageId)) (p : PageId) → Has (pages_in slots) p → HasSlot slots p
 slot_of [] p has = absurd has
 slot_of (None ∷ slots) p has = slot_later None slots p (slot_of slots p has)
 slot_of (Some q ∷ slots) p (inl is) = (0, omega arith, ap Some is)
 slot_of (Some q ∷ slots) p (inr later) = slot_later (Some q) slots p (slot_of slots p later)
 
+-- where each slot has a page there are as many pages as slots
 full_count : (slots : List (Option PageId)) → ((i : ℕ) → i < length slots → get_or slots i None ≢ None) → length (pages_in slots) ≡ length slots
 full_count [] full = refl
 full_count (None ∷ slots) full = absurd (full 0 (omega arith) refl)
 full_count (Some p ∷ slots) full = omega (arith, full_count slots (λ i lt. full (suc i) (omega (arith, lt))))
 
+-- where no two slots have one page none is repeated
 slots_apart : (slots : List (Option PageId)) → ((i j : ℕ) (p : PageId) → get_or slots i None ≡ Some p → get_or slots j None ≡ Some p → i ≡ j) → Apart (pages_in slots)
 slots_apart [] differ = tt
 slots_apart (None ∷ slots) differ = slots_apart slots (λ i j p first second. omega (arith, differ (suc i) (suc j) p first second))
@@ -56,16 +61,19 @@ slots_apart (Some q ∷ slots) differ =
 
 -- ---- the pages in the frames
 
+-- the frames as slots
 abbrev slots_of : PoolView → List (Option PageId)
 slots_of v = map (λ f. f.page) v.frames
 
 slot_seen : (v : PoolView) (i : ℕ) → get_or (slots_of v) i None ≡ (frame_at v i).page
 slot_seen v i = mapped (λ (f : FrameView). f.page) v.frames i no_frame
 
+-- where no page is fixed the pages without a fix are those of all frames
 unfixed_slots : (fs : List FrameView) → ((i : ℕ) → (get_or fs i no_frame).fixes ≡ 0) → map unfixed_page fs ≡ map (λ (f : FrameView). f.page) fs
 unfixed_slots [] unfixed = refl
 unfixed_slots (f ∷ fs) unfixed = rw (unfixed 0) (ap (λ t. f.page ∷ t) (unfixed_slots fs (λ i. unfixed (suc i))))
 
+-- a frame has this page, or it has not
 held_or_not : (p : PageId) (o : Option PageId) → (o ≡ Some p) ⊎ (o ≢ Some p)
 held_or_not p o = go (is_page p o) refl
   where
@@ -88,6 +96,7 @@ resident_or_absent v p = elim (go v.frames) [ inl (k, lt, is) ↦ inl (record { 
       | inr away ↦ elim (go fs) [ inl (k, lt, is) ↦ inl (suc k, omega (arith, lt), is) | inr none ↦ inr (first f fs away none) ]
     ]
 
+-- over the same devices a page is had or not, whatever the frames
 has_same : (v w : PoolView) (p : PageId) → w.devices ≡ v.devices → HasPage v p → HasPage w p
 has_same v w p same has =
     let there : HasPage (record v { devices = v.devices }) p = record { device = has.device; number = has.number } in
@@ -110,6 +119,7 @@ crowded v differ unfixed full q absent ps few listed within =
 
 -- ---- no page of the list leaves
 
+-- the frame into which a page was put is one of the frames
 frame_is_there : {h : HistoryView} {v w : PoolView} {q : PageId} {slot : Slot} → PutsIn h v q 0 slot w → slot.index < length v.frames
 frame_is_there puts = elim puts.place [ inl free ↦ free.there | inr victim ↦ victim.there ]
 
@@ -125,9 +135,12 @@ take_short zero xs = omega arith
 take_short (suc n) [] = omega arith
 take_short (suc n) (x ∷ xs) = omega (arith, take_short n xs)
 
+-- there are as many frames as before
 frames_after : (h : HistoryView) (v w : PoolView) (q : PageId) (slot : Slot) → PutsIn h v q 0 slot w → length w.frames ≡ length v.frames
 frames_after h v w q slot puts = ap (λ x. length x.frames) puts.becomes ∙ length-set v.frames slot.index _
 
+-- While no page is fixed, a resident page of the list stays where another page of the list is put into a frame: if it left, it was
+-- the victim, so that all resident pages are in the list, and the other too, which are too many.
 stays : (S : ReferenceSet) (n : ℕ) (h : HistoryView) (v w : PoolView) (q : PageId) (slot : Slot) → StandsFor h S → PagesDiffer v → IsUnfixed v → length v.frames ≡ n → PutsIn h v q 0 slot w → Has (warm S n) q
     → (p : PageId) → Has (warm S n) p → IsResident v p → IsResident w p
 stays S n h v w q slot stands differ unfixed count puts new p listed was = elim (cases_eq was.frame slot.index) [
@@ -158,6 +171,7 @@ record IsWarming (S : ReferenceSet) (n : ℕ) (s : NodeView) : Type 0 where
   unfixed : IsUnfixed s.pool
   count : length s.pool.frames ≡ n
 
+-- the page is in the frame into which it was put
 page_after : (h : HistoryView) (v w : PoolView) (q : PageId) (slot : Slot) → PutsIn h v q 0 slot w → (frame_at w slot.index).page ≡ Some q
 page_after h v w q slot puts = ap (λ x. (frame_at x slot.index).page) puts.becomes ∙ ap (λ (f : FrameView). f.page) (get_or-set_same v.frames slot.index _ no_frame (frame_is_there puts))
 
@@ -178,6 +192,7 @@ came_in h v w q slot puts = record {
   holds = page_after h v w q slot puts;
 }
 
+-- still no page is in two frames
 differ_after : (h : HistoryView) (v w : PoolView) (q : PageId) (slot : Slot) → PutsIn h v q 0 slot w → PagesDiffer v → PagesDiffer w
 differ_after h v w q slot puts differ i j p first second = elim (frame_after h v w q slot puts i p first) [
   | inl came ↦ elim (frame_after h v w q slot puts j p second) [
@@ -190,6 +205,7 @@ differ_after h v w q slot puts differ i j p first second = elim (frame_after h v
   ]
 ]
 
+-- still no page is fixed
 unfixed_after : (h : HistoryView) (v w : PoolView) (q : PageId) (slot : Slot) → PutsIn h v q 0 slot w → IsUnfixed v → IsUnfixed w
 unfixed_after h v w q slot puts unfixed =
     let come : FrameView = record { page = Some q; generation = slot.generation; fixes = 0 } in
@@ -200,6 +216,7 @@ unfixed_after h v w q slot puts unfixed =
 abbrev IsLeft : List PageId → PoolView → List PageId → Type 0
 IsLeft list v left = (p : PageId) → Has list p → HasPage v p → IsResident v p ⊎ Has left p
 
+-- a step has left at most so many pages to load
 record Advances (S : ReferenceSet) (n : ℕ) (few : ℕ) (old new : NodeView) : Type 0 where
   warming : IsWarming S n new
   devices : new.pool.devices ≡ old.pool.devices
@@ -226,6 +243,7 @@ all_loaded S n s warming next p listed has = elim (resident_or_absent s.pool p) 
       absurd (next placed.place placed.there (subst (IsLoadable s.pool) (sym placed.is) (has, absent)))
 ]
 
+-- each step leaves a page less, or none
 advance : (S : ReferenceSet) (n few : ℕ) (old new : NodeView) (loaded : Option PageId) → IsWarming S n old → Step old WarmStep (Loaded loaded) new
     → (ps : List PageId) → length ps ≤ suc few → IsLeft (warm S n) old.pool ps → Advances S n few old new
 advance S n few old new None warming step ps short left = record {
@@ -266,6 +284,7 @@ advance S n few old new (Some q) warming step ps short left =
 
 -- ---- as many steps as there are pages left
 
+-- so that as many steps leave none
 loads : (S : ReferenceSet) (n few : ℕ) (old new : NodeView) → IsWarming S n old → WarmSteps few old new → (ps : List PageId) → length ps ≤ few → IsLeft (warm S n) old.pool ps
     → (p : PageId) → Has (warm S n) p → HasPage old.pool p → IsResident new.pool p
 loads S n zero old new warming same [] short left p listed has = elim (left p listed has) [ inl there ↦ subst (λ s. IsResident s.pool p) (sym same) there | inr waits ↦ absurd waits ]
