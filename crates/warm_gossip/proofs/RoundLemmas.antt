@@ -28,7 +28,7 @@ use Rattle.warm_digest.specs.BucketSums.{bucket_entries, bucket_sum, sums_of}
 use Rattle.warm_digest.specs.Exchange.{Fits, IsCollision, IsDifferenceOf, in_buckets}
 use Rattle.warm_digest.proofs.ExchangeLemmas.{kept, hist-kept, joined_same, joined_none, exchange_joins}
 use Rattle.warm_gossip.specs.Answers.{pieces_of, pieces, entry_frames, bucket_frames, buckets_in, wanted_frames, IsDiffering, IsAnswer, taught}
-use Rattle.warm_gossip.specs.Round.{Hears, GossipRound, GossipRoundJoins, OwnSumsUnanswered, EntriesTeach}
+use Rattle.warm_gossip.specs.Round.{Hears, GossipRound, GossipRoundEnds, GossipRoundJoins, OwnSumsUnanswered, EntriesTeach}
 
 -- ---- the references that frames carry
 
@@ -79,6 +79,14 @@ hears_last id S (Entries sender entries ∷ frames) last answers new all hears =
     (subst (IsAnswer id (history ((S ++ held_by entries) ++ all_refs frames)) last) whole (hears_last id (S ++ held_by entries) frames last hears.1 new all.1 rest))
 hears_last id S (Digest sender sums ∷ frames) last answers new all hears = absurd all.0
 hears_last id S (Want sender mask ∷ frames) last answers new all hears = absurd all.0
+
+-- where frames of entries come alone, there is no answer
+none_answered : (id : ℕ) (h : HistoryView) (frames answers : List Frame) (new : HistoryView) → AllByRecursion CarriesEntries frames → Hears id h frames answers new → answers ≡ []
+none_answered id h [] answers new all hears = hears.0
+none_answered id h (Entries sender entries ∷ frames) answers new all hears =
+    hears.4 ∙ ap (λ t. t ++ hears.1) hears.2 ∙ none_answered id (taught h (Entries sender entries)) frames hears.1 new all.1 hears.3
+none_answered id h (Digest sender sums ∷ frames) answers new all hears = absurd all.0
+none_answered id h (Want sender mask ∷ frames) answers new all hears = absurd all.0
 
 all_append : {A : Type 0} (P : A → Type 0) (xs ys : List A) → AllByRecursion P xs → AllByRecursion P ys → AllByRecursion P (xs ++ ys)
 all_append P [] ys first second = second
@@ -241,13 +249,18 @@ hist_back mask S T W p same =
 abbrev Exchanged : ℕ → ReferenceSet → ReferenceSet → HistoryView → HistoryView → Type 0
 Exchanged mask S T h' g' = (h' ≡ history (S ∪ in_buckets mask T)) × (g' ≡ history (T ∪ in_buckets mask S))
 
+-- what i answers to what it asked for: its entries of these buckets, once it has taken in what came
+given_is : (i j mask : ℕ) (S : ReferenceSet) (g : HistoryView) (given : List Frame) (h' : HistoryView) → Hears i (history S) (wanted_frames j g mask ++ Want j mask ∷ []) given h'
+    → given ≡ wanted_frames i (history (S ++ all_refs (wanted_frames j g mask))) mask
+given_is i j mask S g given h' heard = hears_last i S (wanted_frames j g mask) (Want j mask) given h' (bucket_by_bucket j g (buckets_in mask)) heard
+
 exchanged : (i j mask : ℕ) (S T : ReferenceSet) (given last : List Frame) (h' g' : HistoryView)
     → Hears i (history S) (wanted_frames j (history T) mask ++ Want j mask ∷ []) given h' → Hears j (history T) given last g' → Exchanged mask S T h' g'
 exchanged i j mask S T given last h' g' heard back =
     let frames = wanted_frames j (history T) mask in
     let W : List Reference = all_refs frames in
     let said : (p : PageId) → hist W p ≡ hist (in_buckets mask T) p = hist-wanted j mask T in
-    let answered : given ≡ wanted_frames i (history (S ++ W)) mask = hears_last i S frames (Want j mask) given h' (bucket_by_bucket j (history T) (buckets_in mask)) heard in
+    let answered : given ≡ wanted_frames i (history (S ++ W)) mask = given_is i j mask S (history T) given h' heard in
     let all : all_refs (frames ++ Want j mask ∷ []) ≡ W = flat_map-append refs_in frames (Want j mask ∷ []) ∙ append-nil W in (
       hears_refs i S (frames ++ Want j mask ∷ []) given h' heard ∙ ap (λ R. history (S ++ R)) all ∙ history_alike S S W (in_buckets mask T) (λ p. refl) said,
       hears_refs j T given last g' back
@@ -305,6 +318,29 @@ own_sums_unanswered i j h answers is =
 
 -- ---- the round
 
+-- what j answers to the sums of h, by the mask of the buckets that differ
+abbrev asking : ℕ → HistoryView → ℕ → List Frame
+asking j g mask = wanted_frames j g mask ++ Want j mask ∷ []
+
+-- what j answers is nothing, or it is not: so then is what comes after it
+abbrev Asked : ℕ → ℕ → HistoryView → HistoryView → HistoryView → HistoryView → ℕ → List Frame → List Frame → Type 0
+Asked i j h g h' g' mask given last =
+    ((mask ≡ 0) × (last ≡ []) × (h' ≡ h) × (g' ≡ g)) ⊎ (Hears i h (asking j g mask) given h' × Hears j g given last g')
+
+asked : (i j : ℕ) (h g h' g' : HistoryView) (round : GossipRound i j h g h' g') → Asked i j h g h' g' round.offered.0 round.given round.last
+asked i j h g h' g' round =
+    let mask : ℕ = round.offered.0 in
+    elim (cases_eq mask 0) [
+      | inl none ↦
+          let nothing : round.asked ≡ [] = round.offered.3 ∙ if_zero mask [] (asking j g mask) none in
+          let first : Hears i h [] round.given h' = subst (λ frames. Hears i h frames round.given h') nothing round.heard in
+          let second : Hears j g [] round.last g' = subst (λ frames. Hears j g frames round.last g') first.0 round.back in
+          inl (none, second.0, first.1, second.1)
+      | inr some ↦
+          let all : round.asked ≡ asking j g mask = round.offered.3 ∙ if_other mask [] (asking j g mask) some in
+          inr (subst (λ frames. Hears i h frames round.given h') all round.heard, round.back)
+    ]
+
 -- what a round between these histories gives, over the references of both
 abbrev Joins : ℕ → ℕ → List Reference → HistoryView → HistoryView → HistoryView → HistoryView → Type 0
 Joins i j all h g h' g' = Fits h → Fits g → GossipRound i j h g h' g' → ((h' ≡ history all) × (g' ≡ history all)) ⊎ IsCollision h g
@@ -315,31 +351,16 @@ both_join i j S T h' g' fits others round =
     let g = history T in
     let mask : ℕ = round.offered.0 in
     let differ : IsDifferenceOf h g mask = same_difference mask h g round.offered.2 in
-    let done : Exchanged mask S T h' g' = settled in
+    let done : Exchanged mask S T h' g' = elim (asked i j h g h' g' round) [
+      | inl nothing ↦ unchanged mask S T h' g' nothing.0 nothing.2 nothing.3
+      | inr some ↦ exchanged i j mask S T round.given round.last h' g' some.0 some.1
+    ] in
     elim (exchange_joins T S mask others fits (other_way mask h g differ)) [
       | inr collision ↦ inr (collision_too g h collision)
       | inl first ↦ elim (exchange_joins S T mask fits others differ) [
         | inr collision ↦ inr collision
         | inl second ↦ inl (done.0 ∙ first, done.1 ∙ second ∙ history_swap T S)
       ]
-    ]
-  where
-    mask_of : ℕ
-    mask_of = round.offered.0
-
-    asked : List Frame
-    asked = wanted_frames j (history T) mask_of ++ Want j mask_of ∷ []
-
-    settled : Exchanged mask_of S T h' g'
-    settled = elim (cases_eq mask_of 0) [
-      | inl none ↦
-          let nothing : round.asked ≡ [] = round.offered.3 ∙ if_zero mask_of [] asked none in
-          let first : Hears i (history S) [] round.given h' = subst (λ fs. Hears i (history S) fs round.given h') nothing round.heard in
-          let second : Hears j (history T) [] round.last g' = subst (λ fs. Hears j (history T) fs round.last g') first.0 round.back in
-          unchanged mask_of S T h' g' none first.1 second.1
-      | inr some ↦
-          let all : round.asked ≡ asked = round.offered.3 ∙ if_other mask_of [] asked some in
-          exchanged i j mask_of S T round.given round.last h' g' (subst (λ fs. Hears i (history S) fs round.given h') all round.heard) round.back
     ]
 
 pub gossip_round_joins : GossipRoundJoins
@@ -348,3 +369,15 @@ gossip_round_joins i j h g h' g' whole other fits others round =
     let second : history (refs g) ≡ g = history_of_own_references g other in
     let own : Joins i j (refs h ∪ refs g) (history (refs h)) (history (refs g)) h' g' = both_join i j (refs h) (refs g) h' g' in
     subst (λ (k : HistoryView). Joins i j (refs h ∪ refs g) k g h' g') first (subst (λ (k : HistoryView). Joins i j (refs h ∪ refs g) (history (refs h)) k h' g') second own) fits others round
+
+pub gossip_round_ends : GossipRoundEnds
+gossip_round_ends i j h g h' g' whole round = elim (asked i j h g h' g' round) [
+  | inl nothing ↦ nothing.1
+  | inr some ↦
+      let mask : ℕ = round.offered.0 in
+      let S : List Reference = refs h in
+      let own : history S ≡ h = history_of_own_references h whole in
+      let k : HistoryView = history (S ++ all_refs (wanted_frames j g mask)) in
+      let given : round.given ≡ wanted_frames i k mask = given_is i j mask S g round.given h' (subst (λ t. Hears i t (asking j g mask) round.given h') (sym own) some.0) in
+      none_answered j g round.given round.last g' (subst (AllByRecursion CarriesEntries) (sym given) (bucket_by_bucket i k (buckets_in mask))) some.1
+]

@@ -32,6 +32,10 @@ abbrev pub GossipRoundJoins : Type 0
 GossipRoundJoins = (i j : ℕ) (h g h' g' : HistoryView) → IsHistory h → IsHistory g → Fits h → Fits g → GossipRound i j h g h' g'
     → ((h' ≡ join h g) × (g' ≡ join h g)) ⊎ IsCollision h g
 
+-- a round is over then: to what came last j has nothing to answer
+abbrev pub GossipRoundEnds : Type 0
+GossipRoundEnds = (i j : ℕ) (h g h' g' : HistoryView) → IsHistory h → (round : GossipRound i j h g h' g') → round.last ≡ []
+
 -- a replica answers nothing to the sums of the history that it has
 abbrev pub OwnSumsUnanswered : Type 0
 OwnSumsUnanswered = (i j : ℕ) (h : HistoryView) (answers : List Frame) → IsAnswer j h (offer i h) answers → answers ≡ []

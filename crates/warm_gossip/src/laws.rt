@@ -4,7 +4,7 @@
 //! Each function does nothing. What it ensures is a theorem, for the crates above to cite and for a reader to
 //! look up: `specs/Pieces.antt` and `specs/Round.antt` say them in full.
 ghost use Rattle.warm_gossip.specs.Pieces.{PiecesInTurn};
-ghost use Rattle.warm_gossip.specs.Round.{EntriesTeach, GossipRoundJoins, OwnSumsUnanswered};
+ghost use Rattle.warm_gossip.specs.Round.{EntriesTeach, GossipRoundEnds, GossipRoundJoins, OwnSumsUnanswered};
 
 /// The pieces in which a bucket of a history is answered to sums or to a wish are what `Call::Send` gives of that
 /// bucket, one after the other: the first without a page to come after, each next after the last page of
@@ -19,6 +19,11 @@ pub fn pieces_in_turn()
 /// texts of one bucket, one of each replica, have one SHA-256.
 pub fn gossip_round_joins()
     ensures { GossipRoundJoins }
+{}
+
+/// A round of gossip is over once both have heard each other: there is nothing to answer to what came last.
+pub fn gossip_round_ends()
+    ensures { GossipRoundEnds }
 {}
 
 /// To the sums of the very history that it has a replica answers nothing: a round of a replica with itself is its
