@@ -1,8 +1,10 @@
-//! Laws of a node's answers and steps, over the definitions alone.
+//! Laws of nodes, over the definitions alone: the pieces in which a bucket is answered, a round of gossip, victims,
+//! and warming up.
 //!
-//! The functions do nothing. What each ensures is a theorem, for the crates above to cite and for a reader to
-//! look up: `specs/Pieces.antt`, `specs/Victims.antt` and `specs/WarmUps.antt` say them in full.
+//! Each function does nothing. What it ensures is a theorem, for the crates above to cite and for a reader to
+//! look up: the files of `specs/` that the clauses name say it in full.
 ghost use Rattle.warm_gossip.specs.Pieces.{PiecesInTurn};
+ghost use Rattle.warm_gossip.specs.Round.{EntriesTeach, GossipRoundEnds, GossipRoundJoins, OwnSumsUnanswered};
 ghost use Rattle.warm_gossip.specs.Victims.{RepliesAreOverReferences, VictimsAreFarthest};
 ghost use Rattle.warm_gossip.specs.WarmUps.{WarmStepKeepsHottest, WarmUpLoads};
 
@@ -12,6 +14,29 @@ ghost use Rattle.warm_gossip.specs.WarmUps.{WarmStepKeepsHottest, WarmUpLoads};
 /// references that the history stands for.
 pub fn pieces_in_turn()
     ensures { PiecesInTurn }
+{}
+
+/// A round of gossip: a replica offers the sums of its history to another, and each hears all that the other
+/// answers, until both have answered. Afterwards both histories are the join of the two that were; or two different
+/// texts of one bucket, one of each replica, have one SHA-256.
+pub fn gossip_round_joins()
+    ensures { GossipRoundJoins }
+{}
+
+/// A round of gossip is over once both have heard each other: there is nothing to answer to what came last.
+pub fn gossip_round_ends()
+    ensures { GossipRoundEnds }
+{}
+
+/// To the sums of the very history that it has a replica answers nothing: a round of a replica with itself is its
+/// offer alone.
+pub fn own_sums_unanswered()
+    ensures { OwnSumsUnanswered }
+{}
+
+/// A frame of a history's entries teaches a replica all references for which that history stands.
+pub fn entries_teach()
+    ensures { EntriesTeach }
 {}
 
 /// The victim that a node names, and the hottest pages that it lists, are those over all references for which its
