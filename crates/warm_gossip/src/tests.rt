@@ -303,10 +303,8 @@ fn runs(rt: &impl Abort, alloc: Global, node: &mut Node, rows: &[Row<'_>]) -> Re
     requires { IsFit state node.old }
     ensures { IsFit state node.new }
 {
-    let mut at = 0;
-    for row in rows {
+    for (at, row) in rows.iter().enumerate() {
         meets(rt, alloc, node, *row, at)?;
-        at += 1;
     }
     Ok(())
 }
@@ -512,6 +510,7 @@ fn know_the_same(rt: &impl Abort, first: &Node, second: &Node) {
     assert_eq!(rt; (first.history().len(), second.history().len()), (2, 2));
 }
 
+// Each node is told of a page, and then both of what the other knows.
 fn become_equal(
     rt: &impl Abort,
     alloc: Global,
@@ -521,6 +520,8 @@ fn become_equal(
     requires first { IsFit state first.old }
     requires second { IsFit state second.old }
 {
+    told(rt, alloc, first, &[(1, 10)])?;
+    told(rt, alloc, second, &[(2, 11)])?;
     let (entries, want) = answered_to_sums(rt, alloc, first, second)?;
     takes(rt, first, entries)?;
     grants(rt, first, second, want)?;
@@ -531,12 +532,9 @@ fn become_equal(
 
 #[test]
 fn two_nodes_make_their_histories_equal(rt: HostRuntime) -> Result<(), Fail> {
-    let alloc = rt.alloc();
-    let mut first = fresh(alloc, 1, 4)?;
-    let mut second = fresh(alloc, 2, 4)?;
-    told(&rt, alloc, &mut first, &[(1, 10)])?;
-    told(&rt, alloc, &mut second, &[(2, 11)])?;
-    become_equal(&rt, alloc, &mut first, &mut second)
+    let mut first = fresh(rt.alloc(), 1, 4)?;
+    let mut second = fresh(rt.alloc(), 2, 4)?;
+    become_equal(&rt, rt.alloc(), &mut first, &mut second)
 }
 
 fn entries_in(frame: &Frame) -> usize {
