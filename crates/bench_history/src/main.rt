@@ -8,8 +8,7 @@ use anyhow::{Context, Result, bail};
 use std::alloc::{AllocError, Global};
 use std::env;
 use std::time::{Duration, Instant};
-use warm_history::hist::{Entry, PageHist};
-use warm_history::history::History;
+use warm_history::{Entry, History, PageHist};
 use warm_stamps::{Bucket, PageId, Reference, ReplicaId, Stamp};
 
 fn next(drawn: u64) -> u64 {
