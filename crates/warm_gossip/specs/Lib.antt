@@ -4,4 +4,5 @@ pub mod Answers
 pub mod Gathering
 pub mod Pieces
 pub mod Step
+pub mod Told
 pub mod Clauses

@@ -1,8 +1,9 @@
-//! A law of the pieces in which a node answers a bucket, over the definitions alone.
+//! Laws of nodes, over the definitions alone.
 //!
-//! The function does nothing. What it ensures is a theorem, for the crates above to cite and for a reader to
-//! look up: `specs/Pieces.antt` says it in full.
+//! The functions do nothing. What each ensures is a theorem, for the crates above to cite and for a reader to
+//! look up: `specs/` says it in full.
 ghost use Rattle.warm_gossip.specs.Pieces.{PiecesInTurn};
+ghost use Rattle.warm_gossip.specs.Told.{ToldIsHistory};
 
 /// The pieces in which a bucket of a history is answered to sums or to a wish are what `Call::Send` gives of that
 /// bucket, one after the other: the first without a page to come after, each next after the last page of
@@ -10,4 +11,10 @@ ghost use Rattle.warm_gossip.specs.Pieces.{PiecesInTurn};
 /// references that the history stands for.
 pub fn pieces_in_turn()
     ensures { PiecesInTurn }
+{}
+
+/// Each state that a legal list of calls reaches has the history of what the node was told: the references of each
+/// `Absorb` and each frame of entries that it took, since its last restart. What it opened with counts too.
+pub fn told_is_history()
+    ensures { ToldIsHistory }
 {}
