@@ -4,7 +4,7 @@ ghost use Rattle.std.specs.Prelude.{IfOk};
 use crate::beside::listen_both;
 use crate::listen::mail_loop;
 use crate::mail::{Mail, MailIter};
-use crate::node::SharedNode;
+
 use crate::post::{MemPost, Outbox, Outboxes, Post};
 use crate::report::MailReport;
 use crate::worker::Worker;
@@ -17,23 +17,23 @@ use std::thread::Threads;
 use warm_devices::{MemDevice, PageDevice};
 use warm_digest::sums;
 use warm_frames::{Frame, decode, encode};
-use warm_gossip::{Call, Reply};
-use warm_stamps::ByteList;
-use warm_gossip::{Node, Shown};
-use warm_history::history::History;
+use warm_gossip::{Call, Node, Reply};
+
+
+use warm_history::History;
 use warm_pool::Pool;
 use warm_refbuffer::RefBuffer;
-use warm_stamps::{PageId, Reference, ReplicaId, Stamp};
+use warm_stamps::{ByteList, PageId, RefList, Reference, ReplicaId, Stamp};
 use warm_turn::{Machine, Turn};
 
 // A node of two frames over a device with pages of 16 bytes.
-fn fresh(alloc: Global, device: Box<dyn PageDevice + Send>) -> Result<SharedNode, Fail>
-    ensures { IfOk result (λ node. ⟦<SharedNode as Machine>⟧.is_fit node) }
+fn fresh(alloc: Global, device: Box<dyn PageDevice + Send>) -> Result<Node, Fail>
+    ensures { IfOk result (λ node. ⟦<Node as Machine>⟧.is_fit node) }
 {
     let mut devices = Vec::with_capacity(alloc, 1)?;
     devices.push_reserved(device);
     match Pool::new(alloc, 2, 16, devices) {
-        Ok(pool) => Ok(SharedNode::new(Node::new(alloc, ReplicaId::new(1)?, pool))),
+        Ok(pool) => Ok(Node::new(alloc, ReplicaId::new(1)?, pool)),
         Err(_) => Err("no pool".into()),
     }
 }
