@@ -4,5 +4,6 @@ pub mod Answers
 pub mod Gathering
 pub mod Pieces
 pub mod Step
+pub mod Batches
 pub mod Told
 pub mod Clauses

@@ -2,6 +2,7 @@
 //!
 //! The functions do nothing. What each ensures is a theorem, for the crates above to cite and for a reader to
 //! look up: `specs/` says it in full.
+ghost use Rattle.warm_gossip.specs.Batches.{BatchesAreTaken};
 ghost use Rattle.warm_gossip.specs.Pieces.{PiecesInTurn};
 ghost use Rattle.warm_gossip.specs.Told.{ToldIsHistory};
 
@@ -17,4 +18,9 @@ pub fn pieces_in_turn()
 /// `Absorb` and each frame of entries that it took, since its last restart. What it opened with counts too.
 pub fn told_is_history()
     ensures { ToldIsHistory }
+{}
+
+/// A node takes a batch of references, or refuses it for want of memory, and gives no other reply.
+pub fn batches_are_taken()
+    ensures { BatchesAreTaken }
 {}

@@ -1,11 +1,13 @@
 //! Any number of replicas, each of which takes its mail in a thread of its own.
 ghost use Rattle.std.specs.Prelude.{◌≡◌, ◌≤◌, [], List, length, vec_capacity, IfOk, OnOk};
 ghost use Rattle.std.specs.Thread.{IsSync, IsSend};
-ghost use Rattle.warm_replica.specs.Mails.{Listened, Twos};
+ghost use Rattle.warm_replica.specs.Mails.{Listened};
+ghost use Rattle.warm_replica.specs.Pairs.{Pairs};
 
-use crate::beside::listen_alone;
-use crate::mail::Mail;
-use crate::post::Outbox;
+use crate::fault::NoThread;
+use crate::listen::mail_loop;
+use crate::mail::{Mail, MailIter};
+use crate::post::{Outbox, Outboxes};
 use crate::report::MailReport;
 use crate::worker::Worker;
 use crossbeam_channel::Receiver;
@@ -60,6 +62,36 @@ impl<M: Machine<Call = Call, Reply = Reply>> Promise<(Worker<M>, MailReport)> fo
     ghost kept_by = { λ p r. Listened p.turns p.worker.value.pass.view r.1 r.0.pass.view };
 }
 
+// Takes the mail of a channel, and sends the answers to outboxes. The worker comes back.
+fn listen_alone<M: Machine<Call = Call, Reply = Reply>, R: Wait>(
+    rt: &R,
+    alloc: Global,
+    replica: &Turn<M>,
+    mut worker: Worker<M>,
+    receiver: Receiver<Mail>,
+    boxes: Vec<Outbox>,
+    stops: u64,
+    turns: u64,
+) -> (Worker<M>, MailReport)
+    requires { worker.pass.table ≡ replica.now.table }
+    ensures table { result.0.pass.table ≡ worker.pass.table }
+    ensures heard { Listened turns worker.pass.view result.1 result.0.pass.view }
+{
+    let mail = MailIter::new(rt, receiver, turns);
+    let mut post = Outboxes::new(rt, boxes);
+    let report = mail_loop(
+        rt,
+        alloc,
+        replica,
+        &mut worker,
+        mail,
+        &mut post,
+        stops,
+        turns,
+    );
+    (worker, report)
+}
+
 // A station's loop.
 fn listen_at<M: Machine<Call = Call, Reply = Reply>, R: Wait>(
     rt: &R,
@@ -79,11 +111,7 @@ fn listen_at<M: Machine<Call = Call, Reply = Reply>, R: Wait>(
     listen_alone(rt, alloc, replica, worker, receiver, boxes, stops, turns)
 }
 
-/// No thread could be started for a station.
-#[derive(Clone, Copy, Debug, PartialEq, Eq)]
-pub struct NoThread;
-
-/// Each station takes its mail in a thread of its own, the last one first to start.
+// Each station takes its mail in a thread of its own, the last one first to start.
 pub(crate) fn listen_all<
     's,
     E,
@@ -101,7 +129,7 @@ pub(crate) fn listen_all<
     requires send { IsSend M.row × IsSync R.row }
     requires room { (all.old.items ≡ []) × (length stations.items ≤ vec_capacity all.old) }
     ensures room { vec_capacity all.old ≤ vec_capacity all.new }
-    ensures heard { OnOk result (Twos (λ s r. Listened turns s.worker.pass.view r.1 r.0.pass.view) stations.entry.items all.new.items) }
+    ensures heard { OnOk result (Pairs (λ s r. Listened turns s.worker.pass.view r.1 r.0.pass.view) stations.entry.items all.new.items) }
 {
     let Some(station) = stations.pop() else {
         return Ok(());
@@ -137,14 +165,14 @@ fn run_in_scope<'a, M: Machine<Call = Call, Reply = Reply> + Send, R: Threads + 
     all: Vec<(Worker<M>, MailReport)>,
 ) -> Result<Vec<(Worker<M>, MailReport)>, NoThread>
     requires { (all.items ≡ []) × (length stations.items ≤ vec_capacity all) }
-    ensures { IfOk result (λ v. Twos (λ s r. Listened turns s.worker.pass.view r.1 r.0.pass.view) stations.entry.items v.items) }
+    ensures { IfOk result (λ v. Pairs (λ s r. Listened turns s.worker.pass.view r.1 r.0.pass.view) stations.entry.items v.items) }
 {
     let (_, ran) = thread::scope(
         thread::scope_env(),
         rt,
         move |scope| -> ((), Result<Vec<(Worker<M>, MailReport)>, NoThread>)
             requires { IsSend M.row × IsSync R.row × (all.items ≡ []) × (length stations.items ≤ vec_capacity all) }
-            ensures { IfOk result.1 (λ v. Twos (λ s r. Listened turns s.worker.pass.view r.1 r.0.pass.view) stations.entry.items v.items) }
+            ensures { IfOk result.1 (λ v. Pairs (λ s r. Listened turns s.worker.pass.view r.1 r.0.pass.view) stations.entry.items v.items) }
         {
             let mut all = all;
             match listen_all(scope, rt, alloc, stations, stops, turns, &mut all) {
@@ -168,7 +196,7 @@ pub fn run_stations<'a, M: Machine<Call = Call, Reply = Reply> + Send, R: Thread
     stops: u64,
     turns: u64,
 ) -> Result<Vec<(Worker<M>, MailReport)>, NoThread>
-    ensures { IfOk result (λ v. Twos (λ s r. Listened turns s.worker.pass.view r.1 r.0.pass.view) stations.entry.items v.items) }
+    ensures { IfOk result (λ v. Pairs (λ s r. Listened turns s.worker.pass.view r.1 r.0.pass.view) stations.entry.items v.items) }
 {
     match Vec::with_capacity(alloc, stations.len()) {
         Ok(all) => run_in_scope(rt, alloc, stations, stops, turns, all),

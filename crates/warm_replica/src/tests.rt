@@ -1,12 +1,12 @@
 //! Rows of mail, run.
 ghost use Rattle.std.specs.Prelude.{IfOk};
 
-use crate::beside::listen_both;
 use crate::listen::mail_loop;
 use crate::mail::{Mail, MailIter};
 
 use crate::post::{MemPost, Outbox, Outboxes, Post};
 use crate::report::MailReport;
+use crate::stations::{Station, run_stations};
 use crate::worker::Worker;
 use crossbeam_channel::{Receiver, unbounded};
 use std::alloc::Global;
@@ -277,20 +277,16 @@ fn heard_by_both<M: Machine<Call = Call, Reply = Reply> + Drop + Send, R: Thread
     let (Ok(buffer), Ok(other)) = (RefBuffer::new(alloc, 2), RefBuffer::new(alloc, 2)) else {
         return Err("no room".into());
     };
-    let ((_, one), (_, two)) = listen_both(
-        rt,
-        alloc,
-        &first,
-        Worker::new(one, buffer),
-        to_first,
-        Vec::new(alloc),
-        &second,
-        Worker::new(two, other),
-        to_second,
-        of_second,
-        10,
-    );
-    Ok((one, two))
+    let mut stations = Vec::with_capacity(alloc, 2)?;
+    stations.push_reserved(Station::new(&first, Worker::new(one, buffer), to_first, Vec::new(alloc)));
+    stations.push_reserved(Station::new(&second, Worker::new(two, other), to_second, of_second));
+    let Ok(heard) = run_stations(rt, alloc, stations, 1, 10) else {
+        return Err("no thread".into());
+    };
+    let [(_, one), (_, two)] = heard.as_slice() else {
+        return Err("two loops end".into());
+    };
+    Ok((*one, *two))
 }
 
 #[test]
