@@ -35,8 +35,12 @@ module _ {X : Type 0} (goes : X → Call → Reply → X → Type 0) where
 
   pub jobs_went : (v own w : View X Call Reply) (n : ℕ) (jobs : List Job) (ready : List Ready) (all : List (Vec StepReply)) (more : List (Ended Call Reply))
       → AreReady jobs ready → Widened (new_pass v n) more own → Joined goes v own w → Triples ReadyWentAs ready all more → JobsWent v jobs all w
-  jobs_went v own w n jobs ready all more same wide joined went =
-      (as_ended own, more, fan_ends goes v own w n more wide joined, wide.mine,
-          pairs_triples IsReady ReadyWentAs JobWentAs
-          (λ j r d e p q. subst (λ (k : ℕ). WentAs k j.steps.items d.items e) (sym p.0) (subst (λ (l : Vec Step). WentAs r.buffer.cap l.items d.items e) (sym p.1) q))
-          jobs ready all more same went)
+  jobs_went v own w n jobs ready all more same wide joined went = (
+    as_ended own,
+    more,
+    fan_ends goes v own w n more wide joined,
+    wide.mine,
+    pairs_triples IsReady ReadyWentAs JobWentAs
+        (λ j r d e p q. subst (λ (k : ℕ). WentAs k j.steps.items d.items e) (sym p.0) (subst (λ (l : Vec Step). WentAs r.buffer.cap l.items d.items e) (sym p.1) q))
+        jobs ready all more same went,
+  )

@@ -189,14 +189,17 @@ fn run_ready<M: Absorbing + Send, R: Threads + Wait + Sync, G: Gate + Sync>(
     )
 }
 
-/// Runs each job in a thread of its own, and ends their passes into this one. At most [`MAX_JOBS`] at a time.
+/// Runs each job in a thread of its own, and ends their passes into this one. At most [`MAX_JOBS`] at a time. The replies come in the
+/// order of the jobs, one for each step. What a job's buffer holds after its last step is given up.
 ///
-/// Each job's part of the history is just its flushes and calls, in order, with the replies that its steps gave. The gate is
-/// called round each step, by the job's own thread.
+/// Each job's part of the history is just its flushes and calls, in order, with the replies that its steps gave. The pass makes no
+/// call of its own. The gate is called round each step, by the job's own thread.
 ///
 /// # Errors
-/// `BadCapacity`, then `Memory`: nothing has happened. `NoThread`: the jobs that were started have run to their end, and
-/// the pass has seen what they did.
+/// - `BadCapacity`: a job wants a buffer of a capacity outside 1 to [`warm_refbuffer::MAX_CAPACITY`]. Nothing has happened.
+/// - `Memory`: room for a buffer or for replies was refused. Nothing has happened.
+/// - `NoThread`: a thread could not be started, for want of memory too. The jobs that were started have run to their end, and the
+///   pass has seen what they did.
 pub fn run_workers<M: Absorbing + Send, R: Threads + Wait + Sync, G: Gate + Sync>(
     rt: &R,
     alloc: Global,

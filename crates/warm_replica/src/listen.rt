@@ -1,6 +1,6 @@
 //! A loop over mail.
 ghost use Rattle.std.specs.Prelude.{◌≡◌, ℕ, ◌≤◌, ◌<◌, ◌^◌, ◌∷◌, [], List, length, map, IfSome};
-ghost use Rattle.warm_replica.specs.Mails.{Posts, Heard, Took, sender_of};
+ghost use Rattle.warm_replica.specs.Mails.{Posts, HeardBy, Took, sender_of};
 ghost use Rattle.warm_replica.specs.declared.mail.Mail.{Mail};
 ghost use Rattle.warm_replica.specs.declared.mail.Mail.TheVariants.{Bytes};
 
@@ -12,8 +12,7 @@ use std::alloc::Global;
 use std::sync::Wait;
 use warm_frames::{Frame, decode, encode};
 use warm_gossip::{Call, Reply};
-use warm_stamps::ByteList;
-use warm_stamps::ReplicaId;
+use warm_stamps::{ByteList, ReplicaId};
 use warm_turn::{Machine, Turn};
 
 // Who sent the frame.
@@ -65,7 +64,7 @@ fn hear<M: Machine<Call = Call, Reply = Reply>, P: Post, R: Wait>(
     requires { worker.old.pass.table ≡ replica.now.table }
     ensures table { worker.new.pass.table ≡ worker.old.pass.table }
     ensures buffer { worker.new.buffer ≡ worker.old.buffer }
-    ensures heard { Heard P.keeps worker.old.pass.view (P.given post.old) (Bytes bytes ∷ []) result worker.new.pass.view (P.given post.new) }
+    ensures heard { HeardBy P.keeps P.given worker.old post.old (Bytes bytes ∷ []) result worker.new post.new }
     ensures bound { (result.joined ≤ 1) × (result.refused ≤ 1) × (result.lost < 2 ^ 64) }
 {
     let Ok(frame) = decode(alloc, bytes.as_slice()) else {
@@ -107,8 +106,13 @@ fn next_item<I: Iterator<Item = Mail>>(mail: &mut I) -> Option<Mail>
     mail.next()
 }
 
-/// Takes mail until so many Stops or turns, or the end of the mail. Each item's bytes are decoded, the frame is received by the
-/// replica in a turn of its own, and the answers are posted to the frame's sender.
+/// Takes mail until `stops` Stops or `turns` items were taken, or the mail ends; nothing where `stops` or `turns` is 0. Bytes are
+/// decoded, the frame is received by the replica in a turn of its own, and the answers are posted to the frame's sender. The
+/// worker's buffer stays as it is.
+///
+/// No item ends the loop by its fault. Bytes that spell no frame, a frame that the replica refuses, one for whose decoding memory was
+/// refused, and one for which no ticket was left are counted as refused; answers that the post does not take, or that could not
+/// be encoded for want of memory, as lost. It may wait for the mail, for turns, and for the post.
 pub fn mail_loop<
     M: Machine<Call = Call, Reply = Reply>,
     I: Iterator<Item = Mail>,
@@ -129,7 +133,7 @@ pub fn mail_loop<
     ensures table { worker.new.pass.table ≡ worker.old.pass.table }
     ensures buffer { worker.new.buffer ≡ worker.old.buffer }
     ensures heard { (items : List Mail) × Took I.next_gives mail stops turns items
-        × Heard P.keeps worker.old.pass.view (P.given post.old) items result worker.new.pass.view (P.given post.new) }
+        × HeardBy P.keeps P.given worker.old post.old items result worker.new post.new }
 {
     let mut report = MailReport {
         joined: 0,

@@ -1,22 +1,23 @@
 //! Mail, and an iterator over a channel's.
-ghost use Rattle.std.specs.Prelude.{◌≡◌, ◌≤◌, ◌+◌, List, length, IfSome};
-ghost use Rattle.std.specs.Iterator.{at_most, Yields};
-ghost use Rattle.warm_replica.specs.declared.mail.Mail.{Mail};
+ghost use Rattle.std.specs.Prelude.{◌≡◌, ◌+◌, IfSome};
+ghost use Rattle.std.specs.Iterator.{at_most};
+ghost use Rattle.warm_replica.specs.Mails.{GivesAtMost};
 
 use crossbeam_channel::Receiver;
 use std::sync::Wait;
 use warm_stamps::ByteList;
 
-/// One item of mail.
+/// One item of mail: what a channel carries to the replica whose mail it is.
 #[derive(Drop)]
 pub enum Mail {
-    /// Bytes that are to spell a frame.
+    /// Bytes that are to spell a frame. Where they spell none, the item is counted as refused.
     Bytes(ByteList),
-    /// A sign that a sender is done.
+    /// A sign that a sender is done. It says nothing of other senders.
     Stop,
 }
 
-/// The mail of a channel, in the order in which it is received: at most so many items, and an end where the channel is closed.
+/// The mail of a channel, in the order in which it is received: at most so many items, and an end where the channel is closed
+/// and empty. It waits for the next item. Nothing is said of the items.
 #[derive(Drop)]
 pub struct MailIter<'a, R: Wait> {
     receiver: Receiver<Mail>,
@@ -25,10 +26,10 @@ pub struct MailIter<'a, R: Wait> {
 }
 
 impl<'a, R: Wait> MailIter<'a, R> {
-    /// The mail of this channel, at most `most` items.
+    /// The mail of this channel, at most `most` items: none where that is 0. Takes no memory.
     pub fn new(rt: &'a R, receiver: Receiver<Mail>, most: u64) -> MailIter<'a, R>
         ensures left { ⟦<MailIter<'a, R> as Iterator>⟧.remaining result ≡ at_most most }
-        ensures most { (items : List Mail) (rest : _) → Yields ⟦<MailIter<'a, R> as Iterator>⟧.next_gives result items rest → length items ≤ most }
+        ensures most { GivesAtMost ⟦<MailIter<'a, R> as Iterator>⟧.next_gives result most }
     {
         MailIter {
             receiver,

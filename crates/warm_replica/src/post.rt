@@ -1,4 +1,4 @@
-//! Posts, which take answered frames.
+//! Posts: where the frames go that a replica answers.
 ghost use Rattle.std.specs.Prelude.{◌≡◌, ◌≢◌, [], ◌∷◌, ◌++◌, true, false, IfErr, IsErr, OnErr, OnOk};
 ghost use Rattle.std.specs.List.{All};
 ghost use Rattle.warm_replica.specs.Parcels.{Gained};
@@ -8,10 +8,10 @@ use crossbeam_channel::Sender;
 use std::alloc::{AllocFailed, Global};
 use std::marker::Model;
 use std::sync::Wait;
-use warm_stamps::ByteList;
-use warm_stamps::ReplicaId;
+use warm_stamps::{ByteList, ReplicaId};
 
-/// What takes bytes for a replica.
+/// What takes bytes for a replica. A post says of itself whether it keeps what it takes; contracts of a loop over mail say what a
+/// post that keeps has gained.
 pub trait Post {
     ghost use Rattle.std.specs.Prelude.{List, Bool};
     ghost use Rattle.warm_replica.specs.Parcels.{Parcel};
@@ -22,14 +22,15 @@ pub trait Post {
     // What it has taken and keeps, oldest first.
     ghost given: { Self → List Parcel };
 
-    /// Takes bytes for a replica, or hands them back.
+    /// Takes bytes for a replica, or hands them back; then it has gained nothing.
     fn post(&mut self, to: ReplicaId, bytes: ByteList) -> Result<(), ByteList>
         ensures back { IfErr result (λ same. same ≡ bytes) }
         ensures taken { OnOk result (Gained keeps (given self.old) ((to, bytes) ∷ []) (given self.new)) }
         ensures same { OnErr result (Gained keeps (given self.old) [] (given self.new)) };
 }
 
-/// A post that keeps what it is given. Contracts see the list, oldest first.
+/// A post that keeps what it is given, in memory, for tests and for callers that carry the bytes themselves. Contracts see the list,
+/// oldest first.
 #[derive(Drop)]
 pub struct MemPost {
     given: Vec<(ReplicaId, ByteList)>,
@@ -53,7 +54,7 @@ impl MemPost {
         }
     }
 
-    /// What it was given, oldest first.
+    /// What it was given, oldest first: the replica that the bytes are for, and the bytes.
     pub fn given(&self) -> &[(ReplicaId, ByteList)]
         ensures { result.now ≡ self.now }
     {
@@ -68,7 +69,7 @@ impl Post for MemPost {
 
     ghost given = { λ p. p };
 
-    /// Refuses for want of memory alone.
+    /// Refuses for want of memory alone, and then keeps what it had.
     fn post(&mut self, to: ReplicaId, bytes: ByteList) -> Result<(), ByteList> {
         match self.given.push((to, bytes)) {
             Ok(()) => Ok(()),
@@ -77,7 +78,7 @@ impl Post for MemPost {
     }
 }
 
-/// Where a replica's mail is sent.
+/// Where the mail of one replica is sent.
 #[derive(Drop)]
 pub struct Outbox {
     /// Whose it is.
@@ -86,7 +87,7 @@ pub struct Outbox {
     pub sender: Sender<Mail>,
 }
 
-/// A post that sends to the first outbox of a replica's number. It keeps nothing.
+/// A post that sends to the first outbox of a replica's number, for replicas that listen in threads of one program. It keeps nothing.
 #[derive(Drop)]
 pub struct Outboxes<'a, R: Wait> {
     rt: &'a R,
@@ -94,7 +95,7 @@ pub struct Outboxes<'a, R: Wait> {
 }
 
 impl<'a, R: Wait> Outboxes<'a, R> {
-    /// A post over these outboxes.
+    /// A post over these outboxes. Takes no memory.
     pub fn new(rt: &'a R, boxes: Vec<Outbox>) -> Outboxes<'a, R> {
         Outboxes { rt, boxes }
     }

@@ -1,8 +1,7 @@
 //! Any number of replicas, each of which takes its mail in a thread of its own.
 ghost use Rattle.std.specs.Prelude.{◌≡◌, ◌≤◌, [], List, length, vec_capacity, IfOk, OnOk};
 ghost use Rattle.std.specs.Thread.{IsSync, IsSend};
-ghost use Rattle.warm_replica.specs.Mails.{Listened};
-ghost use Rattle.warm_replica.specs.Pairs.{Pairs};
+ghost use Rattle.warm_replica.specs.Mails.{Listened, AllListened};
 
 use crate::fault::NoThread;
 use crate::listen::mail_loop;
@@ -19,7 +18,7 @@ use std::thread::{Promise, Scope, Threads};
 use warm_gossip::{Call, Reply};
 use warm_turn::{Machine, Turn};
 
-/// A replica, a worker that is to take its mail, and where its answers go.
+/// A replica, a worker that is to take its mail, the channel of that mail, and where the answers go.
 #[derive(Drop)]
 pub struct Station<'a, M: Machine> {
     replica: &'a Turn<M>,
@@ -30,7 +29,7 @@ pub struct Station<'a, M: Machine> {
 }
 
 impl<'a, M: Machine> Station<'a, M> {
-    /// A station of these parts.
+    /// A station of these parts. Takes no memory.
     pub fn new(
         replica: &'a Turn<M>,
         worker: Worker<M>,
@@ -129,7 +128,7 @@ pub(crate) fn listen_all<
     requires send { IsSend M.row × IsSync R.row }
     requires room { (all.old.items ≡ []) × (length stations.items ≤ vec_capacity all.old) }
     ensures room { vec_capacity all.old ≤ vec_capacity all.new }
-    ensures heard { OnOk result (Pairs (λ s r. Listened turns s.worker.pass.view r.1 r.0.pass.view) stations.entry.items all.new.items) }
+    ensures heard { OnOk result (AllListened (λ s. s.worker) turns stations.entry.items all.new.items) }
 {
     let Some(station) = stations.pop() else {
         return Ok(());
@@ -165,14 +164,14 @@ fn run_in_scope<'a, M: Machine<Call = Call, Reply = Reply> + Send, R: Threads + 
     all: Vec<(Worker<M>, MailReport)>,
 ) -> Result<Vec<(Worker<M>, MailReport)>, NoThread>
     requires { (all.items ≡ []) × (length stations.items ≤ vec_capacity all) }
-    ensures { IfOk result (λ v. Pairs (λ s r. Listened turns s.worker.pass.view r.1 r.0.pass.view) stations.entry.items v.items) }
+    ensures { IfOk result (λ v. AllListened (λ s. s.worker) turns stations.entry.items v.items) }
 {
     let (_, ran) = thread::scope(
         thread::scope_env(),
         rt,
         move |scope| -> ((), Result<Vec<(Worker<M>, MailReport)>, NoThread>)
             requires { IsSend M.row × IsSync R.row × (all.items ≡ []) × (length stations.items ≤ vec_capacity all) }
-            ensures { IfOk result.1 (λ v. Pairs (λ s r. Listened turns s.worker.pass.view r.1 r.0.pass.view) stations.entry.items v.items) }
+            ensures { IfOk result.1 (λ v. AllListened (λ s. s.worker) turns stations.entry.items v.items) }
         {
             let mut all = all;
             match listen_all(scope, rt, alloc, stations, stops, turns, &mut all) {
@@ -187,8 +186,12 @@ fn run_in_scope<'a, M: Machine<Call = Call, Reply = Reply> + Send, R: Threads + 
     }
 }
 
-/// Each station takes its mail in a thread of its own, and hands its worker back with what it counted. `NoThread` comes where a
-/// thread or room was refused; the threads that were started run to their end.
+/// Each station takes its mail in a thread of its own, as [`crate::mail_loop`] does, until `stops` Stops or `turns` items, and hands its
+/// worker back with what it counted, in the order of the stations. It ends when all have ended.
+///
+/// # Errors
+/// `NoThread`: a thread or room was refused. The threads that were started have run to their end; the workers are given up, with what
+/// waited in their buffers, and their calls stay in the histories of their replicas.
 pub fn run_stations<'a, M: Machine<Call = Call, Reply = Reply> + Send, R: Threads + Wait + Sync>(
     rt: &'a R,
     alloc: Global,
@@ -196,7 +199,7 @@ pub fn run_stations<'a, M: Machine<Call = Call, Reply = Reply> + Send, R: Thread
     stops: u64,
     turns: u64,
 ) -> Result<Vec<(Worker<M>, MailReport)>, NoThread>
-    ensures { IfOk result (λ v. Pairs (λ s r. Listened turns s.worker.pass.view r.1 r.0.pass.view) stations.entry.items v.items) }
+    ensures { IfOk result (λ v. AllListened (λ s. s.worker) turns stations.entry.items v.items) }
 {
     match Vec::with_capacity(alloc, stations.len()) {
         Ok(all) => run_in_scope(rt, alloc, stations, stops, turns, all),

@@ -12,7 +12,8 @@ use warm_refbuffer::{Full, RefBuffer};
 use warm_stamps::{RefList, Reference};
 use warm_turn::{Machine, Pass, Turn};
 
-/// A machine that answers the calls of a node, and refuses a batch of references for want of memory alone.
+/// A machine that answers the calls of a node, and refuses a batch of references for want of memory alone. A flush and jobs ask
+/// for one, so that a refused flush has one meaning.
 pub trait Absorbing: Machine<Call = Call, Reply = Reply> {
     ghost use Rattle.warm_gossip.specs.Batches.{TakesBatches};
 
@@ -65,8 +66,11 @@ impl<M: Machine<Call = Call, Reply = Reply>> Worker<M> {
     pub fn into_parts(self) -> (Pass<M>, RefBuffer)
         ensures { result ≡ (self.pass, self.buffer) }
     {
-        let Worker { pass, buffer } = self;
-        (pass, buffer)
+        let Worker {
+            pass,
+            buffer: waiting,
+        } = self;
+        (pass, waiting)
     }
 
     /// Puts a reference last in the buffer. It takes no memory and waits for nobody: it meets no other worker. A full
@@ -82,7 +86,10 @@ impl<M: Machine<Call = Call, Reply = Reply>> Worker<M> {
         self.buffer.touch(reference)
     }
 
-    /// Makes a call in a turn of its own, and may wait for it. The call is handed back where no ticket was left for it.
+    /// Makes a call in a turn of its own, and may wait for it. The buffer stays as it is, also where the call absorbs references.
+    ///
+    /// # Errors
+    /// The call is handed back where no ticket was left for it, as none is for any later call of this worker.
     pub fn call<R: Wait>(&mut self, rt: &R, replica: &Turn<M>, call: Call) -> Result<Reply, Call>
         requires { self.old.pass.table ≡ replica.now.table }
         ensures table { self.new.pass.table ≡ self.old.pass.table }

@@ -13,7 +13,7 @@ returns-in-Ok-ran-clause-went g c =
     let own = c.run_ready-own.result.0.view in
     let fanned = c.run_ready-own.ensures.fanned in
     jobs_went g.M.Machine.goes v own c.end.new.pass.view given.0 c.args.jobs.items c.in-Ok.ready.items c.in-Ok-ran.all.items fanned.0
-        c.in-Ok.ensures
-        (subst (λ u. Widened u fanned.0 own) given.1 fanned.1)
-        (subst (λ u. Joined g.M.Machine.goes u own c.end.new.pass.view) (ap (λ p. p.view) c.pass-own.ensures.same) c.end.ensures.seen)
-        (IfOk-at_ok (λ w. Triples ReadyWentAs c.in-Ok.ready.items w.items fanned.0) c.in-Ok-ran.is fanned.2)
+    c.in-Ok.ensures
+    (subst (λ u. Widened u fanned.0 own) given.1 fanned.1)
+    (subst (λ u. Joined g.M.Machine.goes u own c.end.new.pass.view) (ap (λ p. p.view) c.pass-own.ensures.same) c.end.ensures.seen)
+    (IfOk-at_ok (λ w. Triples ReadyWentAs c.in-Ok.ready.items w.items fanned.0) c.in-Ok-ran.is fanned.2)
