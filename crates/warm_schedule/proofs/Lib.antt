@@ -1,4 +1,5 @@
 pub mod Split
 pub mod Numbers
+pub mod Hexes
 pub mod Stream
 mod Examples
