@@ -2,4 +2,3 @@ pub mod Split
 pub mod Numbers
 pub mod Hexes
 pub mod Stream
-mod Examples
