@@ -5,3 +5,4 @@ pub mod Reading
 pub mod Answers
 pub mod Printed
 pub mod Stream
+pub mod Laws

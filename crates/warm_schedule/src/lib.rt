@@ -6,6 +6,7 @@
 #![tactic(auto)]
 
 mod fields;
+pub mod laws;
 mod parse;
 mod player;
 mod printer;
