@@ -1,5 +1,5 @@
 -- What becomes of a replica, and of the frames that are kept.
-use Rattle.std.specs.Prelude.{◌≡◌, ℕ, List, [], ◌∷◌, ◌++◌, length, map, Result, Ok, Err}
+use Rattle.std.specs.Prelude.{◌≡◌, ◌≢◌, ◌==◌, ◌+◌, ◌-◌, if◌then◌else◌, ℕ, List, [], ◌∷◌, ◌++◌, length, map, Result, Ok, Err}
 use Rattle.warm_history.specs.Histories.{holding}
 use Rattle.warm_refbuffer.specs.Buffered.{Buffered}
 use Rattle.warm_frames.specs.declared.frame.Frame.{Frame}
@@ -13,7 +13,7 @@ use Rattle.warm_gossip.specs.declared.fault.NodeFault.TheVariants.{Memory}
 use Rattle.warm_gossip.specs.State.{NodeView}
 use Rattle.warm_gossip.specs.Step.{Step}
 use Rattle.warm_world.specs.declared.event.Answer.{Answer}
-use Rattle.warm_world.specs.declared.event.Answer.TheVariants.{FrameNo, Refused}
+use Rattle.warm_world.specs.declared.event.Answer.TheVariants.{FrameNo, Took, Refused}
 use Rattle.warm_world.specs.declared.event.WorldFault.TheVariants.{Node}
 use Rattle.warm_world.specs.Lists.{Pairwise}
 use Rattle.warm_world.specs.Seen.{ReplicaSeen, WorldSeen}
@@ -44,3 +44,10 @@ Keeps old frame answer new = ⊥
 -- the frames are kept after the others
 abbrev pub KeepsAll : List (List ℕ) → List Frame → List (List ℕ) → Type 0
 KeepsAll old frames new = (added : List (List ℕ)) × Pairwise (λ _ bytes frame. Encodes bytes frame) added frames × (new ≡ old ++ added)
+
+-- The frames that answer a delivered one are kept after the others, and counted on from these; or there is no memory for them.
+abbrev pub Takes : List (List ℕ) → List Frame → Answer → List (List ℕ) → Type 0
+Takes old frames (Took count first) new =
+    KeepsAll old frames new × (count ≡ length frames) × (first ≡ if count == 0 then 0 else length new - count + 1)
+Takes old frames (Refused (Node Memory)) new = (frames ≢ []) × (new ≡ old)
+Takes old frames answer new = ⊥

@@ -1,13 +1,11 @@
 -- What contracts see of a world: plain data, read off its nodes, whose devices are boxed.
-use Rattle.std.specs.Prelude.{ℕ, ◌<◌, ◌≡◌, List, [], length, map, slice_index_or}
+use Rattle.std.specs.Prelude.{ℕ, ◌<◌, List, length, map, slice_index_or}
+use Rattle.std.specs.Global.{Vec}
 use Rattle.std.specs.declared.alloc.Global.{Global}
 use Rattle.std.specs.declared.dyn_box.DynBox.{DynBox}
-use Rattle.warm_history.specs.Histories.{HistoryView, holding}
 use Rattle.warm_devices.specs.Device.{DeviceState}
 use Rattle.warm_refbuffer.specs.Buffered.{Buffered}
-use Rattle.warm_pool.specs.State.{opened}
 use Rattle.warm_gossip.specs.State.{NodeState, NodeView, IsNode, node_view}
-use Rattle.warm_gossip.specs.State as node
 use Rattle.warm_gossip.specs.Clauses.{node_state}
 use Rattle.warm_world.specs.declared.replica.Replica.{Replica}
 use Rattle.warm_world.specs.declared.world.World.{World}
@@ -32,6 +30,10 @@ seen state w = record {
   replicas = map (seen_replica state) w.replicas.items;
   frames = map (λ f. f.items) w.frames.items;
 }
+
+-- the devices of each list
+abbrev pub listed : {X : Type 0} {P : X → Type 0} → (DynBox X Global P → DeviceState) → List (Vec (DynBox X Global P)) → List (List DeviceState)
+listed state lists = map (λ ds. map state ds.items) lists
 
 -- each of the nodes is fit
 pub record AreNodes (nodes : List NodeState) : Type 0 where

@@ -2,12 +2,12 @@
 ghost use Rattle.std.specs.Prelude.{◌≡◌, [], map, OnOk, OnErr, IfOk, IsOk};
 ghost use Rattle.warm_world.specs.Next.{IsNamed};
 ghost use Rattle.warm_world.specs.Lists.{Pairwise};
-ghost use Rattle.warm_world.specs.Replicas.{Encodes, Keeps, KeepsAll};
+ghost use Rattle.warm_world.specs.Replicas.{Encodes, Keeps, KeepsAll, Takes};
 ghost use Rattle.warm_world.specs.Seen.{IsWorld, seen};
 ghost use Rattle.warm_world.specs.Stands.{seen_shape, Steps};
 
-use crate::event::{Answer, Event};
-use crate::world::{World, refused};
+use crate::event::{Answer, Event, WorldFault};
+use crate::world::World;
 use std::alloc::{AllocError, Global};
 use warm_frames::{Frame, decode, encode};
 use warm_gossip::NodeFault;
@@ -44,6 +44,25 @@ fn keep_all(
     Ok(())
 }
 
+// Keeps the frames that answer a delivered one, and numbers them on.
+fn took(alloc: Global, kept: &mut Vec<Vec<u8>>, frames: &[Frame]) -> Answer
+    ensures { Takes (map (λ f. f.items) kept.old.items) frames.now result
+        (map (λ f. f.items) kept.new.items) }
+{
+    let Ok(()) = keep_all(alloc, kept, frames) else {
+        return Answer::Refused(WorldFault::Node(NodeFault::Memory));
+    };
+    let count = frames.len();
+    if count == 0 {
+        return Answer::Took { count: 0, first: 0 };
+    }
+    let first = kept.len() - count + 1;
+    Answer::Took {
+        count: count as u64,
+        first: first as u64,
+    }
+}
+
 impl World {
     // Keeps a frame after the others.
     fn keep(&mut self, frame: &Frame) -> Answer
@@ -52,10 +71,10 @@ impl World {
         ensures keeps { Keeps (seen state self.old) frame.now result (seen state self.new) }
     {
         let Ok(bytes) = encode(self.alloc, frame) else {
-            return refused(NodeFault::Memory);
+            return Answer::Refused(WorldFault::Node(NodeFault::Memory));
         };
         let Ok(()) = self.frames.push(bytes) else {
-            return refused(NodeFault::Memory);
+            return Answer::Refused(WorldFault::Node(NodeFault::Memory));
         };
         Answer::FrameNo(self.frames.len() as u64)
     }
@@ -68,7 +87,7 @@ impl World {
     {
         match self.replicas[i as usize - 1].node.send(bucket, after) {
             Ok(frame) => self.keep(&frame),
-            Err(why) => refused(why),
+            Err(why) => Answer::Refused(WorldFault::Node(why)),
         }
     }
 
@@ -80,7 +99,7 @@ impl World {
     {
         match self.replicas[i as usize - 1].node.offer() {
             Ok(frame) => self.keep(&frame),
-            Err(why) => refused(why),
+            Err(why) => Answer::Refused(WorldFault::Node(why)),
         }
     }
 
@@ -92,35 +111,23 @@ impl World {
     {
         // The bytes spell a frame, so nothing but memory can be wanting.
         let Ok(frame) = decode(self.alloc, &self.frames[k as usize - 1]) else {
-            return refused(NodeFault::Memory);
+            return Answer::Refused(WorldFault::Node(NodeFault::Memory));
         };
-        let answers = match self.replicas[j as usize - 1].node.receive(frame) {
-            Ok(answers) => answers,
-            Err(why) => return refused(why),
-        };
-        // Only sums and a wish are answered, and neither has changed the node.
-        let Ok(()) = keep_all(self.alloc, &mut self.frames, answers.as_slice()) else {
-            return refused(NodeFault::Memory);
-        };
-        let count = answers.as_slice().len();
-        if count == 0 {
-            return Answer::Took { count: 0, first: 0 };
-        }
-        let first = self.frames.len() - count + 1;
-        Answer::Took {
-            count: count as u64,
-            first: first as u64,
+        match self.replicas[j as usize - 1].node.receive(frame) {
+            // Only sums and a wish are answered, and neither has changed the node.
+            Ok(answers) => took(self.alloc, &mut self.frames, answers.as_slice()),
+            Err(why) => Answer::Refused(WorldFault::Node(why)),
         }
     }
 
     pub(crate) fn show(&self, i: u16) -> Answer
         requires fit { IsWorld state self.now }
         requires named { IsNamed (seen_shape (seen state self.now)) (Event.Show i) }
-        ensures step { Steps (seen state self.now) (Event.Show i) result (seen state self.now) }
+        ensures { Steps (seen state self.now) (Event.Show i) result (seen state self.now) }
     {
         match self.replicas[i as usize - 1].node.history().copy() {
             Ok(history) => Answer::Shown(history),
-            Err(_) => refused(NodeFault::Memory),
+            Err(_) => Answer::Refused(WorldFault::Node(NodeFault::Memory)),
         }
     }
 }

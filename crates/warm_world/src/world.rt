@@ -1,20 +1,24 @@
 //! The world: its replicas and the frames that were sent.
-ghost use Rattle.std.specs.Prelude.{◌≡◌, ◌≢◌, ℕ, ◌+◌, ◌<◌, ◌≤◌, [], length, map};
-ghost use Rattle.std.specs.Prelude.{OnOk, OnErr, IfOk, IfErr, IsTrue, ◌↔◌};
-ghost use Rattle.warm_gossip.specs.declared.fault.NodeFault.TheVariants.{Memory};
-ghost use Rattle.warm_world.specs.Lists.{IsNumber};
-ghost use Rattle.warm_world.specs.States.{opening};
+ghost use Rattle.std.specs.Prelude.{◌≡◌, ◌<◌, ◌≤◌, length, map, slice_index_or};
+ghost use Rattle.std.specs.Prelude.{OnOk, IfOk, IfErr, IsTrue, ◌↔◌};
+ghost use Rattle.warm_stamps.specs.declared.TheConstants.{MAX_REPLICAS};
+ghost use Rattle.warm_gossip.specs.Clauses.{node_state};
+ghost use Rattle.warm_world.specs.Lists.{IsNumber, Pairwise, place};
+ghost use Rattle.warm_world.specs.States.{opened_over, opening};
+ghost use Rattle.warm_world.specs.Opening.{AreFew, AreSized, FinishFails, NewRefused};
 ghost use Rattle.warm_world.specs.Next.{IsNamed, IsMissing};
-ghost use Rattle.warm_world.specs.Seen.{IsWorld, seen};
-ghost use Rattle.warm_world.specs.Stands.{seen_shape, StandsFor, Steps, Runs};
+ghost use Rattle.warm_world.specs.Seen.{AreNodes, IsWorld, listed, seen, seen_replica};
+ghost use Rattle.warm_world.specs.Stands.{ReplicaStands, seen_shape, StandsFor, Steps, Runs};
 
-use crate::event::{Answer, Event, WorldFault};
+use crate::event::{Answer, BadWorld, Event, WorldFault};
 use crate::replica::Replica;
-use std::alloc::Global;
+use crate::setup::Setup;
+use std::alloc::{AllocError, Global};
 use std::marker::PhantomData;
 use warm_devices::PageDevice;
 use warm_gossip::NodeFault;
-use warm_stamps::PageId;
+use warm_pool::all_sized;
+use warm_stamps::{PageId, ReplicaId};
 
 /// Replicas, their workers' buffers, and every frame that was sent.
 ///
@@ -39,14 +43,101 @@ fn is_number(number: u64, count: usize) -> bool
     0 < number && number <= count as u64
 }
 
-/// The answer to an event that the node refused.
-pub(crate) fn refused(why: NodeFault) -> Answer
-    ensures { result ≡ Answer.Refused (WorldFault.Node why) }
+// Whether each device of each list has pages of this size.
+fn are_sized(devices: &[Vec<Box<dyn PageDevice + Send>>], page_size: usize) -> bool
+    ensures { IsTrue result ↔ AreSized page_size (listed state devices.now) }
 {
-    Answer::Refused(WorldFault::Node(why))
+    for list in devices {
+        if !all_sized(list, page_size) {
+            return false;
+        }
+    }
+    true
+}
+
+// A replica over each list of devices, numbered from 1.
+fn replicas_over(
+    alloc: Global,
+    setup: Setup,
+    devices: Vec<Vec<Box<dyn PageDevice + Send>>>,
+) -> Result<Vec<Replica>, AllocError>
+    requires few { AreFew (listed state devices.items) }
+    requires sized { AreSized setup.page_size (listed state devices.items) }
+    requires many { length devices.items ≤ MAX_REPLICAS }
+    ensures fit { IfOk result (λ made. AreNodes (map (λ r. node_state state r.node) made.items)) }
+    ensures stand { IfOk result (λ made. Pairwise (ReplicaStands setup.buffer)
+        (map (seen_replica state) made.items) (map (opened_over setup) (listed state devices.items))) }
+{
+    let mut replicas = Vec::with_capacity(alloc, devices.len())?;
+    for list in devices {
+        let Ok(id) = ReplicaId::new(replicas.len() as u16 + 1) else {
+            unreachable!()
+        };
+        replicas.push(Replica::new(alloc, id, setup, list)?)?;
+    }
+    Ok(replicas)
 }
 
 impl World {
+    /// A world in which nothing has happened, with a replica over each list of devices: no replica has
+    /// heard of a page or has one in its pool, nothing waits, and no frame was sent. The room of every
+    /// buffer and pool is taken here.
+    ///
+    /// No list has more devices than [`warm_pool::MAX_DEVICES`].
+    ///
+    /// # Errors
+    /// `DevicesDiffer`: there is another number of lists than of replicas. `SizeDiffers`: the pages of a
+    /// device have another size than the setup says. `Memory`. All devices are dropped.
+    pub fn new(
+        alloc: Global,
+        setup: Setup,
+        devices: Vec<Vec<Box<dyn PageDevice + Send>>>,
+    ) -> Result<World, BadWorld>
+        requires few { AreFew (listed state devices.items) }
+        ensures fit { IfOk result (λ world. IsWorld state world) }
+        ensures stands { IfOk result (λ world. StandsFor (seen state world)
+            (opening setup (listed state devices.items))) }
+        ensures refused { IfErr result (λ why. NewRefused setup (listed state devices.items) why) }
+    {
+        if devices.len() != setup.replicas() as usize {
+            return Err(BadWorld::DevicesDiffer);
+        }
+        if !are_sized(&devices, setup.page_size() as usize) {
+            return Err(BadWorld::SizeDiffers);
+        }
+        match replicas_over(alloc, setup, devices) {
+            Ok(replicas) => Ok(World {
+                alloc,
+                replicas,
+                frames: Vec::new(alloc),
+                boxes: PhantomData,
+            }),
+            Err(_) => Err(BadWorld::Memory),
+        }
+    }
+
+    // How many replicas there are.
+    fn replica_count(&self) -> usize
+        ensures { result ≡ length (seen_shape (seen state self.now)).workers }
+    {
+        self.replicas.len()
+    }
+
+    // How many workers the replica of a number has.
+    fn worker_count(&self, i: u16) -> usize
+        requires { IsNumber i (length (seen_shape (seen state self.now)).workers) }
+        ensures { result ≡ slice_index_or (seen_shape (seen state self.now)).workers (place i) 0 }
+    {
+        self.replicas[i as usize - 1].buffers.len()
+    }
+
+    // How many frames were sent.
+    fn frame_count(&self) -> usize
+        ensures { result ≡ (seen_shape (seen state self.now)).frames }
+    {
+        self.frames.len()
+    }
+
     // Whether all that an event names is there.
     fn check(&self, event: &Event) -> Result<(), WorldFault>
         ensures named { OnOk result (IsNamed (seen_shape (seen state self.now)) event.now) }
@@ -54,17 +145,16 @@ impl World {
             IsMissing (seen_shape (seen state self.now)) event.now fault) }
     {
         let i = event.replica();
-        if !is_number(i as u64, self.replicas.len()) {
+        if !is_number(i as u64, self.replica_count()) {
             return Err(WorldFault::NoSuchReplica);
         }
         if let Some(w) = event.worker() {
-            let replica = &self.replicas[i as usize - 1];
-            if !is_number(w as u64, replica.buffers.len()) {
+            if !is_number(w as u64, self.worker_count(i)) {
                 return Err(WorldFault::NoSuchWorker);
             }
         }
         if let Some(k) = event.frame() {
-            if !is_number(k, self.frames.len()) {
+            if !is_number(k, self.frame_count()) {
                 return Err(WorldFault::NoSuchFrame);
             }
         }
@@ -80,7 +170,7 @@ impl World {
         let worker = w as usize - 1;
         match self.replicas[i as usize - 1].refer(worker, page, time) {
             Ok(()) => Answer::Done,
-            Err(why) => refused(why),
+            Err(why) => Answer::Refused(WorldFault::Node(why)),
         }
     }
 
@@ -93,7 +183,7 @@ impl World {
         let worker = w as usize - 1;
         match self.replicas[i as usize - 1].flush(worker) {
             Ok(()) => Answer::Done,
-            Err(why) => refused(why),
+            Err(why) => Answer::Refused(WorldFault::Node(why)),
         }
     }
 
@@ -105,7 +195,7 @@ impl World {
     {
         match self.replicas[i as usize - 1].restart() {
             Ok(()) => Answer::Done,
-            Err(why) => refused(why),
+            Err(why) => Answer::Refused(WorldFault::Node(why)),
         }
     }
 
@@ -128,7 +218,7 @@ impl World {
             Event::Deliver(j, k) => self.deliver(j, k),
             Event::Pin(i, page) => self.pin(i, page),
             Event::Unpin(i, slot) => self.unpin(i, slot),
-            Event::Put(i, slot, at, bytes) => self.put(i, slot, at, bytes),
+            Event::Put(i, slot, at, bytes) => self.put(i, slot, at, bytes.as_slice()),
             Event::Get(i, slot, at, len) => self.get(i, slot, at, len),
             Event::Victim(i) => self.victim(i),
             Event::Warm(i, n) => self.warm(i, n),
@@ -164,5 +254,37 @@ impl World {
             answers.push_reserved(answer);
         }
         Ok(answers)
+    }
+
+    /// Writes all pages back to their devices, and flushes these, one replica after the other. Takes no
+    /// memory.
+    ///
+    /// # Errors
+    /// `Pool(Fault)` at the first write or flush that fails. Of what the world shows, one count of failures
+    /// alone has changed.
+    pub fn finish(&mut self) -> Result<(), NodeFault>
+        requires fit { IsWorld state self.old }
+        ensures fit { IsWorld state self.new }
+        ensures same { OnOk result (seen state self.new ≡ seen state self.old) }
+        ensures refused { IfErr result (λ why. FinishFails (seen state self.old) why
+            (seen state self.new)) }
+    {
+        for k in 0..self.replicas.len() {
+            self.write_back(k)?;
+        }
+        Ok(())
+    }
+
+    // Writes the pages of the replica at a place back.
+    fn write_back(&mut self, k: usize) -> Result<(), NodeFault>
+        requires fit { IsWorld state self.old }
+        requires there { k < length self.old.replicas.items }
+        ensures fit { IsWorld state self.new }
+        ensures same { OnOk result (seen state self.new ≡ seen state self.old) }
+        ensures refused { IfErr result (λ why. FinishFails (seen state self.old) why
+            (seen state self.new)) }
+        ensures many { length self.new.replicas.items ≡ length self.old.replicas.items }
+    {
+        self.replicas[k].node.write_back()
     }
 }
