@@ -1,5 +1,5 @@
 -- A schedule that is read piece by piece.
-use Rattle.std.proofs.Common.{◌≡◌, ◌≢◌, inl, inr, ℕ, ◌+◌, ◌<◌, ◌≤◌, Bool, true, false, List, [], ◌∷◌, ◌++◌, length, take, Option, Some, None, Result, Ok, Err, refl, sym, ap, subst, ◌∙◌, append_assoc, length-append, arith}
+use Rattle.std.proofs.Common.{◌≡◌, ◌≢◌, inl, inr, ℕ, ◌+◌, ◌<◌, ◌≤◌, Bool, true, false, List, [], ◌∷◌, ◌++◌, length, get_or, take, Option, Some, None, Result, Ok, Err, refl, sym, ap, subst, ◌∙◌, append_assoc, length-append, arith}
 use Rattle.std.specs.Option.{ok_or, MatchOption}
 use Rattle.std.specs.Prelude.{IfSome, OnOk, is_ok, nat_lt}
 use Rattle.std.specs.Result.{result_ok}
@@ -12,13 +12,16 @@ use Rattle.warm_schedule.specs.Printed.{Answered, PrintedFrom, Played, EndsIn, M
 use Rattle.warm_schedule.specs.Reading.{Reads, PutsBytes, IsPut}
 use Rattle.warm_schedule.specs.Stream.{SessionSeen, IsLine, HoldsLine, Holds, AddsByte, AnswersLine, Goes, Settles, PrintsLast, Ends}
 use Rattle.warm_schedule.specs.declared.parse.TheConstants.{MAX_LINE}
-use Rattle.warm_world.specs.States.{ModelState, nobody, pool_of, replica}
-use Rattle.warm_pool.specs.View.{PoolView, device_at}
+use Rattle.warm_world.specs.States.{ModelState, nobody, no_pool, pool_of, replica}
+use Rattle.warm_pool.specs.View.{PoolView}
 use Rattle.warm_gossip.specs.State.{NodeView}
 use Rattle.warm_world.specs.Lists.{place}
-use Rattle.warm_world.specs.Stub.{MayFailIn, no_replica, replica_seen}
+use Rattle.warm_world.specs.Opening.{FinishFails}
+use Rattle.warm_gossip.specs.Step.{IsFailed}
+use Rattle.warm_gossip.specs.declared.fault.NodeFault.{NodeFault}
+use Rattle.warm_history.specs.Histories.{holding}
 use Rattle.warm_world.specs.Stands.{StandsFor, Steps, ReplicaStands}
-use Rattle.warm_world.specs.Seen.{WorldSeen}
+use Rattle.warm_world.specs.Seen.{ReplicaSeen, WorldSeen}
 use Rattle.warm_gossip.specs.declared.fault.NodeFault.TheVariants as node_fault
 use Rattle.warm_world.specs.declared.event.WorldFault.TheVariants.{Node}
 use Rattle.warm_schedule.specs.declared.parse.Line.{Line}
@@ -221,18 +224,21 @@ pub settles_well : (w : WorldSeen) → Settles w []
 settles_well w = λ m answers stands. inl (append-nil answers)
 
 -- the devices did not take what waited for them
-pub settles_ill : (w : WorldSeen) → MayFailIn w → Settles w end_refused
-settles_ill w fails = λ m answers stands.
-    let there : fails.place < length m.replicas = omega (arith, fails.there, stands.replicas.same_length) in
-    let here : ReplicaStands m.room fails.place (replica_seen w fails.place) (replica m fails.place) = stands.replicas.each fails.place no_replica nobody fails.there in
-    let at : place (fails.place + 1) ≡ fails.place = omega arith in
-    let pool : (replica_seen w fails.place).node.pool ≡ pool_of m (fails.place + 1) = ap (λ (v : NodeView). v.pool) here.node_is ∙ ap (λ (k : ℕ). (replica m k).pool) (sym at) in
+pub settles_ill : (old new : WorldSeen) (why : NodeFault) → FinishFails old why new → Settles old end_refused
+settles_ill old new why fails = λ m answers stands.
+    let k : ℕ = fails.1.replica in
+    let none : ReplicaSeen = record { node = record { id = 0; history = holding []; pool = no_pool }; buffers = [] } in
+    let there : k < length m.replicas = omega (arith, fails.1.there, stands.replicas.same_length) in
+    let here : ReplicaStands m.room k (get_or old.replicas k none) (replica m k) = stands.replicas.each k none nobody fails.1.there in
+    let at : place (k + 1) ≡ k = omega arith in
+    let pool : (get_or old.replicas k none).node.pool ≡ pool_of m (k + 1) = ap (λ (v : NodeView). v.pool) here.node_is ∙ ap (λ (n : ℕ). (replica m n).pool) (sym at) in
+    let failed : IsFailed (pool_of m (k + 1)) fails.1.pool = subst (λ (p : PoolView). IsFailed p fails.1.pool) pool (fails.1.failed none) in
     inr (record {
-      replica = fails.place + 1;
-      device = fails.device;
+      replica = k + 1;
+      device = failed.0;
       replica_there = record { from_one = omega arith; in_range = omega (arith, there) };
-      device_there = subst (λ (p : PoolView). fails.device < length p.devices) pool fails.device_there;
-      may = subst (λ (p : PoolView). (device_at p fails.device).unfailing ≡ false) pool fails.may;
+      device_there = failed.1.there;
+      may = failed.1.may;
     }, refl)
 
 -- the same bytes

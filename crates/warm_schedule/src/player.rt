@@ -1,9 +1,9 @@
 //! A schedule that comes in pieces, answered line by line.
-ghost use Rattle.std.specs.Prelude.{◌≡◌, ◌≢◌, ◌≤◌, ◌<◌, ◌+◌, ◌^◌, ◌∷◌, [], false, List, ℕ, length, map, OnOk, IfOk, IfSome};
+ghost use Rattle.std.specs.Prelude.{◌≡◌, ◌≢◌, ◌≤◌, ◌<◌, ◌+◌, ◌^◌, ◌∷◌, [], false, List, ℕ, length, OnOk, IfOk, IfSome};
 ghost use Rattle.std.specs.Io.KnownBytes.{Appends, Keeps, Consumes, IsAtEnd};
 ghost use Rattle.warm_world.specs.States.{ModelState, opening};
 ghost use Rattle.warm_world.specs.Opening.{AreFew};
-ghost use Rattle.warm_world.specs.Seen.{IsWorld, seen};
+ghost use Rattle.warm_world.specs.Seen.{IsWorld, listed, seen};
 ghost use Rattle.warm_world.specs.Stands.{StandsFor};
 ghost use Rattle.warm_schedule.specs.Printed.{Played};
 ghost use Rattle.warm_schedule.specs.Stream.{session, IsFresh, AddsByte, AnswersLine, Settles, Goes, Ends};
@@ -36,10 +36,10 @@ impl Session {
         setup: Setup,
         devices: Vec<Vec<Box<dyn PageDevice + Send>>>,
     ) -> Result<Session, PlayFault>
-        requires { AreFew (map (λ list. list.items) devices.items) }
+        requires few { AreFew (listed state devices.items) }
         ensures fit { IfOk result (λ s. IsWorld state s.world) }
         ensures fresh { IfOk result (λ s. IsFresh (session state s)
-            (opening setup (map (λ list. map (λ b. state b) list.items) devices.items))) }
+            (opening setup (listed state devices.items))) }
     {
         let world = match World::new(alloc, setup, devices) {
             Ok(world) => world,
@@ -246,11 +246,11 @@ pub fn play<R: Read, W: Write>(
     setup: Setup,
     devices: Vec<Vec<Box<dyn PageDevice + Send>>>,
 ) -> Result<(), PlayFault>
-    requires { AreFew (map (λ list. list.items) devices.items) }
+    requires few { AreFew (listed state devices.items) }
     ensures end { OnOk result (IsAtEnd (R.remaining reader.new)) }
     ensures printed { OnOk result (IfSome (R.remaining reader.old) (λ text. (out : List ℕ)
         × Appends (W.contents writer.old) (W.contents writer.new) out
-        × Played (opening setup (map (λ list. map (λ b. state b) list.items) devices.items)) text out)) }
+        × Played (opening setup (listed state devices.items)) text out)) }
 {
     let mut session = Session::new(alloc, setup, devices)?;
     let Ok(mut buffer) = vec![in alloc; 0u8; BUFFER] else {
@@ -265,3 +265,6 @@ pub fn play<R: Read, W: Write>(
     Err(PlayFault::ReadFault)
 }
 
+
+#[cfg(test)]
+mod tests;

@@ -101,7 +101,7 @@ fn in_file(
     }
 }
 
-fn made(
+fn device_of(
     rt: &HostRuntime,
     spec: &DeviceSpec,
     page_size: usize,
@@ -129,7 +129,7 @@ fn play_over<R: Read>(
     for replica in 1..=setup.replicas() {
         let mut list: Vec<Box<dyn PageDevice + Send>> = Vec::new(rt.alloc());
         for spec in specs {
-            let pushed = match made(rt, spec, page_size, replica)? {
+            let pushed = match device_of(rt, spec, page_size, replica)? {
                 Made::Memory(device) => list.push(device),
                 Made::File(device) => list.push(device),
             };

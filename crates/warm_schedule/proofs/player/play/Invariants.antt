@@ -1,7 +1,7 @@
-use Rattle.std.proofs.Common.{◌≡◌, ℕ, List, ◌+◌, ◌*◌, ◌≤◌, map, vec_len}
+use Rattle.std.proofs.Common.{◌≡◌, ℕ, List, ◌+◌, ◌*◌, ◌≤◌, vec_len}
 use Rattle.std.specs.Io.KnownBytes.{Appends, Consumes}
 use Rattle.warm_world.specs.States.{opening}
-use Rattle.warm_world.specs.Seen.{IsWorld}
+use Rattle.warm_world.specs.Seen.{IsWorld, listed}
 use Rattle.warm_schedule.specs.Stream.{session, Goes, IsFresh}
 use Rattle.warm_schedule.proofs.player.play.Given as goal
 
@@ -15,5 +15,5 @@ invariant-loop g l =
       fit : IsWorld (λ b. (goal.PageDevice-dyn g (b.vtable, b.value)).state b.value) l.session.world;
       number : l.session.number ≤ 1 + l.counter * 65536;
       room : vec_len l.buffer ≡ 65536;
-      fresh : IsFresh (session (λ b. (goal.PageDevice-dyn g (b.vtable, b.value)).state b.value) l.initial.session) (opening l.fn.setup (map (λ list. map (λ b. (goal.PageDevice-dyn g (b.vtable, b.value)).state b.value) list.items) l.fn.devices.items));
+      fresh : IsFresh (session (λ b. (goal.PageDevice-dyn g (b.vtable, b.value)).state b.value) l.initial.session) (opening l.fn.setup (listed (λ b. (goal.PageDevice-dyn g (b.vtable, b.value)).state b.value) l.fn.devices.items));
     }

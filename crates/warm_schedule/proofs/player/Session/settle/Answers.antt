@@ -6,5 +6,5 @@ pub returns-in_ok-map_err-in-Err : goal.returns-in_ok-map_err-in-Err
 returns-in_ok-map_err-in-Err g c = (
   end_refused,
   done c.print_end_refused.result c.in_ok-map_err-in-Err.ensures.variant c.print_end_refused.ensures,
-  settles_ill _ c.in-Err.ensures.refused,
+  settles_ill _ _ _ c.in-Err.ensures.refused,
 )
