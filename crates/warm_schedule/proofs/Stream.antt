@@ -233,13 +233,16 @@ settles_ill old new why fails = λ m answers stands.
     let at : place (k + 1) ≡ k = omega arith in
     let pool : (get_or old.replicas k none).node.pool ≡ pool_of m (k + 1) = ap (λ (v : NodeView). v.pool) here.node_is ∙ ap (λ (n : ℕ). (replica m n).pool) (sym at) in
     let failed : IsFailed (pool_of m (k + 1)) fails.1.pool = subst (λ (p : PoolView). IsFailed p fails.1.pool) pool (fails.1.failed none) in
-    inr (record {
-      replica = k + 1;
-      device = failed.0;
-      replica_there = record { from_one = omega arith; in_range = omega (arith, there) };
-      device_there = failed.1.there;
-      may = failed.1.may;
-    }, refl)
+    inr (
+      record {
+        replica = k + 1;
+        device = failed.0;
+        replica_there = record { from_one = omega arith; in_range = omega (arith, there) };
+        device_there = failed.1.there;
+        may = failed.1.may;
+      },
+      refl,
+    )
 
 -- the same bytes
 pub Goes-bytes : (a b : SessionSeen) (x y out : List ℕ) → x ≡ y → Goes a x out b → Goes a y out b
@@ -257,8 +260,7 @@ Goes-whole a b state bytes out last goes ends fresh first =
     let g = goes state [] fresh in
     let end : PrintsLast g.0 b.number g.1 last = ends g.0 g.1 g.2 in
     let answered : PrintedFrom g.0 b.number (lines (g.1 ++ [])) end.0 end.1 = rw append-nil end.2 in
-    let whole : PrintedFrom state a.number (lines bytes) (out ++ end.0) end.1 = rw append-nil at (g.3 [] end.0 end.1 answered) in
-    (
+    let whole : PrintedFrom state a.number (lines bytes) (out ++ end.0) end.1 = rw append-nil at (g.3 [] end.0 end.1 answered) in (
       out ++ end.0,
       end.1,
       subst (λ (n : ℕ). PrintedFrom state n (lines bytes) (out ++ end.0) end.1) first whole,

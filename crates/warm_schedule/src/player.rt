@@ -265,6 +265,5 @@ pub fn play<R: Read, W: Write>(
     Err(PlayFault::ReadFault)
 }
 
-
 #[cfg(test)]
-mod tests;
+pub(crate) mod tests;

@@ -117,11 +117,7 @@ fn print_bytes<W: Write>(writer: &mut W, bytes: &[u8]) -> io::Result<()>
 }
 
 // A page after a word, or `none`.
-fn print_page_if_any<W: Write>(
-    writer: &mut W,
-    word: &str,
-    page: Option<PageId>,
-) -> io::Result<()>
+fn print_page_if_any<W: Write>(writer: &mut W, word: &str, page: Option<PageId>) -> io::Result<()>
     ensures { Prints result (W.contents writer.old) (W.contents writer.new)
         (page_if_any word.now page) }
 {

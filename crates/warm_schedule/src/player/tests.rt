@@ -1,12 +1,12 @@
 //! Whole schedules through `play`, over readers and writers of the tests' own. The expected answers were worked out by
 //! hand from the definition of a page's history; none was taken from the player.
+ghost use Rattle.warm_world.specs.Opening.{AreFew};
+ghost use Rattle.warm_world.specs.Seen.{listed};
+
 use super::*;
 use std::test::Fail;
 use std::{io, str};
 use warm_devices::{Flaky, MemDevice};
-
-ghost use Rattle.warm_world.specs.Opening.{AreFew};
-ghost use Rattle.warm_world.specs.Seen.{listed};
 
 fn default_setup() -> Setup {
     Setup::new(3, 2, 64, 4, 16).unwrap()
@@ -20,7 +20,7 @@ fn of_frames(frames: u32) -> Setup {
 type Devices = Vec<Vec<Box<dyn PageDevice + Send>>>;
 
 // For each replica a device in memory, of 256 pages of 16 bytes.
-fn in_memory(alloc: Global, replicas: u16) -> Result<Devices, Fail>
+fn in_memory(alloc: Global, replicas: u16) -> Result<Devices, AllocError>
     ensures { IfOk result (λ devices. AreFew (listed state devices.items)) }
 {
     let mut devices: Devices = Vec::new(alloc);
@@ -33,7 +33,7 @@ fn in_memory(alloc: Global, replicas: u16) -> Result<Devices, Fail>
 }
 
 // Plays over devices in memory.
-fn ended<R: Read, W: Write>(
+pub(crate) fn ended<R: Read, W: Write>(
     alloc: Global,
     reader: &mut R,
     writer: &mut W,
@@ -304,7 +304,13 @@ fn devices_for_other_replicas_are_refused(rt: HostRuntime) -> Result<(), Fail> {
     let mut reader: &[u8] = b"show 1\n";
     let mut answers = Vec::new(rt.alloc());
     let devices = in_memory(rt.alloc(), 2)?;
-    let played = play(rt.alloc(), &mut reader, &mut answers, default_setup(), devices);
+    let played = play(
+        rt.alloc(),
+        &mut reader,
+        &mut answers,
+        default_setup(),
+        devices,
+    );
     assert_eq!(rt; played, Err(PlayFault::BadDevices));
     assert!(rt; answers.is_empty());
     Ok(())
@@ -695,14 +701,18 @@ fn a_refused_growth_is_as_a_comment(rt: HostRuntime) -> Result<(), Fail> {
 #[test]
 fn a_line_has_a_greatest_length(rt: HostRuntime) -> Result<(), Fail> {
     let comment = vec![in rt.alloc(); b'#'; 262145]?;
-    assert!(rt; matches!(
-        parse_line(rt.alloc(), &comment.as_slice()[1..]),
-        Ok(Line::Nothing)
-    ));
-    assert!(rt; matches!(
-        parse_line(rt.alloc(), comment.as_slice()),
-        Err(LineFault::Bad)
-    ));
+    assert!(rt;
+        matches!(
+            parse_line(rt.alloc(), &comment.as_slice()[1..]),
+            Ok(Line::Nothing)
+        )
+    );
+    assert!(rt;
+        matches!(
+            parse_line(rt.alloc(), comment.as_slice()),
+            Err(LineFault::Bad)
+        )
+    );
     Ok(())
 }
 
@@ -710,5 +720,8 @@ fn a_line_has_a_greatest_length(rt: HostRuntime) -> Result<(), Fail> {
 fn a_line_fault_has_its_number_and_name(rt: HostRuntime) {
     assert!(rt; matches!(parse_line(rt.alloc(), b"foo"), Err(LineFault::Bad)));
     assert_eq!(rt; (LineFault::Bad.code(), LineFault::Bad.name()), (2, "Bad"));
-    assert_eq!(rt; (LineFault::Memory.code(), LineFault::Memory.name()), (1, "Memory"));
+    assert_eq!(rt;
+        (LineFault::Memory.code(), LineFault::Memory.name()),
+        (1, "Memory")
+    );
 }

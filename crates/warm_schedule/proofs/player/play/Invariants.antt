@@ -11,7 +11,7 @@ invariant-loop g l =
     let remaining = g.R.Read.remaining in
     record {
       goes : (seen out : List ℕ) × Consumes (remaining l.fn.reader) (remaining l.reader) seen × Appends (contents l.fn.writer) (contents l.writer) out
-        × Goes (session (λ b. (goal.PageDevice-dyn g (b.vtable, b.value)).state b.value) l.initial.session) seen out (session (λ b. (goal.PageDevice-dyn g (b.vtable, b.value)).state b.value) l.session);
+          × Goes (session (λ b. (goal.PageDevice-dyn g (b.vtable, b.value)).state b.value) l.initial.session) seen out (session (λ b. (goal.PageDevice-dyn g (b.vtable, b.value)).state b.value) l.session);
       fit : IsWorld (λ b. (goal.PageDevice-dyn g (b.vtable, b.value)).state b.value) l.session.world;
       number : l.session.number ≤ 1 + l.counter * 65536;
       room : vec_len l.buffer ≡ 65536;
