@@ -1,6 +1,6 @@
 use Rattle.std.proofs.Common.{◌≡◌, ◌≤◌, drop}
-use Rattle.warm_schedule.specs.Grammar.{digits_after, number_of}
-use Rattle.warm_schedule.proofs.parse.number.Given as goal
+use Rattle.warm_schedule.specs.Fields.{digits_after, number_of}
+use Rattle.warm_schedule.proofs.fields.number.Given as goal
 
 abbrev pub invariant-loop-c : goal.invariant-loop-c
 invariant-loop-c l = record {
