@@ -94,7 +94,7 @@ same_bucket_same_hist S T p same =
 
 -- ---- references to pages that pass a test
 
-abbrev kept : (PageId → Bool) → List Reference → List Reference
+abbrev pub kept : (PageId → Bool) → List Reference → List Reference
 kept test S = filter (λ r. test r.page) S
 
 references_to-kept : (test : PageId → Bool) (S : List Reference) (p : PageId) → references_to (kept test S) p ≡ cond (test p) (references_to S p) []
@@ -119,7 +119,7 @@ references_to-kept test (r ∷ S) p = cases (test r.page) refl (is_eq (page_cmp 
         rest ∙ rw not refl
     cases false is false other rest = rest
 
-hist-kept : (test : PageId → Bool) (S : List Reference) (p : PageId) → hist (kept test S) p ≡ cond (test p) (hist S p) None
+pub hist-kept : (test : PageId → Bool) (S : List Reference) (p : PageId) → hist (kept test S) p ≡ cond (test p) (hist S p) None
 hist-kept test S p =
     ap (λ rs. first_two (distinct (flip_args stamp_cmp) (map (λ (r : Reference). r.stamp) rs))) (references_to-kept test S p)
     ∙ elim (test p) as (λ b. first_two (distinct (flip_args stamp_cmp) (map (λ (r : Reference). r.stamp) (cond b (references_to S p) []))) ≡ cond b (hist S p) None) [ true ↦ refl | false ↦ refl ]
@@ -132,10 +132,10 @@ hist_repeat S p =
     ap (λ ss. first_two (distinct falls ss)) (told-append S S p)
     ∙ ap first_two (distinct_absorbs falls (IsStrictOrder-flip stamp_cmp stamp_order) (told S p) (told S p) (λ s has. has))
 
-joined_same : (S : List Reference) (p : PageId) → joined (hist S p) (hist S p) ≡ hist S p
+pub joined_same : (S : List Reference) (p : PageId) → joined (hist S p) (hist S p) ≡ hist S p
 joined_same S p = sym (hist-append S S p) ∙ hist_repeat S p
 
-joined_none : (S : List Reference) (p : PageId) → joined (hist S p) None ≡ hist S p
+pub joined_none : (S : List Reference) (p : PageId) → joined (hist S p) None ≡ hist S p
 joined_none S p = sym (hist-append S [] p) ∙ ap (λ (R : List Reference). hist R p) (append-nil S)
 
 -- on pages that pass the test S says the same as its part that passes; on others S says what T does

@@ -3,5 +3,8 @@ pub mod State
 pub mod Answers
 pub mod Gathering
 pub mod Pieces
+pub mod Round
 pub mod Step
 pub mod Clauses
+pub mod Victims
+pub mod WarmUps

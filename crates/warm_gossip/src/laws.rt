@@ -1,8 +1,12 @@
-//! A law of the pieces in which a node answers a bucket, over the definitions alone.
+//! Laws of nodes, over the definitions alone: the pieces in which a bucket is answered, a round of gossip, victims,
+//! and warming up.
 //!
-//! The function does nothing. What it ensures is a theorem, for the crates above to cite and for a reader to
-//! look up: `specs/Pieces.antt` says it in full.
+//! Each function does nothing. What it ensures is a theorem, for the crates above to cite and for a reader to
+//! look up: the files of `specs/` that the clauses name say it in full.
 ghost use Rattle.warm_gossip.specs.Pieces.{PiecesInTurn};
+ghost use Rattle.warm_gossip.specs.Round.{EntriesTeach, GossipRoundEnds, GossipRoundJoins, OwnSumsUnanswered};
+ghost use Rattle.warm_gossip.specs.Victims.{RepliesAreOverReferences, VictimsAreFarthest};
+ghost use Rattle.warm_gossip.specs.WarmUps.{WarmStepKeepsHottest, WarmUpLoads};
 
 /// The pieces in which a bucket of a history is answered to sums or to a wish are what `Call::Send` gives of that
 /// bucket, one after the other: the first without a page to come after, each next after the last page of
@@ -10,4 +14,50 @@ ghost use Rattle.warm_gossip.specs.Pieces.{PiecesInTurn};
 /// references that the history stands for.
 pub fn pieces_in_turn()
     ensures { PiecesInTurn }
+{}
+
+/// A round of gossip: a replica offers the sums of its history to another, and each hears all that the other
+/// answers, until both have answered. Afterwards both histories are the join of the two that were; or two different
+/// texts of one bucket, one of each replica, have one SHA-256.
+pub fn gossip_round_joins()
+    ensures { GossipRoundJoins }
+{}
+
+/// A round of gossip is over once both have heard each other: there is nothing to answer to what came last.
+pub fn gossip_round_ends()
+    ensures { GossipRoundEnds }
+{}
+
+/// To the sums of the very history that it has a replica answers nothing: a round of a replica with itself is its
+/// offer alone.
+pub fn own_sums_unanswered()
+    ensures { OwnSumsUnanswered }
+{}
+
+/// A frame of a history's entries teaches a replica all references for which that history stands.
+pub fn entries_teach()
+    ensures { EntriesTeach }
+{}
+
+/// The victim that a node names, and the hottest pages that it lists, are those over all references for which its
+/// history stands: the two stamps of each page that it keeps are enough.
+pub fn replies_are_over_references()
+    ensures { RepliesAreOverReferences }
+{}
+
+/// A page that a node names as its victim, and a page that leaves at any call but `Call::Restart`, is a resident page
+/// without a fix of greatest backward 2-distance, over all references for which the node's history stands.
+pub fn victims_are_farthest()
+    ensures { VictimsAreFarthest }
+{}
+
+/// While no page is fixed, no page of the warm-up list cut to the frames leaves at a warm-up step, whatever its reply.
+pub fn warm_step_keeps_hottest()
+    ensures { WarmStepKeepsHottest }
+{}
+
+/// As many warm-up steps as the pool has frames, none refused and no page fixed before, bring in every page of the
+/// warm-up list cut to the frames that a device has: no page of the list leaves for another.
+pub fn warm_up_loads()
+    ensures { WarmUpLoads }
 {}

@@ -1,4 +1,5 @@
-//! Rows of a node's life, run. Calls stand in a function of their own, which keeps that the node is fit.
+//! Rows of a node's life, run. Each call stands in a function of its own, which keeps that the node is fit: what is proved of a
+//! test does not grow with its rows.
 ghost use Rattle.std.specs.Prelude.{IfOk};
 ghost use Rattle.warm_gossip.specs.Clauses.{IsFit};
 
@@ -13,7 +14,7 @@ use warm_devices::{Flaky, MemDevice, PageDevice};
 use warm_frames::{Frame, encode};
 use warm_history::History;
 use warm_pool::{Pool, PoolFault, Slot};
-use warm_stamps::{Bucket, ByteList, PageId, RefList, Reference, ReplicaId, Stamp};
+use warm_stamps::{Bucket, ByteList, PageId, PageList, RefList, Reference, ReplicaId, Stamp};
 
 const fn page(no: u32) -> PageId {
     PageId { dev: 0, no }
@@ -57,13 +58,6 @@ fn flaky(alloc: Global) -> Result<Node, Fail>
     over(alloc, 1, 1, device)
 }
 
-fn call(node: &mut Node, call: Call) -> Reply
-    requires { IsFit state node.old }
-    ensures { IsFit state node.new }
-{
-    node.call(call)
-}
-
 // Tells the node of references to pages of device 0 at its own times.
 fn told(
     rt: &impl Abort,
@@ -105,24 +99,14 @@ fn pinned_at(node: &mut Node, page: PageId) -> Result<Slot, NodeFault>
     }
 }
 
-fn pinned(node: &mut Node, no: u32) -> Result<Slot, NodeFault>
+fn is_done(node: &mut Node, call: Call) -> Result<(), NodeFault>
     requires { IsFit state node.old }
     ensures { IsFit state node.new }
 {
-    pinned_at(node, page(no))
-}
-
-// Pins a page and takes the fix away again.
-fn visit(node: &mut Node, no: u32) -> Result<(), Fail>
-    requires { IsFit state node.old }
-    ensures { IsFit state node.new }
-{
-    let Ok(slot) = pinned(node, no) else {
-        return Err("the page is pinned".into());
-    };
-    match is_done(node, Call::Unpin(slot)) {
-        Ok(()) => Ok(()),
-        Err(_) => Err("the fix is taken away".into()),
+    match node.call(call) {
+        Reply::Done => Ok(()),
+        Reply::Refused(fault) => Err(fault),
+        _ => Err(NodeFault::Memory),
     }
 }
 
@@ -145,17 +129,6 @@ fn sent(node: &mut Node, after: Option<PageId>) -> Result<Frame, Fail>
     match node.call(Call::Send { bucket, after }) {
         Reply::Sent(frame) => Ok(frame),
         _ => Err("the bucket is sent".into()),
-    }
-}
-
-fn is_done(node: &mut Node, call: Call) -> Result<(), NodeFault>
-    requires { IsFit state node.old }
-    ensures { IsFit state node.new }
-{
-    match node.call(call) {
-        Reply::Done => Ok(()),
-        Reply::Refused(fault) => Err(fault),
-        _ => Err(NodeFault::Memory),
     }
 }
 
@@ -214,156 +187,271 @@ fn offered(node: &mut Node) -> Result<Frame, Fail>
     }
 }
 
+// The hottest pages, so many of them.
+fn hottest(node: &mut Node, pages: usize) -> Result<PageList, Fail>
+    requires { IsFit state node.old }
+    ensures { IsFit state node.new }
+{
+    match node.call(Call::WarmList(pages)) {
+        Reply::Pages(pages) => Ok(pages),
+        _ => Err("the hottest pages are listed".into()),
+    }
+}
+
+// Pins a page and takes the fix away again.
+fn visit(node: &mut Node, no: u32) -> Result<(), Fail>
+    requires { IsFit state node.old }
+    ensures { IsFit state node.new }
+{
+    let Ok(slot) = pinned_at(node, page(no)) else {
+        return Err("the page is pinned".into());
+    };
+    match is_done(node, Call::Unpin(slot)) {
+        Ok(()) => Ok(()),
+        Err(_) => Err("the fix is taken away".into()),
+    }
+}
+
+// What is asked of a node, and what is to come of it.
+#[derive(Clone, Copy)]
+enum Row<'a> {
+    // References to pages of device 0, at times of its own, are taken in.
+    Told(&'a [(u32, u64)]),
+    // So many pages are in its history.
+    Knows(usize),
+    // A page is given a fix.
+    Pins(PageId, Result<Slot, NodeFault>),
+    // A fix is taken away.
+    Unpins(Slot),
+    // A page is given a fix, which is taken away again.
+    Visits(u32),
+    // Bytes are written into the slot's page.
+    Writes(Slot, usize, &'a [u8]),
+    // The slot's page has these bytes.
+    Reads(Slot, usize, &'a [u8]),
+    // So many bytes of the slot are not given.
+    Unread(Slot, usize, usize, NodeFault),
+    // The page that leaves next.
+    Victim(Option<PageId>),
+    // So many of the hottest pages.
+    Hottest(usize, &'a [PageId]),
+    // A step of the warm-up.
+    Loads(Result<Option<PageId>, NodeFault>),
+    // The node is restarted.
+    Restarts(Result<(), NodeFault>),
+}
+
+// Asks what the row says. `at` is its number.
+fn meets(
+    rt: &impl Abort,
+    alloc: Global,
+    node: &mut Node,
+    row: Row<'_>,
+    at: usize,
+) -> Result<(), Fail>
+    requires { IsFit state node.old }
+    ensures { IsFit state node.new }
+{
+    match row {
+        Row::Told(references) => told(rt, alloc, node, references),
+        Row::Visits(no) => visit(node, no),
+        Row::Writes(slot, from, text) => put(alloc, node, slot, from, text),
+        Row::Knows(pages) => {
+            assert_eq!(rt; node.history().len(), pages, "row {at}");
+            Ok(())
+        }
+        Row::Pins(page, wanted) => {
+            assert_eq!(rt; pinned_at(node, page), wanted, "row {at}");
+            Ok(())
+        }
+        Row::Unpins(slot) => {
+            assert_eq!(rt; is_done(node, Call::Unpin(slot)), Ok(()), "row {at}");
+            Ok(())
+        }
+        Row::Reads(slot, from, wanted) => {
+            let Ok(read) = bytes(node, slot, from, wanted.len()) else {
+                return Err("the bytes are read".into());
+            };
+            assert_eq!(rt; read.as_slice(), wanted, "row {at}");
+            Ok(())
+        }
+        Row::Unread(slot, from, len, fault) => {
+            assert_eq!(rt; bytes(node, slot, from, len).err(), Some(fault), "row {at}");
+            Ok(())
+        }
+        Row::Victim(wanted) => {
+            assert_eq!(rt; victim(node)?, wanted, "row {at}");
+            Ok(())
+        }
+        Row::Hottest(pages, wanted) => {
+            assert_eq!(rt; hottest(node, pages)?.as_slice(), wanted, "row {at}");
+            Ok(())
+        }
+        Row::Loads(wanted) => {
+            assert_eq!(rt; loaded(node), wanted, "row {at}");
+            Ok(())
+        }
+        Row::Restarts(wanted) => {
+            assert_eq!(rt; is_done(node, Call::Restart), wanted, "row {at}");
+            Ok(())
+        }
+    }
+}
+
+// Asks a node what the rows say, in turn.
+fn runs(rt: &impl Abort, alloc: Global, node: &mut Node, rows: &[Row<'_>]) -> Result<(), Fail>
+    requires { IsFit state node.old }
+    ensures { IsFit state node.new }
+{
+    for (at, row) in rows.iter().enumerate() {
+        meets(rt, alloc, node, *row, at)?;
+    }
+    Ok(())
+}
+
+// A fresh node of so many frames lives through the rows.
+fn lives(rt: &impl Abort, alloc: Global, frames: usize, rows: &[Row<'_>]) -> Result<(), Fail> {
+    let mut node = fresh(alloc, 1, frames)?;
+    runs(rt, alloc, &mut node, rows)
+}
+
 #[test]
 fn pages_are_warmed_hottest_first(rt: HostRuntime) -> Result<(), Fail> {
-    let alloc = rt.alloc();
-    let mut node = fresh(alloc, 1, 2)?;
-    told(
-        &rt,
-        alloc,
-        &mut node,
-        &[(5, 1), (2, 2), (2, 3), (9, 4), (9, 5)],
-    )?;
-    assert_eq!(rt; pinned(&mut node, 5), Ok(slot(0, 1)));
-    assert_eq!(rt; pinned(&mut node, 7), Ok(slot(1, 1)));
-    assert_eq!(rt; is_done(&mut node, Call::Unpin(slot(0, 1))), Ok(()));
-    assert_eq!(rt; is_done(&mut node, Call::Unpin(slot(1, 1))), Ok(()));
-    let Reply::Pages(pages) = call(&mut node, Call::WarmList(3)) else {
-        return Err("the hottest pages are listed".into());
-    };
-    assert_eq!(rt; pages.as_slice(), [page(9), page(2), page(5)].as_slice());
-    assert_eq!(rt; loaded(&mut node), Ok(Some(page(9))));
-    assert_eq!(rt; loaded(&mut node), Ok(Some(page(2))));
-    assert_eq!(rt; loaded(&mut node), Ok(None));
-    assert_eq!(rt; pinned(&mut node, 2), Ok(slot(0, 2)));
-    assert_eq!(rt; pinned(&mut node, 9), Ok(slot(1, 2)));
-    Ok(())
+    let rows = [
+        Row::Told(&[(5, 1), (2, 2), (2, 3), (9, 4), (9, 5)]),
+        Row::Pins(page(5), Ok(slot(0, 1))),
+        Row::Pins(page(7), Ok(slot(1, 1))),
+        Row::Unpins(slot(0, 1)),
+        Row::Unpins(slot(1, 1)),
+        Row::Hottest(3, &[page(9), page(2), page(5)]),
+        Row::Loads(Ok(Some(page(9)))),
+        Row::Loads(Ok(Some(page(2)))),
+        Row::Loads(Ok(None)),
+        Row::Pins(page(2), Ok(slot(0, 2))),
+        Row::Pins(page(9), Ok(slot(1, 2))),
+    ];
+    lives(&rt, rt.alloc(), 2, &rows)
 }
 
 #[test]
 fn bytes_stay_with_their_page(rt: HostRuntime) -> Result<(), Fail> {
-    let alloc = rt.alloc();
-    let mut node = fresh(alloc, 1, 1)?;
-    assert_eq!(rt; pinned(&mut node, 1), Ok(slot(0, 1)));
-    put(alloc, &mut node, slot(0, 1), 0, &[0xCA, 0xFE])?;
-    assert_eq!(rt; is_done(&mut node, Call::Unpin(slot(0, 1))), Ok(()));
-    assert_eq!(rt; pinned(&mut node, 2), Ok(slot(0, 2)));
-    assert_eq!(rt; is_done(&mut node, Call::Unpin(slot(0, 2))), Ok(()));
-    assert_eq!(rt;
-        bytes(&mut node, slot(0, 1), 0, 2).err(),
-        Some(NodeFault::StaleSlot)
-    );
-    assert_eq!(rt; pinned(&mut node, 1), Ok(slot(0, 3)));
-    let Ok(read) = bytes(&mut node, slot(0, 3), 0, 2) else {
-        return Err("the bytes are read".into());
-    };
-    assert_eq!(rt; read.as_slice(), [0xCA, 0xFE].as_slice());
-    assert_eq!(rt;
-        bytes(&mut node, slot(0, 3), 15, 2).err(),
-        Some(NodeFault::Pool(PoolFault::OutOfPage))
-    );
-    let Ok(none) = bytes(&mut node, slot(0, 3), 16, 0) else {
-        return Err("no bytes are read".into());
-    };
-    assert_eq!(rt; none.as_slice().len(), 0);
-    Ok(())
+    let out_of_page = NodeFault::Pool(PoolFault::OutOfPage);
+    let rows = [
+        Row::Pins(page(1), Ok(slot(0, 1))),
+        Row::Writes(slot(0, 1), 0, &[0xCA, 0xFE]),
+        Row::Unpins(slot(0, 1)),
+        Row::Pins(page(2), Ok(slot(0, 2))),
+        Row::Unpins(slot(0, 2)),
+        Row::Unread(slot(0, 1), 0, 2, NodeFault::StaleSlot),
+        Row::Pins(page(1), Ok(slot(0, 3))),
+        Row::Reads(slot(0, 3), 0, &[0xCA, 0xFE]),
+        Row::Unread(slot(0, 3), 15, 2, out_of_page),
+        Row::Reads(slot(0, 3), 16, &[]),
+    ];
+    lives(&rt, rt.alloc(), 1, &rows)
 }
 
 #[test]
 fn a_restart_waits_for_fixes(rt: HostRuntime) -> Result<(), Fail> {
-    let alloc = rt.alloc();
-    let mut node = fresh(alloc, 1, 4)?;
-    told(&rt, alloc, &mut node, &[(1, 10)])?;
-    assert_eq!(rt; pinned(&mut node, 1), Ok(slot(0, 1)));
-    put(alloc, &mut node, slot(0, 1), 15, &[0xAB])?;
-    assert_eq!(rt;
-        is_done(&mut node, Call::Restart),
-        Err(NodeFault::Pool(PoolFault::Fixed))
-    );
-    assert_eq!(rt; node.history().len(), 1);
-    assert_eq!(rt; is_done(&mut node, Call::Unpin(slot(0, 1))), Ok(()));
-    assert_eq!(rt; is_done(&mut node, Call::Restart), Ok(()));
-    assert_eq!(rt; node.history().len(), 0);
-    assert_eq!(rt; pinned(&mut node, 1), Ok(slot(0, 2)));
-    let Ok(read) = bytes(&mut node, slot(0, 2), 15, 1) else {
-        return Err("the byte is read".into());
-    };
-    assert_eq!(rt; read.as_slice(), [0xAB].as_slice());
-    Ok(())
+    let rows = [
+        Row::Told(&[(1, 10)]),
+        Row::Pins(page(1), Ok(slot(0, 1))),
+        Row::Writes(slot(0, 1), 15, &[0xAB]),
+        Row::Restarts(Err(NodeFault::Pool(PoolFault::Fixed))),
+        Row::Knows(1),
+        Row::Unpins(slot(0, 1)),
+        Row::Restarts(Ok(())),
+        Row::Knows(0),
+        Row::Pins(page(1), Ok(slot(0, 2))),
+        Row::Reads(slot(0, 2), 15, &[0xAB]),
+    ];
+    lives(&rt, rt.alloc(), 4, &rows)
 }
 
 #[test]
 fn the_greatest_distance_leaves_first(rt: HostRuntime) -> Result<(), Fail> {
-    let alloc = rt.alloc();
-    let mut node = fresh(alloc, 1, 4)?;
-    told(&rt, alloc, &mut node, &[(1, 1), (1, 2), (5, 10), (6, 11)])?;
-    visit(&mut node, 1)?;
-    visit(&mut node, 5)?;
-    visit(&mut node, 6)?;
-    assert_eq!(rt; victim(&mut node)?, Some(page(5)), "the scan leaves first");
-    let mut node = fresh(alloc, 1, 4)?;
-    told(&rt, alloc, &mut node, &[(1, 1), (1, 100), (2, 50), (2, 60)])?;
-    visit(&mut node, 1)?;
-    visit(&mut node, 2)?;
-    assert_eq!(rt; victim(&mut node)?, Some(page(1)), "distance 3 against 2");
-    Ok(())
+    let scanned = [
+        Row::Told(&[(1, 1), (1, 2), (5, 10), (6, 11)]),
+        Row::Visits(1),
+        Row::Visits(5),
+        Row::Visits(6),
+        // The scan leaves first.
+        Row::Victim(Some(page(5))),
+    ];
+    lives(&rt, rt.alloc(), 4, &scanned)?;
+    let twice = [
+        Row::Told(&[(1, 1), (1, 100), (2, 50), (2, 60)]),
+        Row::Visits(1),
+        Row::Visits(2),
+        // Distance 3 against 2.
+        Row::Victim(Some(page(1))),
+    ];
+    lives(&rt, rt.alloc(), 4, &twice)
 }
 
 #[test]
 fn pages_with_a_fix_stay(rt: HostRuntime) -> Result<(), Fail> {
-    let alloc = rt.alloc();
-    let mut node = fresh(alloc, 1, 2)?;
-    assert_eq!(rt; pinned(&mut node, 3), Ok(slot(0, 1)));
-    assert_eq!(rt; pinned(&mut node, 4), Ok(slot(1, 1)));
-    assert_eq!(rt; victim(&mut node)?, None);
     let all_fixed = NodeFault::Pool(PoolFault::AllFixed);
-    assert_eq!(rt; pinned(&mut node, 5), Err(all_fixed));
     assert_eq!(rt; (all_fixed.code(), all_fixed.name()), (6, "AllFixed"));
-    told(&rt, alloc, &mut node, &[(9, 1)])?;
-    assert_eq!(rt; loaded(&mut node), Err(all_fixed));
-    assert_eq!(rt; is_done(&mut node, Call::Unpin(slot(1, 1))), Ok(()));
-    assert_eq!(rt; victim(&mut node)?, Some(page(4)));
-    assert_eq!(rt; loaded(&mut node), Ok(Some(page(9))));
-    Ok(())
+    let rows = [
+        Row::Pins(page(3), Ok(slot(0, 1))),
+        Row::Pins(page(4), Ok(slot(1, 1))),
+        Row::Victim(None),
+        Row::Pins(page(5), Err(all_fixed)),
+        Row::Told(&[(9, 1)]),
+        Row::Loads(Err(all_fixed)),
+        Row::Unpins(slot(1, 1)),
+        Row::Victim(Some(page(4))),
+        Row::Loads(Ok(Some(page(9)))),
+    ];
+    lives(&rt, rt.alloc(), 2, &rows)
 }
 
 #[test]
 fn pages_that_cannot_come_in_are_refused(rt: HostRuntime) -> Result<(), Fail> {
-    let alloc = rt.alloc();
-    let mut node = flaky(alloc)?;
     let elsewhere = PageId { dev: 1, no: 0 };
-    let no_device = NodeFault::Pool(PoolFault::NoDevice);
-    assert_eq!(rt; pinned_at(&mut node, elsewhere), Err(no_device));
-    assert_eq!(rt;
-        pinned(&mut node, 8),
-        Err(NodeFault::Pool(PoolFault::NoPage))
-    );
-    told(&rt, alloc, &mut node, &[(1, 1), (1, 2)])?;
-    assert_eq!(rt;
-        loaded(&mut node),
-        Err(NodeFault::Pool(PoolFault::ReadFault))
-    );
-    assert_eq!(rt; loaded(&mut node), Ok(Some(page(1))));
-    assert_eq!(rt; loaded(&mut node), Ok(None));
+    let rows = [
+        Row::Pins(elsewhere, Err(NodeFault::Pool(PoolFault::NoDevice))),
+        Row::Pins(page(8), Err(NodeFault::Pool(PoolFault::NoPage))),
+        Row::Told(&[(1, 1), (1, 2)]),
+        Row::Loads(Err(NodeFault::Pool(PoolFault::ReadFault))),
+        Row::Loads(Ok(Some(page(1)))),
+        Row::Loads(Ok(None)),
+    ];
+    let mut node = flaky(rt.alloc())?;
+    runs(&rt, rt.alloc(), &mut node, &rows)
+}
+
+// The frame of all that the node knows of bucket 1, before it forgets everything.
+fn sent_before_a_restart(rt: &impl Abort, alloc: Global, node: &mut Node) -> Result<Frame, Fail>
+    requires { IsFit state node.old }
+    ensures { IsFit state node.new }
+{
+    let frame = sent(node, None)?;
+    assert_eq!(rt; entries_in(&frame), 1);
+    let rest = sent(node, Some(page(1)))?;
+    assert_eq!(rt; entries_in(&rest), 0);
+    runs(rt, alloc, node, &[Row::Restarts(Ok(())), Row::Knows(0)])?;
+    Ok(frame)
+}
+
+fn comes_back(rt: &impl Abort, alloc: Global, node: &mut Node) -> Result<(), Fail>
+    requires { IsFit state node.old }
+    ensures { IsFit state node.new }
+{
+    told(rt, alloc, node, &[(1, 10), (1, 20)])?;
+    let known = node.history().at(0);
+    let frame = sent_before_a_restart(rt, alloc, node)?;
+    assert_eq!(rt; answers(node, frame)?.len(), 0);
+    assert_eq!(rt; node.history().at(0), known);
+    assert_eq!(rt; node.history().len(), 1);
     Ok(())
 }
 
 #[test]
 fn what_was_sent_comes_back_after_a_restart(rt: HostRuntime) -> Result<(), Fail> {
-    let alloc = rt.alloc();
-    let mut node = fresh(alloc, 1, 4)?;
-    told(&rt, alloc, &mut node, &[(1, 10), (1, 20)])?;
-    let known = node.history().at(0);
-    let frame = sent(&mut node, None)?;
-    assert_eq!(rt; entries_in(&frame), 1);
-    let rest = sent(&mut node, Some(page(1)))?;
-    assert_eq!(rt; entries_in(&rest), 0);
-    assert_eq!(rt; is_done(&mut node, Call::Restart), Ok(()));
-    assert_eq!(rt; node.history().len(), 0);
-    assert_eq!(rt; answers(&mut node, frame)?.len(), 0);
-    assert_eq!(rt; node.history().at(0), known);
-    assert_eq!(rt; node.history().len(), 1);
-    Ok(())
+    let mut node = fresh(rt.alloc(), 1, 4)?;
+    comes_back(&rt, rt.alloc(), &mut node)
 }
 
 // The wish for buckets 1 and 2 of replica 2, as the format has it.
@@ -371,32 +459,82 @@ const WANT: [u8; 19] = [
     0x4C, 0x32, 0x47, 0x31, 3, 0, 2, 0, 0, 0, 8, 0, 0, 0, 0, 0, 0, 0, 6,
 ];
 
-#[test]
-fn two_nodes_make_their_histories_equal(rt: HostRuntime) -> Result<(), Fail> {
-    let alloc = rt.alloc();
-    let mut first = fresh(alloc, 1, 4)?;
-    let mut second = fresh(alloc, 2, 4)?;
-    told(&rt, alloc, &mut first, &[(1, 10)])?;
-    told(&rt, alloc, &mut second, &[(2, 11)])?;
-    let digest = offered(&mut first)?;
-    let mut answered = answers(&mut second, digest)?;
+// What the second answers to the sums of the first: its entries of a bucket that differs, and its wish.
+fn answered_to_sums(
+    rt: &impl Abort,
+    alloc: Global,
+    first: &mut Node,
+    second: &mut Node,
+) -> Result<(Frame, Frame), Fail>
+    requires first { IsFit state first.old }
+    requires second { IsFit state second.old }
+    ensures first { IsFit state first.new }
+    ensures second { IsFit state second.new }
+{
+    let sums = offered(first)?;
+    let mut answered = answers(second, sums)?;
     assert_eq!(rt; answered.len(), 2);
     let want = answered.pop().ok_or("a wish")?;
     assert_eq!(rt; encode(alloc, &want)?.as_slice(), WANT.as_slice());
     let entries = answered.pop().ok_or("entries")?;
-    assert_eq!(rt; answers(&mut first, entries)?.len(), 0);
-    let mut wanted = answers(&mut first, want)?;
+    Ok((entries, want))
+}
+
+// Takes a frame that nothing answers.
+fn takes(rt: &impl Abort, node: &mut Node, frame: Frame) -> Result<(), Fail>
+    requires { IsFit state node.old }
+    ensures { IsFit state node.new }
+{
+    assert_eq!(rt; answers(node, frame)?.len(), 0);
+    Ok(())
+}
+
+// The first answers the wish with its entries of two buckets, which the second takes, the later ones first.
+fn grants(rt: &impl Abort, first: &mut Node, second: &mut Node, want: Frame) -> Result<(), Fail>
+    requires first { IsFit state first.old }
+    requires second { IsFit state second.old }
+    ensures first { IsFit state first.new }
+    ensures second { IsFit state second.new }
+{
+    let mut wanted = answers(first, want)?;
     assert_eq!(rt; wanted.len(), 2);
     let later = wanted.pop().ok_or("the entries of bucket 2")?;
-    assert_eq!(rt; answers(&mut second, later)?.len(), 0);
     let earlier = wanted.pop().ok_or("the entries of bucket 1")?;
-    assert_eq!(rt; answers(&mut second, earlier)?.len(), 0);
+    takes(rt, second, later)?;
+    takes(rt, second, earlier)
+}
+
+fn know_the_same(rt: &impl Abort, first: &Node, second: &Node) {
     assert_eq!(rt; first.history().at(0), second.history().at(0));
     assert_eq!(rt; first.history().at(1), second.history().at(1));
     assert_eq!(rt; (first.history().len(), second.history().len()), (2, 2));
-    let digest = offered(&mut first)?;
-    assert_eq!(rt; answers(&mut second, digest)?.len(), 0);
-    Ok(())
+}
+
+// Each node is told of a page, and then both of what the other knows.
+fn become_equal(
+    rt: &impl Abort,
+    alloc: Global,
+    first: &mut Node,
+    second: &mut Node,
+) -> Result<(), Fail>
+    requires first { IsFit state first.old }
+    requires second { IsFit state second.old }
+{
+    told(rt, alloc, first, &[(1, 10)])?;
+    told(rt, alloc, second, &[(2, 11)])?;
+    let (entries, want) = answered_to_sums(rt, alloc, first, second)?;
+    takes(rt, first, entries)?;
+    grants(rt, first, second, want)?;
+    know_the_same(rt, first, second);
+    let sums = offered(first)?;
+    takes(rt, second, sums)
+}
+
+#[test]
+fn two_nodes_make_their_histories_equal(rt: HostRuntime) -> Result<(), Fail> {
+    let mut first = fresh(rt.alloc(), 1, 4)?;
+    let mut second = fresh(rt.alloc(), 2, 4)?;
+    become_equal(&rt, rt.alloc(), &mut first, &mut second)
 }
 
 fn entries_in(frame: &Frame) -> usize {

@@ -5,4 +5,5 @@ pub mod HistoryLemmas
 pub mod JoinLemmas
 pub mod MergeLemmas
 pub mod PlaceLemmas
+pub mod TreeLemmas
 pub mod SetLemmas

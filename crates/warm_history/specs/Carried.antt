@@ -30,6 +30,10 @@ carried S bucket after limit = those (λ r. list_any (λ p. is_eq (page_cmp p r.
 abbrev pub AreCarried : HistoryView → ℕ → Option PageId → ℕ → List Entry → Type 0
 AreCarried h bucket after limit es = (S : ReferenceSet) → StandsFor h S → es ≡ entries_of (history (carried S bucket after limit))
 
--- the first entries of a list, at most limit, of those whose page is in the bucket and after the one given
-abbrev pub first_chosen : List Entry → ℕ → Option PageId → ℕ → List Entry
-first_chosen es bucket after limit = take limit (filter (λ e. is_chosen bucket after e.page) es)
+-- the entries of a list whose page comes after the one given
+abbrev pub entries_after : Option PageId → List Entry → List Entry
+entries_after after es = filter (λ e. comes_after after e.page) es
+
+-- the first entries of a list, at most limit, of those in the bucket
+abbrev pub first_of_bucket : ℕ → ℕ → List Entry → List Entry
+first_of_bucket bucket limit es = take limit (filter (λ e. page_bucket e.page == bucket) es)

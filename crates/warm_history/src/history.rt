@@ -1,14 +1,16 @@
-//! Histories, as vectors in page order.
-ghost use Rattle.std.specs.Prelude.{◌≡◌, ◌+◌, ◌<◌, ◌≤◌, [], length, OnOk, OnErr, IfOk, IfErr, slice_get, vec_len, vec_capacity};
+//! Histories, as maps from pages.
+ghost use Rattle.std.specs.Prelude.{◌≡◌, ◌≤◌, [], length, OnOk, OnErr, IfOk, slice_get};
 ghost use Rattle.warm_history.specs.ReferenceSets.{ReferenceSet, these, ◌∪◌};
-ghost use Rattle.warm_history.specs.Histories.{entries_of, holding, hist, refs, entry_refs, history, join, StandsFor, TakesIn, EntriesTakeIn, IsHistory};
-ghost use Rattle.warm_history.specs.Carried.{AreCarried, first_chosen, is_chosen};
-ghost use Rattle.warm_history.specs.Places.{IsAt, IsGapFor};
+ghost use Rattle.warm_history.specs.Histories.{entries_of, holding, hist, refs, history, join, StandsFor, TakesIn, IsHistory};
+ghost use Rattle.warm_history.specs.Carried.{AreCarried, entries_after, first_of_bucket};
 
-use crate::hist::{Entry, PageHist, join_known};
-use crate::merge::{gathered, merged};
+use crate::hist::{Entry, PageHist};
+use crate::tree::{known_of, take_entries, take_pairs, take_references};
 use std::alloc::{AllocError, Global};
+use std::collections::BTreeMap;
+use std::collections::btree_map::Range;
 use std::marker::Model;
+use std::ops::Bound;
 use warm_stamps::{Bucket, PageId, Reference, bucket_of};
 
 /// The two latest stamps of every page that was referenced.
@@ -20,17 +22,18 @@ use warm_stamps::{Bucket, PageId, Reference, bucket_of};
 #[derive(Debug, Drop)]
 pub struct History {
     alloc: Global,
-    entries: Vec<Entry>,
+    pairs: BTreeMap<PageId, PageHist>,
 }
 
 impl Model for History {
-    ghost use Rattle.warm_history.specs.Histories.{HistoryView, holding, IsHistory};
+    ghost use Rattle.warm_history.specs.Histories.{HistoryView, IsHistory};
+    ghost use Rattle.warm_history.specs.Tree.{kept};
 
     ghost Value = { HistoryView };
 
-    ghost view = { λ h. holding h.entries.items };
+    ghost view = { λ h. kept h.pairs.entries };
 
-    ghost invariant = { λ h. IsHistory (holding h.entries.items) };
+    ghost invariant = { λ h. IsHistory (kept h.pairs.entries) };
 }
 
 impl History {
@@ -41,7 +44,7 @@ impl History {
     {
         History {
             alloc,
-            entries: Vec::new(alloc),
+            pairs: BTreeMap::new(alloc),
         }
     }
 
@@ -50,7 +53,7 @@ impl History {
         ensures count { result ≡ length (entries_of self.now) }
         ensures whole { IsHistory self.now }
     {
-        self.entries.len()
+        self.pairs.len()
     }
 
     /// The entry at place `i` in page order, counted from 0, where there is one. Takes no memory.
@@ -60,67 +63,61 @@ impl History {
     pub fn at(&self, i: usize) -> Option<Entry>
         ensures { result ≡ slice_get (entries_of self.now) i }
     {
-        self.entries.get(i).copied()
+        self.iter().nth(i)
     }
 
     /// The entries, in rising page order. Takes no memory.
     pub fn iter(&self) -> Entries<'_>
         ensures { result ≡ entries_of self.now }
     {
-        Entries {
-            left: &self.entries,
-        }
+        self.later(None)
     }
 
     /// The two latest stamps of a page, where it was referenced. Takes no memory.
     pub fn get(&self, page: PageId) -> Option<PageHist>
         ensures { (S : ReferenceSet) → StandsFor self.now S → result ≡ hist S page }
     {
-        match place(&self.entries, page) {
-            Ok(i) => Some(self.entries[i].hist),
-            Err(_) => None,
-        }
+        known_of(&self.pairs, page)
     }
 
     /// Takes in references, in any order, of which any may be known already.
     ///
-    /// `AllocError` comes only where room for `batch.len()` entries more was refused, and changes
-    /// nothing.
+    /// Time grows with the batch, and with the logarithm of the number of pages. `AllocError` comes
+    /// only where room for what was known of the batch's pages, or for a new page, was refused, and
+    /// changes nothing.
     pub fn absorb(&mut self, batch: &[Reference]) -> Result<(), AllocError>
         ensures ok { OnOk result (TakesIn self.old (these batch.now) self.new) }
         ensures exact { OnOk result (self.new ≡ history (refs self.old ∪ these batch.now)) }
         ensures err { OnErr result (self.new ≡ self.old) }
     {
-        self.entries.reserve(batch.len())?;
-        record_references(&mut self.entries, batch);
+        take_references(self.alloc, &mut self.pairs, batch)?;
         Ok(())
     }
 
     /// Takes in all that the other history holds.
     ///
-    /// Both are gone over once. `AllocError` comes only where room for the entries of both was
-    /// refused, and changes nothing.
+    /// The other is gone over once, and each of its pages is looked up here. `AllocError` comes only
+    /// where room for what was known of these pages, or for a new page, was refused, and changes
+    /// nothing.
     pub fn join(&mut self, other: &History) -> Result<(), AllocError>
         ensures ok { OnOk result (TakesIn self.old (refs other.now) self.new) }
         ensures exact { OnOk result (self.new ≡ join self.old other.now) }
         ensures err { OnErr result (self.new ≡ self.old) }
     {
-        self.entries = merged(self.alloc, &self.entries, &other.entries)?;
+        take_pairs(self.alloc, &mut self.pairs, &other.pairs)?;
         Ok(())
     }
 
     /// Takes in all that these entries hold, which may come in any order and name a page often.
     ///
-    /// Entries whose pages rise are gone over once; others are sorted first. `AllocError` comes
-    /// only where room for the entries in order, or for those of both, was refused, and changes
-    /// nothing.
+    /// The entries are gone over once, and each page is looked up here. `AllocError` comes only where
+    /// room for what was known of these pages, or for a new page, was refused, and changes nothing.
     pub fn join_entries(&mut self, more: &[Entry]) -> Result<(), AllocError>
         ensures ok { OnOk result (TakesIn self.old (refs (holding more.now)) self.new) }
         ensures exact { OnOk result (self.new ≡ join self.old (holding more.now)) }
         ensures err { OnErr result (self.new ≡ self.old) }
     {
-        let more = gathered(self.alloc, more)?;
-        self.entries = merged(self.alloc, &self.entries, &more)?;
+        take_entries(self.alloc, &mut self.pairs, more)?;
         Ok(())
     }
 
@@ -128,10 +125,10 @@ impl History {
     pub fn copy(&self) -> Result<History, AllocError>
         ensures { IfOk result (λ copied. copied ≡ self.now) }
     {
-        let entries = self.entries.clone()?;
+        let pairs = self.pairs.clone()?;
         Ok(History {
             alloc: self.alloc,
-            entries,
+            pairs,
         })
     }
 
@@ -150,7 +147,21 @@ impl History {
         ensures whole { IfOk result (λ es. IsHistory (holding es.items)) }
         ensures limited { IfOk result (λ es. length es.items ≤ limit) }
     {
-        chosen(self.alloc, self.iter(), bucket, after, limit)
+        chosen(self.alloc, self.later(after), bucket, limit)
+    }
+
+    // The entries whose page is greater than the one given, if one is: all where none is.
+    fn later(&self, after: Option<PageId>) -> Entries<'_>
+        ensures { result ≡ entries_after after (entries_of self.now) }
+    {
+        match after {
+            None => Entries {
+                left: self.pairs.range(..),
+            },
+            Some(last) => Entries {
+                left: self.pairs.range((Bound::Excluded(last), Bound::Unbounded)),
+            },
+        }
     }
 }
 
@@ -159,16 +170,17 @@ impl History {
 /// Contracts see it as the list of the entries that are left.
 #[derive(Debug, Drop)]
 pub struct Entries<'a> {
-    left: &'a [Entry],
+    left: Range<'a, PageId, PageHist>,
 }
 
 impl<'a> Model for Entries<'a> {
     ghost use Rattle.std.specs.Prelude.{List};
     ghost use Rattle.warm_history.specs.declared.hist.Entry.{Entry};
+    ghost use Rattle.warm_history.specs.Tree.{as_entries};
 
     ghost Value = { List Entry };
 
-    ghost view = { λ entries. entries.left.now };
+    ghost view = { λ entries. as_entries entries.left };
 }
 
 impl<'a> Iterator for Entries<'a> {
@@ -181,92 +193,27 @@ impl<'a> Iterator for Entries<'a> {
     ghost remaining = { item_count (λ entries. entries) };
 
     fn next(&mut self) -> Option<Entry> {
-        let (first, later) = self.left.split_first()?;
-        self.left = later;
-        Some(*first)
+        let (page, hist) = self.left.next()?;
+        Some(Entry {
+            page: *page,
+            hist: *hist,
+        })
     }
 }
 
-// The first `limit` of the entries that are in the bucket and after the page, if one is given.
+// The first `limit` of the entries that are in the bucket.
 fn chosen(
     alloc: Global,
     entries: Entries<'_>,
     bucket: Bucket,
-    after: Option<PageId>,
     limit: usize,
 ) -> Result<Vec<Entry>, AllocError>
-    ensures { IfOk result (λ es. es.items ≡ first_chosen entries.entry bucket after limit) }
+    ensures { IfOk result (λ es. es.items ≡ first_of_bucket bucket limit entries.entry) }
 {
     entries
-        .filter(|entry| is_wanted(entry.page, bucket, after))
+        .filter(|entry| bucket_of(entry.page) == bucket)
         .take(limit)
         .collect(alloc)
-}
-
-// Whether the page is in the bucket, and after the one given, if one is.
-fn is_wanted(page: PageId, bucket: Bucket, after: Option<PageId>) -> bool
-    ensures { result ≡ is_chosen bucket after page }
-{
-    if bucket_of(page) != bucket {
-        return false;
-    }
-    match after {
-        None => true,
-        Some(last) => last < page,
-    }
-}
-
-// Where the page's entry is, or where it would go.
-fn place(entries: &[Entry], page: PageId) -> Result<usize, usize>
-    requires { IsHistory (holding entries.now) }
-    ensures found { IfOk result (IsAt entries.now page) }
-    ensures absent { IfErr result (IsGapFor entries.now page) }
-{
-    entries.binary_search_by_key(&page, |entry| entry.page)
-}
-
-// Takes one entry into entries that have room for one more.
-fn record(entries: &mut Vec<Entry>, entry: Entry)
-    requires whole { IsHistory (holding entries.old.items) }
-    requires room { vec_len entries.old < vec_capacity entries.old }
-
-    ensures told { EntriesTakeIn entries.old.items (these (entry_refs entry)) entries.new.items }
-    ensures whole { IsHistory (holding entries.new.items) }
-    ensures room { vec_capacity entries.old ≤ vec_capacity entries.new }
-    ensures one { vec_len entries.new ≤ vec_len entries.old + 1 }
-{
-    match place(entries, entry.page) {
-        Ok(i) => {
-            let known = &mut entries[i];
-            known.hist = join_known(Some(known.hist), entry.hist);
-        }
-        Err(i) => {
-            let hist = join_known(None, entry.hist);
-            let first = Entry {
-                page: entry.page,
-                hist,
-            };
-            // Never refused, since there is room.
-            let _ = entries.insert(i, first);
-        }
-    }
-}
-
-// Takes references into entries that have room for each of them.
-fn record_references(entries: &mut Vec<Entry>, batch: &[Reference])
-    requires whole { IsHistory (holding entries.old.items) }
-    requires room { vec_len entries.old + length batch.now ≤ vec_capacity entries.old }
-
-    ensures told { EntriesTakeIn entries.old.items (these batch.now) entries.new.items }
-    ensures whole { IsHistory (holding entries.new.items) }
-{
-    for reference in batch {
-        let entry = Entry {
-            page: reference.page,
-            hist: PageHist::Once(reference.stamp),
-        };
-        record(entries, entry);
-    }
 }
 
 #[cfg(test)]

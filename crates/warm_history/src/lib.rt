@@ -13,8 +13,9 @@
 mod hist;
 mod history;
 pub mod laws;
-mod merge;
+mod order;
+mod tree;
 
 pub use hist::{Entry, PageHist, Two, join_hist};
 pub use history::{Entries, History};
-pub use merge::pages_rise;
+pub use order::pages_rise;

@@ -1,13 +1,14 @@
-//! The rows of a pool's life, run. Calls on a pool stand in functions of their own, which keep what a pool is and by which
-//! history it is ranked.
+//! Rows of a pool's life, run. Each call stands in a function of its own, which keeps what a pool is and by which history it is
+//! ranked: what is proved of a test does not grow with its rows.
 //!
 //! With `rt try --test --fail-alloc N`, for N from 1 on, each growth is refused in turn: what takes room is then asked for once
 //! more, with what the refusal handed back.
 ghost use Rattle.std.specs.Prelude.{◌≡◌, List, IfOk, length};
+ghost use Rattle.warm_pool.specs.Clauses.{pool_state};
 ghost use Rattle.warm_pool.specs.State.{IsPool, IsRankedByAll, RankedBy};
 
 use crate::residents::Residents;
-use crate::{Pool, PoolFault, Pooled, Slot, Unretired};
+use crate::{Pool, PoolFault, Slot, Unretired};
 use noting_device::{Found, Note, Noting};
 use std::alloc::{AllocError, Global};
 use std::process::Abort;
@@ -68,8 +69,8 @@ fn pool_over(
     frames: usize,
     device: Box<dyn PageDevice + Send>,
 ) -> Result<Pool, Fail>
-    ensures pool { IfOk result (λ pool. IsPool (⟦<Pool as Pooled>⟧.state pool)) }
-    ensures ranked { IfOk result (λ pool. IsRankedByAll (⟦<Pool as Pooled>⟧.state pool)) }
+    ensures pool { IfOk result (λ pool. IsPool (pool_state state pool)) }
+    ensures ranked { IfOk result (λ pool. IsRankedByAll (pool_state state pool)) }
 {
     let devices = alone(alloc, device)?;
     match Pool::new(alloc, frames, 16, devices) {
@@ -87,10 +88,10 @@ fn pool_over(
 
 // Pins a page, which no fault hinders.
 fn pinned(pool: &mut Pool, history: &History, no: u32) -> Result<Slot, Fail>
-    requires pool { IsPool (⟦<Pool as Pooled>⟧.state pool.old) }
-    requires ranked { RankedBy (⟦<Pool as Pooled>⟧.state pool.old) history.now }
-    ensures pool { IsPool (⟦<Pool as Pooled>⟧.state pool.new) }
-    ensures ranked { RankedBy (⟦<Pool as Pooled>⟧.state pool.new) history.now }
+    requires pool { IsPool (pool_state state pool.old) }
+    requires ranked { RankedBy (pool_state state pool.old) history.now }
+    ensures pool { IsPool (pool_state state pool.new) }
+    ensures ranked { RankedBy (pool_state state pool.new) history.now }
 {
     match pool.pin(page(no), history) {
         Ok(slot) => Ok(slot),
@@ -99,10 +100,10 @@ fn pinned(pool: &mut Pool, history: &History, no: u32) -> Result<Slot, Fail>
 }
 
 fn unpin(rt: &impl Abort, pool: &mut Pool, history: &History, slot: Slot)
-    requires pool { IsPool (⟦<Pool as Pooled>⟧.state pool.old) }
-    requires ranked { RankedBy (⟦<Pool as Pooled>⟧.state pool.old) history.now }
-    ensures pool { IsPool (⟦<Pool as Pooled>⟧.state pool.new) }
-    ensures ranked { RankedBy (⟦<Pool as Pooled>⟧.state pool.new) history.now }
+    requires pool { IsPool (pool_state state pool.old) }
+    requires ranked { RankedBy (pool_state state pool.old) history.now }
+    ensures pool { IsPool (pool_state state pool.new) }
+    ensures ranked { RankedBy (pool_state state pool.new) history.now }
 {
     assert!(rt; pool.holds(slot), "the slot holds its page");
     pool.unpin(slot);
@@ -116,10 +117,10 @@ fn write(
     at: usize,
     bytes: &[u8],
 ) -> Result<(), PoolFault>
-    requires pool { IsPool (⟦<Pool as Pooled>⟧.state pool.old) }
-    requires ranked { RankedBy (⟦<Pool as Pooled>⟧.state pool.old) history.now }
-    ensures pool { IsPool (⟦<Pool as Pooled>⟧.state pool.new) }
-    ensures ranked { RankedBy (⟦<Pool as Pooled>⟧.state pool.new) history.now }
+    requires pool { IsPool (pool_state state pool.old) }
+    requires ranked { RankedBy (pool_state state pool.old) history.now }
+    ensures pool { IsPool (pool_state state pool.new) }
+    ensures ranked { RankedBy (pool_state state pool.new) history.now }
 {
     assert!(rt; pool.holds(slot), "the slot holds its page");
     pool.write(slot, at, bytes)
@@ -127,10 +128,10 @@ fn write(
 
 // Fills a page with AA, which goes to no device yet.
 fn fill(rt: &impl Abort, pool: &mut Pool, history: &History, no: u32) -> Result<(), Fail>
-    requires pool { IsPool (⟦<Pool as Pooled>⟧.state pool.old) }
-    requires ranked { RankedBy (⟦<Pool as Pooled>⟧.state pool.old) history.now }
-    ensures pool { IsPool (⟦<Pool as Pooled>⟧.state pool.new) }
-    ensures ranked { RankedBy (⟦<Pool as Pooled>⟧.state pool.new) history.now }
+    requires pool { IsPool (pool_state state pool.old) }
+    requires ranked { RankedBy (pool_state state pool.old) history.now }
+    ensures pool { IsPool (pool_state state pool.new) }
+    ensures ranked { RankedBy (pool_state state pool.new) history.now }
 {
     let held = pinned(pool, history, no)?;
     let written = write(rt, pool, history, held, 0, &[0xAA; 16]);
@@ -141,7 +142,7 @@ fn fill(rt: &impl Abort, pool: &mut Pool, history: &History, no: u32) -> Result<
 
 // The sixteen bytes of the slot's page.
 fn read(rt: &impl Abort, pool: &Pool, slot: Slot) -> [u8; 16]
-    requires { IsPool (⟦<Pool as Pooled>⟧.state pool.now) }
+    requires { IsPool (pool_state state pool.now) }
 {
     assert!(rt; pool.holds(slot), "the slot holds its page");
     let mut bytes = [0; 16];
@@ -155,44 +156,224 @@ fn retire(
     dev: u16,
     device: Box<dyn PageDevice + Send>,
 ) -> Result<(), Unretired>
-    requires pool { IsPool (⟦<Pool as Pooled>⟧.state pool.old) }
-    requires ranked { RankedBy (⟦<Pool as Pooled>⟧.state pool.old) history.now }
-    ensures pool { IsPool (⟦<Pool as Pooled>⟧.state pool.new) }
-    ensures ranked { RankedBy (⟦<Pool as Pooled>⟧.state pool.new) history.now }
+    requires pool { IsPool (pool_state state pool.old) }
+    requires ranked { RankedBy (pool_state state pool.old) history.now }
+    ensures pool { IsPool (pool_state state pool.new) }
+    ensures ranked { RankedBy (pool_state state pool.new) history.now }
 {
     pool.retire(dev, device)
 }
 
 fn empty(pool: &mut Pool, history: &History) -> Result<(), PoolFault>
-    requires pool { IsPool (⟦<Pool as Pooled>⟧.state pool.old) }
-    requires ranked { RankedBy (⟦<Pool as Pooled>⟧.state pool.old) history.now }
-    ensures pool { IsPool (⟦<Pool as Pooled>⟧.state pool.new) }
-    ensures ranked { RankedBy (⟦<Pool as Pooled>⟧.state pool.new) history.now }
+    requires pool { IsPool (pool_state state pool.old) }
+    requires ranked { RankedBy (pool_state state pool.old) history.now }
+    ensures pool { IsPool (pool_state state pool.new) }
+    ensures ranked { RankedBy (pool_state state pool.new) history.now }
 {
     pool.empty()
 }
 
 fn write_back_all(pool: &mut Pool, history: &History) -> Result<(), PoolFault>
-    requires pool { IsPool (⟦<Pool as Pooled>⟧.state pool.old) }
-    requires ranked { RankedBy (⟦<Pool as Pooled>⟧.state pool.old) history.now }
-    ensures pool { IsPool (⟦<Pool as Pooled>⟧.state pool.new) }
-    ensures ranked { RankedBy (⟦<Pool as Pooled>⟧.state pool.new) history.now }
+    requires pool { IsPool (pool_state state pool.old) }
+    requires ranked { RankedBy (pool_state state pool.old) history.now }
+    ensures pool { IsPool (pool_state state pool.new) }
+    ensures ranked { RankedBy (pool_state state pool.new) history.now }
 {
     pool.write_back_all()
 }
 
 // The pool, which a fixed page keeps from being closed.
 fn not_closed(rt: &impl Abort, pool: Pool, history: &History) -> Result<Pool, Fail>
-    requires pool { IsPool (⟦<Pool as Pooled>⟧.state pool) }
-    requires ranked { RankedBy (⟦<Pool as Pooled>⟧.state pool) history.now }
-    ensures pool { IfOk result (λ pool. IsPool (⟦<Pool as Pooled>⟧.state pool)) }
-    ensures ranked { IfOk result (λ pool. RankedBy (⟦<Pool as Pooled>⟧.state pool) history.now) }
+    requires pool { IsPool (pool_state state pool) }
+    requires ranked { RankedBy (pool_state state pool) history.now }
+    ensures pool { IfOk result (λ pool. IsPool (pool_state state pool)) }
+    ensures ranked { IfOk result (λ pool. RankedBy (pool_state state pool) history.now) }
 {
     match pool.close() {
         Ok(()) => Err("the pool is not closed".into()),
         Err(unclosed) => {
             assert_eq!(rt; unclosed.fault, PoolFault::Fixed);
             Ok(unclosed.pool)
+        }
+    }
+}
+
+// Pins a page, and takes the fix away again.
+fn visit(rt: &impl Abort, pool: &mut Pool, history: &History, no: u32) -> Result<(), Fail>
+    requires pool { IsPool (pool_state state pool.old) }
+    requires ranked { RankedBy (pool_state state pool.old) history.now }
+    ensures pool { IsPool (pool_state state pool.new) }
+    ensures ranked { RankedBy (pool_state state pool.new) history.now }
+{
+    let held = pinned(pool, history, no)?;
+    unpin(rt, pool, history, held);
+    Ok(())
+}
+
+// Pins a page, which has these bytes, and takes the fix away again.
+fn find(
+    rt: &impl Abort,
+    pool: &mut Pool,
+    history: &History,
+    no: u32,
+    wanted: [u8; 16],
+) -> Result<(), Fail>
+    requires pool { IsPool (pool_state state pool.old) }
+    requires ranked { RankedBy (pool_state state pool.old) history.now }
+    ensures pool { IsPool (pool_state state pool.new) }
+    ensures ranked { RankedBy (pool_state state pool.new) history.now }
+{
+    let held = pinned(pool, history, no)?;
+    assert_eq!(rt; read(rt, pool, held), wanted);
+    unpin(rt, pool, history, held);
+    Ok(())
+}
+
+// What is asked of a pool, and what is to come of it.
+#[derive(Clone, Copy)]
+enum Row<'a> {
+    // A page is given a fix.
+    Pins(u32, Result<Slot, PoolFault>),
+    // A page is brought in, without a fix.
+    Loads(u32, Result<Slot, PoolFault>),
+    // A fix is taken away.
+    Unpins(Slot),
+    // A page is given a fix, which is taken away again.
+    Visits(u32),
+    // A page is filled with AA, which goes to no device yet.
+    Fills(u32),
+    // A page has these bytes.
+    Finds(u32, [u8; 16]),
+    // Bytes are written into the slot's page.
+    Writes(Slot, usize, &'a [u8], Result<(), PoolFault>),
+    // The page that leaves next.
+    Victim(Option<PageId>),
+    // Whether the slot holds its page.
+    Holds(Slot, bool),
+    // Whether the page is in a frame.
+    Resident(u32, bool),
+    // Whether the page is on a device.
+    Has(u32, bool),
+    // So many frames.
+    Frames(usize),
+    // What is dirty is written to its device.
+    WritesBack(Result<(), PoolFault>),
+    // The frames are emptied.
+    Empties(Result<(), PoolFault>),
+}
+
+// Asks what the row says and changes no frame for. `at` is its number.
+fn shows(rt: &impl Abort, pool: &Pool, row: Row<'_>, at: usize)
+    requires { IsPool (pool_state state pool.now) }
+{
+    match row {
+        Row::Victim(wanted) => assert_eq!(rt; pool.victim(), wanted, "row {at}"),
+        Row::Holds(slot, wanted) => assert_eq!(rt; pool.holds(slot), wanted, "row {at}"),
+        Row::Resident(no, wanted) => {
+            assert_eq!(rt; pool.resident(page(no)), wanted, "row {at}");
+        }
+        Row::Has(no, wanted) => assert_eq!(rt; pool.has(page(no)), wanted, "row {at}"),
+        Row::Frames(wanted) => assert_eq!(rt; pool.frames(), wanted, "row {at}"),
+        _ => {}
+    }
+}
+
+// Asks what the row says. `at` is its number.
+fn meets(
+    rt: &impl Abort,
+    pool: &mut Pool,
+    history: &History,
+    row: Row<'_>,
+    at: usize,
+) -> Result<(), Fail>
+    requires pool { IsPool (pool_state state pool.old) }
+    requires ranked { RankedBy (pool_state state pool.old) history.now }
+    ensures pool { IsPool (pool_state state pool.new) }
+    ensures ranked { RankedBy (pool_state state pool.new) history.now }
+{
+    match row {
+        Row::Visits(no) => visit(rt, pool, history, no),
+        Row::Fills(no) => fill(rt, pool, history, no),
+        Row::Finds(no, wanted) => find(rt, pool, history, no, wanted),
+        Row::Pins(no, wanted) => {
+            assert_eq!(rt; pool.pin(page(no), history), wanted, "row {at}");
+            Ok(())
+        }
+        Row::Loads(no, wanted) => {
+            assert_eq!(rt; pool.load(page(no), history), wanted, "row {at}");
+            Ok(())
+        }
+        Row::Unpins(slot) => {
+            unpin(rt, pool, history, slot);
+            Ok(())
+        }
+        Row::Writes(slot, from, bytes, wanted) => {
+            let written = write(rt, pool, history, slot, from, bytes);
+            assert_eq!(rt; written, wanted, "row {at}");
+            Ok(())
+        }
+        Row::WritesBack(wanted) => {
+            assert_eq!(rt; write_back_all(pool, history), wanted, "row {at}");
+            Ok(())
+        }
+        Row::Empties(wanted) => {
+            assert_eq!(rt; empty(pool, history), wanted, "row {at}");
+            Ok(())
+        }
+        shown => {
+            shows(rt, pool, shown, at);
+            Ok(())
+        }
+    }
+}
+
+// Asks a pool what the rows say, in turn.
+fn runs(rt: &impl Abort, pool: &mut Pool, history: &History, rows: &[Row<'_>]) -> Result<(), Fail>
+    requires pool { IsPool (pool_state state pool.old) }
+    requires ranked { RankedBy (pool_state state pool.old) history.now }
+    ensures pool { IsPool (pool_state state pool.new) }
+    ensures ranked { RankedBy (pool_state state pool.new) history.now }
+{
+    for (at, row) in rows.iter().enumerate() {
+        meets(rt, pool, history, *row, at)?;
+    }
+    Ok(())
+}
+
+// A fresh pool of so many frames over the device lives through the rows, by a history that was told nothing, and is closed.
+fn lives(
+    rt: &impl Abort,
+    alloc: Global,
+    frames: usize,
+    device: Box<dyn PageDevice + Send>,
+    rows: &[Row<'_>],
+) -> Result<(), Fail> {
+    let history = History::new(alloc);
+    let mut pool = pool_over(rt, alloc, frames, device)?;
+    runs(rt, &mut pool, &history, rows)?;
+    assert!(rt; pool.close().is_ok());
+    Ok(())
+}
+
+// The device, which the pool refuses to exchange by this fault.
+fn unretired(
+    rt: &impl Abort,
+    pool: &mut Pool,
+    history: &History,
+    dev: u16,
+    device: Box<dyn PageDevice + Send>,
+    fault: PoolFault,
+) -> Result<Box<dyn PageDevice + Send>, Fail>
+    requires pool { IsPool (pool_state state pool.old) }
+    requires ranked { RankedBy (pool_state state pool.old) history.now }
+    ensures pool { IsPool (pool_state state pool.new) }
+    ensures ranked { RankedBy (pool_state state pool.new) history.now }
+{
+    match retire(pool, history, dev, device) {
+        Ok(()) => Err("the device is not exchanged".into()),
+        Err(unretired) => {
+            assert_eq!(rt; unretired.fault, fault);
+            Ok(unretired.device)
         }
     }
 }
@@ -228,39 +409,69 @@ fn pages_are_found_where_they_stand(rt: HostRuntime) -> Result<(), Fail> {
     Ok(())
 }
 
+// Pages with a fix keep their device from being exchanged for another, which is handed back.
+fn kept_by_fixes(
+    rt: &impl Abort,
+    pool: &mut Pool,
+    history: &History,
+    device: Box<dyn PageDevice + Send>,
+) -> Result<Box<dyn PageDevice + Send>, Fail>
+    requires pool { IsPool (pool_state state pool.old) }
+    requires ranked { RankedBy (pool_state state pool.old) history.now }
+    ensures pool { IsPool (pool_state state pool.new) }
+    ensures ranked { RankedBy (pool_state state pool.new) history.now }
+{
+    let rows = [
+        Row::Pins(3, Ok(slot(0, 1))),
+        Row::Pins(4, Ok(slot(1, 1))),
+        Row::Unpins(slot(1, 1)),
+        Row::Victim(Some(page(4))),
+        Row::Loads(5, Ok(slot(1, 2))),
+        Row::Holds(slot(1, 2), false),
+        Row::Resident(4, false),
+        Row::Pins(5, Ok(slot(1, 2))),
+        Row::Writes(slot(1, 2), 15, &[1, 2], Err(PoolFault::OutOfPage)),
+    ];
+    runs(rt, pool, history, &rows)?;
+    let device = unretired(rt, pool, history, 1, device, PoolFault::NoDevice)?;
+    unretired(rt, pool, history, 0, device, PoolFault::Fixed)
+}
+
+// Without a fix the device is exchanged for one of four pages.
+fn let_go_unfixed(
+    rt: &impl Abort,
+    pool: &mut Pool,
+    history: &History,
+    device: Box<dyn PageDevice + Send>,
+) -> Result<(), Fail>
+    requires pool { IsPool (pool_state state pool.old) }
+    requires ranked { RankedBy (pool_state state pool.old) history.now }
+    ensures pool { IsPool (pool_state state pool.new) }
+    ensures ranked { RankedBy (pool_state state pool.new) history.now }
+{
+    let rows = [
+        Row::Empties(Err(PoolFault::Fixed)),
+        Row::Unpins(slot(0, 1)),
+        Row::Unpins(slot(1, 2)),
+    ];
+    runs(rt, pool, history, &rows)?;
+    assert!(rt; retire(pool, history, 0, device).is_ok());
+    let rows = [
+        Row::Has(5, false),
+        Row::Pins(5, Err(PoolFault::NoPage)),
+        Row::Frames(2),
+    ];
+    runs(rt, pool, history, &rows)
+}
+
 #[test]
 fn two_frames_over_eight_pages(rt: HostRuntime) -> Result<(), Fail> {
     let alloc = rt.alloc();
     let history = History::new(alloc);
     let mut pool = pool_over(&rt, alloc, 2, memory(alloc, 8)?)?;
-    assert_eq!(rt; pool.pin(page(3), &history), Ok(slot(0, 1)));
-    assert_eq!(rt; pool.pin(page(4), &history), Ok(slot(1, 1)));
-    unpin(&rt, &mut pool, &history, slot(1, 1));
-    assert_eq!(rt; pool.victim(), Some(page(4)));
-    assert_eq!(rt; pool.load(page(5), &history), Ok(slot(1, 2)));
-    assert_eq!(rt;
-        (pool.holds(slot(1, 2)), pool.resident(page(4))),
-        (false, false)
-    );
-    assert_eq!(rt; pool.pin(page(5), &history), Ok(slot(1, 2)));
-    let written = write(&rt, &mut pool, &history, slot(1, 2), 15, &[1, 2]);
-    assert_eq!(rt; written, Err(PoolFault::OutOfPage));
-    let unretired = retire(&mut pool, &history, 1, memory(alloc, 4)?)
-        .err()
-        .ok_or("retired")?;
-    assert_eq!(rt; unretired.fault, PoolFault::NoDevice);
-    let unretired = retire(&mut pool, &history, 0, unretired.device)
-        .err()
-        .ok_or("retired")?;
-    assert_eq!(rt; unretired.fault, PoolFault::Fixed);
+    let device = kept_by_fixes(&rt, &mut pool, &history, memory(alloc, 4)?)?;
     let mut pool = not_closed(&rt, pool, &history)?;
-    assert_eq!(rt; empty(&mut pool, &history), Err(PoolFault::Fixed));
-    unpin(&rt, &mut pool, &history, slot(0, 1));
-    unpin(&rt, &mut pool, &history, slot(1, 2));
-    assert!(rt; retire(&mut pool, &history, 0, unretired.device).is_ok());
-    assert!(rt; !pool.has(page(5)));
-    assert_eq!(rt; pool.pin(page(5), &history), Err(PoolFault::NoPage));
-    assert_eq!(rt; pool.frames(), 2);
+    let_go_unfixed(&rt, &mut pool, &history, device)?;
     assert!(rt; pool.close().is_ok());
     Ok(())
 }
@@ -284,21 +495,34 @@ fn refused_pools_hand_their_devices_back(rt: HostRuntime) -> Result<(), Fail> {
 
 #[test]
 fn a_dirty_victim_stays_where_its_write_fails(rt: HostRuntime) -> Result<(), Fail> {
-    let alloc = rt.alloc();
-    let history = History::new(alloc);
-    let mut pool = pool_over(&rt, alloc, 1, flaky(alloc, 3)?)?;
-    fill(&rt, &mut pool, &history, 1)?;
-    assert_eq!(rt; pool.pin(page(2), &history), Err(PoolFault::WriteBack));
-    assert_eq!(rt;
-        (pool.resident(page(1)), pool.resident(page(2))),
-        (true, false)
-    );
-    let second = pinned(&mut pool, &history, 2)?;
-    unpin(&rt, &mut pool, &history, second);
-    let third = pinned(&mut pool, &history, 1)?;
-    assert_eq!(rt; read(&rt, &pool, third), [0xAA; 16]);
-    unpin(&rt, &mut pool, &history, third);
-    assert!(rt; pool.close().is_ok());
+    let rows = [
+        Row::Fills(1),
+        Row::Pins(2, Err(PoolFault::WriteBack)),
+        Row::Resident(1, true),
+        Row::Resident(2, false),
+        Row::Visits(2),
+        Row::Finds(1, [0xAA; 16]),
+    ];
+    lives(&rt, rt.alloc(), 1, flaky(rt.alloc(), 3)?, &rows)
+}
+
+fn stays_unflushed(
+    rt: &impl Abort,
+    pool: &mut Pool,
+    history: &History,
+    device: Box<dyn PageDevice + Send>,
+) -> Result<(), Fail>
+    requires pool { IsPool (pool_state state pool.old) }
+    requires ranked { RankedBy (pool_state state pool.old) history.now }
+    ensures pool { IsPool (pool_state state pool.new) }
+    ensures ranked { RankedBy (pool_state state pool.new) history.now }
+{
+    fill(rt, pool, history, 1)?;
+    let device = unretired(rt, pool, history, 0, device, PoolFault::Fault)?;
+    let rows = [Row::Resident(1, true), Row::Finds(1, [0xAA; 16])];
+    runs(rt, pool, history, &rows)?;
+    assert!(rt; retire(pool, history, 0, device).is_ok());
+    assert!(rt; !pool.resident(page(1)));
     Ok(())
 }
 
@@ -307,19 +531,7 @@ fn a_device_stays_where_its_flush_fails(rt: HostRuntime) -> Result<(), Fail> {
     let alloc = rt.alloc();
     let history = History::new(alloc);
     let mut pool = pool_over(&rt, alloc, 1, flaky(alloc, 3)?)?;
-    fill(&rt, &mut pool, &history, 1)?;
-    let unretired = retire(&mut pool, &history, 0, memory(alloc, 8)?)
-        .err()
-        .ok_or("retired")?;
-    assert_eq!(rt;
-        (unretired.fault, pool.resident(page(1))),
-        (PoolFault::Fault, true)
-    );
-    let again = pinned(&mut pool, &history, 1)?;
-    assert_eq!(rt; read(&rt, &pool, again), [0xAA; 16]);
-    unpin(&rt, &mut pool, &history, again);
-    assert!(rt; retire(&mut pool, &history, 0, unretired.device).is_ok());
-    assert!(rt; !pool.resident(page(1)));
+    stays_unflushed(&rt, &mut pool, &history, memory(alloc, 8)?)?;
     assert!(rt; pool.close().is_ok());
     Ok(())
 }
@@ -363,8 +575,8 @@ fn noted_pool(
     alloc: Global,
     history: &History,
 ) -> Result<(Pool, Slot, Arc<Note, Global>), Fail>
-    ensures pool { IfOk result (λ made. IsPool (⟦<Pool as Pooled>⟧.state made.0)) }
-    ensures ranked { IfOk result (λ made. RankedBy (⟦<Pool as Pooled>⟧.state made.0) history.now) }
+    ensures pool { IfOk result (λ made. IsPool (pool_state state made.0)) }
+    ensures ranked { IfOk result (λ made. RankedBy (pool_state state made.0) history.now) }
 {
     let (device, note) = witness(alloc)?;
     let mut pool = pool_over(rt, alloc, 2, device)?;
@@ -374,21 +586,33 @@ fn noted_pool(
     Ok((pool, held, note))
 }
 
+fn exchanged(
+    rt: &impl Abort,
+    pool: &mut Pool,
+    history: &History,
+    held: Slot,
+    device: Box<dyn PageDevice + Send>,
+    note: &Note,
+) -> Result<(), Fail>
+    requires pool { IsPool (pool_state state pool.old) }
+    requires ranked { RankedBy (pool_state state pool.old) history.now }
+    ensures pool { IsPool (pool_state state pool.new) }
+    ensures ranked { RankedBy (pool_state state pool.new) history.now }
+{
+    let device = unretired(rt, pool, history, 0, device, PoolFault::Fixed)?;
+    assert_eq!(rt; note.found(), Found::NoDrop);
+    unpin(rt, pool, history, held);
+    assert!(rt; retire(pool, history, 0, device).is_ok());
+    assert!(rt; is_kept(note));
+    Ok(())
+}
+
 #[test]
 fn a_retired_device_has_what_was_written(rt: HostRuntime) -> Result<(), Fail> {
     let alloc = rt.alloc();
     let history = History::new(alloc);
     let (mut pool, held, note) = noted_pool(&rt, alloc, &history)?;
-    let unretired = retire(&mut pool, &history, 0, memory(alloc, 8)?)
-        .err()
-        .ok_or("retired")?;
-    assert_eq!(rt;
-        (unretired.fault, note.found()),
-        (PoolFault::Fixed, Found::NoDrop)
-    );
-    unpin(&rt, &mut pool, &history, held);
-    assert!(rt; retire(&mut pool, &history, 0, unretired.device).is_ok());
-    assert!(rt; is_kept(&note));
+    exchanged(&rt, &mut pool, &history, held, memory(alloc, 8)?, &note)?;
     assert!(rt; pool.close().is_ok());
     Ok(())
 }
@@ -408,23 +632,21 @@ fn a_closed_pools_device_has_what_was_written(rt: HostRuntime) -> Result<(), Fai
 
 #[test]
 fn an_emptied_pool_keeps_its_pages(rt: HostRuntime) -> Result<(), Fail> {
-    let alloc = rt.alloc();
-    let history = History::new(alloc);
-    let mut pool = pool_over(&rt, alloc, 2, memory(alloc, 8)?)?;
-    let held = pinned(&mut pool, &history, 6)?;
-    let written = write(&rt, &mut pool, &history, held, 14, &[7, 8]);
-    assert_eq!(rt; written, Ok(()));
-    unpin(&rt, &mut pool, &history, held);
-    assert_eq!(rt; write_back_all(&mut pool, &history), Ok(()));
-    assert!(rt; pool.resident(page(6)));
-    assert_eq!(rt; empty(&mut pool, &history), Ok(()));
-    assert_eq!(rt; (pool.resident(page(6)), pool.victim()), (false, None));
-    assert_eq!(rt; pool.pin(page(6), &history), Ok(slot(0, 2)));
-    let bytes = read(&rt, &pool, slot(0, 2));
-    assert_eq!(rt; bytes, [0, 0, 0, 0, 0, 0, 0, 0, 0, 0, 0, 0, 0, 0, 7, 8]);
-    unpin(&rt, &mut pool, &history, slot(0, 2));
-    assert!(rt; pool.close().is_ok());
-    Ok(())
+    let bytes = [0, 0, 0, 0, 0, 0, 0, 0, 0, 0, 0, 0, 0, 0, 7, 8];
+    let rows = [
+        Row::Pins(6, Ok(slot(0, 1))),
+        Row::Writes(slot(0, 1), 14, &[7, 8], Ok(())),
+        Row::Unpins(slot(0, 1)),
+        Row::WritesBack(Ok(())),
+        Row::Resident(6, true),
+        Row::Empties(Ok(())),
+        Row::Resident(6, false),
+        Row::Victim(None),
+        Row::Pins(6, Ok(slot(0, 2))),
+        Row::Finds(6, bytes),
+        Row::Unpins(slot(0, 2)),
+    ];
+    lives(&rt, rt.alloc(), 2, memory(rt.alloc(), 8)?, &rows)
 }
 
 // References to pages at times, all seen at one replica.
@@ -445,10 +667,10 @@ fn history_of(alloc: Global, seen: &[(u32, u64)]) -> Result<History, Fail> {
 
 // Brings a page in without a fix, which no fault hinders.
 fn load(pool: &mut Pool, history: &History, no: u32) -> Result<(), Fail>
-    requires pool { IsPool (⟦<Pool as Pooled>⟧.state pool.old) }
-    requires ranked { RankedBy (⟦<Pool as Pooled>⟧.state pool.old) history.now }
-    ensures pool { IsPool (⟦<Pool as Pooled>⟧.state pool.new) }
-    ensures ranked { RankedBy (⟦<Pool as Pooled>⟧.state pool.new) history.now }
+    requires pool { IsPool (pool_state state pool.old) }
+    requires ranked { RankedBy (pool_state state pool.old) history.now }
+    ensures pool { IsPool (pool_state state pool.new) }
+    ensures ranked { RankedBy (pool_state state pool.new) history.now }
 {
     match pool.load(page(no), history) {
         Ok(_) => Ok(()),
@@ -456,16 +678,27 @@ fn load(pool: &mut Pool, history: &History, no: u32) -> Result<(), Fail>
     }
 }
 
-// Of two frames with the pages 1 and 2, the page that leaves for a third one, by what was seen.
+// The page that leaves for page 3, of two frames with the pages 1 and 2.
+fn leaving_of(rt: &impl Abort, pool: &mut Pool, history: &History) -> Result<Option<PageId>, Fail>
+    requires pool { IsPool (pool_state state pool.old) }
+    requires ranked { RankedBy (pool_state state pool.old) history.now }
+    ensures pool { IsPool (pool_state state pool.new) }
+    ensures ranked { RankedBy (pool_state state pool.new) history.now }
+{
+    load(pool, history, 1)?;
+    load(pool, history, 2)?;
+    let victim = pool.victim();
+    load(pool, history, 3)?;
+    assert!(rt; pool.resident(page(1)) != (victim == Some(page(1))));
+    assert!(rt; pool.resident(page(2)) != (victim == Some(page(2))));
+    Ok(victim)
+}
+
+// The page that leaves so, by what was seen.
 fn leaving(rt: &impl Abort, alloc: Global, seen: &[(u32, u64)]) -> Result<Option<PageId>, Fail> {
     let history = history_of(alloc, seen)?;
     let mut pool = pool_over(rt, alloc, 2, memory(alloc, 8)?)?;
-    load(&mut pool, &history, 1)?;
-    load(&mut pool, &history, 2)?;
-    let victim = pool.victim();
-    load(&mut pool, &history, 3)?;
-    assert!(rt; pool.resident(page(1)) != (victim == Some(page(1))));
-    assert!(rt; pool.resident(page(2)) != (victim == Some(page(2))));
+    let victim = leaving_of(rt, &mut pool, &history)?;
     assert!(rt; pool.close().is_ok());
     Ok(victim)
 }
@@ -484,8 +717,8 @@ fn the_history_says_which_page_leaves(rt: HostRuntime) -> Result<(), Fail> {
 }
 
 fn refresh(pool: &mut Pool, history: &History, no: u32)
-    requires { IsPool (⟦<Pool as Pooled>⟧.state pool.old) }
-    ensures { IsPool (⟦<Pool as Pooled>⟧.state pool.new) }
+    requires { IsPool (pool_state state pool.old) }
+    ensures { IsPool (pool_state state pool.new) }
 {
     pool.refresh(history, &[page(no)]);
 }
@@ -494,11 +727,14 @@ fn refresh(pool: &mut Pool, history: &History, no: u32)
 fn a_refreshed_page_has_a_new_rank(rt: HostRuntime) -> Result<(), Fail> {
     let alloc = rt.alloc();
     let history = History::new(alloc);
-    let mut pool = pool_over(&rt, alloc, 2, memory(alloc, 8)?)?;
-    load(&mut pool, &history, 1)?;
-    load(&mut pool, &history, 2)?;
-    assert_eq!(rt; pool.victim(), Some(page(1)));
     let later = history_of(alloc, &[(1, 5)])?;
+    let mut pool = pool_over(&rt, alloc, 2, memory(alloc, 8)?)?;
+    let rows = [
+        Row::Loads(1, Ok(slot(0, 1))),
+        Row::Loads(2, Ok(slot(1, 1))),
+        Row::Victim(Some(page(1))),
+    ];
+    runs(&rt, &mut pool, &history, &rows)?;
     refresh(&mut pool, &later, 1);
     assert_eq!(rt; pool.victim(), Some(page(2)));
     assert!(rt; pool.close().is_ok());
@@ -507,15 +743,14 @@ fn a_refreshed_page_has_a_new_rank(rt: HostRuntime) -> Result<(), Fail> {
 
 #[test]
 fn a_page_stays_out_where_no_frame_or_no_byte_is_to_be_had(rt: HostRuntime) -> Result<(), Fail> {
-    let alloc = rt.alloc();
-    let history = History::new(alloc);
-    let mut pool = pool_over(&rt, alloc, 1, flaky(alloc, 1)?)?;
-    assert_eq!(rt; pool.pin(page(1), &history), Err(PoolFault::ReadFault));
-    assert!(rt; !pool.resident(page(1)));
-    assert_eq!(rt; pool.pin(page(1), &history), Ok(slot(0, 1)));
-    assert_eq!(rt; pool.pin(page(2), &history), Err(PoolFault::AllFixed));
-    assert_eq!(rt; (pool.resident(page(1)), pool.victim()), (true, None));
-    unpin(&rt, &mut pool, &history, slot(0, 1));
-    assert!(rt; pool.close().is_ok());
-    Ok(())
+    let rows = [
+        Row::Pins(1, Err(PoolFault::ReadFault)),
+        Row::Resident(1, false),
+        Row::Pins(1, Ok(slot(0, 1))),
+        Row::Pins(2, Err(PoolFault::AllFixed)),
+        Row::Resident(1, true),
+        Row::Victim(None),
+        Row::Unpins(slot(0, 1)),
+    ];
+    lives(&rt, rt.alloc(), 1, flaky(rt.alloc(), 1)?, &rows)
 }

@@ -40,15 +40,13 @@ fn twice(rt: &impl Abort, last: Stamp, prev: Stamp) -> PageHist {
 }
 
 fn are_equal(a: &History, b: &History) -> bool {
-    if a.len() != b.len() {
-        return false;
-    }
-    for i in 0..a.len() {
-        if a.at(i) != b.at(i) {
+    let mut there = b.iter();
+    for entry in a.iter() {
+        if there.next() != Some(entry) {
             return false;
         }
     }
-    true
+    there.next().is_none()
 }
 
 fn copy_twice(history: &History) -> Result<History, AllocError> {
@@ -285,5 +283,27 @@ fn joins_what_is_kept_of_a_page(rt: HostRuntime) -> Result<(), Fail> {
     assert_eq!(rt; (two.last(), two.prev()), (six, five));
     let joined = join_hist(PageHist::Twice(two), PageHist::Once(seven));
     assert_eq!(rt; joined, PageHist::Twice(Two::new(seven, six)));
+    Ok(())
+}
+
+#[test]
+fn a_refused_batch_leaves_the_hundred_pages(rt: HostRuntime) -> Result<(), Fail> {
+    let mut first = [seen(page(0, 0), 10, 1)?; 100];
+    let mut batch = [seen(page(0, 0), 20, 1)?; 120];
+    for no in 0..100 {
+        first[no].page.no = 2 * no as u32;
+        batch[no].page.no = 2 * no as u32 + 1;
+    }
+    for no in 0..20 {
+        batch[100 + no].page.no = 10 * no as u32;
+    }
+    let mut here = History::new(rt.alloc());
+    absorb_twice(&rt, &mut here, &first)?;
+    absorb_twice(&rt, &mut here, &batch)?;
+    assert_eq!(rt; here.len(), 200);
+    assert_eq!(rt; here.get(page(0, 2)), Some(once(10, 1)?));
+    assert_eq!(rt; here.get(page(0, 3)), Some(once(20, 1)?));
+    let both = twice(&rt, stamp(20, 1)?, stamp(10, 1)?);
+    assert_eq!(rt; here.get(page(0, 10)), Some(both));
     Ok(())
 }

@@ -1,0 +1,50 @@
+-- Worked rows: a round between two replicas that know one page each, computed from the mask on.
+use Rattle.std.proofs.Common.{◌≡◌, [], ◌∷◌, ◌++◌, List, refl}
+use Rattle.warm_history.specs.declared.hist.Entry.{Entry}
+use Rattle.warm_history.specs.declared.hist.PageHist.TheVariants.{Once}
+use Rattle.warm_history.specs.Histories.{HistoryView, holding, history, join}
+use Rattle.warm_frames.specs.declared.frame.Frame.{Frame}
+use Rattle.warm_frames.specs.declared.frame.Frame.TheVariants.{Entries, Want}
+use Rattle.warm_gossip.specs.Answers.{buckets_in, wanted_frames}
+use Rattle.warm_gossip.specs.Round.{Hears}
+
+-- the page 0:1, referenced at 10 by replica 1, and the page 0:2, referenced at 11 by replica 2
+abbrev one : Entry
+one = record { page = record { dev = 0; no = 1 }; hist = Once (record { time = 10; replica = 1 }) }
+
+abbrev two : Entry
+two = record { page = record { dev = 0; no = 2 }; hist = Once (record { time = 11; replica = 2 }) }
+
+abbrev primary : HistoryView
+primary = holding (one ∷ [])
+
+abbrev standby : HistoryView
+standby = holding (two ∷ [])
+
+abbrev both : HistoryView
+both = holding (one ∷ two ∷ [])
+
+-- what replica 2 answers to sums from which its own differ in the buckets 1 and 2, which is the mask 6
+abbrev asked : List Frame
+asked = Entries 2 (two ∷ []) ∷ Want 2 6 ∷ []
+
+asked_is : wanted_frames 2 standby 6 ++ Want 2 6 ∷ [] ≡ asked
+unfolding buckets_in
+asked_is = refl
+
+-- what replica 1 answers to that: both pages, since it knows both by then
+abbrev given : List Frame
+given = Entries 1 (one ∷ []) ∷ Entries 1 (two ∷ []) ∷ []
+
+heard : Hears 1 primary asked given both
+unfolding history buckets_in
+heard = ([], given, refl, (given, [], refl, (refl, refl), refl), refl)
+
+-- and replica 2 has nothing to say to these
+back : Hears 2 standby given [] both
+unfolding history
+back = ([], [], refl, ([], [], refl, (refl, refl), refl), refl)
+
+join_is : join primary standby ≡ both
+unfolding history
+join_is = refl

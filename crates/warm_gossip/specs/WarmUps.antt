@@ -1,0 +1,37 @@
+-- Warming up: what as many steps as the pool has frames bring in.
+use Rattle.std.specs.Prelude.{◌≡◌, ℕ, zero, suc, length, Option, Some, Contains}
+use Rattle.warm_stamps.specs.declared.PageId.{PageId}
+use Rattle.warm_history.specs.ReferenceSets.{ReferenceSet}
+use Rattle.warm_history.specs.Histories.{StandsFor}
+use Rattle.warm_rank.specs.Ranking.{warm}
+use Rattle.warm_pool.specs.View.{PoolView, frame_at, HasPage, IsResident, IsUnfixed}
+use Rattle.warm_gossip.specs.declared.call.Call.TheVariants.{WarmStep}
+use Rattle.warm_gossip.specs.declared.call.Reply.{Reply}
+use Rattle.warm_gossip.specs.declared.call.Reply.TheVariants.{Loaded}
+use Rattle.warm_gossip.specs.State.{NodeView}
+use Rattle.warm_gossip.specs.Step.{Step}
+use Rattle.warm_gossip.specs.Victims.{Leaves}
+
+-- no page is in two frames
+abbrev pub PagesDiffer : PoolView → Type 0
+PagesDiffer v = (i j : ℕ) (p : PageId) → (frame_at v i).page ≡ Some p → (frame_at v j).page ≡ Some p → i ≡ j
+
+-- so many warm-up steps, one after the other, none refused
+abbrev pub WarmSteps : ℕ → NodeView → NodeView → Type 0
+WarmSteps zero old new = new ≡ old
+WarmSteps (suc n) old new = (loaded : Option PageId) × (next : NodeView) × Step old WarmStep (Loaded loaded) next × WarmSteps n next new
+
+-- the page is one of the hottest over S, of as many as there are frames, and a device has it
+pub record IsWarm (S : ReferenceSet) (v : PoolView) (p : PageId) : Type 0 where
+  pub listed : Contains (warm S (length v.frames)) p
+  pub had : HasPage v p
+
+-- while no page is fixed, none of the hottest leaves at a warm-up step, whatever its reply
+abbrev pub WarmStepKeepsHottest : Type 0
+WarmStepKeepsHottest = (S : ReferenceSet) (old new : NodeView) (reply : Reply) → StandsFor old.history S → PagesDiffer old.pool → IsUnfixed old.pool
+    → Step old WarmStep reply new → (p : PageId) → Contains (warm S (length old.pool.frames)) p → Leaves old.pool new.pool p → ⊥
+
+-- No page is fixed: after as many steps as there are frames, all of the hottest pages that the devices have are resident.
+abbrev pub WarmUpLoads : Type 0
+WarmUpLoads = (S : ReferenceSet) (old new : NodeView) → StandsFor old.history S → PagesDiffer old.pool → IsUnfixed old.pool
+    → WarmSteps (length old.pool.frames) old new → (p : PageId) → IsWarm S old.pool p → IsResident new.pool p

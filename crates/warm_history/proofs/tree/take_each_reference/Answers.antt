@@ -1,0 +1,20 @@
+use Rattle.std.proofs.Common.{◌+◌, ◌∷◌, [], List, drop, ◌∙◌}
+use Rattle.warm_stamps.specs.declared.Reference.{Reference}
+use Rattle.warm_history.specs.Tree.{kept}
+use Rattle.warm_history.proofs.TreeLemmas.{goes_on, all_taken, left_more, none_left}
+use Rattle.warm_history.proofs.tree.take_each_reference.Goals as goal
+
+pub loop-reference-preserved : goal.loop-reference-preserved
+loop-reference-preserved c =
+    let inv : _ = c.loop-reference.invariant in
+    let i : _ = c.loop-reference.reference-index in
+    let batch : List Reference = c.args.batch.now in
+    let r : Reference = c.reference-item.result in
+    record {
+      whole = c.take.ensures.whole;
+      goes_on = goes_on _ (kept c.take.new.pairs.entries) (r ∷ []) (drop (i + 1) batch) (drop i batch) _ c.in_ok-take.ensures.exact (left_more batch i r c.loop-reference-test.true c.reference-item.is) inv.goes_on;
+      undo = c.take.ensures.undo ∙ inv.undo;
+    }
+
+pub returns-clause-exact : goal.returns-clause-exact
+returns-clause-exact c = all_taken _ _ (drop c.loop-reference.reference-index c.args.batch.now) c.loop-reference.invariant.whole (none_left c.args.batch.now c.loop-reference.reference-index c.loop-reference-test.false) c.loop-reference.invariant.goes_on
