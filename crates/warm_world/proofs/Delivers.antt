@@ -8,9 +8,12 @@ use Rattle.warm_frames.specs.declared.frame.Frame.TheVariants.{Entries, Digest, 
 use Rattle.warm_gossip.specs.Answers.{IsAnswer, taught}
 use Rattle.warm_gossip.specs.State.{NodeView}
 use Rattle.warm_world.specs.declared.event.Event.TheVariants.{Deliver}
-use Rattle.warm_world.specs.declared.event.Answer.TheVariants.{Took}
+use Rattle.warm_world.specs.declared.event.Answer.{Answer}
+use Rattle.warm_world.specs.declared.event.Answer.TheVariants.{Done, Shown, FrameNo, Took, Pinned, Bytes, Page, Pages, Loaded, Refused}
+use Rattle.warm_world.specs.declared.event.WorldFault.TheVariants.{Node, NoSuchReplica, NoSuchWorker, NoSuchFrame}
+use Rattle.warm_gossip.specs.declared.fault.NodeFault.TheVariants.{Memory, Pool, StaleSlot}
 use Rattle.warm_world.specs.Lists.{Pairwise, place}
-use Rattle.warm_world.specs.Replicas.{Encodes, KeepsAll}
+use Rattle.warm_world.specs.Replicas.{Encodes, KeepsAll, Takes}
 use Rattle.warm_world.specs.Seen.{ReplicaSeen, WorldSeen}
 use Rattle.warm_world.specs.States.{ModelState, ReplicaState, FrameRecord, add_records, reach_of, record_at, replica, set_replica}
 use Rattle.warm_world.specs.Answered.{heard}
@@ -19,7 +22,7 @@ use Rattle.warm_world.specs.Stands.{ReplicaStands, SpellsRecord, StandsFor, Step
 use Rattle.warm_world.proofs.Frames.{frames_join, spells_kept}
 use Rattle.warm_world.proofs.Histories.{answer_records, taught_heard}
 use Rattle.warm_world.proofs.Pairs.{Pairwise-of}
-use Rattle.warm_world.proofs.Worlds.{named_too, place_in, replica_changes, stands_at, world}
+use Rattle.warm_world.proofs.Worlds.{named_too, place_in, replica_changes, replica_stays, stands_at, world}
 
 -- entries are answered by nothing, and of a frame of anything else nothing is learnt
 pub unanswered_or_untaught : (id : ℕ) (h : HistoryView) (frame : Frame) (answers : List Frame) → IsAnswer id h frame answers → (answers ≡ [] → ⊥) → taught h frame ≡ h
@@ -71,3 +74,33 @@ module _ {A : Type 0} (f : A → ReplicaSeen) (xs : List A) (frames : List (List
         });
         stands = rw keeps.2 (frames_join (world f xs frames (set xs p y)) (set_replica m p r) keeps.0 rs.added changed spell);
       }
+
+  -- what a frame was answered by is kept, or refused; a frame that is answered has taught nothing
+  pub taken : (m : ModelState) (j k : ℕ) (x y : A) (frame : Frame) (answers : List Frame) (n : NodeView) (frames' : List (List ℕ)) (answer : Answer)
+      → StandsFor (world f xs frames xs) m → IsNamed (seen_shape (world f xs frames xs)) (Deliver j k) → x ≡ get_or xs (place j) x
+      → frame ≡ frame_kept (record_at m (place k)) → IsAnswer (f x).node.id (f x).node.history frame answers → n ≡ record (f x).node { history = taught (f x).node.history frame }
+      → f y ≡ record (f x) { node = n } → Takes frames answers answer frames'
+      → Stepped m (Deliver j k) answer (record (world f xs frames (set xs (place j) y)) { frames = frames' })
+  taken m j k x y frame answers n frames' (Took count first) st named is spelled answered learns becomes takes =
+      delivered m j k count first x y frame answers n frames' st named is spelled answered learns becomes takes.0 takes.1 takes.2
+  taken m j k x y frame answers n frames' (Refused (Node Memory)) st named is spelled answered learns becomes takes =
+      let same : f y ≡ f x = becomes ∙ ap (λ (v : NodeView). let r : ReplicaSeen = record (f x) { node = v } in r)
+          (learns ∙ ap (λ (h : HistoryView). let v : NodeView = record (f x).node { history = h } in v) (unanswered_or_untaught (f x).node.id (f x).node.history frame answers answered takes.0)) in
+      record {
+        new = m;
+        next = (named_too (world f xs frames xs) m (Deliver j k) st named, refl);
+        stands = rw takes.1 (replica_stays f xs frames m (place j) x y st (place_in f xs frames (Deliver j k) named) is same);
+      }
+  taken m j k x y frame answers n frames' (Refused (Node (Pool why))) st named is spelled answered learns becomes takes = absurd takes
+  taken m j k x y frame answers n frames' (Refused (Node StaleSlot)) st named is spelled answered learns becomes takes = absurd takes
+  taken m j k x y frame answers n frames' (Refused NoSuchReplica) st named is spelled answered learns becomes takes = absurd takes
+  taken m j k x y frame answers n frames' (Refused NoSuchWorker) st named is spelled answered learns becomes takes = absurd takes
+  taken m j k x y frame answers n frames' (Refused NoSuchFrame) st named is spelled answered learns becomes takes = absurd takes
+  taken m j k x y frame answers n frames' (Done) st named is spelled answered learns becomes takes = absurd takes
+  taken m j k x y frame answers n frames' (Shown h) st named is spelled answered learns becomes takes = absurd takes
+  taken m j k x y frame answers n frames' (FrameNo i) st named is spelled answered learns becomes takes = absurd takes
+  taken m j k x y frame answers n frames' (Pinned slot) st named is spelled answered learns becomes takes = absurd takes
+  taken m j k x y frame answers n frames' (Bytes bs) st named is spelled answered learns becomes takes = absurd takes
+  taken m j k x y frame answers n frames' (Page p) st named is spelled answered learns becomes takes = absurd takes
+  taken m j k x y frame answers n frames' (Pages ps) st named is spelled answered learns becomes takes = absurd takes
+  taken m j k x y frame answers n frames' (Loaded p) st named is spelled answered learns becomes takes = absurd takes

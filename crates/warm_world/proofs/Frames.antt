@@ -1,6 +1,6 @@
 -- Frames that are kept, and the records that they spell.
-use Rattle.std.proofs.Common.{◌≡◌, ℕ, ◌+◌, ◌<◌, ◌++◌, List, [], ◌∷◌, length, map, take, get_or, refl, sym, ◌∙◌, ap, subst, arith}
-use Rattle.std.proofs.lemmas.List.{length-append, map-append, take_more, length-map}
+use Rattle.std.proofs.Common.{◌≡◌, ℕ, ◌+◌, ◌<◌, ◌-◌, ◌++◌, List, [], ◌∷◌, length, map, take, get_or, refl, sym, ◌∙◌, ap, subst, arith}
+use Rattle.std.proofs.lemmas.List.{get_or-map, length-append, map-append, take_more, length-map}
 use Rattle.std.specs.Global.{Vec}
 use Rattle.warm_frames.specs.declared.frame.Frame.{Frame}
 use Rattle.warm_frames.specs.Spelling.{spelling, Spells}
@@ -9,7 +9,7 @@ use Rattle.warm_world.specs.declared.event.Event.{Event}
 use Rattle.warm_world.specs.declared.event.Answer.{Answer}
 use Rattle.warm_world.specs.declared.event.Answer.TheVariants.{Done, Shown, FrameNo, Took, Pinned, Bytes, Page, Pages, Loaded, Refused}
 use Rattle.warm_world.specs.declared.event.WorldFault.TheVariants.{Node, NoSuchReplica, NoSuchWorker, NoSuchFrame}
-use Rattle.warm_world.specs.Lists.{Pairwise}
+use Rattle.warm_world.specs.Lists.{IsNumber, Pairwise, place}
 use Rattle.warm_world.specs.Replicas.{Encodes, Keeps}
 use Rattle.warm_world.specs.Seen.{WorldSeen}
 use Rattle.warm_world.specs.States.{ModelState, FrameRecord, add_records, record_at, References}
@@ -37,6 +37,15 @@ frames_join w m added rs st spell = record { replicas = st.replicas; frames = Pa
 -- the frame at a place spells the record there
 pub frame_at : (w : WorldSeen) (m : ModelState) (k : ℕ) (bytes : List ℕ) → StandsFor w m → k < length w.frames → bytes ≡ get_or w.frames k bytes → SpellsRecord bytes (record_at m k)
 frame_at w m k bytes st lt is = subst (λ b. SpellsRecord b (record_at m k)) (sym is) (st.frames.each k bytes (References 0 []) lt)
+
+-- the same of frames that are kept as vectors
+pub kept_at : (w : WorldSeen) (m : ModelState) (k : ℕ) (vs : List (Vec ℕ)) (v : Vec ℕ) → StandsFor w m → w.frames ≡ map (λ b. b.items) vs → IsNumber k (length w.frames) → v ≡ get_or vs (place k) v → SpellsRecord v.items (record_at m (place k))
+kept_at w m k vs v st are number is =
+    let lt : place k < length w.frames = omega (arith, number.from_one, number.in_range) in
+    let lt_vs : place k < length vs = omega (arith, lt, ap length are, length-map vs (λ (b : Vec ℕ). b.items)) in
+    let at : v.items ≡ get_or w.frames (place k) v.items =
+    sym (ap (λ fs. get_or fs (place k) v.items) are ∙ get_or-map (λ (b : Vec ℕ). b.items) vs (place k) v v.items lt_vs ∙ ap (λ (b : Vec ℕ). b.items) (sym is)) in
+    frame_at w m (place k) v.items st lt at
 
 one_spelled : (bytes : List ℕ) (kept : FrameRecord) → SpellsRecord bytes kept → Pairwise (λ _ bytes kept. SpellsRecord bytes kept) (bytes ∷ []) (kept ∷ [])
 one_spelled bytes kept spells = Pairwise-push (λ _ b r. SpellsRecord b r) [] [] bytes kept (Pairwise-nil (λ _ b r. SpellsRecord b r)) spells

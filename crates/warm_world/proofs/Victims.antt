@@ -26,12 +26,12 @@ use Rattle.warm_world.specs.States.{ModelState, ReplicaState, nobody, node_of, p
 use Rattle.warm_world.specs.Next.{Asked, IsNamed, Next, replica_of, shape}
 use Rattle.warm_world.specs.Stands.{IsRightVictim, Leaves, MayLoad, VictimsAreFarthest}
 
-fr : PoolView → List FrameView
+abbrev fr : PoolView → List FrameView
 fr v = v.frames
 
 -- ---- a page that was in a frame and is in none
 
-frame_in : List FrameView → ℕ → FrameView
+abbrev frame_in : List FrameView → ℕ → FrameView
 frame_in fs i = get_or fs i (record { page = None; generation = 0; fixes = 0 })
 
 -- of the frames one is another: where the page was in one and is in none, it was in that one
@@ -75,25 +75,25 @@ put_refused h v p fault.NoDevice w r = absurd r
 put_refused h v p fault.NoPage w r = absurd r
 put_refused h v p fault.AllFixed w r = ap fr r.1
 put_refused h v p fault.ReadFault w r = ap fr r.1.becomes
-put_refused h v p fault.WriteBack w r = ap fr r.2.2.2.2.becomes
+put_refused h v p fault.WriteBack w r = ap fr r.4.becomes
 put_refused h v p fault.FixesFull w r = ap fr r.1
 put_refused h v p fault.OutOfPage w r = absurd r
 put_refused h v p fault.Fixed w r = absurd r
 put_refused h v p fault.Fault w r = absurd r
 
 load_refused : (h : HistoryView) (v : PoolView) (p : PageId) (why : PoolFault) (w : PoolView) → LoadRefused h v p why w → w.frames ≡ v.frames
-load_refused h v p fault.Memory w r = put_refused h v p fault.Memory w r.2.2
-load_refused h v p fault.BadFrames w r = put_refused h v p fault.BadFrames w r.2.2
-load_refused h v p fault.SizeDiffers w r = put_refused h v p fault.SizeDiffers w r.2.2
+load_refused h v p fault.Memory w r = put_refused h v p fault.Memory w r.2
+load_refused h v p fault.BadFrames w r = put_refused h v p fault.BadFrames w r.2
+load_refused h v p fault.SizeDiffers w r = put_refused h v p fault.SizeDiffers w r.2
 load_refused h v p fault.NoDevice w r = ap fr r.1
 load_refused h v p fault.NoPage w r = ap fr r.2
-load_refused h v p fault.AllFixed w r = put_refused h v p fault.AllFixed w r.2.2
-load_refused h v p fault.ReadFault w r = put_refused h v p fault.ReadFault w r.2.2
-load_refused h v p fault.WriteBack w r = put_refused h v p fault.WriteBack w r.2.2
-load_refused h v p fault.FixesFull w r = put_refused h v p fault.FixesFull w r.2.2
-load_refused h v p fault.OutOfPage w r = put_refused h v p fault.OutOfPage w r.2.2
-load_refused h v p fault.Fixed w r = put_refused h v p fault.Fixed w r.2.2
-load_refused h v p fault.Fault w r = put_refused h v p fault.Fault w r.2.2
+load_refused h v p fault.AllFixed w r = put_refused h v p fault.AllFixed w r.2
+load_refused h v p fault.ReadFault w r = put_refused h v p fault.ReadFault w r.2
+load_refused h v p fault.WriteBack w r = put_refused h v p fault.WriteBack w r.2
+load_refused h v p fault.FixesFull w r = put_refused h v p fault.FixesFull w r.2
+load_refused h v p fault.OutOfPage w r = put_refused h v p fault.OutOfPage w r.2
+load_refused h v p fault.Fixed w r = put_refused h v p fault.Fixed w r.2
+load_refused h v p fault.Fault w r = put_refused h v p fault.Fault w r.2
 
 pin_refused : (h : HistoryView) (v : PoolView) (p : PageId) (why : PoolFault) (w : PoolView) → PinRefused h v p why w → w.frames ≡ v.frames
 pin_refused h v p fault.Memory w r = load_refused h v p fault.Memory w r
@@ -104,7 +104,7 @@ pin_refused h v p fault.NoPage w r = load_refused h v p fault.NoPage w r
 pin_refused h v p fault.AllFixed w r = load_refused h v p fault.AllFixed w r
 pin_refused h v p fault.ReadFault w r = load_refused h v p fault.ReadFault w r
 pin_refused h v p fault.WriteBack w r = load_refused h v p fault.WriteBack w r
-pin_refused h v p fault.FixesFull w (inl full) = ap fr full.2.2
+pin_refused h v p fault.FixesFull w (inl full) = ap fr full.2
 pin_refused h v p fault.FixesFull w (inr r) = load_refused h v p fault.FixesFull w r
 pin_refused h v p fault.OutOfPage w r = load_refused h v p fault.OutOfPage w r
 pin_refused h v p fault.Fixed w r = load_refused h v p fault.Fixed w r

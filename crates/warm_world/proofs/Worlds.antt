@@ -80,6 +80,13 @@ module _ {A : Type 0} (f : A → ReplicaSeen) (xs : List A) (frames : List (List
       ∙ ap (λ (r : ReplicaSeen). length r.buffers) (get_or-map f xs (place i) x (f x) lt ∙ ap f (sym is)) in
       omega (arith, number.from_one, number.in_range, at)
 
+  -- as many workers as its buffers are
+  pub workers_at : (i : ℕ) (x : A) → IsNumber i (length (map (λ (r : ReplicaSeen). length r.buffers) (map f xs))) → x ≡ get_or xs (place i) x → length (f x).buffers ≡ get_or (map (λ (r : ReplicaSeen). length r.buffers) (map f xs)) (place i) 0
+  workers_at i x number is =
+      let lt : place i < length xs = omega (arith, number.from_one, number.in_range, length-map xs f, length-map (map f xs) (λ (r : ReplicaSeen). length r.buffers)) in
+      sym (get_or-map (λ (r : ReplicaSeen). length r.buffers) (map f xs) (place i) (f x) 0 (subst (λ n. place i < n) (sym (length-map xs f)) lt)
+      ∙ ap (λ (r : ReplicaSeen). length r.buffers) (get_or-map f xs (place i) x (f x) lt ∙ ap f (sym is)))
+
   -- the replica at a place stands for that of the model
   pub stands_at : (m : ModelState) (k : ℕ) (x : A) → StandsFor (world xs) m → k < length xs → x ≡ get_or xs k x → ReplicaStands m.room k (f x) (replica m k)
   stands_at m k x st lt is =
