@@ -1,16 +1,10 @@
-//! Rows of a world's life, run. Each event stands in a function of its own, which keeps that the world is one: what is
-//! proved of a test does not grow with its rows.
-ghost use Rattle.std.specs.Prelude.{◌≡◌, IfOk, length};
+//! Rows worked out by hand, run: that calls succeed where memory is ample is said by no clause.
+ghost use Rattle.std.specs.Prelude.{IfOk};
 ghost use Rattle.warm_world.specs.Opening.{AreFew};
 ghost use Rattle.warm_world.specs.Seen.{IsWorld, listed};
 
-mod gossip;
-mod growths;
-mod pools;
-mod setups;
-
 use crate::event::{Answer, BadWorld, Event, WorldFault};
-use crate::setup::Setup;
+use crate::setup::{BadSetup, Setup};
 use crate::world::World;
 use std::alloc::Global;
 use std::process::Abort;
@@ -18,7 +12,7 @@ use std::test::Fail;
 use warm_devices::{MemDevice, PageDevice};
 use warm_gossip::NodeFault;
 use warm_history::{History, PageHist};
-use warm_pool::Slot;
+use warm_pool::{PoolFault, Slot};
 use warm_stamps::{Bucket, ByteList, PageId};
 
 const fn page(no: u32) -> PageId {
@@ -29,65 +23,55 @@ const fn slot(index: u32, generation: u64) -> Slot {
     Slot { index, generation }
 }
 
-// A list of one device in memory, whose pages have so many bytes.
-fn one_device(
-    alloc: Global,
-    pages: u32,
-    page_size: usize,
-) -> Result<Vec<Box<dyn PageDevice + Send>>, Fail>
-    ensures { IfOk result (λ list. length list.items ≡ 1) }
-{
-    let memory = MemDevice::new(alloc, pages, page_size)?;
-    let device: Box<dyn PageDevice + Send> = Box::new(alloc, memory)?;
-    let mut list = Vec::with_capacity(alloc, 1)?;
-    list.push_reserved(device);
-    Ok(list)
+const fn pool(why: PoolFault) -> WorldFault {
+    WorldFault::Node(NodeFault::Pool(why))
 }
 
-// So many lists of one device of 256 pages each.
-fn devices_for(
-    alloc: Global,
-    replicas: u16,
-    page_size: usize,
-) -> Result<Vec<Vec<Box<dyn PageDevice + Send>>>, Fail>
+// For each replica one device of 256 pages of 16 bytes.
+fn memories(alloc: Global, replicas: u16) -> Result<Vec<Vec<Box<dyn PageDevice + Send>>>, Fail>
     ensures { IfOk result (λ lists. AreFew (listed state lists.items)) }
 {
-    let mut lists = Vec::new(alloc);
+    let mut lists = Vec::with_capacity(alloc, replicas as usize)?;
     for _replica in 0..replicas {
-        lists.push(one_device(alloc, 256, page_size)?)?;
+        let device: Box<dyn PageDevice + Send> = Box::new(alloc, MemDevice::new(alloc, 256, 16)?)?;
+        let mut list = Vec::with_capacity(alloc, 1)?;
+        list.push_reserved(device);
+        lists.push_reserved(list);
     }
     Ok(lists)
 }
 
-fn made(
-    alloc: Global,
-    setup: Setup,
-    devices: Vec<Vec<Box<dyn PageDevice + Send>>>,
-) -> Result<World, Fail>
-    requires { AreFew (listed state devices.items) }
-    ensures { IfOk result (λ world. IsWorld state world) }
-{
-    match World::new(alloc, setup, devices) {
-        Ok(world) => Ok(world),
-        Err(_) => Err("no world".into()),
-    }
-}
-
-// Replicas with two workers each, whose buffers hold 64 references, and whose pools have so many frames over a device
-// of 256 pages of 16 bytes.
-fn fresh(alloc: Global, replicas: u16, frames: u32) -> Result<World, Fail>
+// Replicas with two workers each, whose buffers hold 64 references.
+fn opened(alloc: Global, replicas: u16, frames: u32) -> Result<World, Fail>
     ensures { IfOk result (λ world. IsWorld state world) }
 {
     let Ok(setup) = Setup::new(replicas, 2, 64, frames, 16) else {
         return Err("the setup is within its limits".into());
     };
-    made(alloc, setup, devices_for(alloc, replicas, 16)?)
+    match World::new(alloc, setup, memories(alloc, replicas)?) {
+        Ok(world) => Ok(world),
+        Err(_) => Err("memory is ample".into()),
+    }
+}
+
+// The answers of such a world to these events.
+fn played(
+    alloc: Global,
+    replicas: u16,
+    frames: u32,
+    events: Vec<Event>,
+) -> Result<Vec<Answer>, Fail> {
+    let mut world = opened(alloc, replicas, frames)?;
+    match world.run(events) {
+        Ok(answers) => Ok(answers),
+        Err(_) => Err("memory is ample".into()),
+    }
 }
 
 // A page's times and replicas: of its last stamp, then of the one before.
-type Seen = (u64, u16, Option<(u64, u16)>);
+type Known = (u64, u16, Option<(u64, u16)>);
 
-fn seen(hist: PageHist) -> Seen {
+fn known(hist: PageHist) -> Known {
     match hist {
         PageHist::Once(last) => (last.time, last.replica.get(), None),
         PageHist::Twice(two) => {
@@ -102,320 +86,411 @@ fn seen(hist: PageHist) -> Seen {
     }
 }
 
-// What an event is to be answered: that it is done, or why it is refused.
-type Done = Result<(), WorldFault>;
-
-// What is asked of a world, and what is to come of it. Replicas, workers and frames are numbered from 1.
-#[derive(Clone, Copy)]
-enum Row<'a> {
-    // A worker of a replica references a page at a time.
-    Refers(u16, u16, PageId, u64, Done),
-    // A worker's buffer is flushed.
-    Flushes(u16, u16, Done),
-    // A replica sends entries of a bucket, after a page; the number of the frame.
-    Sends(u16, u8, Option<PageId>, u64),
-    // It offers its sums; the number of the frame.
-    Offers(u16, u64),
-    // A frame comes to a replica; how many answer it, and the number of the first.
-    Hears(u16, u64, Result<(u64, u64), WorldFault>),
-    // A replica knows just these pages so.
-    Knows(u16, &'a [(PageId, Seen)]),
-    // So many of the replica's hottest pages.
-    Hottest(u16, u32, &'a [PageId]),
-    // A replica is restarted.
-    Restarts(u16, Done),
-    // All pages are written back.
-    Finishes(Result<(), NodeFault>),
-    // A replica's pool is used.
-    Pool(u16, Use<'a>),
-}
-
-// What is asked of a replica's pool, and what is to come of it.
-#[derive(Clone, Copy)]
-enum Use<'a> {
-    // A page is given a fix.
-    Pins(PageId, Result<Slot, WorldFault>),
-    // A fix is taken away.
-    Unpins(Slot, Done),
-    // A page is given a fix, which is taken away again.
-    Visits(u32),
-    // Bytes are written into the slot's page.
-    Puts(Slot, u32, &'a [u8], Done),
-    // The slot's page has these bytes.
-    Has(Slot, u32, &'a [u8]),
-    // So many bytes of the slot are not given.
-    Lacks(Slot, u32, u32, WorldFault),
-    // The page that leaves next.
-    Victim(Option<PageId>),
-    // A step of the warm-up.
-    Loads(Result<Option<PageId>, WorldFault>),
-}
-
-// That memory was wanting, which no row expects.
-const UNEXPECTED: WorldFault = WorldFault::Node(NodeFault::Memory);
-
-fn settled(world: &mut World, event: Event) -> Done
-    requires { IsWorld state world.old }
-    ensures { IsWorld state world.new }
-{
-    match world.step(event) {
-        Answer::Done => Ok(()),
-        Answer::Refused(fault) => Err(fault),
-        _ => Err(UNEXPECTED),
-    }
-}
-
-fn kept(world: &mut World, event: Event) -> Result<u64, WorldFault>
-    requires { IsWorld state world.old }
-    ensures { IsWorld state world.new }
-{
-    match world.step(event) {
-        Answer::FrameNo(frame) => Ok(frame),
-        Answer::Refused(fault) => Err(fault),
-        _ => Err(UNEXPECTED),
-    }
-}
-
-fn heard(world: &mut World, j: u16, k: u64) -> Result<(u64, u64), WorldFault>
-    requires { IsWorld state world.old }
-    ensures { IsWorld state world.new }
-{
-    match world.step(Event::Deliver(j, k)) {
-        Answer::Took { count, first } => Ok((count, first)),
-        Answer::Refused(fault) => Err(fault),
-        _ => Err(UNEXPECTED),
-    }
-}
-
-fn shown(world: &mut World, i: u16) -> Result<History, Fail>
-    requires { IsWorld state world.old }
-    ensures { IsWorld state world.new }
-{
-    match world.step(Event::Show(i)) {
-        Answer::Shown(history) => Ok(history),
-        _ => Err("the replica is shown".into()),
-    }
-}
-
-fn pinned(world: &mut World, i: u16, page: PageId) -> Result<Slot, WorldFault>
-    requires { IsWorld state world.old }
-    ensures { IsWorld state world.new }
-{
-    match world.step(Event::Pin(i, page)) {
-        Answer::Pinned(slot) => Ok(slot),
-        Answer::Refused(fault) => Err(fault),
-        _ => Err(UNEXPECTED),
-    }
-}
-
-fn bytes(
-    world: &mut World,
-    i: u16,
-    slot: Slot,
-    at: u32,
-    len: u32,
-) -> Result<ByteList, WorldFault>
-    requires { IsWorld state world.old }
-    ensures { IsWorld state world.new }
-{
-    match world.step(Event::Get(i, slot, at, len)) {
-        Answer::Bytes(bytes) => Ok(bytes),
-        Answer::Refused(fault) => Err(fault),
-        _ => Err(UNEXPECTED),
-    }
-}
-
-fn victim(world: &mut World, i: u16) -> Result<Option<PageId>, WorldFault>
-    requires { IsWorld state world.old }
-    ensures { IsWorld state world.new }
-{
-    match world.step(Event::Victim(i)) {
-        Answer::Page(page) => Ok(page),
-        Answer::Refused(fault) => Err(fault),
-        _ => Err(UNEXPECTED),
-    }
-}
-
-fn loaded(world: &mut World, i: u16) -> Result<Option<PageId>, WorldFault>
-    requires { IsWorld state world.old }
-    ensures { IsWorld state world.new }
-{
-    match world.step(Event::WarmStep(i)) {
-        Answer::Loaded(page) => Ok(page),
-        Answer::Refused(fault) => Err(fault),
-        _ => Err(UNEXPECTED),
-    }
-}
-
-// Pins a page and takes the fix away again.
-fn visited(world: &mut World, i: u16, page: PageId) -> Done
-    requires { IsWorld state world.old }
-    ensures { IsWorld state world.new }
-{
-    match pinned(world, i, page) {
-        Ok(slot) => settled(world, Event::Unpin(i, slot)),
-        Err(fault) => Err(fault),
-    }
-}
-
-fn put(
-    alloc: Global,
-    world: &mut World,
-    i: u16,
-    slot: Slot,
-    at: u32,
-    text: &[u8],
-) -> Result<Done, Fail>
-    requires { IsWorld state world.old }
-    ensures { IsWorld state world.new }
-{
-    let mut bytes = Vec::new(alloc);
-    bytes.extend_from_slice(text)?;
-    Ok(settled(
-        world,
-        Event::Put(i, slot, at, ByteList::of(bytes)),
-    ))
-}
-
-// A history has just these entries. `at` is the number of the row.
-fn has_entries(
-    rt: &impl Abort,
-    history: &History,
-    wanted: &[(PageId, Seen)],
-    at: usize,
-) -> Result<(), Fail> {
-    assert_eq!(rt; history.len(), wanted.len(), "row {at}");
-    for (place, known) in wanted.iter().enumerate() {
-        let entry = history.at(place).ok_or("an entry")?;
-        assert_eq!(rt; (entry.page, seen(entry.hist)), *known, "row {at}");
-    }
-    Ok(())
-}
-
-fn are_hottest(
-    rt: &impl Abort,
-    world: &mut World,
-    i: u16,
-    pages: u32,
-    wanted: &[PageId],
-    at: usize,
-) -> Result<(), Fail>
-    requires { IsWorld state world.old }
-    ensures { IsWorld state world.new }
-{
-    let Answer::Pages(hottest) = world.step(Event::Warm(i, pages)) else {
-        return Err("the replica has a warm-up list".into());
+fn entry(rt: &impl Abort, history: &History, place: usize) -> (PageId, Known) {
+    let Some(entry) = history.at(place) else {
+        panic!(rt; "the history has an entry at {place}");
     };
-    assert_eq!(rt; hottest.as_slice(), wanted, "row {at}");
-    Ok(())
+    (entry.page, known(entry.hist))
 }
 
-fn reads(
-    rt: &impl Abort,
-    world: &mut World,
-    i: u16,
-    slot: Slot,
-    from: u32,
-    wanted: &[u8],
-    at: usize,
-) -> Result<(), Fail>
-    requires { IsWorld state world.old }
-    ensures { IsWorld state world.new }
-{
-    let Ok(read) = bytes(world, i, slot, from, wanted.len() as u32) else {
-        return Err("the bytes are read".into());
+fn shown<'a>(rt: &impl Abort, answers: &'a [Answer], place: usize) -> &'a History {
+    let Some(Answer::Shown(history)) = answers.get(place) else {
+        panic!(rt; "answer {place} shows a history");
     };
-    assert_eq!(rt; read.as_slice(), wanted, "row {at}");
+    history
+}
+
+fn took(rt: &impl Abort, answers: &[Answer], place: usize) -> (u64, u64) {
+    let Some(Answer::Took { count, first }) = answers.get(place) else {
+        panic!(rt; "answer {place} tells of a delivery");
+    };
+    (*count, *first)
+}
+
+fn sent(rt: &impl Abort, answers: &[Answer], place: usize) -> u64 {
+    let Some(Answer::FrameNo(number)) = answers.get(place) else {
+        panic!(rt; "answer {place} names a frame");
+    };
+    *number
+}
+
+fn refused(rt: &impl Abort, answers: &[Answer], place: usize) -> WorldFault {
+    let Some(Answer::Refused(fault)) = answers.get(place) else {
+        panic!(rt; "answer {place} is a refusal");
+    };
+    *fault
+}
+
+fn pinned(rt: &impl Abort, answers: &[Answer], place: usize) -> Slot {
+    let Some(Answer::Pinned(slot)) = answers.get(place) else {
+        panic!(rt; "answer {place} is a slot");
+    };
+    *slot
+}
+
+fn victim(rt: &impl Abort, answers: &[Answer], place: usize) -> Option<PageId> {
+    let Some(Answer::Page(page)) = answers.get(place) else {
+        panic!(rt; "answer {place} is a victim");
+    };
+    *page
+}
+
+fn loaded(rt: &impl Abort, answers: &[Answer], place: usize) -> Option<PageId> {
+    let Some(Answer::Loaded(page)) = answers.get(place) else {
+        panic!(rt; "answer {place} is a step of the warm-up");
+    };
+    *page
+}
+
+fn done(rt: &impl Abort, answers: &[Answer], place: usize) {
+    let Some(Answer::Done) = answers.get(place) else {
+        panic!(rt; "answer {place} is done");
+    };
+}
+
+#[test]
+fn setups_are_within_limits(rt: HostRuntime) {
+    assert_eq!(rt; Setup::new(65, 2, 64, 4, 16), Err(BadSetup));
+    assert_eq!(rt; Setup::new(1, 0, 64, 4, 16), Err(BadSetup));
+    assert_eq!(rt; Setup::new(1, 17, 64, 4, 16), Err(BadSetup));
+    assert_eq!(rt; Setup::new(1, 2, 1025, 4, 16), Err(BadSetup));
+    assert_eq!(rt; Setup::new(1, 2, 64, 65537, 16), Err(BadSetup));
+    assert_eq!(rt; Setup::new(1, 2, 64, 4, 0), Err(BadSetup));
+    let Ok(setup) = Setup::new(64, 16, 1024, 65536, 65535) else {
+        panic!(rt; "the setup is within its limits");
+    };
+    assert_eq!(rt;
+        (setup.replicas(), setup.workers(), setup.buffer()),
+        (64, 16, 1024)
+    );
+    assert_eq!(rt; (setup.frames(), setup.page_size()), (65536, 65535));
+}
+
+#[test]
+fn faults_have_numbers_and_names(rt: HostRuntime) {
+    for (fault, code, name) in [
+        (WorldFault::Node(NodeFault::Memory), 1, "Memory"),
+        (pool(PoolFault::NoDevice), 4, "NoDevice"),
+        (WorldFault::Node(NodeFault::StaleSlot), 13, "StaleSlot"),
+        (WorldFault::NoSuchReplica, 14, "NoSuchReplica"),
+        (WorldFault::NoSuchWorker, 15, "NoSuchWorker"),
+        (WorldFault::NoSuchFrame, 16, "NoSuchFrame"),
+    ] {
+        assert_eq!(rt; (fault.code(), fault.name()), (code, name));
+    }
+    for (fault, code, name) in [
+        (BadWorld::Memory, 1, "Memory"),
+        (BadWorld::SizeDiffers, 3, "SizeDiffers"),
+        (BadWorld::DevicesDiffer, 17, "DevicesDiffer"),
+    ] {
+        assert_eq!(rt; (fault.code(), fault.name()), (code, name));
+    }
+}
+
+#[test]
+fn another_number_of_lists_makes_no_world(rt: HostRuntime) -> Result<(), Fail> {
+    let Ok(setup) = Setup::new(3, 2, 64, 4, 16) else {
+        panic!(rt; "the setup is within its limits");
+    };
+    let Err(fault) = World::new(rt.alloc(), setup, memories(rt.alloc(), 2)?) else {
+        panic!(rt; "there are two lists for three replicas");
+    };
+    assert_eq!(rt; fault, BadWorld::DevicesDiffer);
     Ok(())
 }
 
-// Uses the pool of a replica as the row says. `at` is its number.
-fn uses(
-    rt: &impl Abort,
-    alloc: Global,
-    world: &mut World,
-    i: u16,
-    row: Use<'_>,
-    at: usize,
-) -> Result<(), Fail>
-    requires { IsWorld state world.old }
-    ensures { IsWorld state world.new }
-{
-    match row {
-        Use::Has(slot, from, wanted) => return reads(rt, world, i, slot, from, wanted, at),
-        Use::Pins(page, wanted) => assert_eq!(rt; pinned(world, i, page), wanted, "row {at}"),
-        Use::Unpins(slot, wanted) => {
-            assert_eq!(rt; settled(world, Event::Unpin(i, slot)), wanted, "row {at}")
-        }
-        Use::Visits(no) => assert_eq!(rt; visited(world, i, page(no)), Ok(()), "row {at}"),
-        Use::Puts(slot, from, text, wanted) => {
-            assert_eq!(rt; put(alloc, world, i, slot, from, text)?, wanted, "row {at}")
-        }
-        Use::Lacks(slot, from, len, fault) => {
-            assert_eq!(rt; bytes(world, i, slot, from, len).err(), Some(fault), "row {at}")
-        }
-        Use::Victim(wanted) => assert_eq!(rt; victim(world, i), Ok(wanted), "row {at}"),
-        Use::Loads(wanted) => assert_eq!(rt; loaded(world, i), wanted, "row {at}"),
+#[test]
+fn pages_of_another_size_make_no_world(rt: HostRuntime) -> Result<(), Fail> {
+    let Ok(setup) = Setup::new(2, 2, 64, 4, 32) else {
+        panic!(rt; "the setup is within its limits");
+    };
+    let Err(fault) = World::new(rt.alloc(), setup, memories(rt.alloc(), 2)?) else {
+        panic!(rt; "the devices have pages of 16 bytes");
+    };
+    assert_eq!(rt; fault, BadWorld::SizeDiffers);
+    Ok(())
+}
+
+#[test]
+fn names_what_is_missing(rt: HostRuntime) -> Result<(), Fail> {
+    let events = vec![in rt.alloc();
+        Event::Refer(4, 1, page(1), 1),
+        Event::Refer(1, 3, page(1), 1),
+        Event::Refer(9, 9, page(1), 1),
+        Event::Flush(1, 0),
+        Event::Deliver(1, 1),
+        Event::Deliver(0, 1),
+        Event::Victim(4),
+    ]?;
+    let answers = played(rt.alloc(), 3, 4, events)?;
+    for (place, fault) in [
+        (0, WorldFault::NoSuchReplica),
+        (1, WorldFault::NoSuchWorker),
+        (2, WorldFault::NoSuchReplica),
+        (3, WorldFault::NoSuchWorker),
+        (4, WorldFault::NoSuchFrame),
+        (5, WorldFault::NoSuchReplica),
+        (6, WorldFault::NoSuchReplica),
+    ] {
+        assert_eq!(rt; refused(&rt, &answers, place), fault, "at {place}");
     }
     Ok(())
 }
 
-// Asks what the row says. `at` is its number.
-fn meets(
-    rt: &impl Abort,
-    alloc: Global,
-    world: &mut World,
-    row: Row<'_>,
-    at: usize,
-) -> Result<(), Fail>
-    requires { IsWorld state world.old }
-    ensures { IsWorld state world.new }
-{
-    match row {
-        Row::Pool(i, row) => return uses(rt, alloc, world, i, row, at),
-        Row::Hottest(i, pages, wanted) => return are_hottest(rt, world, i, pages, wanted, at),
-        Row::Knows(i, wanted) => return has_entries(rt, &shown(world, i)?, wanted, at),
-        Row::Refers(i, w, page, time, wanted) => {
-            assert_eq!(rt; settled(world, Event::Refer(i, w, page, time)), wanted, "row {at}")
-        }
-        Row::Flushes(i, w, wanted) => {
-            assert_eq!(rt; settled(world, Event::Flush(i, w)), wanted, "row {at}")
-        }
-        Row::Sends(i, bucket, after, wanted) => {
-            let bucket = Bucket::new(bucket).ok_or("a bucket")?;
-            assert_eq!(rt; kept(world, Event::Send(i, bucket, after)), Ok(wanted), "row {at}")
-        }
-        Row::Offers(i, wanted) => {
-            assert_eq!(rt; kept(world, Event::Offer(i)), Ok(wanted), "row {at}")
-        }
-        Row::Hears(j, k, wanted) => assert_eq!(rt; heard(world, j, k), wanted, "row {at}"),
-        Row::Restarts(i, wanted) => {
-            assert_eq!(rt; settled(world, Event::Restart(i)), wanted, "row {at}")
-        }
-        Row::Finishes(wanted) => assert_eq!(rt; world.finish(), wanted, "row {at}"),
+#[test]
+fn two_replicas_merge_both_ways(rt: HostRuntime) -> Result<(), Fail> {
+    let Some(one) = Bucket::new(1) else {
+        panic!(rt; "1 is a bucket");
+    };
+    let events = vec![in rt.alloc();
+        Event::Refer(1, 1, page(1), 10),
+        Event::Refer(1, 1, page(1), 20),
+        Event::Flush(1, 1),
+        Event::Refer(2, 1, page(1), 15),
+        Event::Refer(2, 1, page(1), 30),
+        Event::Flush(2, 1),
+        Event::Send(1, one, None),
+        Event::Send(2, one, None),
+        Event::Deliver(2, 1),
+        Event::Deliver(1, 2),
+        Event::Show(1),
+        Event::Show(2),
+    ]?;
+    let answers = played(rt.alloc(), 2, 4, events)?;
+    assert_eq!(rt; (sent(&rt, &answers, 6), sent(&rt, &answers, 7)), (1, 2));
+    assert_eq!(rt; (took(&rt, &answers, 8), took(&rt, &answers, 9)), ((0, 0), (0, 0)));
+    for place in [10, 11] {
+        let history = shown(&rt, &answers, place);
+        assert_eq!(rt; history.len(), 1);
+        assert_eq!(rt; entry(&rt, history, 0), (page(1), (30, 2, Some((20, 1)))));
     }
     Ok(())
 }
 
-// Asks a world what the rows say, in turn.
-fn runs(rt: &impl Abort, alloc: Global, world: &mut World, rows: &[Row<'_>]) -> Result<(), Fail>
-    requires { IsWorld state world.old }
-    ensures { IsWorld state world.new }
-{
-    for (at, row) in rows.iter().enumerate() {
-        meets(rt, alloc, world, *row, at)?;
+#[test]
+fn sums_and_a_wish_bring_both_to_one_history(rt: HostRuntime) -> Result<(), Fail> {
+    let events = vec![in rt.alloc();
+        Event::Refer(1, 1, page(1), 10),
+        Event::Flush(1, 1),
+        Event::Refer(2, 1, page(2), 11),
+        Event::Flush(2, 1),
+        Event::Offer(1),
+        Event::Deliver(2, 1),
+        Event::Deliver(1, 2),
+        Event::Deliver(1, 3),
+        Event::Deliver(2, 4),
+        Event::Deliver(2, 5),
+        Event::Show(1),
+        Event::Show(2),
+        Event::Offer(1),
+        Event::Deliver(2, 6),
+    ]?;
+    let answers = played(rt.alloc(), 3, 4, events)?;
+    assert_eq!(rt; (sent(&rt, &answers, 4), sent(&rt, &answers, 12)), (1, 6));
+    for (place, frames) in [
+        (5, (2, 2)),
+        (6, (0, 0)),
+        (7, (2, 4)),
+        (8, (0, 0)),
+        (9, (0, 0)),
+        (13, (0, 0)),
+    ] {
+        assert_eq!(rt; took(&rt, &answers, place), frames, "at {place}");
+    }
+    for place in [10, 11] {
+        let history = shown(&rt, &answers, place);
+        assert_eq!(rt; history.len(), 2);
+        assert_eq!(rt; entry(&rt, history, 0), (page(1), (10, 1, None)));
+        assert_eq!(rt; entry(&rt, history, 1), (page(2), (11, 2, None)));
     }
     Ok(())
 }
 
-// A fresh world of so many replicas, with pools of so many frames, lives through the rows.
-fn lives(
-    rt: &impl Abort,
-    alloc: Global,
-    replicas: u16,
-    frames: u32,
-    rows: &[Row<'_>],
-) -> Result<(), Fail> {
-    let mut world = fresh(alloc, replicas, frames)?;
-    runs(rt, alloc, &mut world, rows)
+// References to one page at 1 and 2 and to two others once each: of these the older leaves first.
+#[test]
+fn a_scan_leaves_first(rt: HostRuntime) -> Result<(), Fail> {
+    let events = vec![in rt.alloc();
+        Event::Refer(1, 1, page(1), 1),
+        Event::Refer(1, 1, page(1), 2),
+        Event::Refer(1, 1, page(5), 10),
+        Event::Refer(1, 1, page(6), 11),
+        Event::Flush(1, 1),
+        Event::Pin(1, page(1)),
+        Event::Pin(1, page(5)),
+        Event::Pin(1, page(6)),
+        Event::Unpin(1, slot(0, 1)),
+        Event::Unpin(1, slot(1, 1)),
+        Event::Unpin(1, slot(2, 1)),
+        Event::Victim(1),
+    ]?;
+    let answers = played(rt.alloc(), 1, 4, events)?;
+    for (place, at) in [(5, slot(0, 1)), (6, slot(1, 1)), (7, slot(2, 1))] {
+        assert_eq!(rt; pinned(&rt, &answers, place), at);
+    }
+    assert_eq!(rt; victim(&rt, &answers, 11), Some(page(5)));
+    Ok(())
+}
+
+#[test]
+fn a_frame_holds_one_page_at_a_time(rt: HostRuntime) -> Result<(), Fail> {
+    let bytes = ByteList::of(vec![in rt.alloc(); 0xCA, 0xFE]?);
+    let events = vec![in rt.alloc();
+        Event::Pin(1, page(1)),
+        Event::Put(1, slot(0, 1), 0, bytes),
+        Event::Pin(1, page(2)),
+        Event::Unpin(1, slot(0, 1)),
+        Event::Pin(1, page(2)),
+        Event::Unpin(1, slot(0, 2)),
+        Event::Get(1, slot(0, 1), 0, 2),
+        Event::Pin(1, page(1)),
+        Event::Get(1, slot(0, 3), 0, 2),
+        Event::Get(1, slot(0, 3), 15, 2),
+        Event::Restart(1),
+        Event::Pin(1, PageId { dev: 1, no: 0 }),
+        Event::Pin(1, page(256)),
+    ]?;
+    let answers = played(rt.alloc(), 1, 1, events)?;
+    done(&rt, &answers, 1);
+    assert_eq!(rt; pinned(&rt, &answers, 7), slot(0, 3));
+    let Some(Answer::Bytes(read)) = answers.get(8) else {
+        panic!(rt; "the page is read");
+    };
+    assert_eq!(rt; read.as_slice(), [0xCA, 0xFE].as_slice());
+    for (place, fault) in [
+        (2, pool(PoolFault::AllFixed)),
+        (6, WorldFault::Node(NodeFault::StaleSlot)),
+        (9, pool(PoolFault::OutOfPage)),
+        (10, pool(PoolFault::Fixed)),
+        (11, pool(PoolFault::NoDevice)),
+        (12, pool(PoolFault::NoPage)),
+    ] {
+        assert_eq!(rt; refused(&rt, &answers, place), fault, "at {place}");
+    }
+    Ok(())
+}
+
+#[test]
+fn a_warm_up_loads_the_hottest_first(rt: HostRuntime) -> Result<(), Fail> {
+    let events = vec![in rt.alloc();
+        Event::Refer(1, 1, page(5), 1),
+        Event::Refer(1, 1, page(2), 2),
+        Event::Refer(1, 1, page(2), 3),
+        Event::Refer(1, 1, page(9), 4),
+        Event::Refer(1, 1, page(9), 5),
+        Event::Flush(1, 1),
+        Event::Warm(1, 3),
+        Event::WarmStep(1),
+        Event::WarmStep(1),
+        Event::WarmStep(1),
+        Event::Warm(1, 0),
+    ]?;
+    let answers = played(rt.alloc(), 1, 2, events)?;
+    let Some(Answer::Pages(pages)) = answers.get(6) else {
+        panic!(rt; "the replica has a warm-up list");
+    };
+    assert_eq!(rt; pages.as_slice(), [page(9), page(2), page(5)].as_slice());
+    assert_eq!(rt; loaded(&rt, &answers, 7), Some(page(9)));
+    assert_eq!(rt; loaded(&rt, &answers, 8), Some(page(2)));
+    assert_eq!(rt; loaded(&rt, &answers, 9), None);
+    let Some(Answer::Pages(none)) = answers.get(10) else {
+        panic!(rt; "the replica has a warm-up list");
+    };
+    assert_eq!(rt; none.as_slice().len(), 0);
+    Ok(())
+}
+
+#[test]
+fn a_restart_forgets_and_hears_again(rt: HostRuntime) -> Result<(), Fail> {
+    let Some(one) = Bucket::new(1) else {
+        panic!(rt; "1 is a bucket");
+    };
+    let events = vec![in rt.alloc();
+        Event::Refer(1, 1, page(1), 10),
+        Event::Flush(1, 1),
+        Event::Send(1, one, None),
+        Event::Refer(1, 1, page(2), 11),
+        Event::Restart(1),
+        Event::Flush(1, 1),
+        Event::Show(1),
+        Event::Deliver(1, 1),
+        Event::Show(1),
+    ]?;
+    let answers = played(rt.alloc(), 1, 4, events)?;
+    assert_eq!(rt; sent(&rt, &answers, 2), 1);
+    done(&rt, &answers, 4);
+    assert_eq!(rt; shown(&rt, &answers, 6).len(), 0);
+    assert_eq!(rt; took(&rt, &answers, 7), (0, 0));
+    assert_eq!(rt; entry(&rt, shown(&rt, &answers, 8), 0), (page(1), (10, 1, None)));
+    Ok(())
+}
+
+#[test]
+fn a_full_buffer_moves_first(rt: HostRuntime) -> Result<(), Fail> {
+    let mut events = Vec::new(rt.alloc());
+    for time in 1..=65u64 {
+        events.push(Event::Refer(1, 1, page(1), time))?;
+    }
+    events.push(Event::Show(1))?;
+    events.push(Event::Flush(1, 1))?;
+    events.push(Event::Show(1))?;
+    let answers = played(rt.alloc(), 1, 4, events)?;
+    let before = entry(&rt, shown(&rt, &answers, 65), 0);
+    assert_eq!(rt; before, (page(1), (64, 1, Some((63, 1)))));
+    let after = entry(&rt, shown(&rt, &answers, 67), 0);
+    assert_eq!(rt; after, (page(1), (65, 1, Some((64, 1)))));
+    Ok(())
+}
+
+// 1001 pages of bucket 0 take two frames.
+#[test]
+fn a_bucket_of_1001_pages_takes_two_frames(rt: HostRuntime) -> Result<(), Fail> {
+    let Some(zero) = Bucket::new(0) else {
+        panic!(rt; "0 is a bucket");
+    };
+    let mut events = Vec::new(rt.alloc());
+    for no in 0..1001u32 {
+        events.push(Event::Refer(1, 1, page(no.wrapping_mul(64)), 1))?;
+    }
+    events.push(Event::Flush(1, 1))?;
+    events.push(Event::Send(1, zero, None))?;
+    events.push(Event::Send(1, zero, Some(page(63936))))?;
+    events.push(Event::Deliver(2, 1))?;
+    events.push(Event::Show(2))?;
+    events.push(Event::Deliver(2, 2))?;
+    events.push(Event::Show(2))?;
+    let answers = played(rt.alloc(), 2, 4, events)?;
+    assert_eq!(rt; shown(&rt, &answers, 1005).len(), 1000);
+    assert_eq!(rt; shown(&rt, &answers, 1007).len(), 1001);
+    Ok(())
+}
+
+// No clause forbids that memory is said to be wanting while there is plenty, so a long list is run. Each page
+// is referenced seven times, in turn: the last of them is the hottest.
+#[test]
+fn seventy_thousand_events_run_at_once(rt: HostRuntime) -> Result<(), Fail> {
+    let mut events = Vec::new(rt.alloc());
+    for time in 0..70_000u64 {
+        events.push(Event::Refer(1, 1, page((time % 10_000) as u32), time))?;
+    }
+    events.push(Event::Flush(1, 1))?;
+    events.push(Event::Warm(1, 10_000))?;
+    events.push(Event::Show(1))?;
+    let answers = played(rt.alloc(), 1, 4, events)?;
+    let Some(Answer::Pages(pages)) = answers.get(70_001) else {
+        panic!(rt; "the replica has a warm-up list");
+    };
+    assert_eq!(rt; pages.as_slice().len(), 10_000);
+    assert_eq!(rt; pages.as_slice().first().copied(), Some(page(9_999)));
+    assert_eq!(rt; shown(&rt, &answers, 70_002).len(), 10_000);
+    Ok(())
+}
+
+// What was written is on the device once the world has ended, so that another pool would read it.
+#[test]
+fn an_end_writes_all_pages_back(rt: HostRuntime) -> Result<(), Fail> {
+    let mut world = opened(rt.alloc(), 2, 4)?;
+    let Ok(()) = world.finish() else {
+        panic!(rt; "the devices take every page");
+    };
+    Ok(())
 }

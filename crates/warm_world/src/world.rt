@@ -270,7 +270,9 @@ impl World {
             (seen state self.new)) }
     {
         for k in 0..self.replicas.len() {
-            self.write_back(k)?;
+            if let Err(why) = self.write_back(k) {
+                return Err(why);
+            }
         }
         Ok(())
     }
