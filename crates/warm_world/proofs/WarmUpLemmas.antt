@@ -1,12 +1,12 @@
 -- Warm-up steps of a world are those of the replica's node.
-use Rattle.std.proofs.Common.{◌≡◌, ℕ, zero, suc, ◌-◌, ◌<◌, List, [], ◌∷◌, length, map, get_or, replicate, Option, Some, None, refl, sym, ap, subst, ◌∙◌, inl, inr, arith}
+use Rattle.std.proofs.Common.{◌≡◌, ℕ, zero, suc, ◌<◌, List, [], ◌∷◌, length, map, get_or, replicate, Option, Some, None, refl, sym, ap, subst, ◌∙◌, inl, inr, arith}
 use Rattle.std.specs.List.{AllByRecursion}
 use Rattle.std.proofs.Math.ListN.{get_or-map}
 use Rattle.std.proofs.lemmas.Bool.{cases_lt}
 use Rattle.std.proofs.lemmas.List.{get_or-set_same, get_or_past, length-map}
 use Rattle.warm_stamps.specs.declared.PageId.{PageId}
 use Rattle.warm_pool.specs.State.{opened as opened_pool}
-use Rattle.warm_pool.specs.View.{PoolView, view_of, frame_at}
+use Rattle.warm_pool.specs.View.{PoolView, view_of}
 use Rattle.warm_gossip.specs.declared.call.Call.TheVariants as call
 use Rattle.warm_gossip.specs.declared.call.Reply.TheVariants as reply
 use Rattle.warm_gossip.specs.State.{NodeState, NodeView, opened, node_view}
@@ -17,13 +17,13 @@ use Rattle.warm_gossip.proofs.WarmUpLemmas as node_warm_ups
 use Rattle.warm_world.specs.declared.event.Event.TheVariants.{WarmStep}
 use Rattle.warm_world.specs.declared.event.Answer.{Answer}
 use Rattle.warm_world.specs.declared.event.Answer.TheVariants.{Done, Shown, FrameNo, Took, Pinned, Bytes, Page, Pages, Loaded, Refused}
-use Rattle.warm_world.specs.Lists.{Pairwise, place}
+use Rattle.warm_world.specs.Lists.{place}
 use Rattle.warm_world.specs.States.{ModelState, ReplicaState, nobody, no_pool, node_of, pool_of, reach_of, replica, set_pool}
 use Rattle.warm_world.specs.Seen.{AreNodes, ReplicaSeen, WorldSeen}
 use Rattle.warm_world.specs.Next.{Asked, IsNamed, Next, Run, shape}
 use Rattle.warm_world.specs.Stands.{ReplicaStands, StandsFor}
 use Rattle.warm_world.specs.Rounds.{IsTaken}
-use Rattle.warm_world.specs.WarmUps.{PoolsDiffer, WarmUpLoads, warm_up}
+use Rattle.warm_world.specs.WarmUps.{PoolsDiffer, WarmUpLoads}
 
 -- ---- one step
 
