@@ -50,7 +50,7 @@ module _ {A : Type 0} (f : A → ReplicaSeen) (xs : List A) (frames : List (List
       subst (λ g. IsAnswer j (history S) g answers) spelled (subst (λ h. IsAnswer j h frame answers) holds (subst (λ i. IsAnswer i (f x).node.history frame answers) id answer)) in
       let rs = answer_records j S kept answers asked in
       let r : ReplicaState = record (replica m p) { reach = heard S kept } in
-      let told : taught (f x).node.history frame ≡ history (heard S kept) = rw (holds, spelled) (taught_heard S kept) in
+      let told : taught (f x).node.history frame ≡ history (heard S kept) = ap (λ h. taught h frame) holds ∙ ap (taught (history S)) spelled ∙ taught_heard S kept in
       let stands : ReplicaStands m.room p (f y) r = record {
         has_room = here.has_room;
         node_is = ap (λ (s : ReplicaSeen). s.node) becomes ∙ learns ∙ ap (λ (h : HistoryView). let v : NodeView = record (f x).node { history = h } in v) told
