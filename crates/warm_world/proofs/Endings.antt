@@ -56,3 +56,7 @@ module _ {A : Type 0} (g : A → NodeState) (xs : List A) (k : ℕ) (y : A) wher
   pub settled_if : {T E : Type 0} (result : Result T E) → k < length xs → AreSettledBefore k (map g xs) → OnOk result (IsSettled (g y).pool) → OnOk result (AreSettledBefore (k + 1) (map g (set xs k y)))
   settled_if (Ok done) lt before here = subst (AreSettledBefore (k + 1)) (sym (map-set g xs k y)) (settled_next lt before here)
   settled_if (Err why) lt before here = tt
+
+-- what fails in a world that shows what it showed fails in that
+pub fails_since : (old mid new : WorldSeen) (why : NodeFault) → mid ≡ old → FinishFails mid why new → FinishFails old why new
+fails_since old mid new why same = subst (λ w. FinishFails w why new) same
