@@ -17,5 +17,8 @@ few_more lists list few short k low = elim (cases_eq k (length lists)) [
 ]
 
 -- a list of one device is added to lists of few devices each
-pub one_more : {A : Type 0} (f : A → List DeviceState) (xs : List A) (x : A) → AreFew (map f xs) → length (f x) ≡ 1 → AreFew (map f (xs ++ x ∷ []))
-one_more f xs x few one = subst AreFew (sym (map-append f xs (x ∷ []))) (few_more (map f xs) (f x) few (omega (arith, one)))
+pub one_more : {A B : Type 0} (g : A → List B) (h : B → DeviceState) (xs ys : List A) (x : A) → ys ≡ xs ++ x ∷ [] → AreFew (map (λ a. map h (g a)) xs) → length (g x) ≡ 1 → AreFew (map (λ a. map h (g a)) ys)
+one_more g h xs ys x is few one =
+    let short : length (map h (g x)) ≤ MAX_DEVICES = omega (arith, one, length-map (g x) h) in
+    subst (λ zs. AreFew (map (λ a. map h (g a)) zs)) (sym is)
+    (subst AreFew (sym (map-append (λ a. map h (g a)) xs (x ∷ []))) (few_more (map (λ a. map h (g a)) xs) (map h (g x)) few short))

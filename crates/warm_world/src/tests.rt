@@ -1,6 +1,6 @@
 //! Rows of a world's life, run. Each event stands in a function of its own, which keeps that the world is one: what is
 //! proved of a test does not grow with its rows.
-ghost use Rattle.std.specs.Prelude.{◌≡◌, IfOk, length};
+ghost use Rattle.std.specs.Prelude.{◌≡◌, IfOk, OnOk, length};
 ghost use Rattle.warm_world.specs.Opening.{AreFew};
 ghost use Rattle.warm_world.specs.Seen.{IsWorld, listed};
 
@@ -9,7 +9,7 @@ mod growths;
 mod pools;
 mod setups;
 
-use crate::event::{Answer, BadWorld, Event, WorldFault};
+use crate::event::{Answer, Event, WorldFault};
 use crate::setup::Setup;
 use crate::world::World;
 use std::alloc::{AllocError, Global};
@@ -44,6 +44,19 @@ fn one_device(
     Ok(list)
 }
 
+// Adds a list of one device.
+fn add_list(
+    lists: &mut Vec<Vec<Box<dyn PageDevice + Send>>>,
+    list: Vec<Box<dyn PageDevice + Send>>,
+) -> Result<(), AllocError>
+    requires few { AreFew (listed state lists.old.items) }
+    requires one { length list.items ≡ 1 }
+    ensures { OnOk result (AreFew (listed state lists.new.items)) }
+{
+    lists.push(list)?;
+    Ok(())
+}
+
 // So many lists of one device of 256 pages each.
 fn devices_for(
     alloc: Global,
@@ -54,7 +67,7 @@ fn devices_for(
 {
     let mut lists = Vec::new(alloc);
     for _replica in 0..replicas {
-        lists.push(one_device(alloc, 256, page_size)?)?;
+        add_list(&mut lists, one_device(alloc, 256, page_size)?)?;
     }
     Ok(lists)
 }
@@ -208,13 +221,7 @@ fn pinned(world: &mut World, i: u16, page: PageId) -> Result<Slot, WorldFault>
     }
 }
 
-fn bytes(
-    world: &mut World,
-    i: u16,
-    slot: Slot,
-    at: u32,
-    len: u32,
-) -> Result<ByteList, WorldFault>
+fn bytes(world: &mut World, i: u16, slot: Slot, at: u32, len: u32) -> Result<ByteList, WorldFault>
     requires { IsWorld state world.old }
     ensures { IsWorld state world.new }
 {
@@ -271,10 +278,7 @@ fn put(
 {
     let mut bytes = Vec::new(alloc);
     bytes.extend_from_slice(text)?;
-    Ok(settled(
-        world,
-        Event::Put(i, slot, at, ByteList::of(bytes)),
-    ))
+    Ok(settled(world, Event::Put(i, slot, at, ByteList::of(bytes))))
 }
 
 // A history has just these entries. `at` is the number of the row.
@@ -352,7 +356,11 @@ fn uses(
             assert_eq!(rt; put(alloc, world, i, slot, from, text)?, wanted, "row {at}")
         }
         Use::Lacks(slot, from, len, fault) => {
-            assert_eq!(rt; bytes(world, i, slot, from, len).err(), Some(fault), "row {at}")
+            assert_eq!(rt;
+                bytes(world, i, slot, from, len).err(),
+                Some(fault),
+                "row {at}"
+            )
         }
         Use::Victim(wanted) => assert_eq!(rt; victim(world, i), Ok(wanted), "row {at}"),
         Use::Loads(wanted) => assert_eq!(rt; loaded(world, i), wanted, "row {at}"),
@@ -376,14 +384,22 @@ fn meets(
         Row::Hottest(i, pages, wanted) => return are_hottest(rt, world, i, pages, wanted, at),
         Row::Knows(i, wanted) => return has_entries(rt, &shown(world, i)?, wanted, at),
         Row::Refers(i, w, page, time, wanted) => {
-            assert_eq!(rt; settled(world, Event::Refer(i, w, page, time)), wanted, "row {at}")
+            assert_eq!(rt;
+                settled(world, Event::Refer(i, w, page, time)),
+                wanted,
+                "row {at}"
+            )
         }
         Row::Flushes(i, w, wanted) => {
             assert_eq!(rt; settled(world, Event::Flush(i, w)), wanted, "row {at}")
         }
         Row::Sends(i, bucket, after, wanted) => {
             let bucket = Bucket::new(bucket).ok_or("a bucket")?;
-            assert_eq!(rt; kept(world, Event::Send(i, bucket, after)), Ok(wanted), "row {at}")
+            assert_eq!(rt;
+                kept(world, Event::Send(i, bucket, after)),
+                Ok(wanted),
+                "row {at}"
+            )
         }
         Row::Offers(i, wanted) => {
             assert_eq!(rt; kept(world, Event::Offer(i)), Ok(wanted), "row {at}")

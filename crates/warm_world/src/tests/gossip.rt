@@ -10,7 +10,9 @@ use std::test::Fail;
 use warm_stamps::{Bucket, PageId};
 
 const PAGE: PageId = PageId { dev: 0, no: 1 };
+
 const DONE: Result<(), WorldFault> = Ok(());
+
 const NOT_ANSWERED: Result<(u64, u64), WorldFault> = Ok((0, 0));
 
 #[test]

@@ -18,8 +18,8 @@ impl Replica {
     fn knows_same(&self, other: &Replica) -> bool {
         let known = self.node.history();
         let others = other.node.history();
-        let entries =
-            known.len() == others.len() && (0..known.len()).all(|i| known.at(i) == others.at(i));
+        let entries = known.len() == others.len()
+            && (0..known.len()).all(|i| known.at(i) == others.at(i));
         let buffers = self.buffers.len() == other.buffers.len()
             && self
                 .buffers

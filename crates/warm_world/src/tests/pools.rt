@@ -1,5 +1,8 @@
 //! Pages of replicas' pools: fixes, victims, bytes, warming up, and restarts.
-use super::{Row, Use, fresh, lives, made, page, runs, slot};
+ghost use Rattle.std.specs.Prelude.{IfOk};
+ghost use Rattle.warm_world.specs.Seen.{IsWorld};
+
+use super::{Row, Use, add_list, devices_for, lives, made, page, runs, slot};
 use crate::event::WorldFault;
 use crate::setup::Setup;
 use crate::world::World;
@@ -9,9 +12,6 @@ use warm_devices::{Flaky, MemDevice, PageDevice};
 use warm_gossip::NodeFault;
 use warm_pool::PoolFault;
 use warm_stamps::PageId;
-
-ghost use Rattle.std.specs.Prelude.{IfOk};
-ghost use Rattle.warm_world.specs.Seen.{IsWorld};
 
 const DONE: Result<(), WorldFault> = Ok(());
 
@@ -184,8 +184,8 @@ fn failing(alloc: Global, call: u64) -> Result<World, Fail>
     let device: Box<dyn PageDevice + Send> = Box::new(alloc, Flaky::new(memory, call))?;
     let mut list = Vec::with_capacity(alloc, 1)?;
     list.push_reserved(device);
-    let mut lists = Vec::with_capacity(alloc, 1)?;
-    lists.push_reserved(list);
+    let mut lists = devices_for(alloc, 0, 16)?;
+    add_list(&mut lists, list)?;
     made(alloc, setup, lists)
 }
 

@@ -2,7 +2,7 @@
 ghost use Rattle.warm_world.specs.Opening.{AreFew};
 ghost use Rattle.warm_world.specs.Seen.{listed};
 
-use super::{devices_for, one_device};
+use super::{add_list, devices_for, one_device};
 use crate::event::{BadWorld, WorldFault};
 use crate::setup::{BadSetup, Setup};
 use crate::world::World;
@@ -84,9 +84,8 @@ fn every_device_has_pages_of_one_size(rt: HostRuntime) -> Result<(), Fail> {
     let alloc = rt.alloc();
     let differ = Some(BadWorld::SizeDiffers);
     assert_eq!(rt; refused(alloc, 2, devices_for(alloc, 2, 32)?)?, differ);
-    let mut lists = Vec::with_capacity(alloc, 2)?;
-    lists.push_reserved(one_device(alloc, 8, 16)?);
-    lists.push_reserved(one_device(alloc, 8, 8)?);
+    let mut lists = devices_for(alloc, 1, 16)?;
+    add_list(&mut lists, one_device(alloc, 8, 8)?)?;
     assert_eq!(rt; refused(alloc, 2, lists)?, differ);
     Ok(())
 }

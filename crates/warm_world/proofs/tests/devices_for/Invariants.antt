@@ -3,5 +3,5 @@ use Rattle.warm_world.specs.Seen.{listed}
 use Rattle.warm_world.proofs.tests.devices_for.Given as goal
 
 -- each list so far has few devices
-abbrev pub invariant-loop-_replica : goal.invariant-loop-_replica
-invariant-loop-_replica g l = AreFew (listed (λ b. (goal.PageDevice-dyn g (b.vtable, b.value)).state b.value) l.lists.items)
+abbrev pub invariant-loop-replica : goal.invariant-loop-replica
+invariant-loop-replica g l = AreFew (listed (λ b. (goal.PageDevice-dyn g (b.vtable, b.value)).state b.value) l.lists.items)
