@@ -59,19 +59,22 @@ module _ {A : Type 0} (f : A → ReplicaSeen) (xs : List A) (frames : List (List
       } in
       let changed = replica_changes f xs frames m p y r st lt stands in
       let spell = Pairwise-of Encodes SpellsRecord frame_kept keeps.0 rs.added (λ bytes one codes. spells_kept bytes (frame_kept one) one refl codes)
-          (subst (Pairwise (λ _ bytes g. Encodes bytes g) keeps.0) rs.are keeps.1) in
+      (subst (Pairwise (λ _ bytes g. Encodes bytes g) keeps.0) rs.are keeps.1) in
       let all : length answers ≡ length rs.added = ap length rs.are ∙ length-map rs.added frame_kept in
       let counted : length frames' - count ≡ length m.records =
       omega (arith, ap length keeps.2, length-append frames keeps.0, spell.same_length, st.frames.same_length, all, many) in
       record {
         new = add_records (set_replica m p r) rs.added;
-        next = (named_too (world f xs frames xs) m (Deliver j k) st named, record {
-          added = rs.added;
-          answers = rs.answers;
-          many = many ∙ all;
-          from = from ∙ ap (λ (c : ℕ). if count == 0 then 0 else c + 1) counted;
-          becomes = refl;
-        });
+        next = (
+          named_too (world f xs frames xs) m (Deliver j k) st named,
+          record {
+            added = rs.added;
+            answers = rs.answers;
+            many = many ∙ all;
+            from = from ∙ ap (λ (c : ℕ). if count == 0 then 0 else c + 1) counted;
+            becomes = refl;
+          },
+        );
         stands = rw keeps.2 (frames_join (world f xs frames (set xs p y)) (set_replica m p r) keeps.0 rs.added changed spell);
       }
 
@@ -85,7 +88,7 @@ module _ {A : Type 0} (f : A → ReplicaSeen) (xs : List A) (frames : List (List
       delivered m j k count first x y frame answers n frames' st named is spelled answered learns becomes takes.0 takes.1 takes.2
   taken m j k x y frame answers n frames' (Refused (Node Memory)) st named is spelled answered learns becomes takes =
       let same : f y ≡ f x = becomes ∙ ap (λ (v : NodeView). let r : ReplicaSeen = record (f x) { node = v } in r)
-          (learns ∙ ap (λ (h : HistoryView). let v : NodeView = record (f x).node { history = h } in v) (unanswered_or_untaught (f x).node.id (f x).node.history frame answers answered takes.0)) in
+      (learns ∙ ap (λ (h : HistoryView). let v : NodeView = record (f x).node { history = h } in v) (unanswered_or_untaught (f x).node.id (f x).node.history frame answers answered takes.0)) in
       record {
         new = m;
         next = (named_too (world f xs frames xs) m (Deliver j k) st named, refl);

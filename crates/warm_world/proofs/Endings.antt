@@ -1,14 +1,16 @@
 -- One replica's pages are written back.
-use Rattle.std.proofs.Common.{◌≡◌, ℕ, ◌<◌, List, length, map, get_or, set, Result, Ok, Err, refl, sym, ◌∙◌, ap, subst}
+use Rattle.std.proofs.Common.{◌≡◌, ℕ, ◌+◌, ◌<◌, inl, inr, arith, List, length, map, get_or, set, Result, Ok, Err, refl, sym, ◌∙◌, ap, subst}
 use Rattle.std.specs.Prelude.{IfErr, OnOk}
-use Rattle.std.proofs.lemmas.List.{get_or-map, length-map, map-set, set-get_or}
+use Rattle.std.proofs.lemmas.List.{get_or-map, get_or-set_same, get_or-set_other, length-map, map-set, set-get_or}
+use Rattle.std.proofs.lemmas.Bool.{cases_eq}
 use Rattle.warm_gossip.specs.declared.fault.NodeFault.{NodeFault}
 use Rattle.warm_gossip.specs.declared.fault.NodeFault.TheVariants.{Pool}
-use Rattle.warm_gossip.specs.State.{NodeView}
+use Rattle.warm_gossip.specs.State.{NodeState, NodeView}
 use Rattle.warm_gossip.specs.Step.{IsFailed, OnPool}
 use Rattle.warm_pool.specs.declared.fault.PoolFault.TheVariants.{Fault}
 use Rattle.warm_world.specs.Opening.{FailsOf, FinishFails, fails}
-use Rattle.warm_world.specs.Seen.{ReplicaSeen, WorldSeen}
+use Rattle.warm_pool.specs.State.{IsSettled}
+use Rattle.warm_world.specs.Seen.{AreSettledBefore, ReplicaSeen, WorldSeen}
 use Rattle.warm_world.proofs.Worlds.{world}
 
 module _ {A : Type 0} (f : A → ReplicaSeen) (xs : List A) (frames : List (List ℕ)) (k : ℕ) (x y : A) where
@@ -42,6 +44,18 @@ module _ {A : Type 0} (f : A → ReplicaSeen) (xs : List A) (frames : List (List
       → IfErr result (λ why. (why ≡ Pool Fault) × OnPool IsFailed (f x).node (f y).node) → IfErr result (λ why. FinishFails (world f xs frames xs) why (world f xs frames (set xs k y)))
   fails_if (Ok done) lt is alike did = tt
   fails_if (Err why) lt is alike did = (did.0, failed lt is alike did.1)
+
+-- the nodes up to this one are settled where those before it were, and it is
+module _ {A : Type 0} (g : A → NodeState) (xs : List A) (k : ℕ) (y : A) where
+  settled_next : k < length xs → AreSettledBefore k (map g xs) → IsSettled (g y).pool → AreSettledBefore (k + 1) (set (map g xs) k (g y))
+  settled_next lt before here j other low = elim (cases_eq j k) [
+    | inl same ↦ rw same (rw (get_or-set_same (map g xs) k (g y) other (subst (λ n. k < n) (sym (length-map xs g)) lt)) here)
+    | inr apart ↦ rw (get_or-set_other (map g xs) k j (g y) other apart) (before j other (omega (arith, low, apart)))
+  ]
+
+  pub settled_if : {T E : Type 0} (result : Result T E) → k < length xs → AreSettledBefore k (map g xs) → OnOk result (IsSettled (g y).pool) → OnOk result (AreSettledBefore (k + 1) (map g (set xs k y)))
+  settled_if (Ok done) lt before here = subst (AreSettledBefore (k + 1)) (sym (map-set g xs k y)) (settled_next lt before here)
+  settled_if (Err why) lt before here = tt
 
 -- what fails in a world that shows what it showed fails in that
 pub fails_since : (old mid new : WorldSeen) (why : NodeFault) → mid ≡ old → FinishFails mid why new → FinishFails old why new

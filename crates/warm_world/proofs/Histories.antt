@@ -47,7 +47,7 @@ offered_kept id i h S same is = ap (λ n. Digest n (sums_of (entries_of h))) sam
 -- the frame that was decoded of bytes is the one that they spell
 pub same_frame : (result : Result Frame FrameFault) (room : Result ℕ FrameFault) (found frame : Frame) → result ≡ Ok found → Gives result (Ok frame) room → found ≡ frame
 same_frame result room found frame is (inl same) =
-    let frame_in : Result Frame FrameFault → Frame = λ r. elim r [ | Ok f ↦ f | Err e ↦ found ] in
+    let frame_in : Result Frame FrameFault → Frame = λ r. elim r [ Ok f ↦ f | Err e ↦ found ] in
     ap frame_in (sym is ∙ same)
 same_frame result room found frame is (inr refused) = cc
 

@@ -43,7 +43,7 @@ module _ {B : Type 0} (f : B → DeviceState) where
     | inr other ↦
         let same : j ≡ k = omega (arith, low, other) in
         subst (λ i. AreOfSize size (length (devices_at (shown lists) i)) (devices_at (shown lists) i)) (sym same)
-            (subst (λ ds. AreOfSize size (length ds) ds) (sym (listed_at lists k v lt is)) (λ i high. here i (subst (λ n. i < n) (length-map v.items f) high)))
+        (subst (λ ds. AreOfSize size (length ds) ds) (sym (listed_at lists k v lt is)) (λ i high. here i (subst (λ n. i < n) (length-map v.items f) high)))
   ]
 
   -- so many lists
@@ -84,8 +84,8 @@ module _ {B : Type 0} (f : B → DeviceState) where
       → Pairwise (ReplicaStands s.buffer) (map g rs') (map (opened_over s) (shown (so_far ++ v ∷ [])))
   one_more g s rs rs' r so_far v more stand here =
       rw (more, map-append g rs (r ∷ []), map-append (λ (ds : Vec B). map f ds.items) so_far (v ∷ []), map-append (opened_over s) (shown so_far) (map f v.items ∷ []))
-          (Pairwise-push (ReplicaStands s.buffer) (map g rs) (map (opened_over s) (shown so_far)) (g r) (opened_over s (map f v.items)) stand
-          (subst (λ n. ReplicaStands s.buffer n (g r) (opened_over s (map f v.items))) (sym (length-map rs g)) here))
+      (Pairwise-push (ReplicaStands s.buffer) (map g rs) (map (opened_over s) (shown so_far)) (g r) (opened_over s (map f v.items)) stand
+      (subst (λ n. ReplicaStands s.buffer n (g r) (opened_over s (map f v.items))) (sym (length-map rs g)) here))
 
 -- ---- nodes
 

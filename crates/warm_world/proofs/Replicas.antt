@@ -80,7 +80,7 @@ opened_stands s devices place id room workers frames size n p bs some of_room of
   has_room = omega (arith, some, of_room);
   node_is = ap node_view node
       ∙ ap (λ (q : PoolState). let v : NodeView = record { id = id; history = holding []; pool = view_of q } in v)
-          (made ∙ ap (λ k. pools.opened k size devices) of_frames ∙ ap (λ k. pools.opened s.frames k devices) of_size)
+      (made ∙ ap (λ k. pools.opened k size devices) of_frames ∙ ap (λ k. pools.opened s.frames k devices) of_size)
       ∙ ap (λ (i : ℕ). let v : NodeView = record { id = i; history = holding []; pool = view_of (pools.opened s.frames s.page_size devices) } in v) number
       ∙ ap (λ (h : HistoryView). let v : NodeView = record { id = place + 1; history = h; pool = view_of (pools.opened s.frames s.page_size devices) } in v) (sym history_of_nothing);
   buffers_are = empty ∙ ap (λ k. replicate workers (buffered k [])) of_room ∙ ap (λ k. replicate k (buffered s.buffer [])) of_workers ∙ sym (empty_buffers_are s.buffer s.workers);

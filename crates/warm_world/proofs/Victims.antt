@@ -51,10 +51,10 @@ fixed_stays v w p slot page adds there gone =
     let is : w.frames ≡ set v.frames slot.index (record (frame_at v slot.index) { fixes = (frame_at v slot.index).fixes + 1 }) = ap fr adds.becomes in
     let was = left_that v w slot.index _ page is there gone in
     gone slot.index (ap (λ fs. (frame_in fs slot.index).page) is
-        ∙ ap (λ (g : FrameView). g.page) (get_or-set_same v.frames slot.index (record (frame_at v slot.index) { fixes = (frame_at v slot.index).fixes + 1 }) (record { page = None; generation = 0; fixes = 0 }) adds.there) ∙ was)
+    ∙ ap (λ (g : FrameView). g.page) (get_or-set_same v.frames slot.index (record (frame_at v slot.index) { fixes = (frame_at v slot.index).fixes + 1 }) (record { page = None; generation = 0; fixes = 0 }) adds.there) ∙ was)
 
 some_is : (p q : PageId) → (let o : Option PageId = Some p in o ≡ Some q) → p ≡ q
-some_is p q is = ap (λ (o : Option PageId). elim o [ | Some x ↦ x | None ↦ p ]) is
+some_is p q is = ap (λ (o : Option PageId). elim o [ Some x ↦ x | None ↦ p ]) is
 
 -- the page that leaves for another is the victim
 victim_left : (S : ReferenceSet) (v w : PoolView) (p : PageId) (n : ℕ) (slot : Slot) (page : PageId) → PutsIn (history S) v p n slot w → IsResident v page → IsAbsent w page → IsFarthest S (unfixed_pages v) page

@@ -9,3 +9,6 @@ pub mod Seen
 pub mod Replicas
 pub mod Opening
 pub mod Stands
+pub mod Widths
+pub mod Rounds
+pub mod WarmUps

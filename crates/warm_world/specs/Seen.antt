@@ -1,5 +1,6 @@
 -- What contracts see of a world: plain data, read off its nodes, whose devices are boxed.
 use Rattle.std.specs.Prelude.{ℕ, ◌<◌, List, length, map, slice_index_or}
+use Rattle.warm_pool.specs.State.{IsSettled}
 use Rattle.std.specs.Global.{Vec}
 use Rattle.std.specs.declared.alloc.Global.{Global}
 use Rattle.std.specs.declared.dyn_box.DynBox.{DynBox}
@@ -42,3 +43,14 @@ pub record AreNodes (nodes : List NodeState) : Type 0 where
 -- each node of the world is fit: its pool is one, and is ranked by its history
 abbrev pub IsWorld : {X : Type 0} {P : X → Type 0} → (DynBox X Global P → DeviceState) → World X P → Type 0
 IsWorld state w = AreNodes (map (λ r. node_state state r.node) w.replicas.items)
+
+-- of the nodes before a place every page is on its device as it is in its frame, and no device has anything left to put down
+abbrev pub AreSettledBefore : ℕ → List NodeState → Type 0
+AreSettledBefore k nodes = (j : ℕ) (other : NodeState) → j < k → IsSettled (slice_index_or nodes j other).pool
+
+abbrev pub IsSettledBefore : {X : Type 0} {P : X → Type 0} → (DynBox X Global P → DeviceState) → ℕ → World X P → Type 0
+IsSettledBefore state k w = AreSettledBefore k (map (λ r. node_state state r.node) w.replicas.items)
+
+-- the same of all nodes of the world
+abbrev pub IsAtRest : {X : Type 0} {P : X → Type 0} → (DynBox X Global P → DeviceState) → World X P → Type 0
+IsAtRest state w = IsSettledBefore state (length w.replicas.items) w

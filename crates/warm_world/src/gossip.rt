@@ -26,11 +26,7 @@ fn encoded(alloc: Global, frames: &[Frame]) -> Result<Vec<Vec<u8>>, AllocError>
 }
 
 // Keeps the frames after the others, all of them or none; no frames need no memory.
-fn keep_all(
-    alloc: Global,
-    kept: &mut Vec<Vec<u8>>,
-    frames: &[Frame],
-) -> Result<(), AllocError>
+fn keep_all(alloc: Global, kept: &mut Vec<Vec<u8>>, frames: &[Frame]) -> Result<(), AllocError>
     ensures ok { OnOk result (KeepsAll (map (λ f. f.items) kept.old.items) frames.now
         (map (λ f. f.items) kept.new.items)) }
     ensures err { OnErr result (kept.new.items ≡ kept.old.items) }

@@ -13,9 +13,12 @@
 
 mod event;
 mod gossip;
+pub mod laws;
 mod pages;
 mod replica;
 mod setup;
+#[cfg(test)]
+mod tests;
 mod world;
 
 pub use event::{Answer, BadWorld, Event, WorldFault};

@@ -13,6 +13,7 @@ ghost use Rattle.warm_world.specs.Seen.{seen_replica};
 ghost use Rattle.warm_world.specs.Stands.{buffered, ReplicaStands, Becomes, IsFull};
 ghost use Rattle.warm_world.specs.Replicas.{Restarts, cleared};
 
+use crate::setup::Setup;
 use std::alloc::{AllocError, Global};
 use std::marker::PhantomData;
 use warm_devices::PageDevice;
@@ -20,8 +21,6 @@ use warm_gossip::{Node, NodeFault};
 use warm_pool::Pool;
 use warm_refbuffer::{BufferFault, RefBuffer};
 use warm_stamps::{PageId, Reference, ReplicaId, Stamp};
-
-use crate::setup::Setup;
 
 /// A node, and the references that its workers have still to tell it.
 #[derive(Drop)]

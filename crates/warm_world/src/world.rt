@@ -1,5 +1,5 @@
 //! The world: its replicas and the frames that were sent.
-ghost use Rattle.std.specs.Prelude.{◌≡◌, ◌<◌, ◌≤◌, length, map, slice_index_or};
+ghost use Rattle.std.specs.Prelude.{◌≡◌, ◌+◌, ◌<◌, ◌≤◌, length, map, slice_index_or};
 ghost use Rattle.std.specs.Prelude.{OnOk, IfOk, IfErr, IsTrue, ◌↔◌};
 ghost use Rattle.warm_stamps.specs.declared.TheConstants.{MAX_REPLICAS};
 ghost use Rattle.warm_gossip.specs.Clauses.{node_state};
@@ -8,6 +8,7 @@ ghost use Rattle.warm_world.specs.States.{opened_over, opening};
 ghost use Rattle.warm_world.specs.Opening.{AreFew, AreSized, FinishFails, NewRefused};
 ghost use Rattle.warm_world.specs.Next.{IsNamed, IsMissing};
 ghost use Rattle.warm_world.specs.Seen.{AreNodes, IsWorld, listed, seen, seen_replica};
+ghost use Rattle.warm_world.specs.Seen.{IsAtRest, IsSettledBefore};
 ghost use Rattle.warm_world.specs.Stands.{ReplicaStands, seen_shape, StandsFor, Steps, Runs};
 
 use crate::event::{Answer, BadWorld, Event, WorldFault};
@@ -265,6 +266,7 @@ impl World {
         requires fit { IsWorld state self.old }
         ensures fit { IsWorld state self.new }
         ensures same { OnOk result (seen state self.new ≡ seen state self.old) }
+        ensures settled { OnOk result (IsAtRest state self.new) }
         ensures refused { IfErr result (λ why. FinishFails (seen state self.old) why
             (seen state self.new)) }
     {
@@ -282,6 +284,8 @@ impl World {
         requires there { k < length self.old.replicas.items }
         ensures fit { IsWorld state self.new }
         ensures same { OnOk result (seen state self.new ≡ seen state self.old) }
+        ensures settled { IsSettledBefore state k self.old
+            → OnOk result (IsSettledBefore state (k + 1) self.new) }
         ensures refused { IfErr result (λ why. FinishFails (seen state self.old) why
             (seen state self.new)) }
         ensures many { length self.new.replicas.items ≡ length self.old.replicas.items }

@@ -8,4 +8,4 @@ use Rattle.warm_world.proofs.world.are_sized.Given as goal
 abbrev pub invariant-loop-list : goal.invariant-loop-list
 invariant-loop-list g l = (k : ℕ) → k < l.list-index
     → AreOfSize l.page_size (length (devices_at (listed (λ b. (goal.PageDevice-dyn g (b.vtable, b.value)).state b.value) l.devices) k))
-        (devices_at (listed (λ b. (goal.PageDevice-dyn g (b.vtable, b.value)).state b.value) l.devices) k)
+    (devices_at (listed (λ b. (goal.PageDevice-dyn g (b.vtable, b.value)).state b.value) l.devices) k)

@@ -26,7 +26,7 @@ pub returns-in-Ok-receive-clause-step : goal.returns-in-Ok-receive-clause-step
 returns-in-Ok-receive-clause-step g c = λ m st.
     let kept = kept_at _ m c.args.k c.args.self.now.frames.items c.index.result.now st refl c.requires.named.frame_there c.index.ensures in
     let found = same_frame c.decode.result _ c.in-Ok.frame (frame_kept (record_at m (c.args.k - 1))) c.in-Ok.is
-        (c.decode.ensures.only (frame_kept (record_at m (c.args.k - 1))) (subst (λ b. Spells b (frame_kept (record_at m (c.args.k - 1)))) (sym c.deref.ensures.value) kept.spells)) in
+    (c.decode.ensures.only (frame_kept (record_at m (c.args.k - 1))) (subst (λ b. Spells b (frame_kept (record_at m (c.args.k - 1)))) (sym c.deref.ensures.value) kept.spells)) in
     taken _ _ _ m c.args.j c.args.k _ _ c.in-Ok.frame c.as_slice.result.now _ _ c.took.result st c.requires.named c.index_mut.ensures.value found
     (subst (λ fs. IsAnswer c.index_mut.result.now.node.id c.index_mut.result.now.node.history c.in-Ok.frame fs) (sym c.as_slice.ensures) c.in-Ok-receive.ensures.step.0)
     c.in-Ok-receive.ensures.step.1 refl c.took.ensures

@@ -1,6 +1,6 @@
 use Rattle.std.proofs.Common.{refl}
 use Rattle.warm_world.proofs.Worlds.{node_at, still_nodes}
-use Rattle.warm_world.proofs.Endings.{fails_if, same_if}
+use Rattle.warm_world.proofs.Endings.{fails_if, same_if, settled_if}
 use Rattle.warm_world.proofs.world.World.write_back.Goals as goal
 
 pub write_back-requires : goal.write_back-requires
@@ -14,3 +14,6 @@ returns-clause-same g c = same_if _ _ _ _ _ _ _ c.requires.there c.index_mut.ens
 
 pub returns-clause-refused : goal.returns-clause-refused
 returns-clause-refused g c = fails_if _ _ _ _ _ _ _ c.requires.there c.index_mut.ensures.value refl c.write_back.ensures.refused
+
+pub returns-clause-settled : goal.returns-clause-settled
+returns-clause-settled g c = λ before. settled_if _ _ _ _ _ c.requires.there before c.write_back.ensures.settled
