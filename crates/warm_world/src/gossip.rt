@@ -79,7 +79,8 @@ impl World {
         requires fit { IsWorld state self.old }
         requires named { IsNamed (seen_shape (seen state self.old)) (Event.Send i bucket after) }
         ensures fit { IsWorld state self.new }
-        ensures step { Steps (seen state self.old) (Event.Send i bucket after) result (seen state self.new) }
+        ensures step { Steps (seen state self.old) (Event.Send i bucket after) result
+            (seen state self.new) }
     {
         match self.replicas[i as usize - 1].node.send(bucket, after) {
             Ok(frame) => self.keep(&frame),
@@ -103,7 +104,8 @@ impl World {
         requires fit { IsWorld state self.old }
         requires named { IsNamed (seen_shape (seen state self.old)) (Event.Deliver j k) }
         ensures fit { IsWorld state self.new }
-        ensures step { Steps (seen state self.old) (Event.Deliver j k) result (seen state self.new) }
+        ensures step { Steps (seen state self.old) (Event.Deliver j k) result
+            (seen state self.new) }
     {
         // The bytes spell a frame, so nothing but memory can be wanting.
         let Ok(frame) = decode(self.alloc, &self.frames[k as usize - 1]) else {

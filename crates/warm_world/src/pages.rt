@@ -25,7 +25,8 @@ impl World {
         requires fit { IsWorld state self.old }
         requires named { IsNamed (seen_shape (seen state self.old)) (Event.Unpin i slot) }
         ensures fit { IsWorld state self.new }
-        ensures step { Steps (seen state self.old) (Event.Unpin i slot) result (seen state self.new) }
+        ensures step { Steps (seen state self.old) (Event.Unpin i slot) result
+            (seen state self.new) }
     {
         match self.replicas[i as usize - 1].node.unpin(slot) {
             Ok(()) => Answer::Done,
@@ -35,9 +36,11 @@ impl World {
 
     pub(crate) fn put(&mut self, i: u16, slot: Slot, at: u32, bytes: &[u8]) -> Answer
         requires fit { IsWorld state self.old }
-        requires named { IsNamed (seen_shape (seen state self.old)) (Event.Put i slot at bytes.now) }
+        requires named { IsNamed (seen_shape (seen state self.old))
+            (Event.Put i slot at bytes.now) }
         ensures fit { IsWorld state self.new }
-        ensures step { Steps (seen state self.old) (Event.Put i slot at bytes.now) result (seen state self.new) }
+        ensures step { Steps (seen state self.old) (Event.Put i slot at bytes.now) result
+            (seen state self.new) }
     {
         let first = at as usize;
         match self.replicas[i as usize - 1].node.write(slot, first, bytes) {
@@ -49,7 +52,8 @@ impl World {
     pub(crate) fn get(&self, i: u16, slot: Slot, at: u32, len: u32) -> Answer
         requires fit { IsWorld state self.now }
         requires named { IsNamed (seen_shape (seen state self.now)) (Event.Get i slot at len) }
-        ensures { Steps (seen state self.now) (Event.Get i slot at len) result (seen state self.now) }
+        ensures { Steps (seen state self.now) (Event.Get i slot at len) result
+            (seen state self.now) }
     {
         let first = at as usize;
         let count = len as usize;

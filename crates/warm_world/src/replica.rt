@@ -143,7 +143,8 @@ impl Replica {
     pub(crate) fn restart(&mut self) -> Result<(), NodeFault>
         requires fit { IsFit state self.old.node }
         ensures fit { IsFit state self.new.node }
-        ensures restarts { Restarts (seen_replica state self.old) result (seen_replica state self.new) }
+        ensures restarts { Restarts (seen_replica state self.old) result
+            (seen_replica state self.new) }
     {
         self.node.restart()?;
         clear_all(&mut self.buffers);

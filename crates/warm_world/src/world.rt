@@ -66,7 +66,8 @@ fn replicas_over(
     requires many { length devices.items ≤ MAX_REPLICAS }
     ensures fit { IfOk result (λ made. AreNodes (map (λ r. node_state state r.node) made.items)) }
     ensures stand { IfOk result (λ made. Pairwise (ReplicaStands setup.buffer)
-        (map (seen_replica state) made.items) (map (opened_over setup) (listed state devices.items))) }
+        (map (seen_replica state) made.items)
+        (map (opened_over setup) (listed state devices.items))) }
 {
     let mut replicas = Vec::with_capacity(alloc, devices.len())?;
     for list in devices {
@@ -165,7 +166,8 @@ impl World {
         requires fit { IsWorld state self.old }
         requires named { IsNamed (seen_shape (seen state self.old)) (Event.Refer i w page time) }
         ensures fit { IsWorld state self.new }
-        ensures step { Steps (seen state self.old) (Event.Refer i w page time) result (seen state self.new) }
+        ensures step { Steps (seen state self.old) (Event.Refer i w page time) result
+            (seen state self.new) }
     {
         let worker = w as usize - 1;
         match self.replicas[i as usize - 1].refer(worker, page, time) {
