@@ -42,3 +42,7 @@ module _ {A : Type 0} (f : A → ReplicaSeen) (xs : List A) (frames : List (List
       → IfErr result (λ why. (why ≡ Pool Fault) × OnPool IsFailed (f x).node (f y).node) → IfErr result (λ why. FinishFails (world f xs frames xs) why (world f xs frames (set xs k y)))
   fails_if (Ok done) lt is alike did = tt
   fails_if (Err why) lt is alike did = (did.0, failed lt is alike did.1)
+
+-- what fails in a world that shows what it showed fails in that
+pub fails_since : (old mid new : WorldSeen) (why : NodeFault) → mid ≡ old → FinishFails mid why new → FinishFails old why new
+fails_since old mid new why same = subst (λ w. FinishFails w why new) same

@@ -5,12 +5,9 @@ use Rattle.std.proofs.Math.Seq.{get_or-append_seam}
 use Rattle.std.proofs.lemmas.Bool.{cases_lt}
 use Rattle.std.proofs.lemmas.List.{get_or-map, get_or_append_left, length-append, length-map, map-append}
 use Rattle.warm_devices.specs.Device.{DeviceState}
-use Rattle.warm_devices.specs.declared.TheConstants.{MAX_PAGE_SIZE}
 use Rattle.warm_pool.specs.declared.TheConstants.{MAX_DEVICES}
 use Rattle.warm_pool.specs.DeviceCalls.{AreOfSize}
-use Rattle.warm_pool.specs.Opening.{IsSize}
 use Rattle.warm_gossip.specs.State.{NodeState, IsNode}
-use Rattle.warm_world.specs.Limits.{IsWithin}
 use Rattle.warm_world.specs.Lists.{Pairwise}
 use Rattle.warm_world.specs.Opening.{AreFew, AreSized, devices_at}
 use Rattle.warm_world.specs.Seen.{AreNodes, ReplicaSeen}
@@ -49,6 +46,16 @@ module _ {B : Type 0} (f : B → DeviceState) where
             (subst (λ ds. AreOfSize size (length ds) ds) (sym (listed_at lists k v lt is)) (λ i high. here i (subst (λ n. i < n) (length-map v.items f) high)))
   ]
 
+  -- so many lists
+  pub counted : (lists : List (Vec B)) (n : ℕ) → length lists ≡ n → length (shown lists) ≡ n
+  counted lists n many = count lists ∙ many
+
+  pub sized_all : (size : ℕ) (lists : List (Vec B)) (n : ℕ) → ((j : ℕ) → j < n → AreOfSize size (length (devices_at (shown lists) j)) (devices_at (shown lists) j)) → length lists ≤ n → AreSized size (shown lists)
+  sized_all size lists n each all j low = each j (omega (arith, all, low, count lists))
+
+  pub sized_as : (size size' : ℕ) (xs ys : List (Vec B)) → size ≡ size' → xs ≡ ys → AreSized size (shown xs) → AreSized size' (shown ys)
+  sized_as size size' xs ys same are all = subst (λ n. AreSized n (shown ys)) same (subst (λ zs. AreSized size (shown zs)) are all)
+
   -- the same of a list that is read as a slice
   pub sized_slice : (size : ℕ) (xs ys : List B) → xs ≡ ys → AreOfSize size (length xs) (map f xs) → AreOfSize size (length ys) (map f ys)
   sized_slice size xs ys same = subst (λ zs. AreOfSize size (length zs) (map f zs)) same
@@ -64,12 +71,6 @@ module _ {B : Type 0} (f : B → DeviceState) where
   few_here so_far rest v lists all few =
       let there = at_seam so_far rest v lists all in
       subst (λ n. n ≤ MAX_DEVICES) (ap length (listed_at lists (length so_far) v there.0 there.1) ∙ length-map v.items f) (few (length so_far) (subst (λ n. length so_far < n) (sym (count lists)) there.0))
-
-  pub sized_here : (size : ℕ) (so_far rest : List (Vec B)) (v : Vec B) (lists : List (Vec B)) → so_far ++ v ∷ rest ≡ lists → IsWithin MAX_PAGE_SIZE size → AreSized size (shown lists) → IsSize size (map f v.items)
-  sized_here size so_far rest v lists all within sized =
-      let there = at_seam so_far rest v lists all in
-      let here = sized_at size lists (length so_far) v there.0 there.1 sized in
-      record { range = (within.from_one, within.in_range); each = λ k low. here k (subst (λ n. k < n) (length-map v.items f) low) }
 
   -- there are as many replicas as lists so far, so few that one more has a number
   pub numbered : {A : Type 0} (g : A → ReplicaSeen) (s : Sizes) (room : ℕ) (rs : List A) (so_far rest : List (Vec B)) (v : Vec B) (lists : List (Vec B)) → so_far ++ v ∷ rest ≡ lists

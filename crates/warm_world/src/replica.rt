@@ -4,7 +4,6 @@ ghost use Rattle.std.specs.Prelude.{OnOk, OnErr, IfOk, IfErr, replicate};
 ghost use Rattle.warm_stamps.specs.declared.Reference.{Reference};
 ghost use Rattle.warm_refbuffer.specs.Buffered.{IsCapacity};
 ghost use Rattle.warm_pool.specs.declared.TheConstants.{MAX_DEVICES};
-ghost use Rattle.warm_pool.specs.Opening.{IsSize};
 ghost use Rattle.warm_gossip.specs.Clauses.{IsFit};
 ghost use Rattle.warm_gossip.specs.declared.fault.NodeFault.TheVariants.{Memory};
 ghost use Rattle.warm_world.specs.States.{ReplicaState, opened_over, pending};
@@ -57,7 +56,8 @@ fn empty_buffers(alloc: Global, workers: u16, room: usize) -> Result<Vec<RefBuff
 }
 
 impl Replica {
-    /// A replica that was told nothing, over a pool without a page.
+    /// A replica that was told nothing, over a pool without a page. The devices' pages have the setup's
+    /// size.
     ///
     /// Refused where there is no memory.
     pub(crate) fn new(
@@ -66,8 +66,7 @@ impl Replica {
         setup: Setup,
         devices: Vec<Box<dyn PageDevice + Send>>,
     ) -> Result<Self, AllocError>
-        requires few { length devices.items ≤ MAX_DEVICES }
-        requires sized { IsSize setup.page_size (map (λ b. state b) devices.items) }
+        requires { length devices.items ≤ MAX_DEVICES }
         ensures fit { IfOk result (λ r. IsFit state r.node) }
         ensures stands { (place : ℕ) → id ≡ place + 1
             → IfOk result (λ r. ReplicaStands setup.buffer place (seen_replica state r)

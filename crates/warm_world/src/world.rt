@@ -55,14 +55,13 @@ fn are_sized(devices: &[Vec<Box<dyn PageDevice + Send>>], page_size: usize) -> b
     true
 }
 
-// A replica over each list of devices, numbered from 1.
+// A replica over each list of devices, numbered from 1. Their pages have the setup's size.
 fn replicas_over(
     alloc: Global,
     setup: Setup,
     devices: Vec<Vec<Box<dyn PageDevice + Send>>>,
 ) -> Result<Vec<Replica>, AllocError>
     requires few { AreFew (listed state devices.items) }
-    requires sized { AreSized setup.page_size (listed state devices.items) }
     requires many { length devices.items ≤ MAX_REPLICAS }
     ensures fit { IfOk result (λ made. AreNodes (map (λ r. node_state state r.node) made.items)) }
     ensures stand { IfOk result (λ made. Pairwise (ReplicaStands setup.buffer)

@@ -1,6 +1,5 @@
-use Rattle.std.proofs.Common.{◌<◌, length, length, refl, sym, subst, ap, ◌∙◌, arith}
-use Rattle.std.proofs.lemmas.List.{length-map}
-use Rattle.warm_world.proofs.Openings.{sized_at, sized_more, sized_slice}
+use Rattle.std.proofs.Common.{refl, sym, arith}
+use Rattle.warm_world.proofs.Openings.{sized_all, sized_at, sized_more, sized_slice}
 use Rattle.warm_world.proofs.world.are_sized.Goals as goal
 
 pub loop-list-init : goal.loop-list-init
@@ -17,4 +16,4 @@ returns-then-not-all_sized g c = (
 )
 
 pub returns : goal.returns
-returns g c = (λ _ k low. c.loop-list.invariant k (omega (arith, low, c.loop-list-test.false, length-map c.args.devices.now _)), λ _. refl)
+returns g c = (λ _. sized_all _ _ _ _ c.loop-list.invariant (omega (arith, c.loop-list-test.false)), λ _. refl)
