@@ -326,7 +326,10 @@ fn reads(
     requires { IsWorld state world.old }
     ensures { IsWorld state world.new }
 {
-    let Ok(read) = bytes(world, i, slot, from, wanted.len() as u32) else {
+    let Ok(count) = u32::try_from(wanted.len()) else {
+        return Err("a row wants few bytes".into());
+    };
+    let Ok(read) = bytes(world, i, slot, from, count) else {
         return Err("the bytes are read".into());
     };
     assert_eq!(rt; read.as_slice(), wanted, "row {at}");
