@@ -1,0 +1,268 @@
+#!/usr/bin/env python3
+"""A standby that takes over, played on the page trace of a real database.
+
+usage: takeover.py setup                prints the setup of the two replicas
+       takeover.py schedule TRACE       prints a schedule for `warmplay play --setup SETUP`
+       takeover.py answer TRACE         prints what `warmplay play` must print for it
+
+Each line of the trace (`r PAGE` or `w PAGE`) is one access, and the number of its line its time. Up to TAKEOVER replica 1, the
+primary, makes all accesses: a reference, a pin, a read or a write of eight bytes, an unpin. After every ROUND accesses replica 2,
+the standby, hears of them by sums and wishes. At the takeover it lists the hottest pages and loads them; then it makes the accesses
+itself, while the primary restarts and hears the standby in its turn.
+
+The answers come from a model of the two replicas that shares no code with warmplay: page histories in a dictionary, the victim
+found by comparing all frames, and sums compared by comparing the entries themselves.
+"""
+
+import sys
+from dataclasses import dataclass, field
+from typing import Iterator
+
+FRAMES = 200
+PAGE_SIZE = 16
+PAGES = 1310
+BUFFER = 64
+FLUSHED_AFTER = 25
+ROUND = 4000
+TAKEOVER = 20_000
+END = 24_000
+BUCKETS = 64
+ENTRIES_OF_A_FRAME = 1000
+
+SETUP = f"""\
+replicas = 2
+workers = 1
+buffer = {BUFFER}
+frames = {FRAMES}
+page_size = {PAGE_SIZE}
+device = [{{ pages = {PAGES} }}]
+"""
+
+Stamp = tuple[int, int]  # a time, and the number of a replica
+History = dict[int, tuple[Stamp, ...]]  # of each page the latest stamp, and the one before it
+Step = tuple[str, list[str]]  # a line of the schedule, and the lines of its answer
+
+
+def latest_two(stamps: set[Stamp]) -> tuple[Stamp, ...]:
+    return tuple(sorted(stamps, reverse=True)[:2])
+
+
+@dataclass
+class Frame:
+    """A frame of a pool."""
+
+    page: int | None = None
+    generation: int = 0
+    data: bytes = bytes(PAGE_SIZE)
+
+
+@dataclass
+class Replica:
+    """A replica: what it heard, what waits, and its pool over a device of its own. Nothing stays fixed between accesses."""
+
+    number: int
+    history: History = field(default_factory=dict)
+    waiting: list[tuple[int, Stamp]] = field(default_factory=list)
+    frames: list[Frame] = field(default_factory=lambda: [Frame() for _ in range(FRAMES)])
+    device: dict[int, bytes] = field(default_factory=dict)
+
+    def hear(self, page: int, stamps: tuple[Stamp, ...]) -> None:
+        self.history[page] = latest_two({*self.history.get(page, ()), *stamps})
+
+    def flush(self) -> None:
+        for page, stamp in self.waiting:
+            self.hear(page, (stamp,))
+        self.waiting = []
+
+    def rank(self, page: int) -> tuple[int, list[Stamp], int]:
+        """Of two pages the one of lesser rank leaves first: the older second latest stamp, then the older latest one."""
+        stamps = self.history.get(page, ())
+        return len(stamps), sorted(stamps), page
+
+    def warm(self, count: int) -> list[int]:
+        return sorted(self.history, key=self.rank, reverse=True)[:count]
+
+    def victim(self) -> int | None:
+        return min((f.page for f in self.frames if f.page is not None), key=self.rank, default=None)
+
+    def slot_of(self, page: int) -> int | None:
+        return next((i for i, f in enumerate(self.frames) if f.page == page), None)
+
+    def load(self, page: int) -> int:
+        """Puts a page into the least free frame, or into that of the victim."""
+        free = self.slot_of(None)
+        slot = self.slot_of(self.victim()) if free is None else free
+        frame = self.frames[slot]
+        if frame.page is not None:
+            self.device[frame.page] = frame.data
+        frame.page = page
+        frame.generation += 1
+        frame.data = self.device.get(page, bytes(PAGE_SIZE))
+        return slot
+
+    def bucket(self, bucket: int) -> list[tuple[int, tuple[Stamp, ...]]]:
+        return [(p, self.history[p]) for p in sorted(self.history) if p % BUCKETS == bucket]
+
+    def sums(self) -> list[list[tuple[int, tuple[Stamp, ...]]]]:
+        buckets: list[list[tuple[int, tuple[Stamp, ...]]]] = [[] for _ in range(BUCKETS)]
+        for page in sorted(self.history):
+            buckets[page % BUCKETS].append((page, self.history[page]))
+        return buckets
+
+    def restart(self) -> None:
+        for frame in self.frames:
+            if frame.page is not None:
+                self.device[frame.page] = frame.data
+                frame.page = None
+        self.history = {}
+        self.waiting = []
+
+
+class World:
+    """Two replicas, and every frame that was sent: entries, sums or a wish."""
+
+    def __init__(self) -> None:
+        self.replicas = {1: Replica(1), 2: Replica(2)}
+        self.sent: list[tuple[str, list]] = []
+
+    def keep(self, kind: str, content: list) -> int:
+        self.sent.append((kind, content))
+        return len(self.sent)
+
+    def answer_buckets(self, replica: Replica, wanted: list[int]) -> None:
+        for bucket in wanted:
+            entries = replica.bucket(bucket)
+            for start in range(0, len(entries), ENTRIES_OF_A_FRAME):
+                self.keep("entries", entries[start : start + ENTRIES_OF_A_FRAME])
+
+    def offer(self, i: int) -> Step:
+        return f"offer {i}", [f"frame {self.keep('sums', self.replicas[i].sums())}"]
+
+    def deliver(self, j: int, number: int) -> Step:
+        replica = self.replicas[j]
+        before = len(self.sent)
+        kind, content = self.sent[number - 1]
+        if kind == "entries":
+            for page, stamps in content:
+                replica.hear(page, stamps)
+        elif kind == "wish":
+            self.answer_buckets(replica, content)
+        else:
+            differing = [b for b, (mine, theirs) in enumerate(zip(replica.sums(), content)) if mine != theirs]
+            if differing:
+                self.answer_buckets(replica, differing)
+                self.keep("wish", differing)
+        count = len(self.sent) - before
+        return f"deliver {j} {number}", [f"took {count} from {before + 1}" if count else "took 0"]
+
+    def gossip_round(self, i: int, j: int) -> Iterator[Step]:
+        """i offers its sums to j, and both hear what they lack: afterwards both have the history of both."""
+        yield self.offer(i)
+        offered = len(self.sent)
+        yield self.deliver(j, offered)
+        asked = len(self.sent)
+        for number in range(offered + 1, asked + 1):
+            yield self.deliver(i, number)
+        for number in range(asked + 1, len(self.sent) + 1):
+            yield self.deliver(j, number)
+
+    def access(self, i: int, time: int, kind: str, page: int) -> Iterator[Step]:
+        """One access of the database: the reference, and the page fixed while it is read or written."""
+        replica = self.replicas[i]
+        replica.waiting.append((page, (time, i)))
+        yield f"ref {i} 1 0:{page} {time}", ["ok"]
+        if len(replica.waiting) == FLUSHED_AFTER:
+            replica.flush()
+            yield f"flush {i} 1", ["ok"]
+        resident = replica.slot_of(page)
+        slot = replica.load(page) if resident is None else resident
+        frame = replica.frames[slot]
+        name = f"{slot}.{frame.generation}"
+        yield f"pin {i} 0:{page}", [f"slot {name}"]
+        if kind == "w":
+            written = time.to_bytes(8, "big")
+            frame.data = written + frame.data[len(written) :]
+            yield f"put {i} {name} 0 {written.hex().upper()}", ["ok"]
+        else:
+            yield f"get {i} {name} 0 8", [f"bytes {frame.data[:8].hex()}"]
+        yield f"unpin {i} {name}", ["ok"]
+
+    def flush(self, i: int) -> Step:
+        self.replicas[i].flush()
+        return f"flush {i} 1", ["ok"]
+
+    def warm_up(self, i: int) -> Iterator[Step]:
+        """The hottest pages are listed, and loaded one at a time until none is left to load."""
+        replica = self.replicas[i]
+        hottest = replica.warm(FRAMES)
+        yield f"warm {i} {FRAMES}", ["pages" + "".join(f" 0:{page}" for page in hottest)]
+        for page in hottest:
+            if replica.slot_of(page) is None:
+                replica.load(page)
+                yield f"warmstep {i}", [f"loaded 0:{page}"]
+        yield f"warmstep {i}", ["none"]
+
+    def show(self, i: int) -> Step:
+        history = self.replicas[i].history
+        lines = []
+        for page in sorted(history):
+            times = [f"{time}@{replica}" for time, replica in history[page]]
+            lines.append(f"0:{page} " + " prev ".join([f"last {times[0]}", *times[1:]]))
+        return f"show {i}", [*lines, f"end {len(history)}"]
+
+    def victim(self, i: int) -> Step:
+        page = self.replicas[i].victim()
+        return f"victim {i}", ["none" if page is None else f"page 0:{page}"]
+
+    def restart(self, i: int) -> Step:
+        self.replicas[i].restart()
+        return f"restart {i}", ["ok"]
+
+
+def accesses(path: str) -> Iterator[tuple[int, str, int]]:
+    """The time, the kind and the page of each access."""
+    with open(path, encoding="ascii") as trace:
+        for time, line in enumerate(trace, start=1):
+            kind, page = line.split()
+            yield time, kind, int(page)
+
+
+def steps(path: str) -> Iterator[Step]:
+    world = World()
+    for time, kind, page in accesses(path):
+        if time <= TAKEOVER:
+            yield from world.access(1, time, kind, page)
+            if time % ROUND == 0:
+                yield world.flush(1)
+                yield from world.gossip_round(1, 2)
+        if time == TAKEOVER:
+            yield world.victim(1)
+            yield from world.warm_up(2)
+            yield world.restart(1)
+            yield world.victim(1)
+        if time > TAKEOVER:
+            yield from world.access(2, time, kind, page)
+        if time == END:
+            break
+    yield world.flush(2)
+    yield world.victim(2)
+    # the one that was the primary was told nothing since its restart
+    yield world.show(1)
+    yield from world.gossip_round(2, 1)
+    yield world.show(1)
+    yield world.show(2)
+
+
+def main() -> None:
+    match sys.argv[1:]:
+        case ["setup"]:
+            sys.stdout.write(SETUP)
+        case ["schedule", path]:
+            sys.stdout.writelines(f"{line}\n" for line, _answer in steps(path))
+        case ["answer", path]:
+            sys.stdout.writelines(f"{line}\n" for _line, answer in steps(path) for line in answer)
+        case _:
+            sys.exit(__doc__)
+
+
+main()
