@@ -5,6 +5,8 @@ pub mod Gathering
 pub mod Pieces
 pub mod Round
 pub mod Step
+pub mod Batches
+pub mod Told
 pub mod Clauses
 pub mod Victims
 pub mod WarmUps

@@ -26,3 +26,7 @@ IsNode s = IsPool s.pool × RankedBy s.pool s.history
 -- a node that was told nothing
 abbrev pub opened : ℕ → PoolState → NodeState
 opened id pool = record { id = id; history = holding []; pool = pool }
+
+-- a node that knows nothing and has no pool
+abbrev pub nobody : NodeView
+nobody = record { id = 0; history = holding []; pool = record { page_size = 0; devices = []; frames = []; contents = []; failures = [] } }

@@ -1,10 +1,12 @@
 //! Laws of nodes, over the definitions alone: the pieces in which a bucket is answered, a round of gossip, victims,
-//! and warming up.
+//! warming up, batches of references, and what a list of calls told a node.
 //!
 //! Each function does nothing. What it ensures is a theorem, for the crates above to cite and for a reader to
 //! look up: the files of `specs/` that the clauses name say it in full.
+ghost use Rattle.warm_gossip.specs.Batches.{BatchesAreTaken};
 ghost use Rattle.warm_gossip.specs.Pieces.{PiecesInTurn};
 ghost use Rattle.warm_gossip.specs.Round.{EntriesTeach, GossipRoundEnds, GossipRoundJoins, OwnSumsUnanswered};
+ghost use Rattle.warm_gossip.specs.Told.{ToldIsHistory};
 ghost use Rattle.warm_gossip.specs.Victims.{RepliesAreOverReferences, VictimsAreFarthest};
 ghost use Rattle.warm_gossip.specs.WarmUps.{WarmStepKeepsHottest, WarmUpLoads};
 
@@ -60,4 +62,15 @@ pub fn warm_step_keeps_hottest()
 /// warm-up list cut to the frames that a device has: no page of the list leaves for another.
 pub fn warm_up_loads()
     ensures { WarmUpLoads }
+{}
+
+/// Each state that a legal list of calls reaches has the history of what the node was told: the references of each
+/// `Absorb` and each frame of entries that it took, since its last restart. What it opened with counts too.
+pub fn told_is_history()
+    ensures { ToldIsHistory }
+{}
+
+/// A node takes a batch of references, or refuses it for want of memory, and gives no other reply.
+pub fn batches_are_taken()
+    ensures { BatchesAreTaken }
 {}

@@ -21,6 +21,7 @@ mod call;
 mod fault;
 mod history_calls;
 pub mod laws;
+mod machine;
 mod node;
 mod pool_calls;
 #[cfg(test)]
@@ -29,4 +30,5 @@ mod warm_step;
 
 pub use call::{Call, Reply};
 pub use fault::NodeFault;
+pub use machine::Meaning;
 pub use node::{Node, Shown};

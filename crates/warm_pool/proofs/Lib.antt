@@ -7,6 +7,7 @@ pub mod EmptyLemmas
 pub mod EmptyRanks
 pub mod Examples
 pub mod FlushLemmas
+pub mod FrameParts
 pub mod Keeps
 pub mod Loads
 pub mod MoveLemmas

@@ -159,8 +159,11 @@ pub seen_there : {s : PoolState} → IsPool s → (i : ℕ) → i < length s.fra
 seen_there {s} w i h = subst (λ m. i < m) (sym (length-map s.frames frame_view)) h
 
 -- what a caller sees of a frame that was read
-pub seen_frame : {s : PoolState} → IsPool s → (i : ℕ) (f x : FrameState) → f ≡ x → x ≡ nth_frame s.frames i → frame_at (view_of s) i ≡ frame_view f
-seen_frame {s} w i f x a b = frame_seen s i ∙ ap frame_view (sym (a ∙ b))
+pub seen_generation : {s : PoolState} → IsPool s → (i : ℕ) {n : ℕ} → n ≡ (nth_frame s.frames i).generation → n ≡ (frame_at (view_of s) i).generation
+seen_generation {s} w i e = e ∙ ap (λ f. f.generation) (sym (frame_seen s i))
+
+pub seen_fixes : {s : PoolState} → IsPool s → (i : ℕ) {n : ℕ} → n ≡ (nth_frame s.frames i).fixes → n ≡ (frame_at (view_of s) i).fixes
+seen_fixes {s} w i e = e ∙ ap (λ f. f.fixes) (sym (frame_seen s i))
 
 pub seen_page : {s : PoolState} → IsPool s → (i : ℕ) (p : PageId) → (nth_frame s.frames i).page ≡ Some p → (frame_at (view_of s) i).page ≡ Some p
 seen_page {s} w i p e = ap (λ f. f.page) (frame_seen s i) ∙ e

@@ -25,18 +25,10 @@ pub record WroteBack (s : PoolState) (new : List DeviceState) (i : ℕ) (q : Pag
   pub bytes_are : bytes ≡ (nth_frame s.frames i).bytes
   pub call : PageWrite s.devices new q.dev q.no bytes result
 
--- the same, told of the frame as it was looked at
-pub wrote_back : {s : PoolState} {new : List DeviceState} {i : ℕ} {q : PageId} {bytes : List ℕ} {result : Result (Unit {0}) DeviceFault} {f : FrameState}
-    → IsPool s → i < length s.frames → f ≡ nth_frame s.frames i → f.page ≡ Some q → f.dirty ≡ true → bytes ≡ f.bytes
+pub wrote_back : {s : PoolState} {new : List DeviceState} {i : ℕ} {q : PageId} {bytes : List ℕ} {result : Result (Unit {0}) DeviceFault}
+    → IsPool s → i < length s.frames → (nth_frame s.frames i).page ≡ Some q → (nth_frame s.frames i).dirty ≡ true → bytes ≡ (nth_frame s.frames i).bytes
     → PageWrite s.devices new q.dev q.no bytes result → WroteBack s new i q bytes result
-wrote_back pool there is page dirty bytes call = record {
-  pool = pool;
-  there = there;
-  holds = sym (ap (λ f. f.page) is) ∙ page;
-  dirty = sym (ap (λ f. f.dirty) is) ∙ dirty;
-  bytes_are = bytes ∙ ap (λ f. f.bytes) is;
-  call = call;
-}
+wrote_back pool there page dirty bytes call = record { pool = pool; there = there; holds = page; dirty = dirty; bytes_are = bytes; call = call }
 
 module _ (s : PoolState) (new : List DeviceState) (i : ℕ) (q : PageId) (bytes : List ℕ) (result : Result (Unit {0}) DeviceFault)
     (h : WroteBack s new i q bytes result) where

@@ -2,7 +2,7 @@
 use Rattle.std.specs.Prelude.{ℕ, ◌+◌, ◌-◌, true, false, List, map, replicate, set, Option, Some}
 use Rattle.warm_stamps.specs.declared.PageId.{PageId}
 use Rattle.warm_rank.specs.declared.RankKey.{RankKey}
-use Rattle.warm_pool.specs.Frames.{FrameState, FramesState, fresh_frame, nth_frame}
+use Rattle.warm_pool.specs.Frames.{FrameBody, FrameState, FramesState, fresh_frame, nth_frame}
 use Rattle.warm_pool.specs.PageBytes.{patched}
 
 -- so many frames without a page
@@ -31,6 +31,10 @@ ranked key f = record f { key = Some key }
 abbrev pub filled : PageId → RankKey → ℕ → List ℕ → FrameState → FrameState
 filled page key fixes bytes f =
     record { page = Some page; key = Some key; generation = f.generation + 1; fixes = fixes; dirty = false; bytes = bytes }
+
+-- what stands in it beside the page and its status
+abbrev pub filled_body : RankKey → List ℕ → FrameBody → FrameBody
+filled_body key bytes body = record { key = Some key; generation = body.generation + 1; bytes = bytes }
 
 -- a frame to whose page bytes were written from a place on
 abbrev pub written : ℕ → List ℕ → FrameState → FrameState

@@ -1,7 +1,8 @@
 -- The frames of a pool as plain data.
-use Rattle.std.specs.Prelude.{◌≡◌, ℕ, ◌==◌, Bool, false, List, [], map, Option, None, slice_index_or, if◌then◌else◌}
+use Rattle.std.specs.Prelude.{◌≡◌, ℕ, ◌==◌, Bool, false, List, [], ◌∷◌, length, map, Option, Some, None, slice_index_or, if◌then◌else◌}
 use Rattle.warm_stamps.specs.declared.PageId.{PageId}
 use Rattle.warm_rank.specs.declared.RankKey.{RankKey}
+use Rattle.warm_pool.specs.declared.frame.Status.{Status}
 
 -- A frame: the page in it and its rank, how many pages have been put into it, how many hold on to the page, whether the page was
 -- written to since it was last on its device as it is here, and its bytes.
@@ -21,9 +22,13 @@ fresh_frame bytes = record { page = None; key = None; generation = 0; fixes = 0;
 abbrev pub nth_frame : List FrameState → ℕ → FrameState
 nth_frame frames i = slice_index_or frames i (fresh_frame [])
 
--- the rank by which the frame's page may leave: a fixed page may not
+-- the rank by which a page with so many fixes may leave: a fixed page may not
+abbrev pub key_unless_fixed : ℕ → Option RankKey → Option RankKey
+key_unless_fixed fixes key = if fixes == 0 then key else None
+
+-- the rank by which the frame's page may leave
 abbrev pub leaving_key : FrameState → Option RankKey
-leaving_key f = if f.fixes == 0 then f.key else None
+leaving_key f = key_unless_fixed f.fixes f.key
 
 -- the frame after its page went to its device
 abbrev pub cleaned : FrameState → FrameState
@@ -38,7 +43,43 @@ pub record FramesState : Type 0 where
   pub page_size : ℕ
   pub frames : List FrameState
 
--- where the pages are and which ranks compete, as the frames have them
-pub record AreTied (frames : List FrameState) (residents : List (Option PageId)) (contest : List (Option RankKey)) : Type 0 where
-  pub residents_are : residents ≡ map (λ f. f.page) frames
-  pub contest_is : contest ≡ map leaving_key frames
+-- How frames are kept: their pages, their statuses, and the rest of each.
+
+-- a frame but for its page and its status: a rank, which means nothing without a page, how many pages were put into it, and its bytes
+pub record FrameBody : Type 0 where
+  pub key : Option RankKey
+  pub generation : ℕ
+  pub bytes : List ℕ
+
+-- of a frame without a page, into which none was put
+abbrev pub unused_status : Status
+unused_status = record { fixes = 0; dirty = false }
+
+abbrev pub fresh_body : List ℕ → FrameBody
+fresh_body bytes = record { key = None; generation = 0; bytes = bytes }
+
+-- the rank of what is in a frame
+abbrev pub rank_in : Option PageId → Option RankKey → Option RankKey
+rank_in None key = None
+rank_in (Some page) key = key
+
+-- the frame of this page, this status and this rest
+abbrev pub frame_of : Option PageId → Status → FrameBody → FrameState
+frame_of page status body = record {
+  page = page;
+  key = rank_in page body.key;
+  generation = body.generation;
+  fixes = status.fixes;
+  dirty = status.dirty;
+  bytes = body.bytes;
+}
+
+abbrev pub frames_of : List (Option PageId) → List Status → List FrameBody → List FrameState
+frames_of (page ∷ pages) (status ∷ statuses) (body ∷ bodies) = frame_of page status body ∷ frames_of pages statuses bodies
+frames_of pages statuses bodies = []
+
+-- each frame has a status and a body, and the ranks that compete are as the frames have them
+pub record AreTied (pages : List (Option PageId)) (statuses : List Status) (bodies : List FrameBody) (contest : List (Option RankKey)) : Type 0 where
+  pub status_each : length statuses ≡ length pages
+  pub body_each : length bodies ≡ length pages
+  pub contest_is : contest ≡ map leaving_key (frames_of pages statuses bodies)

@@ -246,7 +246,7 @@ impl Pool {
         ensures failed { OnErr result (ChosenFails which
             (pool_state state self.old) at (pool_state state self.new)) }
     {
-        if !is_chosen(which, self.frames.frame(at).page) {
+        if !is_chosen(which, self.frames.page(at)) {
             return Ok(());
         }
         self.write_back(at)
@@ -272,8 +272,7 @@ fn is_fixed(frames: &Frames, which: Option<u16>) -> bool
         (AreUnfixed which frames.now.frames) }
 {
     for at in 0..frames.len() {
-        let frame = frames.frame(at);
-        if frame.fixes > 0 && is_chosen(which, frame.page) {
+        if frames.fixes(at) > 0 && is_chosen(which, frames.page(at)) {
             return true;
         }
     }
@@ -300,7 +299,7 @@ fn vacate_if(frames: &mut Frames, at: usize, which: Option<u16>, last: Option<us
     requires last { IsLastFree (pages_held frames.old.frames) at last }
     ensures { frames.new ≡ changed_at frames.old at (vacate_if which) }
 {
-    if !is_chosen(which, frames.frame(at).page) {
+    if !is_chosen(which, frames.page(at)) {
         return;
     }
     frames.vacate(at, last);
@@ -312,7 +311,7 @@ fn last_free(frames: &Frames, at: usize, last: Option<usize>) -> Option<usize>
     requires last { IsLastFree (pages_held frames.now.frames) at last }
     ensures { IsLastFree (pages_held frames.now.frames) (at + 1) result }
 {
-    match frames.frame(at).page {
+    match frames.page(at) {
         Some(_) => last,
         None => Some(at),
     }

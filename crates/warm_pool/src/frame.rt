@@ -1,31 +1,29 @@
-//! One frame of a pool.
+//! What stands in a frame.
 use std::marker::Model;
 use warm_rank::RankKey;
-use warm_stamps::PageId;
 
-/// A frame: the page in it and its rank, how many pages were put into it, how many fixes its page has, whether the page was written to
-/// since it was last on its device as it is here, and its bytes.
-#[derive(Drop)]
-pub(crate) struct Frame {
-    pub(crate) page: Option<PageId>,
-    pub(crate) key: Option<RankKey>,
-    pub(crate) generation: u64,
+/// How a frame's page is used: how many fixes it has, and whether it was written to since it was last on its device as it is here.
+///
+/// A pool that is emptied asks this of each of its frames, so the statuses of all frames stand together.
+#[derive(Clone, Copy)]
+pub(crate) struct Status {
     pub(crate) fixes: u32,
     pub(crate) dirty: bool,
+}
+
+/// What else stands in a frame: the rank of its page, which means nothing once the page has left; how many pages were put into it; and
+/// its bytes.
+#[derive(Drop)]
+pub(crate) struct Frame {
+    pub(crate) key: Option<RankKey>,
+    pub(crate) generation: u64,
     pub(crate) bytes: Vec<u8>,
 }
 
 impl Model for Frame {
-    ghost use Rattle.warm_pool.specs.Frames.{FrameState};
+    ghost use Rattle.warm_pool.specs.Frames.{FrameBody};
 
-    ghost Value = { FrameState };
+    ghost Value = { FrameBody };
 
-    ghost view = { λ f. record {
-      page = f.page;
-      key = f.key;
-      generation = f.generation;
-      fixes = f.fixes;
-      dirty = f.dirty;
-      bytes = f.bytes.items;
-    } };
+    ghost view = { λ f. record { key = f.key; generation = f.generation; bytes = f.bytes.items } };
 }

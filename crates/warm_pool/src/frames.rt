@@ -1,12 +1,13 @@
 //! The frames of a pool, without its devices.
-ghost use Rattle.std.specs.Prelude.{◌≡◌, ◌+◌, ◌-◌, ◌^◌, ◌<◌, ◌≤◌, map, length, replicate, IfOk};
+ghost use Rattle.std.specs.Prelude.{◌≡◌, ◌≢◌, None, ◌+◌, ◌-◌, ◌^◌, ◌<◌, ◌≤◌, map, length, replicate, IfOk};
 ghost use Rattle.warm_rank.specs.Keys.{key_cmp};
 ghost use Rattle.warm_rank.specs.Slots.{IsLeast};
-ghost use Rattle.warm_pool.specs.Frames.{nth_frame, fresh_frame, leaving_key, cleaned, vacated};
-ghost use Rattle.warm_pool.specs.FrameSteps.{fresh_frames, pages_held, changed_at, fixed, unfixed, ranked, filled, written};
+ghost use Rattle.warm_pool.specs.Frames.{nth_frame, fresh_body, unused_status, leaving_key, key_unless_fixed, cleaned, vacated};
+ghost use Rattle.warm_pool.specs.FrameSteps.{fresh_frames, pages_held, changed_at, fixed, unfixed, ranked, filled, filled_body, written};
+ghost use Rattle.warm_pool.specs.PageBytes.{patched};
 ghost use Rattle.warm_pool.specs.Residents.{IsPlaceOf, IsFirstFree, IsLastFree};
 
-use crate::frame::Frame;
+use crate::frame::{Frame, Status};
 use crate::residents::Residents;
 use std::alloc::{AllocError, Global};
 use std::marker::Model;
@@ -15,22 +16,29 @@ use warm_rank::{Contest, MAX_SLOTS, RankKey};
 use warm_stamps::PageId;
 
 /// The frames of a pool, where each page is, and the rank of each page that may leave.
+///
+/// What is asked of all frames at once, their pages and their statuses, stands apart from ranks and bytes: a pool that is emptied
+/// goes over little memory.
 #[derive(Drop)]
 pub(crate) struct Frames {
     page_size: usize,
-    slots: Vec<Frame>,
     residents: Residents,
+    statuses: Vec<Status>,
+    frames: Vec<Frame>,
     contest: Contest,
 }
 
 impl Model for Frames {
-    ghost use Rattle.warm_pool.specs.Frames.{FramesState, AreTied};
+    ghost use Rattle.warm_pool.specs.Frames.{FramesState, AreTied, frames_of};
 
     ghost Value = { FramesState };
 
-    ghost view = { λ f. record { page_size = f.page_size; frames = f.slots.items } };
+    ghost view = { λ f. record {
+      page_size = f.page_size;
+      frames = frames_of f.residents f.statuses.items f.frames.items;
+    } };
 
-    ghost invariant = { λ f. AreTied f.slots.items f.residents f.contest };
+    ghost invariant = { λ f. AreTied f.residents f.statuses.items f.frames.items f.contest };
 }
 
 impl Frames {
@@ -40,16 +48,15 @@ impl Frames {
         requires few { frames ≤ MAX_SLOTS }
         ensures { IfOk result (λ made. made ≡ fresh_frames frames page_size) }
     {
-        let mut slots = Vec::with_capacity(alloc, frames)?;
-        for _ in 0..frames {
-            slots.push(fresh(alloc, page_size)?)?;
-        }
         let residents = Residents::new(alloc, frames)?;
+        let statuses = unused(alloc, frames)?;
+        let bodies = fresh_frames(alloc, frames, page_size)?;
         let contest = Contest::new(alloc, frames)?;
         Ok(Frames {
             page_size,
-            slots,
             residents,
+            statuses,
+            frames: bodies,
             contest,
         })
     }
@@ -65,15 +72,47 @@ impl Frames {
     pub(crate) fn len(&self) -> usize
         ensures { result ≡ length self.now.frames }
     {
-        self.slots.len()
+        self.frames.len()
     }
 
-    /// One of the frames.
-    pub(crate) fn frame(&self, at: usize) -> &Frame
+    /// The page in a frame, if there is one.
+    pub(crate) fn page(&self, at: usize) -> Option<PageId>
         requires { at < length self.now.frames }
-        ensures { result.now ≡ nth_frame self.now.frames at }
+        ensures { result ≡ (nth_frame self.now.frames at).page }
     {
-        &self.slots[at]
+        self.residents.page(at)
+    }
+
+    /// How many fixes the page in a frame has.
+    pub(crate) fn fixes(&self, at: usize) -> u32
+        requires { at < length self.now.frames }
+        ensures { result ≡ (nth_frame self.now.frames at).fixes }
+    {
+        self.statuses[at].fixes
+    }
+
+    /// Whether the page in a frame was written to since it was last on its device as it is here.
+    pub(crate) fn is_dirty(&self, at: usize) -> bool
+        requires { at < length self.now.frames }
+        ensures { result ≡ (nth_frame self.now.frames at).dirty }
+    {
+        self.statuses[at].dirty
+    }
+
+    /// How many pages were put into a frame.
+    pub(crate) fn generation(&self, at: usize) -> u64
+        requires { at < length self.now.frames }
+        ensures { result ≡ (nth_frame self.now.frames at).generation }
+    {
+        self.frames[at].generation
+    }
+
+    /// The bytes in a frame.
+    pub(crate) fn bytes(&self, at: usize) -> &[u8]
+        requires { at < length self.now.frames }
+        ensures { result.now ≡ (nth_frame self.now.frames at).bytes }
+    {
+        &self.frames[at].bytes
     }
 
     /// The frame that holds the page.
@@ -103,31 +142,33 @@ impl Frames {
         requires room { (nth_frame self.old.frames at).fixes < 2 ^ 32 - 1 }
         ensures { self.new ≡ changed_at self.old at fixed }
     {
-        let frame = &mut self.slots[at];
-        frame.fixes += 1;
+        let status = &mut self.statuses[at];
+        status.fixes += 1;
         self.contest.set(at, None);
     }
 
     /// Takes a fix away. A page without a fix may leave.
     pub(crate) fn unfix(&mut self, at: usize)
         requires there { at < length self.old.frames }
+        requires held { (nth_frame self.old.frames at).page ≢ None }
         requires fixed { 0 < (nth_frame self.old.frames at).fixes }
         ensures { self.new ≡ changed_at self.old at unfixed }
     {
-        let frame = &mut self.slots[at];
-        frame.fixes -= 1;
-        let key = leaving(frame);
+        let status = &mut self.statuses[at];
+        status.fixes -= 1;
+        let key = leaving(status.fixes, &self.frames[at]);
         self.contest.set(at, key);
     }
 
     /// Renews the rank of a page.
     pub(crate) fn rank(&mut self, at: usize, key: RankKey)
         requires there { at < length self.old.frames }
+        requires held { (nth_frame self.old.frames at).page ≢ None }
         ensures { self.new ≡ changed_at self.old at (ranked key) }
     {
-        let frame = &mut self.slots[at];
+        let frame = &mut self.frames[at];
         frame.key = Some(key);
-        let key = leaving(frame);
+        let key = leaving(self.statuses[at].fixes, frame);
         self.contest.set(at, key);
     }
 
@@ -145,14 +186,13 @@ impl Frames {
         ensures frames { self.new ≡ changed_at self.old at (filled page key fixes bytes.old.items) }
         ensures given { bytes.new.items ≡ (nth_frame self.old.frames at).bytes }
     {
-        let frame = &mut self.slots[at];
-        mem::swap(&mut frame.bytes, bytes);
-        frame.page = Some(page);
-        frame.key = Some(key);
-        frame.generation += 1;
-        frame.fixes = fixes;
-        frame.dirty = false;
-        let key = leaving(frame);
+        let frame = &mut self.frames[at];
+        fill(frame, key, bytes);
+        let key = leaving(fixes, frame);
+        self.statuses[at] = Status {
+            fixes,
+            dirty: false,
+        };
         self.residents.set(at, Some(page));
         self.contest.set(at, key);
     }
@@ -162,8 +202,8 @@ impl Frames {
         requires there { at < length self.old.frames }
         ensures { self.new ≡ changed_at self.old at cleaned }
     {
-        let frame = &mut self.slots[at];
-        frame.dirty = false;
+        let status = &mut self.statuses[at];
+        status.dirty = false;
     }
 
     /// Writes bytes into a page from `from` on.
@@ -172,46 +212,89 @@ impl Frames {
         requires within { from + length bytes.now ≤ length (nth_frame self.old.frames at).bytes }
         ensures { self.new ≡ changed_at self.old at (written from bytes.now) }
     {
-        let frame = &mut self.slots[at];
-        frame.bytes[from..from + bytes.len()].copy_from_slice(bytes);
-        frame.dirty = true;
+        overwrite(&mut self.frames[at], from, bytes);
+        let status = &mut self.statuses[at];
+        status.dirty = true;
     }
 
     /// Takes the page out of a frame, of which the generation and the bytes stay. The last free frame below it is known, so the cost
-    /// does not grow with the frames.
+    /// does not grow with the frames; of a frame without a page the status alone is touched.
     pub(crate) fn vacate(&mut self, at: usize, last: Option<usize>)
         requires there { at < length self.old.frames }
         requires unfixed { (nth_frame self.old.frames at).fixes ≡ 0 }
         requires last { IsLastFree (pages_held self.old.frames) at last }
         ensures { self.new ≡ changed_at self.old at vacated }
     {
-        let frame = &mut self.slots[at];
-        frame.page = None;
-        frame.key = None;
-        frame.dirty = false;
+        let status = &mut self.statuses[at];
+        status.dirty = false;
+        let Some(_) = self.residents.page(at) else {
+            return;
+        };
         self.residents.clear(at, last);
         self.contest.set(at, None);
     }
 }
 
-// A frame without a page.
+// The statuses of frames without a page.
+fn unused(alloc: Global, frames: usize) -> Result<Vec<Status>, AllocError>
+    ensures { IfOk result (λ statuses. statuses.items ≡ replicate frames unused_status) }
+{
+    let mut statuses = Vec::new(alloc);
+    statuses.resize(
+        frames,
+        Status {
+            fixes: 0,
+            dirty: false,
+        },
+    )?;
+    Ok(statuses)
+}
+
+// Frames into which no page was put.
+fn fresh_frames(alloc: Global, frames: usize, page_size: usize) -> Result<Vec<Frame>, AllocError>
+    ensures { IfOk result (λ made. made.items ≡ replicate frames (fresh_body (replicate page_size 0))) }
+{
+    let mut made = Vec::with_capacity(alloc, frames)?;
+    for _ in 0..frames {
+        made.push(fresh(alloc, page_size)?)?;
+    }
+    Ok(made)
+}
+
+// A frame into which no page was put.
 fn fresh(alloc: Global, page_size: usize) -> Result<Frame, AllocError>
-    ensures { IfOk result (λ frame. frame ≡ fresh_frame (replicate page_size 0)) }
+    ensures { IfOk result (λ frame. frame ≡ fresh_body (replicate page_size 0)) }
 {
     let bytes = Vec::from_elem(alloc, 0, page_size)?;
     Ok(Frame {
-        page: None,
         key: None,
         generation: 0,
-        fixes: 0,
-        dirty: false,
         bytes,
     })
 }
 
-// The rank by which the frame's page may leave.
-fn leaving(frame: &Frame) -> Option<RankKey>
-    ensures { result ≡ leaving_key frame.now }
+// Says that another page was put into a frame, whose bytes change places with these.
+fn fill(frame: &mut Frame, key: RankKey, bytes: &mut Vec<u8>)
+    requires { frame.old.generation < 2 ^ 64 - 1 }
+    ensures frame { frame.new ≡ filled_body key bytes.old.items frame.old }
+    ensures given { bytes.new.items ≡ frame.old.bytes }
 {
-    if frame.fixes == 0 { frame.key } else { None }
+    mem::swap(&mut frame.bytes, bytes);
+    frame.key = Some(key);
+    frame.generation += 1;
+}
+
+// Writes bytes into those of a frame, from `from` on.
+fn overwrite(frame: &mut Frame, from: usize, bytes: &[u8])
+    requires { from + length bytes.now ≤ length frame.old.bytes }
+    ensures { frame.new ≡ record frame.old { bytes = patched frame.old.bytes from bytes.now } }
+{
+    frame.bytes[from..from + bytes.len()].copy_from_slice(bytes);
+}
+
+// The rank by which a frame's page with so many fixes may leave.
+fn leaving(fixes: u32, frame: &Frame) -> Option<RankKey>
+    ensures { result ≡ key_unless_fixed fixes frame.now.key }
+{
+    if fixes == 0 { frame.key } else { None }
 }

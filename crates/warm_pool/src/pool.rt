@@ -140,8 +140,7 @@ impl Pool {
         if at >= self.frames.len() {
             return false;
         }
-        let frame = self.frames.frame(at);
-        frame.generation == slot.generation && frame.fixes > 0
+        self.frames.generation(at) == slot.generation && self.frames.fixes(at) > 0
     }
 
     /// Gives a page one more fix, and puts it into a frame where it is in none: into the first free frame, else into that of the
@@ -212,7 +211,7 @@ impl Pool {
         }
         match self.frames.find(page) {
             Some(at) => {
-                let generation = self.frames.frame(at).generation;
+                let generation = self.frames.generation(at);
                 Ok(Slot {
                     index: at as u32,
                     generation,
@@ -231,7 +230,7 @@ impl Pool {
         let Some(at) = self.frames.least() else {
             return None;
         };
-        self.frames.frame(at).page
+        self.frames.page(at)
     }
 
     /// Takes a fix from the slot's page. Without a fix it may leave. What was written to it stays to be written back.
@@ -261,8 +260,8 @@ impl Pool {
         if !self.is_within(at, into.len()) {
             return Err(PoolFault::OutOfPage);
         }
-        let frame = self.frames.frame(slot.index as usize);
-        into.copy_from_slice(&frame.bytes[at..at + into.len()]);
+        let bytes = self.frames.bytes(slot.index as usize);
+        into.copy_from_slice(&bytes[at..at + into.len()]);
         Ok(())
     }
 
@@ -363,9 +362,8 @@ impl Pool {
         ensures refused { IfErr result (λ fault. FixRefused
             (pool_state state self.old) at fault (pool_state state self.new)) }
     {
-        let frame = self.frames.frame(at);
-        let generation = frame.generation;
-        if frame.fixes < u32::MAX {
+        let generation = self.frames.generation(at);
+        if self.frames.fixes(at) < u32::MAX {
             self.frames.fix(at);
             return Ok(Slot {
                 index: at as u32,
@@ -412,7 +410,7 @@ impl Pool {
         let Some(at) = self.place() else {
             return Err(PoolFault::AllFixed);
         };
-        let generation = self.frames.frame(at).generation;
+        let generation = self.frames.generation(at);
         if generation < u64::MAX {
             let key = known_key(history, page);
             if let Err(fault) = self.load_into(at, page, key, fixes) {
@@ -467,14 +465,13 @@ impl Pool {
             (pool_state state self.old) at (pool_state state self.new)) }
         ensures spare { self.new.spare.items ≡ self.old.spare.items }
     {
-        let frame = self.frames.frame(at);
-        let Some(page) = frame.page else {
+        let Some(page) = self.frames.page(at) else {
             return Ok(());
         };
-        if !frame.dirty {
+        if !self.frames.is_dirty(at) {
             return Ok(());
         }
-        if write_page(&mut self.devices, page, &frame.bytes).is_err() {
+        if write_page(&mut self.devices, page, self.frames.bytes(at)).is_err() {
             return Err(DeviceFault::Write);
         }
         self.frames.clean(at);

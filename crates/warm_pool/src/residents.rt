@@ -4,7 +4,7 @@
 //! without a page stand in one of their own. A link is the number of the next frame, and the number of frames ends a chain. All room
 //! is taken when the frames are made.
 ghost use Rattle.std.specs.Prelude.{◌≡◌, ℕ, List, ◌+◌, ◌<◌, ◌≤◌, length, replicate, set, slice_index, IfOk, IsTrue, None, Some, ◌↔◌};
-ghost use Rattle.warm_pool.specs.Chains.{AreChains, AreInTurn, AreLinked, IsLastBelow, after, chain_of, chains_of, heads_led, next_led, loose};
+ghost use Rattle.warm_pool.specs.Chains.{AreChains, AreInTurn, AreLinked, IsLastBelow, after, chain_of, chains_of, heads_led, next_led, loose, page_in};
 ghost use Rattle.warm_pool.specs.Residents.{IsFirstFree, IsLastFree, IsPlaceOf};
 
 use std::alloc::{AllocError, Global};
@@ -45,6 +45,14 @@ impl Residents {
         let heads = heads_of_none(alloc, frames)?;
         let next = links_in_turn(alloc, frames)?;
         Ok(Residents { pages, heads, next })
+    }
+
+    /// The page in a frame, if there is one.
+    pub(crate) fn page(&self, frame: usize) -> Option<PageId>
+        requires { frame < length self.now }
+        ensures { result ≡ page_in self.now frame }
+    {
+        self.pages[frame]
     }
 
     /// The frame that holds a page, if one does.

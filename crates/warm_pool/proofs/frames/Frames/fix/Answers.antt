@@ -1,10 +1,30 @@
-use Rattle.std.proofs.Common.{◌<◌, ap, sym, ◌∙◌, length, set}
-use Rattle.warm_pool.proofs.Slots.{tied_page, frame_is, there_inside, fixed_key}
+use Rattle.std.proofs.Common.{None, ◌+◌, [], ap, sym, refl, ◌∙◌, set, get_or, arith}
+use Rattle.warm_pool.specs.Frames.{frame_of, fresh_body, rank_in}
+use Rattle.warm_pool.specs.FrameSteps.{fixed}
+use Rattle.warm_pool.proofs.Slots.{fixed_key}
+use Rattle.warm_pool.proofs.FrameParts.{has_status, status_is, seen, page_stays, body_stays, stay_tied, becomes}
 use Rattle.warm_pool.proofs.frames.Frames.fix.Goals as goal
+
+pub index_mut-status-requires : goal.index_mut-status-requires
+index_mut-status-requires c = has_status c.self.invariant c.self.view_is c.args.at c.requires.there c.self.inside.statuses.ok.0
+
+pub overflow_add-status : goal.overflow_add-status
+overflow_add-status c =
+    let is = status_is c.self.invariant c.self.view_is c.args.at c.requires.there c.index_mut-status.result.now c.index_mut-status.ensures.value in
+    let fixes = ap (λ s. s.fixes) is ∙ ap (λ f. f.fixes) (seen c.self.invariant c.self.view_is c.args.at c.requires.there) in
+    omega (arith, fixes, c.requires.room)
 
 pub invariant_of-self : goal.invariant_of-self
 invariant_of-self c =
-    let there : c.args.at < length c.self.inside.slots.items = there_inside c.args.at _ _ c.self.view_is c.requires.there in
-    tied_page c.self.inside.slots.items c.args.at _ _ _ _ there c.self.invariant
-    (ap (λ f. f.page) (frame_is c.self.inside.slots.items c.args.at _ _ there c.frame.view_is c.index_mut-frame.ensures.value))
-    (c.set.ensures ∙ ap (set c.self.inside.contest c.args.at) (sym (fixed_key c.frame.inside.fixes c.frame.inside.key)))
+    let page = get_or c.self.inside.residents c.args.at None in
+    let body = get_or c.self.inside.frames.items c.args.at (fresh_body []) in
+    stay_tied c.self.invariant (record { pages = page_stays _ c.args.at; statuses = refl; bodies = body_stays _ c.args.at })
+    (c.set.ensures ∙ ap (set c.self.inside.contest c.args.at) (sym (fixed_key c.index_mut-status.result.now.fixes (rank_in page body.key))))
+
+pub returns : goal.returns
+returns c =
+    let is = status_is c.self.invariant c.self.view_is c.args.at c.requires.there c.index_mut-status.result.now c.index_mut-status.ensures.value in
+    let page = get_or c.self.inside.residents c.args.at None in
+    let body = get_or c.self.inside.frames.items c.args.at (fresh_body []) in
+    becomes c.self.invariant c.self.view_is c.args.at c.requires.there (record { pages = page_stays _ c.args.at; statuses = refl; bodies = body_stays _ c.args.at })
+    fixed (ap (λ s. frame_of page (record s { fixes = s.fixes + 1 }) body) is)

@@ -1,6 +1,12 @@
-use Rattle.warm_pool.proofs.Slots.{tied_fresh}
+use Rattle.std.proofs.Common.{ap}
+use Rattle.warm_pool.proofs.FrameParts.{fresh_tied, fresh_become}
 use Rattle.warm_pool.proofs.frames.Frames.new.Goals as goal
 
 pub invariant_of-result : goal.invariant_of-result
 invariant_of-result c =
-    tied_fresh _ c.args.frames c.loop.counter _ _ _ c.loop.invariant c.loop.auto.counter-end c.loop-test.false c.in_ok-residents.ensures c.in_ok-contest.ensures
+    fresh_tied c.args.frames c.args.page_size c.in_ok-residents.ensures c.in_ok-statuses.ensures c.in_ok-bodies.ensures c.in_ok-contest.ensures
+
+pub returns : goal.returns
+returns c =
+    ap (λ fs. record { page_size = c.args.page_size; frames = fs })
+    (fresh_become c.args.frames c.args.page_size c.in_ok-residents.ensures c.in_ok-statuses.ensures c.in_ok-bodies.ensures)

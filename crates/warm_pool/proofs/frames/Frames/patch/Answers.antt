@@ -1,11 +1,43 @@
-use Rattle.std.proofs.Common.{◌<◌, ap, length}
-use Rattle.warm_pool.specs.Frames.{leaving_key}
-use Rattle.warm_pool.proofs.Slots.{tied_both, frame_is, there_inside}
+use Rattle.std.proofs.Common.{◌+◌, ◌≤◌, length, None, true, ap, sym, subst, refl, ◌∙◌, get_or}
+use Rattle.warm_pool.specs.Frames.{frame_of, leaving_key, unused_status}
+use Rattle.warm_pool.specs.FrameSteps.{written}
+use Rattle.warm_pool.specs.PageBytes.{patched}
+use Rattle.warm_pool.proofs.FrameParts.{has_status, has_body, status_is, body_is, seen, page_stays, rank_stays, stay_tied, becomes}
 use Rattle.warm_pool.proofs.frames.Frames.patch.Goals as goal
+
+pub index_mut-requires : goal.index_mut-requires
+index_mut-requires c = has_body c.self.invariant c.self.view_is c.args.at c.requires.there c.self.inside.frames.ok.0
+
+pub overwrite-requires : goal.overwrite-requires
+overwrite-requires c =
+    let is = body_is c.self.invariant c.self.view_is c.args.at c.requires.there _ c.index_mut.result.now refl c.index_mut.ensures.value in
+    let bytes = ap (λ b. b.bytes) is ∙ ap (λ f. f.bytes) (seen c.self.invariant c.self.view_is c.args.at c.requires.there) in
+    subst (λ bs. c.args.from + length c.args.bytes.now ≤ length bs) (sym bytes) c.requires.within
+
+pub index_mut-status-requires : goal.index_mut-status-requires
+index_mut-status-requires c = has_status c.self.invariant c.self.view_is c.args.at c.requires.there c.self.inside.statuses.ok.0
 
 pub invariant_of-self : goal.invariant_of-self
 invariant_of-self c =
-    let there : c.args.at < length c.self.inside.slots.items = there_inside c.args.at _ _ c.self.view_is c.requires.there in
-    tied_both c.self.inside.slots.items c.args.at _ _ _ there c.self.invariant
-    (ap (λ f. f.page) (frame_is c.self.inside.slots.items c.args.at _ _ there c.frame.view_is c.index_mut-frame.ensures.value))
-    (ap leaving_key (frame_is c.self.inside.slots.items c.args.at _ _ there c.frame.view_is c.index_mut-frame.ensures.value))
+    let page = get_or c.self.inside.residents c.args.at None in
+    let status = get_or c.self.inside.statuses.items c.args.at unused_status in
+    let now = c.index_mut-status.result.now in
+    let status_now = status_is c.self.invariant c.self.view_is c.args.at c.requires.there now c.index_mut-status.ensures.value in
+    let body_now = body_is c.self.invariant c.self.view_is c.args.at c.requires.there _ c.index_mut.result.now refl c.index_mut.ensures.value in
+    stay_tied c.self.invariant (record { pages = page_stays _ c.args.at; statuses = refl; bodies = refl })
+    (rank_stays c.self.invariant c.self.view_is c.args.at c.requires.there _
+    (ap (λ b. leaving_key (frame_of page now b)) c.overwrite.ensures
+    ∙ ap (λ s. leaving_key (frame_of page s c.index_mut.result.now)) status_now ∙ ap (λ b. leaving_key (frame_of page status b)) body_now))
+
+pub returns : goal.returns
+returns c =
+    let page = get_or c.self.inside.residents c.args.at None in
+    let status = get_or c.self.inside.statuses.items c.args.at unused_status in
+    let now = c.index_mut-status.result.now in
+    let status_now = status_is c.self.invariant c.self.view_is c.args.at c.requires.there now c.index_mut-status.ensures.value in
+    let body_now = body_is c.self.invariant c.self.view_is c.args.at c.requires.there _ c.index_mut.result.now refl c.index_mut.ensures.value in
+    becomes c.self.invariant c.self.view_is c.args.at c.requires.there (record { pages = page_stays _ c.args.at; statuses = refl; bodies = refl })
+    (written c.args.from c.args.bytes.now)
+    (ap (frame_of page (record now { dirty = true })) c.overwrite.ensures
+    ∙ ap (λ s. frame_of page (record s { dirty = true }) (record c.index_mut.result.now { bytes = patched c.index_mut.result.now.bytes c.args.from c.args.bytes.now })) status_now
+    ∙ ap (λ b. frame_of page (record status { dirty = true }) (record b { bytes = patched b.bytes c.args.from c.args.bytes.now })) body_now)

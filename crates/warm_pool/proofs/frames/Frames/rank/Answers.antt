@@ -1,10 +1,34 @@
-use Rattle.std.proofs.Common.{◌<◌, ap, ◌∙◌, length, set}
-use Rattle.warm_pool.proofs.Slots.{tied_page, frame_is, there_inside}
+use Rattle.std.proofs.Common.{◌≢◌, None, Some, [], ap, sym, refl, ◌∙◌, set, get_or}
+use Rattle.warm_pool.specs.Frames.{frame_of, fresh_body, unused_status, key_unless_fixed}
+use Rattle.warm_pool.specs.FrameSteps.{ranked}
+use Rattle.warm_pool.proofs.FrameParts.{has_status, has_body, status_is, body_is, rank_of_page, seen, page_stays, status_stays, stay_tied, becomes}
 use Rattle.warm_pool.proofs.frames.Frames.rank.Goals as goal
+
+pub index_mut-frame-requires : goal.index_mut-frame-requires
+index_mut-frame-requires c = has_body c.self.invariant c.self.view_is c.args.at c.requires.there c.self.inside.frames.ok.0
+
+pub index-requires : goal.index-requires
+index-requires c = has_status c.self.invariant c.self.view_is c.args.at c.requires.there c.self.inside.statuses.ok.0
 
 pub invariant_of-self : goal.invariant_of-self
 invariant_of-self c =
-    let there : c.args.at < length c.self.inside.slots.items = there_inside c.args.at _ _ c.self.view_is c.requires.there in
-    tied_page c.self.inside.slots.items c.args.at _ _ _ _ there c.self.invariant
-    (ap (λ f. f.page) (frame_is c.self.inside.slots.items c.args.at _ _ there c.frame.view_is c.index_mut-frame.ensures.value))
-    (c.set.ensures ∙ ap (set c.self.inside.contest c.args.at) c.leaving-key.ensures)
+    let page = get_or c.self.inside.residents c.args.at None in
+    let status = get_or c.self.inside.statuses.items c.args.at unused_status in
+    let is = status_is c.self.invariant c.self.view_is c.args.at c.requires.there c.index.result.now c.index.ensures in
+    let some : page ≢ None = λ none. c.requires.held (ap (λ f. f.page) (sym (seen c.self.invariant c.self.view_is c.args.at c.requires.there)) ∙ none) in
+    stay_tied c.self.invariant (record { pages = page_stays _ c.args.at; statuses = status_stays _ c.args.at; bodies = refl })
+    (c.set.ensures ∙ ap (set c.self.inside.contest c.args.at)
+    (c.leaving-key.ensures ∙ ap (λ s. key_unless_fixed s.fixes (Some c.args.key)) is
+    ∙ ap (key_unless_fixed status.fixes) (sym (rank_of_page page (Some c.args.key) some))))
+
+pub returns : goal.returns
+returns c =
+    let page = get_or c.self.inside.residents c.args.at None in
+    let status = get_or c.self.inside.statuses.items c.args.at unused_status in
+    let body = get_or c.self.inside.frames.items c.args.at (fresh_body []) in
+    let is = body_is c.self.invariant c.self.view_is c.args.at c.requires.there _ c.index_mut-frame.result.now c.frame.view_is c.index_mut-frame.ensures.value in
+    let some : page ≢ None = λ none. c.requires.held (ap (λ f. f.page) (sym (seen c.self.invariant c.self.view_is c.args.at c.requires.there)) ∙ none) in
+    becomes c.self.invariant c.self.view_is c.args.at c.requires.there (record { pages = page_stays _ c.args.at; statuses = status_stays _ c.args.at; bodies = refl })
+    (ranked c.args.key)
+    (ap (λ b. frame_of page status (record b { key = Some c.args.key })) is
+    ∙ ap (λ k. record (frame_of page status body) { key = k }) (rank_of_page page (Some c.args.key) some))

@@ -1,5 +1,5 @@
-use Rattle.std.proofs.Common.{◌≡◌, ◌<◌, refl, ap, subst, ◌∙◌, arith}
-use Rattle.warm_pool.proofs.PoolSteps.{has_device, has_number, seen_frame}
+use Rattle.std.proofs.Common.{◌≡◌, ◌<◌, refl, sym, subst, ◌∙◌, arith}
+use Rattle.warm_pool.proofs.PoolSteps.{has_device, has_number, seen_generation}
 use Rattle.warm_pool.proofs.Pins.{put_refused, failed_ranked, loaded_ranked, loaded_puts}
 use Rattle.warm_pool.proofs.KeepingLemmas.{loaded_takes, failed_writes_dirty}
 use Rattle.warm_pool.proofs.pool.Pool.bring.Goals as goal
@@ -9,7 +9,7 @@ returns-in_default-clause-refused g c = (c.in_default.ensures.place c.args.histo
 
 pub load_into-requires-clause-room : goal.load_into-requires-clause-room
 load_into-requires-clause-room g c =
-    subst (λ f. f.generation < 18446744073709551615) (c.behind-self.view_is ∙ c.frame.ensures) c.if-generation-lt18446744073709551615.true
+    subst (λ n. n < 18446744073709551615) c.generation-generation.ensures c.if-generation-lt18446744073709551615.true
 
 pub load_into-requires-clause-device : goal.load_into-requires-clause-device
 load_into-requires-clause-device g c = has_device c.requires.pool _ c.requires.known
@@ -24,7 +24,7 @@ returns-in-Err-clause-ranked g c =
 pub returns-in-Err-clause-refused : goal.returns-in-Err-clause-refused
 returns-in-Err-clause-refused g c =
     put_refused c.requires.pool c.load_into.ensures.pool c.args.history.now c.in-Some.at c.args.page (c.in-Some.ensures.place _ c.requires.ranked)
-    (subst (λ f. f.generation < 18446744073709551615) (c.behind-self.view_is ∙ c.frame.ensures) c.if-generation-lt18446744073709551615.true)
+    (subst (λ n. n < 18446744073709551615) c.generation-generation.ensures c.if-generation-lt18446744073709551615.true)
     c.in-Err.fault c.in-Err.ensures.refused
 
 pub returns-then-generation-lt18446744073709551615-clause-ranked : goal.returns-then-generation-lt18446744073709551615-clause-ranked
@@ -35,16 +35,16 @@ returns-then-generation-lt18446744073709551615-clause-ranked g c =
 pub returns-then-generation-lt18446744073709551615-clause-put : goal.returns-then-generation-lt18446744073709551615-clause-put
 returns-then-generation-lt18446744073709551615-clause-put g c =
     loaded_puts c.requires.pool c.load_into.ensures.pool c.in-Some.at c.args.page c.known_key-key.result c.args.fixes c.in_default-load_into.ensures.put
-    c.args.history.now c.requires.absent (c.in-Some.ensures.place _ c.requires.ranked) c.behind-self.inside.generation
-    (ap (λ f. f.generation) (c.behind-self.view_is ∙ c.frame.ensures)) c.if-generation-lt18446744073709551615.true
+    c.args.history.now c.requires.absent (c.in-Some.ensures.place _ c.requires.ranked) c.generation-generation.result
+    c.generation-generation.ensures c.if-generation-lt18446744073709551615.true
 
 pub returns-clause-refused : goal.returns-clause-refused
 returns-clause-refused g c =
-    let full : c.behind-self.inside.generation ≡ 18446744073709551615 = omega arith in (
+    let full : c.generation-generation.result ≡ 18446744073709551615 = omega arith in (
       (
         c.in-Some.at,
         c.in-Some.ensures.place _ c.requires.ranked,
-        ap (λ f. f.generation) (seen_frame c.requires.pool c.in-Some.at _ _ c.behind-self.view_is c.frame.ensures) ∙ full,
+        sym (seen_generation c.requires.pool c.in-Some.at c.generation-generation.ensures) ∙ full,
       ),
       refl,
     )

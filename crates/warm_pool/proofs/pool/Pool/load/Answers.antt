@@ -1,5 +1,5 @@
-use Rattle.std.proofs.Common.{refl, sym, ap, inl}
-use Rattle.warm_pool.proofs.PoolSteps.{found_there, found_holds, found_nowhere, seen_there, seen_page, seen_frame}
+use Rattle.std.proofs.Common.{refl, inl}
+use Rattle.warm_pool.proofs.PoolSteps.{found_there, found_holds, found_nowhere, seen_there, seen_page, seen_generation}
 use Rattle.warm_pool.proofs.Pins.{load_puts, load_put_refused, stays_put}
 use Rattle.warm_pool.proofs.KeepingLemmas.{same_bytes, stays_in_frame, unknown_writes_none}
 use Rattle.warm_pool.proofs.pool.Pool.load.Goals as goal
@@ -10,7 +10,7 @@ returns-in-Some-clause-loaded g c = (
   inl (record {
     there = seen_there c.requires.pool c.in-Some.at (found_there c.requires.pool _ _ c.in-Some.ensures);
     resident = seen_page c.requires.pool c.in-Some.at c.args.page (found_holds c.requires.pool _ _ c.in-Some.ensures);
-    current = sym (ap (λ f. f.generation) (seen_frame c.requires.pool c.in-Some.at _ _ c.behind-self.view_is c.frame.ensures));
+    current = seen_generation c.requires.pool c.in-Some.at c.generation-generation.ensures;
     same = refl;
   }),
 )

@@ -1,9 +1,9 @@
-use Rattle.std.proofs.Common.{length, ap, ◌∙◌, arith}
+use Rattle.std.proofs.Common.{length, arith}
 use Rattle.warm_pool.proofs.Writes.{read_seen}
 use Rattle.warm_pool.proofs.pool.Pool.read.Goals as goal
 
 pub returns-clause-read : goal.returns-clause-read
 returns-clause-read g c =
-    read_seen c.requires.pool c.args.slot c.requires.holds c.args.at c.copy_from_slice.new.self c.deref.result.now (length c.args.into.now) _
-    (c.deref.ensures.value ∙ ap (λ f. f.bytes) (c.frame.view_is ∙ c.frame-frame.ensures))
+    read_seen c.requires.pool c.args.slot c.requires.holds c.args.at c.copy_from_slice.new.self c.bytes-bytes.result.now (length c.args.into.now) _
+    c.bytes-bytes.ensures
     c.copy_from_slice.ensures.after (omega arith) c.copy_from_slice.ensures.len (c.is_within.ensures.0 c.if-not-is_within.false)

@@ -3,7 +3,10 @@ use Rattle.warm_pool.proofs.Renewals.{renewed_pool, renewed_view, renews, renews
 use Rattle.warm_pool.proofs.pool.Pool.renew.Goals as goal
 
 pub rank-requires : goal.rank-requires
-rank-requires g c = record { there = found_there c.requires.pool _ _ c.in-Some.ensures }
+rank-requires g c = record {
+  there = found_there c.requires.pool _ _ c.in-Some.ensures;
+  held = λ none. let holds = found_holds c.requires.pool c.args.page _ c.in-Some.ensures in absurd (cc);
+}
 
 pub returns-in-Some-clause-pool : goal.returns-in-Some-clause-pool
 returns-in-Some-clause-pool g c =

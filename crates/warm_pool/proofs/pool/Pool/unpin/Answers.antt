@@ -5,6 +5,9 @@ use Rattle.warm_pool.proofs.pool.Pool.unpin.Goals as goal
 pub unfix-requires-clause-there : goal.unfix-requires-clause-there
 unfix-requires-clause-there g c = held_there c.requires.pool _ c.requires.holds
 
+pub unfix-requires-clause-held : goal.unfix-requires-clause-held
+unfix-requires-clause-held g c = fixed_some c.requires.pool _ (held_fixed c.requires.pool _ c.requires.holds)
+
 pub unfix-requires-clause-fixed : goal.unfix-requires-clause-fixed
 unfix-requires-clause-fixed g c = held_fixed c.requires.pool _ c.requires.holds
 

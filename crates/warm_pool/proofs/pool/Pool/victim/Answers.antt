@@ -1,4 +1,4 @@
-use Rattle.std.proofs.Common.{sym, subst, ap, ◌∙◌}
+use Rattle.std.proofs.Common.{sym, subst}
 use Rattle.warm_history.specs.Histories.{refs}
 use Rattle.warm_rank.specs.Ranking.{IsVictim}
 use Rattle.warm_pool.proofs.PoolSteps.{none_leaves, one_leaves}
@@ -9,4 +9,4 @@ returns-in_default g c h r = none_leaves c.requires.pool h r c.in_default.ensure
 
 pub returns : goal.returns
 returns g c h r =
-    subst (IsVictim (refs h) _) (sym (ap (λ f. f.page) (c.behind-self.view_is ∙ c.frame.ensures))) (one_leaves c.requires.pool h r c.in-Some.at c.in-Some.ensures)
+    subst (IsVictim (refs h) _) (sym c.page.ensures) (one_leaves c.requires.pool h r c.in-Some.at c.in-Some.ensures)

@@ -1,24 +1,20 @@
-use Rattle.std.proofs.Common.{◌∙◌}
+use Rattle.std.proofs.Common.{sym, ◌∙◌}
 use Rattle.warm_pool.proofs.Loads.{ok_if_no_err, err_if}
 use Rattle.warm_pool.proofs.WriteBacks.{wrote_back, write_failed, failed_pool, cleaned_pool_to, write_cleans_to}
 use Rattle.warm_pool.proofs.pool.Pool.write_back.Goals as goal
 
 pub returns-then-is_err-clause-pool : goal.returns-then-is_err-clause-pool
 returns-then-is_err-clause-pool g c =
-    let is = c.frame.view_is ∙ c.frame-frame.ensures in
-    failed_pool _ _ _ _ _ _ (wrote_back c.requires.pool c.requires.there is c.in-Some.is c.if-not-frame.false c.deref.ensures.value c.write_page.ensures)
+    failed_pool _ _ _ _ _ _ (wrote_back c.requires.pool c.requires.there (sym c.page.ensures ∙ c.in-Some.is) (sym c.is_dirty.ensures ∙ c.if-not-is_dirty.false) c.bytes.ensures c.write_page.ensures)
 
 pub returns-then-is_err-clause-failed : goal.returns-then-is_err-clause-failed
 returns-then-is_err-clause-failed g c =
-    let is = c.frame.view_is ∙ c.frame-frame.ensures in
-    write_failed _ _ _ _ _ _ (wrote_back c.requires.pool c.requires.there is c.in-Some.is c.if-not-frame.false c.deref.ensures.value c.write_page.ensures) (err_if _ c.if-is_err.ensures.value)
+    write_failed _ _ _ _ _ _ (wrote_back c.requires.pool c.requires.there (sym c.page.ensures ∙ c.in-Some.is) (sym c.is_dirty.ensures ∙ c.if-not-is_dirty.false) c.bytes.ensures c.write_page.ensures) (err_if _ c.if-is_err.ensures.value)
 
 pub returns-clause-pool : goal.returns-clause-pool
 returns-clause-pool g c =
-    let is = c.frame.view_is ∙ c.frame-frame.ensures in
-    cleaned_pool_to c.args.self.now.frames c.clean.new.self (wrote_back c.requires.pool c.requires.there is c.in-Some.is c.if-not-frame.false c.deref.ensures.value c.write_page.ensures) (ok_if_no_err _ c.if-is_err.ensures.value) c.clean.ensures
+    cleaned_pool_to c.args.self.now.frames c.clean.new.self (wrote_back c.requires.pool c.requires.there (sym c.page.ensures ∙ c.in-Some.is) (sym c.is_dirty.ensures ∙ c.if-not-is_dirty.false) c.bytes.ensures c.write_page.ensures) (ok_if_no_err _ c.if-is_err.ensures.value) c.clean.ensures
 
 pub returns-clause-done : goal.returns-clause-done
 returns-clause-done g c =
-    let is = c.frame.view_is ∙ c.frame-frame.ensures in
-    write_cleans_to c.args.self.now.frames c.clean.new.self (wrote_back c.requires.pool c.requires.there is c.in-Some.is c.if-not-frame.false c.deref.ensures.value c.write_page.ensures) (ok_if_no_err _ c.if-is_err.ensures.value) c.clean.ensures
+    write_cleans_to c.args.self.now.frames c.clean.new.self (wrote_back c.requires.pool c.requires.there (sym c.page.ensures ∙ c.in-Some.is) (sym c.is_dirty.ensures ∙ c.if-not-is_dirty.false) c.bytes.ensures c.write_page.ensures) (ok_if_no_err _ c.if-is_err.ensures.value) c.clean.ensures

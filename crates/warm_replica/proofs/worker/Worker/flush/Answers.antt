@@ -1,0 +1,6 @@
+use Rattle.std.proofs.Common.{rules}
+use Rattle.warm_replica.proofs.Replies.{not_taken}
+use Rattle.warm_replica.proofs.worker.Worker.flush.Goals as goal
+
+pub returns : goal.returns
+returns g c = let refused = not_taken g.M.Machine.goes g.met.M.Absorbing.absorbs c.self.inside.pass.view c.call.new.pass.view c.in-Ok.batch c.in-Ok-call.reply c.in-Ok-call.ensures.called c.in_default-reply.not-Done in search rules

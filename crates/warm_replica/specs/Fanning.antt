@@ -1,0 +1,35 @@
+-- The steps of a run of jobs: their room, and what their threads give.
+use Rattle.std.specs.Prelude.{◌≡◌, List, Result, OnOk, IfOk}
+use Rattle.std.specs.Global.{Vec}
+use Rattle.warm_turn.specs.declared.board.Ended.{Ended}
+use Rattle.warm_turn.specs.declared.board.View.{View}
+use Rattle.warm_turn.specs.Turns.{Widened}
+use Rattle.warm_gossip.specs.declared.call.Call.{Call}
+use Rattle.warm_gossip.specs.declared.call.Reply.{Reply}
+use Rattle.warm_replica.specs.declared.ready.Ready.{Ready}
+use Rattle.warm_replica.specs.declared.fault.NoThread.{NoThread}
+use Rattle.warm_replica.specs.declared.job.Job.{Job}
+use Rattle.warm_replica.specs.declared.job.StepReply.{StepReply}
+use Rattle.warm_replica.specs.Jobs.{WentAs}
+use Rattle.warm_replica.specs.Pairs.{Pairs, Triples}
+
+-- the job has its room, and its steps are the same
+abbrev pub IsReady : Job → Ready → Type 0
+IsReady job ready = (job.cap ≡ ready.buffer.cap) × (job.steps ≡ ready.steps)
+
+abbrev pub AreReady : List Job → List Ready → Type 0
+AreReady = Pairs IsReady
+
+-- the calls of an ended pass are those of this job, answered so
+abbrev pub ReadyWentAs : Ready → Vec StepReply → Ended Call Reply → Type 0
+ReadyWentAs ready replies e = WentAs ready.buffer.cap ready.steps.items replies.items e
+
+module _ {X : Type 0} where
+  -- the pass has seen more, and holds one pass for each of the jobs, whose calls are that job's, where all were started
+  abbrev pub HasFanned : View X Call Reply → List Ready → Result (Unit {0}) NoThread → List (Vec StepReply) → View X Call Reply → Type 0
+  HasFanned v jobs result replies w =
+      (more : List (Ended Call Reply)) × Widened v more w × OnOk result (Triples ReadyWentAs jobs replies more)
+
+  abbrev pub Fanned : View X Call Reply → List Ready → Result (Vec (Vec StepReply)) NoThread → View X Call Reply → Type 0
+  Fanned v jobs result w =
+      (more : List (Ended Call Reply)) × Widened v more w × IfOk result (λ replies. Triples ReadyWentAs jobs replies.items more)

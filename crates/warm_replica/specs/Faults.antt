@@ -1,0 +1,24 @@
+-- The numbers and the names of refusals.
+use Rattle.std.specs.Prelude.{ℕ, List, codes}
+use Rattle.warm_replica.specs.declared.fault.FlushFault.{FlushFault}
+use Rattle.warm_replica.specs.declared.fault.FlushFault.TheVariants as flush
+use Rattle.warm_replica.specs.declared.fault.RunFault.{RunFault}
+use Rattle.warm_replica.specs.declared.fault.RunFault.TheVariants as run
+
+abbrev pub flush_code : FlushFault → ℕ
+flush_code flush.Memory = 1
+flush_code flush.TurnsSpent = 2
+
+abbrev pub flush_name : FlushFault → List ℕ
+flush_name flush.Memory = codes "Memory"
+flush_name flush.TurnsSpent = codes "TurnsSpent"
+
+abbrev pub run_code : RunFault → ℕ
+run_code run.Memory = 1
+run_code run.NoThread = 2
+run_code run.BadCapacity = 3
+
+abbrev pub run_name : RunFault → List ℕ
+run_name run.Memory = codes "Memory"
+run_name run.NoThread = codes "NoThread"
+run_name run.BadCapacity = codes "BadCapacity"

@@ -1,0 +1,235 @@
+//! Jobs in threads of their own.
+ghost use Rattle.std.specs.Prelude.{◌≡◌, ◌↔◌, ◌≤◌, [], length, vec_capacity, Err, IfOk, IfErr, IsTrue};
+ghost use Rattle.std.specs.Thread.{IsSync, IsSend};
+ghost use Rattle.warm_refbuffer.specs.Buffered.{IsCapacity};
+ghost use Rattle.warm_replica.specs.Jobs.{HasSeenMore, HaveCapacities, JobWent, JobsWent};
+ghost use Rattle.warm_replica.specs.Fanning.{AreReady, IsReady, Fanned, HasFanned};
+
+use crate::fault::{NoThread, RunFault};
+use crate::job::{Gate, Job, Step, StepReply, take_steps};
+use crate::ready::Ready;
+use crate::worker::{Absorbing, Worker};
+use std::alloc::{AllocError, Global};
+use std::snapshot::Snapshot;
+use std::sync::Wait;
+use std::thread;
+use std::thread::{Promise, Scope, Threads};
+use warm_refbuffer::{MAX_CAPACITY, RefBuffer};
+use warm_turn::{Machine, Pass, Turn};
+
+/// The most jobs of one run.
+pub const MAX_JOBS: usize = 64;
+
+// What a job began with.
+#[derive(Drop)]
+struct Began<M: Machine> {
+    buffer: Snapshot<RefBuffer>,
+    steps: Snapshot<Vec<Step>>,
+    pass: Snapshot<Pass<M>>,
+}
+
+impl<M: Absorbing> Promise<(Pass<M>, Vec<StepReply>)> for Began<M> {
+    ghost use Rattle.std.specs.Prelude.{◌≡◌};
+    ghost use Rattle.warm_replica.specs.Jobs.{JobWent};
+
+    ghost kept_by = { λ p r. (r.0.table ≡ p.pass.value.table)
+        × JobWent p.buffer.value.cap p.steps.value.items r.1.items p.pass.value.view r.0.view };
+}
+
+// The steps of a job, with a pass of its own.
+fn run_job<M: Absorbing, R: Wait, G: Gate>(
+    rt: &R,
+    alloc: Global,
+    replica: &Turn<M>,
+    gate: &G,
+    pass: Pass<M>,
+    ready: Ready,
+) -> (Pass<M>, Vec<StepReply>)
+    requires { pass.table ≡ replica.now.table }
+    ensures table { result.0.table ≡ pass.table }
+    ensures went { JobWent ready.buffer.cap ready.steps.items result.1.items pass.view result.0.view }
+{
+    let Ready {
+        job,
+        buffer,
+        steps,
+        mut replies,
+    } = ready;
+    let mut worker = Worker::new(pass, buffer);
+    take_steps(
+        rt,
+        alloc,
+        replica,
+        gate,
+        job,
+        &mut worker,
+        steps,
+        &mut replies,
+    );
+    let (pass, _rest) = worker.into_parts();
+    (pass, replies)
+}
+
+// Runs each job in a thread of its own, the last one first to start, and ends their passes into this one.
+fn fan_out<'s, E, M: Absorbing + Send + 's, R: Threads + Wait + Sync, G: Gate + Sync>(
+    scope: &Scope<'s, E>,
+    rt: &'s R,
+    alloc: Global,
+    replica: &'s Turn<M>,
+    gate: &'s G,
+    pass: &mut Pass<M>,
+    mut jobs: Vec<Ready>,
+    all: &mut Vec<Vec<StepReply>>,
+) -> Result<(), NoThread>
+    requires send { IsSend M.row × IsSync R.row × IsSync G.row }
+    requires table { pass.old.table ≡ replica.now.table }
+    requires room { (all.old.items ≡ []) × (length jobs.items ≤ vec_capacity all.old) }
+    ensures table { pass.new.table ≡ pass.old.table }
+    ensures room { vec_capacity all.old ≤ vec_capacity all.new }
+    ensures fanned { HasFanned pass.old.view jobs.items result all.new.items pass.new.view }
+{
+    let Some(ready) = jobs.pop() else {
+        return Ok(());
+    };
+    let mine = replica.pass(pass);
+    let began = Began {
+        buffer: Snapshot::of(&ready.buffer),
+        steps: Snapshot::of(&ready.steps),
+        pass: Snapshot::of(&mine),
+    };
+    let Ok(child) = scope.spawn_with(
+        began,
+        move || -> (Pass<M>, Vec<StepReply>)
+            requires { mine.table ≡ replica.now.table }
+            ensures { (result.0.table ≡ mine.table)
+                × JobWent ready.buffer.cap ready.steps.items result.1.items mine.view result.0.view }
+        { run_job(rt, alloc, replica, gate, mine, ready) },
+    ) else {
+        return Err(NoThread);
+    };
+    let rest = fan_out(scope, rt, alloc, replica, gate, pass, jobs, all);
+    let (theirs, replies) = child.join(rt);
+    replica.end(pass, theirs);
+    if let Err(none) = rest {
+        return Err(none);
+    }
+    all.push_reserved(replies);
+    Ok(())
+}
+
+// A job with its room. Its capacity is one that a buffer can have, so only memory can be refused.
+fn make_ready(alloc: Global, number: usize, job: Job) -> Result<Ready, AllocError>
+    requires { IsCapacity job.cap }
+    ensures { IfOk result (IsReady job) }
+{
+    let Job { cap, steps } = job;
+    let Ok(buffer) = RefBuffer::new(alloc, cap) else {
+        return Err(AllocError);
+    };
+    let replies = Vec::with_capacity(alloc, steps.len())?;
+    Ok(Ready {
+        job: number,
+        buffer,
+        steps,
+        replies,
+    })
+}
+
+// The jobs with their room.
+fn make_all_ready(alloc: Global, jobs: Vec<Job>) -> Result<Vec<Ready>, AllocError>
+    requires { HaveCapacities jobs.items }
+    ensures { IfOk result (λ v. AreReady jobs.items v.items) }
+{
+    let mut all = Vec::with_capacity(alloc, jobs.len())?;
+    for job in jobs {
+        let number = all.len();
+        all.push_reserved(make_ready(alloc, number, job)?);
+    }
+    Ok(all)
+}
+
+// Whether each job has a buffer that there can be.
+fn have_capacities(jobs: &[Job]) -> bool
+    ensures { IsTrue result ↔ HaveCapacities jobs.now }
+{
+    jobs.iter()
+        .all(|job| 1 <= job.cap && job.cap <= MAX_CAPACITY)
+}
+
+// Runs the jobs that are ready, with a pass of their own.
+fn run_ready<M: Absorbing + Send, R: Threads + Wait + Sync, G: Gate + Sync>(
+    rt: &R,
+    alloc: Global,
+    replica: &Turn<M>,
+    gate: &G,
+    own: Pass<M>,
+    ready: Vec<Ready>,
+    all: Vec<Vec<StepReply>>,
+) -> (Pass<M>, Result<Vec<Vec<StepReply>>, NoThread>)
+    requires table { own.table ≡ replica.now.table }
+    requires room { (all.items ≡ []) × (length ready.items ≤ vec_capacity all) }
+    ensures table { result.0.table ≡ own.table }
+    ensures fanned { Fanned own.view ready.items result.1 result.0.view }
+{
+    thread::scope(
+        thread::scope_env(),
+        rt,
+        move |scope| -> (Pass<M>, Result<Vec<Vec<StepReply>>, NoThread>)
+            requires { IsSend M.row × IsSync R.row × IsSync G.row × (own.table ≡ replica.now.table)
+                × (all.items ≡ []) × (length ready.items ≤ vec_capacity all) }
+            ensures { (result.0.table ≡ own.table) × Fanned own.view ready.items result.1 result.0.view }
+        {
+            let mut own = own;
+            let mut all = all;
+            match fan_out(scope, rt, alloc, replica, gate, &mut own, ready, &mut all) {
+                Ok(()) => (own, Ok(all)),
+                Err(none) => (own, Err(none)),
+            }
+        },
+    )
+}
+
+/// Runs each job in a thread of its own, and ends their passes into this one. At most [`MAX_JOBS`] at a time. The replies come in the
+/// order of the jobs, one for each step. What a job's buffer holds after its last step is given up.
+///
+/// Each job's part of the history is just its flushes and calls, in order, with the replies that its steps gave. The pass makes no
+/// call of its own. The gate is called round each step, by the job's own thread.
+///
+/// # Errors
+/// - `BadCapacity`: a job wants a buffer of a capacity outside 1 to [`warm_refbuffer::MAX_CAPACITY`]. Nothing has happened.
+/// - `Memory`: room for a buffer or for replies was refused. Nothing has happened.
+/// - `NoThread`: a thread could not be started, for want of memory too. The jobs that were started have run to their end, and the
+///   pass has seen what they did.
+pub fn run_workers<M: Absorbing + Send, R: Threads + Wait + Sync, G: Gate + Sync>(
+    rt: &R,
+    alloc: Global,
+    replica: &Turn<M>,
+    pass: &mut Pass<M>,
+    jobs: Vec<Job>,
+    gate: &G,
+) -> Result<Vec<Vec<StepReply>>, RunFault>
+    requires table { pass.old.table ≡ replica.now.table }
+    requires few { length jobs.items ≤ MAX_JOBS }
+    ensures table { pass.new.table ≡ pass.old.table }
+    ensures went { IfOk result (λ all. JobsWent pass.old.view jobs.items all.items pass.new.view) }
+    ensures capacity { (result ≡ Err RunFault.BadCapacity) ↔ (¬ HaveCapacities jobs.items) }
+    ensures started { result ≡ Err RunFault.NoThread → HasSeenMore pass.old.view pass.new.view }
+    ensures refused { IfErr result (λ fault. ¬ (fault ≡ RunFault.NoThread) → pass.new ≡ pass.old) }
+{
+    if !have_capacities(&jobs) {
+        return Err(RunFault::BadCapacity);
+    }
+    let Ok(ready) = make_all_ready(alloc, jobs) else {
+        return Err(RunFault::Memory);
+    };
+    let Ok(all) = Vec::with_capacity(alloc, ready.len()) else {
+        return Err(RunFault::Memory);
+    };
+    let own = replica.pass(pass);
+    let (own, ran) = run_ready(rt, alloc, replica, gate, own, ready, all);
+    replica.end(pass, own);
+    match ran {
+        Ok(all) => Ok(all),
+        Err(_) => Err(RunFault::NoThread),
+    }
+}

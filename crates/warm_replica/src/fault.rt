@@ -1,0 +1,74 @@
+//! Why a flush or a run of jobs is refused.
+ghost use Rattle.std.specs.Prelude.{◌≡◌};
+ghost use Rattle.warm_replica.specs.Faults.{flush_code, flush_name, run_code, run_name};
+
+/// Why a buffer was not flushed. It holds what it held.
+#[derive(Clone, Copy, Debug, PartialEq, Eq)]
+pub enum FlushFault {
+    /// 1: there was no memory, for the call or for the machine that answers it.
+    Memory,
+    /// 2: no ticket was left for a call; nor is one for any later call of this worker.
+    TurnsSpent,
+}
+
+impl FlushFault {
+    /// The number of the refusal: 1 or 2.
+    pub fn code(self) -> u8
+        ensures { result ≡ flush_code self }
+    {
+        match self {
+            FlushFault::Memory => 1,
+            FlushFault::TurnsSpent => 2,
+        }
+    }
+
+    /// Its name, as the variant is written.
+    pub fn name(self) -> &'static str
+        ensures { result.now ≡ flush_name self }
+    {
+        match self {
+            FlushFault::Memory => "Memory",
+            FlushFault::TurnsSpent => "TurnsSpent",
+        }
+    }
+}
+
+/// A thread could not be started.
+#[derive(Clone, Copy, Debug, PartialEq, Eq)]
+pub struct NoThread;
+
+/// Why jobs were not all run. The first that applies is answered: `BadCapacity`, then `Memory`, both before a thread is
+/// started, then `NoThread`.
+#[derive(Clone, Copy, Debug, PartialEq, Eq)]
+pub enum RunFault {
+    /// 1: there was no memory for the room of a job.
+    Memory,
+    /// 2: a thread could not be started. Those that were started have run to their end.
+    NoThread,
+    /// 3: a job wants a buffer of a capacity that none has: outside 1 to [`warm_refbuffer::MAX_CAPACITY`].
+    BadCapacity,
+}
+
+impl RunFault {
+    /// The number of the refusal: 1, 2 or 3.
+    pub fn code(self) -> u8
+        ensures { result ≡ run_code self }
+    {
+        match self {
+            RunFault::Memory => 1,
+            RunFault::NoThread => 2,
+            RunFault::BadCapacity => 3,
+        }
+    }
+
+    /// Its name, as the variant is written.
+    pub fn name(self) -> &'static str
+        ensures { result.now ≡ run_name self }
+    {
+        match self {
+            RunFault::Memory => "Memory",
+            RunFault::NoThread => "NoThread",
+            RunFault::BadCapacity => "BadCapacity",
+        }
+    }
+}

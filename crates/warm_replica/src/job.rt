@@ -1,0 +1,109 @@
+//! Jobs: the steps that a thread of its own takes with a worker of its own.
+ghost use Rattle.std.specs.Prelude.{◌≡◌, ◌≤◌, [], length, vec_capacity};
+ghost use Rattle.warm_replica.specs.Jobs.{StepWent, StepsWent};
+
+use crate::fault::FlushFault;
+use crate::worker::{Absorbing, Worker};
+use std::alloc::Global;
+use std::sync::Wait;
+use warm_gossip::{Call, Reply};
+use warm_refbuffer::Full;
+use warm_stamps::Reference;
+use warm_turn::Turn;
+
+/// A step of a job.
+#[derive(Drop)]
+pub enum Step {
+    /// Put a reference into the buffer.
+    Touch(Reference),
+    /// Have the replica absorb what the buffer holds.
+    Flush,
+    /// Make a call.
+    Make(Call),
+}
+
+/// How a step was answered.
+#[derive(Drop)]
+pub enum StepReply {
+    /// The reference is in the buffer.
+    Touched,
+    /// The buffer was full; the reference comes back.
+    Full(Reference),
+    /// The replica has absorbed what the buffer held, which is empty.
+    Flushed,
+    /// The reply to the call.
+    Answered(Reply),
+    /// The flush was refused, or no ticket was left for the call.
+    Failed(FlushFault),
+}
+
+/// The steps of one thread, and the capacity of its buffer. What the buffer holds after the last step is given up.
+#[derive(Drop)]
+pub struct Job {
+    /// How many references the buffer holds.
+    pub cap: usize,
+    /// The steps, in order.
+    pub steps: Vec<Step>,
+}
+
+/// What is called round each step of a job, by the thread that takes it. Jobs and their steps are counted from 0.
+pub trait Gate {
+    /// Before the step is taken.
+    fn before(&self, job: usize, step: usize);
+
+    /// After it was taken.
+    fn after(&self, job: usize, step: usize);
+}
+
+// One step of a job.
+fn take_step<M: Absorbing, R: Wait>(
+    rt: &R,
+    alloc: Global,
+    replica: &Turn<M>,
+    worker: &mut Worker<M>,
+    step: Step,
+) -> StepReply
+    requires { worker.old.pass.table ≡ replica.now.table }
+    ensures table { worker.new.pass.table ≡ worker.old.pass.table }
+    ensures went { StepWent worker.old step result worker.new }
+{
+    match step {
+        Step::Touch(reference) => match worker.touch(reference) {
+            Ok(()) => StepReply::Touched,
+            Err(Full(reference)) => StepReply::Full(reference),
+        },
+        Step::Flush => match worker.flush(rt, alloc, replica) {
+            Ok(()) => StepReply::Flushed,
+            Err(fault) => StepReply::Failed(fault),
+        },
+        Step::Make(call) => match worker.call(rt, replica, call) {
+            Ok(reply) => StepReply::Answered(reply),
+            Err(_) => StepReply::Failed(FlushFault::TurnsSpent),
+        },
+    }
+}
+
+// All steps of a job, in order. There is room for the replies.
+pub(crate) fn take_steps<M: Absorbing, R: Wait, G: Gate>(
+    rt: &R,
+    alloc: Global,
+    replica: &Turn<M>,
+    gate: &G,
+    job: usize,
+    worker: &mut Worker<M>,
+    steps: Vec<Step>,
+    replies: &mut Vec<StepReply>,
+)
+    requires table { worker.old.pass.table ≡ replica.now.table }
+    requires room { (replies.old.items ≡ []) × (length steps.items ≤ vec_capacity replies.old) }
+    ensures table { worker.new.pass.table ≡ worker.old.pass.table }
+    ensures went { StepsWent worker.old steps.items replies.new.items worker.new }
+{
+    for step in steps {
+        let at = replies.len();
+        gate.before(job, at);
+        let reply = take_step(rt, alloc, replica, worker, step);
+        replies.push_reserved(reply);
+        gate.after(job, at);
+    }
+}

@@ -1,0 +1,162 @@
+//! A loop over mail.
+ghost use Rattle.std.specs.Prelude.{◌≡◌, ℕ, ◌≤◌, ◌<◌, ◌^◌, ◌∷◌, [], List, length, map, IfSome};
+ghost use Rattle.warm_replica.specs.Mails.{Posts, HeardBy, Took, sender_of};
+ghost use Rattle.warm_replica.specs.declared.mail.Mail.{Mail};
+ghost use Rattle.warm_replica.specs.declared.mail.Mail.TheVariants.{Bytes};
+
+use crate::mail::Mail;
+use crate::post::Post;
+use crate::report::MailReport;
+use crate::worker::Worker;
+use std::alloc::Global;
+use std::sync::Wait;
+use warm_frames::{Frame, decode, encode};
+use warm_gossip::{Call, Reply};
+use warm_stamps::{ByteList, ReplicaId};
+use warm_turn::{Machine, Turn};
+
+// Who sent the frame.
+fn sender_of(frame: &Frame) -> ReplicaId
+    ensures { result ≡ sender_of frame.now }
+{
+    match frame {
+        Frame::Entries { sender, .. } => *sender,
+        Frame::Digest { sender, .. } => *sender,
+        Frame::Want { sender, .. } => *sender,
+    }
+}
+
+// Posts one frame, and counts it where it is lost.
+fn post_one<P: Post>(alloc: Global, post: &mut P, to: ReplicaId, frame: &Frame) -> u64
+    ensures posted { Posts P.keeps ((to, frame.now) ∷ []) (P.given post.old) result (P.given post.new) }
+    ensures bound { result ≤ 1 }
+{
+    let Ok(bytes) = encode(alloc, frame) else {
+        return 1;
+    };
+    match post.post(to, ByteList::of(bytes)) {
+        Ok(()) => 0,
+        Err(_) => 1,
+    }
+}
+
+// Posts the frames in their order, and counts those that are lost.
+fn post_all<P: Post>(alloc: Global, post: &mut P, to: ReplicaId, frames: &[Frame]) -> u64
+    ensures posted { Posts P.keeps (map (λ answer. (to, answer)) frames.now) (P.given post.old) result (P.given post.new) }
+    ensures bound { result ≤ length frames.now }
+{
+    let mut lost = 0;
+    for frame in frames {
+        lost += post_one(alloc, post, to, frame);
+    }
+    lost
+}
+
+// Takes bytes: a frame that they spell is received in a turn of its own, and its answers are posted.
+fn hear<M: Machine<Call = Call, Reply = Reply>, P: Post, R: Wait>(
+    rt: &R,
+    alloc: Global,
+    replica: &Turn<M>,
+    worker: &mut Worker<M>,
+    post: &mut P,
+    bytes: ByteList,
+) -> MailReport
+    requires { worker.old.pass.table ≡ replica.now.table }
+    ensures table { worker.new.pass.table ≡ worker.old.pass.table }
+    ensures buffer { worker.new.buffer ≡ worker.old.buffer }
+    ensures heard { HeardBy P.keeps P.given worker.old post.old (Bytes bytes ∷ []) result worker.new post.new }
+    ensures bound { (result.joined ≤ 1) × (result.refused ≤ 1) × (result.lost < 2 ^ 64) }
+{
+    let Ok(frame) = decode(alloc, bytes.as_slice()) else {
+        return MailReport {
+            joined: 0,
+            refused: 1,
+            lost: 0,
+        };
+    };
+    let to = sender_of(&frame);
+    let Ok(reply) = worker.call(rt, replica, Call::Receive(frame)) else {
+        return MailReport {
+            joined: 0,
+            refused: 1,
+            lost: 0,
+        };
+    };
+    let Reply::Answers(frames) = reply else {
+        return MailReport {
+            joined: 0,
+            refused: 1,
+            lost: 0,
+        };
+    };
+    let lost = post_all(alloc, post, to, frames.as_slice());
+    MailReport {
+        joined: 1,
+        refused: 0,
+        lost: u128::from(lost),
+    }
+}
+
+// The next item of mail. The mail need not be known to end.
+fn next_item<I: Iterator<Item = Mail>>(mail: &mut I) -> Option<Mail>
+    requires { I.can_next mail.old }
+    ensures gives { I.next_gives mail.old result mail.new }
+    ensures can { IfSome result (λ _. I.can_next mail.new) }
+{
+    mail.next()
+}
+
+/// Takes mail until `stops` Stops or `turns` items were taken, or the mail ends; nothing where `stops` or `turns` is 0. Bytes are
+/// decoded, the frame is received by the replica in a turn of its own, and the answers are posted to the frame's sender. The
+/// worker's buffer stays as it is.
+///
+/// No item ends the loop by its fault. Bytes that spell no frame, a frame that the replica refuses, one for whose decoding memory was
+/// refused, and one for which no ticket was left are counted as refused; answers that the post does not take, or that could not
+/// be encoded for want of memory, as lost. It may wait for the mail, for turns, and for the post.
+pub fn mail_loop<
+    M: Machine<Call = Call, Reply = Reply>,
+    I: Iterator<Item = Mail>,
+    P: Post,
+    R: Wait,
+>(
+    rt: &R,
+    alloc: Global,
+    replica: &Turn<M>,
+    worker: &mut Worker<M>,
+    mut mail: I,
+    post: &mut P,
+    stops: u64,
+    turns: u64,
+) -> MailReport
+    requires table { worker.old.pass.table ≡ replica.now.table }
+    requires can { I.can_next mail }
+    ensures table { worker.new.pass.table ≡ worker.old.pass.table }
+    ensures buffer { worker.new.buffer ≡ worker.old.buffer }
+    ensures heard { (items : List Mail) × Took I.next_gives mail stops turns items
+        × HeardBy P.keeps P.given worker.old post.old items result worker.new post.new }
+{
+    let mut report = MailReport {
+        joined: 0,
+        refused: 0,
+        lost: 0,
+    };
+    let mut missing = stops;
+    for _turn in 0..turns {
+        if missing == 0 {
+            return report;
+        }
+        let Some(item) = next_item(&mut mail) else {
+            return report;
+        };
+        match item {
+            Mail::Stop => missing -= 1,
+            Mail::Bytes(bytes) => {
+                let one = hear(rt, alloc, replica, worker, post, bytes);
+                report.joined += one.joined;
+                report.refused += one.refused;
+                report.lost += one.lost;
+            }
+        }
+    }
+    report
+}

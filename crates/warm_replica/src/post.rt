@@ -1,0 +1,133 @@
+//! Posts: where the frames go that a replica answers.
+ghost use Rattle.std.specs.Prelude.{◌≡◌, ◌≢◌, [], ◌∷◌, ◌++◌, true, false, IfErr, IsErr, OnErr, OnOk};
+ghost use Rattle.std.specs.List.{All};
+ghost use Rattle.warm_replica.specs.Parcels.{Gained};
+
+use crate::mail::Mail;
+use crossbeam_channel::Sender;
+use std::alloc::{AllocFailed, Global};
+use std::marker::Model;
+use std::sync::Wait;
+use warm_stamps::{ByteList, ReplicaId};
+
+/// What takes bytes for a replica. A post says of itself whether it keeps what it takes; contracts of a loop over mail say what a
+/// post that keeps has gained.
+pub trait Post {
+    ghost use Rattle.std.specs.Prelude.{List, Bool};
+    ghost use Rattle.warm_replica.specs.Parcels.{Parcel};
+
+    // Whether it keeps what it takes.
+    ghost keeps: { Bool };
+
+    // What it has taken and keeps, oldest first.
+    ghost given: { Self → List Parcel };
+
+    /// Takes bytes for a replica, or hands them back; then it has gained nothing.
+    fn post(&mut self, to: ReplicaId, bytes: ByteList) -> Result<(), ByteList>
+        ensures back { IfErr result (λ same. same ≡ bytes) }
+        ensures taken { OnOk result (Gained keeps (given self.old) ((to, bytes) ∷ []) (given self.new)) }
+        ensures same { OnErr result (Gained keeps (given self.old) [] (given self.new)) };
+}
+
+/// A post that keeps what it is given, in memory, for tests and for callers that carry the bytes themselves. Contracts see the list,
+/// oldest first.
+#[derive(Drop)]
+pub struct MemPost {
+    given: Vec<(ReplicaId, ByteList)>,
+}
+
+impl Model for MemPost {
+    ghost use Rattle.std.specs.Prelude.{ℕ, List};
+
+    ghost Value = { List (ℕ × List ℕ) };
+
+    ghost view = { λ p. p.given.items };
+}
+
+impl MemPost {
+    /// A post that has nothing. Takes no memory.
+    pub fn new(alloc: Global) -> MemPost
+        ensures { result ≡ [] }
+    {
+        MemPost {
+            given: Vec::new(alloc),
+        }
+    }
+
+    /// What it was given, oldest first: the replica that the bytes are for, and the bytes.
+    pub fn given(&self) -> &[(ReplicaId, ByteList)]
+        ensures { result.now ≡ self.now }
+    {
+        self.given.as_slice()
+    }
+}
+
+impl Post for MemPost {
+    ghost use Rattle.std.specs.Prelude.{true};
+
+    ghost keeps = { true };
+
+    ghost given = { λ p. p };
+
+    /// Refuses for want of memory alone, and then keeps what it had.
+    fn post(&mut self, to: ReplicaId, bytes: ByteList) -> Result<(), ByteList> {
+        match self.given.push((to, bytes)) {
+            Ok(()) => Ok(()),
+            Err(AllocFailed { value: (_, back) }) => Err(back),
+        }
+    }
+}
+
+/// Where the mail of one replica is sent.
+#[derive(Drop)]
+pub struct Outbox {
+    /// Whose it is.
+    pub replica: ReplicaId,
+    /// Its end of the channel.
+    pub sender: Sender<Mail>,
+}
+
+/// A post that sends to the first outbox of a replica's number, for replicas that listen in threads of one program. It keeps nothing.
+#[derive(Drop)]
+pub struct Outboxes<'a, R: Wait> {
+    rt: &'a R,
+    boxes: Vec<Outbox>,
+}
+
+impl<'a, R: Wait> Outboxes<'a, R> {
+    /// A post over these outboxes. Takes no memory.
+    pub fn new(rt: &'a R, boxes: Vec<Outbox>) -> Outboxes<'a, R> {
+        Outboxes { rt, boxes }
+    }
+}
+
+impl<'a, R: Wait> Post for Outboxes<'a, R> {
+    ghost use Rattle.std.specs.Prelude.{false, []};
+
+    ghost keeps = { false };
+
+    ghost given = { λ _. [] };
+
+    /// May wait. The bytes come back where no outbox has that number, and where the channel has no receiver or no room.
+    fn post(&mut self, to: ReplicaId, bytes: ByteList) -> Result<(), ByteList>
+        ensures back { IfErr result (λ same. same ≡ bytes) }
+        ensures taken { OnOk result (Gained false [] ((to, bytes) ∷ []) []) }
+        ensures same { OnErr result (Gained false [] [] []) }
+        ensures nobody { All (λ outbox. outbox.replica ≢ to) self.old.boxes.items → IsErr result }
+    {
+        for outbox in &self.boxes {
+            if outbox.replica == to {
+                return match outbox.sender.send(self.rt, Mail::Bytes(bytes)) {
+                    Ok(()) => Ok(()),
+                    Err(failed) => {
+                        let Mail::Bytes(back) = failed.into_inner() else {
+                            unreachable!()
+                        };
+                        Err(back)
+                    }
+                };
+            }
+        }
+        Err(bytes)
+    }
+}

@@ -1,0 +1,16 @@
+//! A job that has its room.
+ghost use Rattle.std.specs.Prelude.{◌≡◌, ◌≤◌, [], length, vec_capacity};
+
+use crate::job::{Step, StepReply};
+use warm_refbuffer::RefBuffer;
+
+// A job with its room.
+#[derive(Drop)]
+pub(crate) struct Ready {
+    pub(crate) job: usize,
+    pub(crate) buffer: RefBuffer,
+    pub(crate) steps: Vec<Step>,
+    pub(crate) replies: Vec<StepReply>,
+    ghost empty: { buffer.refs ≡ [] },
+    ghost room: { (replies.items ≡ []) × (length steps.items ≤ vec_capacity replies) },
+}

@@ -1,0 +1,208 @@
+//! Any number of replicas, each of which takes its mail in a thread of its own.
+ghost use Rattle.std.specs.Prelude.{◌≡◌, ◌≤◌, [], List, length, vec_capacity, IfOk, OnOk};
+ghost use Rattle.std.specs.Thread.{IsSync, IsSend};
+ghost use Rattle.warm_replica.specs.Mails.{Listened, AllListened};
+
+use crate::fault::NoThread;
+use crate::listen::mail_loop;
+use crate::mail::{Mail, MailIter};
+use crate::post::{Outbox, Outboxes};
+use crate::report::MailReport;
+use crate::worker::Worker;
+use crossbeam_channel::Receiver;
+use std::alloc::Global;
+use std::snapshot::Snapshot;
+use std::sync::Wait;
+use std::thread;
+use std::thread::{Promise, Scope, Threads};
+use warm_gossip::{Call, Reply};
+use warm_turn::{Machine, Turn};
+
+/// A replica, a worker that is to take its mail, the channel of that mail, and where the answers go.
+#[derive(Drop)]
+pub struct Station<'a, M: Machine> {
+    replica: &'a Turn<M>,
+    worker: Worker<M>,
+    receiver: Receiver<Mail>,
+    boxes: Vec<Outbox>,
+    ghost placed: { worker.pass.table ≡ replica.now.table },
+}
+
+impl<'a, M: Machine> Station<'a, M> {
+    /// A station of these parts. Takes no memory.
+    pub fn new(
+        replica: &'a Turn<M>,
+        worker: Worker<M>,
+        receiver: Receiver<Mail>,
+        boxes: Vec<Outbox>,
+    ) -> Station<'a, M>
+        requires { worker.pass.table ≡ replica.now.table }
+        ensures { result.worker ≡ worker }
+    {
+        Station {
+            replica,
+            worker,
+            receiver,
+            boxes,
+        }
+    }
+}
+
+// What a thread that listens began with.
+#[derive(Drop)]
+struct Began<M: Machine> {
+    worker: Snapshot<Worker<M>>,
+    turns: u64,
+}
+
+impl<M: Machine<Call = Call, Reply = Reply>> Promise<(Worker<M>, MailReport)> for Began<M> {
+    ghost use Rattle.warm_replica.specs.Mails.{Listened};
+
+    ghost kept_by = { λ p r. Listened p.turns p.worker.value.pass.view r.1 r.0.pass.view };
+}
+
+// Takes the mail of a channel, and sends the answers to outboxes. The worker comes back.
+fn listen_alone<M: Machine<Call = Call, Reply = Reply>, R: Wait>(
+    rt: &R,
+    alloc: Global,
+    replica: &Turn<M>,
+    mut worker: Worker<M>,
+    receiver: Receiver<Mail>,
+    boxes: Vec<Outbox>,
+    stops: u64,
+    turns: u64,
+) -> (Worker<M>, MailReport)
+    requires { worker.pass.table ≡ replica.now.table }
+    ensures table { result.0.pass.table ≡ worker.pass.table }
+    ensures heard { Listened turns worker.pass.view result.1 result.0.pass.view }
+{
+    let mail = MailIter::new(rt, receiver, turns);
+    let mut post = Outboxes::new(rt, boxes);
+    let report = mail_loop(
+        rt,
+        alloc,
+        replica,
+        &mut worker,
+        mail,
+        &mut post,
+        stops,
+        turns,
+    );
+    (worker, report)
+}
+
+// A station's loop.
+fn listen_at<M: Machine<Call = Call, Reply = Reply>, R: Wait>(
+    rt: &R,
+    alloc: Global,
+    station: Station<'_, M>,
+    stops: u64,
+    turns: u64,
+) -> (Worker<M>, MailReport)
+    ensures { Listened turns station.entry.worker.pass.view result.1 result.0.pass.view }
+{
+    let Station {
+        replica,
+        worker,
+        receiver,
+        boxes,
+    } = station;
+    listen_alone(rt, alloc, replica, worker, receiver, boxes, stops, turns)
+}
+
+// Each station takes its mail in a thread of its own, the last one first to start.
+pub(crate) fn listen_all<
+    's,
+    E,
+    M: Machine<Call = Call, Reply = Reply> + Send + 's,
+    R: Threads + Wait + Sync,
+>(
+    scope: &Scope<'s, E>,
+    rt: &'s R,
+    alloc: Global,
+    mut stations: Vec<Station<'s, M>>,
+    stops: u64,
+    turns: u64,
+    all: &mut Vec<(Worker<M>, MailReport)>,
+) -> Result<(), NoThread>
+    requires send { IsSend M.row × IsSync R.row }
+    requires room { (all.old.items ≡ []) × (length stations.items ≤ vec_capacity all.old) }
+    ensures room { vec_capacity all.old ≤ vec_capacity all.new }
+    ensures heard { OnOk result (AllListened (λ s. s.worker) turns stations.entry.items all.new.items) }
+{
+    let Some(station) = stations.pop() else {
+        return Ok(());
+    };
+    let began = Began {
+        worker: Snapshot::of(&station.worker),
+        turns,
+    };
+    let Ok(child) = scope.spawn_with(
+        began,
+        move || -> (Worker<M>, MailReport)
+            ensures { Listened turns station.entry.worker.pass.view result.1 result.0.pass.view }
+        { listen_at(rt, alloc, station, stops, turns) },
+    ) else {
+        return Err(NoThread);
+    };
+    let rest = listen_all(scope, rt, alloc, stations, stops, turns, all);
+    let heard = child.join(rt);
+    if let Err(none) = rest {
+        return Err(none);
+    }
+    all.push_reserved(heard);
+    Ok(())
+}
+
+// The same in a scope.
+fn run_in_scope<'a, M: Machine<Call = Call, Reply = Reply> + Send, R: Threads + Wait + Sync>(
+    rt: &'a R,
+    alloc: Global,
+    stations: Vec<Station<'a, M>>,
+    stops: u64,
+    turns: u64,
+    all: Vec<(Worker<M>, MailReport)>,
+) -> Result<Vec<(Worker<M>, MailReport)>, NoThread>
+    requires { (all.items ≡ []) × (length stations.items ≤ vec_capacity all) }
+    ensures { IfOk result (λ v. AllListened (λ s. s.worker) turns stations.entry.items v.items) }
+{
+    let (_, ran) = thread::scope(
+        thread::scope_env(),
+        rt,
+        move |scope| -> ((), Result<Vec<(Worker<M>, MailReport)>, NoThread>)
+            requires { IsSend M.row × IsSync R.row × (all.items ≡ []) × (length stations.items ≤ vec_capacity all) }
+            ensures { IfOk result.1 (λ v. AllListened (λ s. s.worker) turns stations.entry.items v.items) }
+        {
+            let mut all = all;
+            match listen_all(scope, rt, alloc, stations, stops, turns, &mut all) {
+                Ok(()) => ((), Ok(all)),
+                Err(none) => ((), Err(none)),
+            }
+        },
+    );
+    match ran {
+        Ok(all) => Ok(all),
+        Err(none) => Err(none),
+    }
+}
+
+/// Each station takes its mail in a thread of its own, as [`crate::mail_loop`] does, until `stops` Stops or `turns` items, and hands its
+/// worker back with what it counted, in the order of the stations. It ends when all have ended.
+///
+/// # Errors
+/// `NoThread`: a thread or room was refused. The threads that were started have run to their end; the workers are given up, with what
+/// waited in their buffers, and their calls stay in the histories of their replicas.
+pub fn run_stations<'a, M: Machine<Call = Call, Reply = Reply> + Send, R: Threads + Wait + Sync>(
+    rt: &'a R,
+    alloc: Global,
+    stations: Vec<Station<'a, M>>,
+    stops: u64,
+    turns: u64,
+) -> Result<Vec<(Worker<M>, MailReport)>, NoThread>
+    ensures { IfOk result (λ v. AllListened (λ s. s.worker) turns stations.entry.items v.items) }
+{
+    match Vec::with_capacity(alloc, stations.len()) {
+        Ok(all) => run_in_scope(rt, alloc, stations, stops, turns, all),
+        Err(_) => Err(NoThread),
+    }
+}

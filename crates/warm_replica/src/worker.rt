@@ -1,0 +1,138 @@
+//! A worker of a replica: a pass of its own, and a buffer of references.
+ghost use Rattle.std.specs.Prelude.{◌≡◌, ◌≤◌, ◌<◌, [], ◌∷◌, ◌++◌, length, Err, IsOk, IfOk, IfErr, OnOk};
+ghost use Rattle.warm_turn.specs.Turns.{Called, marked};
+ghost use Rattle.warm_replica.specs.Working.{Flushes, KeepsBatch};
+
+use crate::fault::FlushFault;
+use std::alloc::{AllocError, Global};
+use std::marker::Model;
+use std::sync::Wait;
+use warm_gossip::{Call, Node, Reply};
+use warm_refbuffer::{Full, RefBuffer};
+use warm_stamps::{RefList, Reference};
+use warm_turn::{Machine, Pass, Turn};
+
+/// A machine that answers the calls of a node, and refuses a batch of references for want of memory alone. A flush and jobs ask
+/// for one, so that a refused flush has one meaning.
+pub trait Absorbing: Machine<Call = Call, Reply = Reply> {
+    ghost use Rattle.warm_gossip.specs.Batches.{TakesBatches};
+
+    // A batch is taken, or refused for memory.
+    ghost absorbs: { TakesBatches Self.Machine.goes };
+}
+
+impl Absorbing for Node {
+    ghost use Rattle.warm_gossip.proofs.Batches.{batches_are_taken};
+
+    ghost absorbs = { batches_are_taken };
+}
+
+/// A worker of a replica: a thread's own right to call, and what it has touched since its last flush.
+///
+/// Contracts see its `pass` and its `buffer`. A worker that is dropped loses what waits in its buffer, and leaves its calls in
+/// the history.
+#[derive(Drop)]
+pub struct Worker<M: Machine> {
+    pass: Pass<M>,
+    buffer: RefBuffer,
+}
+
+impl<M: Machine> Model for Worker<M> {
+    ghost use Rattle.warm_replica.specs.Working.{Working};
+
+    ghost Value = { Working M.State M.Call M.Reply };
+
+    ghost view = { λ w. record { pass = w.pass; buffer = w.buffer } };
+}
+
+// A list of its own of the references.
+fn batch_of(alloc: Global, refs: &[Reference]) -> Result<RefList, AllocError>
+    ensures { IfOk result (λ batch. batch ≡ refs.now) }
+{
+    let mut batch = Vec::with_capacity(alloc, refs.len())?;
+    batch.extend_from_slice(refs)?;
+    Ok(RefList::of(batch))
+}
+
+impl<M: Machine<Call = Call, Reply = Reply>> Worker<M> {
+    /// A worker of these parts. Takes no memory.
+    pub fn new(pass: Pass<M>, buffer: RefBuffer) -> Worker<M>
+        ensures { result ≡ record { pass = pass; buffer = buffer } }
+    {
+        Worker { pass, buffer }
+    }
+
+    /// Its parts. Takes no memory.
+    pub fn into_parts(self) -> (Pass<M>, RefBuffer)
+        ensures { result ≡ (self.pass, self.buffer) }
+    {
+        let Worker {
+            pass,
+            buffer: waiting,
+        } = self;
+        (pass, waiting)
+    }
+
+    /// Puts a reference last in the buffer. It takes no memory and waits for nobody: it meets no other worker. A full
+    /// buffer hands the reference back and stays as it was.
+    pub fn touch(&mut self, reference: Reference) -> Result<(), Full>
+        ensures pass { self.new.pass ≡ self.old.pass }
+        ensures taken { length self.old.buffer.refs < self.old.buffer.cap
+            → IsOk result
+            × (self.new.buffer ≡ record self.old.buffer { refs = self.old.buffer.refs ++ reference ∷ [] }) }
+        ensures full { self.old.buffer.cap ≤ length self.old.buffer.refs
+            → (result ≡ Err (record { 0 = reference })) × (self.new.buffer ≡ self.old.buffer) }
+    {
+        self.buffer.touch(reference)
+    }
+
+    /// Makes a call in a turn of its own, and may wait for it. The buffer stays as it is, also where the call absorbs references.
+    ///
+    /// # Errors
+    /// The call is handed back where no ticket was left for it, as none is for any later call of this worker.
+    pub fn call<R: Wait>(&mut self, rt: &R, replica: &Turn<M>, call: Call) -> Result<Reply, Call>
+        requires { self.old.pass.table ≡ replica.now.table }
+        ensures table { self.new.pass.table ≡ self.old.pass.table }
+        ensures buffer { self.new.buffer ≡ self.old.buffer }
+        ensures ok { IfOk result (λ r. Called M.goes self.old.pass.view call r self.new.pass.view) }
+        ensures back { IfErr result (λ c. c ≡ call) }
+        ensures spent { IfErr result (λ _. self.new.pass.view ≡ marked self.old.pass.view) }
+    {
+        match replica.call(rt, &mut self.pass, call) {
+            Ok(reply) => Ok(reply),
+            Err(spent) => Err(spent.call),
+        }
+    }
+}
+
+impl<M: Absorbing> Worker<M> {
+    /// Has the replica absorb what the buffer holds, all of it in one turn, and empties the buffer. It may wait for the
+    /// turn.
+    ///
+    /// # Errors
+    /// `Memory`: there was none, for the batch or for the machine. `TurnsSpent`: no ticket was left. The buffer holds what
+    /// it held.
+    pub fn flush<R: Wait>(
+        &mut self,
+        rt: &R,
+        alloc: Global,
+        replica: &Turn<M>,
+    ) -> Result<(), FlushFault>
+        requires { self.old.pass.table ≡ replica.now.table }
+        ensures table { self.new.pass.table ≡ self.old.pass.table }
+        ensures flushed { OnOk result (Flushes M.goes self.old self.new) }
+        ensures kept { IfErr result (λ fault. KeepsBatch M.goes self.old fault self.new) }
+    {
+        let Ok(batch) = batch_of(alloc, self.buffer.refs()) else {
+            return Err(FlushFault::Memory);
+        };
+        let Ok(reply) = replica.call(rt, &mut self.pass, Call::Absorb(batch)) else {
+            return Err(FlushFault::TurnsSpent);
+        };
+        if let Reply::Done = reply {
+            self.buffer.clear();
+            return Ok(());
+        }
+        Err(FlushFault::Memory)
+    }
+}
