@@ -1,92 +1,109 @@
-//! Measures histories: absorbing, joining and going over.
+//! Measures histories: absorbing, joining, copying, looking up and going over.
 //!
-//! With no argument a small run is made and what came out is printed. With a number of pages that many are used, and the
-//! nanoseconds are printed too.
+//! With no argument it runs with 1,000 pages and prints what came out. With a number of pages it
+//! runs with so many, and prints the nanoseconds too, for `bench/history/measure.py`.
 #![tactic(auto)]
 
 use anyhow::{Context, Result, bail};
-use std::alloc::{AllocError, Global};
+use std::alloc::Global;
 use std::env;
 use std::time::{Duration, Instant};
 use warm_history::{Entry, History, PageHist};
-use warm_stamps::{Bucket, PageId, Reference, ReplicaId, Stamp};
+use warm_stamps::{PageId, Reference, ReplicaId, Stamp};
 
+// How many references are absorbed at once, and how many pages a small join brings.
+const BATCH: usize = 64;
+
+const SMALL: usize = 1_000;
+
+// The next number of a linear congruential generator (Knuth's MMIX).
 fn next(drawn: u64) -> u64 {
     drawn
         .wrapping_mul(6_364_136_223_846_793_005)
         .wrapping_add(1_442_695_040_888_963_407)
 }
 
-// A page by Zipf's law: each power of two of ranks is as likely as the next; ranks are scattered over the pages.
-fn zipf_page(drawn: u64) -> PageId {
-    let octave = (drawn >> 32) % 20;
-    let below = 1u64 << octave;
-    let rank = below + (drawn >> 40) % below;
+// One page in turn of so many, so that all come, in a scattered order.
+fn scattered(i: u64, pages: u64) -> PageId {
+    let no = i.wrapping_mul(7919).checked_rem(pages).unwrap_or(0);
     PageId {
         dev: 0,
-        no: ((rank * 7919) % 1_000_000) as u32,
+        no: u32::try_from(no).unwrap_or(0),
     }
 }
 
-fn references(
-    alloc: Global,
-    count: usize,
-    replica: ReplicaId,
-) -> Result<Vec<Reference>, AllocError> {
-    let mut all = Vec::with_capacity(alloc, count)?;
+// As many ranks as there are pages have about so many powers of two among them.
+fn octaves_of(pages: u64) -> u64 {
+    if pages < 5_000 {
+        10
+    } else if pages < 50_000 {
+        14
+    } else if pages < 500_000 {
+        17
+    } else {
+        20
+    }
+}
+
+// A page by Zipf's law: each power of two of ranks is as likely as the next.
+fn zipf_page(drawn: u64, pages: u64) -> PageId {
+    let octave = (drawn >> 32).checked_rem(octaves_of(pages)).unwrap_or(0);
+    let below = 1u64 << octave.min(20);
+    let rank = below.wrapping_add((drawn >> 40).checked_rem(below).unwrap_or(0));
+    scattered(rank, pages)
+}
+
+// As many references as pages, drawn by Zipf's law.
+fn drawn_references(alloc: Global, pages: u64, replica: ReplicaId) -> Result<Vec<Reference>> {
+    let mut all = Vec::new(alloc);
     let mut drawn = 1u64;
-    for time in 0..count as u64 {
+    for time in 0..pages {
         drawn = next(drawn);
-        let page = zipf_page(drawn);
-        all.push(Reference {
-            page,
-            stamp: Stamp { time, replica },
-        })?;
+        let page = zipf_page(drawn, pages);
+        let stamp = Stamp { time, replica };
+        if all.push(Reference { page, stamp }).is_err() {
+            bail!("no memory")
+        }
     }
     Ok(all)
 }
 
-fn absorb_all(history: &mut History, all: &[Reference]) -> Result<(), AllocError> {
-    for batch in all.chunks(64) {
+// A reference to each page, in a scattered order.
+fn each_page(alloc: Global, pages: u64, replica: ReplicaId) -> Result<Vec<Reference>> {
+    let mut all = Vec::new(alloc);
+    for time in 0..pages {
+        let page = scattered(time, pages);
+        let stamp = Stamp { time, replica };
+        if all.push(Reference { page, stamp }).is_err() {
+            bail!("no memory")
+        }
+    }
+    Ok(all)
+}
+
+// Entries of drawn pages.
+fn some_entries(alloc: Global, pages: u64, replica: ReplicaId) -> Result<Vec<Entry>> {
+    let mut all = Vec::new(alloc);
+    let mut drawn = 7u64;
+    for time in 0..SMALL as u64 {
+        drawn = next(drawn);
+        let page = scattered(drawn >> 33, pages);
+        let hist = PageHist::Once(Stamp { time, replica });
+        if all.push(Entry { page, hist }).is_err() {
+            bail!("no memory")
+        }
+    }
+    Ok(all)
+}
+
+fn absorb_all(history: &mut History, all: &[Reference]) -> Result<()> {
+    for batch in all.chunks(BATCH) {
         history.absorb(batch)?;
     }
     Ok(())
 }
 
-// Each page once, in a scattered order.
-fn each_page(
-    alloc: Global,
-    count: usize,
-    replica: ReplicaId,
-) -> Result<Vec<Reference>, AllocError> {
-    let mut all = Vec::with_capacity(alloc, count)?;
-    let mut no = 0u32;
-    for time in 0..count as u64 {
-        no = (no.wrapping_add(7919)) % 1_000_000;
-        all.push(Reference {
-            page: PageId { dev: 0, no },
-            stamp: Stamp { time, replica },
-        })?;
-    }
-    Ok(all)
-}
-
-fn some_entries(alloc: Global, count: usize, replica: ReplicaId) -> Result<Vec<Entry>, AllocError> {
-    let mut all = Vec::with_capacity(alloc, count)?;
-    let mut drawn = 7u64;
-    for time in 0..count as u64 {
-        drawn = next(drawn);
-        all.push(Entry {
-            page: PageId {
-                dev: 0,
-                no: ((drawn >> 33) % 1_000_000) as u32,
-            },
-            hist: PageHist::Once(Stamp { time, replica }),
-        })?;
-    }
-    Ok(all)
-}
-
+// A sum over all entries, so that what was made is seen.
 fn sum_of(history: &History) -> u64 {
     let mut sum = 0u64;
     for entry in history.iter() {
@@ -98,142 +115,93 @@ fn sum_of(history: &History) -> u64 {
     sum
 }
 
-// How many of the pages drawn are there.
-fn found_in(history: &History, count: usize) -> u64 {
+// How many of the pages drawn are there, of twice as many.
+fn found_in(history: &History, pages: u64) -> u64 {
     let mut drawn = 11u64;
     let mut found = 0u64;
-    for _ in 0..count {
+    for _ in 0..pages {
         drawn = next(drawn);
-        let page = PageId {
-            dev: 0,
-            no: ((drawn >> 33) % 1_000_000) as u32,
-        };
-        if let Some(_) = history.get(page) {
+        let asked = scattered(drawn >> 33, pages);
+        if let Some(_) = history.get(asked) {
             found = found.wrapping_add(1);
         }
     }
     found
 }
 
-// What the measures print: the time alone varies from run to run.
-fn told(rt: &HostRuntime, spent: Duration, what: &str) -> Result<()> {
-    println!(rt; "{} ns {}", spent.as_nanos(), what)?;
+// Prints what was made, and in a timed run how long it took.
+fn told(rt: &HostRuntime, timed: bool, what: &str, made: u64, spent: Duration) -> Result<()> {
+    println!(rt; "{what}: {made}")?;
+    if timed {
+        println!(rt; "{what}: {} ns", spent.as_nanos())?;
+    }
     Ok(())
 }
 
-fn build_by_join(
-    rt: &HostRuntime,
-    alloc: Global,
-    large: &mut History,
-    each: &[Reference],
-) -> Result<()> {
-    let mut all = Vec::with_capacity(alloc, each.len())?;
-    for reference in each {
-        all.push(Entry {
-            page: reference.page,
-            hist: PageHist::Once(reference.stamp),
-        })?;
-    }
+// The history of all pages.
+fn absorb(rt: &HostRuntime, timed: bool, pages: u64, replica: ReplicaId) -> Result<History> {
+    let drawn = drawn_references(rt.alloc(), pages, replica)?;
+    let mut seen = History::new(rt.alloc());
     let start = Instant::now(rt)?;
-    large.join_entries(&all)?;
+    absorb_all(&mut seen, &drawn)?;
     let spent = start.elapsed(rt)?;
-    told(rt, spent, "join_entries of all pages")
+    told(rt, timed, "absorb by Zipf's law", sum_of(&seen), spent)?;
+    let each = each_page(rt.alloc(), pages, replica)?;
+    let mut large = History::new(rt.alloc());
+    let start = Instant::now(rt)?;
+    absorb_all(&mut large, &each)?;
+    let spent = start.elapsed(rt)?;
+    told(rt, timed, "absorb new pages", sum_of(&large), spent)?;
+    Ok(large)
 }
 
-fn build_by_absorb(rt: &HostRuntime, large: &mut History, each: &[Reference]) -> Result<()> {
-    let start = Instant::now(rt)?;
-    absorb_all(large, each)?;
-    let spent = start.elapsed(rt)?;
-    told(rt, spent, "absorb of all pages, each new")
-}
-
-fn absorb_zipf(rt: &HostRuntime, alloc: Global, zipf: &[Reference]) -> Result<()> {
-    let mut seen = History::new(alloc);
-    let start = Instant::now(rt)?;
-    absorb_all(&mut seen, zipf)?;
-    let spent = start.elapsed(rt)?;
-    println!(rt; "absorb {} pages, sum {}", seen.len(), sum_of(&seen))?;
-    told(rt, spent, "absorb of all references")
-}
-
-fn join_small(rt: &HostRuntime, alloc: Global, large: &mut History, more: &[Entry]) -> Result<()> {
+fn join_some(rt: &HostRuntime, timed: bool, large: &mut History, more: &[Entry]) -> Result<()> {
     let start = Instant::now(rt)?;
     large.join_entries(more)?;
     let spent = start.elapsed(rt)?;
-    println!(rt; "join_entries {} pages, sum {}", large.len(), sum_of(large))?;
-    told(rt, spent, "join_entries of 1000")?;
-    let mut small = History::new(alloc);
-    small.join_entries(more)?;
-    let start = Instant::now(rt)?;
-    large.join(&small)?;
-    let spent = start.elapsed(rt)?;
-    println!(rt; "join {} pages, sum {}", large.len(), sum_of(large))?;
-    told(rt, spent, "join of 1000")
+    told(rt, timed, "join 1,000 entries", sum_of(large), spent)
 }
 
-fn go_over(rt: &HostRuntime, large: &mut History) -> Result<()> {
-    let start = Instant::now(rt)?;
-    let sum = sum_of(large);
-    let spent = start.elapsed(rt)?;
-    println!(rt; "iter sum {}", sum)?;
-    told(rt, spent, "iteration over all")?;
+fn join_all(rt: &HostRuntime, timed: bool, large: &mut History) -> Result<()> {
     let start = Instant::now(rt)?;
     let copied = large.copy()?;
     let spent = start.elapsed(rt)?;
-    println!(rt; "copy {} pages", copied.len())?;
-    told(rt, spent, "copy of all")?;
+    told(rt, timed, "copy", sum_of(&copied), spent)?;
     let start = Instant::now(rt)?;
     large.join(&copied)?;
     let spent = start.elapsed(rt)?;
-    println!(rt; "join {} pages, sum {}", large.len(), sum_of(large))?;
-    told(rt, spent, "join of all to all")
+    told(rt, timed, "join all, known", sum_of(large), spent)?;
+    let mut empty = History::new(rt.alloc());
+    let start = Instant::now(rt)?;
+    empty.join(large)?;
+    let spent = start.elapsed(rt)?;
+    told(rt, timed, "join all, new", sum_of(&empty), spent)
 }
 
-fn look_up(rt: &HostRuntime, large: &History, count: usize) -> Result<()> {
+fn look_up(rt: &HostRuntime, timed: bool, large: &History, pages: u64) -> Result<()> {
     let start = Instant::now(rt)?;
-    let found = found_in(large, count);
+    let sum = sum_of(large);
     let spent = start.elapsed(rt)?;
-    println!(rt; "get {} found", found)?;
-    told(rt, spent, "get of as many")?;
-    let Some(bucket) = Bucket::new(3) else {
-        bail!("no bucket")
-    };
+    told(rt, timed, "go over all", sum, spent)?;
     let start = Instant::now(rt)?;
-    let some = large.entries(
-        bucket,
-        Some(PageId {
-            dev: 0,
-            no: 500_000,
-        }),
-        1_000,
-    )?;
+    let found = found_in(large, pages);
     let spent = start.elapsed(rt)?;
-    println!(rt; "entries {}", some.len())?;
-    told(rt, spent, "entries, 1000 of a bucket")
+    told(rt, timed, "look up", found, spent)
 }
 
 fn main(rt: HostRuntime) -> Result<()> {
     let asked = env::args(&rt)?.nth(1);
-    let joins_only = env::args(&rt)?.nth(2).is_some();
-    let count = match &asked {
+    let pages = match &asked {
         None => 1_000,
-        Some(word) => word.parse::<usize>().context("the number of pages")?,
+        Some(word) => word.parse::<u64>().context("the number of pages")?,
     };
-    let alloc = rt.alloc();
+    let timed = asked.is_some();
     let Ok(replica) = ReplicaId::new(1) else {
-        bail!("no replica")
+        bail!("1 names a replica")
     };
-    let each = each_page(alloc, count, replica)?;
-    let more = some_entries(alloc, 1_000, replica)?;
-    let mut large = History::new(alloc);
-    if joins_only {
-        build_by_join(&rt, alloc, &mut large, &each)?;
-    } else {
-        let zipf = references(alloc, count, replica)?;
-        absorb_zipf(&rt, alloc, &zipf)?;
-        build_by_absorb(&rt, &mut large, &each)?;
-    }
-    join_small(&rt, alloc, &mut large, &more)?;
-    go_over(&rt, &mut large)?;
-    look_up(&rt, &large, count)
+    let more = some_entries(rt.alloc(), pages, replica)?;
+    let mut large = absorb(&rt, timed, pages, replica)?;
+    join_some(&rt, timed, &mut large, &more)?;
+    join_all(&rt, timed, &mut large)?;
+    look_up(&rt, timed, &large, pages)
 }

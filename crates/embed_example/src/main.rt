@@ -159,28 +159,37 @@ fn change(node: &mut Node, no: u32, text: &[u8]) -> Result<Vec<u8>, NodeFault>
     Ok(bytes.into_vec())
 }
 
+// What the two replicas live through, up to the orderly end of the standby.
+fn live(rt: &impl Print, alloc: Global, primary: &mut Node, standby: &mut Node) -> Result<()>
+    requires primary { ⟦<Node as Shown>⟧.is_fit primary.old }
+    requires standby { ⟦<Node as Shown>⟧.is_fit standby.old }
+    ensures standby { ⟦<Node as Shown>⟧.is_fit standby.new }
+{
+    refer(alloc, primary, 1, &[3, 5, 3, 9, 5, 7])?;
+    let rounds = make_equal(alloc, primary, standby)?;
+    println!(rt;
+        "{} pages known after round {}",
+        standby.history().len(),
+        rounds
+    )?;
+    warm(rt, standby)?;
+
+    // The primary is gone, and the standby takes over. A pin is no reference, so it absorbs one beside it.
+    refer(alloc, standby, 7, &[5])?;
+    match change(standby, 5, b"warm") {
+        Ok(bytes) => println!(rt; "wrote {} bytes", bytes.len())?,
+        Err(fault) => return refused(fault),
+    }
+    Ok(())
+}
+
 fn main(rt: HostRuntime) -> Result<()> {
     let alloc = rt.alloc();
     let device = Box::new(alloc, MemDevice::new(alloc, 64, PAGE_SIZE)?)?;
     let mut primary = opened(alloc, 1, device)?;
     let device = Box::new(alloc, MemDevice::new(alloc, 64, PAGE_SIZE)?)?;
     let mut standby = opened(alloc, 2, device)?;
-
-    refer(alloc, &mut primary, 1, &[3, 5, 3, 9, 5, 7])?;
-    let rounds = make_equal(alloc, &mut primary, &mut standby)?;
-    println!(rt;
-        "{} pages known after round {}",
-        standby.history().len(),
-        rounds
-    )?;
-    warm(&rt, &mut standby)?;
-
-    // The primary is gone, and the standby takes over. A pin is no reference, so it absorbs one beside it.
-    refer(alloc, &mut standby, 7, &[5])?;
-    match change(&mut standby, 5, b"warm") {
-        Ok(bytes) => println!(rt; "wrote {} bytes", bytes.len())?,
-        Err(fault) => return refused(fault),
-    }
+    live(&rt, alloc, &mut primary, &mut standby)?;
     match standby.into_pool().close() {
         Ok(()) => println!(rt; "closed")?,
         Err(unclosed) => bail!("not closed: {}", unclosed.fault.name()),

@@ -9,7 +9,7 @@ use Rattle.warm_frames.specs.declared.frame.Frame.TheVariants.{Entries, Want}
 use Rattle.warm_frames.specs.Entries.{longest_entry}
 use Rattle.warm_frames.specs.Spelling.{spelling}
 use Rattle.warm_frames.specs.Sums.{table_size}
-use Rattle.warm_frames.specs.Reading.{start_at, body_at, two_in, hist_at, entry_at, entries_at, count_at, all_entries, entries_of, frame_of, read_frame}
+use Rattle.warm_frames.specs.Reading.{start_at, length_at, body_at, two_in, hist_at, entry_at, entries_at, count_at, all_entries, entries_of, frame_of, read_frame}
 
 abbrev at : ℕ → ℕ → Stamp
 at time replica = record { time = time; replica = replica }
@@ -65,19 +65,19 @@ wish_spelled = refl
 -- ---- readings
 
 two_stamps_read : read_frame (entries_frame 1 0x1F 1 (page 7 ++ 2 ∷ (twenty ++ ten))) ≡ Ok (Entries 1 (twice 7 (at 20 1) (at 10 1) ∷ []))
-unfolding read_frame start_at body_at frame_of entries_of count_at all_entries entries_at entry_at hist_at two_in
+unfolding read_frame start_at length_at body_at frame_of entries_of count_at all_entries entries_at entry_at hist_at two_in
 two_stamps_read = refl
 
 rising_read : read_frame (entries_frame 1 0x26 2 (page 7 ++ 1 ∷ (twenty ++ page 8 ++ 1 ∷ ten))) ≡ Ok (Entries 1 (once 7 (at 20 1) ∷ once 8 (at 10 1) ∷ []))
-unfolding read_frame start_at body_at frame_of entries_of count_at all_entries entries_at entry_at hist_at
+unfolding read_frame start_at length_at body_at frame_of entries_of count_at all_entries entries_at entry_at hist_at
 rising_read = refl
 
 nothing_read : read_frame (spelling (Entries 3 [])) ≡ Ok (Entries 3 [])
-unfolding read_frame start_at body_at frame_of entries_of count_at all_entries entries_at
+unfolding read_frame start_at length_at body_at frame_of entries_of count_at all_entries entries_at
 nothing_read = refl
 
 wish_read : read_frame (spelling (Want 2 6)) ≡ Ok (Want 2 6)
-unfolding read_frame start_at body_at frame_of
+unfolding read_frame start_at length_at body_at frame_of
 wish_read = refl
 
 -- ---- first faults
@@ -99,29 +99,29 @@ unfolding read_frame start_at
 sender_65 = refl
 
 cut_short : read_frame (entries_frame 1 0x1F 1 (page 7 ++ 2 ∷ (twenty ++ take 9 ten))) ≡ Err Truncated
-unfolding read_frame start_at body_at
+unfolding read_frame start_at length_at body_at
 cut_short = refl
 
 a_byte_more : read_frame (entries_frame 1 0x1F 1 (page 7 ++ 2 ∷ (twenty ++ ten ++ 0 ∷ []))) ≡ Err BadLength
-unfolding read_frame start_at body_at
+unfolding read_frame start_at length_at body_at
 a_byte_more = refl
 
 count_1001 : read_frame (letters ++ 1 ∷ 0 ∷ 1 ∷ 0 ∷ 0 ∷ 0 ∷ 4 ∷ 0 ∷ 0 ∷ 3 ∷ 0xE9 ∷ []) ≡ Err BadCount
-unfolding read_frame start_at body_at frame_of entries_of count_at
+unfolding read_frame start_at length_at body_at frame_of entries_of count_at
 count_1001 = refl
 
 count_2 : read_frame (entries_frame 1 0x1F 2 (page 7 ++ 2 ∷ (twenty ++ ten))) ≡ Err BadLength
-unfolding read_frame start_at body_at frame_of entries_of count_at all_entries entries_at entry_at hist_at two_in
+unfolding read_frame start_at length_at body_at frame_of entries_of count_at all_entries entries_at entry_at hist_at two_in
 count_2 = refl
 
 tag_3 : read_frame (entries_frame 1 0x1F 1 (page 7 ++ 3 ∷ (twenty ++ ten))) ≡ Err BadTag
-unfolding read_frame start_at body_at frame_of entries_of count_at all_entries entries_at entry_at hist_at
+unfolding read_frame start_at length_at body_at frame_of entries_of count_at all_entries entries_at entry_at hist_at
 tag_3 = refl
 
 equal_stamps : read_frame (entries_frame 1 0x1F 1 (page 7 ++ 2 ∷ (twenty ++ twenty))) ≡ Err BadStamp
-unfolding read_frame start_at body_at frame_of entries_of count_at all_entries entries_at entry_at hist_at two_in
+unfolding read_frame start_at length_at body_at frame_of entries_of count_at all_entries entries_at entry_at hist_at two_in
 equal_stamps = refl
 
 equal_pages : read_frame (entries_frame 1 0x26 2 (page 7 ++ 1 ∷ (twenty ++ page 7 ++ 1 ∷ ten))) ≡ Err BadOrder
-unfolding read_frame start_at body_at frame_of entries_of count_at all_entries entries_at entry_at hist_at
+unfolding read_frame start_at length_at body_at frame_of entries_of count_at all_entries entries_at entry_at hist_at
 equal_pages = refl

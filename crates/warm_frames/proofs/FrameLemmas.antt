@@ -16,7 +16,7 @@ use Rattle.warm_frames.specs.declared.reading.Kind.{Kind}
 use Rattle.warm_frames.specs.declared.reading.Kind.TheVariants as kinds
 use Rattle.warm_frames.specs.Entries.{longest_entry, entries_bytes}
 use Rattle.warm_frames.specs.Spelling.{IsFrame, magic, spelling, Spells}
-use Rattle.warm_frames.specs.Reading.{◌>>=◌, number_at, byte_at, want, is_replica, kind_of, may_have, start_at, body_at, entries_of, sums_of, frame_of, read_frame}
+use Rattle.warm_frames.specs.Reading.{◌>>=◌, number_at, byte_at, want, is_replica, kind_of, may_have, start_at, length_at, whole_body, body_at, entries_of, sums_of, frame_of, read_frame}
 use Rattle.warm_frames.proofs.FieldLemmas.{bind_ok, want_ok, ok_is, Takes, Takes-then, byte_takes, wide16, wide32, wide64, number_takes, number_again, replica_is, replica_true}
 use Rattle.warm_frames.proofs.BodyLemmas.{entries_body, body_again, short_entries, sums_body, sums_again, length-sums}
 
@@ -74,6 +74,25 @@ start_again kind sender rest good =
 
 -- ---- the length and the body
 
+-- a length that was read is one that the kind can have
+pub length_ok : (kind : Kind) (bytes : List ℕ) (x : ℕ × List ℕ) → length_at kind bytes ≡ Ok x → (number_at w32 Truncated bytes ≡ Ok x) × (may_have kind x.0 ≡ true)
+unfolding length_at
+length_ok kind bytes x e =
+    let a = bind_ok (number_at w32 Truncated bytes) (λ len. want (may_have kind len.0) BadLength >>= λ allowed. Ok len) x e in
+    let g = want_ok (may_have kind a.0.0) BadLength (λ allowed. Ok a.0) x a.2 in
+    subst (λ (y : ℕ × List ℕ). (number_at w32 Truncated bytes ≡ Ok y) × (may_have kind y.0 ≡ true)) (ok_is a.0 x g.1) (a.1, g.0)
+
+pub length_again : (kind : Kind) (len : ℕ) (rest : List ℕ) → len < 2 ^ 32 → may_have kind len ≡ true → length_at kind (to_be_bytes w32 len ++ rest) ≡ Ok (len, rest)
+unfolding length_at
+length_again kind len rest few allowed = rw (number_again w32 (2 ^ 32) Truncated wide32 len rest few, allowed) refl
+
+-- what is left of a whole body is as long as was said
+pub whole_ok : (len : ℕ) (rest body : List ℕ) → whole_body len rest ≡ Ok body → (len ≡ length rest) × (rest ≡ body)
+whole_ok len rest body e =
+    let g1 = want_ok (leb len (length rest)) Truncated (λ enough. want (leb (length rest) len) BadLength >>= λ exact. Ok rest) body e in
+    let g2 = want_ok (leb (length rest) len) BadLength (λ exact. Ok rest) body g1.1 in
+    (grind (arith, nat_tests, g1.0, g2.0), ok_is rest body g2.1)
+
 pub record TakesBody (kind : Kind) (bytes body : List ℕ) : Type 0 where
   pub text : bytes ≡ to_be_bytes w32 (length body) ++ body
   pub fits : IsBytes body
@@ -82,36 +101,29 @@ pub record TakesBody (kind : Kind) (bytes body : List ℕ) : Type 0 where
 pub body_takes : (kind : Kind) (bytes body : List ℕ) → IsBytes bytes → body_at kind bytes ≡ Ok body → TakesBody kind bytes body
 unfolding body_at
 body_takes kind bytes body fits e =
-    let a = bind_ok (number_at w32 Truncated bytes) (λ len. want (may_have kind len.0) BadLength >>= λ allowed. want (leb len.0 (length len.1)) Truncated >>= λ enough. want (leb (length len.1) len.0) BadLength >>= λ exact. Ok len.1) body e in
-    let g1 = want_ok (may_have kind a.0.0) BadLength (λ allowed. want (leb a.0.0 (length a.0.1)) Truncated >>= λ enough. want (leb (length a.0.1) a.0.0) BadLength >>= λ exact. Ok a.0.1) body a.2 in
-    let g2 = want_ok (leb a.0.0 (length a.0.1)) Truncated (λ enough. want (leb (length a.0.1) a.0.0) BadLength >>= λ exact. Ok a.0.1) body g1.1 in
-    let g3 = want_ok (leb (length a.0.1) a.0.0) BadLength (λ exact. Ok a.0.1) body g2.1 in
-    let t = number_takes w32 (2 ^ 32) Truncated wide32 bytes a.0 fits a.1 in
-    let len : a.0.0 ≡ length a.0.1 = grind (arith, nat_tests, g2.0, g3.0) in
-    subst (TakesBody kind bytes) (ok_is a.0.1 body g3.1) (record {
-      text = t.0.parts ∙ ap (λ (n : ℕ). to_be_bytes w32 n ++ a.0.1) len;
+    let a = bind_ok (length_at kind bytes) (λ len. whole_body len.0 len.1) body e in
+    let l = length_ok kind bytes a.0 a.1 in
+    let w = whole_ok a.0.0 a.0.1 body a.2 in
+    let t = number_takes w32 (2 ^ 32) Truncated wide32 bytes a.0 fits l.0 in
+    subst (TakesBody kind bytes) w.1 (record {
+      text = t.0.parts ∙ ap (λ (n : ℕ). to_be_bytes w32 n ++ a.0.1) w.0;
       fits = t.0.rest_fits;
-      allowed = subst (λ (n : ℕ). may_have kind n ≡ true) len g1.0;
+      allowed = subst (λ (n : ℕ). may_have kind n ≡ true) w.0 l.1;
     })
 
 -- a body is read where nothing follows it
 pub body_read : (kind : Kind) (body rest found : List ℕ) → length body < 2 ^ 32 → may_have kind (length body) ≡ true → body_at kind (to_be_bytes w32 (length body) ++ (body ++ rest)) ≡ Ok found → rest ≡ []
 unfolding body_at
 body_read kind body rest found few allowed e =
-    let a = bind_ok (number_at w32 Truncated (to_be_bytes w32 (length body) ++ (body ++ rest))) (λ len. want (may_have kind len.0) BadLength >>= λ allowed. want (leb len.0 (length len.1)) Truncated >>= λ enough. want (leb (length len.1) len.0) BadLength >>= λ exact. Ok len.1) found e in
-    let is : (length body, body ++ rest) ≡ a.0 = ok_is (length body, body ++ rest) a.0 (sym (number_again w32 (2 ^ 32) Truncated wide32 (length body) (body ++ rest) few) ∙ a.1) in
-    let g1 = want_ok (may_have kind a.0.0) BadLength (λ allowed. want (leb a.0.0 (length a.0.1)) Truncated >>= λ enough. want (leb (length a.0.1) a.0.0) BadLength >>= λ exact. Ok a.0.1) found a.2 in
-    let g2 = want_ok (leb a.0.0 (length a.0.1)) Truncated (λ enough. want (leb (length a.0.1) a.0.0) BadLength >>= λ exact. Ok a.0.1) found g1.1 in
-    let g3 = want_ok (leb (length a.0.1) a.0.0) BadLength (λ exact. Ok a.0.1) found g2.1 in
-    let exact : leb (length (body ++ rest)) (length body) ≡ true = subst (λ (p : ℕ × List ℕ). leb (length p.1) p.0 ≡ true) (sym is) g3.0 in
-    let le : length (body ++ rest) ≤ length body = grind (arith, nat_tests, exact) in
-    nil_from_length rest (omega (arith, le, length-append body rest))
+    let read = ap (λ (r : Result (ℕ × List ℕ) FrameFault). r >>= λ len. whole_body len.0 len.1) (length_again kind (length body) (body ++ rest) few allowed) in
+    let w = whole_ok (length body) (body ++ rest) found (sym read ∙ e) in
+    nil_from_length rest (omega (arith, w.0, length-append body rest))
 
 pub body_at_again : (kind : Kind) (body : List ℕ) → length body < 2 ^ 32 → may_have kind (length body) ≡ true → body_at kind (to_be_bytes w32 (length body) ++ body) ≡ Ok body
 unfolding body_at
 body_at_again kind body few allowed =
     let reflexive : leb (length body) (length body) ≡ true = grind (arith, nat_tests) in
-    rw (number_again w32 (2 ^ 32) Truncated wide32 (length body) body few, allowed, reflexive) refl
+    rw (length_again kind (length body) body few allowed, reflexive) refl
 
 -- ---- bodies by kind
 

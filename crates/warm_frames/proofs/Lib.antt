@@ -1,7 +1,11 @@
 pub mod BodyLemmas
 pub mod DecodeLemmas
+pub mod DecoderLemmas
 pub mod EntryLemmas
 pub mod Examples
+pub mod FaultLemmas
 pub mod FieldLemmas
 pub mod FrameLemmas
+pub mod SizeLemmas
+pub mod StreamLemmas
 pub mod WritingLemmas

@@ -1,6 +1,8 @@
--- The laws of spellings.
-use Rattle.std.specs.Prelude.{◌≡◌, ℕ, List, [], ◌++◌}
+-- The laws of spellings, and of streams that come in pieces.
+use Rattle.std.specs.Prelude.{◌≡◌, ℕ, ◌<◌, List, [], ◌++◌, length}
+use Rattle.warm_frames.specs.declared.fault.FrameFault.{FrameFault}
 use Rattle.warm_frames.specs.declared.frame.Frame.{Frame}
+use Rattle.warm_frames.specs.Pieces.{Inside, Broken, IsPart, longest_frame, ShowsFault, Breaks, Feeding, taken_in, frames_given, Feedings, Splits, Fails}
 use Rattle.warm_frames.specs.Spelling.{Spells}
 
 -- no two frames share a spelling
@@ -10,3 +12,32 @@ OneSpelling = (bytes : List ℕ) (f g : Frame) → Spells bytes f → Spells byt
 -- what follows a spelling, in another one, is nothing
 abbrev pub NoPrefix : Type 0
 NoPrefix = (text rest : List ℕ) (f g : Frame) → Spells text f → Spells (text ++ rest) g → rest ≡ []
+
+-- The bytes that a decoder took are the spellings of the frames that it gave, and then the part of a frame that it holds.
+abbrev pub InPieces : Type 0
+InPieces = (calls : List Feeding) (rest : List ℕ) → Feedings (Inside []) calls (Inside rest) → Splits (taken_in calls) (frames_given calls) rest
+
+-- Where it then meets a fault in a piece, the stream up to the piece's end is the spellings of the frames given, and then bytes that show the fault.
+abbrev pub FaultInPieces : Type 0
+FaultInPieces = (calls : List Feeding) (begun piece : List ℕ) (fault : FrameFault) → Feedings (Inside []) calls (Inside begun) → Breaks begun piece fault Broken
+    → Fails (taken_in calls ++ piece) (frames_given calls) fault
+
+-- A stream has one list of frames and one rest: how it was cut doesn't matter.
+abbrev pub OneReading : Type 0
+OneReading = (stream : List ℕ) (fs gs : List Frame) (r q : List ℕ) → Splits stream fs r → Splits stream gs q → (fs ≡ gs) × (r ≡ q)
+
+-- nor does it for a fault: there is one, behind the same frames
+abbrev pub OneFault : Type 0
+OneFault = (stream : List ℕ) (fs gs : List Frame) (e d : FrameFault) → Fails stream fs e → Fails stream gs d → (fs ≡ gs) × (e ≡ d)
+
+-- no stream both ends in a part of a frame and has a fault
+abbrev pub PartOrFault : Type 0
+PartOrFault = (stream : List ℕ) (fs gs : List Frame) (r : List ℕ) (fault : FrameFault) → Splits stream fs r → Fails stream gs fault → ⊥
+
+-- no frame's spelling begins with bytes that show a fault
+abbrev pub FaultForGood : Type 0
+FaultForGood = (bytes more : List ℕ) (fault : FrameFault) (f : Frame) → ShowsFault bytes fault → Spells (bytes ++ more) f → ⊥
+
+-- a part of a frame is shorter than the longest frame
+abbrev pub PartIsShort : Type 0
+PartIsShort = (bytes : List ℕ) → IsPart bytes → length bytes < longest_frame

@@ -79,14 +79,25 @@ start_at bytes = do
   good ← want (is_replica sender.0) BadSender
   Ok (kind, sender.0, sender.1)
 
+-- the length, where the kind can have it, and what follows
+unfoldable pub length_at : Kind → List ℕ → Result (ℕ × List ℕ) FrameFault
+length_at kind bytes = do
+  len ← number_at w32 Truncated bytes
+  allowed ← want (may_have kind len.0) BadLength
+  Ok len
+
+-- a body of this length, which is all that is left
+abbrev pub whole_body : ℕ → List ℕ → Result (List ℕ) FrameFault
+whole_body len rest = do
+  enough ← want (nat_le len (length rest)) Truncated
+  exact ← want (nat_le (length rest) len) BadLength
+  Ok rest
+
 -- the length, and the body, which is all that follows
 unfoldable pub body_at : Kind → List ℕ → Result (List ℕ) FrameFault
 body_at kind bytes = do
-  len ← number_at w32 Truncated bytes
-  allowed ← want (may_have kind len.0) BadLength
-  enough ← want (nat_le len.0 (length len.1)) Truncated
-  exact ← want (nat_le (length len.1) len.0) BadLength
-  Ok len.1
+  len ← length_at kind bytes
+  whole_body len.0 len.1
 
 -- ---- entries
 

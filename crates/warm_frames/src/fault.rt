@@ -26,6 +26,8 @@ pub enum FrameFault {
     BadStamp,
     /// 10: the page of an entry isn't greater than that of the entry before.
     BadOrder,
+    /// 11: a [`crate::Decoder`] met a fault before.
+    Failed,
 }
 
 impl FrameFault {
@@ -44,6 +46,7 @@ impl FrameFault {
             FrameFault::BadTag => 8,
             FrameFault::BadStamp => 9,
             FrameFault::BadOrder => 10,
+            FrameFault::Failed => 11,
         }
     }
 
@@ -62,6 +65,7 @@ impl FrameFault {
             FrameFault::BadTag => "BadTag",
             FrameFault::BadStamp => "BadStamp",
             FrameFault::BadOrder => "BadOrder",
+            FrameFault::Failed => "Failed",
         }
     }
 }

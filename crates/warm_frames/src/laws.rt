@@ -1,5 +1,6 @@
-//! The laws of spellings: each frame has one, and it says where it ends.
-ghost use Rattle.warm_frames.specs.Laws.{OneSpelling, NoPrefix};
+//! The laws of spellings and of streams: each frame has one spelling, which says where it ends, and a
+//! stream has one reading, however it is cut into pieces.
+ghost use Rattle.warm_frames.specs.Laws.{OneSpelling, NoPrefix, InPieces, FaultInPieces, OneReading, OneFault, PartOrFault, FaultForGood, PartIsShort};
 
 /// No two frames share a spelling.
 pub fn one_spelling()
@@ -9,4 +10,40 @@ pub fn one_spelling()
 /// No spelling of a frame is a proper prefix of another.
 pub fn no_prefix()
     ensures { NoPrefix }
+{}
+
+/// The bytes that a decoder took, in whatever pieces, are the spellings of the frames that it gave, and
+/// then a part of the next.
+pub fn in_pieces()
+    ensures { InPieces }
+{}
+
+/// Where a decoder then meets a fault, the bytes up to it show it.
+pub fn fault_in_pieces()
+    ensures { FaultInPieces }
+{}
+
+/// A stream is the spellings of one list of frames and one rest.
+pub fn one_reading()
+    ensures { OneReading }
+{}
+
+/// A stream shows one fault, behind one list of frames.
+pub fn one_fault()
+    ensures { OneFault }
+{}
+
+/// A stream that ends in a part of a frame shows no fault.
+pub fn part_or_fault()
+    ensures { PartOrFault }
+{}
+
+/// No frame's spelling begins with bytes that show a fault, whatever follows them.
+pub fn fault_for_good()
+    ensures { FaultForGood }
+{}
+
+/// A part of a frame, which is what a decoder holds, has fewer bytes than the longest frame.
+pub fn part_is_short()
+    ensures { PartIsShort }
 {}

@@ -3,19 +3,23 @@
 //! A [`Frame`] carries entries of a history, the sums of all buckets, or the set of buckets that
 //! are asked for. `specs/Spelling.antt` says which bytes spell a frame: each frame has one spelling,
 //! and no two frames share one. `specs/Reading.antt` says how bytes are read, and which fault is the
-//! first.
+//! first. A [`Decoder`] takes frames from a stream that comes in pieces: `specs/Pieces.antt`.
 #![tactic(auto)]
 
+mod decoder;
 mod entries;
 mod fault;
 mod frame;
 pub mod laws;
+#[cfg(test)]
+mod piece_tests;
 mod reading;
 mod sums;
 #[cfg(test)]
 mod tests;
 mod writing;
 
+pub use decoder::{Decoder, Fed};
 pub use entries::{EntryList, MAX_ENTRIES};
 pub use fault::FrameFault;
 pub use frame::{Frame, FrameList, decode, encode};

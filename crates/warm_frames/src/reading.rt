@@ -3,7 +3,8 @@
 ghost use Rattle.std.specs.Prelude.{◌≡◌, ◌≤◌, [], vec_capacity};
 ghost use Rattle.std.specs.Int.{w16, w32, w64};
 ghost use Rattle.warm_history.specs.Carried.{comes_after};
-ghost use Rattle.warm_frames.specs.Reading.{Reads, number_at, byte_at, kind_of, may_have, start_at, body_at, front_at, stamp_in, two_in, hist_at, entry_at, entries_from, count_at, all_entries, entries_of, sums_of, read_frame, room_of, entries_room, Gives};
+ghost use Rattle.warm_frames.specs.Reading.{Reads, number_at, byte_at, kind_of, may_have, start_at, length_at, body_at, front_at, stamp_in, two_in, hist_at, entry_at, entries_from, count_at, all_entries, entries_of, sums_of, read_frame, room_of, entries_room, Gives};
+ghost use Rattle.warm_frames.specs.Sizes.{frame_size};
 
 use crate::entries::{EntryList, MAX_ENTRIES};
 use crate::fault::FrameFault;
@@ -15,6 +16,9 @@ use warm_history::{Entry, PageHist, Two};
 use warm_stamps::{PageId, ReplicaId, Stamp, page_from, stamp_from};
 
 pub(crate) const MAGIC: u32 = 0x4C32_4731;
+
+// How many bytes a header has: the magic number, the kind, the sender and the length.
+pub(crate) const HEADER_SIZE: usize = 4 + 1 + 2 + 4;
 
 // The kinds of frames, numbered from 1.
 #[derive(Clone, Copy)]
@@ -108,16 +112,25 @@ fn start_at(bytes: &[u8]) -> Result<(Kind, ReplicaId, &[u8]), FrameFault>
     }
 }
 
+// The length, where the kind can have it, and what follows.
+#[tactic(auto, unfolding(crate::specs::Reading::length_at))]
+fn length_at(kind: Kind, bytes: &[u8]) -> Result<(u32, &[u8]), FrameFault>
+    ensures { Reads (λ x. (x.0, x.1.now)) result (length_at kind bytes.now) }
+{
+    let (len, rest) = u32_at(bytes, FrameFault::Truncated)?;
+    if !may_have(kind, len as usize) {
+        return Err(FrameFault::BadLength);
+    }
+    Ok((len, rest))
+}
+
 // The length and the body.
 #[tactic(auto, unfolding(crate::specs::Reading::body_at))]
 fn body_at(kind: Kind, bytes: &[u8]) -> Result<&[u8], FrameFault>
     ensures { Reads (λ body. body.now) result (body_at kind bytes.now) }
 {
-    let (len, body) = u32_at(bytes, FrameFault::Truncated)?;
+    let (len, body) = length_at(kind, bytes)?;
     let len = len as usize;
-    if !may_have(kind, len) {
-        return Err(FrameFault::BadLength);
-    }
     if body.len() < len {
         return Err(FrameFault::Truncated);
     }
@@ -125,6 +138,22 @@ fn body_at(kind: Kind, bytes: &[u8]) -> Result<&[u8], FrameFault>
         return Err(FrameFault::BadLength);
     }
     Ok(body)
+}
+
+/// How many bytes the frame has that begins with these bytes, or `Truncated` where its header isn't
+/// whole, or the first fault of its header.
+#[tactic(auto, unfolding(crate::specs::Sizes::frame_size))]
+pub(crate) fn frame_size(bytes: &[u8]) -> Result<usize, FrameFault>
+    ensures { result ≡ frame_size bytes.now }
+{
+    let (kind, _, rest) = match start_at(bytes) {
+        Ok(start) => start,
+        Err(fault) => return Err(fault),
+    };
+    match length_at(kind, rest) {
+        Ok((len, _)) => Ok(HEADER_SIZE + len as usize),
+        Err(fault) => Err(fault),
+    }
 }
 
 fn stamp_in(bytes: &[u8; 10]) -> Result<Stamp, FrameFault>

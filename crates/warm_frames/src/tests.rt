@@ -14,7 +14,7 @@ use warm_history::{Entry, PageHist, Two};
 use warm_stamps::{Bucket, PageId, ReplicaId, Stamp};
 
 // Sender 1 says that 0:7 has 20@1 and 10@1.
-const TWICE: [u8; 42] = [
+pub(crate) const TWICE: [u8; 42] = [
     0x4C, 0x32, 0x47, 0x31, 1, 0, 1, 0, 0, 0, 0x1F, 0, 0, 0, 1, 0, 0, 0, 0, 0, 7, 2, 0, 0, 0, 0, 0,
     0, 0, 0x14, 0, 1, 0, 0, 0, 0, 0, 0, 0, 0x0A, 0, 1,
 ];
@@ -53,7 +53,7 @@ fn decoded(alloc: Global, bytes: &[u8]) -> Result<Frame, FrameFault> {
     }
 }
 
-fn encoded(alloc: Global, frame: &Frame) -> Result<Vec<u8>, AllocError> {
+pub(crate) fn encoded(alloc: Global, frame: &Frame) -> Result<Vec<u8>, AllocError> {
     match encode(alloc, frame) {
         Ok(bytes) => Ok(bytes),
         Err(_) => encode(alloc, frame),
@@ -298,6 +298,7 @@ fn refusals_have_numbers_and_names(rt: HostRuntime) {
         (FrameFault::BadTag, 8, "BadTag"),
         (FrameFault::BadStamp, 9, "BadStamp"),
         (FrameFault::BadOrder, 10, "BadOrder"),
+        (FrameFault::Failed, 11, "Failed"),
     ];
     for (fault, code, name) in rows {
         assert_eq!(rt; fault.code(), code);

@@ -7,7 +7,7 @@ ghost use Rattle.warm_frames.specs.Entries.{longest_entry, hist_bytes, entry_byt
 ghost use Rattle.warm_frames.specs.Spelling.{header_bytes, Spells};
 
 use crate::entries::EntryList;
-use crate::reading::MAGIC;
+use crate::reading::{HEADER_SIZE, MAGIC};
 use crate::sums::{SumTable, TABLE_SIZE};
 use std::alloc::{AllocError, Global};
 use warm_history::{Entry, PageHist};
@@ -18,7 +18,7 @@ fn header(alloc: Global, kind: u8, sender: ReplicaId, len: u32) -> Result<Vec<u8
     ensures text { IfOk result (λ text. text.items ≡ header_bytes kind sender len) }
     ensures sender { IsReplica sender }
 {
-    let mut text = Vec::with_capacity(alloc, 11 + len as usize)?;
+    let mut text = Vec::with_capacity(alloc, HEADER_SIZE + len as usize)?;
     text.extend_from_slice(&MAGIC.to_be_bytes())?;
     text.push(kind)?;
     text.extend_from_slice(&sender.get().to_be_bytes())?;

@@ -241,31 +241,14 @@ enum Row<'a> {
     Restarts(Result<(), NodeFault>),
 }
 
-// Asks what the row says. `at` is its number.
-fn meets(
-    rt: &impl Abort,
-    alloc: Global,
-    node: &mut Node,
-    row: Row<'_>,
-    at: usize,
-) -> Result<(), Fail>
+// Asks what the row says and changes no frame for. `at` is its number.
+fn shows(rt: &impl Abort, node: &mut Node, row: Row<'_>, at: usize) -> Result<(), Fail>
     requires { IsFit state node.old }
     ensures { IsFit state node.new }
 {
     match row {
-        Row::Told(references) => told(rt, alloc, node, references),
-        Row::Visits(no) => visit(node, no),
-        Row::Writes(slot, from, text) => put(alloc, node, slot, from, text),
         Row::Knows(pages) => {
             assert_eq!(rt; node.history().len(), pages, "row {at}");
-            Ok(())
-        }
-        Row::Pins(page, wanted) => {
-            assert_eq!(rt; pinned_at(node, page), wanted, "row {at}");
-            Ok(())
-        }
-        Row::Unpins(slot) => {
-            assert_eq!(rt; is_done(node, Call::Unpin(slot)), Ok(()), "row {at}");
             Ok(())
         }
         Row::Reads(slot, from, wanted) => {
@@ -287,6 +270,33 @@ fn meets(
             assert_eq!(rt; hottest(node, pages)?.as_slice(), wanted, "row {at}");
             Ok(())
         }
+        _ => Err("no such row".into()),
+    }
+}
+
+// Asks what the row says. `at` is its number.
+fn meets(
+    rt: &impl Abort,
+    alloc: Global,
+    node: &mut Node,
+    row: Row<'_>,
+    at: usize,
+) -> Result<(), Fail>
+    requires { IsFit state node.old }
+    ensures { IsFit state node.new }
+{
+    match row {
+        Row::Told(references) => told(rt, alloc, node, references),
+        Row::Visits(no) => visit(node, no),
+        Row::Writes(slot, from, text) => put(alloc, node, slot, from, text),
+        Row::Pins(page, wanted) => {
+            assert_eq!(rt; pinned_at(node, page), wanted, "row {at}");
+            Ok(())
+        }
+        Row::Unpins(slot) => {
+            assert_eq!(rt; is_done(node, Call::Unpin(slot)), Ok(()), "row {at}");
+            Ok(())
+        }
         Row::Loads(wanted) => {
             assert_eq!(rt; loaded(node), wanted, "row {at}");
             Ok(())
@@ -295,6 +305,7 @@ fn meets(
             assert_eq!(rt; is_done(node, Call::Restart), wanted, "row {at}");
             Ok(())
         }
+        shown => shows(rt, node, shown, at),
     }
 }
 

@@ -22,6 +22,9 @@ pub enum PlayFault {
     /// The writer failed: 3.
     #[error("WriteFault")]
     WriteFault,
+    /// The world refused the devices, for their number of lists or the size of their pages: 6.
+    #[error("BadDevices")]
+    BadDevices,
 }
 
 impl PlayFault {
@@ -33,6 +36,7 @@ impl PlayFault {
             PlayFault::Memory => 1,
             PlayFault::ReadFault => 2,
             PlayFault::WriteFault => 3,
+            PlayFault::BadDevices => 6,
         }
     }
 
@@ -44,6 +48,7 @@ impl PlayFault {
             PlayFault::Memory => "Memory",
             PlayFault::ReadFault => "ReadFault",
             PlayFault::WriteFault => "WriteFault",
+            PlayFault::BadDevices => "BadDevices",
         }
     }
 }

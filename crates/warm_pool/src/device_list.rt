@@ -48,7 +48,7 @@ pub(crate) fn pages_of(devices: &[Box<dyn PageDevice + Send>], device: usize) ->
 }
 
 /// Whether each device has pages of this size.
-pub(crate) fn all_sized(devices: &[Box<dyn PageDevice + Send>], page_size: usize) -> bool
+pub fn all_sized(devices: &[Box<dyn PageDevice + Send>], page_size: usize) -> bool
     ensures { IsTrue result
         ↔ AreOfSize page_size (length devices.now) (map (λ b. state b) devices.now) }
 {

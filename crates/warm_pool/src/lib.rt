@@ -22,6 +22,7 @@ mod residents;
 mod slot;
 
 pub use close::Unclosed;
+pub use device_list::all_sized;
 pub use fault::{PoolFault, Unmade, Unretired};
 pub use pool::{Pool, Pooled};
 pub use slot::Slot;

@@ -6,4 +6,5 @@ pub mod PlacesBack
 pub mod SlotLemmas
 pub mod SortLemmas
 pub mod WarmUpLemmas
+pub mod WinnerLemmas
 pub mod VictimLemmas

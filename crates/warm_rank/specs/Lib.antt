@@ -5,3 +5,4 @@ pub mod Laws
 pub mod Ranking
 pub mod Slots
 pub mod WarmUp
+pub mod WinnerTree

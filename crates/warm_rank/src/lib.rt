@@ -21,6 +21,7 @@ mod slots;
 #[cfg(test)]
 mod tests;
 mod warm_up;
+mod winners;
 
 pub use slots::Contest;
 use std::cmp::Ordering;

@@ -1,4 +1,6 @@
 //! The worked histories, run.
+ghost use Rattle.std.specs.Prelude.{◌≡◌, length};
+
 use crate::{Contest, RankKey, key_of, leaving_order, warm_list};
 use std::alloc::Global;
 use std::cmp::Ordering;
@@ -74,6 +76,30 @@ fn contest_finds_the_slot_of_the_least_key(rt: HostRuntime) -> Result<(), Fail> 
     contest.set(2, key_in(&history, 5));
     contest.set(0, key_in(&history, 5));
     assert_eq!(rt; contest.least(), Some(0));
+    Ok(())
+}
+
+// Sets the keys of that many slots, rising.
+fn set_rising(contest: &mut Contest, slots: u32)
+    requires { length contest.old ≡ slots }
+    ensures { length contest.new ≡ slots }
+{
+    for slot in 0..slots {
+        contest.set(slot as usize, Some(key_of(page(slot), None)));
+    }
+}
+
+// Keys rise with the slots, so the first slot that has one has the least.
+#[test]
+fn contest_has_any_number_of_slots(rt: HostRuntime) -> Result<(), Fail> {
+    for slots in [1, 2, 3, 65_535, 65_536u32] {
+        let mut contest = Contest::new(rt.alloc(), slots as usize)?;
+        set_rising(&mut contest, slots);
+        assert_eq!(rt; contest.least(), Some(0), "of {slots}");
+        contest.set(0, None);
+        let next = if slots == 1 { None } else { Some(1) };
+        assert_eq!(rt; contest.least(), next, "of {slots}");
+    }
     Ok(())
 }
 

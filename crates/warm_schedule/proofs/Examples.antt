@@ -1,5 +1,5 @@
 -- The language and the answers, computed on lines and answers worked out by hand.
-use Rattle.std.proofs.Common.{◌≡◌, ◌<◌, List, ℕ, [], ◌∷◌, Some, None, refl, arith}
+use Rattle.std.proofs.Common.{◌≡◌, inl, inr, ◌<◌, List, ℕ, [], ◌∷◌, Some, None, refl, arith}
 use Rattle.std.specs.Fmt.{digits}
 use Rattle.std.specs.Prelude.{codes}
 use Rattle.warm_stamps.specs.declared.PageId.{PageId}
@@ -7,15 +7,20 @@ use Rattle.warm_stamps.specs.declared.Stamp.{Stamp}
 use Rattle.warm_stamps.specs.declared.Reference.{Reference}
 use Rattle.warm_history.specs.Histories.{history}
 use Rattle.warm_world.specs.Lists.{IsNumber}
-use Rattle.warm_world.specs.States.{ModelState, opening}
+use Rattle.warm_history.specs.ReferenceSets.{these}
+use Rattle.warm_pool.specs.declared.slot.Slot.{Slot}
+use Rattle.warm_pool.specs.declared.fault.PoolFault.TheVariants.{NoDevice, NoPage, AllFixed, ReadFault, WriteBack, FixesFull, OutOfPage, Fixed, Fault}
+use Rattle.warm_gossip.specs.declared.fault.NodeFault.TheVariants.{Memory, Pool, StaleSlot}
+use Rattle.warm_world.specs.States.{ModelState, no_pool}
 use Rattle.warm_schedule.specs.Printed.{Printed}
 use Rattle.warm_history.specs.declared.hist.PageHist.TheVariants.{Once, Twice}
-use Rattle.warm_world.specs.declared.event.Event.TheVariants.{Refer, Flush, Send, Deliver, Warm, Restart, Show}
-use Rattle.warm_world.specs.declared.event.Answer.TheVariants.{Done, Shown, FrameNo, Took, Pages, Refused}
-use Rattle.warm_world.specs.declared.event.WorldFault.TheVariants.{NoSuchReplica, NoSuchWorker}
+use Rattle.warm_world.specs.declared.event.Event.TheVariants.{Refer, Flush, Send, Offer, Deliver, Pin, Unpin, Put, Get, Victim, Warm, WarmStep, Restart, Show}
+use Rattle.warm_world.specs.declared.event.Answer.TheVariants.{Done, Shown, FrameNo, Took, Pinned, Bytes, Page, Pages, Loaded, Refused}
+use Rattle.warm_world.specs.declared.event.WorldFault.TheVariants.{Node, NoSuchReplica, NoSuchWorker, NoSuchFrame}
 use Rattle.warm_schedule.specs.declared.parse.Line.TheVariants.{Nothing, Act}
 use Rattle.warm_schedule.specs.Text.{lines, words}
-use Rattle.warm_schedule.specs.Grammar.{line_of, meaning, number_up_to, page_of, number_field, page_field, after_field, refer_of, flush_of, send_of, deliver_of, warm_of, restart_of, show_of}
+use Rattle.warm_schedule.specs.Fields.{number_up_to, page_of, slot_of, bytes_of, number_field, page_field, after_field, slot_field, bytes_field}
+use Rattle.warm_schedule.specs.Grammar.{line_of, meaning, refer_of, flush_of, send_of, offer_of, deliver_of, pin_of, unpin_of, put_of, get_of, victim_of, warm_of, warmstep_of, restart_of, show_of}
 use Rattle.warm_schedule.specs.Answers.{answer_text}
 
 abbrev page : ℕ → ℕ → PageId
@@ -23,6 +28,9 @@ page d n = record { dev = d; no = n }
 
 abbrev stamp : ℕ → ℕ → Stamp
 stamp t r = record { time = t; replica = r }
+
+abbrev slot : ℕ → ℕ → Slot
+slot s g = record { index = s; generation = g }
 
 -- ---- lines
 
@@ -65,6 +73,44 @@ restart_line = refl
 show_line : line_of (codes "show 3") ≡ Some (Act (Show 3))
 unfolding line_of words number_up_to number_field show_of
 show_line = refl
+
+offer_line : line_of (codes "offer 2") ≡ Some (Act (Offer 2))
+unfolding line_of words number_up_to number_field offer_of
+offer_line = refl
+
+pin_line : line_of (codes "pin 1 0:255") ≡ Some (Act (Pin 1 (page 0 255)))
+unfolding line_of words number_up_to page_of number_field page_field pin_of
+pin_line = refl
+
+unpin_line : line_of (codes "unpin 1 4294967295.18446744073709551615") ≡ Some (Act (Unpin 1 (slot 4294967295 18446744073709551615)))
+unfolding line_of words number_up_to slot_of number_field slot_field unpin_of
+unpin_line = refl
+
+-- no dot, two dots, and a frame out of range
+no_slots : (line_of (codes "unpin 1 0") ≡ None) × (line_of (codes "unpin 1 0.1.2") ≡ None) × (line_of (codes "unpin 1 4294967296.1") ≡ None)
+unfolding line_of words number_up_to slot_of number_field slot_field unpin_of
+no_slots = (refl, refl, refl)
+
+put_line : line_of (codes "put 1 0.1 15 CAfe09") ≡ Some (Act (Put 1 (slot 0 1) 15 (202 ∷ 254 ∷ 9 ∷ [])))
+unfolding line_of words number_up_to slot_of bytes_of number_field slot_field bytes_field put_of
+put_line = refl
+
+-- an odd number of digits, none, another letter, and a word too many
+no_bytes : (line_of (codes "put 1 0.1 0 CAF") ≡ None) × (line_of (codes "put 1 0.1 0 ") ≡ None) × (line_of (codes "put 1 0.1 0 CG") ≡ None) × (line_of (codes "put 1 0.1 0 CA FE") ≡ None)
+unfolding line_of words number_up_to slot_of bytes_of number_field slot_field bytes_field put_of
+no_bytes = (refl, refl, refl, refl)
+
+get_line : line_of (codes "get 1 0.1 16 4294967295") ≡ Some (Act (Get 1 (slot 0 1) 16 4294967295))
+unfolding line_of words number_up_to slot_of number_field slot_field get_of
+get_line = refl
+
+victim_line : line_of (codes "victim 3") ≡ Some (Act (Victim 3))
+unfolding line_of words number_up_to number_field victim_of
+victim_line = refl
+
+warmstep_line : line_of (codes "warmstep 3") ≡ Some (Act (WarmStep 3))
+unfolding line_of words number_up_to number_field warmstep_of
+warmstep_line = refl
 
 comment : line_of (codes " #show 3") ≡ Some Nothing
 unfolding line_of words
@@ -118,9 +164,49 @@ listed = refl
 listed_none : answer_text (Pages []) ≡ codes "pages\n"
 listed_none = refl
 
-no_such_replica : answer_text (Refused NoSuchReplica) ≡ codes "refused 14 NoSuchReplica\n"
+pinned : answer_text (Pinned (slot 3 18446744073709551615)) ≡ codes "slot 3.18446744073709551615\n"
 unfolding digits
-no_such_replica = refl
+pinned = refl
+
+bytes_read : answer_text (Bytes (202 ∷ 254 ∷ 9 ∷ 0 ∷ [])) ≡ codes "bytes cafe0900\n"
+bytes_read = refl
+
+no_bytes_read : answer_text (Bytes []) ≡ codes "bytes\n"
+no_bytes_read = refl
+
+page_named : answer_text (Page (Some (page 0 5))) ≡ codes "page 0:5\n"
+unfolding digits
+page_named = refl
+
+no_page_named : answer_text (Page None) ≡ codes "none\n"
+no_page_named = refl
+
+page_loaded : answer_text (Loaded (Some (page 0 9))) ≡ codes "loaded 0:9\n"
+unfolding digits
+page_loaded = refl
+
+no_page_loaded : answer_text (Loaded None) ≡ codes "none\n"
+no_page_loaded = refl
+
+no_such_thing : (answer_text (Refused NoSuchReplica) ≡ codes "refused 14 NoSuchReplica\n") × (answer_text (Refused NoSuchWorker) ≡ codes "refused 15 NoSuchWorker\n") × (answer_text (Refused NoSuchFrame) ≡ codes "refused 16 NoSuchFrame\n")
+unfolding digits
+no_such_thing = (refl, refl, refl)
+
+of_the_node : (answer_text (Refused (Node Memory)) ≡ codes "refused 1 Memory\n") × (answer_text (Refused (Node StaleSlot)) ≡ codes "refused 13 StaleSlot\n")
+unfolding digits
+of_the_node = (refl, refl)
+
+of_pages : (answer_text (Refused (Node (Pool NoDevice))) ≡ codes "refused 4 NoDevice\n") × (answer_text (Refused (Node (Pool NoPage))) ≡ codes "refused 5 NoPage\n") × (answer_text (Refused (Node (Pool AllFixed))) ≡ codes "refused 6 AllFixed\n")
+unfolding digits
+of_pages = (refl, refl, refl)
+
+of_devices : (answer_text (Refused (Node (Pool ReadFault))) ≡ codes "refused 7 ReadFault\n") × (answer_text (Refused (Node (Pool WriteBack))) ≡ codes "refused 8 WriteBack\n") × (answer_text (Refused (Node (Pool Fault))) ≡ codes "refused 12 Fault\n")
+unfolding digits
+of_devices = (refl, refl, refl)
+
+of_fixes : (answer_text (Refused (Node (Pool FixesFull))) ≡ codes "refused 9 FixesFull\n") × (answer_text (Refused (Node (Pool OutOfPage))) ≡ codes "refused 10 OutOfPage\n") × (answer_text (Refused (Node (Pool Fixed))) ≡ codes "refused 11 Fixed\n")
+unfolding digits
+of_fixes = (refl, refl, refl)
 
 -- ---- what a schedule may print
 
@@ -128,20 +214,30 @@ no_such_replica = refl
 abbrev too_many : {number count : ℕ} → count < number → IsNumber number count → ⊥
 too_many above is = absurd (omega (arith, above, is.in_range))
 
+first : (count : ℕ) → 0 < count → IsNumber 1 count
+first count some = record { from_one = omega arith; in_range = omega arith }
+
+abbrev seen : Reference
+seen = record { page = page 0 1; stamp = stamp 10 1 }
+
+-- a replica of two workers, with what reached it and what waits for its first worker
+abbrev told : List Reference → List Reference → ModelState
+told reach waiting = record { room = 64; replicas = record { reach = these reach; pending = waiting ∷ [] ∷ []; pool = no_pool } ∷ []; records = [] }
+
 -- one replica with two workers: refusals, a comment and a bad line
-refusals : Printed (opening 1 2 64) (codes "ref 2 1 0:1 5\nflush 1 3\n# x\nbad\n") (codes "refused 14 NoSuchReplica\nrefused 15 NoSuchWorker\nbad line 4\n")
+refusals : Printed (told [] []) (codes "ref 2 1 0:1 5\nflush 1 3\n# x\nbad\n") (codes "refused 14 NoSuchReplica\nrefused 15 NoSuchWorker\nbad line 4\n") (told [] [])
 unfolding meaning line_of words number_up_to page_of number_field page_field refer_of flush_of digits
 refusals =
-    let start : ModelState = opening 1 2 64 in (
+    let start : ModelState = told [] [] in (
       codes "refused 14 NoSuchReplica\n",
       codes "refused 15 NoSuchWorker\nbad line 4\n",
       start,
-      (Refused NoSuchReplica, (too_many (omega arith), refl), refl),
+      inl (Refused NoSuchReplica, (too_many (omega arith), refl), refl),
       (
         codes "refused 15 NoSuchWorker\n",
         codes "bad line 4\n",
         start,
-        (Refused NoSuchWorker, ((record { from_one = omega arith; in_range = omega arith }, too_many (omega arith)), refl), refl),
+        inl (Refused NoSuchWorker, ((record { from_one = omega arith; in_range = omega arith }, too_many (omega arith)), refl), refl),
         (
           [],
           codes "bad line 4\n",
@@ -152,7 +248,7 @@ refusals =
             [],
             start,
             (refl, refl),
-            ([], [], start, (refl, refl), refl, refl),
+            ([], [], start, (refl, refl), (refl, refl), refl),
             refl,
           ),
           refl,
@@ -162,40 +258,30 @@ refusals =
       refl,
     )
 
-first : (count : ℕ) → 0 < count → IsNumber 1 count
-first count some = record { from_one = omega arith; in_range = omega arith }
-
-abbrev seen : Reference
-seen = record { page = page 0 1; stamp = stamp 10 1 }
-
--- a replica of two workers, with what reached it and what waits for its first worker
-abbrev told : List Reference → List Reference → ModelState
-told reach waiting = record { room = 64; replicas = record { reach = reach; pending = waiting ∷ [] ∷ [] } ∷ []; records = [] }
-
 -- a reference waits, reaches the history, and is shown
-reference : Printed (opening 1 2 64) (codes "ref 1 1 0:1 10\nshow 1\nflush 1 1\nshow 1\n") (codes "ok\nend 0\nok\n0:1 last 10@1\nend 1\n")
+reference : Printed (told [] []) (codes "ref 1 1 0:1 10\nshow 1\nflush 1 1\nshow 1\n") (codes "ok\nend 0\nok\n0:1 last 10@1\nend 1\n") (told (seen ∷ []) [])
 unfolding meaning line_of words number_up_to page_of number_field page_field refer_of flush_of show_of history digits
 reference = (
   codes "ok\n",
   codes "end 0\nok\n0:1 last 10@1\nend 1\n",
   told [] (seen ∷ []),
-  (Done, (record { replica_there = first _ (omega arith); worker_there = first _ (omega arith); frame_there = tt }, refl), refl),
+  inl (Done, (record { replica_there = first _ (omega arith); worker_there = first _ (omega arith); frame_there = tt }, refl), refl),
   (
     codes "end 0\n",
     codes "ok\n0:1 last 10@1\nend 1\n",
     told [] (seen ∷ []),
-    (Shown [], (record { replica_there = first _ (omega arith); worker_there = tt; frame_there = tt }, (refl, refl)), refl),
+    inl (Shown [], (record { replica_there = first _ (omega arith); worker_there = tt; frame_there = tt }, (refl, refl)), refl),
     (
       codes "ok\n",
       codes "0:1 last 10@1\nend 1\n",
       told (seen ∷ []) [],
-      (Done, (record { replica_there = first _ (omega arith); worker_there = first _ (omega arith); frame_there = tt }, refl), refl),
+      inl (Done, (record { replica_there = first _ (omega arith); worker_there = first _ (omega arith); frame_there = tt }, refl), refl),
       (
         codes "0:1 last 10@1\nend 1\n",
         [],
         told (seen ∷ []) [],
-        (Shown (record { page = page 0 1; hist = Once (stamp 10 1) } ∷ []), (record { replica_there = first _ (omega arith); worker_there = tt; frame_there = tt }, (refl, refl)), refl),
-        ([], [], told (seen ∷ []) [], (refl, refl), refl, refl),
+        inl (Shown (record { page = page 0 1; hist = Once (stamp 10 1) } ∷ []), (record { replica_there = first _ (omega arith); worker_there = tt; frame_there = tt }, (refl, refl)), refl),
+        ([], [], told (seen ∷ []) [], (refl, refl), (refl, refl), refl),
         refl,
       ),
       refl,

@@ -2,7 +2,7 @@
 use Rattle.std.proofs.Common.{◌≡◌, ℕ, ◌+◌, ◌*◌, ◌<◌, ◌≤◌, List, [], ◌∷◌, length, get_or, drop, Option, Some, None, refl, sym, ap, ◌∙◌, add-one, arith, drop-cons}
 use Rattle.std.proofs.Math.ListN.{drop_of_length-le}
 use Rattle.std.proofs.lemmas.Bool.{lt-leb, le-leb}
-use Rattle.warm_schedule.specs.Grammar.{◌>>=◌, digit_of, digits_after, number_of, up_to, number_up_to}
+use Rattle.warm_schedule.specs.Fields.{◌>>=◌, digit_of, digits_after, number_of, up_to, number_up_to}
 
 pub begins : (word : List ℕ) → 0 < length word → digits_after 0 (drop 0 word) ≡ number_of word
 begins [] lt = absurd (omega arith)

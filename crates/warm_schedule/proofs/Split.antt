@@ -4,7 +4,7 @@ use Rattle.std.proofs.lemmas.Bool.{eq-eqb, ne_eqb}
 use Rattle.std.proofs.lemmas.List.{take_all, length-drop}
 use Rattle.std.proofs.lemmas.Bool.{eqb-true, eqb-false}
 use Rattle.warm_schedule.specs.Text.{split, onto_first, words}
-use Rattle.warm_schedule.specs.Grammar.{page_of}
+use Rattle.warm_schedule.specs.Fields.{page_of, slot_of}
 
 -- the first separator of a text
 pub cut_found : (separator : ℕ) (text : List ℕ) (i : ℕ) → i < length text → get_or text i 0 ≡ separator → ((k : ℕ) → k < i → get_or text k 0 ≢ separator)
@@ -73,4 +73,11 @@ pub two_colons : (word device number more after : List ℕ) → split 58 word �
 unfolding page_of
 two_colons word device number more after e f =
     let third = first_of_split 58 after in
+    rw (e, f, third.2) refl
+
+-- a slot has one dot
+pub two_dots : (word frame generation more after : List ℕ) → split 46 word ≡ frame ∷ split 46 generation → split 46 generation ≡ more ∷ split 46 after → None ≡ slot_of word
+unfolding slot_of
+two_dots word frame generation more after e f =
+    let third = first_of_split 46 after in
     rw (e, f, third.2) refl

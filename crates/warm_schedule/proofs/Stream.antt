@@ -1,6 +1,6 @@
 -- A schedule that is read piece by piece.
-use Rattle.std.proofs.Common.{◌≡◌, ◌≢◌, ℕ, ◌+◌, ◌<◌, ◌≤◌, Bool, true, false, List, [], ◌∷◌, ◌++◌, length, take, Option, Some, None, Result, Ok, Err, refl, sym, ap, subst, ◌∙◌, append_assoc, length-append, arith}
-use Rattle.std.specs.Option.{ok_or}
+use Rattle.std.proofs.Common.{◌≡◌, ◌≢◌, inl, inr, ℕ, ◌+◌, ◌<◌, ◌≤◌, Bool, true, false, List, [], ◌∷◌, ◌++◌, length, get_or, take, Option, Some, None, Result, Ok, Err, refl, sym, ap, subst, ◌∙◌, append_assoc, length-append, arith}
+use Rattle.std.specs.Option.{ok_or, MatchOption}
 use Rattle.std.specs.Prelude.{IfSome, OnOk, is_ok, nat_lt}
 use Rattle.std.specs.Result.{result_ok}
 use Rattle.std.specs.Io.KnownBytes.{Appends, Keeps, Consumes, IsAtEnd}
@@ -8,20 +8,29 @@ use Rattle.std.proofs.lemmas.Bool.{ne_eqb, lt-ltb, ltb-true, ltb-false}
 use Rattle.std.proofs.lemmas.List.{append-nil, take_all, take-append-le, length-take, length-take-le}
 use Rattle.warm_schedule.specs.Text.{split, lines}
 use Rattle.warm_schedule.specs.Grammar.{meaning}
-use Rattle.warm_schedule.specs.Printed.{Answered, PrintedFrom, Printed}
-use Rattle.warm_schedule.specs.Stream.{IsLine, HoldsLine, Holds, AddsByte, AnswersLine, Goes, Ends}
+use Rattle.warm_schedule.specs.Printed.{Answered, PrintedFrom, Played, EndsIn, MayFail}
+use Rattle.warm_schedule.specs.Reading.{Reads, PutsBytes, IsPut}
+use Rattle.warm_schedule.specs.Stream.{SessionSeen, IsLine, HoldsLine, Holds, AddsByte, AnswersLine, Goes, Settles, PrintsLast, Ends}
 use Rattle.warm_schedule.specs.declared.parse.TheConstants.{MAX_LINE}
-use Rattle.warm_schedule.specs.declared.player.Session.{Session}
-use Rattle.warm_world.specs.States.{ModelState}
-use Rattle.warm_world.specs.Stands.{StandsFor, Stepped}
-use Rattle.warm_world.specs.declared.world.World.{World}
+use Rattle.warm_world.specs.States.{ModelState, nobody, no_pool, pool_of, replica}
+use Rattle.warm_pool.specs.View.{PoolView}
+use Rattle.warm_gossip.specs.State.{NodeView}
+use Rattle.warm_world.specs.Lists.{place}
+use Rattle.warm_world.specs.Opening.{FinishFails}
+use Rattle.warm_gossip.specs.Step.{IsFailed}
+use Rattle.warm_gossip.specs.declared.fault.NodeFault.{NodeFault}
+use Rattle.warm_history.specs.Histories.{holding}
+use Rattle.warm_world.specs.Stands.{StandsFor, Steps, ReplicaStands}
+use Rattle.warm_world.specs.Seen.{ReplicaSeen, WorldSeen}
+use Rattle.warm_gossip.specs.declared.fault.NodeFault.TheVariants as node_fault
+use Rattle.warm_world.specs.declared.event.WorldFault.TheVariants.{Node}
 use Rattle.warm_schedule.specs.declared.parse.Line.{Line}
 use Rattle.warm_schedule.specs.declared.parse.Line.TheVariants.{Nothing, Act}
-use Rattle.warm_schedule.specs.Answers.{answer_text, bad_line}
+use Rattle.warm_schedule.specs.Answers.{answer_text, refused_text, bad_line, end_refused}
 use Rattle.warm_world.specs.declared.event.Event.{Event}
 use Rattle.warm_world.specs.declared.event.Answer.{Answer}
 use Rattle.warm_schedule.specs.declared.parse.LineFault.{LineFault}
-use Rattle.warm_schedule.specs.declared.parse.LineFault.TheVariants.{Bad}
+use Rattle.warm_schedule.specs.declared.parse.LineFault.TheVariants.{Memory, Bad}
 
 -- ---- the line that has begun, as it is held
 
@@ -63,13 +72,25 @@ meaning_cut line =
       | false ↦ λ e. ap meaning (take_all (MAX_LINE + 1) line (omega (arith, ltb-false _ _ e)))
     ] refl
 
+-- what the line that is held says is what the whole line says
+pub says : (held line : List ℕ) → HoldsLine held line → meaning held ≡ meaning line
+says held line h = ap meaning h.held_is ∙ meaning_cut line
+
+-- what was read of a line
 ok_of_ok_or : (o : Option Line) → result_ok (ok_or o Bad) ≡ o
 ok_of_ok_or None = refl
 ok_of_ok_or (Some l) = refl
 
--- what is read of the line that is held is what the whole line says
-pub says : (held line : List ℕ) (read : Result Line LineFault) → read ≡ ok_or (meaning held) Bad → HoldsLine held line → result_ok read ≡ meaning line
-says held line read is h = ap (λ (r : Result Line LineFault). result_ok r) is ∙ ok_of_ok_or (meaning held) ∙ ap meaning h.held_is ∙ meaning_cut line
+pub read_line : (said : Option Line) (l : Line) → Ok l ≡ ok_or said Bad → said ≡ Some l
+read_line said l is = sym (ok_of_ok_or said) ∙ ap result_ok (sym is)
+
+pub read_bad : (said : Option Line) → Err Bad ≡ ok_or said Bad → said ≡ None
+read_bad said is = sym (ok_of_ok_or said) ∙ ap result_ok (sym is)
+
+pub read_put : (said : Option Line) → MatchOption said ⊥ PutsBytes → (event : Event) × (said ≡ Some (Act event)) × IsPut event
+read_put None puts = absurd puts
+read_put (Some Nothing) puts = absurd puts
+read_put (Some (Act event)) puts = (event, refl, puts)
 
 -- ---- what was written
 
@@ -100,11 +121,11 @@ line_last (c ∷ cs) h =
 
 -- ---- the session
 
-pub Goes-none : (s : Session) → Goes s [] [] s
+pub Goes-none : (s : SessionSeen) → Goes s [] [] s
 unfolding Goes
-Goes-none s = λ state begun h. (state, begun, h, λ tail rest printed. printed)
+Goes-none s = λ state begun h. (state, begun, h, λ tail rest last printed. printed)
 
-pub Goes-then : (a b c : Session) (x y o q : List ℕ) → Goes a x o b → Goes b y q c → Goes a (x ++ y) (o ++ q) c
+pub Goes-then : (a b c : SessionSeen) (x y o q : List ℕ) → Goes a x o b → Goes b y q c → Goes a (x ++ y) (o ++ q) c
 unfolding Goes
 Goes-then a b c x y o q ab bc = λ state begun h.
     let first = ab state begun h in
@@ -112,25 +133,25 @@ Goes-then a b c x y o q ab bc = λ state begun h.
       second.0,
       second.1,
       second.2,
-      λ tail rest printed.
-          let whole = first.3 (y ++ tail) (q ++ rest) (second.3 tail rest printed) in
+      λ tail rest last printed.
+          let whole = first.3 (y ++ tail) (q ++ rest) last (second.3 tail rest last printed) in
           rw (append_assoc x y tail, append_assoc o q rest) whole,
     )
 
 -- the same world
-stands_too : (a b : World) (state : ModelState) → b ≡ a → StandsFor a state → StandsFor b state
-stands_too a b state same stands = subst (λ (w : World). StandsFor w state) (sym same) stands
+stands_too : (a b : WorldSeen) (state : ModelState) → b ≡ a → StandsFor a state → StandsFor b state
+stands_too a b state same stands = subst (λ (w : WorldSeen). StandsFor w state) (sym same) stands
 
 -- a byte that belongs to the line
-pub Goes-add : (a b : Session) (byte : ℕ) → AddsByte a byte b → Goes a (byte ∷ []) [] b
+pub Goes-add : (a b : SessionSeen) (byte : ℕ) → AddsByte a byte b → Goes a (byte ∷ []) [] b
 unfolding Goes
 Goes-add a b byte adds = λ state begun h. (
   state,
   begun ++ byte ∷ [],
   record { stands = stands_too a.world b.world state adds.world h.stands; begun = adds.begun begun h.begun },
-  λ tail rest printed.
-      subst (λ (text : List ℕ). PrintedFrom state a.number (lines text) rest) (append_assoc begun (byte ∷ []) tail)
-      (subst (λ (n : ℕ). PrintedFrom state n (lines ((begun ++ byte ∷ []) ++ tail)) rest) adds.number printed),
+  λ tail rest last printed.
+      subst (λ (text : List ℕ). PrintedFrom state a.number (lines text) rest last) (append_assoc begun (byte ∷ []) tail)
+      (subst (λ (n : ℕ). PrintedFrom state n (lines ((begun ++ byte ∷ []) ++ tail)) rest last) adds.number printed),
 )
 
 -- no byte of a line has come
@@ -138,14 +159,14 @@ pub no_line : (held : List ℕ) → held ≡ [] → HoldsLine held []
 no_line held none = record { held_is = none; is_line = tt }
 
 -- the end of a line
-pub Goes-end : (a b : Session) (out : List ℕ) → AnswersLine a out b.world → b.number ≡ a.number + 1 → b.line.items ≡ [] → Goes a (10 ∷ []) out b
+pub Goes-end : (a b : SessionSeen) (out : List ℕ) → AnswersLine a out b.world → b.number ≡ a.number + 1 → b.held ≡ [] → Goes a (10 ∷ []) out b
 unfolding Goes
 Goes-end a b out answered number none = λ state begun h.
     let next = answered state begun h in (
       next.0,
       [],
-      record { stands = next.1; begun = no_line b.line.items none },
-      λ tail rest printed. rw (line_ends begun tail h.begun.is_line) (out, rest, next.0, next.2, rw (← number) printed, refl),
+      record { stands = next.1; begun = no_line b.held none },
+      λ tail rest last printed. rw (line_ends begun tail h.begun.is_line) (out, rest, next.0, next.2, rw (← number) printed, refl),
     )
 
 -- ---- the line that has come, answered
@@ -154,36 +175,97 @@ Goes-end a b out answered number none = λ state begun h.
 said_so : (old : ModelState) (number : ℕ) (read said : Option Line) (out : List ℕ) (new : ModelState) → read ≡ said → Answered old number read out new → Answered old number said out new
 said_so old number read said out new e answered = subst (λ (o : Option Line). Answered old number o out new) e answered
 
-module _ (a : Session) (held : List ℕ) (read : Result Line LineFault) (same : held ≡ a.line.items) (is : read ≡ ok_or (meaning held) Bad) where
-  meant : (state : ModelState) (line : List ℕ) → Holds a state line → result_ok read ≡ meaning line
-  meant state line h = says a.line.items line read (subst (λ (text : List ℕ). read ≡ ok_or (meaning text) Bad) same is) h.begun
+-- the line that has come has this meaning
+abbrev pub Meant : SessionSeen → Option Line → Type 0
+Meant a said = (state : ModelState) (line : List ℕ) → Holds a state line → said ≡ meaning line
 
-  pub answers_bad : result_ok read ≡ None → AnswersLine a (bad_line a.number) a.world
-  answers_bad bad = λ state line h. (state, h.stands, said_so state a.number _ _ _ state (sym bad ∙ meant state line h) (refl, refl))
+pub meant : (a : SessionSeen) (said : Option Line) → meaning a.held ≡ said → Meant a said
+meant a said is = λ state line h. sym is ∙ says a.held line h.begun
 
-  pub answers_nothing : result_ok read ≡ Some Nothing → AnswersLine a [] a.world
-  answers_nothing nothing = λ state line h. (state, h.stands, said_so state a.number _ _ _ state (sym nothing ∙ meant state line h) (refl, refl))
+module _ (a : SessionSeen) (held : List ℕ) (read : Result Line LineFault) (same : held ≡ a.held) (reads : Reads PutsBytes (meaning held) read) where
+  read_as : (made : Result Line LineFault) → read ≡ made → Reads PutsBytes (meaning held) made
+  read_as made is = subst (λ (r : Result Line LineFault). Reads PutsBytes (meaning held) r) is reads
 
-  pub answers_event : (event : Event) (answer : Answer) (w : World) → result_ok read ≡ Some (Act event) → ((state : ModelState) → StandsFor a.world state → Stepped state event answer w) → AnswersLine a (answer_text answer) w
-  answers_event event answer w act steps = λ state line h.
-      let step = steps state h.stands in
-      (step.new, step.stands, said_so state a.number _ _ _ step.new (sym act ∙ meant state line h) (answer, step.next, refl))
+  pub was_bad : read ≡ Err Bad → Meant a None
+  was_bad is = meant a None (ap meaning (sym same) ∙ read_bad (meaning held) (read_as (Err Bad) is))
 
--- the last line is answered
-pub Ends-answer : (a : Session) (out : List ℕ) (w : World) → AnswersLine a out w → Ends a out
+  pub was_line : (l : Line) → read ≡ Ok l → Meant a (Some l)
+  was_line l is = meant a (Some l) (ap meaning (sym same) ∙ read_line (meaning held) l (read_as (Ok l) is))
+
+  pub was_put : read ≡ Err Memory → (event : Event) × Meant a (Some (Act event)) × IsPut event
+  was_put is =
+      let put = read_put (meaning held) (read_as (Err Memory) is) in
+      (put.0, meant a (Some (Act put.0)) (ap meaning (sym same) ∙ put.1), put.2)
+
+pub answers_bad : (a : SessionSeen) → Meant a None → AnswersLine a (bad_line a.number) a.world
+answers_bad a means = λ state line h. (state, h.stands, said_so state a.number None _ _ state (means state line h) (refl, refl))
+
+pub answers_nothing : (a : SessionSeen) → Meant a (Some Nothing) → AnswersLine a [] a.world
+answers_nothing a means = λ state line h. (state, h.stands, said_so state a.number (Some Nothing) _ _ state (means state line h) (refl, refl))
+
+pub answers_event : (a : SessionSeen) (event : Event) (answer : Answer) (w : WorldSeen) → Meant a (Some (Act event)) → Steps a.world event answer w → AnswersLine a (answer_text answer) w
+answers_event a event answer w means steps = λ state line h.
+    let step = steps state h.stands in
+    (step.new, step.stands, said_so state a.number (Some (Act event)) _ _ step.new (means state line h) (inl (answer, step.next, refl)))
+
+pub answers_no_room : (a : SessionSeen) → ((event : Event) × Meant a (Some (Act event)) × IsPut event) → AnswersLine a (refused_text (Node node_fault.Memory)) a.world
+answers_no_room a put = λ state line h. (state, h.stands, said_so state a.number (Some (Act put.0)) _ _ state (put.1 state line h) (inr (put.2, refl, refl)))
+
+-- the last line is answered, and then it is the end
+pub Ends-answer : (a : SessionSeen) (out more : List ℕ) (w : WorldSeen) → AnswersLine a out w → Settles w more → Ends a (out ++ more)
 unfolding Ends
-Ends-answer a out w answered = λ state begun h.
+Ends-answer a out more w answered settles = λ state begun h.
     let next = answered state begun h in
-    rw (line_last begun h.begun.is_line) (out, [], next.0, next.2, refl, sym (append-nil out))
+    let printed : PrintedFrom state a.number (lines begun) out next.0 = rw (line_last begun h.begun.is_line) (out, [], next.0, next.2, (refl, refl), sym (append-nil out)) in
+    (out, next.0, printed, settles next.0 out next.1)
+
+-- the devices took what waited for them
+pub settles_well : (w : WorldSeen) → Settles w []
+settles_well w = λ m answers stands. inl (append-nil answers)
+
+-- the devices did not take what waited for them
+pub settles_ill : (old new : WorldSeen) (why : NodeFault) → FinishFails old why new → Settles old end_refused
+settles_ill old new why fails = λ m answers stands.
+    let k : ℕ = fails.1.replica in
+    let none : ReplicaSeen = record { node = record { id = 0; history = holding []; pool = no_pool }; buffers = [] } in
+    let there : k < length m.replicas = omega (arith, fails.1.there, stands.replicas.same_length) in
+    let here : ReplicaStands m.room k (get_or old.replicas k none) (replica m k) = stands.replicas.each k none nobody fails.1.there in
+    let at : place (k + 1) ≡ k = omega arith in
+    let pool : (get_or old.replicas k none).node.pool ≡ pool_of m (k + 1) = ap (λ (v : NodeView). v.pool) here.node_is ∙ ap (λ (n : ℕ). (replica m n).pool) (sym at) in
+    let failed : IsFailed (pool_of m (k + 1)) fails.1.pool = subst (λ (p : PoolView). IsFailed p fails.1.pool) pool (fails.1.failed none) in
+    inr (
+      record {
+        replica = k + 1;
+        device = failed.0;
+        replica_there = record { from_one = omega arith; in_range = omega (arith, there) };
+        device_there = failed.1.there;
+        may = failed.1.may;
+      },
+      refl,
+    )
+
+-- the same bytes
+pub Goes-bytes : (a b : SessionSeen) (x y out : List ℕ) → x ≡ y → Goes a x out b → Goes a y out b
+Goes-bytes a b x y out same goes = subst (λ (bytes : List ℕ). Goes a bytes out b) same goes
+
+-- what was printed before is printed first
+ends_after : (m : ModelState) (first answers out : List ℕ) → EndsIn m answers out → EndsIn m (first ++ answers) (first ++ out)
+ends_after m first answers out (inl same) = inl (ap (λ (xs : List ℕ). first ++ xs) same)
+ends_after m first answers out (inr refused) = inr (refused.0, ap (λ (xs : List ℕ). first ++ xs) refused.1 ∙ sym (append_assoc first answers end_refused))
 
 -- a session that was fresh and came to the end of the input
-pub Goes-whole : (a b : Session) (state : ModelState) (bytes out last : List ℕ) → Goes a bytes out b → Ends b last → Holds a state [] → a.number ≡ 1 → Printed state bytes (out ++ last)
+pub Goes-whole : (a b : SessionSeen) (state : ModelState) (bytes out last : List ℕ) → Goes a bytes out b → Ends b last → Holds a state [] → a.number ≡ 1 → Played state bytes (out ++ last)
 unfolding Goes Ends
 Goes-whole a b state bytes out last goes ends fresh first =
     let g = goes state [] fresh in
-    let end : PrintedFrom g.0 b.number (lines (g.1 ++ [])) last = rw append-nil (ends g.0 g.1 g.2) in
-    let whole : PrintedFrom state a.number (lines bytes) (out ++ last) = rw append-nil at (g.3 [] last end) in
-    subst (λ (n : ℕ). PrintedFrom state n (lines bytes) (out ++ last)) first whole
+    let end : PrintsLast g.0 b.number g.1 last = ends g.0 g.1 g.2 in
+    let answered : PrintedFrom g.0 b.number (lines (g.1 ++ [])) end.0 end.1 = rw append-nil end.2 in
+    let whole : PrintedFrom state a.number (lines bytes) (out ++ end.0) end.1 = rw append-nil at (g.3 [] end.0 end.1 answered) in (
+      out ++ end.0,
+      end.1,
+      subst (λ (n : ℕ). PrintedFrom state n (lines bytes) (out ++ end.0) end.1) first whole,
+      ends_after end.1 out end.0 last end.3,
+    )
 
 -- ---- what was read
 
@@ -217,3 +299,7 @@ pub Consumes-kept : (a b : Option (List ℕ)) → Keeps a b → Consumes a b []
 Consumes-kept None b k = tt
 Consumes-kept (Some xs) None k = absurd k
 Consumes-kept (Some xs) (Some ys) k = sym k
+
+-- the same text
+pub Played-text : (state : ModelState) (a b out : List ℕ) → a ≡ b → Played state a out → Played state b out
+Played-text state a b out same played = subst (λ (text : List ℕ). Played state text out) same played

@@ -1,13 +1,15 @@
 -- What is printed for an answer of the world. Numbers are in decimal, and each line ends with byte 0A.
-use Rattle.std.specs.Prelude.{ℕ, zero, suc, List, ◌++◌, length, flat_map, codes, decimal, Option, Result, OnOk}
+use Rattle.std.specs.Prelude.{ℕ, zero, suc, ◌+◌, ◌/◌, ◌%◌, nat_lt, if◌then◌else◌, List, [], ◌∷◌, ◌++◌, length, flat_map, codes, decimal, Option, Some, None, Result, OnOk}
 use Rattle.std.specs.Io.KnownBytes.{Appends}
 use Rattle.warm_stamps.specs.declared.PageId.{PageId}
 use Rattle.warm_stamps.specs.declared.Stamp.{Stamp}
+use Rattle.warm_pool.specs.declared.slot.Slot.{Slot}
 use Rattle.warm_history.specs.declared.hist.Entry.{Entry}
 use Rattle.warm_history.specs.declared.hist.PageHist.{PageHist}
 use Rattle.warm_history.specs.declared.hist.PageHist.TheVariants.{Once, Twice}
 use Rattle.warm_world.specs.declared.event.Answer.{Answer}
-use Rattle.warm_world.specs.declared.event.Answer.TheVariants.{Done, Shown, FrameNo, Took, Pages, Refused}
+use Rattle.warm_world.specs.declared.event.Answer.TheVariants.{Done, Shown, FrameNo, Took, Pinned, Bytes, Page, Pages, Loaded, Refused}
+use Rattle.warm_world.specs.declared.event.WorldFault.{WorldFault}
 use Rattle.warm_world.specs.Faults.{code_of, name_of}
 
 -- a call that answers Ok has written this text after what was there, and nothing else
@@ -46,15 +48,48 @@ listed_text page = codes " " ++ page_text page
 abbrev pub pages_text : List PageId → List ℕ
 pages_text pages = flat_map listed_text pages
 
+-- FRAME.GENERATION
+abbrev pub slot_text : Slot → List ℕ
+slot_text slot = decimal slot.index ++ codes "." ++ decimal slot.generation
+
+-- 0 to 9, then a to f
+abbrev pub hex_text : ℕ → ℕ
+hex_text digit = if nat_lt digit 10 then 48 + digit else 87 + digit
+
+-- a byte as two hexadecimal digits
+abbrev pub byte_text : ℕ → List ℕ
+byte_text byte = hex_text (byte / 16) ∷ hex_text (byte % 16) ∷ []
+
+-- bytes after a space, or nothing where there is none
+abbrev pub bytes_text : List ℕ → List ℕ
+bytes_text [] = []
+bytes_text (byte ∷ bytes) = codes " " ++ flat_map byte_text (byte ∷ bytes)
+
+-- a page after a word, or `none`
+abbrev pub page_if_any : List ℕ → Option PageId → List ℕ
+page_if_any word None = codes "none\n"
+page_if_any word (Some page) = word ++ page_text page ++ codes "\n"
+
+abbrev pub refused_text : WorldFault → List ℕ
+refused_text fault =
+    codes "refused " ++ decimal (code_of fault) ++ codes " " ++ name_of fault ++ codes "\n"
+
 abbrev pub answer_text : Answer → List ℕ
 answer_text Done = codes "ok\n"
 answer_text (Shown entries) = shown_text entries
 answer_text (FrameNo k) = codes "frame " ++ decimal k ++ codes "\n"
 answer_text (Took count first) = took_text count first
+answer_text (Pinned slot) = codes "slot " ++ slot_text slot ++ codes "\n"
+answer_text (Bytes bytes) = codes "bytes" ++ bytes_text bytes ++ codes "\n"
+answer_text (Page page) = page_if_any (codes "page ") page
 answer_text (Pages pages) = codes "pages" ++ pages_text pages ++ codes "\n"
-answer_text (Refused fault) =
-    codes "refused " ++ decimal (code_of fault) ++ codes " " ++ name_of fault ++ codes "\n"
+answer_text (Loaded page) = page_if_any (codes "loaded ") page
+answer_text (Refused fault) = refused_text fault
 
 -- what is printed for a bad line
 abbrev pub bad_line : ℕ → List ℕ
 bad_line number = codes "bad line " ++ decimal number ++ codes "\n"
+
+-- what is printed last where the devices did not take what waited for them
+abbrev pub end_refused : List ℕ
+end_refused = codes "end refused 12 Fault\n"

@@ -1,88 +1,12 @@
 -- The lines of a schedule, each a command with its fields.
-use Rattle.std.specs.Prelude.{ℕ, ◌+◌, ◌-◌, ◌*◌, List, [], ◌∷◌, Bool, false, ◌&&◌, ◌==◌, nat_le, nat_lt, length, Option, Some, None, option_and_then, option_map, codes, bytes_eq, if◌then◌else◌}
-use Rattle.warm_stamps.specs.declared.PageId.{PageId}
-use Rattle.warm_stamps.specs.declared.TheConstants.{BUCKETS}
+use Rattle.std.specs.Prelude.{ℕ, List, [], ◌∷◌, Bool, false, ◌==◌, nat_lt, length, Option, Some, None, option_map, codes, bytes_eq, if◌then◌else◌}
 use Rattle.warm_world.specs.declared.event.Event.{Event}
-use Rattle.warm_world.specs.declared.event.Event.TheVariants.{Refer, Flush, Send, Deliver, Warm, Restart, Show}
-use Rattle.warm_schedule.specs.Text.{split, words}
+use Rattle.warm_world.specs.declared.event.Event.TheVariants.{Refer, Flush, Send, Offer, Deliver, Pin, Unpin, Put, Get, Victim, Warm, WarmStep, Restart, Show}
+use Rattle.warm_schedule.specs.Text.{words}
+use Rattle.warm_schedule.specs.Fields.{◌>>=◌, page_field, after_field, slot_field, bytes_field, replica_field, worker_field, bucket_field, count_field, long_field}
 use Rattle.warm_schedule.specs.declared.parse.Line.{Line}
 use Rattle.warm_schedule.specs.declared.parse.Line.TheVariants.{Nothing, Act}
 use Rattle.warm_schedule.specs.declared.parse.TheConstants.{MAX_LINE}
-
-infixl 10 ◌>>=◌
-abbrev pub ◌>>=◌ : {A B : Type 0} → Option A → (A → Option B) → Option B
-o >>= f = option_and_then f o
-
--- ---- numbers and pages
-
-abbrev pub digit_of : ℕ → Option ℕ
-digit_of c = if nat_le 48 c && nat_le c 57 then Some (c - 48) else None
-
--- the number that begins with the digits of n and goes on with these
-abbrev pub digits_after : ℕ → List ℕ → Option ℕ
-digits_after n [] = Some n
-digits_after n (c ∷ cs) = digit_of c >>= λ d. digits_after (10 * n + d) cs
-
--- one or more digits
-abbrev pub number_of : List ℕ → Option ℕ
-number_of [] = None
-number_of (c ∷ cs) = digits_after 0 (c ∷ cs)
-
-abbrev pub up_to : ℕ → Option ℕ → Option ℕ
-up_to limit None = None
-up_to limit (Some n) = if nat_le n limit then Some n else None
-
-unfoldable pub number_up_to : ℕ → List ℕ → Option ℕ
-number_up_to limit word = up_to limit (number_of word)
-
--- a device, a colon and a number
-abbrev pub page_of_parts : List (List ℕ) → Option PageId
-page_of_parts (device ∷ number ∷ []) = do
-  d ← number_up_to 65535 device
-  n ← number_up_to 4294967295 number
-  Some (record { dev = d; no = n })
-page_of_parts parts = None
-
-unfoldable pub page_of : List ℕ → Option PageId
-page_of word = page_of_parts (split 58 word)
-
--- ---- a field, and the words after it
-
-unfoldable pub number_field : ℕ → List (List ℕ) → Option (ℕ × List (List ℕ))
-number_field limit [] = None
-number_field limit (word ∷ rest) = do
-  n ← number_up_to limit word
-  Some (n, rest)
-
-unfoldable pub page_field : List (List ℕ) → Option (PageId × List (List ℕ))
-page_field [] = None
-page_field (word ∷ rest) = do
-  page ← page_of word
-  Some (page, rest)
-
--- a page, or nothing where the line ends before it
-unfoldable pub after_field : List (List ℕ) → Option (Option PageId × List (List ℕ))
-after_field [] = Some (None, [])
-after_field (word ∷ rest) = do
-  page ← page_of word
-  Some (Some page, rest)
-
--- a replica's number, and the words after it
-abbrev pub replica_field : List (List ℕ) → Option (ℕ × List (List ℕ))
-replica_field fields = number_field 65535 fields
-
-abbrev pub worker_field : List (List ℕ) → Option (ℕ × List (List ℕ))
-worker_field fields = number_field 65535 fields
-
-abbrev pub bucket_field : List (List ℕ) → Option (ℕ × List (List ℕ))
-bucket_field fields = number_field (BUCKETS - 1) fields
-
-abbrev pub count_field : List (List ℕ) → Option (ℕ × List (List ℕ))
-count_field fields = number_field 4294967295 fields
-
--- a time, or the number of a frame
-abbrev pub long_field : List (List ℕ) → Option (ℕ × List (List ℕ))
-long_field fields = number_field 18446744073709551615 fields
 
 -- an event whose line has no further word
 abbrev pub ends_with : List (List ℕ) → Event → Option Event
@@ -115,6 +39,12 @@ send_of fields = do
   after ← after_field bucket.1
   ends_with after.1 (Send i.0 bucket.0 after.0)
 
+-- offer REPLICA
+unfoldable pub offer_of : List (List ℕ) → Option Event
+offer_of fields = do
+  i ← replica_field fields
+  ends_with i.1 (Offer i.0)
+
 -- deliver REPLICA FRAME
 unfoldable pub deliver_of : List (List ℕ) → Option Event
 deliver_of fields = do
@@ -122,12 +52,56 @@ deliver_of fields = do
   k ← long_field j.1
   ends_with k.1 (Deliver j.0 k.0)
 
+-- pin REPLICA PAGE
+unfoldable pub pin_of : List (List ℕ) → Option Event
+pin_of fields = do
+  i ← replica_field fields
+  page ← page_field i.1
+  ends_with page.1 (Pin i.0 page.0)
+
+-- unpin REPLICA SLOT
+unfoldable pub unpin_of : List (List ℕ) → Option Event
+unpin_of fields = do
+  i ← replica_field fields
+  slot ← slot_field i.1
+  ends_with slot.1 (Unpin i.0 slot.0)
+
+-- put REPLICA SLOT PLACE BYTES
+unfoldable pub put_of : List (List ℕ) → Option Event
+put_of fields = do
+  i ← replica_field fields
+  slot ← slot_field i.1
+  at ← count_field slot.1
+  bytes ← bytes_field at.1
+  ends_with bytes.1 (Put i.0 slot.0 at.0 bytes.0)
+
+-- get REPLICA SLOT PLACE COUNT
+unfoldable pub get_of : List (List ℕ) → Option Event
+get_of fields = do
+  i ← replica_field fields
+  slot ← slot_field i.1
+  at ← count_field slot.1
+  n ← count_field at.1
+  ends_with n.1 (Get i.0 slot.0 at.0 n.0)
+
+-- victim REPLICA
+unfoldable pub victim_of : List (List ℕ) → Option Event
+victim_of fields = do
+  i ← replica_field fields
+  ends_with i.1 (Victim i.0)
+
 -- warm REPLICA COUNT
 unfoldable pub warm_of : List (List ℕ) → Option Event
 warm_of fields = do
   i ← replica_field fields
   n ← count_field i.1
   ends_with n.1 (Warm i.0 n.0)
+
+-- warmstep REPLICA
+unfoldable pub warmstep_of : List (List ℕ) → Option Event
+warmstep_of fields = do
+  i ← replica_field fields
+  ends_with i.1 (WarmStep i.0)
 
 -- restart REPLICA
 unfoldable pub restart_of : List (List ℕ) → Option Event
@@ -147,10 +121,17 @@ abbrev pub event_of : List ℕ → List (List ℕ) → Option Event
 event_of command fields = if bytes_eq command (codes "ref") then refer_of fields
     else (if bytes_eq command (codes "flush") then flush_of fields
     else (if bytes_eq command (codes "send") then send_of fields
+    else (if bytes_eq command (codes "offer") then offer_of fields
     else (if bytes_eq command (codes "deliver") then deliver_of fields
+    else (if bytes_eq command (codes "pin") then pin_of fields
+    else (if bytes_eq command (codes "unpin") then unpin_of fields
+    else (if bytes_eq command (codes "put") then put_of fields
+    else (if bytes_eq command (codes "get") then get_of fields
+    else (if bytes_eq command (codes "victim") then victim_of fields
     else (if bytes_eq command (codes "warm") then warm_of fields
+    else (if bytes_eq command (codes "warmstep") then warmstep_of fields
     else (if bytes_eq command (codes "restart") then restart_of fields
-    else (if bytes_eq command (codes "show") then show_of fields else None))))))
+    else (if bytes_eq command (codes "show") then show_of fields else None)))))))))))))
 
 abbrev pub begins_with : ℕ → List ℕ → Bool
 begins_with c [] = false

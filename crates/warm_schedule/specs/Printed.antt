@@ -1,29 +1,58 @@
--- What may be printed for a schedule: each line answered from the state that the lines before it left.
-use Rattle.std.specs.Prelude.{◌≡◌, ℕ, ◌+◌, List, [], ◌∷◌, ◌++◌, Option, Some, None}
+-- What may be printed for a schedule: each line answered from the state that the lines before it left, and then the end.
+use Rattle.std.specs.Prelude.{◌≡◌, ◌<◌, ℕ, ◌+◌, List, [], ◌∷◌, ◌++◌, length, false, Option, Some, None, ◌⊎◌}
+use Rattle.warm_gossip.specs.declared.fault.NodeFault.TheVariants.{Memory}
+use Rattle.warm_pool.specs.View.{device_at}
+use Rattle.warm_world.specs.declared.event.Event.{Event}
 use Rattle.warm_world.specs.declared.event.Answer.{Answer}
-use Rattle.warm_world.specs.States.{ModelState}
+use Rattle.warm_world.specs.declared.event.WorldFault.TheVariants.{Node}
+use Rattle.warm_world.specs.Lists.{IsNumber}
+use Rattle.warm_world.specs.States.{ModelState, pool_of}
 use Rattle.warm_world.specs.Next.{Next}
 use Rattle.warm_schedule.specs.declared.parse.Line.{Line}
 use Rattle.warm_schedule.specs.declared.parse.Line.TheVariants.{Nothing, Act}
 use Rattle.warm_schedule.specs.Text.{lines}
 use Rattle.warm_schedule.specs.Grammar.{meaning}
-use Rattle.warm_schedule.specs.Answers.{answer_text, bad_line}
+use Rattle.warm_schedule.specs.Reading.{IsPut}
+use Rattle.warm_schedule.specs.Answers.{answer_text, refused_text, bad_line, end_refused}
 
--- A line of this meaning and number may print `out` and lead from `old` to `new`. An event is answered as the world's
--- relation has it, so that want of memory, where that relation allows it, prints its refusal and leaves the state.
+-- An event is answered as the world's relation has it, so that want of memory, where that relation allows it, prints its refusal.
+abbrev pub Happens : ModelState → Event → List ℕ → ModelState → Type 0
+Happens old event out new = (answer : Answer) × Next old event answer new × (out ≡ answer_text answer)
+
+-- The bytes of a put found no room: it has not happened.
+abbrev pub FindsNoRoom : ModelState → Event → List ℕ → ModelState → Type 0
+FindsNoRoom old event out new = IsPut event × (out ≡ refused_text (Node Memory)) × (new ≡ old)
+
+-- A line of this meaning and number may print `out` and lead from `old` to `new`.
 abbrev pub Answered : ModelState → ℕ → Option Line → List ℕ → ModelState → Type 0
 Answered old number None out new = (out ≡ bad_line number) × (new ≡ old)
 Answered old number (Some Nothing) out new = (out ≡ []) × (new ≡ old)
-Answered old number (Some (Act event)) out new =
-    (answer : Answer) × Next old event answer new × (out ≡ answer_text answer)
+Answered old number (Some (Act event)) out new = Happens old event out new ⊎ FindsNoRoom old event out new
 
--- lines, of which the first has this number, may print `out` from `state` on
-abbrev pub PrintedFrom : ModelState → ℕ → List (List ℕ) → List ℕ → Type 0
-PrintedFrom state number [] out = out ≡ []
-PrintedFrom state number (line ∷ rest) out =
+-- lines, of which the first has this number, may print `out` and lead from `state` to `last`
+abbrev pub PrintedFrom : ModelState → ℕ → List (List ℕ) → List ℕ → ModelState → Type 0
+PrintedFrom state number [] out last = (out ≡ []) × (last ≡ state)
+PrintedFrom state number (line ∷ rest) out last =
     (front back : List ℕ) × (next : ModelState) × Answered state number (meaning line) front next
-    × PrintedFrom next (number + 1) rest back × (out ≡ front ++ back)
+    × PrintedFrom next (number + 1) rest back last × (out ≡ front ++ back)
 
--- a schedule may print `out` from `state` on
-abbrev pub Printed : ModelState → List ℕ → List ℕ → Type 0
-Printed state text out = PrintedFrom state 1 (lines text) out
+-- a schedule may print `out` and lead from `state` to `last`
+abbrev pub Printed : ModelState → List ℕ → List ℕ → ModelState → Type 0
+Printed state text out last = PrintedFrom state 1 (lines text) out last
+
+-- a device of a replica may fail
+pub record MayFail (m : ModelState) : Type 0 where
+  pub replica : ℕ
+  pub device : ℕ
+  pub replica_there : IsNumber replica (length m.replicas)
+  pub device_there : device < length (pool_of m replica).devices
+  pub may : (device_at (pool_of m replica) device).unfailing ≡ false
+
+-- After the answers nothing is printed, or else that the devices did not take what waited for them, if one of them may fail.
+abbrev pub EndsIn : ModelState → List ℕ → List ℕ → Type 0
+EndsIn last answers out = (out ≡ answers) ⊎ (MayFail last × (out ≡ answers ++ end_refused))
+
+-- A schedule that is played from `state` to its end may print `out`. Where no device may fail, that is what the lines print.
+abbrev pub Played : ModelState → List ℕ → List ℕ → Type 0
+Played state text out =
+    (answers : List ℕ) × (last : ModelState) × Printed state text answers last × EndsIn last answers out

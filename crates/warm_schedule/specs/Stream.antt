@@ -1,15 +1,27 @@
 -- A schedule that is read piece by piece.
 use Rattle.std.specs.Prelude.{◌≡◌, ◌≢◌, ℕ, ◌+◌, List, [], ◌∷◌, ◌++◌, take}
 use Rattle.std.specs.List.{AllByRecursion}
-use Rattle.warm_world.specs.Sizes.{Sizes}
-use Rattle.warm_world.specs.States.{ModelState, opening}
+use Rattle.std.specs.declared.alloc.Global.{Global}
+use Rattle.std.specs.declared.dyn_box.DynBox.{DynBox}
+use Rattle.warm_devices.specs.Device.{DeviceState}
+use Rattle.warm_world.specs.States.{ModelState}
+use Rattle.warm_world.specs.Seen.{WorldSeen, seen}
 use Rattle.warm_world.specs.Stands.{StandsFor}
-use Rattle.warm_world.specs.declared.world.World.{World}
 use Rattle.warm_schedule.specs.Text.{lines}
 use Rattle.warm_schedule.specs.Grammar.{meaning}
-use Rattle.warm_schedule.specs.Printed.{Answered, PrintedFrom}
+use Rattle.warm_schedule.specs.Printed.{Answered, PrintedFrom, EndsIn}
 use Rattle.warm_schedule.specs.declared.parse.TheConstants.{MAX_LINE}
 use Rattle.warm_schedule.specs.declared.player.Session.{Session}
+
+-- what contracts see of a session: its world, the number of the line that has begun, and of its bytes those that are held
+pub record SessionSeen : Type 0 where
+  pub world : WorldSeen
+  pub number : ℕ
+  pub held : List ℕ
+
+-- how it is read off a session; `state`, the ghost member of `PageDevice` that a clause has at hand, comes first
+abbrev pub session : {X : Type 0} {P : X → Type 0} → (DynBox X Global P → DeviceState) → Session X P → SessionSeen
+session state s = record { world = seen state s.world; number = s.number; held = s.line.items }
 
 -- bytes of one line
 abbrev pub IsLine : List ℕ → Type 0
@@ -21,36 +33,43 @@ pub record HoldsLine (held line : List ℕ) : Type 0 where
   pub is_line : IsLine line
 
 -- the session's world stands for this state, and this line has begun
-pub record Holds (session : Session) (state : ModelState) (line : List ℕ) : Type 0 where
-  pub stands : StandsFor session.world state
-  pub begun : HoldsLine session.line.items line
+pub record Holds (s : SessionSeen) (state : ModelState) (line : List ℕ) : Type 0 where
+  pub stands : StandsFor s.world state
+  pub begun : HoldsLine s.held line
 
--- a new world, before the first line
-pub record IsFresh (session : Session) (setup : Sizes) : Type 0 where
-  pub holds : Holds session (opening setup.replicas setup.workers setup.buffer) []
-  pub first : session.number ≡ 1
+-- a world in this state, before the first line
+pub record IsFresh (s : SessionSeen) (state : ModelState) : Type 0 where
+  pub holds : Holds s state []
+  pub first : s.number ≡ 1
 
 -- the line that has begun goes on with this byte
-pub record AddsByte (old : Session) (byte : ℕ) (new : Session) : Type 0 where
-  pub begun : (line : List ℕ) → HoldsLine old.line.items line
-      → HoldsLine new.line.items (line ++ byte ∷ [])
+pub record AddsByte (old : SessionSeen) (byte : ℕ) (new : SessionSeen) : Type 0 where
+  pub begun : (line : List ℕ) → HoldsLine old.held line → HoldsLine new.held (line ++ byte ∷ [])
   pub world : new.world ≡ old.world
   pub number : new.number ≡ old.number
 
 -- the line that has come was answered by this, and the world stands for the state that follows
-abbrev pub AnswersLine : Session → List ℕ → World → Type 0
+abbrev pub AnswersLine : SessionSeen → List ℕ → WorldSeen → Type 0
 AnswersLine old out world = (state : ModelState) (line : List ℕ) → Holds old state line
     → (next : ModelState) × StandsFor world next × Answered state old.number (meaning line) out next
 
 -- The session took these bytes and printed this: whatever may be printed for the rest completes what may be printed for
 -- all.
-unfoldable pub Goes : Session → List ℕ → List ℕ → Session → Type 0
+unfoldable pub Goes : SessionSeen → List ℕ → List ℕ → SessionSeen → Type 0
 Goes old bytes out new = (state : ModelState) (begun : List ℕ) → Holds old state begun
     → (next : ModelState) × (line : List ℕ) × Holds new next line
-    × ((tail rest : List ℕ) → PrintedFrom next new.number (lines (line ++ tail)) rest
-    → PrintedFrom state old.number (lines (begun ++ (bytes ++ tail))) (out ++ rest))
+    × ((tail rest : List ℕ) (last : ModelState) → PrintedFrom next new.number (lines (line ++ tail)) rest last
+    → PrintedFrom state old.number (lines (begun ++ (bytes ++ tail))) (out ++ rest) last)
 
--- The input has ended, and the session printed this for the line that had begun.
-unfoldable pub Ends : Session → List ℕ → Type 0
-Ends session out = (state : ModelState) (begun : List ℕ) → Holds session state begun
-    → PrintedFrom state session.number (lines begun) out
+-- the end of a play whose world is this one prints this after the answers
+abbrev pub Settles : WorldSeen → List ℕ → Type 0
+Settles world out = (state : ModelState) (answers : List ℕ) → StandsFor world state → EndsIn state answers (answers ++ out)
+
+-- what is printed for the line that has begun and for the end
+abbrev pub PrintsLast : ModelState → ℕ → List ℕ → List ℕ → Type 0
+PrintsLast state number line out =
+    (answers : List ℕ) × (last : ModelState) × PrintedFrom state number (lines line) answers last × EndsIn last answers out
+
+-- The input has ended, and the session printed this for the line that had begun, and for the end.
+unfoldable pub Ends : SessionSeen → List ℕ → Type 0
+Ends s out = (state : ModelState) (begun : List ℕ) → Holds s state begun → PrintsLast state s.number begun out

@@ -5,6 +5,8 @@
 //! by line.
 #![tactic(auto)]
 
+mod fields;
+pub mod laws;
 mod parse;
 mod player;
 mod printer;
@@ -13,6 +15,6 @@ mod text;
 
 pub use parse::{Line, LineFault, MAX_LINE, parse_line};
 pub use player::play;
-pub use printer::{print_answer, print_bad_line};
+pub use printer::{print_answer, print_bad_line, print_end_refused};
 pub use random::random_schedule;
 pub use warm_play_fault::PlayFault;

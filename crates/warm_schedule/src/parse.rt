@@ -1,16 +1,22 @@
 //! The lines of a schedule.
-ghost use Rattle.std.specs.Prelude.{◌≡◌, ◌<◌, ◌≤◌, IfSome, option_map, ok_or, codes};
+ghost use Rattle.std.specs.Prelude.{◌≡◌, false, bytes_eq, codes, option_map, option_and_then};
 ghost use Rattle.warm_schedule.specs.Text.{words};
-ghost use Rattle.warm_schedule.specs.Grammar.{digit_of, number_up_to, page_of, number_field, page_field, after_field, refer_of, flush_of, send_of, deliver_of, warm_of, restart_of, show_of, event_of, meaning};
-ghost use Rattle.warm_schedule.specs.declared.parse.LineFault.TheVariants.{Bad};
+ghost use Rattle.warm_schedule.specs.Grammar.{refer_of, flush_of, send_of, offer_of, deliver_of, pin_of, unpin_of, put_of, get_of};
+ghost use Rattle.warm_schedule.specs.Grammar.{victim_of, warm_of, warmstep_of, restart_of, show_of, event_of, meaning};
+ghost use Rattle.warm_world.specs.declared.event.Event.TheVariants.{Put};
+ghost use Rattle.warm_schedule.specs.Fields.{bytes_of};
+ghost use Rattle.warm_schedule.specs.Reading.{Reads, IsPut, PutsBytes, line_fault_code, line_fault_name};
 
-use crate::text::{cut, next_word};
+use crate::fields::{after_at, bytes, number_at, page_at, slot_at};
+use crate::text::next_word;
+use std::alloc::Global;
 use thiserror::Error;
-use warm_stamps::{BUCKETS, Bucket, PageId};
+use warm_pool::Slot;
+use warm_stamps::{BUCKETS, Bucket};
 use warm_world::Event;
 
 /// What a line of a schedule says.
-#[derive(Clone, Copy, Debug, PartialEq, Eq)]
+#[derive(Debug, Drop)]
 pub enum Line {
     /// A line without words, or a comment: it prints nothing and nothing happens.
     Nothing,
@@ -18,10 +24,12 @@ pub enum Line {
     Act(Event),
 }
 
-/// Why a line says nothing that can be done. Number 1 is want of memory in every fault of this project, and no line of
-/// the language takes any.
+/// Why a line is not read.
 #[derive(Clone, Copy, Debug, PartialEq, Eq, Error)]
 pub enum LineFault {
+    /// There was no room for the bytes of a `put`: 1. No other line takes any.
+    #[error("Memory")]
+    Memory,
     /// The line isn't of the language: 2.
     #[error("Bad")]
     Bad,
@@ -30,18 +38,20 @@ pub enum LineFault {
 impl LineFault {
     /// Its number.
     pub fn code(self) -> u8
-        ensures { result ≡ 2 }
+        ensures { result ≡ line_fault_code self }
     {
         match self {
+            LineFault::Memory => 1,
             LineFault::Bad => 2,
         }
     }
 
     /// Its name.
     pub fn name(self) -> &'static str
-        ensures { result.now ≡ codes "Bad" }
+        ensures { result.now ≡ line_fault_name self }
     {
         match self {
+            LineFault::Memory => "Memory",
             LineFault::Bad => "Bad",
         }
     }
@@ -50,88 +60,11 @@ impl LineFault {
 /// How many bytes a line may have, its line end not included: a longer one is bad, whatever it begins with.
 pub const MAX_LINE: usize = 262144;
 
-const MOST_DEVICE: u64 = 65535;
-
-const MOST_PAGE: u64 = 4294967295;
-
 const MOST_REPLICA: u64 = 65535;
 
 const MOST_WORKER: u64 = 65535;
 
 const MOST_COUNT: u64 = 4294967295;
-
-fn digit(c: u8) -> Option<u8>
-    ensures value { result ≡ digit_of c }
-    ensures bound { IfSome result (λ d. d < 10) }
-{
-    match c {
-        b'0'..=b'9' => Some(c - b'0'),
-        _ => None,
-    }
-}
-
-// The number that a word spells, where it is at most `limit`.
-fn number(word: &[u8], limit: u64) -> Option<u64>
-    ensures value { result ≡ number_up_to limit word.now }
-    ensures bound { IfSome result (λ n. n ≤ limit) }
-{
-    if word.is_empty() {
-        return None;
-    }
-    let mut number = 0u64;
-    for c in word {
-        let next = 10 * u128::from(number) + u128::from(digit(*c)?);
-        if next > u128::from(limit) {
-            return None;
-        }
-        number = next as u64;
-    }
-    Some(number)
-}
-
-#[tactic(auto, unfolding(crate::specs::Grammar::page_of))]
-fn page(word: &[u8]) -> Option<PageId>
-    ensures { result ≡ page_of word.now }
-{
-    let (dev, no) = cut(word, b':')?;
-    if let Some(_) = cut(no, b':') {
-        return None;
-    }
-    let dev = number(dev, MOST_DEVICE)? as u16;
-    let no = number(no, MOST_PAGE)? as u32;
-    Some(PageId { dev, no })
-}
-
-// ---- one field, and what follows it
-
-#[tactic(auto, unfolding(crate::specs::Grammar::number_field))]
-fn number_at(fields: &[u8], limit: u64) -> Option<(u64, &[u8])>
-    ensures value { option_map (λ x. (x.0, words x.1.now)) result
-        ≡ number_field limit (words fields.now) }
-    ensures bound { IfSome result (λ x. x.0 ≤ limit) }
-{
-    let (word, rest) = next_word(fields)?;
-    Some((number(word, limit)?, rest))
-}
-
-#[tactic(auto, unfolding(crate::specs::Grammar::page_field))]
-fn page_at(fields: &[u8]) -> Option<(PageId, &[u8])>
-    ensures { option_map (λ x. (x.0, words x.1.now)) result ≡ page_field (words fields.now) }
-{
-    let (word, rest) = next_word(fields)?;
-    Some((page(word)?, rest))
-}
-
-// A page, or nothing where the line ends before it.
-#[tactic(auto, unfolding(crate::specs::Grammar::after_field))]
-fn after_at(fields: &[u8]) -> Option<(Option<PageId>, &[u8])>
-    ensures { option_map (λ x. (x.0, words x.1.now)) result ≡ after_field (words fields.now) }
-{
-    let Some((word, rest)) = next_word(fields) else {
-        return Some((None, fields));
-    };
-    Some((Some(page(word)?), rest))
-}
 
 // ---- the commands, by what follows their first word
 
@@ -175,6 +108,17 @@ fn send(fields: &[u8]) -> Option<Event>
     Some(Event::Send(replica as u16, bucket, after))
 }
 
+#[tactic(auto, unfolding(crate::specs::Grammar::offer_of))]
+fn offer(fields: &[u8]) -> Option<Event>
+    ensures { result ≡ offer_of (words fields.now) }
+{
+    let (replica, rest) = number_at(fields, MOST_REPLICA)?;
+    if next_word(rest).is_some() {
+        return None;
+    }
+    Some(Event::Offer(replica as u16))
+}
+
 #[tactic(auto, unfolding(crate::specs::Grammar::deliver_of))]
 fn deliver(fields: &[u8]) -> Option<Event>
     ensures { result ≡ deliver_of (words fields.now) }
@@ -187,6 +131,82 @@ fn deliver(fields: &[u8]) -> Option<Event>
     Some(Event::Deliver(replica as u16, frame))
 }
 
+#[tactic(auto, unfolding(crate::specs::Grammar::pin_of))]
+fn pin(fields: &[u8]) -> Option<Event>
+    ensures { result ≡ pin_of (words fields.now) }
+{
+    let (replica, rest) = number_at(fields, MOST_REPLICA)?;
+    let (page, rest) = page_at(rest)?;
+    if next_word(rest).is_some() {
+        return None;
+    }
+    Some(Event::Pin(replica as u16, page))
+}
+
+#[tactic(auto, unfolding(crate::specs::Grammar::unpin_of))]
+fn unpin(fields: &[u8]) -> Option<Event>
+    ensures { result ≡ unpin_of (words fields.now) }
+{
+    let (replica, rest) = number_at(fields, MOST_REPLICA)?;
+    let (slot, rest) = slot_at(rest)?;
+    if next_word(rest).is_some() {
+        return None;
+    }
+    Some(Event::Unpin(replica as u16, slot))
+}
+
+// The fields of a `put` but for its bytes, and the word that is to spell them.
+#[tactic(auto, unfolding(crate::specs::Grammar::put_of, crate::specs::Fields::bytes_field))]
+fn put_parts(fields: &[u8]) -> Option<(u16, Slot, u32, &[u8])>
+    ensures { put_of (words fields.now)
+        ≡ option_and_then (λ x. option_map (Put x.0 x.1 x.2) (bytes_of x.3.now)) result }
+{
+    let (replica, rest) = number_at(fields, MOST_REPLICA)?;
+    let (slot, rest) = slot_at(rest)?;
+    let (at, rest) = number_at(rest, MOST_COUNT)?;
+    let (word, rest) = next_word(rest)?;
+    if next_word(rest).is_some() {
+        return None;
+    }
+    Some((replica as u16, slot, at as u32, word))
+}
+
+// Room for the bytes is asked for last.
+fn put(alloc: Global, fields: &[u8]) -> Result<Event, LineFault>
+    ensures { Reads IsPut (put_of (words fields.now)) result }
+{
+    let Some((replica, slot, at, word)) = put_parts(fields) else {
+        return Err(LineFault::Bad);
+    };
+    let bytes = bytes(alloc, word)?;
+    Ok(Event::Put(replica, slot, at, bytes))
+}
+
+#[tactic(auto, unfolding(crate::specs::Grammar::get_of))]
+fn get(fields: &[u8]) -> Option<Event>
+    ensures { result ≡ get_of (words fields.now) }
+{
+    let (replica, rest) = number_at(fields, MOST_REPLICA)?;
+    let (slot, rest) = slot_at(rest)?;
+    let (at, rest) = number_at(rest, MOST_COUNT)?;
+    let (count, rest) = number_at(rest, MOST_COUNT)?;
+    if next_word(rest).is_some() {
+        return None;
+    }
+    Some(Event::Get(replica as u16, slot, at as u32, count as u32))
+}
+
+#[tactic(auto, unfolding(crate::specs::Grammar::victim_of))]
+fn victim(fields: &[u8]) -> Option<Event>
+    ensures { result ≡ victim_of (words fields.now) }
+{
+    let (replica, rest) = number_at(fields, MOST_REPLICA)?;
+    if next_word(rest).is_some() {
+        return None;
+    }
+    Some(Event::Victim(replica as u16))
+}
+
 #[tactic(auto, unfolding(crate::specs::Grammar::warm_of))]
 fn warm(fields: &[u8]) -> Option<Event>
     ensures { result ≡ warm_of (words fields.now) }
@@ -197,6 +217,17 @@ fn warm(fields: &[u8]) -> Option<Event>
         return None;
     }
     Some(Event::Warm(replica as u16, count as u32))
+}
+
+#[tactic(auto, unfolding(crate::specs::Grammar::warmstep_of))]
+fn warmstep(fields: &[u8]) -> Option<Event>
+    ensures { result ≡ warmstep_of (words fields.now) }
+{
+    let (replica, rest) = number_at(fields, MOST_REPLICA)?;
+    if next_word(rest).is_some() {
+        return None;
+    }
+    Some(Event::WarmStep(replica as u16))
 }
 
 #[tactic(auto, unfolding(crate::specs::Grammar::restart_of))]
@@ -221,8 +252,9 @@ fn show(fields: &[u8]) -> Option<Event>
     Some(Event::Show(replica as u16))
 }
 
-// What a command with its fields asks for.
-fn event(command: &[u8], fields: &[u8]) -> Option<Event>
+// What a command with its fields asks for, where it isn't `put`.
+fn plain_event(command: &[u8], fields: &[u8]) -> Option<Event>
+    requires { bytes_eq command.now (codes "put") ≡ false }
     ensures { result ≡ event_of command.now (words fields.now) }
 {
     if command == b"ref".as_slice() {
@@ -234,11 +266,29 @@ fn event(command: &[u8], fields: &[u8]) -> Option<Event>
     if command == b"send".as_slice() {
         return send(fields);
     }
+    if command == b"offer".as_slice() {
+        return offer(fields);
+    }
     if command == b"deliver".as_slice() {
         return deliver(fields);
     }
+    if command == b"pin".as_slice() {
+        return pin(fields);
+    }
+    if command == b"unpin".as_slice() {
+        return unpin(fields);
+    }
+    if command == b"get".as_slice() {
+        return get(fields);
+    }
+    if command == b"victim".as_slice() {
+        return victim(fields);
+    }
     if command == b"warm".as_slice() {
         return warm(fields);
+    }
+    if command == b"warmstep".as_slice() {
+        return warmstep(fields);
     }
     if command == b"restart".as_slice() {
         return restart(fields);
@@ -249,16 +299,30 @@ fn event(command: &[u8], fields: &[u8]) -> Option<Event>
     None
 }
 
-/// What a line says, its line end not included. It takes no memory.
+fn event(alloc: Global, command: &[u8], fields: &[u8]) -> Result<Event, LineFault>
+    ensures { Reads IsPut (event_of command.now (words fields.now)) result }
+{
+    if command == b"put".as_slice() {
+        return put(alloc, fields);
+    }
+    match plain_event(command, fields) {
+        Some(event) => Ok(event),
+        None => Err(LineFault::Bad),
+    }
+}
+
+/// What a line says, its line end not included.
 ///
 /// Words are parted by one or more spaces (byte 20); every other byte, a tab, a NUL and the CR of a foreign line end among
 /// them, is part of a word. Numbers are decimal, with any number of leading zeros. docs/FORMATS.md has each line.
 ///
-/// `Bad` comes exactly for a line of more than [`MAX_LINE`] bytes, and for one that has a word, is no comment and isn't of
-/// the language.
+/// - `Bad` comes exactly for a line of more than [`MAX_LINE`] bytes, and for one that has a word, is no comment and isn't of
+///   the language.
+/// - `Memory` comes only where room for the bytes of a `put` was refused, and only for a `put` of the language. No other line
+///   takes memory.
 #[tactic(auto, unfolding(crate::specs::Grammar::meaning, crate::specs::Grammar::line_of))]
-pub fn parse_line(line: &[u8]) -> Result<Line, LineFault>
-    ensures { result ≡ ok_or (meaning line.now) Bad }
+pub fn parse_line(alloc: Global, line: &[u8]) -> Result<Line, LineFault>
+    ensures { Reads PutsBytes (meaning line.now) result }
 {
     if line.len() > MAX_LINE {
         return Err(LineFault::Bad);
@@ -269,8 +333,6 @@ pub fn parse_line(line: &[u8]) -> Result<Line, LineFault>
     if let [b'#', ..] = command {
         return Ok(Line::Nothing);
     }
-    match event(command, fields) {
-        Some(event) => Ok(Line::Act(event)),
-        None => Err(LineFault::Bad),
-    }
+    let event = event(alloc, command, fields)?;
+    Ok(Line::Act(event))
 }

@@ -1,41 +1,65 @@
 //! A schedule that comes in pieces, answered line by line.
 ghost use Rattle.std.specs.Prelude.{◌≡◌, ◌≢◌, ◌≤◌, ◌<◌, ◌+◌, ◌^◌, ◌∷◌, [], false, List, ℕ, length, OnOk, IfOk, IfSome};
 ghost use Rattle.std.specs.Io.KnownBytes.{Appends, Keeps, Consumes, IsAtEnd};
-ghost use Rattle.warm_world.specs.States.{opening};
-ghost use Rattle.warm_schedule.specs.Printed.{Printed};
-ghost use Rattle.warm_schedule.specs.Stream.{IsFresh, AddsByte, AnswersLine, Goes, Ends};
+ghost use Rattle.warm_world.specs.States.{ModelState, opening};
+ghost use Rattle.warm_world.specs.Opening.{AreFew};
+ghost use Rattle.warm_world.specs.Seen.{IsWorld, listed, seen};
+ghost use Rattle.warm_world.specs.Stands.{StandsFor};
+ghost use Rattle.warm_schedule.specs.Printed.{Played};
+ghost use Rattle.warm_schedule.specs.Stream.{session, IsFresh, AddsByte, AnswersLine, Settles, Goes, Ends};
 
-use crate::parse::{Line, MAX_LINE, parse_line};
-use crate::printer::{print_answer, print_bad_line};
+use crate::parse::{Line, LineFault, MAX_LINE, parse_line};
+use crate::printer::{print_answer, print_bad_line, print_end_refused, print_refusal};
 use std::alloc::{AllocError, Global};
 use std::io::{ErrorKind, Read, Write};
+use std::marker::PhantomData;
+use warm_devices::PageDevice;
+use warm_gossip::NodeFault;
 use warm_play_fault::PlayFault;
-use warm_world::{Setup, World};
+use warm_world::{BadWorld, Setup, World, WorldFault};
 
 // A world, and the line that has begun: its bytes, no more of them than make it too long.
 #[derive(Drop)]
 struct Session {
+    alloc: Global,
     world: World,
     number: u64,
     line: Vec<u8>,
+    // What holds of every boxed device is known where a type names the box.
+    boxes: PhantomData<Box<dyn PageDevice + Send>>,
 }
 
 impl Session {
     // A new world, before the first line.
-    fn new(alloc: Global, setup: Setup) -> Result<Session, AllocError>
-        ensures { IfOk result (λ session. IsFresh session setup) }
+    fn new(
+        alloc: Global,
+        setup: Setup,
+        devices: Vec<Vec<Box<dyn PageDevice + Send>>>,
+    ) -> Result<Session, PlayFault>
+        requires few { AreFew (listed state devices.items) }
+        ensures fit { IfOk result (λ s. IsWorld state s.world) }
+        ensures fresh { IfOk result (λ s. IsFresh (session state s)
+            (opening setup (listed state devices.items))) }
     {
+        let world = match World::new(alloc, setup, devices) {
+            Ok(world) => world,
+            Err(BadWorld::Memory) => return Err(PlayFault::Memory),
+            Err(_) => return Err(PlayFault::BadDevices),
+        };
         Ok(Session {
-            world: World::new(alloc, setup)?,
+            alloc,
+            world,
             number: 1,
             line: Vec::new(alloc),
+            boxes: PhantomData,
         })
     }
 
     // A byte of the line that has begun.
     fn add(&mut self, byte: u8) -> Result<(), AllocError>
         requires { byte ≢ 10 }
-        ensures { OnOk result (AddsByte self.old byte self.new) }
+        ensures adds { OnOk result (AddsByte (session state self.old) byte (session state self.new)) }
+        ensures same { OnOk result (self.new.world ≡ self.old.world) }
     {
         if self.line.len() > MAX_LINE {
             return Ok(());
@@ -46,14 +70,21 @@ impl Session {
 
     // Answers the line that has come.
     fn answer<W: Write>(&mut self, writer: &mut W) -> Result<(), PlayFault>
+        requires fit { IsWorld state self.old.world }
+        ensures fit { IsWorld state self.new.world }
         ensures answered { OnOk result ((out : List ℕ)
             × Appends (W.contents writer.old) (W.contents writer.new) out
-            × AnswersLine self.old out self.new.world) }
+            × AnswersLine (session state self.old) out (seen state self.new.world)) }
         ensures number { self.new.number ≡ self.old.number }
     {
-        match parse_line(self.line.as_slice()) {
-            Err(_) => {
+        match parse_line(self.alloc, self.line.as_slice()) {
+            Err(LineFault::Bad) => {
                 print_bad_line(writer, self.number).map_err(|_| PlayFault::WriteFault)?;
+                Ok(())
+            }
+            Err(LineFault::Memory) => {
+                let fault = WorldFault::Node(NodeFault::Memory);
+                print_refusal(writer, fault).map_err(|_| PlayFault::WriteFault)?;
                 Ok(())
             }
             Ok(Line::Nothing) => Ok(()),
@@ -66,10 +97,12 @@ impl Session {
     }
 
     fn end_line<W: Write>(&mut self, writer: &mut W) -> Result<(), PlayFault>
-        requires { self.old.number + 1 < 2 ^ 64 }
+        requires room { self.old.number + 1 < 2 ^ 64 }
+        requires fit { IsWorld state self.old.world }
+        ensures fit { OnOk result (IsWorld state self.new.world) }
         ensures goes { OnOk result ((out : List ℕ)
             × Appends (W.contents writer.old) (W.contents writer.new) out
-            × Goes self.old (10 ∷ []) out self.new) }
+            × Goes (session state self.old) (10 ∷ []) out (session state self.new)) }
         ensures number { OnOk result (self.new.number ≡ self.old.number + 1) }
     {
         self.answer(writer)?;
@@ -79,10 +112,12 @@ impl Session {
     }
 
     fn take<W: Write>(&mut self, byte: u8, writer: &mut W) -> Result<(), PlayFault>
-        requires { self.old.number + 1 < 2 ^ 64 }
+        requires room { self.old.number + 1 < 2 ^ 64 }
+        requires fit { IsWorld state self.old.world }
+        ensures fit { OnOk result (IsWorld state self.new.world) }
         ensures goes { OnOk result ((out : List ℕ)
             × Appends (W.contents writer.old) (W.contents writer.new) out
-            × Goes self.old (byte ∷ []) out self.new) }
+            × Goes (session state self.old) (byte ∷ []) out (session state self.new)) }
         ensures number { OnOk result (self.new.number ≤ self.old.number + 1) }
     {
         if byte == b'\n' {
@@ -96,10 +131,12 @@ impl Session {
 
     // Takes the next bytes of the schedule, and answers each line that ends in them.
     fn feed<W: Write>(&mut self, bytes: &[u8], writer: &mut W) -> Result<(), PlayFault>
-        requires { self.old.number + length bytes.now < 2 ^ 64 }
+        requires room { self.old.number + length bytes.now < 2 ^ 64 }
+        requires fit { IsWorld state self.old.world }
+        ensures fit { OnOk result (IsWorld state self.new.world) }
         ensures goes { OnOk result ((out : List ℕ)
             × Appends (W.contents writer.old) (W.contents writer.new) out
-            × Goes self.old bytes.now out self.new) }
+            × Goes (session state self.old) bytes.now out (session state self.new)) }
         ensures number { OnOk result (self.new.number ≤ self.old.number + length bytes.now) }
     {
         for byte in bytes {
@@ -108,13 +145,31 @@ impl Session {
         Ok(())
     }
 
-    // Answers the last line, which no byte ended, and hands the answers on.
-    fn finish<W: Write>(&mut self, writer: &mut W) -> Result<(), PlayFault>
+    // Gives the devices what waits for them, and prints where they don't take it.
+    fn settle<W: Write>(&mut self, writer: &mut W) -> Result<(), PlayFault>
+        requires fit { IsWorld state self.old.world }
         ensures { OnOk result ((out : List ℕ)
             × Appends (W.contents writer.old) (W.contents writer.new) out
-            × Ends self.old out) }
+            × Settles (seen state self.old.world) out) }
+    {
+        match self.world.finish() {
+            Ok(()) => Ok(()),
+            Err(_) => {
+                print_end_refused(writer).map_err(|_| PlayFault::WriteFault)?;
+                Ok(())
+            }
+        }
+    }
+
+    // Answers the last line, which no byte ended, settles the devices, and hands on what was printed.
+    fn finish<W: Write>(&mut self, writer: &mut W) -> Result<(), PlayFault>
+        requires fit { IsWorld state self.old.world }
+        ensures { OnOk result ((out : List ℕ)
+            × Appends (W.contents writer.old) (W.contents writer.new) out
+            × Ends (session state self.old) out) }
     {
         self.answer(writer)?;
+        self.settle(writer)?;
         hand_on(writer)?;
         Ok(())
     }
@@ -129,10 +184,12 @@ impl Session {
     ) -> Result<bool, PlayFault>
         requires room { 0 < length buffer.old }
         requires fits { self.old.number + length buffer.old < 2 ^ 64 }
+        requires fit { IsWorld state self.old.world }
+        ensures fit { OnOk result (IsWorld state self.new.world) }
         ensures goes { OnOk result ((bytes out : List ℕ)
             × Consumes (R.remaining reader.old) (R.remaining reader.new) bytes
             × Appends (W.contents writer.old) (W.contents writer.new) out
-            × Goes self.old bytes out self.new) }
+            × Goes (session state self.old) bytes out (session state self.new)) }
         ensures end { IfOk result (λ more. more ≡ false → IsAtEnd (R.remaining reader.new)) }
         ensures number { OnOk result (self.new.number ≤ self.old.number + length buffer.old) }
     {
@@ -169,7 +226,9 @@ const READS: u64 = 1 << 40;
 
 const BUFFER: usize = 65536;
 
-/// Reads a schedule to its end, and answers it line by line in a new world of this setup.
+/// Reads a schedule to its end, and answers it line by line in a new world of this setup, whose replicas have these devices, a
+/// list for each. Then the devices get what waits for them ([`World::finish`]); where that is refused, the last line is
+/// `end refused 12 Fault`. The devices are dropped before it returns.
 ///
 /// It reads pieces of at most 65,536 bytes and keeps at most one line, so a schedule of any length, or of one line of
 /// any length, takes no more memory than its world. Each line is answered before the bytes after it are looked at. The
@@ -177,7 +236,7 @@ const BUFFER: usize = 65536;
 /// answer before the next line is sent. A read that is interrupted is made again.
 ///
 /// - Where it answers `Ok`, the reader was read to its end, and what was written is one of the outputs that the schedule
-///   may print from the opening state, and nothing else.
+///   may print from the opening state, and nothing else: over devices that never fail, the answers of its lines alone.
 /// - Bad lines and refused events are printed, and are no fault.
 /// - [`PlayFault`] says when each fault comes.
 pub fn play<R: Read, W: Write>(
@@ -185,16 +244,16 @@ pub fn play<R: Read, W: Write>(
     reader: &mut R,
     writer: &mut W,
     setup: Setup,
+    devices: Vec<Vec<Box<dyn PageDevice + Send>>>,
 ) -> Result<(), PlayFault>
+    requires few { AreFew (listed state devices.items) }
     ensures end { OnOk result (IsAtEnd (R.remaining reader.new)) }
     ensures printed { OnOk result (IfSome (R.remaining reader.old) (λ text. (out : List ℕ)
         × Appends (W.contents writer.old) (W.contents writer.new) out
-        × Printed (opening setup.replicas setup.workers setup.buffer) text out)) }
+        × Played (opening setup (listed state devices.items)) text out)) }
 {
+    let mut session = Session::new(alloc, setup, devices)?;
     let Ok(mut buffer) = vec![in alloc; 0u8; BUFFER] else {
-        return Err(PlayFault::Memory);
-    };
-    let Ok(mut session) = Session::new(alloc, setup) else {
         return Err(PlayFault::Memory);
     };
     for _ in 0..READS {
@@ -207,4 +266,4 @@ pub fn play<R: Read, W: Write>(
 }
 
 #[cfg(test)]
-mod tests;
+pub(crate) mod tests;

@@ -1,10 +1,14 @@
 //! What is printed for the answers of a world. Nothing here takes memory.
-ghost use Rattle.warm_schedule.specs.Answers.{Prints, page_text, stamp_text, hist_text, entry_text, shown_text, pages_text, answer_text, bad_line};
+ghost use Rattle.std.specs.Prelude.{◌≡◌, ◌<◌, codes, flat_map};
+ghost use Rattle.warm_schedule.specs.Answers.{Prints, page_text, stamp_text, hist_text, entry_text, shown_text, pages_text};
+ghost use Rattle.warm_schedule.specs.Answers.{slot_text, hex_text, byte_text, bytes_text, page_if_any, refused_text};
+ghost use Rattle.warm_schedule.specs.Answers.{answer_text, bad_line, end_refused};
 
 use std::io::{self, Write};
 use warm_history::{Entry, History, PageHist};
+use warm_pool::Slot;
 use warm_stamps::{PageId, Stamp};
-use warm_world::Answer;
+use warm_world::{Answer, WorldFault};
 
 // DEVICE:NUMBER
 fn print_page<W: Write>(writer: &mut W, page: PageId) -> io::Result<()>
@@ -73,6 +77,66 @@ fn print_pages<W: Write>(writer: &mut W, pages: &[PageId]) -> io::Result<()>
     Ok(())
 }
 
+// FRAME.GENERATION
+fn print_slot<W: Write>(writer: &mut W, slot: Slot) -> io::Result<()>
+    ensures { Prints result (W.contents writer.old) (W.contents writer.new) (slot_text slot) }
+{
+    let Slot { index, generation } = slot;
+    write!(writer, "{index}.{generation}")
+}
+
+// The hexadecimal digit of a number below 16.
+fn hex_digit(digit: u8) -> u8
+    requires { digit < 16 }
+    ensures { result ≡ hex_text digit }
+{
+    if digit < 10 {
+        return b'0' + digit;
+    }
+    b'a' - 10 + digit
+}
+
+fn print_byte<W: Write>(writer: &mut W, byte: u8) -> io::Result<()>
+    ensures { Prints result (W.contents writer.old) (W.contents writer.new) (byte_text byte) }
+{
+    writer.write_all(&[hex_digit(byte / 16), hex_digit(byte % 16)])
+}
+
+// Bytes after a space, or nothing where there is none.
+fn print_bytes<W: Write>(writer: &mut W, bytes: &[u8]) -> io::Result<()>
+    ensures { Prints result (W.contents writer.old) (W.contents writer.new) (bytes_text bytes.now) }
+{
+    if bytes.is_empty() {
+        return Ok(());
+    }
+    writer.write_all(b" ")?;
+    for byte in bytes {
+        print_byte(writer, *byte)?;
+    }
+    Ok(())
+}
+
+// A page after a word, or `none`.
+fn print_page_if_any<W: Write>(writer: &mut W, word: &str, page: Option<PageId>) -> io::Result<()>
+    ensures { Prints result (W.contents writer.old) (W.contents writer.new)
+        (page_if_any word.now page) }
+{
+    let Some(page) = page else {
+        return writer.write_all(b"none\n");
+    };
+    writer.write_all(word.as_bytes())?;
+    print_page(writer, page)?;
+    writer.write_all(b"\n")
+}
+
+pub(crate) fn print_refusal<W: Write>(writer: &mut W, fault: WorldFault) -> io::Result<()>
+    ensures { Prints result (W.contents writer.old) (W.contents writer.new) (refused_text fault) }
+{
+    let code = fault.code();
+    let name = fault.name();
+    writeln!(writer, "refused {code} {name}")
+}
+
 /// Prints the text of one answer, whole lines. After an error nothing is said of how much of it was written.
 pub fn print_answer<W: Write>(writer: &mut W, answer: &Answer) -> io::Result<()>
     ensures { Prints result (W.contents writer.old) (W.contents writer.new)
@@ -88,16 +152,24 @@ pub fn print_answer<W: Write>(writer: &mut W, answer: &Answer) -> io::Result<()>
             }
             writeln!(writer, "took {count} from {first}")
         }
+        Answer::Pinned(slot) => {
+            writer.write_all(b"slot ")?;
+            print_slot(writer, *slot)?;
+            writer.write_all(b"\n")
+        }
+        Answer::Bytes(bytes) => {
+            writer.write_all(b"bytes")?;
+            print_bytes(writer, bytes.as_slice())?;
+            writer.write_all(b"\n")
+        }
+        Answer::Page(page) => print_page_if_any(writer, "page ", *page),
         Answer::Pages(pages) => {
             writer.write_all(b"pages")?;
             print_pages(writer, pages.as_slice())?;
             writer.write_all(b"\n")
         }
-        Answer::Refused(fault) => {
-            let code = fault.code();
-            let name = fault.name();
-            writeln!(writer, "refused {code} {name}")
-        }
+        Answer::Loaded(page) => print_page_if_any(writer, "loaded ", *page),
+        Answer::Refused(fault) => print_refusal(writer, *fault),
     }
 }
 
@@ -106,4 +178,12 @@ pub fn print_bad_line<W: Write>(writer: &mut W, number: u64) -> io::Result<()>
     ensures { Prints result (W.contents writer.old) (W.contents writer.new) (bad_line number) }
 {
     writeln!(writer, "bad line {number}")
+}
+
+/// Prints the last line of a play whose devices did not take what waited for them. After an error nothing is said of how much
+/// of it was written.
+pub fn print_end_refused<W: Write>(writer: &mut W) -> io::Result<()>
+    ensures { Prints result (W.contents writer.old) (W.contents writer.new) end_refused }
+{
+    writer.write_all(b"end refused 12 Fault\n")
 }

@@ -13,7 +13,7 @@ use std::marker::Model;
 use warm_play_fault::PlayFault;
 
 /// Why a run of the program came to no end. They are found in this order: the command line, the setup file, its text,
-/// the schedule's file, the play.
+/// the schedule's file, the devices (by replica, then by device), the play.
 #[derive(Debug, Drop)]
 pub enum RunFault {
     /// The words gave no command.
@@ -112,7 +112,7 @@ fn command_line<'a>(fault: &'a CmdFault) -> ErrorLine<'a>
 /// | the schedule was played, bad lines and refused events included | 0 | nothing |
 /// | help was asked for | 0 | nothing: clap's text goes to standard output |
 /// | the command line was refused | 2 | clap's text, and no line |
-/// | a file could not be opened | 1 | `warmplay: cannot open NAME` |
+/// | a file could not be opened, a device's among them | 1 | `warmplay: cannot open NAME` |
 /// | the setup was refused | 2 | `warmplay: setup: ` and the fault's name |
 /// | the play stopped, or there was no room for the command line | 1 | `warmplay: ` and the fault's name |
 pub fn outcome_of<'a>(ended: &'a Result<(), RunFault>) -> Outcome<'a>

@@ -6,7 +6,9 @@ use Rattle.warm_history.specs.declared.hist.PageHist.TheVariants.{Once, Twice}
 use Rattle.warm_history.specs.ReferenceSets.{these}
 use Rattle.warm_history.specs.Histories.{holding, history}
 use Rattle.warm_history.specs.Carried.{carried}
-use Rattle.warm_world.specs.States.{ReplicaState, referred, flushed, received, restarted}
+use Rattle.warm_world.specs.States.{ReplicaState, no_pool, referred, flushed, received, restarted}
+use Rattle.warm_world.specs.States.{References, Mask}
+use Rattle.warm_world.specs.Answered.{bucket_records, heard}
 use Rattle.warm_world.specs.Next.{stamped}
 
 -- the page 0:1, referenced at a time at a replica
@@ -19,7 +21,7 @@ known last prev = record { page = record { dev = 0; no = 1 }; hist = Twice (reco
 
 -- a replica of one worker
 abbrev told : List Reference → List Reference → ReplicaState
-told reach waiting = record { reach = these reach; pending = waiting ∷ [] }
+told reach waiting = record { reach = these reach; pending = waiting ∷ []; pool = no_pool }
 
 -- a buffer of two takes the second reference, and is moved before it takes the third
 second_waits : referred 2 0 (at 20 1) (told [] (at 10 1 ∷ [])) ≡ told [] (at 10 1 ∷ at 20 1 ∷ [])
@@ -33,7 +35,7 @@ flush_moves : flushed 0 (told (at 10 1 ∷ []) (at 20 1 ∷ [])) ≡ told (at 10
 flush_moves = refl
 
 -- a restart forgets what reached the replica and what waits
-restart_forgets : restarted (told (at 10 1 ∷ []) (at 20 1 ∷ [])) ≡ told [] []
+restart_forgets : restarted no_pool (told (at 10 1 ∷ []) (at 20 1 ∷ [])) ≡ told [] []
 restart_forgets = refl
 
 -- a frame of bucket 1 brings all references to the page 0:1, not only the two that its entry shows
@@ -50,6 +52,23 @@ unfolding history
 second_hears = refl
 
 -- after a restart a replica hears again what it had sent
-hears_again : history (received (these (at 10 1 ∷ [])) (restarted (told (at 10 1 ∷ []) (at 20 1 ∷ [])))).reach ≡ holding ((let e : Entry = record { page = record { dev = 0; no = 1 }; hist = Once (at 10 1).stamp } in e) ∷ [])
+hears_again : history (received (these (at 10 1 ∷ [])) (restarted no_pool (told (at 10 1 ∷ []) (at 20 1 ∷ [])))).reach ≡ holding ((let e : Entry = record { page = record { dev = 0; no = 1 }; hist = Once (at 10 1).stamp } in e) ∷ [])
 unfolding history
 hears_again = refl
+
+-- what a replica sends of bucket 1, answering a wish: one frame, which brings both references to the page 0:1
+bucket_in_one_frame : bucket_records 2 (these (at 10 1 ∷ at 20 1 ∷ [])) 1 ≡ References 2 (these (at 10 1 ∷ at 20 1 ∷ [])) ∷ []
+unfolding history
+bucket_in_one_frame = refl
+
+-- of an empty bucket nothing is sent
+empty_bucket_in_none : bucket_records 2 (these (at 10 1 ∷ [])) 3 ≡ []
+unfolding history
+empty_bucket_in_none = refl
+
+-- a wish teaches nothing, and references are taken in
+wish_teaches_nothing : heard (these (at 10 1 ∷ [])) (Mask 2 6) ≡ these (at 10 1 ∷ [])
+wish_teaches_nothing = refl
+
+references_are_heard : heard (these (at 10 1 ∷ [])) (References 2 (these (at 20 2 ∷ []))) ≡ these (at 10 1 ∷ at 20 2 ∷ [])
+references_are_heard = refl

@@ -1,13 +1,24 @@
 -- What the buffers of a replica hold.
-use Rattle.std.proofs.Common.{◌≡◌, ℕ, ◌<◌, ◌≤◌, List, [], ◌∷◌, length, get_or, replicate, zero, suc, refl, sym, ◌∙◌, ap, map, arith}
+use Rattle.std.proofs.Common.{◌≡◌, ℕ, ◌+◌, ◌<◌, ◌≤◌, List, [], ◌∷◌, length, get_or, replicate, zero, suc, refl, sym, ◌∙◌, ap, map, arith}
 use Rattle.std.proofs.Math.ListN.{set}
 use Rattle.std.proofs.lemmas.List.{get_or-map, map-set, length-map}
 use Rattle.warm_stamps.specs.declared.Reference.{Reference}
 use Rattle.warm_refbuffer.specs.Buffered.{Buffered}
 use Rattle.std.proofs.lemmas.List.{get_or-set_same}
 use Rattle.std.proofs.lemmas.Bool.Decides.{nat_tests}
-use Rattle.warm_world.specs.States.{ReplicaState, pending, flushed, put_last, referred}
-use Rattle.warm_world.specs.Stands.{buffered}
+use Rattle.warm_world.specs.States.{ReplicaState, pending, flushed, opened_over, put_last, referred, restarted}
+use Rattle.warm_history.specs.ReferenceSets.{these, ◌∪◌}
+use Rattle.warm_history.specs.Histories.{HistoryView, history, holding, refs}
+use Rattle.warm_history.proofs.JoinLemmas.{history_first}
+use Rattle.warm_devices.specs.Device.{DeviceState}
+use Rattle.warm_pool.specs.State.{PoolState}
+use Rattle.warm_pool.specs.State as pools
+use Rattle.warm_pool.specs.View.{PoolView, view_of}
+use Rattle.warm_gossip.specs.State.{NodeState, NodeView, node_view, opened}
+use Rattle.warm_world.specs.Sizes.{Sizes}
+use Rattle.warm_world.specs.Seen.{ReplicaSeen}
+use Rattle.warm_world.specs.Replicas.{cleared}
+use Rattle.warm_world.specs.Stands.{ReplicaStands, buffered}
 
 pub buffer_at : (room : ℕ) (bs : List Buffered) (ps : List (List Reference)) (w : ℕ) (d : Buffered) → bs ≡ map (buffered room) ps → w < length bs → get_or bs w d ≡ buffered room (get_or ps w [])
 buffer_at room bs ps w d is lt =
@@ -18,7 +29,7 @@ pub buffer_set : (room : ℕ) (bs : List Buffered) (ps : List (List Reference)) 
 buffer_set room bs ps w b p is here = rw (is, here) (sym (map-set (buffered room) ps w p))
 
 -- each buffer is emptied
-pub buffers_emptied : (room : ℕ) (ps : List (List Reference)) → map (λ (b : Buffered). let e : Buffered = record { refs = []; cap = b.cap } in e) (map (buffered room) ps) ≡ map (buffered room) (map (λ _. []) ps)
+pub buffers_emptied : (room : ℕ) (ps : List (List Reference)) → map cleared (map (buffered room) ps) ≡ map (buffered room) (map (λ _. []) ps)
 buffers_emptied room [] = refl
 buffers_emptied room (p ∷ ps) = ap (λ bs. buffered room [] ∷ bs) (buffers_emptied room ps)
 
@@ -42,3 +53,47 @@ flushed_is_empty room k bs m is lt =
 pub empty_buffers_are : (room n : ℕ) → map (buffered room) (replicate n []) ≡ replicate n (buffered room [])
 empty_buffers_are room zero = refl
 empty_buffers_are room (suc n) = ap (λ bs. buffered room [] ∷ bs) (empty_buffers_are room n)
+
+-- ---- a replica as it is seen
+
+-- what waits in a buffer reaches the replica
+pub flushes : (room place k : ℕ) (old new : ReplicaSeen) (m : ReplicaState) (batch : List Reference) → ReplicaStands room place old m
+    → k < length old.buffers → batch ≡ get_or m.pending k [] → new.node ≡ record old.node { history = history (refs old.node.history ∪ these batch) }
+    → new.buffers ≡ set old.buffers k (buffered room []) → ReplicaStands room place new (flushed k m)
+flushes room place k old new m batch st lt is told emptied = record {
+  has_room = st.has_room;
+  node_is = told
+      ∙ ap (λ (n : NodeView). let v : NodeView = record n { history = history (refs n.history ∪ these batch) } in v) st.node_is
+      ∙ ap (λ (h : HistoryView). let v : NodeView = record { id = place + 1; history = h; pool = m.pool } in v) (history_first m.reach batch ∙ ap (λ b. history (m.reach ∪ these b)) is);
+  buffers_are = emptied ∙ buffer_set room old.buffers m.pending k (buffered room []) [] st.buffers_are refl;
+}
+
+history_of_nothing : history (these []) ≡ holding []
+unfolding history
+history_of_nothing = refl
+
+-- a replica that was told nothing, over a pool that was made so
+pub opened_stands : (s : Sizes) (devices : List DeviceState) (place id room workers frames size : ℕ) (n : NodeState) (p : PoolState) (bs : List Buffered)
+    → 1 ≤ room → room ≡ s.buffer → workers ≡ s.workers → frames ≡ s.frames → size ≡ s.page_size → id ≡ place + 1 → n ≡ opened id p → p ≡ pools.opened frames size devices
+    → bs ≡ replicate workers (buffered room []) → ReplicaStands s.buffer place (record { node = node_view n; buffers = bs }) (opened_over s devices)
+opened_stands s devices place id room workers frames size n p bs some of_room of_workers of_frames of_size number node made empty = record {
+  has_room = omega (arith, some, of_room);
+  node_is = ap node_view node
+      ∙ ap (λ (q : PoolState). let v : NodeView = record { id = id; history = holding []; pool = view_of q } in v)
+      (made ∙ ap (λ k. pools.opened k size devices) of_frames ∙ ap (λ k. pools.opened s.frames k devices) of_size)
+      ∙ ap (λ (i : ℕ). let v : NodeView = record { id = i; history = holding []; pool = view_of (pools.opened s.frames s.page_size devices) } in v) number
+      ∙ ap (λ (h : HistoryView). let v : NodeView = record { id = place + 1; history = h; pool = view_of (pools.opened s.frames s.page_size devices) } in v) (sym history_of_nothing);
+  buffers_are = empty ∙ ap (λ k. replicate workers (buffered k [])) of_room ∙ ap (λ k. replicate k (buffered s.buffer [])) of_workers ∙ sym (empty_buffers_are s.buffer s.workers);
+}
+
+-- a replica whose node has restarted
+pub restarts : (room place : ℕ) (old new : ReplicaSeen) (m : ReplicaState) (pool : PoolView) → ReplicaStands room place old m
+    → (let r : ReplicaSeen = record { node = record old.node { history = holding []; pool = pool }; buffers = map cleared old.buffers } in new ≡ r)
+    → ReplicaStands room place new (restarted pool m)
+restarts room place old new m pool st becomes = record {
+  has_room = st.has_room;
+  node_is = ap (λ (r : ReplicaSeen). r.node) becomes
+      ∙ ap (λ (n : NodeView). let v : NodeView = record n { history = holding []; pool = pool } in v) st.node_is
+      ∙ ap (λ (h : HistoryView). let v : NodeView = record { id = place + 1; history = h; pool = pool } in v) (sym history_of_nothing);
+  buffers_are = ap (λ (r : ReplicaSeen). r.buffers) becomes ∙ ap (map cleared) st.buffers_are ∙ buffers_emptied room m.pending;
+}

@@ -1,11 +1,12 @@
 -- A run goes on by one event.
 use Rattle.std.proofs.Common.{List, [], ◌∷◌, ◌++◌, refl, subst}
-use Rattle.warm_world.specs.declared.world.World.{World}
+use Rattle.warm_world.specs.Seen.{WorldSeen}
 use Rattle.warm_world.specs.declared.event.Event.{Event}
 use Rattle.warm_world.specs.declared.event.Answer.{Answer}
 use Rattle.warm_world.specs.States.{ModelState}
 use Rattle.warm_world.specs.Next.{Next, Run}
-use Rattle.warm_world.specs.Stands.{StandsFor, Stepped, Ran}
+use Rattle.warm_world.specs.Stands.{EachVictim, StandsFor, Stepped, Ran}
+use Rattle.warm_world.proofs.Victims.{victims_are_farthest}
 use Rattle.warm_world.proofs.Agreement.{histories_are_exact, replicas_agree}
 
 -- a run, and one event more
@@ -17,7 +18,15 @@ Run-more old [] (a ∷ answers) mid event answer new never next = absurd never
 Run-more old (e ∷ events) [] mid event answer new never next = absurd never
 Run-more old (e ∷ events) (a ∷ answers) mid event answer new run next = (run.0, run.1, Run-more run.0 events answers mid event answer new run.2 next)
 
-pub ran_more : (old : ModelState) (events : List Event) (answers : List Answer) (w w' : World) (event : Event) (answer : Answer) → Ran old events answers w → ((m : ModelState) → StandsFor w m → Stepped m event answer w') → Ran old (events ++ event ∷ []) (answers ++ answer ∷ []) w'
+-- each victim so far is right, and so are those of the event more
+victims_more : (old : ModelState) (events : List Event) (answers : List Answer) (mid : ModelState) (event : Event) (answer : Answer) (new : ModelState) (run : Run old events answers mid) (next : Next mid event answer new) → EachVictim old events answers mid run → EachVictim (old) (events ++ event ∷ []) (answers ++ answer ∷ []) new (Run-more old events answers mid event answer new run next)
+unfolding Run-more
+victims_more old [] [] mid event answer new is next so_far = (victims_are_farthest old event answer new (subst (λ m. Next m event answer new) is next), tt)
+victims_more old [] (a ∷ answers) mid event answer new never next so_far = absurd never
+victims_more old (e ∷ events) [] mid event answer new never next so_far = absurd never
+victims_more old (e ∷ events) (a ∷ answers) mid event answer new run next so_far = (so_far.0, victims_more run.0 events answers mid event answer new run.2 next so_far.1)
+
+pub ran_more : (old : ModelState) (events : List Event) (answers : List Answer) (w w' : WorldSeen) (event : Event) (answer : Answer) → Ran old events answers w → ((m : ModelState) → StandsFor w m → Stepped m event answer w') → Ran old (events ++ event ∷ []) (answers ++ answer ∷ []) w'
 ran_more old events answers w w' event answer ran steps =
     let stepped = steps ran.new ran.stands in
     record {
@@ -26,8 +35,9 @@ ran_more old events answers w w' event answer ran steps =
       stands = stepped.stands;
       exact = histories_are_exact w' stepped.new stepped.stands;
       agree = replicas_agree w' stepped.new stepped.stands;
+      victims = victims_more old events answers ran.new event answer stepped.new ran.run stepped.next ran.victims;
     }
 
 -- before the first event
-pub ran_none : (m : ModelState) (w : World) → StandsFor w m → Ran m [] [] w
-ran_none m w st = record { new = m; run = refl; stands = st; exact = histories_are_exact w m st; agree = replicas_agree w m st }
+pub ran_none : (m : ModelState) (w : WorldSeen) → StandsFor w m → Ran m [] [] w
+ran_none m w st = record { new = m; run = refl; stands = st; exact = histories_are_exact w m st; agree = replicas_agree w m st; victims = tt }

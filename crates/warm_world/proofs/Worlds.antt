@@ -1,89 +1,174 @@
--- One replica of a world changes, or a frame is added.
-use Rattle.std.proofs.Common.{◌≡◌, ℕ, ◌<◌, List, [], ◌∷◌, ◌++◌, length, map, get_or, refl, sym, ◌∙◌, ap, subst, arith}
+-- One replica of a world changes, or nothing does.
+use Rattle.std.proofs.Common.{◌≡◌, ℕ, ◌+◌, ◌-◌, ◌<◌, List, [], ◌∷◌, ◌++◌, length, map, get_or, refl, sym, ◌∙◌, ap, subst, arith}
 use Rattle.std.proofs.Math.ListN.{set}
-use Rattle.std.proofs.lemmas.List.{set-get_or, length-map}
-use Rattle.std.specs.Vec.{with_item}
-use Rattle.std.specs.declared.vec.Vec.{Vec}
-use Rattle.std.specs.declared.alloc.Global.{Global}
-use Rattle.warm_history.specs.declared.hist.Entry.{Entry}
-use Rattle.warm_history.specs.ReferenceSets.{ReferenceSet, these}
-use Rattle.warm_history.specs.Histories.{entries_of, history}
-use Rattle.warm_world.specs.declared.world.World.{World}
-use Rattle.warm_world.specs.declared.world.Replica.{Replica}
+use Rattle.std.proofs.lemmas.List.{get_or-map, set-get_or, length-map, length-set, map-set}
+use Rattle.warm_refbuffer.specs.Buffered.{Buffered}
+use Rattle.warm_pool.proofs.Slots.{at_set}
+use Rattle.warm_pool.specs.View.{PoolView}
+use Rattle.warm_history.specs.Histories.{history}
+use Rattle.warm_gossip.specs.declared.call.Call.{Call}
+use Rattle.warm_gossip.specs.declared.call.Reply.{Reply}
+use Rattle.warm_gossip.specs.declared.fault.NodeFault.{NodeFault}
+use Rattle.warm_gossip.specs.declared.fault.NodeFault.TheVariants.{Memory}
+use Rattle.warm_gossip.specs.State.{NodeState, NodeView, IsNode}
+use Rattle.warm_gossip.specs.Step.{Step}
 use Rattle.warm_world.specs.declared.event.Event.{Event}
 use Rattle.warm_world.specs.declared.event.Answer.{Answer}
 use Rattle.warm_world.specs.declared.event.Answer.TheVariants.{Refused}
 use Rattle.warm_world.specs.declared.event.WorldFault.{WorldFault}
-use Rattle.warm_world.specs.declared.event.WorldFault.TheVariants.{Memory, NoSuchReplica, NoSuchWorker, NoSuchFrame}
-use Rattle.warm_world.specs.Lists.{Pairwise, place}
-use Rattle.warm_world.specs.States.{ModelState, ReplicaState, FrameRecord, References, replica, set_replica, record_at, add_record, received, nobody}
-use Rattle.warm_world.specs.Next.{Shape, shape, replica_of, IsNamed, IsMissing, IsRefused, Next, Delivered}
-use Rattle.warm_world.specs.Stands.{StandsFor, ReplicaStands, SpellsRecord, AreSpelled, Stepped, seen_shape, buffered}
-use Rattle.warm_world.proofs.Pairs.{Pairwise-set, Pairwise-push, Pairwise-map}
+use Rattle.warm_world.specs.declared.event.WorldFault.TheVariants.{Node, NoSuchReplica, NoSuchWorker, NoSuchFrame}
+use Rattle.warm_world.specs.Lists.{IsNumber, Pairwise, place}
+use Rattle.warm_world.specs.Seen.{AreNodes, ReplicaSeen, WorldSeen}
+use Rattle.warm_world.specs.States.{ModelState, ReplicaState, FrameRecord, node_of, nobody, pool_of, replica, set_pool, set_replica}
+use Rattle.warm_world.specs.Next.{Asked, IsMissing, IsNamed, IsRefused, Next, Shape, replica_of, shape}
+use Rattle.warm_world.specs.Stands.{ReplicaStands, StandsFor, Stepped, buffered, seen_shape}
+use Rattle.warm_world.proofs.Alone.{IsAlone}
+use Rattle.warm_world.proofs.Pairs.{Pairwise-set, Pairwise-map}
 
--- the world with another replica at a place
-abbrev pub changed : World → ℕ → Replica → World
-changed w k x = record w { replicas = with_item w.replicas k x }
+-- ---- as many replicas, workers and frames
 
-pub replica_changes : (w : World) (m : ModelState) (k : ℕ) (x : Replica) (r : ReplicaState) → StandsFor w m → k < length w.replicas.items → ReplicaStands m.room k x r → StandsFor (changed w k x) (set_replica m k r)
-replica_changes w m k x r st lt here = record {
-  replicas = Pairwise-set (ReplicaStands m.room) w.replicas.items m.replicas k x r st.replicas lt here;
-  frames = st.frames;
-}
-
-pub replica_stays : (w : World) (m : ModelState) (k : ℕ) (x y : Replica) → StandsFor w m → x ≡ y → y ≡ get_or w.replicas.items k y → StandsFor (changed w k x) m
-replica_stays w m k x y st same is =
-    let P : List Replica → Type 0 = λ xs. Pairwise (ReplicaStands m.room) xs m.replicas in
-    let e : w.replicas.items ≡ set w.replicas.items k x =
-    sym (ap (λ z. set w.replicas.items k z) (same ∙ is) ∙ set-get_or w.replicas.items k y) in
-    record { replicas = subst P e st.replicas; frames = st.frames }
-
--- the replica at a place stands for that of the model
-pub stands_at : (w : World) (m : ModelState) (k : ℕ) (x : Replica) → StandsFor w m → k < length w.replicas.items → x ≡ get_or w.replicas.items k x → ReplicaStands m.room k x (replica m k)
-stands_at w m k x st lt is = rw is (st.replicas.each k x nobody lt)
-
--- the frame at a place spells the record there
-pub frame_at : (w : World) (m : ModelState) (k : ℕ) (f : Vec ℕ Global) → StandsFor w m → k < length w.frames.items → f ≡ get_or w.frames.items k f → SpellsRecord f.items (record_at m k)
-frame_at w m k f st lt is =
-    let P : Vec ℕ Global → Type 0 = λ g. SpellsRecord g.items (record_at m k) in
-    subst P (sym is) (st.frames.each k f (References 0 (these [])) lt)
-
--- a frame is sent
-pub frame_joins : (w : World) (m : ModelState) (frames : Vec (Vec ℕ Global) Global) (f : Vec ℕ Global) (kept : FrameRecord) → StandsFor w m → frames.items ≡ w.frames.items ++ f ∷ [] → SpellsRecord f.items kept → StandsFor (record w { frames = frames }) (add_record m kept)
-frame_joins w m frames f kept st is spells =
-    let R : ℕ → Vec ℕ Global → FrameRecord → Type 0 = λ _ bytes r. SpellsRecord bytes.items r in
-    let P : List (Vec ℕ Global) → Type 0 = λ fs. Pairwise R fs (m.records ++ kept ∷ []) in
-    record { replicas = st.replicas; frames = subst P (sym is) (Pairwise-push R w.frames.items m.records f kept st.frames spells) }
-
--- as many replicas, workers and frames
-pub same_shape : (w : World) (m : ModelState) → StandsFor w m → seen_shape w ≡ shape m
+pub same_shape : (w : WorldSeen) (m : ModelState) → StandsFor w m → seen_shape w ≡ shape m
 same_shape w m st =
-    let workers : map (λ (r : Replica). length r.buffers.items) w.replicas.items ≡ map (λ (r : ReplicaState). length r.pending) m.replicas =
-    Pairwise-map (ReplicaStands m.room) (λ r. length r.buffers.items) (λ r. length r.pending) w.replicas.items m.replicas (λ i a b here. ap length here.buffers_are ∙ length-map b.pending (buffered m.room)) st.replicas in
-    let frames : length w.frames.items ≡ length m.records = st.frames.same_length in
+    let workers : map (λ (r : ReplicaSeen). length r.buffers) w.replicas ≡ map (λ (r : ReplicaState). length r.pending) m.replicas =
+    Pairwise-map (ReplicaStands m.room) (λ r. length r.buffers) (λ r. length r.pending) w.replicas m.replicas (λ i a b here. ap length here.buffers_are ∙ length-map b.pending (buffered m.room)) st.replicas in
+    let frames : length w.frames ≡ length m.records = st.frames.same_length in
     cc
 
-pub named_too : (w : World) (m : ModelState) (event : Event) → StandsFor w m → IsNamed (seen_shape w) event → IsNamed (shape m) event
+pub named_too : (w : WorldSeen) (m : ModelState) (event : Event) → StandsFor w m → IsNamed (seen_shape w) event → IsNamed (shape m) event
 named_too w m event st named = let P : Shape → Type 0 = λ s. IsNamed s event in subst P (same_shape w m st) named
 
-pub missing_too : (w : World) (m : ModelState) (event : Event) (fault : WorldFault) → StandsFor w m → IsMissing (seen_shape w) event fault → IsRefused m event fault
-missing_too w m event Memory st missing = absurd missing
-missing_too w m event NoSuchReplica st missing = let P : Shape → Type 0 = λ s. IsMissing s event NoSuchReplica in subst P (same_shape w m st) missing
-missing_too w m event NoSuchWorker st missing = let P : Shape → Type 0 = λ s. IsMissing s event NoSuchWorker in subst P (same_shape w m st) missing
-missing_too w m event NoSuchFrame st missing = let P : Shape → Type 0 = λ s. IsMissing s event NoSuchFrame in subst P (same_shape w m st) missing
+-- what is named is not there: the event is refused, and nothing changes
+pub missing_too : (w : WorldSeen) (m : ModelState) (event : Event) (fault : WorldFault) → StandsFor w m → IsMissing (seen_shape w) event fault → Stepped m event (Refused fault) w
+missing_too w m event (Node why) st missing = absurd missing
+missing_too w m event NoSuchReplica st missing = let P : Shape → Type 0 = λ s. IsMissing s event NoSuchReplica in record { new = m; next = (subst P (same_shape w m st) missing, refl); stands = st }
+missing_too w m event NoSuchWorker st missing = let P : Shape → Type 0 = λ s. IsMissing s event NoSuchWorker in record { new = m; next = (subst P (same_shape w m st) missing, refl); stands = st }
+missing_too w m event NoSuchFrame st missing = let P : Shape → Type 0 = λ s. IsMissing s event NoSuchFrame in record { new = m; next = (subst P (same_shape w m st) missing, refl); stands = st }
 
--- the replica that an event names has a place
-pub place_in : (w : World) (event : Event) → IsNamed (seen_shape w) event → place (replica_of event) < length w.replicas.items
-place_in w event named = omega (arith, named.replica_there.from_one, named.replica_there.in_range, length-map w.replicas.items (λ (r : Replica). length r.buffers.items))
+-- memory is wanting, and nothing changes
+pub no_memory_still : (w : WorldSeen) (m : ModelState) (event : Event) (why : NodeFault) → StandsFor w m → why ≡ Memory → Next m event (Refused (Node Memory)) m → Stepped m event (Refused (Node why)) w
+no_memory_still w m event why st is next = record { new = m; next = subst (λ f. Next m event (Refused (Node f)) m) (sym is) next; stands = st }
 
--- an event that is refused
-pub refuses : (w w' : World) (m : ModelState) (event : Event) (fault : WorldFault) → IsRefused m event fault → StandsFor w' m → Stepped m event (Refused fault) w'
-refuses w w' m event fault refused st = record { new = m; next = (refused, refl); stands = st }
+-- ---- each node of a world is fit
 
--- an event that changes one replica
-pub changes : (w : World) (m : ModelState) (event : Event) (answer : Answer) (k : ℕ) (x : Replica) (r : ReplicaState) → StandsFor w m → k < length w.replicas.items → ReplicaStands m.room k x r → Next m event answer (set_replica m k r) → Stepped m event answer (changed w k x)
-changes w m event answer k x r st lt here next = record { new = set_replica m k r; next = next; stands = replica_changes w m k x r st lt here }
+module _ {A : Type 0} (g : A → NodeState) (xs : List A) (k : ℕ) where
+  pub node_at : (x : A) → AreNodes (map g xs) → k < length xs → x ≡ get_or xs k x → IsNode (g x)
+  node_at x fit lt is =
+      let at : get_or (map g xs) k (g x) ≡ g x = get_or-map g xs k x (g x) lt ∙ ap g (sym is) in
+      subst IsNode at (fit.each k (g x) (subst (λ n. k < n) (sym (length-map xs g)) lt))
 
--- a frame that spells references comes, and its entries were found
-pub delivered : (m : ModelState) (j : ℕ) (bytes : List ℕ) (found : List Entry) (kept : FrameRecord) (x : Replica) → SpellsRecord bytes kept → AreSpelled bytes found → ((refs : ReferenceSet) → found ≡ entries_of (history refs) → ReplicaStands m.room (place j) x (received refs (replica m (place j)))) → (r : ReplicaState) × ReplicaStands m.room (place j) x r × Delivered m j kept 0 0 (set_replica m (place j) r)
-delivered m j bytes found (References sender refs) x spells finds there = (received refs (replica m (place j)), there refs (finds sender (entries_of (history refs)) spells.spells), (refl, refl, refl))
+  pub still_nodes : (y : A) → k < length xs → AreNodes (map g xs) → IsNode (g y) → AreNodes (map g (set xs k y))
+  still_nodes y lt fit node = subst AreNodes (sym (map-set g xs k y)) (record {
+    each = λ j other low. at_set other (λ i n. i < length (map g xs) → IsNode n) (map g xs) k (g y) (subst (λ n. k < n) (sym (length-map xs g)) lt) (λ _. node) (λ i ne. fit.each i other) j (subst (λ n. j < n) (length-set (map g xs) k (g y)) low);
+  })
+
+-- ---- what the replicas of a world show, with that of one of them changed
+
+module _ {A : Type 0} (f : A → ReplicaSeen) (xs : List A) (frames : List (List ℕ)) where
+  -- the world of these replicas
+  abbrev pub world : List A → WorldSeen
+  world ys = record { replicas = map f ys; frames = frames }
+
+  -- the replica that an event names has a place
+  pub place_in : (event : Event) → IsNamed (seen_shape (world xs)) event → place (replica_of event) < length xs
+  place_in event named = omega (arith, named.replica_there.from_one, named.replica_there.in_range, length-map xs f, length-map (map f xs) (λ (r : ReplicaSeen). length r.buffers))
+
+  -- the worker that an event names has a buffer
+  pub worker_in : (i w : ℕ) (x : A) → place i < length xs → x ≡ get_or xs (place i) x → IsNumber w (get_or (map (λ (r : ReplicaSeen). length r.buffers) (map f xs)) (place i) 0) → place w < length (f x).buffers
+  worker_in i w x lt is number =
+      let at : get_or (map (λ (r : ReplicaSeen). length r.buffers) (map f xs)) (place i) 0 ≡ length (f x).buffers =
+      get_or-map (λ (r : ReplicaSeen). length r.buffers) (map f xs) (place i) (f x) 0 (subst (λ n. place i < n) (sym (length-map xs f)) lt)
+      ∙ ap (λ (r : ReplicaSeen). length r.buffers) (get_or-map f xs (place i) x (f x) lt ∙ ap f (sym is)) in
+      omega (arith, number.from_one, number.in_range, at)
+
+  -- as many workers as its buffers are
+  pub workers_at : (i : ℕ) (x : A) → IsNumber i (length (map (λ (r : ReplicaSeen). length r.buffers) (map f xs))) → x ≡ get_or xs (place i) x → length (f x).buffers ≡ get_or (map (λ (r : ReplicaSeen). length r.buffers) (map f xs)) (place i) 0
+  workers_at i x number is =
+      let lt : place i < length xs = omega (arith, number.from_one, number.in_range, length-map xs f, length-map (map f xs) (λ (r : ReplicaSeen). length r.buffers)) in
+      sym (get_or-map (λ (r : ReplicaSeen). length r.buffers) (map f xs) (place i) (f x) 0 (subst (λ n. place i < n) (sym (length-map xs f)) lt)
+      ∙ ap (λ (r : ReplicaSeen). length r.buffers) (get_or-map f xs (place i) x (f x) lt ∙ ap f (sym is)))
+
+  -- the replica at a place stands for that of the model
+  pub stands_at : (m : ModelState) (k : ℕ) (x : A) → StandsFor (world xs) m → k < length xs → x ≡ get_or xs k x → ReplicaStands m.room k (f x) (replica m k)
+  stands_at m k x st lt is =
+      let at : get_or (map f xs) k (f x) ≡ f x = get_or-map f xs k x (f x) lt ∙ ap f (sym is) in
+      subst (λ r. ReplicaStands m.room k r (replica m k)) at (st.replicas.each k (f x) nobody (subst (λ n. k < n) (sym (length-map xs f)) lt))
+
+  pub replica_changes : (m : ModelState) (k : ℕ) (y : A) (r : ReplicaState) → StandsFor (world xs) m → k < length xs → ReplicaStands m.room k (f y) r → StandsFor (world (set xs k y)) (set_replica m k r)
+  replica_changes m k y r st lt here = record {
+    replicas = subst (λ rs. Pairwise (ReplicaStands m.room) rs (set m.replicas k r)) (sym (map-set f xs k y))
+        (Pairwise-set (ReplicaStands m.room) (map f xs) m.replicas k (f y) r st.replicas (subst (λ n. k < n) (sym (length-map xs f)) lt) here);
+    frames = st.frames;
+  }
+
+  -- a replica that shows what it showed
+  pub replica_stays : (m : ModelState) (k : ℕ) (x y : A) → StandsFor (world xs) m → k < length xs → x ≡ get_or xs k x → f y ≡ f x → StandsFor (world (set xs k y)) m
+  replica_stays m k x y st lt is same =
+      let at : get_or (map f xs) k (f x) ≡ f x = get_or-map f xs k x (f x) lt ∙ ap f (sym is) in
+      let e : map f (set xs k y) ≡ map f xs = map-set f xs k y ∙ ap (set (map f xs) k) (same ∙ sym at) ∙ set-get_or (map f xs) k (f x) in
+      record { replicas = subst (λ rs. Pairwise (ReplicaStands m.room) rs m.replicas) (sym e) st.replicas; frames = st.frames }
+
+  -- an event that changes one replica
+  pub changes : (m : ModelState) (event : Event) (answer : Answer) (k : ℕ) (y : A) (r : ReplicaState) → StandsFor (world xs) m → k < length xs → ReplicaStands m.room k (f y) r → Next m event answer (set_replica m k r) → Stepped m event answer (world (set xs k y))
+  changes m event answer k y r st lt here next = record { new = set_replica m k r; next = next; stands = replica_changes m k y r st lt here }
+
+  -- an event that memory is wanting for, and that leaves the replica as it was
+  pub no_memory : (m : ModelState) (event : Event) (k : ℕ) (x y : A) (why : NodeFault) → StandsFor (world xs) m → k < length xs → x ≡ get_or xs k x → f y ≡ f x → why ≡ Memory
+      → Next m event (Refused (Node Memory)) m → Stepped m event (Refused (Node why)) (world (set xs k y))
+  no_memory m event k x y why st lt is same named next = record {
+    new = m;
+    next = subst (λ w. Next m event (Refused (Node w)) m) (sym named) next;
+    stands = replica_stays m k x y st lt is same;
+  }
+
+  -- The node answers the call so, and nothing but its pool is changed.
+  pub asked : (m : ModelState) (event : Event) (call : Call) (reply : Reply) (answer : Answer) (x y : A) (n : NodeView)
+      → StandsFor (world xs) m → IsNamed (seen_shape (world xs)) event → x ≡ get_or xs (place (replica_of event)) x
+      → f y ≡ record (f x) { node = n } → IsAlone (f x).node n → Step (f x).node call reply n
+      → ((new : ModelState) → IsNamed (shape m) event → Asked m (replica_of event) call reply new → Next m event answer new)
+      → Stepped m event answer (world (set xs (place (replica_of event)) y))
+  asked m event call reply answer x y n st named is becomes alone step next =
+      let i = replica_of event in
+      let k = place i in
+      let lt = place_in event named in
+      let here = stands_at m k x st lt is in
+      let number : k + 1 ≡ i = omega (arith, named.replica_there.from_one) in
+      let was : (f x).node ≡ node_of m i = here.node_is ∙ ap (λ (j : ℕ). let v : NodeView = record { id = j; history = history (replica m k).reach; pool = (replica m k).pool } in v) number in
+      let now : n ≡ record (node_of m i) { pool = n.pool } = alone ∙ ap (λ (v : NodeView). let u : NodeView = record v { pool = n.pool } in u) was in
+      let r : ReplicaState = record (replica m k) { pool = n.pool } in
+      let stands : ReplicaStands m.room k (f y) r = record {
+        has_room = here.has_room;
+        node_is = ap (λ (s : ReplicaSeen). s.node) becomes ∙ alone ∙ ap (λ (v : NodeView). let u : NodeView = record v { pool = n.pool } in u) here.node_is;
+        buffers_are = ap (λ (s : ReplicaSeen). s.buffers) becomes ∙ here.buffers_are;
+      } in
+      changes m event answer k y r st lt stands
+      (next (set_replica m k r) (named_too (world xs) m event st named)
+      (n.pool, subst (λ v. Step v call reply (record (node_of m i) { pool = n.pool })) was (subst (Step (f x).node call reply) now step), refl))
+
+  -- The node answers the call so, and nothing is changed.
+  pub asked_still : (m : ModelState) (event : Event) (call : Call) (reply : Reply) (answer : Answer) (x : A)
+      → StandsFor (world xs) m → IsNamed (seen_shape (world xs)) event → x ≡ get_or xs (place (replica_of event)) x
+      → Step (f x).node call reply (f x).node
+      → ((new : ModelState) → IsNamed (shape m) event → Asked m (replica_of event) call reply new → Next m event answer new)
+      → Stepped m event answer (world xs)
+  asked_still m event call reply answer x st named is step next =
+      let i = replica_of event in
+      let k = place i in
+      let lt = place_in event named in
+      let here = stands_at m k x st lt is in
+      let number : k + 1 ≡ i = omega (arith, named.replica_there.from_one) in
+      let was : (f x).node ≡ node_of m i = here.node_is ∙ ap (λ (j : ℕ). let v : NodeView = record { id = j; history = history (replica m k).reach; pool = (replica m k).pool } in v) number in
+      let same : m ≡ set_pool m i (pool_of m i) = ap (λ (rs : List ReplicaState). let s : ModelState = record m { replicas = rs } in s) (sym (set-get_or m.replicas k nobody)) in
+      record {
+        new = m;
+        next = next m (named_too (world xs) m event st named) (pool_of m i, subst (λ v. Step v call reply v) was step, same);
+        stands = st;
+      }
+
+  -- The node answers the call so, and nothing but its pool is changed; the buffers are as they were.
+  pub asked_as : (m : ModelState) (event : Event) (call : Call) (reply : Reply) (answer : Answer) (x y : A)
+      → StandsFor (world xs) m → IsNamed (seen_shape (world xs)) event → x ≡ get_or xs (place (replica_of event)) x
+      → (f y).buffers ≡ (f x).buffers → IsAlone (f x).node (f y).node → Step (f x).node call reply (f y).node
+      → ((new : ModelState) → IsNamed (shape m) event → Asked m (replica_of event) call reply new → Next m event answer new)
+      → Stepped m event answer (world (set xs (place (replica_of event)) y))
+  asked_as m event call reply answer x y st named is same alone step next =
+      asked m event call reply answer x y (f y).node st named is (ap (λ (bs : List Buffered). let r : ReplicaSeen = record { node = (f y).node; buffers = bs } in r) same) alone step next

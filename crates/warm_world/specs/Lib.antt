@@ -2,6 +2,13 @@ pub mod Lists
 pub mod Limits
 pub mod Sizes
 pub mod States
+pub mod Answered
 pub mod Faults
 pub mod Next
+pub mod Seen
+pub mod Replicas
+pub mod Opening
 pub mod Stands
+pub mod Widths
+pub mod Rounds
+pub mod WarmUps

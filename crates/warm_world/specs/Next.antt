@@ -1,27 +1,45 @@
--- What an event does to the lists of references, and how it is answered.
-use Rattle.std.specs.Prelude.{◌≡◌, ℕ, ◌≤◌, List, [], ◌∷◌, length, Option, Some, None, MatchOption, map, slice_index_or}
+-- What an event does to the lists of references and to the pools, and how it is answered.
+use Rattle.std.specs.Prelude.{◌≡◌, ℕ, ◌+◌, ◌==◌, ◌≤◌, List, [], ◌∷◌, length, Option, Some, None, MatchOption, map, if◌then◌else◌, slice_index_or}
 use Rattle.warm_stamps.specs.declared.PageId.{PageId}
 use Rattle.warm_stamps.specs.declared.Reference.{Reference}
-use Rattle.warm_history.specs.Histories.{history}
+use Rattle.warm_history.specs.Histories.{entries_of, history}
 use Rattle.warm_history.specs.Carried.{carried}
 use Rattle.warm_frames.specs.declared.entries.TheConstants.{MAX_ENTRIES}
 use Rattle.warm_rank.specs.Ranking.{warm}
+use Rattle.warm_digest.specs.BucketSums.{sums_of}
+use Rattle.warm_pool.specs.View.{PoolView}
+use Rattle.warm_pool.specs.Retiring.{Emptied}
+use Rattle.warm_gossip.specs.declared.call.Call.{Call}
+use Rattle.warm_gossip.specs.declared.call.Call.TheVariants as call
+use Rattle.warm_gossip.specs.declared.call.Reply.{Reply}
+use Rattle.warm_gossip.specs.declared.call.Reply.TheVariants as reply
+use Rattle.warm_gossip.specs.declared.fault.NodeFault.{NodeFault}
+use Rattle.warm_gossip.specs.declared.fault.NodeFault.TheVariants.{Memory}
+use Rattle.warm_gossip.specs.Step.{Step}
 use Rattle.warm_world.specs.declared.event.Event.{Event}
-use Rattle.warm_world.specs.declared.event.Event.TheVariants.{Refer, Flush, Send, Deliver, Warm, Restart, Show}
+use Rattle.warm_world.specs.declared.event.Event.TheVariants.{Refer, Flush, Send, Offer, Deliver, Pin, Unpin, Put, Get, Victim, Warm, WarmStep, Restart, Show}
 use Rattle.warm_world.specs.declared.event.Answer.{Answer}
-use Rattle.warm_world.specs.declared.event.Answer.TheVariants.{Done, Shown, FrameNo, Took, Pages, Refused}
+use Rattle.warm_world.specs.declared.event.Answer.TheVariants.{Done, Shown, FrameNo, Took, Pinned, Bytes, Page, Pages, Loaded, Refused}
 use Rattle.warm_world.specs.declared.event.WorldFault.{WorldFault}
-use Rattle.warm_world.specs.declared.event.WorldFault.TheVariants.{Memory, NoSuchReplica, NoSuchWorker, NoSuchFrame}
+use Rattle.warm_world.specs.declared.event.WorldFault.TheVariants.{Node, NoSuchReplica, NoSuchWorker, NoSuchFrame}
 use Rattle.warm_world.specs.Lists.{IsNumber, place}
-use Rattle.warm_world.specs.States.{ModelState, FrameRecord, References, replica, reach_of, set_replica, record_at, add_record, pending, flushed, referred, received, restarted}
+use Rattle.warm_world.specs.States.{ModelState, FrameRecord, References, Sums, replica, reach_of, pool_of, node_of, set_replica, set_pool, record_at, add_records, pending, flushed, referred, restarted}
+use Rattle.warm_world.specs.Answered.{AreAnswers, heard}
 
 -- the replica that an event names
 abbrev pub replica_of : Event → ℕ
 replica_of (Refer i w page time) = i
 replica_of (Flush i w) = i
 replica_of (Send i bucket after) = i
+replica_of (Offer i) = i
 replica_of (Deliver j k) = j
+replica_of (Pin i page) = i
+replica_of (Unpin i slot) = i
+replica_of (Put i slot at bytes) = i
+replica_of (Get i slot at len) = i
+replica_of (Victim i) = i
 replica_of (Warm i n) = i
+replica_of (WarmStep i) = i
 replica_of (Restart i) = i
 replica_of (Show i) = i
 
@@ -65,27 +83,43 @@ abbrev pub IsMissing : Shape → Event → WorldFault → Type 0
 IsMissing s event NoSuchReplica = ¬ HasReplica s event
 IsMissing s event NoSuchWorker = HasReplica s event × MatchOption (worker_of event) ⊥ (λ w. ¬ IsWorker s event w)
 IsMissing s event NoSuchFrame = HasReplica s event × MatchOption (frame_of event) ⊥ (λ k. ¬ IsFrame s k)
-IsMissing s event Memory = ⊥
+IsMissing s event (Node why) = ⊥
 
--- whether the event may want memory: Refer only where the buffer is full, Restart never
-abbrev pub MayGrow : ModelState → Event → Type 0
-MayGrow m (Refer i w page time) = m.room ≤ length (pending (replica m (place i)) (place w))
-MayGrow m (Restart i) = ⊥
-MayGrow m (Flush i w) = Unit {0}
-MayGrow m (Send i bucket after) = Unit {0}
-MayGrow m (Deliver j k) = Unit {0}
-MayGrow m (Warm i n) = Unit {0}
-MayGrow m (Show i) = Unit {0}
+-- the node of the replica i answers the call so, and of the world nothing but that replica's pool may have changed
+abbrev pub Asked : ModelState → ℕ → Call → Reply → ModelState → Type 0
+Asked old i call reply new =
+    (pool : PoolView) × Step (node_of old i) call reply (record (node_of old i) { pool = pool }) × (new ≡ set_pool old i pool)
 
--- when an event is refused so: memory last
-abbrev pub IsRefused : ModelState → Event → WorldFault → Type 0
-IsRefused m event Memory = IsNamed (shape m) event × MayGrow m event
-IsRefused m event fault = IsMissing (shape m) event fault
+-- why an event is refused though all that it names is there, and what that leaves: what the node says, or want of memory
+abbrev pub Refuses : ModelState → Event → NodeFault → ModelState → Type 0
+Refuses old (Pin i page) why new = Asked old i (call.Pin page) (reply.Refused why) new
+Refuses old (Unpin i slot) why new = Asked old i (call.Unpin slot) (reply.Refused why) new
+Refuses old (Put i slot at bytes) why new = Asked old i (call.Write slot at bytes) (reply.Refused why) new
+Refuses old (Get i slot at len) why new = Asked old i (call.Read slot at len) (reply.Refused why) new
+Refuses old (Victim i) why new = ⊥
+Refuses old (WarmStep i) why new = Asked old i call.WarmStep (reply.Refused why) new
+Refuses old (Restart i) why new = Asked old i call.Restart (reply.Refused why) new
+Refuses old (Refer i w page time) Memory new = (old.room ≤ length (pending (replica old (place i)) (place w))) × (new ≡ old)
+Refuses old (Flush i w) Memory new = new ≡ old
+Refuses old (Send i bucket after) Memory new = new ≡ old
+Refuses old (Offer i) Memory new = new ≡ old
+Refuses old (Deliver j k) Memory new = new ≡ old
+Refuses old (Warm i n) Memory new = new ≡ old
+Refuses old (Show i) Memory new = new ≡ old
+Refuses old event why new = ⊥
 
--- a frame comes to the replica j
-abbrev pub Delivered : ModelState → ℕ → FrameRecord → ℕ → ℕ → ModelState → Type 0
-Delivered old j (References sender refs) count first new =
-    (count ≡ 0) × (first ≡ 0) × (new ≡ set_replica old (place j) (received refs (replica old (place j))))
+-- when an event is refused so, and what that leaves: what isn't there comes before all else
+abbrev pub IsRefused : ModelState → Event → WorldFault → ModelState → Type 0
+IsRefused old event (Node why) new = IsNamed (shape old) event × Refuses old event why new
+IsRefused old event fault new = IsMissing (shape old) event fault × (new ≡ old)
+
+-- a frame comes to the replica j: it hears what the frame says, and its answers are numbered on from the frames so far
+pub record Delivered (old : ModelState) (j : ℕ) (kept : FrameRecord) (count first : ℕ) (new : ModelState) : Type 0 where
+  pub added : List FrameRecord
+  pub answers : AreAnswers j (reach_of old j) kept added
+  pub many : count ≡ length added
+  pub from : first ≡ if count == 0 then 0 else length old.records + 1
+  pub becomes : new ≡ add_records (set_replica old (place j) (record (replica old (place j)) { reach = heard (reach_of old j) kept })) added
 
 -- what worker w of replica i references: the page, stamped with the time and the replica
 abbrev pub stamped : ℕ → PageId → ℕ → Reference
@@ -98,20 +132,28 @@ Effect old (Refer i w page time) Done new =
 Effect old (Flush i w) Done new =
     new ≡ set_replica old (place i) (flushed (place w) (replica old (place i)))
 Effect old (Send i bucket after) (FrameNo k) new =
-    (k ≡ length new.records) × (new ≡ add_record old (References i (carried (reach_of old i) bucket after MAX_ENTRIES)))
+    (k ≡ length new.records) × (new ≡ add_records old (References i (carried (reach_of old i) bucket after MAX_ENTRIES) ∷ []))
+Effect old (Offer i) (FrameNo k) new =
+    (k ≡ length new.records) × (new ≡ add_records old (Sums i (sums_of (entries_of (history (reach_of old i)))) ∷ []))
 Effect old (Deliver j k) (Took count first) new =
     Delivered old j (record_at old (place k)) count first new
+Effect old (Pin i page) (Pinned slot) new = Asked old i (call.Pin page) (reply.Pinned slot) new
+Effect old (Unpin i slot) Done new = Asked old i (call.Unpin slot) reply.Done new
+Effect old (Put i slot at bytes) Done new = Asked old i (call.Write slot at bytes) reply.Done new
+Effect old (Get i slot at len) (Bytes bytes) new = Asked old i (call.Read slot at len) (reply.Bytes bytes) new
+Effect old (Victim i) (Page victim) new = Asked old i call.Victim (reply.Page victim) new
+Effect old (WarmStep i) (Loaded page) new = Asked old i call.WarmStep (reply.Loaded page) new
 Effect old (Warm i n) (Pages pages) new =
     (pages ≡ warm (reach_of old i) n) × (new ≡ old)
 Effect old (Restart i) Done new =
-    new ≡ set_replica old (place i) (restarted (replica old (place i)))
+    (pool : PoolView) × Emptied (pool_of old i) pool × (new ≡ set_replica old (place i) (restarted pool (replica old (place i))))
 Effect old (Show i) (Shown entries) new =
     (entries ≡ history (reach_of old i)) × (new ≡ old)
 Effect old event answer new = ⊥
 
--- From old, the event may be answered so, and lead to new. A refused event changes nothing.
+-- From old, the event may be answered so, and lead to new.
 abbrev pub Next : ModelState → Event → Answer → ModelState → Type 0
-Next old event (Refused fault) new = IsRefused old event fault × (new ≡ old)
+Next old event (Refused fault) new = IsRefused old event fault new
 Next old event answer new = IsNamed (shape old) event × Effect old event answer new
 
 -- From old, the events may be answered so, one after another, and lead to new.

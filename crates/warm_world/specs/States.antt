@@ -1,17 +1,27 @@
--- What replicas are told: every reference, for good, in plain lists.
+-- What replicas are told: every reference, for good, in plain lists. Beside it what each replica's pool shows.
 use Rattle.std.specs.Prelude.{ℕ, List, [], ◌∷◌, ◌++◌, length, map, nat_le, replicate, if◌then◌else◌, slice_index_or, slice_set}
 use Rattle.warm_stamps.specs.declared.Reference.{Reference}
 use Rattle.warm_history.specs.ReferenceSets.{ReferenceSet, these, ◌∪◌}
+use Rattle.warm_history.specs.Histories.{history}
+use Rattle.warm_devices.specs.Device.{DeviceState}
+use Rattle.warm_pool.specs.State.{opened}
+use Rattle.warm_pool.specs.View.{PoolView, view_of}
+use Rattle.warm_gossip.specs.State.{NodeView}
 use Rattle.warm_world.specs.Lists.{place}
+use Rattle.warm_world.specs.Sizes.{Sizes}
 
--- of one replica: the references that reached it since its restart, and for each worker those that wait in its buffer
+-- of one replica: the references that reached it since its restart, for each worker those that wait in its buffer, and its pool
 pub record ReplicaState : Type 0 where
   pub reach : ReferenceSet
   pub pending : List (List Reference)
+  pub pool : PoolView
 
--- what a kept frame stands for: its sender, and the references that it brings
+-- what a kept frame stands for: its sender, and the references that it brings, or the sums of the sender's buckets, or which
+-- buckets the sender asks for
 pub data FrameRecord : Type 0 where
   References : (sender : ℕ) (refs : ReferenceSet) → FrameRecord
+  Sums : (sender : ℕ) (sums : List (List ℕ)) → FrameRecord
+  Mask : (sender mask : ℕ) → FrameRecord
 
 -- of all replicas; room is how many references a buffer holds
 pub record ModelState : Type 0 where
@@ -19,8 +29,11 @@ pub record ModelState : Type 0 where
   pub replicas : List ReplicaState
   pub records : List FrameRecord
 
+abbrev pub no_pool : PoolView
+no_pool = record { page_size = 0; devices = []; frames = []; contents = []; failures = [] }
+
 abbrev pub nobody : ReplicaState
-nobody = record { reach = these []; pending = [] }
+nobody = record { reach = these []; pending = []; pool = no_pool }
 
 -- the replica at a place
 abbrev pub replica : ModelState → ℕ → ReplicaState
@@ -30,17 +43,29 @@ replica m k = slice_index_or m.replicas k nobody
 abbrev pub reach_of : ModelState → ℕ → ReferenceSet
 reach_of m i = (replica m (place i)).reach
 
+-- what the pool of the replica of a number shows
+abbrev pub pool_of : ModelState → ℕ → PoolView
+pool_of m i = (replica m (place i)).pool
+
+-- the node of the replica of a number: its history is that of what reached it
+abbrev pub node_of : ModelState → ℕ → NodeView
+node_of m i = record { id = i; history = history (reach_of m i); pool = pool_of m i }
+
 -- the replica at a place is changed, and nothing else
 abbrev pub set_replica : ModelState → ℕ → ReplicaState → ModelState
 set_replica m k r = record m { replicas = slice_set m.replicas k r }
+
+-- of the replica of a number the pool is changed, and nothing else
+abbrev pub set_pool : ModelState → ℕ → PoolView → ModelState
+set_pool m i pool = set_replica m (place i) (record (replica m (place i)) { pool = pool })
 
 -- the record at a place
 abbrev pub record_at : ModelState → ℕ → FrameRecord
 record_at m k = slice_index_or m.records k (References 0 (these []))
 
--- a record is kept after the others
-abbrev pub add_record : ModelState → FrameRecord → ModelState
-add_record m r = record m { records = m.records ++ r ∷ [] }
+-- records are kept after the others
+abbrev pub add_records : ModelState → List FrameRecord → ModelState
+add_records m rs = record m { records = m.records ++ rs }
 
 -- what waits in the buffer of the worker at a place
 abbrev pub pending : ReplicaState → ℕ → List Reference
@@ -62,14 +87,18 @@ referred room k x r = put_last k x (if nat_le room (length (pending r k)) then f
 abbrev pub received : ReferenceSet → ReplicaState → ReplicaState
 received refs r = record r { reach = r.reach ∪ refs }
 
--- nothing reached it since, and nothing waits
-abbrev pub restarted : ReplicaState → ReplicaState
-restarted r = record r { reach = these []; pending = map (λ _. []) r.pending }
+-- nothing reached it since, and nothing waits; its pool is left so
+abbrev pub restarted : PoolView → ReplicaState → ReplicaState
+restarted pool r = record { reach = these []; pending = map (λ _. []) r.pending; pool = pool }
 
 -- a replica that nothing reached
-abbrev pub fresh : ℕ → ReplicaState
-fresh workers = record { reach = these []; pending = replicate workers [] }
+abbrev pub fresh : ℕ → PoolView → ReplicaState
+fresh workers pool = record { reach = these []; pending = replicate workers []; pool = pool }
 
--- before the first event
-abbrev pub opening : ℕ → ℕ → ℕ → ModelState
-opening replicas workers room = record { room = room; replicas = replicate replicas (fresh workers); records = [] }
+-- a replica over these devices, before the first event
+abbrev pub opened_over : Sizes → List DeviceState → ReplicaState
+opened_over s devices = fresh s.workers (view_of (opened s.frames s.page_size devices))
+
+-- a world with a replica over each list of devices, before the first event
+abbrev pub opening : Sizes → List (List DeviceState) → ModelState
+opening s devices = record { room = s.buffer; replicas = map (opened_over s) devices; records = [] }

@@ -1,13 +1,15 @@
 //! Events, and how they are answered.
 ghost use Rattle.std.specs.Prelude.{◌≡◌};
-ghost use Rattle.warm_world.specs.Faults.{code_of, name_of};
+ghost use Rattle.warm_world.specs.Faults.{bad_code_of, bad_name_of, code_of, name_of};
 ghost use Rattle.warm_world.specs.Next.{replica_of, worker_of, frame_of};
 
+use warm_gossip::NodeFault;
 use warm_history::History;
-use warm_stamps::{Bucket, PageId, PageList};
+use warm_pool::Slot;
+use warm_stamps::{Bucket, ByteList, PageId, PageList};
 
 /// What happens to a world. Replicas, workers and frames are numbered from 1.
-#[derive(Clone, Copy, Debug, PartialEq, Eq)]
+#[derive(Debug, Drop)]
 pub enum Event {
     /// A worker of a replica references a page at a time: replica, worker, page, time. The reference
     /// waits in the worker's buffer, which moves to the replica's history first if it is full.
@@ -17,12 +19,30 @@ pub enum Event {
     /// A replica sends its first [`warm_frames::MAX_ENTRIES`] entries of a bucket, of those on pages after
     /// the one given, as a frame: replica, bucket, page.
     Send(u16, Bucket, Option<PageId>),
-    /// A kept frame comes to a replica, its sender or another: replica, number of the frame. Its entries
-    /// are joined into the replica's history, all of them or none.
+    /// A replica sends the sums of all its buckets as a frame.
+    Offer(u16),
+    /// A kept frame comes to a replica, its sender or another: replica, number of the frame. Entries are
+    /// joined into the replica's history, all of them or none. Sums and a wish are answered by frames,
+    /// which are kept after the others, all of them or none.
     Deliver(u16, u64),
+    /// A replica's page is given a fix, and put into a frame of its pool where it is in none: replica,
+    /// page. It is no reference.
+    Pin(u16, PageId),
+    /// A fix is taken from a slot's page: replica, slot.
+    Unpin(u16, Slot),
+    /// Bytes are written into a slot's page: replica, slot, place of the first byte, bytes.
+    Put(u16, Slot, u32, ByteList),
+    /// Bytes of a slot's page are asked for: replica, slot, place of the first byte, how many.
+    Get(u16, Slot, u32, u32),
+    /// The page that would leave a replica's pool next is asked for.
+    Victim(u16),
     /// A replica's warm-up list is asked for, cut to the first so many pages: replica, pages.
     Warm(u16, u32),
-    /// A replica forgets its history and what waits in its buffers.
+    /// A replica loads the first page of its warm-up list, cut to the frames of its pool, that isn't
+    /// resident and that its devices have.
+    WarmStep(u16),
+    /// A replica writes its pages back, and then forgets its history, what waits in its buffers, and which
+    /// pages were resident.
     Restart(u16),
     /// A replica's history is asked for.
     Show(u16),
@@ -31,26 +51,37 @@ pub enum Event {
 /// How an event is answered.
 #[derive(Debug, Drop)]
 pub enum Answer {
-    /// Refer, Flush or Restart happened.
+    /// Refer, Flush, Unpin, Put or Restart happened.
     Done,
     /// Show: a copy of the history.
     Shown(History),
-    /// Send: the number of the frame, counted from 1 over all frames of the world.
+    /// Send and Offer: the number of the frame, counted from 1 over all frames of the world.
     FrameNo(u64),
     /// Deliver: how many frames it was answered by, and the number of the first of them; 0 and 0 where
     /// there is none.
     Took { count: u64, first: u64 },
+    /// Pin: where the page is.
+    Pinned(Slot),
+    /// Get: the bytes.
+    Bytes(ByteList),
+    /// Victim: the page that would leave next; none where no resident page is without a fix.
+    Page(Option<PageId>),
     /// Warm: the pages that leave last, the hottest first.
     Pages(PageList),
-    /// The event was refused, and changed nothing.
+    /// WarmStep: the page that was loaded; none where there was none to load.
+    Loaded(Option<PageId>),
+    /// The event was refused, and changed nothing but counts of devices' failures.
     Refused(WorldFault),
 }
 
-/// Why an event was refused. The first that applies is answered, `Memory` last.
+/// Why an event was refused. The first that applies is answered: what isn't there before what the node
+/// says.
 #[derive(Clone, Copy, Debug, PartialEq, Eq)]
 pub enum WorldFault {
-    /// 1: there was no memory. Never for Restart, and for Refer only where the buffer is full.
-    Memory,
+    /// 1 and 4 to 13: what the replica's node says. `Memory`, which is 1, also where a frame could not be
+    /// kept or a history not copied; of Refer only where the buffer is full, and of Pin, Unpin, Put, Victim
+    /// and Restart never.
+    Node(NodeFault),
     /// 14: no replica has the number.
     NoSuchReplica,
     /// 15: the replica has no worker of the number.
@@ -60,27 +91,62 @@ pub enum WorldFault {
 }
 
 impl WorldFault {
-    /// The number of the refusal: 1, 14, 15 or 16.
+    /// The number of the refusal: 1, or 4 to 16.
     pub fn code(self) -> u8
         ensures { result ≡ code_of self }
     {
         match self {
-            WorldFault::Memory => 1,
+            WorldFault::Node(why) => why.code(),
             WorldFault::NoSuchReplica => 14,
             WorldFault::NoSuchWorker => 15,
             WorldFault::NoSuchFrame => 16,
         }
     }
 
-    /// Its name, as the variant is written.
+    /// Its name, as the variant is written, of the node's where it is one of those.
     pub fn name(self) -> &'static str
         ensures { result.now ≡ name_of self }
     {
         match self {
-            WorldFault::Memory => "Memory",
+            WorldFault::Node(why) => why.name(),
             WorldFault::NoSuchReplica => "NoSuchReplica",
             WorldFault::NoSuchWorker => "NoSuchWorker",
             WorldFault::NoSuchFrame => "NoSuchFrame",
+        }
+    }
+}
+
+/// Why no world was made.
+#[derive(Clone, Copy, Debug, PartialEq, Eq)]
+pub enum BadWorld {
+    /// 1: there was no memory.
+    Memory,
+    /// 3: the pages of a device have another size than the setup says.
+    SizeDiffers,
+    /// 17: there is another number of lists of devices than of replicas.
+    DevicesDiffer,
+}
+
+impl BadWorld {
+    /// The number of the refusal: 1, 3 or 17.
+    pub fn code(self) -> u8
+        ensures { result ≡ bad_code_of self }
+    {
+        match self {
+            BadWorld::Memory => 1,
+            BadWorld::SizeDiffers => 3,
+            BadWorld::DevicesDiffer => 17,
+        }
+    }
+
+    /// Its name, as the variant is written.
+    pub fn name(self) -> &'static str
+        ensures { result.now ≡ bad_name_of self }
+    {
+        match self {
+            BadWorld::Memory => "Memory",
+            BadWorld::SizeDiffers => "SizeDiffers",
+            BadWorld::DevicesDiffer => "DevicesDiffer",
         }
     }
 }
@@ -90,14 +156,21 @@ impl Event {
     pub(crate) fn replica(&self) -> u16
         ensures { result ≡ replica_of self.now }
     {
-        match *self {
-            Event::Refer(i, _, _, _) => i,
-            Event::Flush(i, _) => i,
-            Event::Send(i, _, _) => i,
-            Event::Deliver(j, _) => j,
-            Event::Warm(i, _) => i,
-            Event::Restart(i) => i,
-            Event::Show(i) => i,
+        match self {
+            Event::Refer(i, _, _, _) => *i,
+            Event::Flush(i, _) => *i,
+            Event::Send(i, _, _) => *i,
+            Event::Offer(i) => *i,
+            Event::Deliver(j, _) => *j,
+            Event::Pin(i, _) => *i,
+            Event::Unpin(i, _) => *i,
+            Event::Put(i, _, _, _) => *i,
+            Event::Get(i, _, _, _) => *i,
+            Event::Victim(i) => *i,
+            Event::Warm(i, _) => *i,
+            Event::WarmStep(i) => *i,
+            Event::Restart(i) => *i,
+            Event::Show(i) => *i,
         }
     }
 
@@ -105,9 +178,9 @@ impl Event {
     pub(crate) fn worker(&self) -> Option<u16>
         ensures { result ≡ worker_of self.now }
     {
-        match *self {
-            Event::Refer(_, w, _, _) => Some(w),
-            Event::Flush(_, w) => Some(w),
+        match self {
+            Event::Refer(_, w, _, _) => Some(*w),
+            Event::Flush(_, w) => Some(*w),
             _ => None,
         }
     }
@@ -116,8 +189,8 @@ impl Event {
     pub(crate) fn frame(&self) -> Option<u64>
         ensures { result ≡ frame_of self.now }
     {
-        match *self {
-            Event::Deliver(_, k) => Some(k),
+        match self {
+            Event::Deliver(_, k) => Some(*k),
             _ => None,
         }
     }

@@ -1,20 +1,27 @@
-//! Replicas that gossip what was referenced, in one value.
+//! Replicas that gossip what was referenced, and pool pages by it, in one value.
 //!
-//! A *world* holds up to [`warm_stamps::MAX_REPLICAS`] replicas. Each replica keeps a history, the two
-//! latest stamps of every page that it heard of, and a buffer of references for each of its workers.
-//! The world also keeps every frame that a replica sent, so that a frame may be delivered to any
-//! replica, never, once or many times, and in any order.
+//! A *world* holds up to [`warm_stamps::MAX_REPLICAS`] replicas. Each replica is a node and a buffer of
+//! references for each of its workers: the node keeps a history, the two latest stamps of every page that
+//! it heard of, and a buffer pool over its devices, whose pages that history ranks. The world also keeps
+//! every frame that a replica sent, so that a frame may be delivered to any replica, never, once or many
+//! times, and in any order.
 //!
 //! [`World::step`] answers one event and [`World::run`] a list of them. What they promise is told over
-//! a model that is plain lists of references (`specs/States.antt`, `specs/Next.antt`); nothing of it is
-//! kept while the program runs.
+//! a model that is plain lists of references, and what pools show (`specs/States.antt`,
+//! `specs/Next.antt`); nothing of it is kept while the program runs.
 #![tactic(auto)]
 
 mod event;
+mod gossip;
+pub mod laws;
+mod pages;
+mod replica;
 mod setup;
+#[cfg(test)]
+mod tests;
 mod world;
 
-pub use event::{Answer, Event, WorldFault};
+pub use event::{Answer, BadWorld, Event, WorldFault};
 pub use setup::{BadSetup, Setup};
 pub use world::World;
 

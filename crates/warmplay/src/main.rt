@@ -7,6 +7,8 @@ use std::env;
 use std::fs::{self, File};
 use std::io::{self, BufWriter, Read, Write};
 use std::process::ExitCode;
+use warm_devices::{FileDevice, MemDevice, OpenFault, PageDevice};
+use warm_pool::MAX_DEVICES;
 use warm_schedule::{PlayFault, play, random_schedule};
 use warm_setup::{
     Cmd, CmdFault, DeviceSpec, PathText, RunFault, SetupFault, command_of, not_text, outcome_of,
@@ -54,28 +56,111 @@ fn setup_in(
     }
 }
 
-// Plays to a writer through a buffer, which `play` flushes at the end.
-fn play_buffered<R: Read, W: Write + Drop>(
-    alloc: Global,
-    reader: &mut R,
-    writer: W,
-    setup: Setup,
-) -> Result<(), RunFault> {
-    let Ok(mut buffered) = BufWriter::with_capacity(alloc, GATHERED, writer) else {
-        return Err(RunFault::Play(PlayFault::Memory));
+// A device of a replica, in a box of its own kind.
+#[derive(Drop)]
+enum Made {
+    Memory(Box<MemDevice>),
+    File(Box<FileDevice>),
+}
+
+fn no_memory() -> RunFault {
+    RunFault::Play(PlayFault::Memory)
+}
+
+// A device in memory.
+fn in_memory(alloc: Global, pages: u32, page_size: usize) -> Result<Made, RunFault> {
+    let Ok(device) = MemDevice::new(alloc, pages, page_size) else {
+        return Err(no_memory());
     };
-    play(alloc, reader, &mut buffered, setup).map_err(RunFault::Play)
+    let Ok(device) = Box::new(alloc, device) else {
+        return Err(no_memory());
+    };
+    Ok(Made::Memory(device))
+}
+
+// A device over the file of the replica, which is named where it cannot be opened.
+fn in_file(
+    rt: &HostRuntime,
+    pages: u32,
+    page_size: usize,
+    path: &PathText,
+    replica: u16,
+) -> Result<Made, RunFault> {
+    let Ok(name) = path.of_replica(rt.alloc(), replica) else {
+        return Err(no_memory());
+    };
+    match FileDevice::open(rt, name.as_str(), pages, page_size) {
+        Ok(device) => {
+            let Ok(device) = Box::new(rt.alloc(), device) else {
+                return Err(no_memory());
+            };
+            Ok(Made::File(device))
+        }
+        Err(OpenFault::Memory) => Err(no_memory()),
+        Err(OpenFault::Open) => Err(RunFault::CannotOpen(name)),
+    }
+}
+
+fn device_of(
+    rt: &HostRuntime,
+    spec: &DeviceSpec,
+    page_size: usize,
+    replica: u16,
+) -> Result<Made, RunFault> {
+    match &spec.path {
+        Some(path) => in_file(rt, spec.pages, page_size, path, replica),
+        None => in_memory(rt.alloc(), spec.pages, page_size),
+    }
+}
+
+// Makes the devices, by replica and then by device, and plays to standard output through a buffer, which `play` flushes at the
+// end.
+fn play_over<R: Read>(
+    rt: &HostRuntime,
+    reader: &mut R,
+    setup: Setup,
+    specs: &[DeviceSpec],
+) -> Result<(), RunFault> {
+    if specs.len() > MAX_DEVICES {
+        return Err(RunFault::Play(PlayFault::BadDevices));
+    }
+    let page_size = setup.page_size() as usize;
+    let mut devices = Vec::new(rt.alloc());
+    for replica in 1..=setup.replicas() {
+        let mut list: Vec<Box<dyn PageDevice + Send>> = Vec::new(rt.alloc());
+        for spec in specs {
+            let pushed = match device_of(rt, spec, page_size, replica)? {
+                Made::Memory(device) => list.push(device),
+                Made::File(device) => list.push(device),
+            };
+            if pushed.is_err() {
+                return Err(no_memory());
+            }
+        }
+        if devices.push(list).is_err() {
+            return Err(no_memory());
+        }
+    }
+    let Ok(mut buffered) = BufWriter::with_capacity(rt.alloc(), GATHERED, rt.stdout()) else {
+        return Err(no_memory());
+    };
+    play(rt.alloc(), reader, &mut buffered, setup, devices).map_err(RunFault::Play)
 }
 
 // Plays the file, or standard input where there is none.
-fn run_play(rt: &HostRuntime, file: Option<PathText>, setup: Setup) -> Result<(), RunFault> {
+fn run_play(
+    rt: &HostRuntime,
+    file: Option<PathText>,
+    setup: Setup,
+    specs: &[DeviceSpec],
+) -> Result<(), RunFault> {
     let Some(path) = file else {
-        return play_buffered(rt.alloc(), &mut rt.stdin(), rt.stdout(), setup);
+        return play_over(rt, &mut rt.stdin(), setup, specs);
     };
     let Ok(mut schedule) = File::open(rt, path.as_str()) else {
         return Err(RunFault::CannotOpen(path));
     };
-    play_buffered(rt.alloc(), &mut schedule, rt.stdout(), setup)
+    play_over(rt, &mut schedule, setup, specs)
 }
 
 // Writes a schedule drawn at random through a buffer, which `random_schedule` flushes at the end.
@@ -86,12 +171,12 @@ fn run_random(rt: &HostRuntime, seed: u64, events: u32, setup: Setup) -> Result<
     random_schedule(&mut buffered, seed, events, &setup).map_err(RunFault::Play)
 }
 
-// Faults are found in this order: the command line, the setup file, its text, the schedule's file, the play.
+// Faults are found in this order: the command line, the setup file, its text, the schedule's file, the devices, the play.
 fn run(rt: &HostRuntime) -> Result<(), RunFault> {
     match asked(rt)? {
         Cmd::Play { file, setup } => {
-            let (setup, _devices) = setup_in(rt, setup)?;
-            run_play(rt, file, setup)
+            let (setup, specs) = setup_in(rt, setup)?;
+            run_play(rt, file, setup, specs.as_slice())
         }
         Cmd::Random {
             seed,

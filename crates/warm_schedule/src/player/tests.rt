@@ -1,25 +1,61 @@
 //! Whole schedules through `play`, over readers and writers of the tests' own. The expected answers were worked out by
 //! hand from the definition of a page's history; none was taken from the player.
+ghost use Rattle.warm_world.specs.Opening.{AreFew};
+ghost use Rattle.warm_world.specs.Seen.{listed};
+
 use super::*;
-use crate::parse::LineFault;
 use std::test::Fail;
 use std::{io, str};
+use warm_devices::{Flaky, MemDevice};
 
 fn default_setup() -> Setup {
     Setup::new(3, 2, 64, 4, 16).unwrap()
+}
+
+// A setup of three replicas whose pools have so many frames.
+fn of_frames(frames: u32) -> Setup {
+    Setup::new(3, 2, 64, frames, 16).unwrap()
+}
+
+type Devices = Vec<Vec<Box<dyn PageDevice + Send>>>;
+
+// For each replica a device in memory, of 256 pages of 16 bytes.
+fn in_memory(alloc: Global, replicas: u16) -> Result<Devices, AllocError>
+    ensures { IfOk result (λ devices. AreFew (listed state devices.items)) }
+{
+    let mut devices: Devices = Vec::new(alloc);
+    for _ in 0..replicas {
+        let mut list: Vec<Box<dyn PageDevice + Send>> = Vec::with_capacity(alloc, 1)?;
+        list.push_reserved(Box::new(alloc, MemDevice::new(alloc, 256, 16)?)?);
+        devices.push(list)?;
+    }
+    Ok(devices)
+}
+
+// Plays over devices in memory.
+pub(crate) fn ended<R: Read, W: Write>(
+    alloc: Global,
+    reader: &mut R,
+    writer: &mut W,
+    setup: Setup,
+) -> Result<(), PlayFault> {
+    let Ok(devices) = in_memory(alloc, setup.replicas()) else {
+        return Err(PlayFault::Memory);
+    };
+    play(alloc, reader, writer, setup, devices)
 }
 
 // What is printed for a schedule in ample memory.
 fn answers_of(alloc: Global, setup: Setup, schedule: &str) -> Result<Vec<u8>, Fail> {
     let mut reader = schedule.as_bytes();
     let mut answers = Vec::new(alloc);
-    play(alloc, &mut reader, &mut answers, setup)?;
+    ended(alloc, &mut reader, &mut answers, setup)?;
     Ok(answers)
 }
 
 const FIRST_PATH: [(&str, &str); 6] = [
     ("", ""),
-    ("show 1\nwarm 1 5\n", "end 0\npages\n"),
+    ("show 1\nvictim 1\nwarm 1 5\n", "end 0\nnone\npages\n"),
     (
         "ref 1 1 0:1 10\nref 1 1 0:1 20\nref 1 1 0:1 30\nflush 1 1\nshow 1\n",
         "ok\nok\nok\nok\n0:1 last 30@1 prev 20@1\nend 1\n",
@@ -121,8 +157,9 @@ const REFUSED: [(u16, &str, &str); 3] = [
     ),
     (
         3,
-        "ref 4 1 0:1 1\nref 1 3 0:1 1\nref 9 9 0:1 1\ndeliver 1 1\nsend 1 64\nfoo\n",
-        "refused 14 NoSuchReplica\nrefused 15 NoSuchWorker\nrefused 14 NoSuchReplica\nrefused 16 NoSuchFrame\nbad line 5\nbad line 6\n",
+        "ref 4 1 0:1 1\nref 1 3 0:1 1\nref 9 9 0:1 1\ndeliver 1 1\npin 1 1:0\npin 1 0:256\nsend 1 64\nfoo\n",
+        "refused 14 NoSuchReplica\nrefused 15 NoSuchWorker\nrefused 14 NoSuchReplica\nrefused 16 NoSuchFrame\n\
+         refused 4 NoDevice\nrefused 5 NoPage\nbad line 7\nbad line 8\n",
     ),
     (
         3,
@@ -139,6 +176,177 @@ fn refusals_have_names(rt: HostRuntime) -> Result<(), Fail> {
         let answers = answers_of(rt.alloc(), setup, schedule)?;
         assert_eq!(rt; str::from_utf8(answers.as_slice())?, want);
     }
+    Ok(())
+}
+
+// By frames of the pool.
+const POOLS: [(u32, &str, &str); 6] = [
+    // a scan leaves before pages that were referenced twice
+    (
+        4,
+        "ref 1 1 0:1 1\nref 1 1 0:1 2\nref 1 1 0:5 10\nref 1 1 0:6 11\nflush 1 1\npin 1 0:1\npin 1 0:5\npin 1 0:6\n\
+         unpin 1 0.1\nunpin 1 1.1\nunpin 1 2.1\nvictim 1\n",
+        "ok\nok\nok\nok\nok\nslot 0.1\nslot 1.1\nslot 2.1\nok\nok\nok\npage 0:5\n",
+    ),
+    // the distances are 3 and 2; the page referenced last leaves
+    (
+        4,
+        "ref 1 1 0:1 1\nref 1 1 0:1 100\nref 1 1 0:2 50\nref 1 1 0:2 60\nflush 1 1\npin 1 0:1\npin 1 0:2\n\
+         unpin 1 0.1\nunpin 1 1.1\nvictim 1\n",
+        "ok\nok\nok\nok\nok\nslot 0.1\nslot 1.1\nok\nok\npage 0:1\n",
+    ),
+    // pages with a fix do not leave
+    (
+        2,
+        "pin 1 0:3\npin 1 0:4\nunpin 1 1.1\nvictim 1\nunpin 1 0.1\nvictim 1\npin 1 0:3\npin 1 0:4\npin 1 0:5\nvictim 1\n",
+        "slot 0.1\nslot 1.1\nok\npage 0:4\nok\npage 0:3\nslot 0.1\nslot 1.1\nrefused 6 AllFixed\nnone\n",
+    ),
+    // a step of the warm-up loads the hottest page that isn't resident, and evicts no page of the list
+    (
+        2,
+        "ref 1 1 0:5 1\nref 1 1 0:2 2\nref 1 1 0:2 3\nref 1 1 0:9 4\nref 1 1 0:9 5\nflush 1 1\n\
+         pin 1 0:5\npin 1 0:7\nunpin 1 0.1\nunpin 1 1.1\n\
+         warm 1 3\nwarmstep 1\nwarmstep 1\nwarmstep 1\npin 1 0:2\npin 1 0:9\n",
+        "ok\nok\nok\nok\nok\nok\nslot 0.1\nslot 1.1\nok\nok\n\
+         pages 0:9 0:2 0:5\nloaded 0:9\nloaded 0:2\nnone\nslot 0.2\nslot 1.2\n",
+    ),
+    // bytes come back with their page, and not by the slot of another
+    (
+        1,
+        "pin 1 0:1\nput 1 0.1 0 CAFE\nunpin 1 0.1\npin 1 0:2\nunpin 1 0.2\nget 1 0.1 0 2\npin 1 0:1\n\
+         get 1 0.3 0 2\nget 1 0.3 15 2\nget 1 0.3 16 0\n",
+        "slot 0.1\nok\nok\nslot 0.2\nok\nrefused 13 StaleSlot\nslot 0.3\nbytes cafe\nrefused 10 OutOfPage\nbytes\n",
+    ),
+    // a restart writes pages back, and is refused while one has a fix
+    (
+        4,
+        "pin 1 0:1\nput 1 0.1 15 AB\nrestart 1\nunpin 1 0.1\nrestart 1\npin 1 0:1\nget 1 0.2 15 1\n",
+        "slot 0.1\nok\nrefused 11 Fixed\nok\nok\nslot 0.2\nbytes ab\n",
+    ),
+];
+
+#[test]
+fn pools_hold_pages(rt: HostRuntime) -> Result<(), Fail> {
+    for (frames, schedule, want) in POOLS {
+        let answers = answers_of(rt.alloc(), of_frames(frames), schedule)?;
+        assert_eq!(rt; str::from_utf8(answers.as_slice())?, want);
+    }
+    Ok(())
+}
+
+// Two replicas exchange what they lack by sums, a wish and what was wished for; then they have nothing to say.
+#[test]
+fn sums_and_a_wish_make_replicas_equal(rt: HostRuntime) -> Result<(), Fail> {
+    let schedule = "ref 1 1 0:1 10\nflush 1 1\nref 2 1 0:2 11\nflush 2 1\n\
+        offer 1\ndeliver 2 1\ndeliver 1 2\ndeliver 1 3\ndeliver 2 4\ndeliver 2 5\nshow 1\nshow 2\noffer 1\ndeliver 2 6\n";
+    let want = "ok\nok\nok\nok\nframe 1\ntook 2 from 2\ntook 0\ntook 2 from 4\ntook 0\ntook 0\n\
+        0:1 last 10@1\n0:2 last 11@2\nend 2\n0:1 last 10@1\n0:2 last 11@2\nend 2\nframe 6\ntook 0\n";
+    let answers = answers_of(rt.alloc(), default_setup(), schedule)?;
+    assert_eq!(rt; str::from_utf8(answers.as_slice())?, want);
+    Ok(())
+}
+
+const SLOTS_AND_BYTES: [(&str, &str); 3] = [
+    // slots of no frame, of another generation, and without a fix; bytes past the page, and the greatest numbers
+    (
+        "unpin 1 4.1\nunpin 1 0.0\npin 1 0:1\nunpin 1 0.2\nunpin 1 0.1\nunpin 1 0.1\nput 1 0.1 0 00\n\
+         get 1 4294967295.18446744073709551615 4294967295 4294967295\npin 1 0:1\nput 1 0.1 15 0102\nget 1 0.1 4294967295 4294967295\n",
+        "refused 13 StaleSlot\nrefused 13 StaleSlot\nslot 0.1\nrefused 13 StaleSlot\nok\nrefused 13 StaleSlot\n\
+         refused 13 StaleSlot\nrefused 13 StaleSlot\nslot 0.1\nrefused 10 OutOfPage\nrefused 10 OutOfPage\n",
+    ),
+    // an odd number of digits, none, and a letter past f; digits of either case, and every byte of a page
+    (
+        "pin 1 0:1\nput 1 0.1 0 ABC\nput 1 0.1 0\nput 1 0.1 0 0G\nput 1 0.1 0 00 00\n\
+         put 1 0.1 0 000102030405060708090a0B0c0D0eFf\nget 1 0.1 0 16\nget 1 0.1 0 0\n",
+        "slot 0.1\nbad line 2\nbad line 3\nbad line 4\nbad line 5\nok\nbytes 000102030405060708090a0b0c0d0eff\nbytes\n",
+    ),
+    // a slot has one dot, and its numbers fit
+    (
+        "unpin 1 0\nunpin 1 0.1.2\nunpin 1 .1\nunpin 1 0.\nunpin 1 4294967296.0\nunpin 1 0.18446744073709551616\nunpin 1 0:1\n\
+         pin 1 0.1\nget 1 0.1 0\nget 1 0.1 4294967296 0\nvictim\nwarmstep 1 1\noffer\n",
+        "bad line 1\nbad line 2\nbad line 3\nbad line 4\nbad line 5\nbad line 6\nbad line 7\n\
+         bad line 8\nbad line 9\nbad line 10\nbad line 11\nbad line 12\nbad line 13\n",
+    ),
+];
+
+#[test]
+fn slots_and_bytes_are_read_exactly(rt: HostRuntime) -> Result<(), Fail> {
+    for (schedule, want) in SLOTS_AND_BYTES {
+        let answers = answers_of(rt.alloc(), default_setup(), schedule)?;
+        assert_eq!(rt; str::from_utf8(answers.as_slice())?, want);
+    }
+    Ok(())
+}
+
+// The longest line of `put` has 131,066 bytes: more than the largest page.
+#[test]
+fn a_put_of_the_longest_line_is_past_the_page(rt: HostRuntime) -> Result<(), Fail> {
+    let mut schedule = Vec::new(rt.alloc());
+    schedule.extend_from_slice(b"pin 1 0:1\nput 1 0.1 0 ")?;
+    for _ in 0..131066 {
+        schedule.extend_from_slice(b"00")?;
+    }
+    let answers = answers_of(
+        rt.alloc(),
+        default_setup(),
+        str::from_utf8(schedule.as_slice())?,
+    )?;
+    assert_eq!(rt;
+        str::from_utf8(answers.as_slice())?,
+        "slot 0.1\nrefused 10 OutOfPage\n"
+    );
+    Ok(())
+}
+
+// A world of three replicas refuses two lists of devices.
+#[test]
+fn devices_for_other_replicas_are_refused(rt: HostRuntime) -> Result<(), Fail> {
+    let mut reader: &[u8] = b"show 1\n";
+    let mut answers = Vec::new(rt.alloc());
+    let devices = in_memory(rt.alloc(), 2)?;
+    let played = play(
+        rt.alloc(),
+        &mut reader,
+        &mut answers,
+        default_setup(),
+        devices,
+    );
+    assert_eq!(rt; played, Err(PlayFault::BadDevices));
+    assert!(rt; answers.is_empty());
+    Ok(())
+}
+
+// A world of larger pages refuses devices of 16 bytes a page.
+#[test]
+fn devices_of_another_size_are_refused(rt: HostRuntime) -> Result<(), Fail> {
+    let mut reader: &[u8] = b"show 1\n";
+    let mut answers = Vec::new(rt.alloc());
+    let devices = in_memory(rt.alloc(), 1)?;
+    let setup = Setup::new(1, 2, 64, 4, 17)?;
+    let played = play(rt.alloc(), &mut reader, &mut answers, setup, devices);
+    assert_eq!(rt; played, Err(PlayFault::BadDevices));
+    assert!(rt; answers.is_empty());
+    Ok(())
+}
+
+// The device's second call fails: the first reads the page, the second is the write at the end.
+#[test]
+fn a_refused_end_is_the_last_line(rt: HostRuntime) -> Result<(), Fail> {
+    let mut list: Vec<Box<dyn PageDevice + Send>> = Vec::with_capacity(rt.alloc(), 1)?;
+    list.push_reserved(Box::new(
+        rt.alloc(),
+        Flaky::new(MemDevice::new(rt.alloc(), 8, 16)?, 2),
+    )?);
+    let mut devices: Devices = Vec::with_capacity(rt.alloc(), 1)?;
+    devices.push_reserved(list);
+    let mut reader: &[u8] = b"pin 1 0:1\nput 1 0.1 0 AA";
+    let mut answers = Vec::new(rt.alloc());
+    let setup = Setup::new(1, 1, 1, 1, 16)?;
+    play(rt.alloc(), &mut reader, &mut answers, setup, devices)?;
+    assert_eq!(rt;
+        str::from_utf8(answers.as_slice())?,
+        "slot 0.1\nok\nend refused 12 Fault\n"
+    );
     Ok(())
 }
 
@@ -259,7 +467,7 @@ fn an_over_long_line_is_bad(rt: HostRuntime) -> Result<(), Fail> {
         schedule.extend_from_slice(b"\nshow 1\n")?;
         let mut reader = schedule.as_slice();
         let mut answers = Vec::new(rt.alloc());
-        play(rt.alloc(), &mut reader, &mut answers, default_setup())?;
+        ended(rt.alloc(), &mut reader, &mut answers, default_setup())?;
         assert_eq!(rt; str::from_utf8(answers.as_slice())?, want);
     }
     Ok(())
@@ -298,7 +506,7 @@ fn a_schedule_may_come_in_bytes(rt: HostRuntime) -> Result<(), Fail> {
             is_ready: false,
         };
         let mut answers = Vec::new(rt.alloc());
-        play(rt.alloc(), &mut reader, &mut answers, default_setup())?;
+        ended(rt.alloc(), &mut reader, &mut answers, default_setup())?;
         assert_eq!(rt; str::from_utf8(answers.as_slice())?, want);
     }
     Ok(())
@@ -317,7 +525,7 @@ fn a_long_trickle_plays_to_its_end(rt: HostRuntime) -> Result<(), Fail> {
         is_ready: false,
     };
     let mut answers = Vec::new(rt.alloc());
-    play(rt.alloc(), &mut reader, &mut answers, default_setup())?;
+    ended(rt.alloc(), &mut reader, &mut answers, default_setup())?;
     // 9,090 lines of 11 bytes, and of the last line 10
     let mut want = Vec::new(rt.alloc());
     for _ in 0..9_091 {
@@ -353,7 +561,7 @@ fn answers_are_handed_on_before_the_next_read(rt: HostRuntime) -> Result<(), Fai
     let mut writer = Marked {
         taken: Vec::new(rt.alloc()),
     };
-    play(rt.alloc(), &mut reader, &mut writer, default_setup())?;
+    ended(rt.alloc(), &mut reader, &mut writer, default_setup())?;
     assert_eq!(rt;
         str::from_utf8(writer.taken.as_slice())?,
         "end 0\n|refused 14 NoSuchReplica\n|bad line 3\n|"
@@ -382,7 +590,7 @@ fn a_failed_read_ends_the_play(rt: HostRuntime) {
         rest: b"show 1\nshow 2",
     };
     let mut answers = Vec::new(rt.alloc());
-    let played = play(rt.alloc(), &mut reader, &mut answers, default_setup());
+    let played = ended(rt.alloc(), &mut reader, &mut answers, default_setup());
     assert_eq!(rt; played, Err(PlayFault::ReadFault));
     // the line that had come whole was answered, and what had come of the next one was not
     assert!(rt; answers.as_slice() == b"end 0\n".as_slice());
@@ -418,7 +626,7 @@ fn a_failed_write_ends_the_play(rt: HostRuntime) {
     for room in 0..14usize {
         let mut reader: &[u8] = b"show 1\nref 1 1 0:1 1\nflush 1 1\n";
         let mut writer = Narrow { room };
-        let played = play(rt.alloc(), &mut reader, &mut writer, default_setup());
+        let played = ended(rt.alloc(), &mut reader, &mut writer, default_setup());
         if room <= 12 {
             assert_eq!(rt; played, Err(PlayFault::WriteFault), "room for {room}");
         } else {
@@ -455,7 +663,7 @@ fn a_refused_growth_is_as_a_comment(rt: HostRuntime) -> Result<(), Fail> {
     let mut answers = [b' '; 1024];
     let mut writer = answers.as_mut_slice();
     let mut reader = GROWING.as_bytes();
-    let played = play(rt.alloc(), &mut reader, &mut writer, default_setup());
+    let played = ended(rt.alloc(), &mut reader, &mut writer, default_setup());
     if played == Err(PlayFault::Memory) {
         return Ok(());
     }
@@ -478,7 +686,7 @@ fn a_refused_growth_is_as_a_comment(rt: HostRuntime) -> Result<(), Fail> {
     let mut again = [b' '; 1024];
     let mut writer = again.as_mut_slice();
     let mut reader = without.as_slice();
-    play(rt.alloc(), &mut reader, &mut writer, default_setup())?;
+    ended(rt.alloc(), &mut reader, &mut writer, default_setup())?;
     let mut lines = str::from_utf8(&again)?.trim_end().lines();
     for line in answers.lines() {
         if line != WANT_OF_MEMORY {
@@ -493,13 +701,27 @@ fn a_refused_growth_is_as_a_comment(rt: HostRuntime) -> Result<(), Fail> {
 #[test]
 fn a_line_has_a_greatest_length(rt: HostRuntime) -> Result<(), Fail> {
     let comment = vec![in rt.alloc(); b'#'; 262145]?;
-    assert_eq!(rt; parse_line(&comment.as_slice()[1..]), Ok(Line::Nothing));
-    assert_eq!(rt; parse_line(comment.as_slice()), Err(LineFault::Bad));
+    assert!(rt;
+        matches!(
+            parse_line(rt.alloc(), &comment.as_slice()[1..]),
+            Ok(Line::Nothing)
+        )
+    );
+    assert!(rt;
+        matches!(
+            parse_line(rt.alloc(), comment.as_slice()),
+            Err(LineFault::Bad)
+        )
+    );
     Ok(())
 }
 
 #[test]
-fn a_bad_line_has_its_number_and_name(rt: HostRuntime) {
-    assert_eq!(rt; parse_line(b"foo"), Err(LineFault::Bad));
+fn a_line_fault_has_its_number_and_name(rt: HostRuntime) {
+    assert!(rt; matches!(parse_line(rt.alloc(), b"foo"), Err(LineFault::Bad)));
     assert_eq!(rt; (LineFault::Bad.code(), LineFault::Bad.name()), (2, "Bad"));
+    assert_eq!(rt;
+        (LineFault::Memory.code(), LineFault::Memory.name()),
+        (1, "Memory")
+    );
 }

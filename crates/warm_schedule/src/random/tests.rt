@@ -1,6 +1,6 @@
 //! Schedules drawn at random, played.
 use super::*;
-use crate::player::play;
+use crate::player::tests::ended;
 use std::str;
 use std::test::Fail;
 
@@ -36,7 +36,7 @@ fn random_schedules_play(rt: HostRuntime) -> Result<(), Fail> {
         let schedule = schedule_of(&rt, seed, 500, setup)?;
         let mut answers = Vec::new(rt.alloc());
         let mut reader = schedule.as_slice();
-        play(rt.alloc(), &mut reader, &mut answers, setup)?;
+        ended(rt.alloc(), &mut reader, &mut answers, setup)?;
         for line in str::from_utf8(answers.as_slice())?.lines() {
             assert!(rt; !line.starts_with("bad line"), "{seed}: {line}");
             assert!(rt;

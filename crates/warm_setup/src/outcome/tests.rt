@@ -49,6 +49,7 @@ fn a_play_fault_is_named(rt: HostRuntime) {
         (PlayFault::Memory, "warmplay: Memory\n"),
         (PlayFault::ReadFault, "warmplay: ReadFault\n"),
         (PlayFault::WriteFault, "warmplay: WriteFault\n"),
+        (PlayFault::BadDevices, "warmplay: BadDevices\n"),
     ] {
         let (status, line) = told(&rt, &Err(RunFault::Play(fault))).expect(&rt, "room");
         assert_eq!(rt; (status, line.as_str()), (1, want));

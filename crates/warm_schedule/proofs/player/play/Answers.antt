@@ -1,16 +1,15 @@
 use Rattle.std.proofs.Common.{◌≡◌, List, ℕ, [], ◌++◌, subst, sym, arith}
-use Rattle.warm_world.specs.States.{ModelState, opening}
-use Rattle.warm_schedule.specs.Printed.{Printed}
 use Rattle.warm_random.proofs.Written.{Appends-none, Appends-then}
-use Rattle.warm_schedule.proofs.Stream.{Consumes-none, Consumes-then, Consumes-all, if_some_map, Goes-none, Goes-then, Goes-whole}
+use Rattle.warm_schedule.proofs.Stream.{Consumes-none, Consumes-then, Consumes-all, if_some_map, Goes-none, Goes-then, Goes-whole, Played-text}
 use Rattle.warm_schedule.proofs.player.play.Goals as goal
 
 pub loop-init : goal.loop-init
 loop-init g c = record {
   goes = ([], [], Consumes-none _, Appends-none _, Goes-none _);
-  number = omega (arith, c.in-Ok-new.ensures.first);
+  fit = c.in_ok-session.ensures.fit;
+  number = omega (arith, c.in_ok-session.ensures.fresh.first);
   room = c.in-Ok.ensures.len;
-  fresh = c.in-Ok-new.ensures;
+  fresh = c.in_ok-session.ensures.fresh;
 }
 
 pub loop-preserved : goal.loop-preserved
@@ -19,6 +18,7 @@ loop-preserved g c =
     let next = c.in_ok-read_some.ensures.goes in
     record {
       goes = (so_far.0 ++ next.0, so_far.1 ++ next.1, Consumes-then _ _ _ so_far.0 next.0 so_far.2 next.2, Appends-then _ _ _ so_far.1 next.1 so_far.3 next.3, Goes-then _ _ _ so_far.0 next.0 so_far.1 next.1 so_far.4 next.4);
+      fit = c.in_ok-read_some.ensures.fit;
       number = omega (arith, c.loop.invariant.number, c.in_ok-read_some.ensures.number, c.as_mut_slice.ensures.len, c.loop.invariant.room);
       room = c.loop.invariant.room;
       fresh = c.loop.invariant.fresh;
@@ -29,12 +29,10 @@ returns-then-not-branch-clause-printed g c =
     let so_far = c.loop.invariant.goes in
     let next = c.in_ok-read_some.ensures.goes in
     let last = c.in_ok-finish.ensures in
-    let state : ModelState = opening c.args.setup.replicas c.args.setup.workers c.args.setup.buffer in
     let seen = so_far.0 ++ next.0 in
     let out = so_far.1 ++ next.1 in
     let at_end = c.in_ok-read_some.ensures.end c.if-not-branch.true in
-    let goes = Goes-then c.in-Ok-new.session c.loop.session c.read_some.new.self so_far.0 next.0 so_far.1 next.1 so_far.4 next.4 in
-    let whole : Printed state seen (out ++ last.0) = Goes-whole c.in-Ok-new.session c.read_some.new.self state seen out last.0 goes last.2 c.loop.invariant.fresh.holds c.loop.invariant.fresh.first in
+    let whole = Goes-whole _ _ _ seen out last.0 (Goes-then _ _ _ so_far.0 next.0 so_far.1 next.1 so_far.4 next.4) last.2 c.loop.invariant.fresh.holds c.loop.invariant.fresh.first in
     if_some_map (g.R.Read.remaining c.args.reader.now) (λ text. text ≡ seen) _
-    (λ text e. (out ++ last.0, Appends-then _ _ _ out last.0 (Appends-then _ _ _ so_far.1 next.1 so_far.3 next.3) last.1, subst (λ (t : List ℕ). Printed state t (out ++ last.0)) (sym e) whole))
+    (λ text e. (out ++ last.0, Appends-then _ _ _ out last.0 (Appends-then _ _ _ so_far.1 next.1 so_far.3 next.3) last.1, Played-text _ _ _ (out ++ last.0) (sym e) whole))
     (Consumes-all _ _ seen (Consumes-then _ _ _ so_far.0 next.0 so_far.2 next.2) at_end)

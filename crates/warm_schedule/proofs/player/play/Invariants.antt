@@ -1,6 +1,8 @@
 use Rattle.std.proofs.Common.{◌≡◌, ℕ, List, ◌+◌, ◌*◌, ◌≤◌, vec_len}
 use Rattle.std.specs.Io.KnownBytes.{Appends, Consumes}
-use Rattle.warm_schedule.specs.Stream.{Goes, IsFresh}
+use Rattle.warm_world.specs.States.{opening}
+use Rattle.warm_world.specs.Seen.{IsWorld, listed}
+use Rattle.warm_schedule.specs.Stream.{session, Goes, IsFresh}
 use Rattle.warm_schedule.proofs.player.play.Given as goal
 
 abbrev pub invariant-loop : goal.invariant-loop
@@ -8,8 +10,10 @@ invariant-loop g l =
     let contents = g.W.Write.contents in
     let remaining = g.R.Read.remaining in
     record {
-      goes : (seen out : List ℕ) × Consumes (remaining l.fn.reader) (remaining l.reader) seen × Appends (contents l.fn.writer) (contents l.writer) out × Goes l.initial.session seen out l.session;
+      goes : (seen out : List ℕ) × Consumes (remaining l.fn.reader) (remaining l.reader) seen × Appends (contents l.fn.writer) (contents l.writer) out
+          × Goes (session (λ b. (goal.PageDevice-dyn g (b.vtable, b.value)).state b.value) l.initial.session) seen out (session (λ b. (goal.PageDevice-dyn g (b.vtable, b.value)).state b.value) l.session);
+      fit : IsWorld (λ b. (goal.PageDevice-dyn g (b.vtable, b.value)).state b.value) l.session.world;
       number : l.session.number ≤ 1 + l.counter * 65536;
       room : vec_len l.buffer ≡ 65536;
-      fresh : IsFresh l.initial.session l.fn.setup;
+      fresh : IsFresh (session (λ b. (goal.PageDevice-dyn g (b.vtable, b.value)).state b.value) l.initial.session) (opening l.fn.setup (listed (λ b. (goal.PageDevice-dyn g (b.vtable, b.value)).state b.value) l.fn.devices.items));
     }

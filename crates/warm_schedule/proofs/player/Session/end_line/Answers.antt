@@ -5,4 +5,4 @@ use Rattle.warm_schedule.proofs.player.Session.end_line.Goals as goal
 pub returns-clause-goes : goal.returns-clause-goes
 returns-clause-goes g c =
     let a = c.in_ok-answer.ensures.answered in
-    (a.0, a.1, Goes-end c.args.self.now (record { world = c.answer.new.self.world; number = c.answer.new.self.number + 1; line = c.clear.new.self }) a.0 a.2 (ap (λ (n : ℕ). n + 1) c.in_ok-answer.ensures.number) c.clear.ensures.items)
+    (a.0, a.1, Goes-end _ _ a.0 a.2 (ap (λ (n : ℕ). n + 1) c.in_ok-answer.ensures.number) c.clear.ensures.items)

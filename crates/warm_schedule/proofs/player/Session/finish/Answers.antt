@@ -1,7 +1,13 @@
+use Rattle.std.proofs.Common.{◌++◌}
+use Rattle.warm_random.proofs.Written.{Appends-then}
 use Rattle.warm_schedule.proofs.Stream.{Appends-kept, Ends-answer}
 use Rattle.warm_schedule.proofs.player.Session.finish.Goals as goal
 
 pub returns : goal.returns
 returns g c =
-    let last = c.in_ok-answer.ensures.answered in
-    (last.0, Appends-kept _ _ _ last.0 last.1 c.in_ok-hand_on.ensures, Ends-answer c.args.self.now last.0 c.answer.new.self.world last.2)
+    let answered = c.in_ok-answer.ensures.answered in
+    let settled = c.in_ok-settle.ensures in (
+      answered.0 ++ settled.0,
+      Appends-kept _ _ _ (answered.0 ++ settled.0) (Appends-then _ _ _ answered.0 settled.0 answered.1 settled.1) c.in_ok-hand_on.ensures,
+      Ends-answer _ answered.0 settled.0 _ answered.2 settled.2,
+    )

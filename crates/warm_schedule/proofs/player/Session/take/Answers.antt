@@ -4,4 +4,4 @@ use Rattle.warm_schedule.proofs.Stream.{Goes-add}
 use Rattle.warm_schedule.proofs.player.Session.take.Goals as goal
 
 pub returns-in-Ok-clause-goes : goal.returns-in-Ok-clause-goes
-returns-in-Ok-clause-goes g c = ([], Appends-none _, Goes-add c.args.self.now c.add.new.self c.args.byte c.in-Ok.ensures)
+returns-in-Ok-clause-goes g c = ([], Appends-none _, Goes-add _ _ c.args.byte c.in-Ok.ensures.adds)

@@ -1,25 +1,39 @@
-use Rattle.std.proofs.Common.{◌<◌, ◌-◌, length, ◌∙◌, sym, subst, arith}
-use Rattle.warm_frames.specs.declared.frame.Frame.TheVariants.{Entries}
+use Rattle.std.proofs.Common.{◌-◌, ap, refl, subst, sym}
 use Rattle.warm_frames.specs.Spelling.{Spells}
+use Rattle.warm_gossip.specs.Answers.{IsAnswer}
+use Rattle.warm_gossip.specs.State.{NodeView}
 use Rattle.warm_world.specs.declared.event.Event.TheVariants.{Deliver}
-use Rattle.warm_world.specs.declared.event.Answer.TheVariants.{Took}
-use Rattle.warm_world.specs.States.{replica, record_at}
-use Rattle.warm_world.proofs.Worlds.{stands_at, named_too, place_in, changes, delivered, frame_at}
+use Rattle.warm_world.specs.Seen.{ReplicaSeen}
+use Rattle.warm_world.specs.States.{record_at}
+use Rattle.warm_world.specs.Stands.{frame_kept}
+use Rattle.warm_world.proofs.Alone.{receive_refused}
+use Rattle.warm_world.proofs.Delivers.{taken}
+use Rattle.warm_world.proofs.Frames.{kept_at}
+use Rattle.warm_world.proofs.Histories.{same_frame}
+use Rattle.warm_world.proofs.Worlds.{named_too, node_at, no_memory, place_in, still_nodes}
 use Rattle.warm_world.proofs.world.World.deliver.Goals as goal
 
-pub returns-in-Ok-receive : goal.returns-in-Ok-receive
-returns-in-Ok-receive c = λ m st.
-    let w = c.args.self.now in
-    let p = c.args.j - 1 in
-    let n = c.args.k - 1 in
+pub receive-requires : goal.receive-requires
+receive-requires g c = record { fit = node_at _ _ _ _ c.requires.fit (place_in _ _ _ (Deliver c.args.j c.args.k) c.requires.named) c.index_mut.ensures.value }
+
+pub returns-in-Ok-receive-clause-fit : goal.returns-in-Ok-receive-clause-fit
+returns-in-Ok-receive-clause-fit g c = still_nodes _ _ _ _ (place_in _ _ _ (Deliver c.args.j c.args.k) c.requires.named) c.requires.fit c.receive.ensures.fit
+
+pub returns-in-Err-clause-fit : goal.returns-in-Err-clause-fit
+returns-in-Err-clause-fit g c = still_nodes _ _ _ _ (place_in _ _ _ (Deliver c.args.j c.args.k) c.requires.named) c.requires.fit c.receive.ensures.fit
+
+pub returns-in-Ok-receive-clause-step : goal.returns-in-Ok-receive-clause-step
+returns-in-Ok-receive-clause-step g c = λ m st.
+    let kept = kept_at _ m c.args.k c.args.self.now.frames.items c.index.result.now st refl c.requires.named.frame_there c.index.ensures in
+    let found = same_frame c.decode.result _ c.in-Ok.frame (frame_kept (record_at m (c.args.k - 1))) c.in-Ok.is
+    (c.decode.ensures.only (frame_kept (record_at m (c.args.k - 1))) (subst (λ b. Spells b (frame_kept (record_at m (c.args.k - 1)))) (sym c.deref.ensures.value) kept.spells)) in
+    taken _ _ _ m c.args.j c.args.k _ _ c.in-Ok.frame c.as_slice.result.now _ _ c.took.result st c.requires.named c.index_mut.ensures.value found
+    (subst (λ fs. IsAnswer c.index_mut.result.now.node.id c.index_mut.result.now.node.history c.in-Ok.frame fs) (sym c.as_slice.ensures) c.in-Ok-receive.ensures.step.0)
+    c.in-Ok-receive.ensures.step.1 refl c.took.ensures
+
+pub returns-in-Err-clause-step : goal.returns-in-Err-clause-step
+returns-in-Err-clause-step g c = λ m st.
     let event = Deliver c.args.j c.args.k in
-    let named = named_too w m event st c.requires in
-    let lt = place_in w event c.requires in
-    let here = stands_at w m p c.index_mut.result.now st lt c.index_mut.ensures.value in
-    let in_range : c.args.k - 1 < length c.args.self.now.frames.items =
-    omega (arith, c.requires.frame_there.from_one, c.requires.frame_there.in_range) in
-    let spells = frame_at w m n c.index.result.now st in_range c.index.ensures in
-    let led = delivered m c.args.j c.index.result.now.items c.in-Ok.entries (record_at m n) c.receive.new.self spells
-    (λ sender entries is. c.in-Ok.ensures sender entries (subst (λ bytes. Spells bytes (Entries sender entries)) (sym c.deref.ensures.value) is))
-    (λ refs e. c.in-Ok-receive.ensures.ok m.room refs (c.as_slice.ensures.value ∙ e) p (replica m p) here) in
-    changes w m event (Took 0 0) p c.receive.new.self led.0 st lt led.1 (named, led.2)
+    let refused = receive_refused _ _ c.in-Ok.frame c.in-Err.why c.in-Err.ensures.step in
+    no_memory _ _ _ m event (c.args.j - 1) _ _ c.in-Err.why st (place_in _ _ _ event c.requires.named) c.index_mut.ensures.value
+    (ap (λ (n : NodeView). let r : ReplicaSeen = record { node = n; buffers = c.index_mut.result.now.buffers.items } in r) refused.1) refused.0 (named_too _ m event st c.requires.named, refl)

@@ -1,25 +1,41 @@
-use Rattle.std.proofs.Common.{◌-◌, refl}
+use Rattle.std.proofs.Common.{◌≡◌, ℕ, [], ◌+◌, ◌-◌, refl, sym, ap, ◌∙◌, arith}
+use Rattle.warm_gossip.specs.State.{NodeView}
 use Rattle.warm_world.specs.declared.event.Event.TheVariants.{Flush}
 use Rattle.warm_world.specs.declared.event.Answer.TheVariants.{Done}
-use Rattle.warm_world.specs.declared.event.WorldFault.TheVariants.{Memory}
 use Rattle.warm_world.specs.States.{replica, flushed}
-use Rattle.warm_world.proofs.Worlds.{stands_at, named_too, place_in, changes, refuses, replica_stays}
+use Rattle.warm_world.specs.Next.{stamped}
+use Rattle.warm_world.proofs.Worlds.{changes, named_too, node_at, no_memory, place_in, stands_at, still_nodes, worker_in}
 use Rattle.warm_world.proofs.world.World.flush.Goals as goal
 
-pub returns-in-Ok : goal.returns-in-Ok
-returns-in-Ok c = λ m st.
-    let w = c.args.self.now in
+pub flush-requires : goal.flush-requires
+flush-requires g c =
+    let lt = place_in _ _ _ (Flush c.args.i c.args.w) c.requires.named in
+    record {
+      fit = node_at _ _ _ _ c.requires.fit lt c.index_mut.ensures.value;
+      there = worker_in _ _ [] c.args.i c.args.w c.index_mut.result.now lt c.index_mut.ensures.value c.requires.named.worker_there;
+    }
+
+pub returns-in-Ok-clause-fit : goal.returns-in-Ok-clause-fit
+returns-in-Ok-clause-fit g c = still_nodes _ _ _ _ (place_in _ _ _ (Flush c.args.i c.args.w) c.requires.named) c.requires.fit c.flush.ensures.fit
+
+pub returns-in-Err-clause-fit : goal.returns-in-Err-clause-fit
+returns-in-Err-clause-fit g c = still_nodes _ _ _ _ (place_in _ _ _ (Flush c.args.i c.args.w) c.requires.named) c.requires.fit c.flush.ensures.fit
+
+pub returns-in-Ok-clause-step : goal.returns-in-Ok-clause-step
+returns-in-Ok-clause-step g c = λ m st.
     let k = c.args.i - 1 in
     let event = Flush c.args.i c.args.w in
-    let lt = place_in w event c.requires in
-    let here = stands_at w m k c.index_mut.result.now st lt c.index_mut.ensures.value in
-    changes w m event Done k c.flush.new.self (flushed (c.args.w - 1) (replica m k)) st lt
+    let lt = place_in _ _ _ event c.requires.named in
+    let here = stands_at _ _ _ m k c.index_mut.result.now st lt c.index_mut.ensures.value in
+    changes _ _ _ m event Done k _ (flushed (c.args.w - 1) (replica m k)) st lt
     (c.in-Ok.ensures.ok m.room k (replica m k) here)
-    (named_too w m event st c.requires, refl)
+    (named_too _ m event st c.requires.named, refl)
 
-pub returns-in-Err : goal.returns-in-Err
-returns-in-Err c = λ m st.
-    let w = c.args.self.now in
+pub returns-in-Err-clause-step : goal.returns-in-Err-clause-step
+returns-in-Err-clause-step g c = λ m st.
+    let k = c.args.i - 1 in
     let event = Flush c.args.i c.args.w in
-    refuses w _ m event Memory (named_too w m event st c.requires, tt)
-    (replica_stays w m (c.args.i - 1) c.flush.new.self c.index_mut.result.now st c.in-Err.ensures.err c.index_mut.ensures.value)
+    let lt = place_in _ _ _ event c.requires.named in
+    let here = stands_at _ _ _ m k c.index_mut.result.now st lt c.index_mut.ensures.value in
+    no_memory _ _ _ m event k _ _ c.in-Err.why st lt c.index_mut.ensures.value c.in-Err.ensures.err.1 c.in-Err.ensures.err.0
+    (named_too _ m event st c.requires.named, refl)

@@ -1,17 +1,38 @@
-use Rattle.std.proofs.Common.{◌-◌, refl}
+use Rattle.std.proofs.Common.{◌-◌, refl, subst}
+use Rattle.warm_pool.specs.Retiring.{Emptied}
+use Rattle.warm_gossip.specs.State.{NodeView}
+use Rattle.warm_gossip.specs.declared.call.Call.TheVariants as call
+use Rattle.warm_gossip.specs.declared.call.Reply.TheVariants as reply
 use Rattle.warm_world.specs.declared.event.Event.TheVariants.{Restart}
-use Rattle.warm_world.specs.declared.event.Answer.TheVariants.{Done}
+use Rattle.warm_world.specs.declared.event.Answer.TheVariants as answer
+use Rattle.warm_world.specs.declared.event.WorldFault.TheVariants.{Node}
 use Rattle.warm_world.specs.States.{replica, restarted}
-use Rattle.warm_world.proofs.Worlds.{stands_at, named_too, place_in, changes}
+use Rattle.warm_world.proofs.Alone.{restart_refused_alone}
+use Rattle.warm_world.proofs.Replicas.{restarts}
+use Rattle.warm_world.proofs.Worlds.{asked, asked_as, changes, named_too, node_at, place_in, stands_at, still_nodes}
 use Rattle.warm_world.proofs.world.World.restart.Goals as goal
 
-pub returns : goal.returns
-returns c = λ m st.
-    let w = c.args.self.now in
+pub restart-requires : goal.restart-requires
+restart-requires g c = record { fit = node_at _ _ _ _ c.requires.fit (place_in _ _ _ (Restart c.args.i) c.requires.named) c.index_mut.ensures.value }
+
+pub returns-in-Ok-clause-fit : goal.returns-in-Ok-clause-fit
+returns-in-Ok-clause-fit g c = still_nodes _ _ _ _ (place_in _ _ _ (Restart c.args.i) c.requires.named) c.requires.fit c.restart.ensures.fit
+
+pub returns-in-Err-clause-fit : goal.returns-in-Err-clause-fit
+returns-in-Err-clause-fit g c = still_nodes _ _ _ _ (place_in _ _ _ (Restart c.args.i) c.requires.named) c.requires.fit c.restart.ensures.fit
+
+pub returns-in-Ok-clause-step : goal.returns-in-Ok-clause-step
+returns-in-Ok-clause-step g c = λ m st.
     let k = c.args.i - 1 in
     let event = Restart c.args.i in
-    let lt = place_in w event c.requires in
-    let here = stands_at w m k c.index_mut.result.now st lt c.index_mut.ensures.value in
-    changes w m event Done k c.restart.new.self (restarted (replica m k)) st lt
-    (c.restart.ensures m.room k (replica m k) here)
-    (named_too w m event st c.requires, refl)
+    let lt = place_in _ _ _ event c.requires.named in
+    let here = stands_at _ _ _ m k c.index_mut.result.now st lt c.index_mut.ensures.value in
+    let did = c.in-Ok.ensures.restarts in
+    changes _ _ _ m event answer.Done k _ (restarted did.0 (replica m k)) st lt
+    (restarts m.room k _ _ (replica m k) did.0 here did.2)
+    (named_too _ m event st c.requires.named, (did.0, subst (λ (v : NodeView). Emptied v.pool did.0) here.node_is did.1, refl))
+
+pub returns-in-Err-clause-step : goal.returns-in-Err-clause-step
+returns-in-Err-clause-step g c = λ m st.
+    asked_as _ _ _ m (Restart c.args.i) call.Restart (reply.Refused c.in-Err.why) (answer.Refused (Node c.in-Err.why)) _ _ st c.requires.named c.index_mut.ensures.value
+    c.in-Err.ensures.restarts.1 (restart_refused_alone _ _ c.in-Err.why c.in-Err.ensures.restarts.0) c.in-Err.ensures.restarts.0 (λ new named asks. (named, asks))

@@ -1,0 +1,55 @@
+#!/usr/bin/env python3
+"""Measures histories beside the same in plain Rust, and prints the table of docs/PERFORMANCE.md.
+
+usage: measure.py [PAGES..]      how many pages there are (1000 10000 100000 1000000, where none is named)
+
+It wants the proved program (`rt run` in crates/bench_history leaves it as crates/bench_history/out/bench_history) and
+`rustc`. Both programs run in turn, nine times, and the fastest run of each counts. Both must make the same.
+"""
+
+import subprocess
+import sys
+import tempfile
+from pathlib import Path
+
+HERE = Path(__file__).resolve().parent
+OURS = HERE.parent.parent / "crates/bench_history/out/bench_history"
+RUNS = 9
+
+
+def one_run(program: Path, pages: int) -> tuple[dict[str, str], dict[str, int]]:
+    """What the program made, and the nanoseconds that each took."""
+    said = subprocess.run([program, str(pages)], stdout=subprocess.PIPE, check=True, text=True).stdout.splitlines()
+    parts = [line.rsplit(": ", 1) for line in said]
+    made = {what: it for what, it in parts if not it.endswith(" ns")}
+    return made, {what: int(it[:-3]) for what, it in parts if it.endswith(" ns")}
+
+
+def measured(plain: Path, pages: int) -> dict[str, dict[str, int]]:
+    best = {"ours": {}, "plain": {}}
+    for _ in range(RUNS):
+        made = {}
+        for name, program in [("ours", OURS), ("plain", plain)]:
+            made[name], spent = one_run(program, pages)
+            best[name] = {what: min(it, best[name].get(what, it)) for what, it in spent.items()}
+        assert all(made["plain"][what] == it for what, it in made["ours"].items()), made
+    return best
+
+
+def main() -> None:
+    counts = [int(it) for it in sys.argv[1:]] or [1_000, 10_000, 100_000, 1_000_000]
+    with tempfile.TemporaryDirectory() as folder:
+        plain = Path(folder) / "plain"
+        subprocess.run(["rustc", "-O", "--edition", "2024", "-o", plain, HERE / "plain.rs"], check=True)
+        print("| pages | what | ours, ns | plain Rust, ns | ours to plain | with undo, ns |")
+        print("|---|---|---|---|---|---|")
+        for pages in counts:
+            best = measured(plain, pages)
+            for what, ours in best["ours"].items():
+                other = best["plain"][what]
+                noted = best["plain"].get(what + ", noted")
+                print(f"| {pages:,} | {what} | {ours:,} | {other:,} | {other / ours:.2f} | {f'{noted:,}' if noted else ''} |")
+
+
+if __name__ == "__main__":
+    main()

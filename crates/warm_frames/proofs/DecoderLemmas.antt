@@ -1,0 +1,141 @@
+-- What a decoder does with a piece, in plain variables.
+use Rattle.std.proofs.Common.{◌≡◌, ◌≢◌, ◌⊎◌, inl, inr, ℕ, ◌+◌, ◌-◌, ◌<◌, ◌≤◌, Bool, true, false, cond, List, [], ◌∷◌, ◌++◌, length, take, drop, Option, Some, None, Result, Ok, Err, refl, sym, ap, subst, ◌∙◌, append_assoc, ⊎_elim, arith}
+use Rattle.std.specs.Cmp.{nat_cmp_is}
+use Rattle.std.specs.Ordering.{is_lt, nat_cmp, ord_min}
+use Rattle.std.specs.declared.cmp.Ordering.{Ordering}
+use Rattle.std.specs.declared.cmp.Ordering.TheVariants.{Less, Equal, Greater}
+use Rattle.std.proofs.lemmas.List.{append-nil, take_all, take_at, take-append-drop, length-append, length-take}
+use Rattle.std.proofs.lemmas.Slice.{take-put_mid}
+use borrow.Rule.Slice.PartMut.{put_mid}
+use Rattle.warm_frames.specs.declared.decoder.Fed.{Fed}
+use Rattle.warm_frames.specs.declared.fault.FrameFault.{FrameFault}
+use Rattle.warm_frames.specs.declared.fault.FrameFault.TheVariants.{Memory, Truncated}
+use Rattle.warm_frames.specs.declared.frame.Frame.{Frame}
+use Rattle.warm_frames.specs.declared.reading.TheConstants.{HEADER_SIZE}
+use Rattle.warm_frames.specs.Pieces.{DecoderState, Inside, Broken, state_of, IsPart, IsLasting, Feeds, DecodesWith}
+use Rattle.warm_frames.specs.Reading.{read_frame}
+use Rattle.warm_frames.specs.Sizes.{frame_size, KnowsSize, SaysSize}
+use Rattle.warm_frames.proofs.SizeLemmas.{Goes, size_goes, known_stays, no_ok, err_is, lt_or_le, lt_or_is, header_short, header_enough, header_lasts, size_whole, headed, fault_of_body, fault_of_header, ShownIn}
+
+-- what is known stays so, whatever follows
+pub size_again : (begun more : List ℕ) (size : ℕ) → frame_size begun ≡ Ok size → frame_size (begun ++ more) ≡ Ok size
+size_again begun more size is = known_stays (frame_size begun) (frame_size (begun ++ more)) (size_goes begun more) (λ short. no_ok (sym short ∙ is)) ∙ is
+
+-- a size that the bytes say only with the piece is greater than what has begun
+pub size_above : (begun piece : List ℕ) (size : ℕ) → frame_size begun ≡ Err Truncated → frame_size (begun ++ piece) ≡ Ok size → length begun < size
+size_above begun piece size short is =
+    let h = headed (begun ++ piece) size is in
+    let few = header_short begun short in
+    omega (arith, few, h.size_is)
+
+-- what wasn't known and isn't with the piece
+pub still_unknown : (begun piece held : List ℕ) (known : Option ℕ) → KnowsSize begun known → frame_size (begun ++ piece) ≡ Err Truncated → held ≡ begun ++ piece → KnowsSize held known
+still_unknown begun piece held None knows short is = ap frame_size is ∙ short
+still_unknown begun piece held (Some size) knows short is = absurd (no_ok (sym short ∙ size_again begun piece size knows.0))
+
+-- ---- the answers of feed
+
+-- all of the piece was taken
+pub took_all : (old : DecoderState) (failed : Bool) (begun held piece : List ℕ) → state_of failed begun ≡ old → failed ≡ false → held ≡ begun ++ piece → IsPart (begun ++ piece)
+    → Feeds old piece (Ok (record { taken = length piece; frame = None })) (state_of failed held)
+took_all old failed begun held piece view works is part =
+    let stands : Inside begun ≡ old = ap (λ (b : Bool). state_of b begun) (sym works) ∙ view in
+    subst (λ (o : DecoderState). Feeds o piece (Ok (record { taken = length piece; frame = None })) (state_of failed held)) stands
+    (refl, part, ap (λ (b : Bool). state_of b held) works ∙ ap (λ (bs : List ℕ). Inside bs) is)
+
+-- a byte of the piece shows a fault
+pub broke : (old : DecoderState) (failed : Bool) (begun piece : List ℕ) (fault : FrameFault) → state_of failed begun ≡ old → failed ≡ false → ShownIn begun piece fault → Feeds old piece (Err fault) Broken
+broke old failed begun piece fault view works shown =
+    let stands : Inside begun ≡ old = ap (λ (b : Bool). state_of b begun) (sym works) ∙ view in
+    subst (λ (o : DecoderState). Feeds o piece (Err fault) Broken) stands (inr (shown.0, shown.1, shown.2, refl))
+
+-- want of memory
+pub no_room : (old : DecoderState) (failed : Bool) (begun held piece : List ℕ) (fault : FrameFault) → state_of failed begun ≡ old → failed ≡ false → fault ≡ Memory → held ≡ begun → Feeds old piece (Err fault) (state_of failed held)
+no_room old failed begun held piece fault view works memory is =
+    let stands : Inside begun ≡ old = ap (λ (b : Bool). state_of b begun) (sym works) ∙ view in
+    subst (λ (o : DecoderState). Feeds o piece (Err fault) (state_of failed held)) stands
+    (inl (memory, ap (λ (b : Bool). state_of b held) works ∙ ap (λ (bs : List ℕ). Inside bs) is))
+
+-- a fault of the header
+pub header_shown : (begun piece : List ℕ) (fault : FrameFault) → SaysSize begun piece (Err fault) → ShownIn begun piece fault
+header_shown begun piece fault says =
+    let lasts : IsLasting fault = ⊎_elim (λ short. absurd (says.2 short)) (λ l. l) (header_lasts (begun ++ piece) fault says.0) in
+    fault_of_header begun piece fault lasts says.1 says.0
+
+-- ---- the header, put together
+
+-- what was written over the front and then behind it
+pub header_is : (held front zeros piece written : List ℕ) (more k : ℕ) → front ≡ held → written ≡ take more piece → more ≡ length written → take (length held + more) (put_mid (length held) k (front ++ zeros) written) ≡ held ++ take more piece
+header_is held front zeros piece written more k is_held is_more len =
+    let long : length front ≡ length held = ap length is_held in
+    let inside : length held ≤ length (front ++ zeros) = omega (arith, long, length-append front zeros) in
+    take-put_mid (length held) k (front ++ zeros) written (length held + more) (ap (λ (n : ℕ). length held + n) len) inside
+    ∙ (λ i. (take_at front zeros (length held) long ∙ is_held) i ++ is_more i)
+
+-- so much of the piece says what all of it says
+pub header_said : (held piece : List ℕ) (more : ℕ) → length held < HEADER_SIZE → more ≤ length piece → (more ≡ length piece) ⊎ (more ≡ HEADER_SIZE - length held) → frame_size (held ++ take more piece) ≡ frame_size (held ++ piece)
+header_said held piece more few inside (inl whole) = ap (λ (p : List ℕ). frame_size (held ++ p)) (take_all more piece (omega (arith, whole)))
+header_said held piece more few inside (inr enough) =
+    let front : List ℕ = held ++ take more piece in
+    let long : HEADER_SIZE ≤ length front = omega (arith, few, inside, enough, length-append held (take more piece), length-take more piece) in
+    let parts : front ++ drop more piece ≡ held ++ piece = append_assoc held (take more piece) (drop more piece) ∙ ap (λ (p : List ℕ). held ++ p) (take-append-drop more piece) in
+    sym (header_enough front (drop more piece) long) ∙ ap frame_size parts
+
+-- the lesser of both
+pub least_is : (a b m : ℕ) → m ≡ ord_min nat_cmp a b → (m ≤ b) × ((m ≡ b) ⊎ (m ≡ a))
+least_is a b m is =
+    let by : (o : Ordering) → o ≡ nat_cmp b a → m ≡ cond (is_lt o) b a = λ o chosen. is ∙ ap (λ (x : Ordering). cond (is_lt x) b a) (sym chosen) in
+    ⊎_elim (λ less. let same = by Less (nat_cmp_is b a Less less) in (omega (arith, same), inl same))
+    (λ le. ⊎_elim (λ less. let same = by Greater (nat_cmp_is b a Greater less) in (omega (arith, same, le), inr same))
+    (λ equal. let same = by Equal (nat_cmp_is b a Equal (sym equal)) in (omega (arith, same, le), inr same)) (lt_or_is a b le))
+    (lt_or_le b a)
+
+-- ---- a whole frame
+
+less_than_one : 3 ≤ 1 → ⊥
+less_than_one le = omega (arith, le)
+
+-- want of memory leaves what is held
+pub memory_leaves : (begun end held : List ℕ) (fault : FrameFault) → frame_size (begun ++ end) ≡ Ok (length (begun ++ end)) → DecodesWith begun end (Err fault) held → fault ≡ Memory → held ≡ begun
+memory_leaves begun end held fault size (inl read) memory =
+    let lasts : IsLasting Memory = subst IsLasting memory (size_whole (begun ++ end) fault size (sym read)) in
+    absurd (less_than_one lasts.0)
+memory_leaves begun end held fault size (inr none) memory = none.1
+
+-- another fault is shown by the last byte
+pub body_shown : (begun piece held : List ℕ) (n : ℕ) (fault : FrameFault) → n ≤ length piece → frame_size (begun ++ take n piece) ≡ Ok (length (begun ++ take n piece)) → DecodesWith begun (take n piece) (Err fault) held → fault ≢ Memory → ShownIn begun piece fault
+body_shown begun piece held n fault inside size (inl read) other = (n, inside, fault_of_body (begun ++ take n piece) fault size (sym read))
+body_shown begun piece held n fault inside size (inr none) other = absurd (other (err_is {A = Frame} fault Memory none.0))
+
+-- the bytes up to the end are as many as the size says
+pub size_up_to : (begun piece : List ℕ) (size n : ℕ) → frame_size (begun ++ piece) ≡ Ok size → n + length begun ≡ size → n ≤ length piece → frame_size (begun ++ take n piece) ≡ Ok (length (begun ++ take n piece))
+size_up_to begun piece size n is end enough =
+    let front : List ℕ = begun ++ take n piece in
+    let len : length front ≡ size = omega (arith, end, enough, length-append begun (take n piece), length-take n piece) in
+    let h = headed (begun ++ piece) size is in
+    let parts : front ++ drop n piece ≡ begun ++ piece = append_assoc begun (take n piece) (drop n piece) ∙ ap (λ (p : List ℕ). begun ++ p) (take-append-drop n piece) in
+    let whole : frame_size (front ++ drop n piece) ≡ frame_size front = header_enough front (drop n piece) (omega (arith, len, h.size_is)) in
+    sym whole ∙ ap frame_size parts ∙ is ∙ ap (λ (m : ℕ). Ok m) (sym len)
+
+-- what was known stays, where nothing was taken
+pub same_knows : (begun held : List ℕ) (known : Option ℕ) → held ≡ begun → KnowsSize begun known → KnowsSize held known
+same_knows begun held known is knows = subst (λ (h : List ℕ). KnowsSize h known) (sym is) knows
+
+-- what is known of the size, by what was kept of it
+pub known_size : (begun : List ℕ) (known : Option ℕ) (size : ℕ) → known ≡ Some size → KnowsSize begun known → KnowsSize begun (Some size)
+known_size begun known size is knows = subst (KnowsSize begun) is knows
+
+pub unknown_yet : (begun : List ℕ) (known : Option ℕ) → ((size : ℕ) → known ≡ Some size → ⊥) → KnowsSize begun known → frame_size begun ≡ Err Truncated
+unknown_yet begun None none knows = knows
+unknown_yet begun (Some size) none knows = absurd (none size refl)
+
+-- what is said of the bytes held
+pub said : (bytes held piece : List ℕ) (r s : Result (Option ℕ) FrameFault) → bytes ≡ held → r ≡ s → SaysSize bytes piece r → SaysSize held piece s
+said bytes held piece r s same is says = subst (λ (h : List ℕ). SaysSize h piece s) same (subst (SaysSize bytes piece) is says)
+
+pub said_ok : (bytes held piece : List ℕ) (r : Result (Option ℕ) FrameFault) (k s : Option ℕ) → bytes ≡ held → r ≡ Ok k → k ≡ s → SaysSize bytes piece r → SaysSize held piece (Ok s)
+said_ok bytes held piece r k s same is chosen says = said bytes held piece r (Ok s) same (is ∙ ap (λ (x : Option ℕ). Ok x) chosen) says
+
+-- with the piece it isn't whole yet
+pub sized : (begun held piece : List ℕ) (size : ℕ) → SaysSize begun piece (Ok (Some size)) → length (begun ++ piece) < size → held ≡ begun ++ piece → KnowsSize held (Some size)
+sized begun held piece size says less is = subst (λ (h : List ℕ). KnowsSize h (Some size)) (sym is) (says.0, less)

@@ -1,0 +1,174 @@
+-- Streams: what was fed is frames and a rest, and there is one such reading.
+use Rattle.std.proofs.Common.{◌≡◌, ◌⊎◌, inl, inr, ℕ, ◌+◌, ◌<◌, ◌≤◌, List, [], ◌∷◌, ◌++◌, length, take, drop, Option, Some, None, Result, Ok, Err, refl, sym, ap, subst, ◌∙◌, append_assoc, ⊎_elim, arith}
+use Rattle.std.specs.Prelude.{option_to_list}
+use Rattle.std.specs.List.{AllByRecursion, flat_map}
+use Rattle.std.proofs.lemmas.List.{append-nil, take_all, take_at, drop_at, take-append-drop, take-append-le}
+use Rattle.std.proofs.lemmas.List.Concat.{flat_map-cons}
+use Rattle.warm_frames.specs.declared.decoder.Fed.{Fed}
+use Rattle.warm_frames.specs.declared.fault.FrameFault.{FrameFault}
+use Rattle.warm_frames.specs.declared.fault.FrameFault.TheVariants.{Truncated}
+use Rattle.warm_frames.specs.declared.frame.Frame.{Frame}
+use Rattle.warm_frames.specs.Pieces.{DecoderState, Inside, Broken, IsPart, IsLasting, ShowsFault, Takes, Breaks, Feeds, Feeding, bytes_taken, taken_in, frame_given, frames_given, Feedings, Splits, Fails}
+use Rattle.warm_frames.specs.Reading.{read_frame}
+use Rattle.warm_frames.specs.Spelling.{IsFrame, spelling, Spells}
+use Rattle.warm_frames.proofs.FrameLemmas.{frame_read, one_spelling, no_prefix}
+use Rattle.warm_frames.proofs.SizeLemmas.{failed, no_ok, err_is, lt_or_le, truncated_mends, nothing_short, part_without_header, fault_for_good}
+
+-- ---- feeds one after the other
+
+inside_is : (b c : List ℕ) → Inside b ≡ Inside c → b ≡ c
+inside_is b c e = cc
+
+apart : (b : List ℕ) → Broken ≡ Inside b → ⊥
+apart b e = absurd cc
+
+broken_stays : (calls : List Feeding) (new : DecoderState) → Feedings Broken calls new → new ≡ Broken
+broken_stays [] new run = run
+broken_stays (c ∷ calls) new run = broken_stays calls new (subst (λ (s : DecoderState). Feedings s calls new) run.1.1 run.2)
+
+nothing_is_part : IsPart []
+nothing_is_part = part_without_header [] (nothing_short [] refl)
+
+-- the later feeds are read from whatever part has come
+abbrev pub Later : List Feeding → DecoderState → List ℕ → Type 0
+Later calls new rest = (part : List ℕ) → IsPart part → Feedings (Inside part) calls new → Splits (part ++ taken_in calls) (frames_given calls) rest
+
+one_fed : (calls : List Feeding) (new : DecoderState) (rest begun piece : List ℕ) (taken : ℕ) (frame : Option Frame) (next : DecoderState) → Later calls new rest → Takes begun piece taken frame next → Feedings next calls new
+    → Splits (begun ++ (take taken piece ++ taken_in calls)) (option_to_list frame ++ frames_given calls) rest
+one_fed calls new rest begun piece taken None next later takes run =
+    let after = later (begun ++ piece) takes.1 (subst (λ (s : DecoderState). Feedings s calls new) takes.2 run) in
+    let whole : take taken piece ≡ piece = take_all taken piece (omega (arith, takes.0)) in
+    subst (λ (s : List ℕ). Splits s (frames_given calls) rest) (append_assoc begun piece (taken_in calls) ∙ ap (λ (p : List ℕ). begun ++ (p ++ taken_in calls)) (sym whole)) after
+one_fed calls new rest begun piece taken (Some frame) next later takes run =
+    let after = later [] nothing_is_part (subst (λ (s : DecoderState). Feedings s calls new) takes.2 run) in
+    let first = takes.1 in
+    record {
+      whole = sym (append_assoc begun (take taken piece) (taken_in calls)) ∙ (λ i. first.text i ++ after.whole i)
+          ∙ sym (append_assoc (spelling frame) (flat_map spelling (frames_given calls)) rest) ∙ ap (λ (w : List ℕ). w ++ rest) (sym (flat_map-cons spelling frame (frames_given calls)));
+      each = (first.fits, after.each);
+      part = after.part;
+    }
+
+one_answered : (calls : List Feeding) (new : DecoderState) (rest begun piece : List ℕ) (answer : Result Fed FrameFault) (next : DecoderState) → Later calls new rest → IsPart begun → new ≡ Inside rest → Feeds (Inside begun) piece answer next → Feedings next calls new
+    → Splits (begun ++ (bytes_taken piece answer ++ taken_in calls)) (frame_given answer ++ frames_given calls) rest
+one_answered calls new rest begun piece (Ok fed) next later part ends feeds run = one_fed calls new rest begun piece fed.taken fed.frame next later feeds run
+one_answered calls new rest begun piece (Err fault) next later part ends (inl none) run = later begun part (subst (λ (s : DecoderState). Feedings s calls new) none.1 run)
+one_answered calls new rest begun piece (Err fault) next later part ends (inr breaks) run =
+    absurd (apart rest (sym (broken_stays calls new (subst (λ (s : DecoderState). Feedings s calls new) breaks.3 run)) ∙ ends))
+
+fed_from : (calls : List Feeding) (new : DecoderState) (rest : List ℕ) → new ≡ Inside rest → Later calls new rest
+fed_from [] new rest ends begun part run =
+    let same : begun ≡ rest = inside_is begun rest (sym run ∙ ends) in
+    record { whole = append-nil begun ∙ same; each = tt; part = subst IsPart same part }
+fed_from (c ∷ calls) new rest ends begun part run =
+    let all = one_answered calls new rest begun c.piece c.answer run.0 (fed_from calls new rest ends) part ends run.1 run.2 in
+    let bytes : taken_in (c ∷ calls) ≡ bytes_taken c.piece c.answer ++ taken_in calls = flat_map-cons (λ (d : Feeding). bytes_taken d.piece d.answer) c calls in
+    let frames : frames_given (c ∷ calls) ≡ frame_given c.answer ++ frames_given calls = flat_map-cons (λ (d : Feeding). frame_given d.answer) c calls in
+    subst (λ (fs : List Frame). Splits (begun ++ taken_in (c ∷ calls)) fs rest) (sym frames)
+    (subst (λ (s : List ℕ). Splits (begun ++ s) (frame_given c.answer ++ frames_given calls) rest) (sym bytes) all)
+
+-- what was taken is the frames given and a part of the next
+pub in_pieces : (calls : List Feeding) (rest : List ℕ) → Feedings (Inside []) calls (Inside rest) → Splits (taken_in calls) (frames_given calls) rest
+in_pieces calls rest run = fed_from calls (Inside rest) rest refl [] nothing_is_part run
+
+-- and where a fault follows, the bytes up to it show it
+pub fault_in_pieces : (calls : List Feeding) (begun piece : List ℕ) (fault : FrameFault) → Feedings (Inside []) calls (Inside begun) → Breaks begun piece fault Broken → Fails (taken_in calls ++ piece) (frames_given calls) fault
+fault_in_pieces calls begun piece fault run breaks =
+    let split = in_pieces calls begun run in
+    let front = flat_map spelling (frames_given calls) in
+    let n = breaks.0 in
+    record {
+      bad = begun ++ take n piece;
+      later = drop n piece;
+      whole = ap (λ (w : List ℕ). w ++ piece) split.whole ∙ append_assoc front begun piece
+          ∙ ap (λ (p : List ℕ). front ++ (begun ++ p)) (sym (take-append-drop n piece)) ∙ ap (λ (w : List ℕ). front ++ w) (sym (append_assoc begun (take n piece) (drop n piece)));
+      each = split.each;
+      shown = breaks.2;
+    }
+
+-- ---- one reading
+
+-- of two fronts of one list the shorter is a front of the longer
+shorter : (a x b y : List ℕ) → a ++ x ≡ b ++ y → length a ≤ length b → take (length a) b ≡ a
+shorter a x b y same le = sym (take-append-le (length a) b y le) ∙ ap (take (length a)) (sym same) ∙ take_at a x (length a) refl
+
+longer : (a x b y : List ℕ) → a ++ x ≡ b ++ y → length a ≤ length b → b ≡ a ++ drop (length a) b
+longer a x b y same le = sym (take-append-drop (length a) b) ∙ ap (λ (w : List ℕ). w ++ drop (length a) b) (shorter a x b y same le)
+
+-- where one frame's spelling is a front of another's, they are one frame
+front_frame : (f g : Frame) (x y : List ℕ) → IsFrame f → IsFrame g → spelling f ++ x ≡ spelling g ++ y → length (spelling f) ≤ length (spelling g) → f ≡ g
+front_frame f g x y is_f is_g same le =
+    let rest = drop (length (spelling f)) (spelling g) in
+    let parts : spelling g ≡ spelling f ++ rest = longer (spelling f) x (spelling g) y same le in
+    let none : rest ≡ [] = no_prefix (spelling f) rest f g (record { fits = is_f; text = refl }) (record { fits = is_g; text = sym parts }) in
+    one_spelling (spelling g) f g (record { fits = is_f; text = parts ∙ ap (λ (r : List ℕ). spelling f ++ r) none ∙ append-nil (spelling f) }) (record { fits = is_g; text = refl })
+
+first_frame : (f g : Frame) (x y : List ℕ) → IsFrame f → IsFrame g → spelling f ++ x ≡ spelling g ++ y → f ≡ g
+first_frame f g x y is_f is_g same =
+    ⊎_elim (λ lt. front_frame f g x y is_f is_g same (omega (arith, lt))) (λ le. sym (front_frame g f y x is_g is_f (sym same) le)) (lt_or_le (length (spelling f)) (length (spelling g)))
+
+-- no frame comes first
+abbrev pub NoFrame : List ℕ → Type 0
+NoFrame bytes = (f : Frame) (more : List ℕ) → IsFrame f → bytes ≡ spelling f ++ more → ⊥
+
+frame_reads : (f : Frame) → IsFrame f → read_frame (spelling f) ≡ Ok f
+frame_reads f fits = frame_read (spelling f) f (record { fits = fits; text = refl })
+
+part_no_frame : (rest : List ℕ) → IsPart rest → NoFrame rest
+part_no_frame rest part f more fits is =
+    let n = length (spelling f) in
+    let front : take n rest ≡ spelling f = ap (take n) is ∙ take_at (spelling f) more n refl in
+    no_ok (sym (part n) ∙ ap read_frame front ∙ frame_reads f fits)
+
+bad_no_frame : (bad later : List ℕ) (fault : FrameFault) → ShowsFault bad fault → NoFrame (bad ++ later)
+bad_no_frame bad later fault shown f more fits is =
+    ⊎_elim (λ lt. no_ok (sym (shown.not_before (length (spelling f)) lt) ∙ ap read_frame (shorter (spelling f) more bad later (sym is) (omega (arith, lt))) ∙ frame_reads f fits))
+    (λ le. fault_for_good bad (drop (length bad) (spelling f)) fault f shown (record { fits = fits; text = sym (longer bad later (spelling f) more is le) }))
+    (lt_or_le (length (spelling f)) (length bad))
+
+same_reading : (fs gs : List Frame) (r q : List ℕ) → AllByRecursion IsFrame fs → AllByRecursion IsFrame gs → NoFrame r → NoFrame q → flat_map spelling fs ++ r ≡ flat_map spelling gs ++ q → (fs ≡ gs) × (r ≡ q)
+same_reading [] [] r q all_f all_g none_r none_q same = (refl, same)
+same_reading [] (g ∷ gs) r q all_f all_g none_r none_q same =
+    absurd (none_r g (flat_map spelling gs ++ q) all_g.0 (same ∙ ap (λ (w : List ℕ). w ++ q) (flat_map-cons spelling g gs) ∙ append_assoc (spelling g) (flat_map spelling gs) q))
+same_reading (f ∷ fs) [] r q all_f all_g none_r none_q same =
+    absurd (none_q f (flat_map spelling fs ++ r) all_f.0 (sym same ∙ ap (λ (w : List ℕ). w ++ r) (flat_map-cons spelling f fs) ∙ append_assoc (spelling f) (flat_map spelling fs) r))
+same_reading (f ∷ fs) (g ∷ gs) r q all_f all_g none_r none_q same =
+    let x = flat_map spelling fs ++ r in
+    let y = flat_map spelling gs ++ q in
+    let left : flat_map spelling (f ∷ fs) ++ r ≡ spelling f ++ x = ap (λ (w : List ℕ). w ++ r) (flat_map-cons spelling f fs) ∙ append_assoc (spelling f) (flat_map spelling fs) r in
+    let right : flat_map spelling (g ∷ gs) ++ q ≡ spelling g ++ y = ap (λ (w : List ℕ). w ++ q) (flat_map-cons spelling g gs) ∙ append_assoc (spelling g) (flat_map spelling gs) q in
+    let both : spelling f ++ x ≡ spelling g ++ y = sym left ∙ same ∙ right in
+    let first : f ≡ g = first_frame f g x y all_f.0 all_g.0 both in
+    let len : length (spelling f) ≡ length (spelling g) = ap (λ (k : Frame). length (spelling k)) first in
+    let behind : x ≡ y = sym (drop_at (spelling f) x (length (spelling f)) refl) ∙ ap (drop (length (spelling f))) both ∙ drop_at (spelling g) y (length (spelling f)) (sym len) in
+    let later = same_reading fs gs r q all_f.1 all_g.1 none_r none_q behind in
+    ((λ i. first i ∷ later.0 i), later.1)
+
+mended : (fault : FrameFault) → failed {A = Frame} fault ≡ failed Truncated → IsLasting fault → ⊥
+mended fault short lasting = truncated_mends (subst IsLasting (err_is {A = Frame} fault Truncated short) lasting)
+
+-- what shows a fault isn't shorter than what shows one
+not_shorter : (a x b y : List ℕ) (e d : FrameFault) → ShowsFault a e → ShowsFault b d → a ++ x ≡ b ++ y → length b ≤ length a
+not_shorter a x b y e d first second same =
+    ⊎_elim (λ lt. absurd (mended e (sym first.read ∙ ap read_frame (sym (shorter a x b y same (omega (arith, lt)))) ∙ second.not_before (length a) lt) first.lasting)) (λ le. le) (lt_or_le (length a) (length b))
+
+-- a stream has one list of frames and one rest
+pub one_reading : (stream : List ℕ) (fs gs : List Frame) (r q : List ℕ) → Splits stream fs r → Splits stream gs q → (fs ≡ gs) × (r ≡ q)
+one_reading stream fs gs r q a b = same_reading fs gs r q a.each b.each (part_no_frame r a.part) (part_no_frame q b.part) (sym a.whole ∙ b.whole)
+
+-- a part shows no fault
+pub part_or_fault : (stream : List ℕ) (fs gs : List Frame) (r : List ℕ) (fault : FrameFault) → Splits stream fs r → Fails stream gs fault → ⊥
+part_or_fault stream fs gs r fault a b =
+    let same = same_reading fs gs r (b.bad ++ b.later) a.each b.each (part_no_frame r a.part) (bad_no_frame b.bad b.later fault b.shown) (sym a.whole ∙ b.whole) in
+    let n = length b.bad in
+    let front : take n r ≡ b.bad = ap (take n) same.1 ∙ take_at b.bad b.later n refl in
+    mended fault (sym b.shown.read ∙ ap read_frame (sym front) ∙ a.part n) b.shown.lasting
+
+-- a stream has one fault, behind one list of frames
+pub one_fault : (stream : List ℕ) (fs gs : List Frame) (e d : FrameFault) → Fails stream fs e → Fails stream gs d → (fs ≡ gs) × (e ≡ d)
+one_fault stream fs gs e d a b =
+    let same = same_reading fs gs (a.bad ++ a.later) (b.bad ++ b.later) a.each b.each (bad_no_frame a.bad a.later e a.shown) (bad_no_frame b.bad b.later d b.shown) (sym a.whole ∙ b.whole) in
+    let as_long : length b.bad ≤ length a.bad = not_shorter a.bad a.later b.bad b.later e d a.shown b.shown same.1 in
+    let as_short : length a.bad ≤ length b.bad = not_shorter b.bad b.later a.bad a.later d e b.shown a.shown (sym same.1) in
+    let bad : a.bad ≡ b.bad = sym (shorter a.bad a.later b.bad b.later same.1 as_short) ∙ take_all (length a.bad) b.bad as_long in
+    (same.0, err_is {A = Frame} e d (sym a.shown.read ∙ ap read_frame bad ∙ b.shown.read))

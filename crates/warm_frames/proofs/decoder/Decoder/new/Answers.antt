@@ -1,0 +1,8 @@
+use Rattle.std.proofs.Common.{List, ℕ, ap, ◌∙◌, refl}
+use Rattle.warm_frames.specs.Reading.{start_at}
+use Rattle.warm_frames.specs.Sizes.{frame_size}
+use Rattle.warm_frames.proofs.SizeLemmas.{nothing_short}
+use Rattle.warm_frames.proofs.decoder.Decoder.new.Goals as goal
+
+pub invariant_of-result : goal.invariant_of-result
+invariant_of-result c = nothing_short _ c.new.ensures.items

@@ -1,0 +1,110 @@
+-- Frames in a stream of bytes that comes in pieces.
+use Rattle.std.specs.Prelude.{◌≡◌, ◌⊎◌, ℕ, ◌+◌, ◌*◌, ◌<◌, ◌≤◌, Bool, true, false, List, [], ◌∷◌, ◌++◌, length, take, Option, Some, None, option_to_list, Result, Ok, Err}
+use Rattle.std.specs.List.{AllByRecursion, flat_map}
+use Rattle.warm_frames.specs.declared.decoder.Fed.{Fed}
+use Rattle.warm_frames.specs.declared.entries.TheConstants.{MAX_ENTRIES}
+use Rattle.warm_frames.specs.declared.fault.FrameFault.{FrameFault}
+use Rattle.warm_frames.specs.declared.fault.FrameFault.TheVariants.{Memory, Truncated, Failed}
+use Rattle.warm_frames.specs.declared.frame.Frame.{Frame}
+use Rattle.warm_frames.specs.declared.reading.TheConstants.{HEADER_SIZE}
+use Rattle.warm_frames.specs.Entries.{longest_entry}
+use Rattle.warm_frames.specs.Faults.{fault_code}
+use Rattle.warm_frames.specs.Reading.{read_frame}
+use Rattle.warm_frames.specs.Spelling.{IsFrame, spelling, Spells}
+
+-- Where a decoder stands in its stream: inside a frame of which these bytes have come, none between two frames; or behind a fault.
+pub data DecoderState : Type 0 where
+  Inside : (begun : List ℕ) → DecoderState
+  Broken : DecoderState
+
+-- what a decoder that holds these bytes stands for
+abbrev pub state_of : Bool → List ℕ → DecoderState
+state_of true held = Broken
+state_of false held = Inside held
+
+-- The bytes are a part of a frame: reading them, or a front of them, says that they end too soon.
+abbrev pub IsPart : List ℕ → Type 0
+IsPart bytes = (n : ℕ) → read_frame (take n bytes) ≡ Err Truncated
+
+-- the bytes of the longest frame: a header, a count, and the longest entries
+abbrev pub longest_frame : ℕ
+longest_frame = HEADER_SIZE + 4 + longest_entry * MAX_ENTRIES
+
+-- the faults that no byte more mends, BadMagic to BadOrder
+abbrev pub IsLasting : FrameFault → Type 0
+IsLasting fault = (3 ≤ fault_code fault) × (fault_code fault ≤ 10)
+
+-- The bytes have a fault, known at their last byte and not before.
+pub record ShowsFault (bytes : List ℕ) (fault : FrameFault) : Type 0 where
+  pub read : read_frame bytes ≡ Err fault
+  pub lasting : IsLasting fault
+  pub not_before : (n : ℕ) → n < length bytes → read_frame (take n bytes) ≡ Err Truncated
+
+-- All of the piece was taken, and the frame isn't whole yet; or bytes were taken up to the end of a frame, which is given.
+abbrev pub Takes : List ℕ → List ℕ → ℕ → Option Frame → DecoderState → Type 0
+Takes begun piece taken None new = (taken ≡ length piece) × IsPart (begun ++ piece) × (new ≡ Inside (begun ++ piece))
+Takes begun piece taken (Some frame) new = (taken ≤ length piece) × Spells (begun ++ take taken piece) frame × (new ≡ Inside [])
+
+-- a byte of the piece shows the fault
+abbrev pub Breaks : List ℕ → List ℕ → FrameFault → DecoderState → Type 0
+Breaks begun piece fault new = (n : ℕ) × (n ≤ length piece) × ShowsFault (begun ++ take n piece) fault × (new ≡ Broken)
+
+-- A piece is fed, by the answer. Want of memory changes nothing, and behind a fault nothing is taken.
+abbrev pub Feeds : DecoderState → List ℕ → Result Fed FrameFault → DecoderState → Type 0
+Feeds (Inside begun) piece (Ok fed) new = Takes begun piece fed.taken fed.frame new
+Feeds (Inside begun) piece (Err fault) new = ((fault ≡ Memory) × (new ≡ Inside begun)) ⊎ Breaks begun piece fault new
+Feeds Broken piece answer new = (answer ≡ Err Failed) × (new ≡ Broken)
+
+-- A frame that is the bytes held and those at its end is decoded. Want of memory leaves what is held.
+abbrev pub DecodesWith : List ℕ → List ℕ → Result Frame FrameFault → List ℕ → Type 0
+DecodesWith held end result new = (result ≡ read_frame (held ++ end)) ⊎ ((result ≡ Err Memory) × (new ≡ held))
+
+-- whether a stream may end here: between two frames alone
+abbrev pub finish_of : DecoderState → Result (Unit {0}) FrameFault
+finish_of (Inside []) = Ok tt
+finish_of (Inside (b ∷ begun)) = Err Truncated
+finish_of Broken = Err Failed
+
+-- ---- pieces one after the other
+
+-- a piece, and what was answered to it
+pub record Feeding : Type 0 where
+  pub piece : List ℕ
+  pub answer : Result Fed FrameFault
+
+-- the bytes of a piece that were taken
+abbrev pub bytes_taken : List ℕ → Result Fed FrameFault → List ℕ
+bytes_taken piece (Ok fed) = take fed.taken piece
+bytes_taken piece (Err fault) = []
+
+abbrev pub taken_in : List Feeding → List ℕ
+taken_in = flat_map (λ c. bytes_taken c.piece c.answer)
+
+-- the frame that was given
+abbrev pub frame_given : Result Fed FrameFault → List Frame
+frame_given (Ok fed) = option_to_list fed.frame
+frame_given (Err fault) = []
+
+abbrev pub frames_given : List Feeding → List Frame
+frames_given = flat_map (λ c. frame_given c.answer)
+
+-- pieces fed one after the other
+abbrev pub Feedings : DecoderState → List Feeding → DecoderState → Type 0
+Feedings old [] new = new ≡ old
+Feedings old (c ∷ more) new = (next : DecoderState) × Feeds old c.piece c.answer next × Feedings next more new
+
+-- ---- streams
+
+-- the stream is the spellings of these frames, and then a part of one
+pub record Splits (stream : List ℕ) (frames : List Frame) (rest : List ℕ) : Type 0 where
+  pub whole : stream ≡ flat_map spelling frames ++ rest
+  pub each : AllByRecursion IsFrame frames
+  pub part : IsPart rest
+
+-- the stream is the spellings of these frames, then bytes that show this fault, and whatever follows
+pub record Fails (stream : List ℕ) (frames : List Frame) (fault : FrameFault) : Type 0 where
+  pub bad : List ℕ
+  pub later : List ℕ
+  pub whole : stream ≡ flat_map spelling frames ++ (bad ++ later)
+  pub each : AllByRecursion IsFrame frames
+  pub shown : ShowsFault bad fault

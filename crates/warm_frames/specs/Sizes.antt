@@ -1,0 +1,24 @@
+-- How many bytes a frame has, as soon as its header says it.
+use Rattle.std.specs.Prelude.{◌≡◌, ◌≢◌, ℕ, ◌+◌, ◌<◌, List, ◌++◌, length, Option, Some, None, Result, Ok, Err}
+use Rattle.warm_frames.specs.declared.fault.FrameFault.{FrameFault}
+use Rattle.warm_frames.specs.declared.fault.FrameFault.TheVariants.{Truncated}
+use Rattle.warm_frames.specs.declared.reading.TheConstants.{HEADER_SIZE}
+use Rattle.warm_frames.specs.Reading.{◌>>=◌, start_at, length_at}
+
+-- the size of the frame that begins with these bytes, its header and its body
+unfoldable pub frame_size : List ℕ → Result ℕ FrameFault
+frame_size bytes = do
+  start ← start_at bytes
+  len ← length_at start.0 start.2
+  Ok (HEADER_SIZE + len.0)
+
+-- what is known of the size of the frame that has begun: nothing while its header isn't whole, and then more than has come
+abbrev pub KnowsSize : List ℕ → Option ℕ → Type 0
+KnowsSize begun None = frame_size begun ≡ Err Truncated
+KnowsSize begun (Some size) = (frame_size begun ≡ Ok size) × (length begun < size)
+
+-- what the bytes that have begun a frame and a piece after them say of its size
+abbrev pub SaysSize : List ℕ → List ℕ → Result (Option ℕ) FrameFault → Type 0
+SaysSize begun piece (Ok None) = frame_size (begun ++ piece) ≡ Err Truncated
+SaysSize begun piece (Ok (Some size)) = (frame_size (begun ++ piece) ≡ Ok size) × (length begun < size)
+SaysSize begun piece (Err fault) = (frame_size (begun ++ piece) ≡ Err fault) × (frame_size begun ≡ Err Truncated) × (fault ≢ Truncated)

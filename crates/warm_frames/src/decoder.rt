@@ -1,0 +1,201 @@
+//! Frames from a stream of bytes that comes in pieces.
+ghost use Rattle.std.specs.Prelude.{◌≡◌, ◌⊎◌, ◌<◌, ◌++◌, [], length, IfOk, IfErr, OnOk, OnErr};
+ghost use Rattle.warm_frames.specs.declared.reading.TheConstants.{HEADER_SIZE};
+ghost use Rattle.warm_frames.specs.Spelling.{Spells};
+ghost use Rattle.warm_frames.specs.Sizes.{frame_size, KnowsSize, SaysSize};
+ghost use Rattle.warm_frames.specs.Pieces.{DecoderState.Inside, DecodesWith, Feeds, finish_of};
+
+use crate::fault::FrameFault;
+use crate::frame::{Frame, decode};
+use crate::reading::{HEADER_SIZE, frame_size};
+use std::alloc::Global;
+use std::cmp::min;
+use std::marker::Model;
+
+/// What [`Decoder::feed`] did with a piece.
+#[derive(Debug, Drop)]
+pub struct Fed {
+    /// How many bytes of the piece were taken: up to the end of the frame, or all of them.
+    pub taken: usize,
+    /// The frame that is whole now, if one is.
+    pub frame: Option<Frame>,
+}
+
+/// Decodes frames that follow one another in a stream, however it is cut into pieces.
+///
+/// It holds the bytes of the frame that has begun, never more, and gives a frame as soon as its last
+/// byte is there. Contracts see where it stands: inside a frame of which so many bytes have come, or
+/// behind a fault.
+#[derive(Debug, Drop)]
+pub struct Decoder {
+    alloc: Global,
+    // The bytes of the frame that has begun.
+    held: Vec<u8>,
+    // How many it has in all, once its header says so.
+    size: Option<usize>,
+    failed: bool,
+}
+
+impl Model for Decoder {
+    ghost use Rattle.warm_frames.specs.Spelling.{Spells};
+    ghost use Rattle.warm_frames.specs.Sizes.{KnowsSize};
+    ghost use Rattle.warm_frames.specs.Pieces.{DecoderState, state_of};
+
+    ghost Value = { DecoderState };
+
+    ghost view = { λ d. state_of d.failed d.held.items };
+
+    ghost invariant = { λ d. KnowsSize d.held.items d.size };
+}
+
+// The size of the frame that begins with the bytes held and goes on with the piece. A header may stand
+// in both: it is put together on the stack.
+fn size_with(held: &[u8], piece: &[u8]) -> Result<usize, FrameFault>
+    requires { length held.now < HEADER_SIZE }
+    ensures { result ≡ frame_size (held.now ++ piece.now) }
+{
+    let mut header = [0; HEADER_SIZE];
+    let len = held.len();
+    let more = min(HEADER_SIZE - len, piece.len());
+    header[..len].copy_from_slice(held);
+    header[len..len + more].copy_from_slice(&piece[..more]);
+    frame_size(&header[..len + more])
+}
+
+// The size of the frame, where its header is whole with the piece. It may be known already.
+fn size_of(held: &[u8], known: Option<usize>, piece: &[u8]) -> Result<Option<usize>, FrameFault>
+    requires { KnowsSize held.now known }
+    ensures { SaysSize held.now piece.now result }
+{
+    if let Some(size) = known {
+        return Ok(Some(size));
+    }
+    match size_with(held, piece) {
+        Ok(size) => Ok(Some(size)),
+        Err(fault) => {
+            if let FrameFault::Truncated = fault {
+                return Ok(None);
+            }
+            Err(fault)
+        }
+    }
+}
+
+// Holds the bytes of the piece too.
+fn hold(held: &mut Vec<u8>, piece: &[u8]) -> Result<(), FrameFault>
+    ensures ok { OnOk result (held.new.items ≡ held.old.items ++ piece.now) }
+    ensures err { OnErr result (held.new.items ≡ held.old.items) }
+    ensures memory { IfErr result (λ fault. fault ≡ FrameFault.Memory) }
+{
+    if held.extend_from_slice(piece).is_err() {
+        return Err(FrameFault::Memory);
+    }
+    Ok(())
+}
+
+// The frame that is the bytes held and those at its end. One that stands whole in a piece is decoded
+// there, and nothing is copied.
+fn frame_with(alloc: Global, held: &mut Vec<u8>, end: &[u8]) -> Result<Frame, FrameFault>
+    ensures reads { DecodesWith held.old.items end.now result held.new.items }
+    ensures spelled { IfOk result (λ frame. Spells (held.old.items ++ end.now) frame) }
+{
+    if held.is_empty() {
+        return decode(alloc, end);
+    }
+    let before = held.len();
+    hold(held, end)?;
+    match decode(alloc, held) {
+        Err(FrameFault::Memory) => {
+            held.truncate(before);
+            Err(FrameFault::Memory)
+        }
+        answer => answer,
+    }
+}
+
+impl Decoder {
+    /// A decoder at the beginning of a stream. Takes no memory.
+    pub fn new(alloc: Global) -> Decoder
+        ensures { result ≡ Inside [] }
+    {
+        Decoder {
+            alloc,
+            held: Vec::new(alloc),
+            size: None,
+            failed: false,
+        }
+    }
+
+    /// Takes bytes of the piece, up to the end of the frame that has begun, and gives that frame; or all
+    /// of them, where it isn't whole yet. What wasn't taken belongs to the next frame: it is fed again.
+    ///
+    /// Refused:
+    /// - `Memory`: room for the bytes or for the frame's entries was refused. Nothing was taken, and the
+    ///   same piece may be fed again;
+    /// - any fault of [`decode`] but `Truncated`, as soon as the byte is there at which it is known: that
+    ///   of a field of the header with the field's last byte, that of the body with the body's last byte.
+    ///   No frame's spelling begins with the bytes up to there;
+    /// - `Failed`: there was a fault before. Nothing is taken any more.
+    pub fn feed(&mut self, piece: &[u8]) -> Result<Fed, FrameFault>
+        ensures { Feeds self.old piece.now result self.new }
+    {
+        if self.failed {
+            return Err(FrameFault::Failed);
+        }
+        let size = match size_of(&self.held, self.size, piece) {
+            Ok(Some(size)) => size,
+            Ok(None) => {
+                hold(&mut self.held, piece)?;
+                return Ok(Fed {
+                    taken: piece.len(),
+                    frame: None,
+                });
+            }
+            Err(fault) => {
+                self.failed = true;
+                return Err(fault);
+            }
+        };
+        let missing = size - self.held.len();
+        if piece.len() < missing {
+            hold(&mut self.held, piece)?;
+            self.size = Some(size);
+            return Ok(Fed {
+                taken: piece.len(),
+                frame: None,
+            });
+        }
+        match frame_with(self.alloc, &mut self.held, &piece[..missing]) {
+            Ok(frame) => {
+                self.held.clear();
+                self.size = None;
+                Ok(Fed {
+                    taken: missing,
+                    frame: Some(frame),
+                })
+            }
+            Err(fault) => {
+                if let FrameFault::Memory = fault {
+                    return Err(fault);
+                }
+                self.held.clear();
+                self.size = None;
+                self.failed = true;
+                Err(fault)
+            }
+        }
+    }
+
+    /// Whether the stream may end here. `Truncated` inside a frame, `Failed` behind a fault.
+    pub fn finish(&self) -> Result<(), FrameFault>
+        ensures { result ≡ finish_of self.now }
+    {
+        if self.failed {
+            Err(FrameFault::Failed)
+        } else if self.held.is_empty() {
+            Ok(())
+        } else {
+            Err(FrameFault::Truncated)
+        }
+    }
+}

@@ -1,0 +1,307 @@
+//! Frames that come in pieces, cut in every way.
+//!
+//! With `rt try --test --fail-alloc N`, for N from 1 on, each growth is refused in turn: the same piece
+//! is then fed once more.
+use crate::decoder::{Decoder, Fed};
+use crate::entries::EntryList;
+use crate::fault::FrameFault;
+use crate::frame::{Frame, decode};
+use crate::tests::{TWICE, encoded};
+use std::alloc::Global;
+use std::test::Fail;
+use warm_history::{Entry, PageHist, Two};
+use warm_stamps::{PageId, ReplicaId, Stamp};
+
+// Feeds a piece; where memory is refused, once more.
+fn fed(decoder: &mut Decoder, piece: &[u8]) -> Result<Fed, FrameFault> {
+    match decoder.feed(piece) {
+        Err(FrameFault::Memory) => decoder.feed(piece),
+        answer => answer,
+    }
+}
+
+// Puts bytes behind a text; where memory is refused, once more.
+fn put(text: &mut Vec<u8>, bytes: &[u8]) -> Result<(), Fail> {
+    if text.extend_from_slice(bytes).is_err() {
+        text.extend_from_slice(bytes)?;
+    }
+    Ok(())
+}
+
+// Feeds all of a piece, and puts the spellings of the frames that it gives behind the text.
+fn feed_all(
+    alloc: Global,
+    decoder: &mut Decoder,
+    piece: &[u8],
+    text: &mut Vec<u8>,
+) -> Result<(), Fail> {
+    let mut rest = piece;
+    for _ in 0..=piece.len() {
+        if rest.is_empty() {
+            break;
+        }
+        let fed = fed(decoder, rest)?;
+        rest = rest.get(fed.taken..).ok_or("took too much")?;
+        if let Some(frame) = fed.frame {
+            put(text, &encoded(alloc, &frame)?)?;
+        }
+    }
+    Ok(())
+}
+
+// The spellings of the frames in these pieces, which have to end between two frames.
+fn frames_in(alloc: Global, pieces: &[&[u8]]) -> Result<Vec<u8>, Fail> {
+    let mut decoder = Decoder::new(alloc);
+    let mut text = Vec::new(alloc);
+    for piece in pieces {
+        feed_all(alloc, &mut decoder, piece, &mut text)?;
+    }
+    decoder.finish()?;
+    Ok(text)
+}
+
+#[test]
+fn a_frame_cut_in_two_and_in_three(rt: HostRuntime) -> Result<(), Fail> {
+    for first in 0..43 {
+        for second in first..43 {
+            let (front, end) = TWICE.split_at(second);
+            let (begin, middle) = front.split_at(first);
+            let text = frames_in(rt.alloc(), &[begin, middle, end])?;
+            assert_eq!(rt; text.as_slice(), TWICE.as_slice(), "{first} {second}");
+        }
+        let (begin, end) = TWICE.split_at(first);
+        let text = frames_in(rt.alloc(), &[begin, end])?;
+        assert_eq!(rt; text.as_slice(), TWICE.as_slice(), "{first}");
+    }
+    Ok(())
+}
+
+#[test]
+fn a_frame_twice_over(rt: HostRuntime) -> Result<(), Fail> {
+    let mut both = [0; 84];
+    both[..42].copy_from_slice(&TWICE);
+    both[42..].copy_from_slice(&TWICE);
+    for size in [1, 2, 41, 42, 43, 84] {
+        let mut decoder = Decoder::new(rt.alloc());
+        let mut text = Vec::new(rt.alloc());
+        for piece in both.chunks(size) {
+            feed_all(rt.alloc(), &mut decoder, piece, &mut text)?;
+        }
+        assert_eq!(rt; text.as_slice(), both.as_slice(), "in pieces of {size}");
+        assert_eq!(rt; decoder.finish(), Ok(()));
+
+        assert_eq!(rt;
+            fed(&mut decoder, &[0; 4]).err(),
+            Some(FrameFault::BadMagic)
+        );
+        assert_eq!(rt; fed(&mut decoder, &TWICE).err(), Some(FrameFault::Failed));
+        assert_eq!(rt; decoder.finish(), Err(FrameFault::Failed));
+    }
+    Ok(())
+}
+
+#[test]
+fn a_frame_and_a_byte(rt: HostRuntime) -> Result<(), Fail> {
+    let mut bytes = [0; 43];
+    bytes[..42].copy_from_slice(&TWICE);
+    bytes[42] = 0x4D;
+    let mut decoder = Decoder::new(rt.alloc());
+    let whole = fed(&mut decoder, &bytes)?;
+    assert_eq!(rt; whole.taken, 42);
+    let frame = whole.frame.ok_or("no frame")?;
+    assert_eq!(rt; encoded(rt.alloc(), &frame)?.as_slice(), TWICE.as_slice());
+
+    let begun = fed(&mut decoder, &[0x4D])?;
+    assert_eq!(rt; (begun.taken, begun.frame.is_none()), (1, true));
+    assert_eq!(rt; decoder.finish(), Err(FrameFault::Truncated));
+    assert_eq!(rt;
+        fed(&mut decoder, &[0; 3]).err(),
+        Some(FrameFault::BadMagic)
+    );
+    assert_eq!(rt; fed(&mut decoder, &[]).err(), Some(FrameFault::Failed));
+    assert_eq!(rt; decoder.finish(), Err(FrameFault::Failed));
+    Ok(())
+}
+
+#[test]
+fn a_part_is_not_the_end(rt: HostRuntime) -> Result<(), Fail> {
+    let mut decoder = Decoder::new(rt.alloc());
+    assert_eq!(rt; decoder.finish(), Ok(()));
+    let begun = fed(&mut decoder, &TWICE[..41])?;
+    assert_eq!(rt; (begun.taken, begun.frame.is_none()), (41, true));
+    assert_eq!(rt; decoder.finish(), Err(FrameFault::Truncated));
+    let nothing = fed(&mut decoder, &[])?;
+    assert_eq!(rt; (nothing.taken, nothing.frame.is_none()), (0, true));
+    Ok(())
+}
+
+// How many bytes were taken, fed byte by byte, before the fault.
+fn place_of_fault(alloc: Global, bytes: &[u8]) -> Option<(usize, FrameFault)> {
+    let mut decoder = Decoder::new(alloc);
+    for (place, byte) in bytes.iter().enumerate() {
+        if let Err(fault) = fed(&mut decoder, &[*byte]) {
+            return Some((place, fault));
+        }
+    }
+    None
+}
+
+#[test]
+fn a_fault_comes_with_its_byte(rt: HostRuntime) {
+    let rows = [
+        (0, 0x4D, 3, FrameFault::BadMagic),
+        (4, 4, 4, FrameFault::BadKind),
+        (5, 1, 6, FrameFault::BadSender),
+        (6, 65, 6, FrameFault::BadSender),
+        (7, 1, 10, FrameFault::BadLength),
+        (11, 1, 41, FrameFault::BadCount),
+        (14, 2, 41, FrameFault::BadLength),
+        (21, 3, 41, FrameFault::BadTag),
+        (31, 0, 41, FrameFault::BadStamp),
+        (41, 65, 41, FrameFault::BadStamp),
+    ];
+    for (place, value, at, fault) in rows {
+        let mut bytes = TWICE;
+        bytes[place % 42] = value;
+        let found = place_of_fault(rt.alloc(), &bytes);
+        assert_eq!(rt; found, Some((at, fault)), "{value} at {place}");
+        let whole = fed(&mut Decoder::new(rt.alloc()), &bytes).err();
+        assert_eq!(rt; whole, Some(fault), "{value} at {place}");
+    }
+    // A body of 27,005 bytes is longer than any.
+    let long = [0x4C, 0x32, 0x47, 0x31, 1, 0, 1, 0, 0, 0x69, 0x7D];
+    let found = place_of_fault(rt.alloc(), &long);
+    assert_eq!(rt; found, Some((10, FrameFault::BadLength)));
+}
+
+// Numbers by a linear congruence, the same in each run.
+struct Numbers {
+    state: u64,
+}
+
+impl Numbers {
+    fn next(&mut self) -> u64 {
+        self.state = self
+            .state
+            .wrapping_mul(0x5851_F42D_4C95_7F2D)
+            .wrapping_add(0x1405_7B7E_F767_814F);
+        self.state >> 33
+    }
+
+    fn below(&mut self, n: usize) -> usize {
+        self.next() as usize % n.max(1)
+    }
+}
+
+fn stamp(numbers: &mut Numbers) -> Result<Stamp, Fail> {
+    let replica = ReplicaId::new(1 + (numbers.next() % 64) as u16)?;
+    Ok(Stamp {
+        time: numbers.next(),
+        replica,
+    })
+}
+
+// A frame of up to four entries, whose pages are so far apart, or a wish.
+fn any_frame(alloc: Global, numbers: &mut Numbers) -> Result<Frame, Fail> {
+    let sender = ReplicaId::new(1 + (numbers.next() % 64) as u16)?;
+    let count = numbers.below(6);
+    if count == 5 {
+        return Ok(Frame::Want {
+            sender,
+            mask: numbers.next(),
+        });
+    }
+    let mut entries = match Vec::with_capacity(alloc, count) {
+        Ok(entries) => entries,
+        Err(_) => Vec::with_capacity(alloc, count)?,
+    };
+    for no in 0..count as u32 {
+        let (last, prev) = (stamp(numbers)?, stamp(numbers)?);
+        let page = PageId {
+            dev: 7,
+            no: no.wrapping_mul(1 + (numbers.next() % 9) as u32),
+        };
+        let hist = if prev < last {
+            PageHist::Twice(Two::new(last, prev))
+        } else {
+            PageHist::Once(last)
+        };
+        entries.push(Entry { page, hist })?;
+    }
+    match EntryList::of(entries) {
+        Ok(entries) => Ok(Frame::Entries { sender, entries }),
+        Err(_) => Ok(Frame::Want { sender, mask: 0 }),
+    }
+}
+
+#[test]
+fn pieces_of_any_size(rt: HostRuntime) -> Result<(), Fail> {
+    let mut numbers = Numbers { state: 17 };
+    for _ in 0..100 {
+        let mut stream = Vec::new(rt.alloc());
+        for _ in 0..100 {
+            let bytes = encoded(rt.alloc(), &any_frame(rt.alloc(), &mut numbers)?)?;
+            put(&mut stream, &bytes)?;
+        }
+        let mut decoder = Decoder::new(rt.alloc());
+        let mut text = Vec::new(rt.alloc());
+        let mut rest = stream.as_slice();
+        for _ in 0..stream.len() {
+            let (piece, later) = rest.split_at(numbers.below(90).min(rest.len()));
+            feed_all(rt.alloc(), &mut decoder, piece, &mut text)?;
+            rest = later;
+        }
+        feed_all(rt.alloc(), &mut decoder, rest, &mut text)?;
+        assert_eq!(rt; decoder.finish(), Ok(()));
+        assert_eq!(rt; text.as_slice(), stream.as_slice());
+    }
+    Ok(())
+}
+
+// What is known of the bytes, and from how many of them: the first front of which decode says anything
+// but that it ends too soon.
+fn first_known(alloc: Global, bytes: &[u8]) -> Option<(usize, Result<Frame, FrameFault>)> {
+    for len in 0..=bytes.len() {
+        let answer = match decode(alloc, &bytes[..len]) {
+            Err(FrameFault::Memory) => decode(alloc, &bytes[..len]),
+            answer => answer,
+        };
+        match answer {
+            Err(FrameFault::Truncated) => {}
+            answer => return Some((len, answer)),
+        }
+    }
+    None
+}
+
+#[test]
+fn damaged_frames_against_decode(rt: HostRuntime) -> Result<(), Fail> {
+    let mut numbers = Numbers { state: 4 };
+    for _ in 0..1000 {
+        let mut bytes = encoded(rt.alloc(), &any_frame(rt.alloc(), &mut numbers)?)?;
+        let place = numbers.below(bytes.len());
+        if let Some(byte) = bytes.as_mut_slice().get_mut(place) {
+            *byte = numbers.next() as u8;
+        }
+        let mut decoder = Decoder::new(rt.alloc());
+        let (front, end) = bytes.as_slice().split_at(place.min(bytes.len()));
+        let known = first_known(rt.alloc(), &bytes);
+        let mut found = fed(&mut decoder, front);
+        let mut before = 0;
+        if let Ok(Fed { taken, frame: None }) = found {
+            before = taken;
+            found = fed(&mut decoder, end);
+        }
+        match (known, found) {
+            (None, Ok(fed)) => assert!(rt; fed.frame.is_none()),
+            (Some((len, Ok(want))), Ok(fed)) => {
+                assert_eq!(rt; before.wrapping_add(fed.taken), len);
+                let frame = fed.frame.ok_or("no frame")?;
+                assert_eq!(rt; encoded(rt.alloc(), &frame)?, encoded(rt.alloc(), &want)?);
+            }
+            (Some((_, Err(want))), Err(fault)) => assert_eq!(rt; fault, want),
+            _ => return Err("another answer".into()),
+        }
+    }
+    Ok(())
+}

@@ -1,0 +1,93 @@
+//! The matches of a winner tree, over any order of keys.
+//!
+//! Node 1 is the root, node j stands over nodes 2j and 2j + 1, and the last nodes are the slots in order. A node holds
+//! the slot that comes first of those below it.
+ghost use Rattle.std.specs.Prelude.{◌≡◌, ◌≢◌, ◌*◌, ◌<◌, ◌≤◌, length, replicate, IsTrue};
+ghost use Rattle.warm_rank.specs.Slots.{set_first_cmp};
+ghost use Rattle.warm_rank.specs.WinnerTree.{winner, HasLeaves, IsTree, HasChanged};
+
+use crate::MAX_SLOTS;
+use std::cmp::Ordering;
+
+// Puts the slots into the leaves.
+pub(crate) fn number_leaves(slots: usize, nodes: &mut Vec<u32>)
+    requires some { 0 < slots }
+    requires few { slots ≤ MAX_SLOTS }
+    requires zeros { nodes.old.items ≡ replicate (2 * slots) 0 }
+    ensures { HasLeaves slots nodes.new.items }
+{
+    for slot in 0..slots {
+        nodes[slots + slot] = slot as u32;
+    }
+}
+
+// Plays all matches, the last first.
+pub(crate) fn play_all<K: Ord>(keys: &[Option<K>], nodes: &mut Vec<u32>)
+    requires { HasLeaves (length keys.now) nodes.old.items }
+    ensures { IsTree K.cmp keys.now nodes.new.items }
+{
+    let mut node = keys.len();
+    while node > 1 {
+        node -= 1;
+        let first = nodes[2 * node];
+        let second = nodes[2 * node + 1];
+        nodes[node] = winner_of(keys, first, second);
+    }
+}
+
+// Plays the matches above a slot whose key changed. It stops below a match whose winner stays and is
+// not the slot: nothing above it changes.
+pub(crate) fn play_above<K: Ord>(keys: &[Option<K>], nodes: &mut Vec<u32>, slot: usize)
+    requires range { slot < length keys.now }
+    requires changed { HasChanged K.cmp keys.now nodes.old.items slot }
+    ensures { IsTree K.cmp keys.now nodes.new.items }
+{
+    let mut node = keys.len() + slot;
+    while node > 1 {
+        node /= 2;
+        let before = nodes[node];
+        let first = nodes[2 * node];
+        let second = nodes[2 * node + 1];
+        let now = winner_of(keys, first, second);
+        nodes[node] = now;
+        if is_settled(before, now, slot) {
+            return;
+        }
+    }
+}
+
+// Whether a match has the winner that it had, and that isn't the slot.
+fn is_settled(before: u32, now: u32, slot: usize) -> bool
+    ensures { IsTrue result → (now ≡ before) × (before ≢ slot) }
+{
+    now == before && before as usize != slot
+}
+
+// The slot that comes first of two.
+fn winner_of<K: Ord>(keys: &[Option<K>], a: u32, b: u32) -> u32
+    requires first { a < length keys.now }
+    requires second { b < length keys.now }
+    ensures { result ≡ winner K.cmp keys.now a b }
+{
+    match compare_set(&keys[a as usize], &keys[b as usize]) {
+        Ordering::Less => a,
+        Ordering::Equal => { if b < a { b } else { a } }
+        Ordering::Greater => b,
+    }
+}
+
+// The order of what is set at two slots.
+fn compare_set<K: Ord>(a: &Option<K>, b: &Option<K>) -> Ordering
+    ensures { result ≡ set_first_cmp K.cmp a.now b.now }
+{
+    match a {
+        None => match b {
+            None => Ordering::Equal,
+            Some(_) => Ordering::Greater,
+        },
+        Some(a) => match b {
+            None => Ordering::Less,
+            Some(b) => a.cmp(b),
+        },
+    }
+}

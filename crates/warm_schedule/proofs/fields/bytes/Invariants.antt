@@ -1,0 +1,14 @@
+use Rattle.std.proofs.Common.{◌≡◌, ◌+◌, ◌*◌, ◌≤◌, ◌/◌, length, vec_capacity}
+use Rattle.warm_schedule.specs.Fields.{pairs_of}
+use Rattle.warm_schedule.proofs.Hexes.{with_read}
+use Rattle.warm_schedule.proofs.fields.bytes.Given as goal
+
+abbrev pub invariant-loop-byte : goal.invariant-loop-byte
+invariant-loop-byte l = record {
+  read : with_read l.bytes.items (pairs_of l.rest) ≡ pairs_of l.word;
+  size : 2 * length l.bytes.items + length l.rest ≡ length l.word;
+  room : length l.word / 2 ≤ vec_capacity l.bytes;
+}
+
+abbrev pub decreases-loop-byte : goal.decreases-loop-byte
+decreases-loop-byte l = length l.rest

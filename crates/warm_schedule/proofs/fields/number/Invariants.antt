@@ -1,0 +1,9 @@
+use Rattle.std.proofs.Common.{◌≡◌, ◌≤◌, drop}
+use Rattle.warm_schedule.specs.Fields.{digits_after, number_of}
+use Rattle.warm_schedule.proofs.fields.number.Given as goal
+
+abbrev pub invariant-loop-c : goal.invariant-loop-c
+invariant-loop-c l = record {
+  digits : digits_after l.number (drop l.c-index l.word) ≡ number_of l.word;
+  bound : l.number ≤ l.limit;
+}

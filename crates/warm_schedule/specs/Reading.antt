@@ -1,0 +1,34 @@
+-- What reading a line gives. The bytes of a put take memory, and nothing else of a line does.
+use Rattle.std.specs.Prelude.{◌≡◌, ℕ, List, Option, Result, Err, MatchOption, ok_or, codes}
+use Rattle.warm_world.specs.declared.event.Event.{Event}
+use Rattle.warm_world.specs.declared.event.Event.TheVariants.{Put}
+use Rattle.warm_schedule.specs.declared.parse.Line.{Line}
+use Rattle.warm_schedule.specs.declared.parse.Line.TheVariants.{Nothing, Act}
+use Rattle.warm_schedule.specs.declared.parse.LineFault.{LineFault}
+use Rattle.warm_schedule.specs.declared.parse.LineFault.TheVariants.{Memory, Bad}
+
+-- What is said is given, and Bad where nothing is said. Memory may be given in place of what takes memory.
+abbrev pub Reads : {A : Type 0} → (A → Type 0) → Option A → Result A LineFault → Type 0
+Reads TakesMemory said (Err Memory) = MatchOption said ⊥ TakesMemory
+Reads TakesMemory said read = read ≡ ok_or said Bad
+
+abbrev pub IsPut : Event → Type 0
+IsPut (Put i slot at bytes) = Unit {0}
+IsPut event = ⊥
+
+-- a line that puts bytes into a page
+abbrev pub PutsBytes : Line → Type 0
+PutsBytes Nothing = ⊥
+PutsBytes (Act event) = IsPut event
+
+-- bytes take room
+abbrev pub TakesRoom : List ℕ → Type 0
+TakesRoom bytes = Unit {0}
+
+abbrev pub line_fault_code : LineFault → ℕ
+line_fault_code Memory = 1
+line_fault_code Bad = 2
+
+abbrev pub line_fault_name : LineFault → List ℕ
+line_fault_name Memory = codes "Memory"
+line_fault_name Bad = codes "Bad"

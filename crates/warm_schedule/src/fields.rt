@@ -1,0 +1,171 @@
+//! The fields of a line: each reader takes the first word of the text, and gives what it says and what follows it.
+ghost use Rattle.std.specs.Prelude.{◌≡◌, ◌<◌, ◌≤◌, ◌+◌, ◌∷◌, None, length, IfSome, MatchOption, option_map, is_some};
+ghost use Rattle.warm_schedule.specs.Text.{words};
+ghost use Rattle.warm_schedule.specs.Fields.{digit_of, number_up_to, page_of, slot_of, hex_digit_of, pairs_of, bytes_of};
+ghost use Rattle.warm_schedule.specs.Fields.{number_field, page_field, after_field, slot_field};
+ghost use Rattle.warm_schedule.specs.Reading.{Reads, TakesRoom};
+
+use crate::parse::LineFault;
+use crate::text::{cut, next_word};
+use std::alloc::Global;
+use warm_pool::Slot;
+use warm_stamps::{ByteList, PageId};
+
+const MOST_DEVICE: u64 = 65535;
+
+const MOST_PAGE: u64 = 4294967295;
+
+const MOST_FRAME: u64 = 4294967295;
+
+fn digit(c: u8) -> Option<u8>
+    ensures value { result ≡ digit_of c }
+    ensures bound { IfSome result (λ d. d < 10) }
+{
+    match c {
+        b'0'..=b'9' => Some(c - b'0'),
+        _ => None,
+    }
+}
+
+// The number that a word spells, where it is at most `limit`.
+fn number(word: &[u8], limit: u64) -> Option<u64>
+    ensures value { result ≡ number_up_to limit word.now }
+    ensures bound { IfSome result (λ n. n ≤ limit) }
+{
+    if word.is_empty() {
+        return None;
+    }
+    let mut number = 0u64;
+    for c in word {
+        let next = 10 * u128::from(number) + u128::from(digit(*c)?);
+        if next > u128::from(limit) {
+            return None;
+        }
+        number = next as u64;
+    }
+    Some(number)
+}
+
+#[tactic(auto, unfolding(crate::specs::Fields::page_of))]
+fn page(word: &[u8]) -> Option<PageId>
+    ensures { result ≡ page_of word.now }
+{
+    let (dev, no) = cut(word, b':')?;
+    if let Some(_) = cut(no, b':') {
+        return None;
+    }
+    let dev = number(dev, MOST_DEVICE)? as u16;
+    let no = number(no, MOST_PAGE)? as u32;
+    Some(PageId { dev, no })
+}
+
+#[tactic(auto, unfolding(crate::specs::Fields::slot_of))]
+fn slot(word: &[u8]) -> Option<Slot>
+    ensures { result ≡ slot_of word.now }
+{
+    let (index, generation) = cut(word, b'.')?;
+    if let Some(_) = cut(generation, b'.') {
+        return None;
+    }
+    let index = number(index, MOST_FRAME)? as u32;
+    let generation = number(generation, u64::MAX)?;
+    Some(Slot { index, generation })
+}
+
+// ---- bytes, two hexadecimal digits for each
+
+fn hex_digit(c: u8) -> Option<u8>
+    ensures value { result ≡ hex_digit_of c }
+    ensures bound { IfSome result (λ d. d < 16) }
+{
+    match c {
+        b'0'..=b'9' => Some(c - b'0'),
+        b'a'..=b'f' => Some(c - b'a' + 10),
+        b'A'..=b'F' => Some(c - b'A' + 10),
+        _ => None,
+    }
+}
+
+// The byte that the first two digits spell, and what follows them. `None` where there is none.
+fn first_byte(digits: &[u8]) -> Option<(u8, &[u8])>
+    ensures spelled { MatchOption result (0 < length digits.now → pairs_of digits.now ≡ None)
+        (λ x. pairs_of digits.now ≡ option_map (λ more. x.0 ∷ more) (pairs_of x.1.now)) }
+    ensures shorter { IfSome result (λ x. length x.1.now + 2 ≡ length digits.now) }
+{
+    let [high, low, rest @ ..] = digits else {
+        return None;
+    };
+    let high = hex_digit(*high)?;
+    let low = hex_digit(*low)?;
+    Some((16 * high + low, rest))
+}
+
+fn spells_bytes(word: &[u8]) -> bool
+    ensures { result ≡ is_some (bytes_of word.now) }
+{
+    if word.is_empty() {
+        return false;
+    }
+    let mut rest = word;
+    while let Some((_, after)) = first_byte(rest) {
+        rest = after;
+    }
+    rest.is_empty()
+}
+
+// The bytes that a word spells. Room is asked for only where it spells some.
+pub(crate) fn bytes(alloc: Global, word: &[u8]) -> Result<ByteList, LineFault>
+    ensures { Reads TakesRoom (bytes_of word.now) result }
+{
+    if !spells_bytes(word) {
+        return Err(LineFault::Bad);
+    }
+    let Ok(mut bytes) = Vec::with_capacity(alloc, word.len() / 2) else {
+        return Err(LineFault::Memory);
+    };
+    let mut rest = word;
+    while let Some((byte, after)) = first_byte(rest) {
+        bytes.push_reserved(byte);
+        rest = after;
+    }
+    Ok(ByteList::of(bytes))
+}
+
+// ---- one field, and what follows it
+
+#[tactic(auto, unfolding(crate::specs::Fields::number_field))]
+pub(crate) fn number_at(fields: &[u8], limit: u64) -> Option<(u64, &[u8])>
+    ensures value { option_map (λ x. (x.0, words x.1.now)) result
+        ≡ number_field limit (words fields.now) }
+    ensures bound { IfSome result (λ x. x.0 ≤ limit) }
+{
+    let (word, rest) = next_word(fields)?;
+    Some((number(word, limit)?, rest))
+}
+
+#[tactic(auto, unfolding(crate::specs::Fields::page_field))]
+pub(crate) fn page_at(fields: &[u8]) -> Option<(PageId, &[u8])>
+    ensures { option_map (λ x. (x.0, words x.1.now)) result ≡ page_field (words fields.now) }
+{
+    let (word, rest) = next_word(fields)?;
+    Some((page(word)?, rest))
+}
+
+// A page, or nothing where the line ends before it.
+#[tactic(auto, unfolding(crate::specs::Fields::after_field))]
+pub(crate) fn after_at(fields: &[u8]) -> Option<(Option<PageId>, &[u8])>
+    ensures { option_map (λ x. (x.0, words x.1.now)) result ≡ after_field (words fields.now) }
+{
+    let Some((word, rest)) = next_word(fields) else {
+        return Some((None, fields));
+    };
+    Some((Some(page(word)?), rest))
+}
+
+#[tactic(auto, unfolding(crate::specs::Fields::slot_field))]
+pub(crate) fn slot_at(fields: &[u8]) -> Option<(Slot, &[u8])>
+    ensures { option_map (λ x. (x.0, words x.1.now)) result ≡ slot_field (words fields.now) }
+{
+    let (word, rest) = next_word(fields)?;
+    Some((slot(word)?, rest))
+}

@@ -1,0 +1,62 @@
+-- One replica's pages are written back.
+use Rattle.std.proofs.Common.{◌≡◌, ℕ, ◌+◌, ◌<◌, inl, inr, arith, List, length, map, get_or, set, Result, Ok, Err, refl, sym, ◌∙◌, ap, subst}
+use Rattle.std.specs.Prelude.{IfErr, OnOk}
+use Rattle.std.proofs.lemmas.List.{get_or-map, get_or-set_same, get_or-set_other, length-map, map-set, set-get_or}
+use Rattle.std.proofs.lemmas.Bool.{cases_eq}
+use Rattle.warm_gossip.specs.declared.fault.NodeFault.{NodeFault}
+use Rattle.warm_gossip.specs.declared.fault.NodeFault.TheVariants.{Pool}
+use Rattle.warm_gossip.specs.State.{NodeState, NodeView}
+use Rattle.warm_gossip.specs.Step.{IsFailed, OnPool}
+use Rattle.warm_pool.specs.declared.fault.PoolFault.TheVariants.{Fault}
+use Rattle.warm_world.specs.Opening.{FailsOf, FinishFails, fails}
+use Rattle.warm_pool.specs.State.{IsSettled}
+use Rattle.warm_world.specs.Seen.{AreSettledBefore, ReplicaSeen, WorldSeen}
+use Rattle.warm_world.proofs.Worlds.{world}
+
+module _ {A : Type 0} (f : A → ReplicaSeen) (xs : List A) (frames : List (List ℕ)) (k : ℕ) (x y : A) where
+  shows : k < length xs → x ≡ get_or xs k x → (other : ReplicaSeen) → get_or (map f xs) k other ≡ f x
+  shows lt is other = get_or-map f xs k x other lt ∙ ap f (sym is)
+
+  stays : k < length xs → x ≡ get_or xs k x → f y ≡ f x → world f xs frames (set xs k y) ≡ world f xs frames xs
+  stays lt is same = ap (λ (rs : List ReplicaSeen). let w : WorldSeen = record { replicas = rs; frames = frames } in w)
+      (map-set f xs k y ∙ ap (set (map f xs) k) (same ∙ sym (shows lt is (f x))) ∙ set-get_or (map f xs) k (f x))
+
+  -- where the replica's node shows what it showed, so does the world
+  pub same_if : {T E : Type 0} (result : Result T E) → k < length xs → x ≡ get_or xs k x → (f y).buffers ≡ (f x).buffers → OnOk result ((f y).node ≡ (f x).node) → OnOk result (world f xs frames (set xs k y) ≡ world f xs frames xs)
+  same_if (Ok done) lt is alike same = stays lt is (rw (← same, ← alike) refl)
+  same_if (Err why) lt is alike same = tt
+
+  failed : k < length xs → x ≡ get_or xs k x → (f y).buffers ≡ (f x).buffers → OnPool IsFailed (f x).node (f y).node → FailsOf (world f xs frames xs) (world f xs frames (set xs k y))
+  failed lt is alike did = record {
+    replica = k;
+    there = subst (λ n. k < n) (sym (length-map xs f)) lt;
+    pool = (f y).node.pool;
+    failed = λ other. subst (λ (r : ReplicaSeen). IsFailed r.node.pool (f y).node.pool) (sym (shows lt is other)) did.1;
+    becomes = λ other. ap (λ (rs : List ReplicaSeen). let w : WorldSeen = record { replicas = rs; frames = frames } in w)
+        (map-set f xs k y ∙ ap (set (map f xs) k)
+        (ap (λ (n : NodeView). let r : ReplicaSeen = record { node = n; buffers = (f y).buffers } in r) did.0
+        ∙ ap (λ bs. let r : ReplicaSeen = record { node = record (f x).node { pool = (f y).node.pool }; buffers = bs } in r) alike
+        ∙ ap (λ (r : ReplicaSeen). fails r (f y).node.pool) (sym (shows lt is other))));
+  }
+
+  -- where writing back has failed, it has for this replica
+  pub fails_if : {T : Type 0} (result : Result T NodeFault) → k < length xs → x ≡ get_or xs k x → (f y).buffers ≡ (f x).buffers
+      → IfErr result (λ why. (why ≡ Pool Fault) × OnPool IsFailed (f x).node (f y).node) → IfErr result (λ why. FinishFails (world f xs frames xs) why (world f xs frames (set xs k y)))
+  fails_if (Ok done) lt is alike did = tt
+  fails_if (Err why) lt is alike did = (did.0, failed lt is alike did.1)
+
+-- the nodes up to this one are settled where those before it were, and it is
+module _ {A : Type 0} (g : A → NodeState) (xs : List A) (k : ℕ) (y : A) where
+  settled_next : k < length xs → AreSettledBefore k (map g xs) → IsSettled (g y).pool → AreSettledBefore (k + 1) (set (map g xs) k (g y))
+  settled_next lt before here j other low = elim (cases_eq j k) [
+    | inl same ↦ rw same (rw (get_or-set_same (map g xs) k (g y) other (subst (λ n. k < n) (sym (length-map xs g)) lt)) here)
+    | inr apart ↦ rw (get_or-set_other (map g xs) k j (g y) other apart) (before j other (omega (arith, low, apart)))
+  ]
+
+  pub settled_if : {T E : Type 0} (result : Result T E) → k < length xs → AreSettledBefore k (map g xs) → OnOk result (IsSettled (g y).pool) → OnOk result (AreSettledBefore (k + 1) (map g (set xs k y)))
+  settled_if (Ok done) lt before here = subst (AreSettledBefore (k + 1)) (sym (map-set g xs k y)) (settled_next lt before here)
+  settled_if (Err why) lt before here = tt
+
+-- what fails in a world that shows what it showed fails in that
+pub fails_since : (old mid new : WorldSeen) (why : NodeFault) → mid ≡ old → FinishFails mid why new → FinishFails old why new
+fails_since old mid new why same = subst (λ w. FinishFails w why new) same

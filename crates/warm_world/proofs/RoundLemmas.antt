@@ -1,0 +1,258 @@
+-- Deliveries of a world are frames that a node hears.
+use Rattle.std.proofs.Common.{◌≡◌, ◌≢◌, ◌⊎◌, inl, inr, ℕ, ◌+◌, ◌-◌, ◌<◌, List, [], ◌∷◌, ◌++◌, length, map, refl, sym, ap, subst, ◌∙◌, append_assoc, arith, Bool, true, false, if◌then◌else◌}
+use Rattle.std.specs.Prelude.{◌==◌, slice_index_or}
+use Rattle.std.specs.List.{AllByRecursion}
+use Rattle.std.proofs.lemmas.Bool.{cases_eq}
+use Rattle.std.proofs.lemmas.List.{append-nil, length-append, length-map, map-append, get_or-set_same, get_or-set_other, get_or-append-add}
+use Rattle.warm_history.specs.ReferenceSets.{ReferenceSet}
+use Rattle.warm_history.specs.Histories.{HistoryView, entries_of, history, join}
+use Rattle.warm_history.proofs.HistoryLemmas.{IsHistory-history}
+use Rattle.warm_history.proofs.JoinLemmas.{join_repeats}
+use Rattle.warm_frames.specs.declared.frame.Frame.{Frame}
+use Rattle.warm_frames.specs.declared.frame.Frame.TheVariants.{Want}
+use Rattle.warm_digest.specs.BucketSums.{sums_of}
+use Rattle.warm_digest.specs.Exchange.{Fits, IsCollision}
+use Rattle.warm_gossip.specs.Answers.{wanted_frames, IsAnswer, taught}
+use Rattle.warm_gossip.specs.Round.{Hears, offer}
+use Rattle.warm_gossip.specs.Round as node
+use Rattle.warm_gossip.proofs.RoundLemmas.{own_sums_unanswered, entries_teach}
+use Rattle.warm_gossip.proofs.RoundLemmas as node_rounds
+use Rattle.warm_world.specs.declared.event.Event.TheVariants.{Offer, Deliver}
+use Rattle.warm_world.specs.declared.event.Answer.{Answer}
+use Rattle.warm_world.specs.declared.event.Answer.TheVariants.{Done, Shown, FrameNo, Took, Pinned, Bytes, Page, Pages, Loaded, Refused}
+use Rattle.warm_world.specs.Lists.{place}
+use Rattle.warm_world.specs.States.{ModelState, FrameRecord, References, Sums, Mask, ReplicaState, add_records, nobody, replica, reach_of, record_at}
+use Rattle.warm_world.specs.Answered.{wanted_records, AreAnswers, heard}
+use Rattle.warm_world.specs.Next.{Next, Run, Delivered, IsNamed, shape}
+use Rattle.warm_world.specs.Stands.{frame_kept}
+use Rattle.warm_world.proofs.Histories.{taught_heard, wanted_kept}
+use Rattle.warm_world.proofs.WidthLemmas.{histories_fit}
+use Rattle.warm_world.specs.Rounds.{IsTaken, NoneRefused, deliveries, new_frames_to, GossipRound, known_to, AreJoined, GossipRoundJoins}
+
+-- ---- the records of an answer, as the frames that a node answers
+
+asking_kept : (i : ℕ) (S : ReferenceSet) (mask : ℕ) → map frame_kept (wanted_records i S mask ++ Mask i mask ∷ []) ≡ wanted_frames i (history S) mask ++ Want i mask ∷ []
+asking_kept i S mask =
+    map-append frame_kept (wanted_records i S mask) (Mask i mask ∷ [])
+    ∙ ap (λ (fs : List Frame). fs ++ Want i mask ∷ []) (sym (wanted_kept i S mask))
+
+asking_or_none : (i : ℕ) (S : ReferenceSet) (mask : ℕ) (none : Bool)
+    → map frame_kept (if none then [] else wanted_records i S mask ++ Mask i mask ∷ []) ≡ if none then [] else wanted_frames i (history S) mask ++ Want i mask ∷ []
+asking_or_none i S mask true = refl
+asking_or_none i S mask false = asking_kept i S mask
+
+-- the answers of the model are answers of the node
+pub answers_kept : (i : ℕ) (S : ReferenceSet) (kept : FrameRecord) (added : List FrameRecord) → AreAnswers i S kept added → IsAnswer i (history S) (frame_kept kept) (map frame_kept added)
+answers_kept i S (References sender refs) added is = ap (map frame_kept) is
+answers_kept i S (Mask sender mask) added is = ap (map frame_kept) is ∙ sym (wanted_kept i S mask)
+answers_kept i S (Sums sender sums) added is = (is.0, is.1, is.2, ap (map frame_kept) is.3 ∙ asking_or_none i S is.0 (is.0 == 0))
+
+-- ---- one delivery
+
+-- a delivery that is not refused
+record IsDelivery (old : ModelState) (j k : ℕ) (new : ModelState) : Type 0 where
+  named : IsNamed (shape old) (Deliver j k)
+  count : ℕ
+  first : ℕ
+  done : Delivered old j (record_at old (place k)) count first new
+
+delivery : (old : ModelState) (j k : ℕ) (answer : Answer) (new : ModelState) → IsTaken answer → Next old (Deliver j k) answer new → IsDelivery old j k new
+delivery old j k (Took count first) new taken next = record { named = next.0; count = count; first = first; done = next.1 }
+delivery old j k (Refused fault) new taken next = absurd taken
+delivery old j k Done new taken next = absurd next.1
+delivery old j k (Shown h) new taken next = absurd next.1
+delivery old j k (FrameNo n) new taken next = absurd next.1
+delivery old j k (Pinned slot) new taken next = absurd next.1
+delivery old j k (Bytes bytes) new taken next = absurd next.1
+delivery old j k (Page page) new taken next = absurd next.1
+delivery old j k (Pages pages) new taken next = absurd next.1
+delivery old j k (Loaded page) new taken next = absurd next.1
+
+abbrev nth : List FrameRecord → ℕ → FrameRecord
+nth records k = slice_index_or records k (References 0 [])
+
+-- the record after the first ones
+next_record : (records before : List FrameRecord) (kept : FrameRecord) (after : List FrameRecord) → records ≡ before ++ kept ∷ after → nth records (place (length before + 1)) ≡ kept
+next_record records before kept after is =
+    let at : place (length before + 1) ≡ length before + 0 = omega arith in
+    ap (nth records) at ∙ ap (λ (all : List FrameRecord). nth all (length before + 0)) is ∙ get_or-append-add before (kept ∷ after) 0 (References 0 [])
+
+-- what a delivery does to what reached the replicas, and to the records
+record IsHeard (j : ℕ) (kept : FrameRecord) (added : List FrameRecord) (old new : ModelState) : Type 0 where
+  answers : IsAnswer j (known_to old j) (frame_kept kept) (map frame_kept added)
+  taught_it : known_to new j ≡ taught (known_to old j) (frame_kept kept)
+  others : (i : ℕ) → place i ≢ place j → reach_of new i ≡ reach_of old i
+  records : new.records ≡ old.records ++ added
+
+is_heard : (old : ModelState) (j k : ℕ) (kept : FrameRecord) (new : ModelState) (d : IsDelivery old j k new) → record_at old (place k) ≡ kept → IsHeard j kept d.done.added old new
+is_heard old j k kept new d is =
+    let S : ReferenceSet = reach_of old j in
+    let next : ReplicaState = record (replica old (place j)) { reach = heard S (record_at old (place k)) } in
+    let there : place j < length old.replicas = omega (arith, d.named.replica_there.from_one, d.named.replica_there.in_range, length-map old.replicas (λ r. length r.pending)) in
+    let own : reach_of new j ≡ heard S (record_at old (place k)) =
+    ap (λ (m : ModelState). reach_of m j) d.done.becomes ∙ ap (λ (r : ReplicaState). r.reach) (get_or-set_same old.replicas (place j) next nobody there) in
+    record {
+      answers = subst (λ (r : FrameRecord). IsAnswer j (known_to old j) (frame_kept r) (map frame_kept d.done.added)) is (answers_kept j S (record_at old (place k)) d.done.added d.done.answers);
+      taught_it = ap history own ∙ sym (taught_heard S (record_at old (place k))) ∙ ap (λ (r : FrameRecord). taught (known_to old j) (frame_kept r)) is;
+      others = λ i other. ap (λ (m : ModelState). reach_of m i) d.done.becomes ∙ ap (λ (r : ReplicaState). r.reach) (get_or-set_other old.replicas (place j) (place i) next nobody other);
+      records = ap (λ (m : ModelState). m.records) d.done.becomes;
+    }
+
+-- ---- deliveries one after the other
+
+-- the replica j has heard these records, its answers were kept, and nothing else reached a replica
+record HeardAll (j : ℕ) (heard_ones : List FrameRecord) (old new : ModelState) : Type 0 where
+  added : List FrameRecord
+  records : new.records ≡ old.records ++ added
+  hears : Hears j (known_to old j) (map frame_kept heard_ones) (map frame_kept added) (known_to new j)
+  others : (i : ℕ) → place i ≢ place j → reach_of new i ≡ reach_of old i
+
+hears_run : (j : ℕ) (fs before after : List FrameRecord) (old new : ModelState) (answers : List Answer) → old.records ≡ before ++ (fs ++ after)
+    → Run old (deliveries j (length before) (length fs)) answers new → AllByRecursion IsTaken answers → HeardAll j fs old new
+hears_run j [] before after old new [] is run taken = record {
+  added = [];
+  records = ap (λ (m : ModelState). m.records) run ∙ sym (append-nil old.records);
+  hears = (refl, ap (λ (m : ModelState). known_to m j) run);
+  others = λ i other. ap (λ (m : ModelState). reach_of m i) run;
+}
+hears_run j [] before after old new (answer ∷ answers) is run taken = absurd run
+hears_run j (f ∷ fs) before after old new [] is run taken = absurd run
+hears_run j (f ∷ fs) before after old new (answer ∷ answers) is run taken =
+    let mid : ModelState = run.0 in
+    let d : IsDelivery old j (length before + 1) mid = delivery old j (length before + 1) answer mid taken.0 run.1 in
+    let one : IsHeard j f d.done.added old mid = is_heard old j (length before + 1) f mid d (next_record old.records before f (fs ++ after) is) in
+    let parts : mid.records ≡ (before ++ f ∷ []) ++ (fs ++ (after ++ d.done.added)) =
+    one.records
+    ∙ ap (λ (rs : List FrameRecord). rs ++ d.done.added) is
+    ∙ append_assoc before (f ∷ (fs ++ after)) d.done.added
+    ∙ ap (λ (rs : List FrameRecord). before ++ f ∷ rs) (append_assoc fs after d.done.added)
+    ∙ sym (append_assoc before (f ∷ []) (fs ++ (after ++ d.done.added))) in
+    let longer : length before + 1 ≡ length (before ++ f ∷ []) = sym (length-append before (f ∷ [])) in
+    let rest : HeardAll j fs mid new =
+    hears_run j fs (before ++ f ∷ []) (after ++ d.done.added) mid new answers parts (subst (λ (n : ℕ). Run mid (deliveries j n (length fs)) answers new) longer run.2) taken.1 in
+    record {
+      added = d.done.added ++ rest.added;
+      records = rest.records ∙ ap (λ (rs : List FrameRecord). rs ++ rest.added) one.records ∙ append_assoc old.records d.done.added rest.added;
+      hears = (
+        map frame_kept d.done.added,
+        map frame_kept rest.added,
+        one.answers,
+        subst (λ (h : HistoryView). Hears j h (map frame_kept fs) (map frame_kept rest.added) (known_to new j)) one.taught_it rest.hears,
+        map-append frame_kept d.done.added rest.added,
+      );
+      others = λ i other. rest.others i other ∙ one.others i other;
+    }
+
+-- what was kept between two states comes to the replica j
+hears_new : (j : ℕ) (fs : List FrameRecord) (before after new : ModelState) → after.records ≡ before.records ++ fs → NoneRefused after (new_frames_to j before after) new → HeardAll j fs after new
+hears_new j fs before after new is come =
+    let many : length after.records - length before.records ≡ length fs = omega (arith, ap length is, length-append before.records fs) in
+    hears_run j fs before.records [] after new come.answers (is ∙ ap (λ (rs : List FrameRecord). before.records ++ rs) (sym (append-nil fs)))
+    (subst (λ (n : ℕ). Run after (deliveries j (length before.records) n) come.answers new) many come.run) come.taken
+
+-- ---- the offer
+
+abbrev offer_record : ModelState → ℕ → FrameRecord
+offer_record m i = Sums i (sums_of (entries_of (known_to m i)))
+
+offer_kept : (old : ModelState) (i : ℕ) (answer : Answer) (new : ModelState) → IsTaken answer → Next old (Offer i) answer new → new ≡ add_records old (offer_record old i ∷ [])
+offer_kept old i (FrameNo k) new taken next = next.1.1
+offer_kept old i (Refused fault) new taken next = absurd taken
+offer_kept old i Done new taken next = absurd next.1
+offer_kept old i (Shown h) new taken next = absurd next.1
+offer_kept old i (Took count first) new taken next = absurd next.1
+offer_kept old i (Pinned slot) new taken next = absurd next.1
+offer_kept old i (Bytes bytes) new taken next = absurd next.1
+offer_kept old i (Page page) new taken next = absurd next.1
+offer_kept old i (Pages pages) new taken next = absurd next.1
+offer_kept old i (Loaded page) new taken next = absurd next.1
+
+offered_is : (old : ModelState) (i : ℕ) (answers : List Answer) (new : ModelState) → Run old (Offer i ∷ []) answers new → AllByRecursion IsTaken answers → new ≡ add_records old (offer_record old i ∷ [])
+offered_is old i [] new run taken = absurd run
+offered_is old i (answer ∷ []) new run taken = run.2 ∙ offer_kept old i answer run.0 taken.0 run.1
+offered_is old i (answer ∷ other ∷ answers) new run taken = absurd run.2
+
+-- ---- the round
+
+none_mapped : (rs : List FrameRecord) → map frame_kept rs ≡ [] → rs ≡ []
+none_mapped [] is = refl
+none_mapped (r ∷ rs) is = absurd (cc)
+
+-- who hears nothing answers nothing, and knows what it knew
+hears_nothing : (j : ℕ) (fs : List FrameRecord) (old new : ModelState) → fs ≡ [] → (all : HeardAll j fs old new) → (all.added ≡ []) × (known_to new j ≡ known_to old j)
+hears_nothing j fs old new none all =
+    let hears : Hears j (known_to old j) [] (map frame_kept all.added) (known_to new j) =
+    subst (λ (rs : List FrameRecord). Hears j (known_to old j) (map frame_kept rs) (map frame_kept all.added) (known_to new j)) none all.hears in
+    (none_mapped all.added hears.0, hears.1)
+
+round_joins : (i j : ℕ) (old new : ModelState) → Fits (known_to old i) → Fits (known_to old j) → GossipRound i j old new → AreJoined i j old new ⊎ IsCollision (known_to old i) (known_to old j)
+round_joins i j old new fits others round = elim (cases_eq (place i) (place j)) [
+  | inl same ↦ inl (own same)
+  | inr other ↦ elim (node_rounds.gossip_round_joins i j h g (known_to new i) (known_to new j) (IsHistory-history (reach_of old i)) (IsHistory-history (reach_of old j)) fits others (between other)) [
+    | inl both ↦ inl (record { first = both.0; second = both.1 })
+    | inr collision ↦ inr collision
+  ]
+]
+  where
+    h : HistoryView
+    h = known_to old i
+
+    g : HistoryView
+    g = known_to old j
+
+    offered_it : round.offered ≡ add_records old (offer_record old i ∷ [])
+    offered_it = offered_is old i round.offers.answers round.offered round.offers.run round.offers.taken
+
+    knew : (k : ℕ) → known_to round.offered k ≡ known_to old k
+    knew k = ap (λ (m : ModelState). known_to m k) offered_it
+
+    first : HeardAll j (offer_record old i ∷ []) round.offered round.asked
+    first = hears_new j (offer_record old i ∷ []) old round.offered round.asked (ap (λ (m : ModelState). m.records) offered_it) round.asks
+
+    second : HeardAll i first.added round.asked round.given
+    second = hears_new i first.added round.offered round.asked round.given first.records round.gives
+
+    third : HeardAll j second.added round.given new
+    third = hears_new j second.added round.asked round.given new second.records round.ends
+
+    -- what j answers to the sums of h, and that these taught it nothing
+    answered : IsAnswer j g (offer i h) (map frame_kept first.added)
+    answered =
+        let whole : first.hears.0 ≡ map frame_kept first.added = sym (first.hears.4 ∙ ap (λ (fs : List Frame). first.hears.0 ++ fs) first.hears.3.0 ∙ append-nil first.hears.0) in
+        subst (λ (k : HistoryView). IsAnswer j k (offer i h) (map frame_kept first.added)) (knew j) (subst (IsAnswer j (known_to round.offered j) (offer i h)) whole first.hears.2)
+
+    knows : known_to round.asked j ≡ g
+    knows = first.hears.3.1 ∙ knew j
+
+    between : place i ≢ place j → node.GossipRound i j h g (known_to new i) (known_to new j)
+    between other =
+        let back : place j ≢ place i = λ same. other (sym same) in
+        let before : known_to round.asked i ≡ h = ap history (first.others i other) ∙ knew i in
+        let after : known_to round.given i ≡ known_to new i = sym (ap history (third.others i other)) in
+        let kept : known_to round.given j ≡ g = ap history (second.others j back) ∙ knows in
+        let heard_it : Hears i h (map frame_kept first.added) (map frame_kept second.added) (known_to new i) =
+        subst (Hears i h (map frame_kept first.added) (map frame_kept second.added)) after
+        (subst (λ (k : HistoryView). Hears i k (map frame_kept first.added) (map frame_kept second.added) (known_to round.given i)) before second.hears) in
+        record {
+          asked = map frame_kept first.added;
+          given = map frame_kept second.added;
+          last = map frame_kept third.added;
+          offered = answered;
+          heard = heard_it;
+          back = subst (λ (k : HistoryView). Hears j k (map frame_kept second.added) (map frame_kept third.added) (known_to new j)) kept third.hears;
+        }
+
+    -- a replica that gossips with itself hears of nothing
+    own : place i ≡ place j → AreJoined i j old new
+    own same =
+        let one : (m : ModelState) → known_to m i ≡ known_to m j = λ m. ap (λ (k : ℕ). history (replica m k).reach) same in
+        let none : first.added ≡ [] =
+        none_mapped first.added (own_sums_unanswered i j h (map frame_kept first.added) (subst (λ (k : HistoryView). IsAnswer j k (offer i h) (map frame_kept first.added)) (sym (one old)) answered)) in
+        let then_i = hears_nothing i first.added round.asked round.given none second in
+        let then_j = hears_nothing j second.added round.given new then_i.0 third in
+        let unchanged : known_to new j ≡ g = then_j.1 ∙ sym (one round.given) ∙ then_i.1 ∙ one round.asked ∙ knows in
+        let joins : join h g ≡ g = ap (λ (k : HistoryView). join k g) (one old) ∙ join_repeats g (IsHistory-history (reach_of old j)) in
+        record { first = one new ∙ unchanged ∙ sym joins; second = unchanged ∙ sym joins }
+
+pub gossip_round_joins : GossipRoundJoins
+gossip_round_joins i j old new fits round = round_joins i j old new (histories_fit old i fits) (histories_fit old j fits) round

@@ -1,0 +1,112 @@
+-- Warm-up steps of a world are those of the replica's node.
+use Rattle.std.proofs.Common.{◌≡◌, ℕ, zero, suc, ◌<◌, List, [], ◌∷◌, length, map, get_or, replicate, Option, Some, None, refl, sym, ap, subst, ◌∙◌, inl, inr, arith}
+use Rattle.std.specs.List.{AllByRecursion}
+use Rattle.std.proofs.Math.ListN.{get_or-map}
+use Rattle.std.proofs.lemmas.Bool.{cases_lt}
+use Rattle.std.proofs.lemmas.List.{get_or-set_same, get_or_past, length-map}
+use Rattle.warm_stamps.specs.declared.PageId.{PageId}
+use Rattle.warm_pool.specs.State.{opened as opened_pool}
+use Rattle.warm_pool.specs.View.{PoolView, view_of}
+use Rattle.warm_gossip.specs.declared.call.Call.TheVariants as call
+use Rattle.warm_gossip.specs.declared.call.Reply.TheVariants as reply
+use Rattle.warm_gossip.specs.State.{NodeState, NodeView, opened, node_view}
+use Rattle.warm_gossip.specs.Step.{Step}
+use Rattle.warm_gossip.specs.WarmUps.{PagesDiffer, WarmSteps}
+use Rattle.warm_gossip.proofs.WarmUpLemmas.{pages_differ}
+use Rattle.warm_gossip.proofs.WarmUpLemmas as node_warm_ups
+use Rattle.warm_world.specs.declared.event.Event.TheVariants.{WarmStep}
+use Rattle.warm_world.specs.declared.event.Answer.{Answer}
+use Rattle.warm_world.specs.declared.event.Answer.TheVariants.{Done, Shown, FrameNo, Took, Pinned, Bytes, Page, Pages, Loaded, Refused}
+use Rattle.warm_world.specs.Lists.{place}
+use Rattle.warm_world.specs.States.{ModelState, ReplicaState, nobody, no_pool, node_of, pool_of, reach_of, replica, set_pool}
+use Rattle.warm_world.specs.Seen.{AreNodes, ReplicaSeen, WorldSeen}
+use Rattle.warm_world.specs.Next.{Asked, IsNamed, Next, Run, shape}
+use Rattle.warm_world.specs.Stands.{ReplicaStands, StandsFor}
+use Rattle.warm_world.specs.Rounds.{IsTaken}
+use Rattle.warm_world.specs.WarmUps.{PoolsDiffer, WarmUpLoads}
+
+-- ---- one step
+
+-- a step that is not refused
+record IsWarmStep (old : ModelState) (i : ℕ) (new : ModelState) : Type 0 where
+  named : IsNamed (shape old) (WarmStep i)
+  loaded : Option PageId
+  asked : Asked old i call.WarmStep (reply.Loaded loaded) new
+
+warm_step : (old : ModelState) (i : ℕ) (answer : Answer) (new : ModelState) → IsTaken answer → Next old (WarmStep i) answer new → IsWarmStep old i new
+warm_step old i (Loaded page) new taken next = record { named = next.0; loaded = page; asked = next.1 }
+warm_step old i (Refused fault) new taken next = absurd taken
+warm_step old i Done new taken next = absurd next.1
+warm_step old i (Shown h) new taken next = absurd next.1
+warm_step old i (FrameNo n) new taken next = absurd next.1
+warm_step old i (Took count first) new taken next = absurd next.1
+warm_step old i (Pinned slot) new taken next = absurd next.1
+warm_step old i (Bytes bytes) new taken next = absurd next.1
+warm_step old i (Page page) new taken next = absurd next.1
+warm_step old i (Pages pages) new taken next = absurd next.1
+
+-- it is a step of the replica's node
+node_steps : (old : ModelState) (i : ℕ) (new : ModelState) (w : IsWarmStep old i new) → Step (node_of old i) call.WarmStep (reply.Loaded w.loaded) (node_of new i)
+node_steps old i new w =
+    let pool : PoolView = w.asked.0 in
+    let next : ReplicaState = record (replica old (place i)) { pool = pool } in
+    let there : place i < length old.replicas = omega (arith, w.named.replica_there.from_one, w.named.replica_there.in_range, length-map old.replicas (λ r. length r.pending)) in
+    let at : replica (set_pool old i pool) (place i) ≡ next = get_or-set_same old.replicas (place i) next nobody there in
+    let after : replica new (place i) ≡ next = ap (λ (m : ModelState). replica m (place i)) w.asked.2 ∙ at in
+    let node : node_of new i ≡ record (node_of old i) { pool = pool } = cc in
+    subst (Step (node_of old i) call.WarmStep (reply.Loaded w.loaded)) (sym node) w.asked.1
+
+-- ---- steps one after the other
+
+steps_run : (i n : ℕ) (old new : ModelState) (answers : List Answer) → Run old (replicate n (WarmStep i)) answers new → AllByRecursion IsTaken answers → WarmSteps n (node_of old i) (node_of new i)
+steps_run i zero old new [] run taken = ap (λ (m : ModelState). node_of m i) run
+steps_run i zero old new (answer ∷ answers) run taken = absurd run
+steps_run i (suc n) old new [] run taken = absurd run
+steps_run i (suc n) old new (answer ∷ answers) run taken =
+    let mid : ModelState = run.0 in
+    let one : IsWarmStep old i mid = warm_step old i answer mid taken.0 run.1 in
+    (one.loaded, node_of mid i, node_steps old i mid one, steps_run i n mid new answers run.2 taken.1)
+
+pub warm_up_loads : WarmUpLoads
+warm_up_loads i old new differ unfixed steps p warm_page =
+    node_warm_ups.warm_up_loads (reach_of old i) (node_of old i) (node_of new i) refl (differ i) unfixed
+    (steps_run i (length (pool_of old i).frames) old new steps.answers steps.run steps.taken) p warm_page
+
+-- ---- what a world that is one shows
+
+-- a pool without frames
+bare_differs : PagesDiffer no_pool
+bare_differs i j p first second = absurd (let never : None ≡ Some p = first in cc)
+
+-- what a reader beyond the last node or replica is given
+no_node : NodeState
+no_node = opened 0 (opened_pool 0 0 [])
+
+abbrev unseen : ReplicaSeen
+unseen = record { node = node_view no_node; buffers = [] }
+
+module _ {A : Type 0} (g : A → NodeState) (f : A → ReplicaSeen) (shown : (x : A) → (f x).node ≡ node_view (g x)) where
+  same_nodes : (xs : List A) → map (λ (r : ReplicaSeen). r.node) (map f xs) ≡ map node_view (map g xs)
+  same_nodes [] = refl
+  same_nodes (x ∷ xs) = let head : (f x).node ≡ node_view (g x) = shown x in let tail : map (λ (r : ReplicaSeen). r.node) (map f xs) ≡ map node_view (map g xs) = same_nodes xs in cc
+
+  node_shown : (xs : List A) (k : ℕ) → (get_or (map f xs) k unseen).node ≡ node_view (get_or (map g xs) k no_node)
+  node_shown xs k =
+      sym (get_or-map (λ (r : ReplicaSeen). r.node) (map f xs) k unseen)
+      ∙ ap (λ (ns : List NodeView). get_or ns k (node_view no_node)) (same_nodes xs)
+      ∙ get_or-map node_view (map g xs) k no_node
+
+  -- no page of its pools is in two frames
+  pub pools_differ : (xs : List A) (frames : List (List ℕ)) (m : ModelState) → AreNodes (map g xs) → (let w : WorldSeen = record { replicas = map f xs; frames = frames } in StandsFor w m) → PoolsDiffer m
+  pools_differ xs frames m fit stands i =
+      let k : ℕ = place i in
+      elim (cases_lt k (length xs)) [
+        | inl there ↦
+            let low : k < length (map f xs) = omega (arith, there, length-map xs f) in
+            let one : ReplicaStands m.room k (get_or (map f xs) k unseen) (replica m k) = stands.replicas.each k unseen nobody low in
+            let pool : view_of (get_or (map g xs) k no_node).pool ≡ pool_of m i = ap (λ (n : NodeView). n.pool) (sym (node_shown xs k) ∙ one.node_is) in
+            subst PagesDiffer pool (pages_differ (get_or (map g xs) k no_node).pool (fit.each k no_node (omega (arith, there, length-map xs g))).0)
+        | inr beyond ↦
+            let none : replica m k ≡ nobody = get_or_past m.replicas k nobody (omega (arith, beyond, stands.replicas.same_length, length-map xs f)) in
+            subst PagesDiffer (ap (λ (r : ReplicaState). r.pool) (sym none)) bare_differs
+      ]

@@ -1,0 +1,298 @@
+-- Numbers stay within their widths.
+use Rattle.std.proofs.Common.{◌≡◌, ℕ, zero, suc, ◌≤◌, Bool, true, false, List, [], ◌∷◌, ◌++◌, length, map, Option, Some, None, sym, subst, arith, flat_map, if◌then◌else◌}
+use Rattle.std.specs.Prelude.{◌==◌, nat_le, replicate, slice_index_or, slice_set}
+use Rattle.std.specs.List.{AllByRecursion, cons_option}
+use Rattle.std.specs.Option.{option_map}
+use Rattle.std.specs.Ordering.{is_eq, flip_args}
+use Rattle.std.specs.declared.cmp.Ordering.{Ordering}
+use Rattle.std.proofs.lemmas.List.{length-map, length-set}
+use Rattle.warm_stamps.specs.declared.PageId.{PageId}
+use Rattle.warm_stamps.specs.declared.Stamp.{Stamp}
+use Rattle.warm_stamps.specs.declared.Reference.{Reference}
+use Rattle.warm_stamps.specs.declared.TheConstants.{MAX_REPLICAS}
+use Rattle.warm_stamps.specs.Bytes.{IsPage, IsStamp}
+use Rattle.warm_stamps.specs.Stamps.{stamp_cmp, page_cmp}
+use Rattle.warm_stamps.specs.Distinct.{insert_distinct, distinct, IsRising}
+use Rattle.warm_stamps.proofs.DistinctLemmas.{by_cases, all_filter, distinct_rises}
+use Rattle.warm_stamps.proofs.StampLemmas.{stamp_order, IsStrictOrder-flip}
+use Rattle.warm_history.specs.declared.hist.PageHist.{PageHist}
+use Rattle.warm_history.specs.declared.hist.Entry.{Entry}
+use Rattle.warm_history.specs.ReferenceSets.{ReferenceSet}
+use Rattle.warm_history.specs.Histories.{references_to, stamps, first_two, hist, pages, history}
+use Rattle.warm_history.specs.Carried.{carried}
+use Rattle.warm_history.proofs.HistoryLemmas.{entries, told}
+use Rattle.warm_frames.specs.declared.entries.TheConstants.{MAX_ENTRIES}
+use Rattle.warm_frames.specs.Entries.{IsEntry, IsHist}
+use Rattle.warm_digest.specs.Exchange.{Fits}
+use Rattle.warm_pool.specs.View.{PoolView}
+use Rattle.warm_gossip.specs.Answers.{buckets_in}
+use Rattle.warm_gossip.specs.Pieces.{last_page}
+use Rattle.warm_gossip.specs.declared.fault.NodeFault.{NodeFault}
+use Rattle.warm_gossip.specs.declared.fault.NodeFault.TheVariants.{Memory}
+use Rattle.warm_world.specs.declared.event.Event.{Event}
+use Rattle.warm_world.specs.declared.event.Event.TheVariants.{Refer, Flush, Send, Offer, Deliver, Pin, Unpin, Put, Get, Victim, Warm, WarmStep, Restart, Show}
+use Rattle.warm_world.specs.declared.event.Answer.{Answer}
+use Rattle.warm_world.specs.declared.event.Answer.TheVariants.{Done, Shown, FrameNo, Took, Pinned, Bytes, Page, Pages, Loaded, Refused}
+use Rattle.warm_world.specs.declared.event.WorldFault.TheVariants.{Node, NoSuchReplica, NoSuchWorker, NoSuchFrame}
+use Rattle.warm_world.specs.Lists.{place}
+use Rattle.warm_world.specs.States.{ModelState, ReplicaState, FrameRecord, References, Sums, Mask, nobody, replica, reach_of, set_replica, set_pool, record_at, add_records, pending, flushed, put_last, referred, restarted, opened_over}
+use Rattle.warm_world.specs.Answered.{records_of, bucket_records, wanted_records, AreAnswers, heard}
+use Rattle.warm_world.specs.Next.{Next, Delivered, Effect, Refuses, IsNamed, shape, stamped}
+use Rattle.warm_world.specs.Widths.{IsReference, AreReferences, EventFits, ReplicaFits, RecordFits, ModelFits, OpeningFits, RunsFit, HistoriesFit}
+
+-- ---- lists
+
+all_append : {A : Type 0} (P : A → Type 0) (xs ys : List A) → AllByRecursion P xs → AllByRecursion P ys → AllByRecursion P (xs ++ ys)
+all_append P [] ys first second = second
+all_append P (x ∷ xs) ys first second = (first.0, all_append P xs ys first.1 second)
+
+all_get : {A : Type 0} (P : A → Type 0) (xs : List A) (k : ℕ) (d : A) → AllByRecursion P xs → P d → P (slice_index_or xs k d)
+all_get P [] k d all own = own
+all_get P (x ∷ xs) zero d all own = all.0
+all_get P (x ∷ xs) (suc k) d all own = all_get P xs k d all.1 own
+
+all_set : {A : Type 0} (P : A → Type 0) (xs : List A) (k : ℕ) (x : A) → AllByRecursion P xs → P x → AllByRecursion P (slice_set xs k x)
+all_set P [] k x all own = tt
+all_set P (y ∷ ys) zero x all own = (own, all.1)
+all_set P (y ∷ ys) (suc k) x all own = (all.0, all_set P ys k x all.1 own)
+
+all_map : {A B : Type 0} (P : B → Type 0) (f : A → B) (xs : List A) → ((x : A) → P (f x)) → AllByRecursion P (map f xs)
+all_map P f [] each = tt
+all_map P f (x ∷ xs) each = (each x, all_map P f xs each)
+
+all_replicate : {A : Type 0} (P : A → Type 0) (n : ℕ) (x : A) → P x → AllByRecursion P (replicate n x)
+all_replicate P zero x own = tt
+all_replicate P (suc n) x own = (own, all_replicate P n x own)
+
+-- ---- histories of references that fit
+
+all_insert : {A : Type 0} (P : A → Type 0) (cmp : A → A → Ordering) (x : A) (ys : List A) → P x → AllByRecursion P ys → AllByRecursion P (insert_distinct cmp x ys)
+all_insert P cmp x [] own all = (own, tt)
+all_insert P cmp x (y ∷ ys) own all = by_cases (cmp x y) _
+    (λ less. rw less (own, all))
+    (λ tied. rw tied all)
+    (λ more. rw more (all.0, all_insert P cmp x ys own all.1))
+
+all_distinct : {A : Type 0} (P : A → Type 0) (cmp : A → A → Ordering) (xs : List A) → AllByRecursion P xs → AllByRecursion P (distinct cmp xs)
+all_distinct P cmp [] all = tt
+all_distinct P cmp (x ∷ xs) all = all_insert P cmp x (distinct cmp xs) all.0 (all_distinct P cmp xs all.1)
+
+all_pages : (S : List Reference) → AreReferences S → AllByRecursion IsPage (map (λ r. r.page) S)
+all_pages [] all = tt
+all_pages (r ∷ S) all = (all.0.page, all_pages S all.1)
+
+all_stamps : (S : List Reference) → AreReferences S → AllByRecursion IsStamp (map (λ r. r.stamp) S)
+all_stamps [] all = tt
+all_stamps (r ∷ S) all = (all.0.stamp, all_stamps S all.1)
+
+-- the stamps of a page's history, if it has one, are stamps that there are
+abbrev FitsIfAny : Option PageHist → Type 0
+FitsIfAny None = Unit {0}
+FitsIfAny (Some h) = IsHist h
+
+first_two_fit : (ss : List Stamp) → IsRising (flip_args stamp_cmp) ss → AllByRecursion IsStamp ss → FitsIfAny (first_two ss)
+first_two_fit [] falls all = tt
+first_two_fit (a ∷ []) falls all = all.0
+first_two_fit (a ∷ b ∷ ss) falls all = (all.0, all.1.0, falls.0.0)
+
+hist_fits : (S : List Reference) (p : PageId) → AreReferences S → FitsIfAny (hist S p)
+hist_fits S p all =
+    let falls = flip_args stamp_cmp in
+    first_two_fit (stamps S p) (distinct_rises falls (IsStrictOrder-flip stamp_cmp stamp_order) (told S p))
+    (all_distinct IsStamp falls (told S p) (all_stamps (references_to S p) (all_filter IsReference (λ r. is_eq (page_cmp r.page p)) S all)))
+
+entries_fit : (f : PageId → Option PageHist) (ps : List PageId) → ((p : PageId) → FitsIfAny (f p)) → AllByRecursion IsPage ps → AllByRecursion IsEntry (entries f ps)
+entries_fit f [] each all = tt
+entries_fit f (p ∷ ps) each all = elim (f p) as (λ x. FitsIfAny x → AllByRecursion IsEntry (cons_option (option_map (λ h. record { page = p; hist = h }) x) (entries f ps))) [
+  | None ↦ λ fit. entries_fit f ps each all.1
+  | Some h ↦ λ fit. (record { page = all.0; hist = fit }, entries_fit f ps each all.1)
+] (each p)
+
+history_fits : (S : ReferenceSet) → AreReferences S → Fits (history S)
+unfolding history
+history_fits S all = entries_fit (hist S) (pages S) (λ p. hist_fits S p all) (all_distinct IsPage page_cmp (map (λ (r : Reference). r.page) S) (all_pages S all))
+
+nobody_fits : ReplicaFits nobody
+nobody_fits = record { reached = tt; waiting = tt }
+
+replica_fits : (m : ModelState) (k : ℕ) → ModelFits m → ReplicaFits (replica m k)
+replica_fits m k fits = all_get ReplicaFits m.replicas k nobody fits.replicas nobody_fits
+
+pub histories_fit : HistoriesFit
+histories_fit m i fits = history_fits (reach_of m i) (replica_fits m (place i) fits).reached
+
+-- ---- what each event makes
+
+replica_set : (m : ModelState) (k : ℕ) (r : ReplicaState) → ModelFits m → ReplicaFits r → ModelFits (set_replica m k r)
+replica_set m k r fits own = record {
+  few = omega (arith, fits.few, length-set m.replicas k r);
+  replicas = all_set ReplicaFits m.replicas k r fits.replicas own;
+  records = fits.records;
+}
+
+records_added : (m : ModelState) (rs : List FrameRecord) → ModelFits m → AllByRecursion RecordFits rs → ModelFits (add_records m rs)
+records_added m rs fits all = record {
+  few = fits.few;
+  replicas = fits.replicas;
+  records = all_append RecordFits m.records rs fits.records all;
+}
+
+pool_set : (m : ModelState) (i : ℕ) (pool : PoolView) → ModelFits m → ModelFits (set_pool m i pool)
+pool_set m i pool fits =
+    let own : ReplicaFits (replica m (place i)) = replica_fits m (place i) fits in
+    replica_set m (place i) (record (replica m (place i)) { pool = pool }) fits (record { reached = own.reached; waiting = own.waiting })
+
+pending_fits : (r : ReplicaState) (k : ℕ) → ReplicaFits r → AreReferences (pending r k)
+pending_fits r k fits = all_get AreReferences r.pending k [] fits.waiting tt
+
+flushed_fits : (k : ℕ) (r : ReplicaState) → ReplicaFits r → ReplicaFits (flushed k r)
+flushed_fits k r fits = record {
+  reached = all_append IsReference r.reach (pending r k) fits.reached (pending_fits r k fits);
+  waiting = all_set AreReferences r.pending k [] fits.waiting tt;
+}
+
+put_last_fits : (k : ℕ) (x : Reference) (r : ReplicaState) → IsReference x → ReplicaFits r → ReplicaFits (put_last k x r)
+put_last_fits k x r own fits = record {
+  reached = fits.reached;
+  waiting = all_set AreReferences r.pending k (pending r k ++ x ∷ []) fits.waiting (all_append IsReference (pending r k) (x ∷ []) (pending_fits r k fits) (own, tt));
+}
+
+referred_fits : (room k : ℕ) (x : Reference) (r : ReplicaState) → IsReference x → ReplicaFits r → ReplicaFits (referred room k x r)
+referred_fits room k x r own fits = elim (nat_le room (length (pending r k))) as (λ b. ReplicaFits (put_last k x (if b then flushed k r else r))) [
+  | true ↦ put_last_fits k x (flushed k r) own (flushed_fits k r fits)
+  | false ↦ put_last_fits k x r own fits
+]
+
+restarted_fits : (pool : PoolView) (r : ReplicaState) → ReplicaFits (restarted pool r)
+restarted_fits pool r = record { reached = tt; waiting = all_map AreReferences (λ _. []) r.pending (λ _. tt) }
+
+-- ---- answered records
+
+carried_fits : (S : ReferenceSet) (bucket : ℕ) (after : Option PageId) → AreReferences S → AreReferences (carried S bucket after MAX_ENTRIES)
+carried_fits S bucket after all = all_filter IsReference _ S all
+
+records_fit : (i : ℕ) (S : ReferenceSet) (bucket : ℕ) (after : Option PageId) (parts : List (List Entry)) → AreReferences S → AllByRecursion RecordFits (records_of i S bucket after parts)
+records_fit i S bucket after [] all = tt
+records_fit i S bucket after (part ∷ parts) all = (carried_fits S bucket after all, records_fit i S bucket (last_page part) parts all)
+
+buckets_fit : (i : ℕ) (S : ReferenceSet) (buckets : List ℕ) → AreReferences S → AllByRecursion RecordFits (flat_map (bucket_records i S) buckets)
+buckets_fit i S [] all = tt
+buckets_fit i S (bucket ∷ buckets) all =
+    all_append RecordFits (bucket_records i S bucket) (flat_map (bucket_records i S) buckets) (records_fit i S bucket None _ all) (buckets_fit i S buckets all)
+
+wanted_fit : (i : ℕ) (S : ReferenceSet) (mask : ℕ) → AreReferences S → AllByRecursion RecordFits (wanted_records i S mask)
+wanted_fit i S mask all = buckets_fit i S (buckets_in mask) all
+
+asking_fits : (i : ℕ) (S : ReferenceSet) (mask : ℕ) (none : Bool) → AreReferences S → AllByRecursion RecordFits (if none then [] else wanted_records i S mask ++ Mask i mask ∷ [])
+asking_fits i S mask true all = tt
+asking_fits i S mask false all = all_append RecordFits (wanted_records i S mask) (Mask i mask ∷ []) (wanted_fit i S mask all) (tt, tt)
+
+answers_fit : (i : ℕ) (S : ReferenceSet) (kept : FrameRecord) (added : List FrameRecord) → AreReferences S → AreAnswers i S kept added → AllByRecursion RecordFits added
+answers_fit i S (References sender refs) added all is = subst (AllByRecursion RecordFits) (sym is) tt
+answers_fit i S (Mask sender mask) added all is = subst (AllByRecursion RecordFits) (sym is) (wanted_fit i S mask all)
+answers_fit i S (Sums sender sums) added all is = subst (AllByRecursion RecordFits) (sym is.3) (asking_fits i S is.0 (is.0 == 0) all)
+
+heard_fits : (S : ReferenceSet) (kept : FrameRecord) → AreReferences S → RecordFits kept → AreReferences (heard S kept)
+heard_fits S (References sender refs) all own = all_append IsReference S refs all own
+heard_fits S (Sums sender sums) all own = all
+heard_fits S (Mask sender mask) all own = all
+
+delivered_fits : (old : ModelState) (j k count first : ℕ) (new : ModelState) → ModelFits old → Delivered old j (record_at old k) count first new → ModelFits new
+delivered_fits old j k count first new fits done =
+    let own : ReplicaFits (replica old (place j)) = replica_fits old (place j) fits in
+    let kept : FrameRecord = record_at old k in
+    let brings : RecordFits kept = all_get RecordFits old.records k (References 0 []) fits.records tt in
+    let next : ReplicaState = record (replica old (place j)) { reach = heard (reach_of old j) kept } in
+    let told_it : ReplicaFits next = record { reached = heard_fits (reach_of old j) kept own.reached brings; waiting = own.waiting } in
+    subst ModelFits (sym done.becomes) (records_added (set_replica old (place j) next) done.added
+    (replica_set old (place j) next fits told_it) (answers_fit j (reach_of old j) kept done.added own.reached done.answers))
+
+-- ---- each event, and each run
+
+same_fits : (old new : ModelState) → new ≡ old → ModelFits old → ModelFits new
+same_fits old new is fits = subst ModelFits (sym is) fits
+
+refused_fits : (old : ModelState) (event : Event) (why : NodeFault) (new : ModelState) → ModelFits old → Refuses old event why new → ModelFits new
+refused_fits old (Pin i page) why new fits r = same_fits _ new r.2 (pool_set old i r.0 fits)
+refused_fits old (Unpin i slot) why new fits r = same_fits _ new r.2 (pool_set old i r.0 fits)
+refused_fits old (Put i slot at bytes) why new fits r = same_fits _ new r.2 (pool_set old i r.0 fits)
+refused_fits old (Get i slot at len) why new fits r = same_fits _ new r.2 (pool_set old i r.0 fits)
+refused_fits old (Victim i) why new fits r = absurd r
+refused_fits old (WarmStep i) why new fits r = same_fits _ new r.2 (pool_set old i r.0 fits)
+refused_fits old (Restart i) why new fits r = same_fits _ new r.2 (pool_set old i r.0 fits)
+refused_fits old (Refer i w page time) Memory new fits r = same_fits old new r.1 fits
+refused_fits old (Refer i w page time) _ new fits r = absurd r
+refused_fits old (Flush i w) Memory new fits r = same_fits old new r fits
+refused_fits old (Flush i w) _ new fits r = absurd r
+refused_fits old (Send i bucket after) Memory new fits r = same_fits old new r fits
+refused_fits old (Send i bucket after) _ new fits r = absurd r
+refused_fits old (Offer i) Memory new fits r = same_fits old new r fits
+refused_fits old (Offer i) _ new fits r = absurd r
+refused_fits old (Deliver j k) Memory new fits r = same_fits old new r fits
+refused_fits old (Deliver j k) _ new fits r = absurd r
+refused_fits old (Warm i n) Memory new fits r = same_fits old new r fits
+refused_fits old (Warm i n) _ new fits r = absurd r
+refused_fits old (Show i) Memory new fits r = same_fits old new r fits
+refused_fits old (Show i) _ new fits r = absurd r
+
+effect_fits : (old : ModelState) (event : Event) (answer : Answer) (new : ModelState) → ModelFits old → EventFits event → IsNamed (shape old) event → Effect old event answer new → ModelFits new
+effect_fits old (Refer i w page time) Done new fits own named done =
+    let low : i ≤ MAX_REPLICAS = omega (arith, named.replica_there.in_range, fits.few, length-map old.replicas (λ r. length r.pending)) in
+    let told_it : IsReference (stamped i page time) = record { page = own.0; stamp = record { time = own.1; replica = (named.replica_there.from_one, low) } } in
+    same_fits _ new done (replica_set old (place i) _ fits (referred_fits old.room (place w) (stamped i page time) (replica old (place i)) told_it (replica_fits old (place i) fits)))
+effect_fits old (Refer i w page time) _ new fits own named done = absurd done
+effect_fits old (Flush i w) Done new fits own named done = same_fits _ new done (replica_set old (place i) _ fits (flushed_fits (place w) (replica old (place i)) (replica_fits old (place i) fits)))
+effect_fits old (Flush i w) _ new fits own named done = absurd done
+effect_fits old (Send i bucket after) (FrameNo k) new fits own named done =
+    same_fits _ new done.1 (records_added old _ fits (carried_fits (reach_of old i) bucket after (replica_fits old (place i) fits).reached, tt))
+effect_fits old (Send i bucket after) _ new fits own named done = absurd done
+effect_fits old (Offer i) (FrameNo k) new fits own named done = same_fits _ new done.1 (records_added old _ fits (tt, tt))
+effect_fits old (Offer i) _ new fits own named done = absurd done
+effect_fits old (Deliver j k) (Took count first) new fits own named done = delivered_fits old j (place k) count first new fits done
+effect_fits old (Deliver j k) _ new fits own named done = absurd done
+effect_fits old (Pin i page) (Pinned slot) new fits own named done = same_fits _ new done.2 (pool_set old i done.0 fits)
+effect_fits old (Pin i page) _ new fits own named done = absurd done
+effect_fits old (Unpin i slot) Done new fits own named done = same_fits _ new done.2 (pool_set old i done.0 fits)
+effect_fits old (Unpin i slot) _ new fits own named done = absurd done
+effect_fits old (Put i slot at bytes) Done new fits own named done = same_fits _ new done.2 (pool_set old i done.0 fits)
+effect_fits old (Put i slot at bytes) _ new fits own named done = absurd done
+effect_fits old (Get i slot at len) (Bytes bytes) new fits own named done = same_fits _ new done.2 (pool_set old i done.0 fits)
+effect_fits old (Get i slot at len) _ new fits own named done = absurd done
+effect_fits old (Victim i) (Page victim) new fits own named done = same_fits _ new done.2 (pool_set old i done.0 fits)
+effect_fits old (Victim i) _ new fits own named done = absurd done
+effect_fits old (WarmStep i) (Loaded page) new fits own named done = same_fits _ new done.2 (pool_set old i done.0 fits)
+effect_fits old (WarmStep i) _ new fits own named done = absurd done
+effect_fits old (Warm i n) (Pages pages) new fits own named done = same_fits old new done.1 fits
+effect_fits old (Warm i n) _ new fits own named done = absurd done
+effect_fits old (Restart i) Done new fits own named done = same_fits _ new done.2 (replica_set old (place i) _ fits (restarted_fits done.0 (replica old (place i))))
+effect_fits old (Restart i) _ new fits own named done = absurd done
+effect_fits old (Show i) (Shown entries) new fits own named done = same_fits old new done.1 fits
+effect_fits old (Show i) _ new fits own named done = absurd done
+
+step_fits : (old : ModelState) (event : Event) (answer : Answer) (new : ModelState) → ModelFits old → EventFits event → Next old event answer new → ModelFits new
+step_fits old event (Refused (Node why)) new fits own next = refused_fits old event why new fits next.1
+step_fits old event (Refused NoSuchReplica) new fits own next = same_fits old new next.1 fits
+step_fits old event (Refused NoSuchWorker) new fits own next = same_fits old new next.1 fits
+step_fits old event (Refused NoSuchFrame) new fits own next = same_fits old new next.1 fits
+step_fits old event Done new fits own next = effect_fits old event Done new fits own next.0 next.1
+step_fits old event (Shown h) new fits own next = effect_fits old event (Shown h) new fits own next.0 next.1
+step_fits old event (FrameNo n) new fits own next = effect_fits old event (FrameNo n) new fits own next.0 next.1
+step_fits old event (Took count first) new fits own next = effect_fits old event (Took count first) new fits own next.0 next.1
+step_fits old event (Pinned slot) new fits own next = effect_fits old event (Pinned slot) new fits own next.0 next.1
+step_fits old event (Bytes bytes) new fits own next = effect_fits old event (Bytes bytes) new fits own next.0 next.1
+step_fits old event (Page page) new fits own next = effect_fits old event (Page page) new fits own next.0 next.1
+step_fits old event (Pages pages) new fits own next = effect_fits old event (Pages pages) new fits own next.0 next.1
+step_fits old event (Loaded page) new fits own next = effect_fits old event (Loaded page) new fits own next.0 next.1
+
+pub runs_fit : RunsFit
+runs_fit old [] [] new fits all run = same_fits old new run fits
+runs_fit old [] (answer ∷ answers) new fits all run = absurd run
+runs_fit old (event ∷ events) [] new fits all run = absurd run
+runs_fit old (event ∷ events) (answer ∷ answers) new fits all run = runs_fit run.0 events answers new (step_fits old event answer run.0 fits all.0 run.1) all.1 run.2
+
+pub opening_fits : OpeningFits
+opening_fits s devices few = record {
+  few = omega (arith, few, length-map devices (opened_over s));
+  replicas = all_map ReplicaFits (opened_over s) devices (λ ds. record { reached = tt; waiting = all_replicate AreReferences s.workers [] tt });
+  records = tt;
+}

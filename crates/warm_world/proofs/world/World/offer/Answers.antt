@@ -1,0 +1,35 @@
+use Rattle.std.proofs.Common.{◌≡◌, ◌+◌, ◌-◌, ap, arith, refl, ◌∙◌}
+use Rattle.warm_history.specs.Carried.{carried}
+use Rattle.warm_history.specs.Histories.{HistoryView, entries_of, history}
+use Rattle.warm_frames.specs.declared.entries.TheConstants.{MAX_ENTRIES}
+use Rattle.warm_frames.specs.declared.frame.Frame.TheVariants.{Digest, Entries}
+use Rattle.warm_digest.specs.BucketSums.{sums_of}
+use Rattle.warm_gossip.specs.State.{NodeView}
+use Rattle.warm_world.specs.declared.event.Event.TheVariants.{Offer}
+use Rattle.warm_world.specs.States.{Sums, replica}
+use Rattle.warm_world.specs.Stands.{frame_kept}
+use Rattle.warm_world.proofs.Alone.{offer_refused}
+use Rattle.warm_world.proofs.Frames.{kept_one}
+use Rattle.warm_world.proofs.Histories.{offered_kept}
+use Rattle.warm_world.proofs.Worlds.{named_too, no_memory_still, place_in, stands_at}
+use Rattle.warm_world.proofs.world.World.offer.Goals as goal
+
+pub returns-in-Ok-clause-step : goal.returns-in-Ok-clause-step
+returns-in-Ok-clause-step g c = λ m st.
+    let k = c.args.i - 1 in
+    let event = Offer c.args.i in
+    let named = named_too _ m event st c.requires.named in
+    let lt = place_in _ _ _ event c.requires.named in
+    let here = stands_at _ _ _ m k c.index.result.now st lt c.index.ensures in
+    let number : k + 1 ≡ c.args.i = omega (arith, c.requires.named.replica_there.from_one) in
+    let id : c.index.result.now.node.id ≡ c.args.i = ap (λ (v : NodeView). v.id) here.node_is ∙ number in
+    let holds : c.index.result.now.node.history ≡ history (replica m k).reach = ap (λ (v : NodeView). v.history) here.node_is in
+    let kept = Sums c.args.i (sums_of (entries_of (history (replica m k).reach))) in
+    let frame : c.in-Ok.frame ≡ frame_kept kept =
+    c.in-Ok.ensures.0 ∙ offered_kept _ _ _ (replica m k).reach id holds in
+    kept_one _ _ m event c.in-Ok.frame c.keep.result kept st frame c.keep.ensures.keeps (λ n new is becomes. (named, (is, becomes))) (named, refl)
+
+pub returns-in-Err-clause-step : goal.returns-in-Err-clause-step
+returns-in-Err-clause-step g c = λ m st.
+    let event = Offer c.args.i in
+    no_memory_still _ m event c.in-Err.why st (offer_refused _ _ c.in-Err.why c.in-Err.ensures) (named_too _ m event st c.requires.named, refl)

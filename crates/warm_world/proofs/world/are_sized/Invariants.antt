@@ -1,0 +1,11 @@
+use Rattle.std.proofs.Common.{ℕ, ◌<◌, length}
+use Rattle.warm_pool.specs.DeviceCalls.{AreOfSize}
+use Rattle.warm_world.specs.Opening.{devices_at}
+use Rattle.warm_world.specs.Seen.{listed}
+use Rattle.warm_world.proofs.world.are_sized.Given as goal
+
+-- the lists so far have devices of the size
+abbrev pub invariant-loop-list : goal.invariant-loop-list
+invariant-loop-list g l = (k : ℕ) → k < l.list-index
+    → AreOfSize l.page_size (length (devices_at (listed (λ b. (goal.PageDevice-dyn g (b.vtable, b.value)).state b.value) l.devices) k))
+    (devices_at (listed (λ b. (goal.PageDevice-dyn g (b.vtable, b.value)).state b.value) l.devices) k)

@@ -1,0 +1,47 @@
+-- Making a world, and its end.
+use Rattle.std.specs.Prelude.{◌≡◌, ◌≢◌, ℕ, ◌<◌, ◌≤◌, List, [], length, set, slice_index_or}
+use Rattle.warm_devices.specs.Device.{DeviceState}
+use Rattle.warm_pool.specs.declared.TheConstants.{MAX_DEVICES}
+use Rattle.warm_pool.specs.declared.fault.PoolFault.TheVariants.{Fault}
+use Rattle.warm_pool.specs.DeviceCalls.{AreOfSize}
+use Rattle.warm_pool.specs.View.{PoolView}
+use Rattle.warm_gossip.specs.declared.fault.NodeFault.{NodeFault}
+use Rattle.warm_gossip.specs.declared.fault.NodeFault.TheVariants.{Pool}
+use Rattle.warm_gossip.specs.Step.{IsFailed}
+use Rattle.warm_world.specs.declared.event.BadWorld.{BadWorld}
+use Rattle.warm_world.specs.declared.event.BadWorld.TheVariants.{Memory, SizeDiffers, DevicesDiffer}
+use Rattle.warm_world.specs.Seen.{ReplicaSeen, WorldSeen}
+use Rattle.warm_world.specs.Sizes.{Sizes}
+
+-- the devices of the replica at a place
+abbrev pub devices_at : List (List DeviceState) → ℕ → List DeviceState
+devices_at devices k = slice_index_or devices k []
+
+-- each device of each replica has pages of this size
+abbrev pub AreSized : ℕ → List (List DeviceState) → Type 0
+AreSized size devices = (k : ℕ) → k < length devices → AreOfSize size (length (devices_at devices k)) (devices_at devices k)
+
+-- no replica has more devices than a page can name
+abbrev pub AreFew : List (List DeviceState) → Type 0
+AreFew devices = (k : ℕ) → k < length devices → length (devices_at devices k) ≤ MAX_DEVICES
+
+-- why no world is made: memory comes last
+abbrev pub NewRefused : Sizes → List (List DeviceState) → BadWorld → Type 0
+NewRefused s devices DevicesDiffer = length devices ≢ s.replicas
+NewRefused s devices SizeDiffers = (length devices ≡ s.replicas) × (AreSized s.page_size devices → ⊥)
+NewRefused s devices Memory = (length devices ≡ s.replicas) × AreSized s.page_size devices
+
+-- the replica, with this pool
+abbrev pub fails : ReplicaSeen → PoolView → ReplicaSeen
+fails r pool = record r { node = record r.node { pool = pool } }
+
+-- a write or a flush has failed, which may fail: of one replica's pool a count of failures has grown, and nothing else has changed
+pub record FailsOf (old : WorldSeen) (new : WorldSeen) : Type 0 where
+  pub replica : ℕ
+  pub there : replica < length old.replicas
+  pub pool : PoolView
+  pub failed : (other : ReplicaSeen) → IsFailed (slice_index_or old.replicas replica other).node.pool pool
+  pub becomes : (other : ReplicaSeen) → new ≡ record old { replicas = set old.replicas replica (fails (slice_index_or old.replicas replica other) pool) }
+
+abbrev pub FinishFails : WorldSeen → NodeFault → WorldSeen → Type 0
+FinishFails old why new = (why ≡ Pool Fault) × FailsOf old new

@@ -1,0 +1,53 @@
+-- What becomes of a replica, and of the frames that are kept.
+use Rattle.std.specs.Prelude.{◌≡◌, ◌≢◌, ◌==◌, ◌+◌, ◌-◌, if◌then◌else◌, ℕ, List, [], ◌∷◌, ◌++◌, length, map, Result, Ok, Err}
+use Rattle.warm_history.specs.Histories.{holding}
+use Rattle.warm_refbuffer.specs.Buffered.{Buffered}
+use Rattle.warm_frames.specs.declared.frame.Frame.{Frame}
+use Rattle.warm_frames.specs.Spelling.{spelling, Spells}
+use Rattle.warm_pool.specs.View.{PoolView}
+use Rattle.warm_pool.specs.Retiring.{Emptied}
+use Rattle.warm_gossip.specs.declared.call.Call.TheVariants as call
+use Rattle.warm_gossip.specs.declared.call.Reply.TheVariants as reply
+use Rattle.warm_gossip.specs.declared.fault.NodeFault.{NodeFault}
+use Rattle.warm_gossip.specs.declared.fault.NodeFault.TheVariants.{Memory}
+use Rattle.warm_gossip.specs.State.{NodeView}
+use Rattle.warm_gossip.specs.Step.{Step}
+use Rattle.warm_world.specs.declared.event.Answer.{Answer}
+use Rattle.warm_world.specs.declared.event.Answer.TheVariants.{FrameNo, Took, Refused}
+use Rattle.warm_world.specs.declared.event.WorldFault.TheVariants.{Node}
+use Rattle.warm_world.specs.Lists.{Pairwise}
+use Rattle.warm_world.specs.Seen.{ReplicaSeen, WorldSeen}
+
+-- the buffer with nothing in it
+abbrev pub cleared : Buffered → Buffered
+cleared b = record b { refs = [] }
+
+-- the replica has restarted, or its node has refused to
+abbrev pub Restarts : ReplicaSeen → Result Unit NodeFault → ReplicaSeen → Type 0
+Restarts old (Ok done) new =
+    (pool : PoolView) × Emptied old.node.pool pool
+    × (new ≡ record { node = record old.node { history = holding []; pool = pool }; buffers = map cleared old.buffers })
+Restarts old (Err why) new = Step old.node call.Restart (reply.Refused why) new.node × (new.buffers ≡ old.buffers)
+
+-- the bytes are the spelling of the frame, and can be read so
+pub record Encodes (bytes : List ℕ) (frame : Frame) : Type 0 where
+  pub spells : Spells bytes frame
+  pub exact : bytes ≡ spelling frame
+
+-- the frame is kept after the others, and its number answered; or there is no memory for it
+abbrev pub Keeps : WorldSeen → Frame → Answer → WorldSeen → Type 0
+Keeps old frame (FrameNo k) new =
+    (bytes : List ℕ) × Encodes bytes frame × (k ≡ length new.frames) × (new ≡ record old { frames = old.frames ++ bytes ∷ [] })
+Keeps old frame (Refused (Node Memory)) new = new ≡ old
+Keeps old frame answer new = ⊥
+
+-- the frames are kept after the others
+abbrev pub KeepsAll : List (List ℕ) → List Frame → List (List ℕ) → Type 0
+KeepsAll old frames new = (added : List (List ℕ)) × Pairwise (λ _ bytes frame. Encodes bytes frame) added frames × (new ≡ old ++ added)
+
+-- The frames that answer a delivered one are kept after the others, and counted on from these; or there is no memory for them.
+abbrev pub Takes : List (List ℕ) → List Frame → Answer → List (List ℕ) → Type 0
+Takes old frames (Took count first) new =
+    KeepsAll old frames new × (count ≡ length frames) × (first ≡ if count == 0 then 0 else length new - count + 1)
+Takes old frames (Refused (Node Memory)) new = (frames ≢ []) × (new ≡ old)
+Takes old frames answer new = ⊥

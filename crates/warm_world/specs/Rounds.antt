@@ -1,0 +1,55 @@
+-- A round of gossip in a world, and what it comes to.
+use Rattle.std.specs.Prelude.{◌≡◌, ◌⊎◌, ℕ, ◌+◌, ◌-◌, List, [], ◌∷◌, length, map}
+use Rattle.std.specs.List.{AllByRecursion, range_with_len}
+use Rattle.warm_history.specs.Histories.{HistoryView, history, join}
+use Rattle.warm_digest.specs.Exchange.{IsCollision}
+use Rattle.warm_world.specs.declared.event.Event.{Event}
+use Rattle.warm_world.specs.declared.event.Event.TheVariants.{Offer, Deliver}
+use Rattle.warm_world.specs.declared.event.Answer.{Answer}
+use Rattle.warm_world.specs.declared.event.Answer.TheVariants.{Refused}
+use Rattle.warm_world.specs.States.{ModelState, reach_of}
+use Rattle.warm_world.specs.Next.{Run}
+use Rattle.warm_world.specs.Widths.{ModelFits}
+
+-- the event was not refused
+abbrev pub IsTaken : Answer → Type 0
+IsTaken (Refused fault) = ⊥
+IsTaken answer = Unit {0}
+
+-- the events lead there one after another, and none of them is refused
+pub record NoneRefused (old : ModelState) (events : List Event) (new : ModelState) : Type 0 where
+  pub answers : List Answer
+  pub run : Run old events answers new
+  pub taken : AllByRecursion IsTaken answers
+
+-- so many frames come to the replica j one after the other: those after the first `from`
+abbrev pub deliveries : ℕ → ℕ → ℕ → List Event
+deliveries j from many = map (λ k. Deliver j (k + 1)) (range_with_len from many)
+
+-- those kept in the second state and not yet in the first come to the replica j
+abbrev pub new_frames_to : ℕ → ModelState → ModelState → List Event
+new_frames_to j before after = deliveries j (length before.records) (length after.records - length before.records)
+
+-- A round: i offers its sums, and they come to j; all that this answered comes to i; all that those answered comes to j.
+pub record GossipRound (i j : ℕ) (old new : ModelState) : Type 0 where
+  pub offered : ModelState
+  pub asked : ModelState
+  pub given : ModelState
+  pub offers : NoneRefused old (Offer i ∷ []) offered
+  pub asks : NoneRefused offered (new_frames_to j old offered) asked
+  pub gives : NoneRefused asked (new_frames_to i offered asked) given
+  pub ends : NoneRefused given (new_frames_to j asked given) new
+
+-- the history of what reached the replica of a number
+abbrev pub known_to : ModelState → ℕ → HistoryView
+known_to m i = history (reach_of m i)
+
+-- both replicas have the join of their histories before
+pub record AreJoined (i j : ℕ) (old new : ModelState) : Type 0 where
+  pub first : known_to new i ≡ join (known_to old i) (known_to old j)
+  pub second : known_to new j ≡ join (known_to old i) (known_to old j)
+
+-- After a round both histories are the join of the two before, or two different texts of one bucket have one SHA-256.
+abbrev pub GossipRoundJoins : Type 0
+GossipRoundJoins = (i j : ℕ) (old new : ModelState) → ModelFits old → GossipRound i j old new
+    → AreJoined i j old new ⊎ IsCollision (known_to old i) (known_to old j)

@@ -1,0 +1,29 @@
+-- Warming up a replica of a world, and what it comes to.
+use Rattle.std.specs.Prelude.{ℕ, List, length, replicate}
+use Rattle.warm_stamps.specs.declared.PageId.{PageId}
+use Rattle.warm_pool.specs.View.{IsResident, IsUnfixed}
+use Rattle.warm_gossip.specs.WarmUps.{IsWarm, PagesDiffer}
+use Rattle.warm_world.specs.declared.event.Event.{Event}
+use Rattle.warm_world.specs.declared.event.Event.TheVariants.{WarmStep}
+use Rattle.warm_world.specs.States.{ModelState, pool_of, reach_of}
+use Rattle.warm_world.specs.Seen.{WorldSeen}
+use Rattle.warm_world.specs.Stands.{StandsFor}
+use Rattle.warm_world.specs.Rounds.{NoneRefused}
+
+-- as many steps of the warm-up of a replica as its pool has frames
+abbrev pub warm_up : ModelState → ℕ → List Event
+warm_up m i = replicate (length (pool_of m i).frames) (WarmStep i)
+
+-- in no replica's pool is a page in two frames
+abbrev pub PoolsDiffer : ModelState → Type 0
+PoolsDiffer m = (i : ℕ) → PagesDiffer (pool_of m i)
+
+-- so it is in each state that the world stands for
+abbrev pub ShowsPoolsDiffer : WorldSeen → Type 0
+ShowsPoolsDiffer w = (m : ModelState) → StandsFor w m → PoolsDiffer m
+
+-- No page of the replica is fixed: after a warm-up, none of it refused, every page of the warm-up list, cut to the frames of
+-- the pool, that a device has is resident.
+abbrev pub WarmUpLoads : Type 0
+WarmUpLoads = (i : ℕ) (old new : ModelState) → PoolsDiffer old → IsUnfixed (pool_of old i) → NoneRefused old (warm_up old i) new
+    → (p : PageId) → IsWarm (reach_of old i) (pool_of old i) p → IsResident (pool_of new i) p

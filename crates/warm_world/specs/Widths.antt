@@ -1,0 +1,59 @@
+-- Numbers within the widths of their types: of events, and so of all that replicas are told.
+use Rattle.std.specs.Prelude.{ℕ, ◌<◌, ◌≤◌, ◌^◌, List, length}
+use Rattle.std.specs.List.{AllByRecursion}
+use Rattle.warm_stamps.specs.declared.Reference.{Reference}
+use Rattle.warm_stamps.specs.declared.TheConstants.{MAX_REPLICAS}
+use Rattle.warm_stamps.specs.Bytes.{IsPage, IsStamp}
+use Rattle.warm_history.specs.ReferenceSets.{references}
+use Rattle.warm_history.specs.Histories.{history}
+use Rattle.warm_devices.specs.Device.{DeviceState}
+use Rattle.warm_digest.specs.Exchange.{Fits}
+use Rattle.warm_world.specs.declared.event.Event.{Event}
+use Rattle.warm_world.specs.declared.event.Event.TheVariants.{Refer}
+use Rattle.warm_world.specs.declared.event.Answer.{Answer}
+use Rattle.warm_world.specs.Sizes.{Sizes}
+use Rattle.warm_world.specs.States.{ModelState, ReplicaState, FrameRecord, References, Sums, Mask, reach_of, opening}
+use Rattle.warm_world.specs.Next.{Run}
+
+-- a page that there is, with a stamp that there is
+pub record IsReference (r : Reference) : Type 0 where
+  pub page : IsPage r.page
+  pub stamp : IsStamp r.stamp
+
+abbrev pub AreReferences : List Reference → Type 0
+AreReferences rs = AllByRecursion IsReference rs
+
+-- an event's page and time are within their widths
+abbrev pub EventFits : Event → Type 0
+EventFits (Refer i w page time) = IsPage page × (time < 2 ^ 64)
+EventFits event = Unit {0}
+
+-- so are all references that reached a replica, and all that wait
+pub record ReplicaFits (r : ReplicaState) : Type 0 where
+  pub reached : AreReferences (references r.reach)
+  pub waiting : AllByRecursion AreReferences r.pending
+
+-- and all that a kept frame brings
+abbrev pub RecordFits : FrameRecord → Type 0
+RecordFits (References sender refs) = AreReferences (references refs)
+RecordFits (Sums sender sums) = Unit {0}
+RecordFits (Mask sender mask) = Unit {0}
+
+-- and there are no more replicas than have numbers
+pub record ModelFits (m : ModelState) : Type 0 where
+  pub few : length m.replicas ≤ MAX_REPLICAS
+  pub replicas : AllByRecursion ReplicaFits m.replicas
+  pub records : AllByRecursion RecordFits m.records
+
+-- at first nothing was told
+abbrev pub OpeningFits : Type 0
+OpeningFits = (s : Sizes) (devices : List (List DeviceState)) → length devices ≤ MAX_REPLICAS → ModelFits (opening s devices)
+
+-- events whose numbers are within their widths lead to nothing else
+abbrev pub RunsFit : Type 0
+RunsFit = (old : ModelState) (events : List Event) (answers : List Answer) (new : ModelState)
+    → ModelFits old → AllByRecursion EventFits events → Run old events answers new → ModelFits new
+
+-- and the entries of each history are ones that there are
+abbrev pub HistoriesFit : Type 0
+HistoriesFit = (m : ModelState) (i : ℕ) → ModelFits m → Fits (history (reach_of m i))

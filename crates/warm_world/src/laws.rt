@@ -1,0 +1,71 @@
+//! Theorems over all runs of a world, over the definitions alone.
+//!
+//! Each function does nothing. What it ensures is a theorem, for the crates above to cite and for a reader to look up:
+//! `specs/Rounds.antt`, `specs/Widths.antt` and `specs/WarmUps.antt` say them in full.
+ghost use Rattle.std.specs.Prelude.{◌<◌, ◌^◌};
+ghost use Rattle.std.specs.List.{AllByRecursion};
+ghost use Rattle.warm_stamps.specs.Bytes.{IsPage};
+ghost use Rattle.warm_world.specs.Rounds.{GossipRoundJoins};
+ghost use Rattle.warm_world.specs.Seen.{IsWorld, seen};
+ghost use Rattle.warm_world.specs.WarmUps.{ShowsPoolsDiffer, WarmUpLoads};
+ghost use Rattle.warm_world.specs.Widths.{EventFits, HistoriesFit, OpeningFits, RunsFit};
+
+use crate::{Event, World};
+use warm_stamps::PageId;
+
+/// A round of gossip: a replica offers its sums to another, and all that is answered comes to whom it answers, with no
+/// event refused. Afterwards the histories of both are the join of the two that were; or two different texts of one
+/// bucket, one of each replica, have one SHA-256. It holds in each state whose numbers are within their widths, and
+/// so, by the three laws below, after whatever events.
+pub fn gossip_round_joins()
+    ensures { GossipRoundJoins }
+{}
+
+/// In a world that was just opened all numbers are within their widths.
+pub fn opening_fits()
+    ensures { OpeningFits }
+{}
+
+/// Events whose numbers are within their widths lead from such states to such states.
+pub fn runs_fit()
+    ensures { RunsFit }
+{}
+
+/// In such a state each history holds nothing but entries that there are.
+pub fn histories_fit()
+    ensures { HistoriesFit }
+{}
+
+/// The numbers of events are within their widths: so their types say. Nothing is done.
+pub fn events_fit(events: &[Event])
+    ensures { AllByRecursion EventFits events.now }
+{
+    for event in events {
+        event_fits(event);
+    }
+}
+
+fn event_fits(event: &Event)
+    ensures { EventFits event.now }
+{
+    if let Event::Refer(_, _, page, time) = event {
+        reference_fits(*page, *time);
+    }
+}
+
+fn reference_fits(page: PageId, time: u64)
+    ensures { IsPage page × (time < 2 ^ 64) }
+{}
+
+/// As many steps of a replica's warm-up as its pool has frames, none of them refused and no page of the replica fixed
+/// before: afterwards every page of its warm-up list, cut to the frames, that a device has is resident. It holds in each
+/// state in which no pool has a page in two frames, and so, by the law below, in each that a world stands for.
+pub fn warm_up_loads()
+    ensures { WarmUpLoads }
+{}
+
+/// No pool of a world has a page in two frames. Nothing is done.
+pub fn pools_differ(world: &World)
+    requires { IsWorld state world.now }
+    ensures { ShowsPoolsDiffer (seen state world.now) }
+{}

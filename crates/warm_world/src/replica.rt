@@ -1,0 +1,161 @@
+//! A replica: its node and its workers' buffers.
+ghost use Rattle.std.specs.Prelude.{◌≡◌, ℕ, ◌+◌, ◌<◌, ◌≤◌, [], length, map};
+ghost use Rattle.std.specs.Prelude.{OnOk, OnErr, IfOk, IfErr, replicate};
+ghost use Rattle.warm_stamps.specs.declared.Reference.{Reference};
+ghost use Rattle.warm_refbuffer.specs.Buffered.{IsCapacity};
+ghost use Rattle.warm_pool.specs.declared.TheConstants.{MAX_DEVICES};
+ghost use Rattle.warm_gossip.specs.Clauses.{IsFit};
+ghost use Rattle.warm_gossip.specs.declared.fault.NodeFault.TheVariants.{Memory};
+ghost use Rattle.warm_world.specs.States.{ReplicaState, opened_over, pending};
+ghost use Rattle.warm_world.specs.States.{flushed, put_last, referred};
+ghost use Rattle.warm_world.specs.Next.{stamped};
+ghost use Rattle.warm_world.specs.Seen.{seen_replica};
+ghost use Rattle.warm_world.specs.Stands.{buffered, ReplicaStands, Becomes, IsFull};
+ghost use Rattle.warm_world.specs.Replicas.{Restarts, cleared};
+
+use crate::setup::Setup;
+use std::alloc::{AllocError, Global};
+use std::marker::PhantomData;
+use warm_devices::PageDevice;
+use warm_gossip::{Node, NodeFault};
+use warm_pool::Pool;
+use warm_refbuffer::{BufferFault, RefBuffer};
+use warm_stamps::{PageId, Reference, ReplicaId, Stamp};
+
+/// A node, and the references that its workers have still to tell it.
+#[derive(Drop)]
+pub(crate) struct Replica {
+    pub(crate) node: Node,
+    pub(crate) buffers: Vec<RefBuffer>,
+    // What holds of every boxed device is known where a type names the box.
+    pub(crate) boxes: PhantomData<Box<dyn PageDevice + Send>>,
+}
+
+// A buffer's capacity is within its limits, so only memory can be refused.
+fn empty_buffer(alloc: Global, room: usize) -> Result<RefBuffer, AllocError>
+    requires { IsCapacity room }
+    ensures { IfOk result (λ b. b ≡ buffered room []) }
+{
+    match RefBuffer::new(alloc, room) {
+        Ok(buffer) => Ok(buffer),
+        Err(BufferFault::Memory) => Err(AllocError),
+        Err(BufferFault::BadCapacity) => unreachable!(),
+    }
+}
+
+fn empty_buffers(alloc: Global, workers: u16, room: usize) -> Result<Vec<RefBuffer>, AllocError>
+    requires { IsCapacity room }
+    ensures { IfOk result (λ v. v.items ≡ replicate workers (buffered room [])) }
+{
+    let mut buffers = Vec::with_capacity(alloc, workers as usize)?;
+    for _worker in 0..workers {
+        buffers.push(empty_buffer(alloc, room)?)?;
+    }
+    Ok(buffers)
+}
+
+impl Replica {
+    /// A replica that was told nothing, over a pool without a page. The devices' pages have the setup's
+    /// size.
+    ///
+    /// Refused where there is no memory.
+    pub(crate) fn new(
+        alloc: Global,
+        id: ReplicaId,
+        setup: Setup,
+        devices: Vec<Box<dyn PageDevice + Send>>,
+    ) -> Result<Self, AllocError>
+        requires { length devices.items ≤ MAX_DEVICES }
+        ensures fit { IfOk result (λ r. IsFit state r.node) }
+        ensures stands { (place : ℕ) → id ≡ place + 1
+            → IfOk result (λ r. ReplicaStands setup.buffer place (seen_replica state r)
+            (opened_over setup (map (λ b. state b) devices.items))) }
+    {
+        let frames = setup.frames() as usize;
+        let page_size = setup.page_size() as usize;
+        let Ok(pool) = Pool::new(alloc, frames, page_size, devices) else {
+            return Err(AllocError);
+        };
+        let buffers = empty_buffers(alloc, setup.workers(), setup.buffer() as usize)?;
+        Ok(Replica {
+            node: Node::new(alloc, id, pool),
+            buffers,
+            boxes: PhantomData,
+        })
+    }
+
+    /// What waits in a worker's buffer reaches the node.
+    pub(crate) fn flush(&mut self, worker: usize) -> Result<(), NodeFault>
+        requires fit { IsFit state self.old.node }
+        requires there { worker < length self.old.buffers.items }
+        ensures fit { IsFit state self.new.node }
+        ensures ok { (room : ℕ) → OnOk result (Becomes room (seen_replica state self.old)
+            (seen_replica state self.new) (flushed worker)) }
+        ensures err { IfErr result (λ why. (why ≡ Memory)
+            × (seen_replica state self.new ≡ seen_replica state self.old)) }
+        ensures same { length self.new.buffers.items ≡ length self.old.buffers.items }
+    {
+        self.node.absorb(self.buffers[worker].refs())?;
+        self.buffers[worker].clear();
+        Ok(())
+    }
+
+    // Puts a reference into a buffer that has room.
+    fn put(&mut self, worker: usize, reference: Reference)
+        requires fit { IsFit state self.old.node }
+        requires there { worker < length self.old.buffers.items }
+        ensures fit { IsFit state self.new.node }
+        ensures puts { (room place : ℕ) (m : ReplicaState)
+            → ReplicaStands room place (seen_replica state self.old) m
+            → length (pending m worker) < room
+            → ReplicaStands room place (seen_replica state self.new) (put_last worker reference m) }
+    {
+        let _ = self.buffers[worker].touch(reference);
+    }
+
+    /// A worker references a page: its buffer is flushed first if it is full.
+    pub(crate) fn refer(&mut self, worker: usize, page: PageId, time: u64) -> Result<(), NodeFault>
+        requires fit { IsFit state self.old.node }
+        requires there { worker < length self.old.buffers.items }
+        ensures fit { IsFit state self.new.node }
+        ensures ok { (room : ℕ) (made : Reference) → made ≡ stamped self.old.node.id page time
+            → OnOk result (Becomes room (seen_replica state self.old) (seen_replica state self.new)
+            (referred room worker made)) }
+        ensures err { IfErr result (λ why. (why ≡ Memory)
+            × (seen_replica state self.new ≡ seen_replica state self.old)) }
+        ensures full { OnErr result (IsFull (seen_replica state self.old) worker) }
+    {
+        let stamp = Stamp {
+            time,
+            replica: self.node.id(),
+        };
+        let reference = Reference { page, stamp };
+        if self.buffers[worker].is_full() {
+            self.flush(worker)?;
+            self.put(worker, reference);
+            return Ok(());
+        }
+        self.put(worker, reference);
+        Ok(())
+    }
+
+    /// The node restarts, and nothing waits any more.
+    pub(crate) fn restart(&mut self) -> Result<(), NodeFault>
+        requires fit { IsFit state self.old.node }
+        ensures fit { IsFit state self.new.node }
+        ensures restarts { Restarts (seen_replica state self.old) result
+            (seen_replica state self.new) }
+    {
+        self.node.restart()?;
+        clear_all(&mut self.buffers);
+        Ok(())
+    }
+}
+
+fn clear_all(buffers: &mut Vec<RefBuffer>)
+    ensures { buffers.new.items ≡ map cleared buffers.old.items }
+{
+    for buffer in buffers.iter_mut() {
+        buffer.clear();
+    }
+}

@@ -1,0 +1,437 @@
+//! Rows of a world's life, run. Each event stands in a function of its own, which keeps that the world is one: what is
+//! proved of a test does not grow with its rows.
+ghost use Rattle.std.specs.Prelude.{◌≡◌, IfOk, OnOk, length};
+ghost use Rattle.warm_world.specs.Opening.{AreFew};
+ghost use Rattle.warm_world.specs.Seen.{IsWorld, listed};
+
+mod gossip;
+mod growths;
+mod pools;
+mod setups;
+
+use crate::event::{Answer, Event, WorldFault};
+use crate::setup::Setup;
+use crate::world::World;
+use std::alloc::{AllocError, Global};
+use std::process::Abort;
+use std::test::Fail;
+use warm_devices::{MemDevice, PageDevice};
+use warm_gossip::NodeFault;
+use warm_history::{History, PageHist};
+use warm_pool::Slot;
+use warm_stamps::{Bucket, ByteList, PageId};
+
+const fn page(no: u32) -> PageId {
+    PageId { dev: 0, no }
+}
+
+const fn slot(index: u32, generation: u64) -> Slot {
+    Slot { index, generation }
+}
+
+// A list of one device in memory, whose pages have so many bytes.
+fn one_device(
+    alloc: Global,
+    pages: u32,
+    page_size: usize,
+) -> Result<Vec<Box<dyn PageDevice + Send>>, AllocError>
+    ensures { IfOk result (λ list. length list.items ≡ 1) }
+{
+    let memory = MemDevice::new(alloc, pages, page_size)?;
+    let device: Box<dyn PageDevice + Send> = Box::new(alloc, memory)?;
+    let mut list = Vec::with_capacity(alloc, 1)?;
+    list.push_reserved(device);
+    Ok(list)
+}
+
+// Adds a list of one device.
+fn add_list(
+    lists: &mut Vec<Vec<Box<dyn PageDevice + Send>>>,
+    list: Vec<Box<dyn PageDevice + Send>>,
+) -> Result<(), AllocError>
+    requires few { AreFew (listed state lists.old.items) }
+    requires one { length list.items ≡ 1 }
+    ensures { OnOk result (AreFew (listed state lists.new.items)) }
+{
+    lists.push(list)?;
+    Ok(())
+}
+
+// So many lists of one device of 256 pages each.
+fn devices_for(
+    alloc: Global,
+    replicas: u16,
+    page_size: usize,
+) -> Result<Vec<Vec<Box<dyn PageDevice + Send>>>, AllocError>
+    ensures { IfOk result (λ lists. AreFew (listed state lists.items)) }
+{
+    let mut lists = Vec::new(alloc);
+    for _replica in 0..replicas {
+        add_list(&mut lists, one_device(alloc, 256, page_size)?)?;
+    }
+    Ok(lists)
+}
+
+fn made(
+    alloc: Global,
+    setup: Setup,
+    devices: Vec<Vec<Box<dyn PageDevice + Send>>>,
+) -> Result<World, Fail>
+    requires { AreFew (listed state devices.items) }
+    ensures { IfOk result (λ world. IsWorld state world) }
+{
+    match World::new(alloc, setup, devices) {
+        Ok(world) => Ok(world),
+        Err(_) => Err("no world".into()),
+    }
+}
+
+// Replicas with two workers each, whose buffers hold 64 references, and whose pools have so many frames over a device
+// of 256 pages of 16 bytes.
+fn fresh(alloc: Global, replicas: u16, frames: u32) -> Result<World, Fail>
+    ensures { IfOk result (λ world. IsWorld state world) }
+{
+    let Ok(setup) = Setup::new(replicas, 2, 64, frames, 16) else {
+        return Err("the setup is within its limits".into());
+    };
+    made(alloc, setup, devices_for(alloc, replicas, 16)?)
+}
+
+// A page's times and replicas: of its last stamp, then of the one before.
+type Seen = (u64, u16, Option<(u64, u16)>);
+
+fn seen(hist: PageHist) -> Seen {
+    match hist {
+        PageHist::Once(last) => (last.time, last.replica.get(), None),
+        PageHist::Twice(two) => {
+            let last = two.last();
+            let prev = two.prev();
+            (
+                last.time,
+                last.replica.get(),
+                Some((prev.time, prev.replica.get())),
+            )
+        }
+    }
+}
+
+// What an event is to be answered: that it is done, or why it is refused.
+type Done = Result<(), WorldFault>;
+
+// What is asked of a world, and what is to come of it. Replicas, workers and frames are numbered from 1.
+#[derive(Clone, Copy)]
+enum Row<'a> {
+    // A worker of a replica references a page at a time.
+    Refers(u16, u16, PageId, u64, Done),
+    // A worker's buffer is flushed.
+    Flushes(u16, u16, Done),
+    // A replica sends entries of a bucket, after a page; the number of the frame.
+    Sends(u16, u8, Option<PageId>, u64),
+    // It offers its sums; the number of the frame.
+    Offers(u16, u64),
+    // A frame comes to a replica; how many answer it, and the number of the first.
+    Hears(u16, u64, Result<(u64, u64), WorldFault>),
+    // A replica knows just these pages so.
+    Knows(u16, &'a [(PageId, Seen)]),
+    // So many of the replica's hottest pages.
+    Hottest(u16, u32, &'a [PageId]),
+    // A replica is restarted.
+    Restarts(u16, Done),
+    // All pages are written back.
+    Finishes(Result<(), NodeFault>),
+    // A replica's pool is used.
+    Pool(u16, Use<'a>),
+}
+
+// What is asked of a replica's pool, and what is to come of it.
+#[derive(Clone, Copy)]
+enum Use<'a> {
+    // A page is given a fix.
+    Pins(PageId, Result<Slot, WorldFault>),
+    // A fix is taken away.
+    Unpins(Slot, Done),
+    // A page is given a fix, which is taken away again.
+    Visits(u32),
+    // Bytes are written into the slot's page.
+    Puts(Slot, u32, &'a [u8], Done),
+    // The slot's page has these bytes.
+    Has(Slot, u32, &'a [u8]),
+    // So many bytes of the slot are not given.
+    Lacks(Slot, u32, u32, WorldFault),
+    // The page that leaves next.
+    Victim(Option<PageId>),
+    // A step of the warm-up.
+    Loads(Result<Option<PageId>, WorldFault>),
+}
+
+// That memory was wanting, which no row expects.
+const UNEXPECTED: WorldFault = WorldFault::Node(NodeFault::Memory);
+
+fn settled(world: &mut World, event: Event) -> Done
+    requires { IsWorld state world.old }
+    ensures { IsWorld state world.new }
+{
+    match world.step(event) {
+        Answer::Done => Ok(()),
+        Answer::Refused(fault) => Err(fault),
+        _ => Err(UNEXPECTED),
+    }
+}
+
+fn kept(world: &mut World, event: Event) -> Result<u64, WorldFault>
+    requires { IsWorld state world.old }
+    ensures { IsWorld state world.new }
+{
+    match world.step(event) {
+        Answer::FrameNo(frame) => Ok(frame),
+        Answer::Refused(fault) => Err(fault),
+        _ => Err(UNEXPECTED),
+    }
+}
+
+fn heard(world: &mut World, j: u16, k: u64) -> Result<(u64, u64), WorldFault>
+    requires { IsWorld state world.old }
+    ensures { IsWorld state world.new }
+{
+    match world.step(Event::Deliver(j, k)) {
+        Answer::Took { count, first } => Ok((count, first)),
+        Answer::Refused(fault) => Err(fault),
+        _ => Err(UNEXPECTED),
+    }
+}
+
+fn shown(world: &mut World, i: u16) -> Result<History, Fail>
+    requires { IsWorld state world.old }
+    ensures { IsWorld state world.new }
+{
+    match world.step(Event::Show(i)) {
+        Answer::Shown(history) => Ok(history),
+        _ => Err("the replica is shown".into()),
+    }
+}
+
+fn pinned(world: &mut World, i: u16, page: PageId) -> Result<Slot, WorldFault>
+    requires { IsWorld state world.old }
+    ensures { IsWorld state world.new }
+{
+    match world.step(Event::Pin(i, page)) {
+        Answer::Pinned(slot) => Ok(slot),
+        Answer::Refused(fault) => Err(fault),
+        _ => Err(UNEXPECTED),
+    }
+}
+
+fn bytes(world: &mut World, i: u16, slot: Slot, at: u32, len: u32) -> Result<ByteList, WorldFault>
+    requires { IsWorld state world.old }
+    ensures { IsWorld state world.new }
+{
+    match world.step(Event::Get(i, slot, at, len)) {
+        Answer::Bytes(bytes) => Ok(bytes),
+        Answer::Refused(fault) => Err(fault),
+        _ => Err(UNEXPECTED),
+    }
+}
+
+fn victim(world: &mut World, i: u16) -> Result<Option<PageId>, WorldFault>
+    requires { IsWorld state world.old }
+    ensures { IsWorld state world.new }
+{
+    match world.step(Event::Victim(i)) {
+        Answer::Page(page) => Ok(page),
+        Answer::Refused(fault) => Err(fault),
+        _ => Err(UNEXPECTED),
+    }
+}
+
+fn loaded(world: &mut World, i: u16) -> Result<Option<PageId>, WorldFault>
+    requires { IsWorld state world.old }
+    ensures { IsWorld state world.new }
+{
+    match world.step(Event::WarmStep(i)) {
+        Answer::Loaded(page) => Ok(page),
+        Answer::Refused(fault) => Err(fault),
+        _ => Err(UNEXPECTED),
+    }
+}
+
+// Pins a page and takes the fix away again.
+fn visited(world: &mut World, i: u16, page: PageId) -> Done
+    requires { IsWorld state world.old }
+    ensures { IsWorld state world.new }
+{
+    match pinned(world, i, page) {
+        Ok(slot) => settled(world, Event::Unpin(i, slot)),
+        Err(fault) => Err(fault),
+    }
+}
+
+fn put(
+    alloc: Global,
+    world: &mut World,
+    i: u16,
+    slot: Slot,
+    at: u32,
+    text: &[u8],
+) -> Result<Done, Fail>
+    requires { IsWorld state world.old }
+    ensures { IsWorld state world.new }
+{
+    let mut bytes = Vec::new(alloc);
+    bytes.extend_from_slice(text)?;
+    Ok(settled(world, Event::Put(i, slot, at, ByteList::of(bytes))))
+}
+
+// A history has just these entries. `at` is the number of the row.
+fn has_entries(
+    rt: &impl Abort,
+    history: &History,
+    wanted: &[(PageId, Seen)],
+    at: usize,
+) -> Result<(), Fail> {
+    assert_eq!(rt; history.len(), wanted.len(), "row {at}");
+    for (place, known) in wanted.iter().enumerate() {
+        let entry = history.at(place).ok_or("an entry")?;
+        assert_eq!(rt; (entry.page, seen(entry.hist)), *known, "row {at}");
+    }
+    Ok(())
+}
+
+fn are_hottest(
+    rt: &impl Abort,
+    world: &mut World,
+    i: u16,
+    pages: u32,
+    wanted: &[PageId],
+    at: usize,
+) -> Result<(), Fail>
+    requires { IsWorld state world.old }
+    ensures { IsWorld state world.new }
+{
+    let Answer::Pages(hottest) = world.step(Event::Warm(i, pages)) else {
+        return Err("the replica has a warm-up list".into());
+    };
+    assert_eq!(rt; hottest.as_slice(), wanted, "row {at}");
+    Ok(())
+}
+
+fn reads(
+    rt: &impl Abort,
+    world: &mut World,
+    i: u16,
+    slot: Slot,
+    from: u32,
+    wanted: &[u8],
+    at: usize,
+) -> Result<(), Fail>
+    requires { IsWorld state world.old }
+    ensures { IsWorld state world.new }
+{
+    let Ok(read) = bytes(world, i, slot, from, wanted.len() as u32) else {
+        return Err("the bytes are read".into());
+    };
+    assert_eq!(rt; read.as_slice(), wanted, "row {at}");
+    Ok(())
+}
+
+// Uses the pool of a replica as the row says. `at` is its number.
+fn uses(
+    rt: &impl Abort,
+    alloc: Global,
+    world: &mut World,
+    i: u16,
+    row: Use<'_>,
+    at: usize,
+) -> Result<(), Fail>
+    requires { IsWorld state world.old }
+    ensures { IsWorld state world.new }
+{
+    match row {
+        Use::Has(slot, from, wanted) => return reads(rt, world, i, slot, from, wanted, at),
+        Use::Pins(page, wanted) => assert_eq!(rt; pinned(world, i, page), wanted, "row {at}"),
+        Use::Unpins(slot, wanted) => {
+            assert_eq!(rt; settled(world, Event::Unpin(i, slot)), wanted, "row {at}")
+        }
+        Use::Visits(no) => assert_eq!(rt; visited(world, i, page(no)), Ok(()), "row {at}"),
+        Use::Puts(slot, from, text, wanted) => {
+            assert_eq!(rt; put(alloc, world, i, slot, from, text)?, wanted, "row {at}")
+        }
+        Use::Lacks(slot, from, len, fault) => {
+            assert_eq!(rt;
+                bytes(world, i, slot, from, len).err(),
+                Some(fault),
+                "row {at}"
+            )
+        }
+        Use::Victim(wanted) => assert_eq!(rt; victim(world, i), Ok(wanted), "row {at}"),
+        Use::Loads(wanted) => assert_eq!(rt; loaded(world, i), wanted, "row {at}"),
+    }
+    Ok(())
+}
+
+// Asks what the row says. `at` is its number.
+fn meets(
+    rt: &impl Abort,
+    alloc: Global,
+    world: &mut World,
+    row: Row<'_>,
+    at: usize,
+) -> Result<(), Fail>
+    requires { IsWorld state world.old }
+    ensures { IsWorld state world.new }
+{
+    match row {
+        Row::Pool(i, row) => return uses(rt, alloc, world, i, row, at),
+        Row::Hottest(i, pages, wanted) => return are_hottest(rt, world, i, pages, wanted, at),
+        Row::Knows(i, wanted) => return has_entries(rt, &shown(world, i)?, wanted, at),
+        Row::Refers(i, w, page, time, wanted) => {
+            assert_eq!(rt;
+                settled(world, Event::Refer(i, w, page, time)),
+                wanted,
+                "row {at}"
+            )
+        }
+        Row::Flushes(i, w, wanted) => {
+            assert_eq!(rt; settled(world, Event::Flush(i, w)), wanted, "row {at}")
+        }
+        Row::Sends(i, bucket, after, wanted) => {
+            let bucket = Bucket::new(bucket).ok_or("a bucket")?;
+            assert_eq!(rt;
+                kept(world, Event::Send(i, bucket, after)),
+                Ok(wanted),
+                "row {at}"
+            )
+        }
+        Row::Offers(i, wanted) => {
+            assert_eq!(rt; kept(world, Event::Offer(i)), Ok(wanted), "row {at}")
+        }
+        Row::Hears(j, k, wanted) => assert_eq!(rt; heard(world, j, k), wanted, "row {at}"),
+        Row::Restarts(i, wanted) => {
+            assert_eq!(rt; settled(world, Event::Restart(i)), wanted, "row {at}")
+        }
+        Row::Finishes(wanted) => assert_eq!(rt; world.finish(), wanted, "row {at}"),
+    }
+    Ok(())
+}
+
+// Asks a world what the rows say, in turn.
+fn runs(rt: &impl Abort, alloc: Global, world: &mut World, rows: &[Row<'_>]) -> Result<(), Fail>
+    requires { IsWorld state world.old }
+    ensures { IsWorld state world.new }
+{
+    for (at, row) in rows.iter().enumerate() {
+        meets(rt, alloc, world, *row, at)?;
+    }
+    Ok(())
+}
+
+// A fresh world of so many replicas, with pools of so many frames, lives through the rows.
+fn lives(
+    rt: &impl Abort,
+    alloc: Global,
+    replicas: u16,
+    frames: u32,
+    rows: &[Row<'_>],
+) -> Result<(), Fail> {
+    let mut world = fresh(alloc, replicas, frames)?;
+    runs(rt, alloc, &mut world, rows)
+}

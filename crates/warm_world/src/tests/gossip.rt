@@ -1,0 +1,267 @@
+//! References, buffers, frames and rounds of gossip.
+ghost use Rattle.warm_world.specs.Seen.{IsWorld};
+
+use super::{Row, fresh, kept, lives, page, runs, settled};
+use crate::event::{Answer, Event, WorldFault};
+use crate::world::World;
+use std::alloc::Global;
+use std::process::Abort;
+use std::test::Fail;
+use warm_stamps::{Bucket, PageId};
+
+const PAGE: PageId = PageId { dev: 0, no: 1 };
+
+const DONE: Result<(), WorldFault> = Ok(());
+
+const NOT_ANSWERED: Result<(u64, u64), WorldFault> = Ok((0, 0));
+
+#[test]
+fn names_what_is_missing(rt: HostRuntime) -> Result<(), Fail> {
+    let no_replica = WorldFault::NoSuchReplica;
+    let no_worker = WorldFault::NoSuchWorker;
+    let rows = [
+        Row::Refers(4, 1, PAGE, 1, Err(no_replica)),
+        Row::Refers(1, 3, PAGE, 1, Err(no_worker)),
+        Row::Refers(9, 9, PAGE, 1, Err(no_replica)),
+        Row::Flushes(1, 0, Err(no_worker)),
+        Row::Hears(1, 1, Err(WorldFault::NoSuchFrame)),
+        Row::Hears(0, 1, Err(no_replica)),
+        Row::Restarts(4, Err(no_replica)),
+    ];
+    lives(&rt, rt.alloc(), 3, 4, &rows)
+}
+
+#[test]
+fn two_replicas_merge_both_ways(rt: HostRuntime) -> Result<(), Fail> {
+    let both = [(PAGE, (30, 2, Some((20, 1))))];
+    let rows = [
+        Row::Refers(1, 1, PAGE, 10, DONE),
+        Row::Refers(1, 1, PAGE, 20, DONE),
+        Row::Flushes(1, 1, DONE),
+        Row::Refers(2, 1, PAGE, 15, DONE),
+        Row::Refers(2, 1, PAGE, 30, DONE),
+        Row::Flushes(2, 1, DONE),
+        Row::Sends(1, 1, None, 1),
+        Row::Sends(2, 1, None, 2),
+        Row::Hears(2, 1, NOT_ANSWERED),
+        Row::Hears(1, 2, NOT_ANSWERED),
+        Row::Knows(1, &both),
+        Row::Knows(2, &both),
+    ];
+    lives(&rt, rt.alloc(), 2, 4, &rows)
+}
+
+#[test]
+fn a_replica_hears_its_own_sums(rt: HostRuntime) -> Result<(), Fail> {
+    let rows = [
+        Row::Offers(1, 1),
+        Row::Hears(1, 1, NOT_ANSWERED),
+        Row::Knows(1, &[]),
+    ];
+    lives(&rt, rt.alloc(), 1, 4, &rows)
+}
+
+// To the sums the second answers its entries of bucket 2, and a wish for buckets 1 and 2; to the wish the first answers
+// its entries of these.
+#[test]
+fn a_round_makes_histories_equal(rt: HostRuntime) -> Result<(), Fail> {
+    let both = [(page(1), (10, 1, None)), (page(2), (11, 2, None))];
+    let rows = [
+        Row::Refers(1, 1, page(1), 10, DONE),
+        Row::Flushes(1, 1, DONE),
+        Row::Refers(2, 1, page(2), 11, DONE),
+        Row::Flushes(2, 1, DONE),
+        Row::Offers(1, 1),
+        Row::Hears(2, 1, Ok((2, 2))),
+        Row::Hears(1, 2, NOT_ANSWERED),
+        Row::Hears(1, 3, Ok((2, 4))),
+        Row::Hears(2, 4, NOT_ANSWERED),
+        Row::Hears(2, 5, NOT_ANSWERED),
+        Row::Knows(1, &both),
+        Row::Knows(2, &both),
+        Row::Offers(1, 6),
+        Row::Hears(2, 6, NOT_ANSWERED),
+    ];
+    lives(&rt, rt.alloc(), 2, 4, &rows)
+}
+
+#[test]
+fn a_restart_forgets_and_hears_again(rt: HostRuntime) -> Result<(), Fail> {
+    let rows = [
+        Row::Refers(1, 1, PAGE, 10, DONE),
+        Row::Flushes(1, 1, DONE),
+        Row::Sends(1, 1, None, 1),
+        Row::Refers(1, 1, page(2), 11, DONE),
+        Row::Restarts(1, DONE),
+        Row::Flushes(1, 1, DONE),
+        Row::Knows(1, &[]),
+        Row::Hears(1, 1, NOT_ANSWERED),
+        Row::Knows(1, &[(PAGE, (10, 1, None))]),
+    ];
+    lives(&rt, rt.alloc(), 1, 4, &rows)
+}
+
+#[test]
+fn warms_the_hottest_first(rt: HostRuntime) -> Result<(), Fail> {
+    let rows = [
+        Row::Refers(1, 1, page(5), 1, DONE),
+        Row::Refers(1, 1, page(2), 2, DONE),
+        Row::Refers(1, 1, page(2), 3, DONE),
+        Row::Refers(1, 1, page(9), 4, DONE),
+        Row::Refers(1, 1, page(9), 5, DONE),
+        Row::Flushes(1, 1, DONE),
+        Row::Hottest(1, 3, &[page(9), page(2), page(5)]),
+        Row::Hottest(1, 0, &[]),
+    ];
+    lives(&rt, rt.alloc(), 1, 4, &rows)
+}
+
+// Worker 1 of replica 1 references pages: so many, each with a number that is so many times its place, at the time of its
+// place.
+fn refers(
+    rt: &impl Abort,
+    world: &mut World,
+    count: u32,
+    spread: u32,
+    first: u64,
+) -> Result<(), Fail>
+    requires { IsWorld state world.old }
+    ensures { IsWorld state world.new }
+{
+    for place in 0..count {
+        let page = page(place.wrapping_mul(spread));
+        let time = first.wrapping_add(place as u64);
+        assert_eq!(rt; settled(world, Event::Refer(1, 1, page, time)), Ok(()));
+    }
+    Ok(())
+}
+
+fn full_buffer_moves(rt: &impl Abort, alloc: Global, world: &mut World) -> Result<(), Fail>
+    requires { IsWorld state world.old }
+    ensures { IsWorld state world.new }
+{
+    refers(rt, world, 65, 0, 1)?;
+    let rows = [
+        Row::Knows(1, &[(page(0), (64, 1, Some((63, 1))))]),
+        Row::Flushes(1, 1, DONE),
+        Row::Knows(1, &[(page(0), (65, 1, Some((64, 1))))]),
+    ];
+    runs(rt, alloc, world, &rows)
+}
+
+#[test]
+fn a_full_buffer_moves_first(rt: HostRuntime) -> Result<(), Fail> {
+    let mut world = fresh(rt.alloc(), 1, 4)?;
+    full_buffer_moves(&rt, rt.alloc(), &mut world)
+}
+
+// The frame of page 0:7 with 20@1 and 10@1, from replica 1.
+const FRAME: [u8; 42] = [
+    0x4C, 0x32, 0x47, 0x31, 1, 0, 1, 0, 0, 0, 0x1F, 0, 0, 0, 1, 0, 0, 0, 0, 0, 7, 2, 0, 0, 0, 0, 0,
+    0, 0, 0x14, 0, 1, 0, 0, 0, 0, 0, 0, 0, 0x0A, 0, 1,
+];
+
+fn keeps_bytes(rt: &impl Abort, alloc: Global, world: &mut World) -> Result<(), Fail>
+    requires { IsWorld state world.old }
+    ensures { IsWorld state world.new }
+{
+    let rows = [
+        Row::Refers(1, 1, page(7), 10, DONE),
+        Row::Refers(1, 1, page(7), 20, DONE),
+        Row::Flushes(1, 1, DONE),
+        Row::Sends(1, 7, None, 1),
+    ];
+    runs(rt, alloc, world, &rows)?;
+    let kept = world.frames.first().map(|bytes| bytes.as_slice());
+    assert_eq!(rt; kept, Some(FRAME.as_slice()));
+    Ok(())
+}
+
+#[test]
+fn frames_are_kept_as_bytes(rt: HostRuntime) -> Result<(), Fail> {
+    let mut world = fresh(rt.alloc(), 2, 4)?;
+    keeps_bytes(&rt, rt.alloc(), &mut world)
+}
+
+// Bucket 0 of replica 1, after a page, comes to replica 2 as a frame of this length; it then knows of so many pages.
+fn carries(
+    rt: &impl Abort,
+    world: &mut World,
+    after: Option<PageId>,
+    length: usize,
+    known: usize,
+) -> Result<(), Fail>
+    requires { IsWorld state world.old }
+    ensures { IsWorld state world.new }
+{
+    let bucket = Bucket::new(0).ok_or("a bucket")?;
+    let Ok(number) = kept(world, Event::Send(1, bucket, after)) else {
+        return Err("a frame is sent".into());
+    };
+    let kept = world.frames.iter().last().map(|bytes| bytes.len());
+    assert_eq!(rt; kept, Some(length));
+    assert_eq!(rt; super::heard(world, 2, number), NOT_ANSWERED);
+    assert_eq!(rt; super::shown(world, 2)?.len(), known);
+    Ok(())
+}
+
+// 1001 pages of bucket 0 take two frames: 1000 entries of 17 bytes after a header of 11 and a count of 4, and one entry.
+fn goes_in_two_frames(rt: &impl Abort, world: &mut World) -> Result<(), Fail>
+    requires { IsWorld state world.old }
+    ensures { IsWorld state world.new }
+{
+    refers(rt, world, 1001, 64, 0)?;
+    assert_eq!(rt; settled(world, Event::Flush(1, 1)), Ok(()));
+    carries(rt, world, None, 17_015, 1000)?;
+    carries(rt, world, Some(page(63_936)), 32, 1001)
+}
+
+#[test]
+fn a_bucket_of_1001_pages_takes_two_frames(rt: HostRuntime) -> Result<(), Fail> {
+    let mut world = fresh(rt.alloc(), 2, 4)?;
+    goes_in_two_frames(&rt, &mut world)
+}
+
+// References to 10,000 pages in turn, one at each time.
+fn references_in_turn(alloc: Global, count: u64) -> Result<Vec<Event>, Fail> {
+    let mut events = Vec::new(alloc);
+    for time in 0..count {
+        let no = (time % 10_000) as u32;
+        events.push(Event::Refer(1, 1, page(no), time))?;
+    }
+    Ok(events)
+}
+
+fn all_done(rt: &impl Abort, answers: &[Answer]) {
+    for answer in answers {
+        let is_done = matches!(answer, Answer::Done);
+        assert!(rt; is_done, "each reference is taken");
+    }
+}
+
+fn runs_at_once(rt: &impl Abort, alloc: Global, world: &mut World) -> Result<(), Fail>
+    requires { IsWorld state world.old }
+    ensures { IsWorld state world.new }
+{
+    let Ok(answers) = world.run(references_in_turn(alloc, 70_000)?) else {
+        return Err("memory is ample".into());
+    };
+    assert_eq!(rt; answers.len(), 70_000);
+    all_done(rt, &answers);
+    assert_eq!(rt; settled(world, Event::Flush(1, 1)), Ok(()));
+    let Answer::Pages(pages) = world.step(Event::Warm(1, 10_000)) else {
+        return Err("the replica has a warm-up list".into());
+    };
+    assert_eq!(rt; pages.as_slice().len(), 10_000);
+    assert_eq!(rt; pages.as_slice().first().copied(), Some(page(9_999)));
+    assert_eq!(rt; super::shown(world, 1)?.len(), 10_000);
+    Ok(())
+}
+
+// No clause forbids that memory is said to be wanting while there is plenty, so a long list is run. Each page
+// is referenced seven times, in turn: the last of them is the hottest.
+#[test]
+fn seventy_thousand_events_run_at_once(rt: HostRuntime) -> Result<(), Fail> {
+    let mut world = fresh(rt.alloc(), 1, 4)?;
+    runs_at_once(&rt, rt.alloc(), &mut world)
+}

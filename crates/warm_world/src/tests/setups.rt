@@ -1,0 +1,91 @@
+//! Setups, faults, and worlds that are not made.
+ghost use Rattle.warm_world.specs.Opening.{AreFew};
+ghost use Rattle.warm_world.specs.Seen.{listed};
+
+use super::{add_list, devices_for, one_device};
+use crate::event::{BadWorld, WorldFault};
+use crate::setup::{BadSetup, Setup};
+use crate::world::World;
+use std::alloc::Global;
+use std::test::Fail;
+use warm_devices::PageDevice;
+use warm_gossip::NodeFault;
+use warm_pool::PoolFault;
+
+#[test]
+fn setups_are_within_limits(rt: HostRuntime) {
+    assert_eq!(rt; Setup::new(65, 2, 64, 4, 16), Err(BadSetup));
+    assert_eq!(rt; Setup::new(1, 0, 64, 4, 16), Err(BadSetup));
+    assert_eq!(rt; Setup::new(1, 17, 64, 4, 16), Err(BadSetup));
+    assert_eq!(rt; Setup::new(1, 2, 1025, 4, 16), Err(BadSetup));
+    assert_eq!(rt; Setup::new(1, 2, 64, 65537, 16), Err(BadSetup));
+    assert_eq!(rt; Setup::new(1, 2, 64, 4, 0), Err(BadSetup));
+    let Ok(setup) = Setup::new(64, 16, 1024, 65536, 65535) else {
+        panic!(rt; "the setup is within its limits");
+    };
+    assert_eq!(rt;
+        (setup.replicas(), setup.workers(), setup.buffer()),
+        (64, 16, 1024)
+    );
+    assert_eq!(rt; (setup.frames(), setup.page_size()), (65536, 65535));
+}
+
+#[test]
+fn faults_have_numbers_and_names(rt: HostRuntime) {
+    for (fault, code, name) in [
+        (WorldFault::Node(NodeFault::Memory), 1, "Memory"),
+        (
+            WorldFault::Node(NodeFault::Pool(PoolFault::Fixed)),
+            11,
+            "Fixed",
+        ),
+        (WorldFault::NoSuchReplica, 14, "NoSuchReplica"),
+        (WorldFault::NoSuchWorker, 15, "NoSuchWorker"),
+        (WorldFault::NoSuchFrame, 16, "NoSuchFrame"),
+    ] {
+        assert_eq!(rt; (fault.code(), fault.name()), (code, name));
+    }
+    for (bad, code, name) in [
+        (BadWorld::Memory, 1, "Memory"),
+        (BadWorld::SizeDiffers, 3, "SizeDiffers"),
+        (BadWorld::DevicesDiffer, 17, "DevicesDiffer"),
+    ] {
+        assert_eq!(rt; (bad.code(), bad.name()), (code, name));
+    }
+}
+
+// Why no world is made: of so many replicas, whose pages have 16 bytes.
+fn refused(
+    alloc: Global,
+    replicas: u16,
+    devices: Vec<Vec<Box<dyn PageDevice + Send>>>,
+) -> Result<Option<BadWorld>, Fail>
+    requires { AreFew (listed state devices.items) }
+{
+    let Ok(setup) = Setup::new(replicas, 2, 64, 4, 16) else {
+        return Err("the setup is within its limits".into());
+    };
+    Ok(World::new(alloc, setup, devices).err())
+}
+
+#[test]
+fn every_replica_needs_a_list_of_devices(rt: HostRuntime) -> Result<(), Fail> {
+    let alloc = rt.alloc();
+    let differ = Some(BadWorld::DevicesDiffer);
+    assert_eq!(rt; refused(alloc, 3, devices_for(alloc, 2, 16)?)?, differ);
+    // The number of lists is looked at first.
+    assert_eq!(rt; refused(alloc, 1, devices_for(alloc, 2, 8)?)?, differ);
+    assert_eq!(rt; refused(alloc, 2, devices_for(alloc, 2, 16)?)?, None);
+    Ok(())
+}
+
+#[test]
+fn every_device_has_pages_of_one_size(rt: HostRuntime) -> Result<(), Fail> {
+    let alloc = rt.alloc();
+    let differ = Some(BadWorld::SizeDiffers);
+    assert_eq!(rt; refused(alloc, 2, devices_for(alloc, 2, 32)?)?, differ);
+    let mut lists = devices_for(alloc, 1, 16)?;
+    add_list(&mut lists, one_device(alloc, 8, 8)?)?;
+    assert_eq!(rt; refused(alloc, 2, lists)?, differ);
+    Ok(())
+}
