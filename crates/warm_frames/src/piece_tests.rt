@@ -175,6 +175,7 @@ fn a_fault_comes_with_its_byte(rt: HostRuntime) {
 }
 
 // Numbers by a linear congruence, the same in each run.
+#[derive(Drop)]
 struct Numbers {
     state: u64,
 }
@@ -204,18 +205,18 @@ fn stamp(numbers: &mut Numbers) -> Result<Stamp, Fail> {
 // A frame of up to four entries, whose pages are so far apart, or a wish.
 fn any_frame(alloc: Global, numbers: &mut Numbers) -> Result<Frame, Fail> {
     let sender = ReplicaId::new(1 + (numbers.next() % 64) as u16)?;
-    let count = numbers.below(6);
+    let count = (numbers.next() % 6) as u32;
     if count == 5 {
         return Ok(Frame::Want {
             sender,
             mask: numbers.next(),
         });
     }
-    let mut entries = match Vec::with_capacity(alloc, count) {
+    let mut entries = match Vec::with_capacity(alloc, count as usize) {
         Ok(entries) => entries,
-        Err(_) => Vec::with_capacity(alloc, count)?,
+        Err(_) => Vec::with_capacity(alloc, count as usize)?,
     };
-    for no in 0..count as u32 {
+    for no in 0..count {
         let (last, prev) = (stamp(numbers)?, stamp(numbers)?);
         let page = PageId {
             dev: 7,
@@ -281,7 +282,7 @@ fn damaged_frames_against_decode(rt: HostRuntime) -> Result<(), Fail> {
         let mut bytes = encoded(rt.alloc(), &any_frame(rt.alloc(), &mut numbers)?)?;
         let place = numbers.below(bytes.len());
         if let Some(byte) = bytes.as_mut_slice().get_mut(place) {
-            *byte = numbers.next() as u8;
+            *byte = (numbers.next() % 256) as u8;
         }
         let mut decoder = Decoder::new(rt.alloc());
         let (front, end) = bytes.as_slice().split_at(place.min(bytes.len()));

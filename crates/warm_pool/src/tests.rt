@@ -262,8 +262,8 @@ enum Row<'a> {
     Empties(Result<(), PoolFault>),
 }
 
-// Asks what the row says and changes no frame for. `at` is its number.
-fn shows(rt: &impl Abort, pool: &Pool, row: Row<'_>, at: usize)
+// Asks what the row says and changes nothing for. `at` is its number.
+fn shows(rt: &impl Abort, pool: &Pool, row: Row<'_>, at: usize) -> Result<(), Fail>
     requires { IsPool (pool_state state pool.now) }
 {
     match row {
@@ -274,7 +274,34 @@ fn shows(rt: &impl Abort, pool: &Pool, row: Row<'_>, at: usize)
         }
         Row::Has(no, wanted) => assert_eq!(rt; pool.has(page(no)), wanted, "row {at}"),
         Row::Frames(wanted) => assert_eq!(rt; pool.frames(), wanted, "row {at}"),
-        _ => {}
+        _ => return Err("no such row".into()),
+    }
+    Ok(())
+}
+
+// Writes back or empties, if the row says so. `at` is its number.
+fn puts_down(
+    rt: &impl Abort,
+    pool: &mut Pool,
+    history: &History,
+    row: Row<'_>,
+    at: usize,
+) -> Result<(), Fail>
+    requires pool { IsPool (pool_state state pool.old) }
+    requires ranked { RankedBy (pool_state state pool.old) history.now }
+    ensures pool { IsPool (pool_state state pool.new) }
+    ensures ranked { RankedBy (pool_state state pool.new) history.now }
+{
+    match row {
+        Row::WritesBack(wanted) => {
+            assert_eq!(rt; write_back_all(pool, history), wanted, "row {at}");
+            Ok(())
+        }
+        Row::Empties(wanted) => {
+            assert_eq!(rt; empty(pool, history), wanted, "row {at}");
+            Ok(())
+        }
+        shown => shows(rt, pool, shown, at),
     }
 }
 
@@ -312,18 +339,7 @@ fn meets(
             assert_eq!(rt; written, wanted, "row {at}");
             Ok(())
         }
-        Row::WritesBack(wanted) => {
-            assert_eq!(rt; write_back_all(pool, history), wanted, "row {at}");
-            Ok(())
-        }
-        Row::Empties(wanted) => {
-            assert_eq!(rt; empty(pool, history), wanted, "row {at}");
-            Ok(())
-        }
-        shown => {
-            shows(rt, pool, shown, at);
-            Ok(())
-        }
+        other => puts_down(rt, pool, history, other, at),
     }
 }
 

@@ -1,5 +1,6 @@
 //! Whole schedules through `play`, over readers and writers of the tests' own. The expected answers were worked out by
 //! hand from the definition of a page's history; none was taken from the player.
+ghost use Rattle.std.specs.Prelude.{IfOk};
 ghost use Rattle.warm_world.specs.Opening.{AreFew};
 ghost use Rattle.warm_world.specs.Seen.{listed};
 
