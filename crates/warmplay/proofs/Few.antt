@@ -26,8 +26,8 @@ few_more lists list few here = λ k lt. elim (cases_eq k (length lists)) [
 pub few_pushed : {A B : Type 0} (read : A → List B) (lists : List A) (list : A) → EachFew (map read lists) → length (read list) ≤ MAX_DEVICES → EachFew (map read (lists ++ list ∷ []))
 few_pushed read lists list few here = rw map-append (few_more (map read lists) (read list) few here)
 
--- as the states of the devices
-pub few_listed : {A B : Type 0} (read : A → List B) (state : B → DeviceState) (lists : List A) → EachFew (map read lists) → AreFew (map (λ x. map state (read x)) lists)
-few_listed read state [] few k lt = absurd (omega arith)
-few_listed read state (x ∷ xs) few zero lt = rw length-map (few 0 (omega arith))
-few_listed read state (x ∷ xs) few (suc k) lt = few_listed read state xs (λ j h. few (suc j) (omega (arith, h))) k (omega (arith, lt))
+-- each list read as one of the same length
+pub few_listed : {A B : Type 0} (read : A → List B) (states : A → List DeviceState) (lists : List A) → EachFew (map read lists) → ((x : A) → length (states x) ≡ length (read x)) → AreFew (map states lists)
+few_listed read states [] few same k lt = absurd (omega arith)
+few_listed read states (x ∷ xs) few same zero lt = rw same (few 0 (omega arith))
+few_listed read states (x ∷ xs) few same (suc k) lt = few_listed read states xs (λ j h. few (suc j) (omega (arith, h))) same k (omega (arith, lt))
