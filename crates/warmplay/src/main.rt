@@ -126,10 +126,10 @@ fn play_over<R: Read>(
     }
     let page_size = setup.page_size() as usize;
     let mut devices = Vec::new(rt.alloc());
-    for replica in 1..=setup.replicas() {
+    for place in 0..setup.replicas() {
         let mut list: Vec<Box<dyn PageDevice + Send>> = Vec::new(rt.alloc());
         for spec in specs {
-            let pushed = match device_of(rt, spec, page_size, replica)? {
+            let pushed = match device_of(rt, spec, page_size, place + 1)? {
                 Made::Memory(device) => list.push(device),
                 Made::File(device) => list.push(device),
             };

@@ -1,3 +1,6 @@
-use Rattle.std.proofs.Common.{arith, length-map}
-use Rattle.warm_schedule.proofs.Few.{few_pushed}
+use Rattle.std.proofs.lemmas.List.{length-map}
+use Rattle.warmplay.proofs.Few.{few_listed}
 use Rattle.warmplay.proofs.play_over.Goals as goal
+
+pub play-requires : goal.play-requires
+play-requires g c = record { few = few_listed _ _ c.loop-place.devices.items c.loop-place.invariant (λ list. length-map list.items _) }
