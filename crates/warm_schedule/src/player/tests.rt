@@ -14,8 +14,8 @@ fn default_setup() -> Setup {
 }
 
 // A setup of three replicas whose pools have so many frames.
-fn of_frames(frames: u32) -> Setup {
-    Setup::new(3, 2, 64, frames, 16).unwrap()
+fn of_frames(frames: u32) -> Result<Setup, Fail> {
+    Ok(Setup::new(3, 2, 64, frames, 16)?)
 }
 
 type Devices = Vec<Vec<Box<dyn PageDevice + Send>>>;
@@ -229,7 +229,7 @@ const POOLS: [(u32, &str, &str); 6] = [
 #[test]
 fn pools_hold_pages(rt: HostRuntime) -> Result<(), Fail> {
     for (frames, schedule, want) in POOLS {
-        let answers = answers_of(rt.alloc(), of_frames(frames), schedule)?;
+        let answers = answers_of(rt.alloc(), of_frames(frames)?, schedule)?;
         assert_eq!(rt; str::from_utf8(answers.as_slice())?, want);
     }
     Ok(())
