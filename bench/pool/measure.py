@@ -1,6 +1,6 @@
 #!/usr/bin/env python3
-"""Measures visits to resident pages of a pool beside those in plain Rust, and how emptying a pool grows with its frames, and
-prints the tables of docs/PERFORMANCE.md.
+"""Measures visits to resident pages of a pool beside those in plain Rust, and how emptying a pool and retiring a device grow with
+the frames, and prints the tables of docs/PERFORMANCE.md.
 
 usage: measure.py [VISITS]      how many visits a run makes (5,000,000, where no number is given)
 
@@ -29,18 +29,23 @@ def one_run(command: list[str | Path], visits: int) -> tuple[str, float]:
     return read, int(spent.split()[0]) / visits
 
 
-def emptying(frames: int, held: str) -> float:
-    """The microseconds to empty a pool of so many frames, of which these hold pages."""
-    said = [subprocess.run([OURS, "empty", str(frames), held], stdout=subprocess.PIPE, check=True, text=True).stdout for _ in range(4 * RUNS)]
-    return min(int(line.split()[0]) for line in said) / 1000
+def fastest(call: str, held: str) -> dict[int, float]:
+    """The microseconds of a call on a pool of each size, of which these frames hold pages; the sizes take turns."""
+    best: dict[int, float] = {}
+    for _ in range(4 * RUNS):
+        for frames in (FEW, MANY):
+            said = subprocess.run([OURS, call, str(frames), held], stdout=subprocess.PIPE, check=True, text=True).stdout
+            best[frames] = min(int(said.split()[0]) / 1000, best.get(frames, float("inf")))
+    return best
 
 
 def print_emptying() -> None:
-    print(f"| frames that hold a page | {FEW:,} frames, µs | {MANY:,} frames, µs | times |")
+    print(f"| call, and the frames that hold a page | {FEW:,} frames, µs | {MANY:,} frames, µs | times |")
     print("|---|---|---|---|")
-    for name, word in HELD.items():
-        few, many = emptying(FEW, word), emptying(MANY, word)
-        print(f"| {name} | {few:.0f} | {many:.0f} | {many / few:.1f} |")
+    for call in ("empty", "retire"):
+        for name, word in HELD.items():
+            best = fastest(call, word)
+            print(f"| {call}, {name} | {best[FEW]:.0f} | {best[MANY]:.0f} | {best[MANY] / best[FEW]:.1f} |")
 
 
 def main() -> None:

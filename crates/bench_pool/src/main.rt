@@ -2,8 +2,9 @@
 //! eight, and unpins it. Or takes the pages out of the frames of a pool.
 //!
 //! With no argument 1,000 visits are made, what was read is printed, and a pool of 4,096 frames whose upper half holds pages is
-//! emptied. For `bench/pool/measure.py`: with a number so many visits are made, and the nanoseconds are printed too; with `empty`, a
-//! number of frames and a word, that many frames are emptied, and the nanoseconds are printed.
+//! emptied. For `bench/pool/measure.py`: with a number so many visits are made, and the nanoseconds are printed too; with `empty` or
+//! `retire`, a number of frames and a word, a pool of that many frames is emptied, or the device of the pages that it holds is retired
+//! (where all frames hold one, that of the lower half), and the nanoseconds are printed.
 #![tactic(auto)]
 
 ghost use Rattle.std.specs.Prelude.{IfOk};
@@ -32,6 +33,14 @@ enum Held {
 }
 
 impl Held {
+    // The device that is retired.
+    fn device(self) -> u16 {
+        match self {
+            Held::UpperHalf => 1,
+            Held::None | Held::LowerHalf | Held::All => 0,
+        }
+    }
+
     fn from_word(word: &str) -> Result<Held> {
         match word {
             "none" => Ok(Held::None),
@@ -137,13 +146,22 @@ fn visited(clock: &impl Clock, alloc: Global, visits: u64) -> Result<(u64, Durat
     Ok((sum, start.elapsed(clock)?))
 }
 
-// A pool of which these frames hold a page: those of the lower half one of device 0, those of the upper half one of device 1.
+/// What is timed.
+#[derive(Clone, Copy, PartialEq, Eq, Debug)]
+enum Call {
+    Empty,
+    Retire,
+}
+
+// A pool of which these frames hold a page: those of the lower half one of device 0, those of the upper half one of device 1. Where the
+// upper half alone holds pages, those of the lower half left as another device took the place of theirs.
 fn filled(
     alloc: Global,
     frames: u32,
     held: Held,
     first: Box<dyn PageDevice + Send>,
     second: Box<dyn PageDevice + Send>,
+    another: Box<dyn PageDevice + Send>,
 ) -> Result<Pool>
     ensures { IfOk result (λ pool. IsPool (⟦<Pool as Pooled>⟧.state pool)) }
 {
@@ -161,6 +179,10 @@ fn filled(
     if load_pages(&mut pool, &history, 1, upper).is_err() {
         bail!("a page was not loaded")
     }
+    if held != Held::UpperHalf {
+        return Ok(pool);
+    }
+    retire(&mut pool, 0, another)?;
     Ok(pool)
 }
 
@@ -175,31 +197,34 @@ fn empty(pool: &mut Pool) -> Result<()>
     }
 }
 
-// Takes the pages of device 0 out of their frames, as another device takes its place.
-fn retire(pool: &mut Pool, another: Box<dyn PageDevice + Send>) -> Result<()>
+// Takes the pages of a device out of their frames, as another device takes its place.
+fn retire(pool: &mut Pool, dev: u16, another: Box<dyn PageDevice + Send>) -> Result<()>
     requires { IsPool (⟦<Pool as Pooled>⟧.state pool.old) }
     ensures { IsPool (⟦<Pool as Pooled>⟧.state pool.new) }
 {
-    match pool.retire(0, another) {
+    match pool.retire(dev, another) {
         Ok(()) => Ok(()),
         Err(_) => bail!("the device was not retired"),
     }
 }
 
-// The time to empty a pool. Where the upper half alone holds pages, those of the lower half left as their device was retired, which
-// counts too.
-fn emptied(clock: &impl Clock, alloc: Global, frames: u32, held: Held) -> Result<Duration> {
+// The time of a call on a pool of which these frames hold a page.
+fn timed(
+    clock: &impl Clock,
+    alloc: Global,
+    frames: u32,
+    held: Held,
+    call: Call,
+) -> Result<Duration> {
     let half = frames / 2;
     let (first, second) = (device(alloc, half)?, device(alloc, half)?);
-    let another = device(alloc, half)?;
-    let mut pool = filled(alloc, frames, held, first, second)?;
+    let (another, yet_another) = (device(alloc, half)?, device(alloc, half)?);
+    let mut pool = filled(alloc, frames, held, first, second, another)?;
     let start = Instant::now(clock)?;
-    if held == Held::UpperHalf {
-        retire(&mut pool, another)?;
-        empty(&mut pool)?;
-        return Ok(start.elapsed(clock)?);
+    match call {
+        Call::Empty => empty(&mut pool)?,
+        Call::Retire => retire(&mut pool, held.device(), yet_another)?,
     }
-    empty(&mut pool)?;
     Ok(start.elapsed(clock)?)
 }
 
@@ -208,15 +233,20 @@ fn main(rt: HostRuntime) -> Result<()> {
     let Some(word) = words.next() else {
         let (sum, _) = visited(&rt, rt.alloc(), 1_000)?;
         println!(rt; "1000 visits: {}", sum)?;
-        emptied(&rt, rt.alloc(), 4_096, Held::UpperHalf)?;
+        timed(&rt, rt.alloc(), 4_096, Held::UpperHalf, Call::Empty)?;
         println!(rt; "4096 frames emptied")?;
         return Ok(());
     };
-    if word.as_str() == "empty" {
+    if word.as_str() == "empty" || word.as_str() == "retire" {
+        let call = if word.as_str() == "empty" {
+            Call::Empty
+        } else {
+            Call::Retire
+        };
         let frames = words.next().context("the number of frames")?;
         let frames = frames.parse::<u32>().context("the number of frames")?;
         let held = words.next().context("which frames hold a page")?;
-        let spent = emptied(&rt, rt.alloc(), frames, Held::from_word(&held)?)?;
+        let spent = timed(&rt, rt.alloc(), frames, Held::from_word(&held)?, call)?;
         println!(rt; "{} ns", spent.as_nanos())?;
         return Ok(());
     }
