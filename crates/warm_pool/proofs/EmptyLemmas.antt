@@ -13,7 +13,7 @@ use Rattle.warm_pool.specs.Frames.{FrameState, FramesState, nth_frame, fresh_fra
 use Rattle.warm_pool.specs.State.{PoolState, IsPool, IsNowhere, IsSettled, nth_device}
 use Rattle.warm_pool.specs.View.{stored, view_of, frame_view, bytes_of, PoolView, HasPage, contents_at, device_at, KeepsContents}
 use Rattle.warm_pool.specs.WritingBack.{PutsDown, is_chosen, clean_if, cleaned_chosen}
-use Rattle.warm_pool.specs.Retiring.{Emptied, emptied, AreUnfixed, vacate_if, vacated_from}
+use Rattle.warm_pool.specs.Retiring.{Emptied, emptied, AreUnfixed, vacate_if, vacated_chosen}
 use Rattle.warm_pool.specs.Flushes.{NoneWaits}
 use Rattle.warm_pool.proofs.Bytes.{bytes_nowhere, where_is, contents_seen, contents_beyond, device_seen, device_there, frame_seen}
 use Rattle.warm_pool.proofs.Keeps.{stored_honest}
@@ -73,20 +73,20 @@ vacate_fresh : (which : Option ℕ) → vacate_if which (fresh_frame []) ≡ fre
 vacate_fresh None = refl
 vacate_fresh (Some dev) = refl
 
-pub nth_vacated : (which : Option ℕ) (frames : List FrameState) (i : ℕ) → nth_frame (vacated_from which 0 frames) i ≡ vacate_if which (nth_frame frames i)
+pub nth_vacated : (which : Option ℕ) (frames : List FrameState) (i : ℕ) → nth_frame (vacated_chosen which frames) i ≡ vacate_if which (nth_frame frames i)
 nth_vacated which [] i = sym (vacate_fresh which)
 nth_vacated which (f ∷ frames) zero = refl
 nth_vacated which (f ∷ frames) (suc i) = nth_vacated which frames i
 
 -- All of them
 
-pub still_there : (which : Option ℕ) (frames : List FrameState) (i : ℕ) (p : PageId) → (nth_frame (vacated_from which 0 frames) i).page ≡ Some p → nth_frame (vacated_from which 0 frames) i ≡ nth_frame frames i
+pub still_there : (which : Option ℕ) (frames : List FrameState) (i : ℕ) (p : PageId) → (nth_frame (vacated_chosen which frames) i).page ≡ Some p → nth_frame (vacated_chosen which frames) i ≡ nth_frame frames i
 still_there which frames i p is = nth_vacated which frames i ∙ vacate_held which (nth_frame frames i) p (sym (ap (λ f. f.page) (nth_vacated which frames i)) ∙ is)
 
-pub was_there : (which : Option ℕ) (frames : List FrameState) (i : ℕ) (p : PageId) → (nth_frame (vacated_from which 0 frames) i).page ≡ Some p → (nth_frame frames i).page ≡ Some p
+pub was_there : (which : Option ℕ) (frames : List FrameState) (i : ℕ) (p : PageId) → (nth_frame (vacated_chosen which frames) i).page ≡ Some p → (nth_frame frames i).page ≡ Some p
 was_there which frames i p is = sym (ap (λ f. f.page) (still_there which frames i p is)) ∙ is
 
-pub vacated_pool : (which : Option ℕ) (s : PoolState) → AreUnfixed which s.frames → IsPool s → IsPool (record s { frames = vacated_from which 0 s.frames })
+pub vacated_pool : (which : Option ℕ) (s : PoolState) → AreUnfixed which s.frames → IsPool s → IsPool (record s { frames = vacated_chosen which s.frames })
 vacated_pool which s unfixed w =
     let count = length-vacated which s.frames in
     record {
@@ -108,27 +108,27 @@ vacated_pool which s unfixed w =
           (vacate_bare which (nth_frame s.frames i) (unfixed i) (w.bare i) (sym (ap (λ f. f.page) (nth_vacated which s.frames i)) ∙ is));
     }
 
-pub vacated_ranked : (which : Option ℕ) (frames : List FrameState) (h : HistoryView) → ((i : ℕ) → IsRanked h (nth_frame frames i)) → (i : ℕ) → IsRanked h (nth_frame (vacated_from which 0 frames) i)
+pub vacated_ranked : (which : Option ℕ) (frames : List FrameState) (h : HistoryView) → ((i : ℕ) → IsRanked h (nth_frame frames i)) → (i : ℕ) → IsRanked h (nth_frame (vacated_chosen which frames) i)
 vacated_ranked which frames h ranked i = subst (λ f. IsRanked h f) (sym (nth_vacated which frames i)) (vacate_ranked which (nth_frame frames i) h (ranked i))
 
-none_ranked : (frames : List FrameState) (h : HistoryView) (i : ℕ) → IsRanked h (nth_frame (vacated_from None 0 frames) i)
+none_ranked : (frames : List FrameState) (h : HistoryView) (i : ℕ) → IsRanked h (nth_frame (vacated_chosen None frames) i)
 none_ranked frames h i = subst (λ f. IsRanked h f) (sym (nth_vacated None frames i)) refl
 
-pub empty_ranked : (old new : FramesState) (h : HistoryView) → new ≡ record old { frames = vacated_from None 0 old.frames } → (i : ℕ) → IsRanked h (nth_frame new.frames i)
+pub empty_ranked : (old new : FramesState) (h : HistoryView) → new ≡ record old { frames = vacated_chosen None old.frames } → (i : ℕ) → IsRanked h (nth_frame new.frames i)
 empty_ranked old new h is i = subst (λ (f : FramesState). IsRanked h (nth_frame f.frames i)) (sym is) (none_ranked old.frames h i)
 
 -- An emptied pool, as a caller sees it
 
-empty_away : (frames : List FrameState) (p : PageId) → IsNowhere (vacated_from None 0 frames) p
+empty_away : (frames : List FrameState) (p : PageId) → IsNowhere (vacated_chosen None frames) p
 empty_away frames p i is = let no : None ≡ Some p = sym (ap (λ f. f.page) (nth_vacated None frames i)) ∙ is in absurd (cc)
 
-seen_empty : (frames : List FrameState) → map frame_view (vacated_from None 0 frames) ≡ map emptied (map frame_view frames)
+seen_empty : (frames : List FrameState) → map frame_view (vacated_chosen None frames) ≡ map emptied (map frame_view frames)
 seen_empty [] = refl
 seen_empty (f ∷ frames) = ap (λ rest. emptied (frame_view f) ∷ rest) (seen_empty frames)
 
 module _ (t : PoolState) (w : IsPool t) (clean : (i : ℕ) → (nth_frame t.frames i).dirty ≡ false) where
   abbrev u : PoolState
-  u = record t { frames = vacated_from None 0 t.frames }
+  u = record t { frames = vacated_chosen None t.frames }
 
   -- what an honest device has of a page is what the pool has
   on_device : (p : PageId) → IsTrue (nth_device t.devices p.dev).honest → bytes_of t.frames t.devices p ≡ stored t.devices p
@@ -174,10 +174,10 @@ module _ (t : PoolState) (w : IsPool t) (clean : (i : ℕ) → (nth_frame t.fram
 abbrev pooled : FramesState → ℕ → List DeviceState → PoolState
 pooled frames spare devices = record { page_size = frames.page_size; spare = spare; frames = frames.frames; devices = devices }
 
-pub becomes_empty : (P : PoolState → Type 0) (which : Option ℕ) (old new : FramesState) (spare : ℕ) (devices : List DeviceState) → new ≡ record old { frames = vacated_from which 0 old.frames } → P (record (pooled old spare devices) { frames = vacated_from which 0 old.frames }) → P (pooled new spare devices)
+pub becomes_empty : (P : PoolState → Type 0) (which : Option ℕ) (old new : FramesState) (spare : ℕ) (devices : List DeviceState) → new ≡ record old { frames = vacated_chosen which old.frames } → P (record (pooled old spare devices) { frames = vacated_chosen which old.frames }) → P (pooled new spare devices)
 becomes_empty P which old new spare devices is holds = subst (λ frames. P (pooled frames spare devices)) (sym is) holds
 
-pub emptied_pool : (s : PoolState) (old new : FramesState) (spare : ℕ) (devices : List DeviceState) → PutsDown (cleaned_chosen None (length s.frames) s.frames) s (pooled old spare devices) → NoneWaits devices → AreUnfixed None s.frames → IsPool (pooled old spare devices) → new ≡ record old { frames = vacated_from None 0 old.frames } → Emptied (view_of s) (view_of (pooled new spare devices))
+pub emptied_pool : (s : PoolState) (old new : FramesState) (spare : ℕ) (devices : List DeviceState) → PutsDown (cleaned_chosen None (length s.frames) s.frames) s (pooled old spare devices) → NoneWaits devices → AreUnfixed None s.frames → IsPool (pooled old spare devices) → new ≡ record old { frames = vacated_chosen None old.frames } → Emptied (view_of s) (view_of (pooled new spare devices))
 emptied_pool s old new spare devices down none unfixed pool is =
     let t : PoolState = pooled old spare devices in
     becomes_empty (λ u. Emptied (view_of s) (view_of u)) None old new spare devices is

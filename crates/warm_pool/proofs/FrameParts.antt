@@ -1,6 +1,6 @@
 -- Frames as they are kept: their pages, their statuses and the rest of each, in lists of one length.
 use Rattle.std.proofs.Common.{◌≡◌, ◌≢◌, ℕ, zero, suc, ◌<◌, List, [], ◌∷◌, length, map, set, get_or, replicate, Option, Some, None, refl, sym, ◌∙◌, ap, subst, arith}
-use Rattle.std.proofs.lemmas.List.{map-set, set-get_or, length-set, length-replicate, get_or_read}
+use Rattle.std.proofs.lemmas.List.{map-set, set-get_or, length-map, length-set, length-replicate, get_or_read}
 use Rattle.warm_stamps.specs.declared.PageId.{PageId}
 use Rattle.warm_rank.specs.declared.RankKey.{RankKey}
 use Rattle.warm_pool.specs.declared.frame.Status.{Status}
@@ -46,6 +46,10 @@ changed (q ∷ ps) (r ∷ ss) [] zero p s b = refl
 changed (q ∷ ps) (r ∷ ss) [] (suc i) p s b = refl
 changed (q ∷ ps) (r ∷ ss) (c ∷ bs) zero p s b = refl
 changed (q ∷ ps) (r ∷ ss) (c ∷ bs) (suc i) p s b = ap (λ fs. frame_of q r c ∷ fs) (changed ps ss bs i p s b)
+
+-- as many compete as there are frames
+pub contest_count : {ps : List (Option PageId)} {ss : List Status} {bs : List FrameBody} {contest : _} → AreTied ps ss bs contest → length contest ≡ length ps
+contest_count {ps} {ss} {bs} t = ap length t.contest_is ∙ length-map (frames_of ps ss bs) leaving_key ∙ count ps ss bs t.status_each t.body_each
 
 -- What is seen of them
 

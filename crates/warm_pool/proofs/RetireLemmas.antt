@@ -11,12 +11,13 @@ use Rattle.warm_pool.specs.Frames.{FrameState, FramesState, nth_frame, vacated}
 use Rattle.warm_pool.specs.State.{PoolState, IsPool, RankedBy, nth_device, no_device}
 use Rattle.warm_pool.specs.View.{stored, view_of, frame_view, device_view, is_page, bytes_in, FrameView, HasPage, contents_at, FailsAt}
 use Rattle.warm_pool.specs.WritingBack.{is_on, KeptDevices, PutsDown, StopsAt, cleaned_chosen}
-use Rattle.warm_pool.specs.Retiring.{Retired, MayRetire, IsFixedOn, emptied, AreUnfixed, IsFixedIn, MakesWay, retired, vacate_if, vacated_from}
+use Rattle.warm_pool.specs.Retiring.{Retired, MayRetire, IsFixedOn, emptied, AreUnfixed, AreClean, IsFixedIn, MakesWay, retired, vacate_if, vacated_chosen}
 use Rattle.warm_pool.specs.Flushes.{IsFlushed, FlushFails}
 use Rattle.warm_pool.proofs.FlushLemmas.{same_shape}
 use Rattle.warm_pool.proofs.Bytes.{bytes_nowhere, contents_seen, device_seen, frame_seen, page_found}
 use Rattle.warm_pool.proofs.Keeps.{view_of_kept}
 use Rattle.warm_pool.proofs.SettleLemmas.{AreAlike, alike_kept, down_view, flush_down, flush_fails_at}
+use Rattle.warm_pool.proofs.VacateLemmas.{clean_to}
 use Rattle.warm_pool.proofs.EmptyLemmas.{nth_vacated, vacated_pool, vacated_ranked, unfixed_to}
 
 -- One device replaced or flushed
@@ -93,7 +94,7 @@ off_device dev f p is same = elim (cases_Bool (is_on dev f.page)) [
       absurd (false≢true (sym isnt ∙ ap (is_on dev) held ∙ eq-eqb p.dev dev same))
 ]
 
-away_from : (dev : ℕ) (frames : List FrameState) (i : ℕ) (p : PageId) → (nth_frame (vacated_from (Some dev) 0 frames) i).page ≡ Some p → p.dev ≢ dev
+away_from : (dev : ℕ) (frames : List FrameState) (i : ℕ) (p : PageId) → (nth_frame (vacated_chosen (Some dev) frames) i).page ≡ Some p → p.dev ≢ dev
 away_from dev frames i p is = off_device dev (nth_frame frames i) p (sym (ap (λ f. f.page) (nth_vacated (Some dev) frames i)) ∙ is)
 
 held_vacated : (dev : ℕ) (f : FrameState) (p : PageId) (others : List ℕ) → p.dev ≢ dev → cond (is_page p (vacate_if (Some dev) f).page) (vacate_if (Some dev) f).bytes others ≡ cond (is_page p f.page) f.bytes others
@@ -110,9 +111,9 @@ held_vacated dev f p others ne = elim (cases_Bool (is_on dev f.page)) [
       | inr isnt ↦ isnt
     ]
 
-bytes_vacated : (dev : ℕ) (frames : List FrameState) (p : PageId) (others : List ℕ) → p.dev ≢ dev → bytes_in (vacated_from (Some dev) 0 frames) p others ≡ bytes_in frames p others
+bytes_vacated : (dev : ℕ) (frames : List FrameState) (p : PageId) (others : List ℕ) → p.dev ≢ dev → bytes_in (vacated_chosen (Some dev) frames) p others ≡ bytes_in frames p others
 bytes_vacated dev [] p others ne = refl
-bytes_vacated dev (f ∷ frames) p others ne = held_vacated dev f p (bytes_in (vacated_from (Some dev) 0 frames) p others) ne ∙ ap (λ rest. cond (is_page p f.page) f.bytes rest) (bytes_vacated dev frames p others ne)
+bytes_vacated dev (f ∷ frames) p others ne = held_vacated dev f p (bytes_in (vacated_chosen (Some dev) frames) p others) ne ∙ ap (λ rest. cond (is_page p f.page) f.bytes rest) (bytes_vacated dev frames p others ne)
 
 abbrev emptied_on : ℕ → FrameView → FrameView
 emptied_on dev f = cond (is_on dev f.page) (emptied f) f
@@ -120,7 +121,7 @@ emptied_on dev f = cond (is_on dev f.page) (emptied f) f
 one_seen : (dev : ℕ) (f : FrameState) → frame_view (vacate_if (Some dev) f) ≡ emptied_on dev (frame_view f)
 one_seen dev f = elim (is_on dev f.page) as (λ b. frame_view (cond b (vacated f) f) ≡ cond b (emptied (frame_view f)) (frame_view f)) [ true ↦ refl | false ↦ refl ]
 
-seen_vacated : (dev : ℕ) (frames : List FrameState) → map frame_view (vacated_from (Some dev) 0 frames) ≡ map (emptied_on dev) (map frame_view frames)
+seen_vacated : (dev : ℕ) (frames : List FrameState) → map frame_view (vacated_chosen (Some dev) frames) ≡ map (emptied_on dev) (map frame_view frames)
 seen_vacated dev [] = refl
 seen_vacated dev (f ∷ frames) = ap₂ (λ (x : FrameView) (rest : List FrameView). x ∷ rest) (one_seen dev f) (seen_vacated dev frames)
 
@@ -202,8 +203,8 @@ module _ (dev : ℕ) (t : PoolState) (device : DeviceState) (w : IsPool t) (ther
   retired_view s same = subst (λ v. Retired v dev device (view_of u)) same retired_seen
 
 -- the frames and the devices each by its own equation
-pub becomes_retired : (old new : FramesState) (spare dev : ℕ) (devices others : List DeviceState) (device : DeviceState) → new ≡ record old { frames = vacated_from (Some dev) 0 old.frames } → others ≡ set devices dev device
-    → (let s : PoolState = record { page_size = new.page_size; spare = spare; frames = new.frames; devices = others } in s) ≡ (let s : PoolState = record { page_size = old.page_size; spare = spare; frames = vacated_from (Some dev) 0 old.frames; devices = set devices dev device } in s)
+pub becomes_retired : (old new : FramesState) (spare dev : ℕ) (devices others : List DeviceState) (device : DeviceState) → new ≡ record old { frames = vacated_chosen (Some dev) old.frames } → others ≡ set devices dev device
+    → (let s : PoolState = record { page_size = new.page_size; spare = spare; frames = new.frames; devices = others } in s) ≡ (let s : PoolState = record { page_size = old.page_size; spare = spare; frames = vacated_chosen (Some dev) old.frames; devices = set devices dev device } in s)
 becomes_retired old new spare dev devices others device frames is =
     ap₂ (λ (f : FramesState) (ds : List DeviceState). let s : PoolState = record { page_size = f.page_size; spare = spare; frames = f.frames; devices = ds } in s) frames is
 
@@ -235,8 +236,11 @@ seen_beyond s dev w beyond = subst (λ n. n ≤ dev) (sym (length-map s.devices 
 pub way_there : (s t : PoolState) (dev size : ℕ) → MakesWay s dev size t → dev < length t.devices
 way_there s t dev size way = subst (λ n. dev < n) (sym way.down.devices.count) way.there
 
-pub way_unfixed : (s t : PoolState) (dev size : ℕ) → MakesWay s dev size t → AreUnfixed (Some dev) t.frames
+way_unfixed : (s t : PoolState) (dev size : ℕ) → MakesWay s dev size t → AreUnfixed (Some dev) t.frames
 way_unfixed s t dev size way = unfixed_to (Some dev) (length s.frames) s.frames t.frames way.down.becomes way.unfixed
+
+pub way_clean : (s t : PoolState) (dev size : ℕ) → MakesWay s dev size t → AreClean (Some dev) t.frames
+way_clean s t dev size way = clean_to (Some dev) s.frames t.frames way.down.becomes
 
 pub retire_pool : (s t u : PoolState) (dev size : ℕ) (device : DeviceState) → IsPool t → MakesWay s dev size t → size ≡ device.page_size → u ≡ retired t dev device → IsPool u
 retire_pool s t u dev size device w way same is =

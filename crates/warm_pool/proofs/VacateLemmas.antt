@@ -1,84 +1,71 @@
--- Frames whose pages leave, from the first on.
-use Rattle.std.proofs.Common.{◌≡◌, ◌≢◌, ℕ, zero, suc, ◌+◌, ◌<◌, ◌≤◌, cond, true, false, List, [], ◌∷◌, ◌++◌, map, take, drop, length, set, Option, Some, None, inl, inr, refl, sym, ap, ◌∙◌, arith, get_or-set_other}
+-- Pages that leave their frames, from the first frame on.
+use Rattle.std.proofs.Common.{◌≡◌, ◌≢◌, ℕ, zero, suc, ◌+◌, ◌<◌, ◌≤◌, cond, true, false, IsTrue, List, [], ◌∷◌, ◌++◌, map, take, drop, length, set, Option, Some, None, inl, inr, refl, sym, ap, ◌∙◌, subst, arith, get_or-set_other}
 use Rattle.std.proofs.Math.Path.{ap₂}
-use Rattle.std.proofs.Math.ListN.{get_or-map as mapped}
 use Rattle.std.proofs.lemmas.Bool.{cases_eq}
-use Rattle.std.proofs.lemmas.List.{length-map, set-get_or}
+use Rattle.std.proofs.lemmas.List.{length-map, length-set, set-get_or}
 use Rattle.warm_stamps.specs.declared.PageId.{PageId}
+use Rattle.warm_rank.specs.declared.RankKey.{RankKey}
+use Rattle.warm_rank.specs.Slots.{key_while, keys_while}
 use Rattle.warm_pool.specs.Chains.{after, page_in}
 use Rattle.warm_pool.specs.Residents.{IsFree, IsLastFree}
-use Rattle.warm_pool.specs.Frames.{FrameState, FramesState, nth_frame, fresh_frame, vacated}
-use Rattle.warm_pool.specs.FrameSteps.{changed_at, pages_held}
-use Rattle.warm_pool.specs.WritingBack.{is_chosen}
-use Rattle.warm_pool.specs.Retiring.{vacate_if, vacated_from}
-
--- of the first n frames those that are concerned without a page, the others as they are
-abbrev pub vacated_to : Option ℕ → ℕ → List FrameState → List FrameState
-vacated_to which n frames = map (vacate_if which) (take n frames) ++ drop n frames
-
-vacate_next : (which : Option ℕ) (at : ℕ) (frames : List FrameState) → nth_frame (vacated_to which at frames) at ≡ nth_frame frames at
-vacate_next which zero frames = refl
-vacate_next which (suc at) [] = refl
-vacate_next which (suc at) (f ∷ frames) = vacate_next which at frames
-
-vacate_more : (which : Option ℕ) (at : ℕ) (frames : List FrameState) → at < length frames → set (vacated_to which at frames) at (vacate_if which (nth_frame frames at)) ≡ vacated_to which (suc at) frames
-vacate_more which at [] lt = absurd (omega arith)
-vacate_more which zero (f ∷ frames) lt = refl
-vacate_more which (suc at) (f ∷ frames) lt = ap (λ rest. vacate_if which f ∷ rest) (vacate_more which at frames (omega arith))
-
-vacate_whole : (which : Option ℕ) (frames : List FrameState) → vacated_to which (length frames) frames ≡ vacated_from which 0 frames
-vacate_whole which [] = refl
-vacate_whole which (f ∷ frames) = ap (λ rest. vacate_if which f ∷ rest) (vacate_whole which frames)
-
-length-vacated_to : (which : Option ℕ) (n : ℕ) (frames : List FrameState) → length (vacated_to which n frames) ≡ length frames
-length-vacated_to which zero frames = refl
-length-vacated_to which (suc n) [] = refl
-length-vacated_to which (suc n) (f ∷ frames) = ap suc (length-vacated_to which n frames)
-
-pub length-vacated : (which : Option ℕ) (frames : List FrameState) → length (vacated_from which 0 frames) ≡ length frames
-length-vacated which frames = length-map frames (vacate_if which)
+use Rattle.warm_pool.specs.declared.frame.Status.{Status}
+use Rattle.warm_pool.specs.Frames.{FrameState, FrameBody, FramesState, AreTied, nth_frame, cleaned, vacated, frame_of, frames_of, leaving_key}
+use Rattle.warm_pool.specs.WritingBack.{is_chosen, cleaned_chosen}
+use Rattle.warm_pool.specs.Retiring.{AreClean, clear_if, cleared_at, vacate_if, vacated_chosen}
+use Rattle.warm_pool.proofs.Slots.{bare_key}
+use Rattle.warm_pool.proofs.FrameParts.{kept}
+use Rattle.warm_pool.proofs.ClosingLemmas.{nth_page}
 
 -- One frame more
 
-pub vacated_count : (which : Option ℕ) (at : ℕ) (old mid : FramesState) → mid ≡ record old { frames = vacated_to which at old.frames } → length mid.frames ≡ length old.frames
-vacated_count which at old mid is = ap (λ f. length f.frames) is ∙ length-vacated_to which at old.frames
+-- what the frames hold once those of the first n that are concerned were cleared
+abbrev pub cleared_to : Option ℕ → ℕ → List (Option PageId) → List (Option PageId)
+cleared_to which n pages = map (clear_if which) (take n pages) ++ drop n pages
 
-pub vacated_nth : (which : Option ℕ) (at : ℕ) (old mid : FramesState) → mid ≡ record old { frames = vacated_to which at old.frames } → nth_frame mid.frames at ≡ nth_frame old.frames at
-vacated_nth which at old mid is = ap (λ f. nth_frame f.frames at) is ∙ vacate_next which at old.frames
+pub length-cleared_to : (which : Option ℕ) (n : ℕ) (pages : List (Option PageId)) → length (cleared_to which n pages) ≡ length pages
+length-cleared_to which zero pages = refl
+length-cleared_to which (suc n) [] = refl
+length-cleared_to which (suc n) (page ∷ pages) = ap suc (length-cleared_to which n pages)
 
-pub vacate_step : (which : Option ℕ) (at more : ℕ) (old mid new : FramesState) → more ≡ suc at → at < length old.frames → mid ≡ record old { frames = vacated_to which at old.frames }
-    → new ≡ changed_at mid at (vacate_if which) → new ≡ record old { frames = vacated_to which more old.frames }
-vacate_step which at more old mid new one lt is next =
-    let here : mid.frames ≡ vacated_to which at old.frames = ap (λ f. f.frames) is in
-    let frames : set mid.frames at (vacate_if which (nth_frame mid.frames at)) ≡ vacated_to which more old.frames =
-    ap₂ (λ (xs : List FrameState) (f : FrameState). set xs at (vacate_if which f)) here (vacated_nth which at old mid is)
-    ∙ vacate_more which at old.frames lt ∙ ap (λ n. vacated_to which n old.frames) (sym one)
-    in
-    next ∙ ap₂ (λ (size : ℕ) (xs : List FrameState). let f : FramesState = record { page_size = size; frames = xs } in f) (ap (λ f. f.page_size) is) frames
+pub length-cleared_at : (which : Option ℕ) (pages : List (Option PageId)) (at : ℕ) → length (cleared_at which pages at) ≡ length pages
+length-cleared_at which pages at = length-set pages at _
 
-pub vacate_done : (which : Option ℕ) (at : ℕ) (old new : FramesState) → at ≡ length old.frames → new ≡ record old { frames = vacated_to which at old.frames } → new ≡ record old { frames = vacated_from which 0 old.frames }
-vacate_done which at old new end is =
-    is ∙ ap (λ xs. let f : FramesState = record old { frames = xs } in f) (ap (λ n. vacated_to which n old.frames) end ∙ vacate_whole which old.frames)
+pub clear_next : (which : Option ℕ) (at : ℕ) (pages : List (Option PageId)) → at < length pages → cleared_at which (cleared_to which at pages) at ≡ cleared_to which (suc at) pages
+clear_next which at [] lt = absurd (omega arith)
+clear_next which zero (page ∷ pages) lt = refl
+clear_next which (suc at) (page ∷ pages) lt = ap (λ rest. clear_if which page ∷ rest) (clear_next which at pages (omega arith))
+
+clear_whole : (which : Option ℕ) (pages : List (Option PageId)) → cleared_to which (length pages) pages ≡ map (clear_if which) pages
+clear_whole which [] = refl
+clear_whole which (page ∷ pages) = ap (λ rest. clear_if which page ∷ rest) (clear_whole which pages)
+
+pub clear_step : (which : Option ℕ) (at more : ℕ) (old mid new : List (Option PageId)) → more ≡ suc at → at < length old → mid ≡ cleared_to which at old → new ≡ cleared_at which mid at → new ≡ cleared_to which more old
+clear_step which at more old mid new one lt is next =
+    next ∙ ap (λ pages. cleared_at which pages at) is ∙ clear_next which at old lt ∙ ap (λ n. cleared_to which n old) (sym one)
+
+pub clear_done : (which : Option ℕ) (at : ℕ) (old new : List (Option PageId)) → at ≡ length old → new ≡ cleared_to which at old → new ≡ map (clear_if which) old
+clear_done which at old new end is = is ∙ ap (λ n. cleared_to which n old) end ∙ clear_whole which old
+
+-- a frame that isn't concerned
+pub clear_same : (which : Option ℕ) (pages : List (Option PageId)) (at : ℕ) → is_chosen which (page_in pages at) ≡ false → pages ≡ cleared_at which pages at
+clear_same which pages at isnt =
+    sym (ap (λ t. set pages at (cond t None (page_in pages at))) isnt ∙ set-get_or pages at None)
+
+pub clear_chosen : (which : Option ℕ) (pages : List (Option PageId)) (at : ℕ) → is_chosen which (page_in pages at) ≡ true → set pages at None ≡ cleared_at which pages at
+clear_chosen which pages at is = ap (λ t. set pages at (cond t None (page_in pages at))) (sym is)
 
 -- The last frame without a page so far
 
-pub page_held : (frames : List FrameState) (at : ℕ) → page_in (pages_held frames) at ≡ (nth_frame frames at).page
-page_held frames at = mapped (λ (f : FrameState). f.page) frames at (fresh_frame [])
-
 -- what a later frame holds doesn't change it
-held_other : (frames : List FrameState) (at other : ℕ) (f : FrameState) → other ≢ at → page_in (pages_held (set frames at f)) other ≡ page_in (pages_held frames) other
-held_other frames at other f ne =
-    page_held (set frames at f) other ∙ ap (λ (g : FrameState). g.page) (get_or-set_other frames at other f (fresh_frame []) ne) ∙ sym (page_held frames other)
+free_kept : (pages : List (Option PageId)) (at : ℕ) (page : Option PageId) (last : Option ℕ) → after last ≤ at → IsFree pages last → IsFree (set pages at page) last
+free_kept pages at page None below free = tt
+free_kept pages at page (Some x) below free = get_or-set_other pages at x page None (omega arith) ∙ free
 
-free_kept : (frames : List FrameState) (at : ℕ) (f : FrameState) (last : Option ℕ) → after last ≤ at → IsFree (pages_held frames) last → IsFree (pages_held (set frames at f)) last
-free_kept frames at f None below free = tt
-free_kept frames at f (Some x) below free = held_other frames at x f (omega arith) ∙ free
-
-pub last_kept : (frames : List FrameState) (at : ℕ) (f : FrameState) (last : Option ℕ) → IsLastFree (pages_held frames) at last → IsLastFree (pages_held (set frames at f)) at last
-last_kept frames at f last is = record {
+pub last_kept : (pages : List (Option PageId)) (at : ℕ) (page : Option PageId) (last : Option ℕ) → IsLastFree pages at last → IsLastFree (set pages at page) at last
+last_kept pages at page last is = record {
   below = is.below;
-  free = free_kept frames at f last is.below is.free;
-  between = λ other ge less none. is.between other ge less (sym (held_other frames at other f (omega arith)) ∙ none);
+  free = free_kept pages at page last is.below is.free;
+  between = λ other ge less none. is.between other ge less (sym (get_or-set_other pages at other page None (omega arith)) ∙ none);
 }
 
 pub last_none : (pages : List (Option PageId)) → IsLastFree pages 0 None
@@ -98,13 +85,71 @@ last_stays pages at last some is = record {
 pub last_here : (pages : List (Option PageId)) (at : ℕ) → page_in pages at ≡ None → IsLastFree pages (at + 1) (Some at)
 last_here pages at none = record { below = omega arith; free = none; between = λ other ge less free. omega arith }
 
--- A frame that is concerned, and one that isn't
+-- Frames of which pages were taken
 
-pub vacate_same : (which : Option ℕ) (frames : FramesState) (at : ℕ) → is_chosen which (nth_frame frames.frames at).page ≡ false → frames ≡ changed_at frames at (vacate_if which)
-vacate_same which frames at isnt =
-    ap (λ xs. let f : FramesState = record frames { frames = xs } in f)
-    (sym (ap (λ t. set frames.frames at (cond t (vacated (nth_frame frames.frames at)) (nth_frame frames.frames at))) isnt ∙ set-get_or frames.frames at (fresh_frame [])))
+one_cleared : (which : Option ℕ) (page : Option PageId) (status : Status) (body : FrameBody) → (IsTrue (is_chosen which page) → status.dirty ≡ false) → frame_of (clear_if which page) status body ≡ vacate_if which (frame_of page status body)
+one_cleared which page status body = elim (is_chosen which page) as (λ t. (IsTrue t → status.dirty ≡ false) → frame_of (cond t None page) status body ≡ cond t (vacated (frame_of page status body)) (frame_of page status body)) [
+  | true ↦ λ clean. ap (λ dirty. record (frame_of None status body) { dirty = dirty }) (clean refl)
+  | false ↦ λ clean. refl
+]
 
-pub vacate_chosen : (which : Option ℕ) (frames new : FramesState) (at : ℕ) → is_chosen which (nth_frame frames.frames at).page ≡ true → new ≡ changed_at frames at vacated → new ≡ changed_at frames at (vacate_if which)
-vacate_chosen which frames new at is becomes =
-    becomes ∙ ap (λ t. changed_at frames at (λ f. cond t (vacated f) f)) (sym is)
+all_cleared : (which : Option ℕ) (ps : List (Option PageId)) (ss : List Status) (bs : List FrameBody) → length ss ≡ length ps → length bs ≡ length ps → AreClean which (frames_of ps ss bs)
+    → frames_of (map (clear_if which) ps) ss bs ≡ vacated_chosen which (frames_of ps ss bs)
+all_cleared which [] ss bs h k clean = refl
+all_cleared which (p ∷ ps) [] bs h k clean = absurd (omega arith)
+all_cleared which (p ∷ ps) (s ∷ ss) [] h k clean = absurd (omega arith)
+all_cleared which (p ∷ ps) (s ∷ ss) (b ∷ bs) h k clean =
+    ap₂ (λ (f : FrameState) (rest : List FrameState). f ∷ rest) (one_cleared which p s b (clean 0)) (all_cleared which ps ss bs (omega arith) (omega arith) (λ i. clean (suc i)))
+
+-- what competes among them
+one_competes : (which : Option ℕ) (page : Option PageId) (status : Status) (body : FrameBody) → key_while (clear_if which page) (leaving_key (frame_of page status body)) ≡ leaving_key (frame_of (clear_if which page) status body)
+one_competes which None status body = elim (is_chosen which None) as (λ t. key_while (let left : Option PageId = cond t None None in left) (leaving_key (frame_of None status body)) ≡ leaving_key (frame_of (cond t None None) status body)) [
+  | true ↦ sym (bare_key status.fixes None)
+  | false ↦ sym (bare_key status.fixes None)
+]
+one_competes which (Some page) status body = elim (is_chosen which (Some page)) as (λ t. key_while (cond t None (Some page)) (leaving_key (frame_of (Some page) status body)) ≡ leaving_key (frame_of (cond t None (Some page)) status body)) [
+  | true ↦ sym (bare_key status.fixes None)
+  | false ↦ refl
+]
+
+all_compete : (which : Option ℕ) (ps : List (Option PageId)) (ss : List Status) (bs : List FrameBody) → length ss ≡ length ps → length bs ≡ length ps
+    → keys_while (map (clear_if which) ps) (map leaving_key (frames_of ps ss bs)) ≡ map leaving_key (frames_of (map (clear_if which) ps) ss bs)
+all_compete which [] ss bs h k = refl
+all_compete which (p ∷ ps) [] bs h k = absurd (omega arith)
+all_compete which (p ∷ ps) (s ∷ ss) [] h k = absurd (omega arith)
+all_compete which (p ∷ ps) (s ∷ ss) (b ∷ bs) h k =
+    ap₂ (λ (key : Option RankKey) (rest : List (Option RankKey)). key ∷ rest) (one_competes which p s b) (all_compete which ps ss bs (omega arith) (omega arith))
+
+module _ {ps ps' : List (Option PageId)} {ss : List Status} {bs : List FrameBody} {contest : List (Option RankKey)} {size : ℕ} {v : FramesState} (which : Option ℕ) (tied : AreTied ps ss bs contest) (seen : kept size ps ss bs ≡ v) (clear : ps' ≡ map (clear_if which) ps) where
+  pub vacated_seen : AreClean which v.frames → kept size ps' ss bs ≡ record v { frames = vacated_chosen which v.frames }
+  vacated_seen clean =
+      ap (λ pages. kept size pages ss bs) clear
+      ∙ ap (λ frames. record { page_size = size; frames = frames }) (all_cleared which ps ss bs tied.status_each tied.body_each (subst (λ w. AreClean which w.frames) (sym seen) clean))
+      ∙ ap (λ (w : FramesState). let left : FramesState = record w { frames = vacated_chosen which w.frames } in left) seen
+
+  pub vacated_tied : {contest' : List (Option RankKey)} → contest' ≡ keys_while ps' contest → AreTied ps' ss bs contest'
+  vacated_tied told =
+      let count = ap length clear ∙ length-map ps (clear_if which) in
+      record {
+        status_each = tied.status_each ∙ sym count;
+        body_each = tied.body_each ∙ sym count;
+        contest_is = told ∙ ap₂ (λ (held : List (Option PageId)) (keys : List (Option RankKey)). keys_while held keys) clear tied.contest_is
+            ∙ all_compete which ps ss bs tied.status_each tied.body_each ∙ ap (λ pages. map leaving_key (frames_of pages ss bs)) (sym clear);
+      }
+
+-- Frames whose pages went to their devices
+
+nth_clean : (which : Option ℕ) (frames : List FrameState) (i : ℕ) → IsTrue (is_chosen which (nth_frame frames i).page) → (nth_frame (cleaned_chosen which (length frames) frames) i).dirty ≡ false
+nth_clean which [] i is = refl
+nth_clean which (f ∷ frames) zero is = ap (λ t. (cond t (cleaned f) f).dirty) is
+nth_clean which (f ∷ frames) (suc i) is = nth_clean which frames i is
+
+pub clean_to : (which : Option ℕ) (old new : List FrameState) → new ≡ cleaned_chosen which (length old) old → AreClean which new
+clean_to which old new becomes i chosen =
+    let page : (nth_frame new i).page ≡ (nth_frame old i).page = ap (λ frames. (nth_frame frames i).page) becomes ∙ nth_page which (length old) old i in
+    ap (λ frames. (nth_frame frames i).dirty) becomes ∙ nth_clean which old i (subst (λ held. IsTrue (is_chosen which held)) page chosen)
+
+-- How many there are
+
+pub length-vacated : (which : Option ℕ) (frames : List FrameState) → length (vacated_chosen which frames) ≡ length frames
+length-vacated which frames = length-map frames (vacate_if which)

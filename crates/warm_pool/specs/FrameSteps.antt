@@ -2,12 +2,15 @@
 use Rattle.std.specs.Prelude.{ℕ, ◌+◌, ◌-◌, true, false, List, map, replicate, set, Option, Some}
 use Rattle.warm_stamps.specs.declared.PageId.{PageId}
 use Rattle.warm_rank.specs.declared.RankKey.{RankKey}
-use Rattle.warm_pool.specs.Frames.{FrameBody, FrameState, FramesState, fresh_frame, nth_frame}
+use Rattle.warm_pool.specs.Frames.{FrameBody, FrameState, FramesState, fresh_body, fresh_frame, nth_frame}
 use Rattle.warm_pool.specs.PageBytes.{patched}
 
 -- so many frames without a page
 abbrev pub fresh_frames : ℕ → ℕ → FramesState
 fresh_frames frames size = record { page_size = size; frames = replicate frames (fresh_frame (replicate size 0)) }
+
+abbrev pub fresh_bodies : ℕ → ℕ → List FrameBody
+fresh_bodies frames size = replicate frames (fresh_body (replicate size 0))
 
 -- the page of each frame
 abbrev pub pages_held : List FrameState → List (Option PageId)

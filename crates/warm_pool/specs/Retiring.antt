@@ -1,8 +1,9 @@
 -- Emptying a pool, closing it, and retiring a device: why a call is refused, what it does, and the steps of its body.
-use Rattle.std.specs.Prelude.{ℕ, ◌≡◌, ◌≢◌, ◌<◌, ◌≤◌, false, IsTrue, List, [], map, length, Option, Some, None, if◌then◌else◌, ◌++◌, take, drop, set}
+use Rattle.std.specs.Prelude.{ℕ, ◌≡◌, ◌≢◌, ◌<◌, ◌≤◌, false, IsTrue, List, [], map, length, Option, Some, None, if◌then◌else◌, set}
 use Rattle.warm_stamps.specs.declared.PageId.{PageId}
 use Rattle.warm_devices.specs.Device.{DeviceState, page_at}
 use Rattle.warm_pool.specs.Frames.{FrameState, nth_frame, vacated}
+use Rattle.warm_pool.specs.Chains.{page_in}
 use Rattle.warm_pool.specs.declared.fault.PoolFault.{PoolFault}
 use Rattle.warm_pool.specs.declared.fault.PoolFault.TheVariants.{SizeDiffers, NoDevice, Fixed, Fault}
 use Rattle.warm_pool.specs.State.{PoolState, nth_device}
@@ -66,9 +67,16 @@ pub record Retired (old : PoolView) (dev : ℕ) (device : DeviceState) (new : Po
 abbrev pub vacate_if : Option ℕ → FrameState → FrameState
 vacate_if which f = if is_chosen which f.page then vacated f else f
 
--- the first n frames as they are, and of the others those without a page that are concerned
-abbrev pub vacated_from : Option ℕ → ℕ → List FrameState → List FrameState
-vacated_from which n frames = take n frames ++ map (vacate_if which) (drop n frames)
+-- the frames, those that are concerned without a page
+abbrev pub vacated_chosen : Option ℕ → List FrameState → List FrameState
+vacated_chosen which frames = map (vacate_if which) frames
+
+-- what a frame holds once its page has left, where it is concerned
+abbrev pub clear_if : Option ℕ → Option PageId → Option PageId
+clear_if which page = if is_chosen which page then None else page
+
+abbrev pub cleared_at : Option ℕ → List (Option PageId) → ℕ → List (Option PageId)
+cleared_at which pages frame = set pages frame (clear_if which (page_in pages frame))
 
 -- a frame that is concerned has a fix, or none has
 pub record IsFixedIn (which : Option ℕ) (frames : List FrameState) : Type 0 where
@@ -80,6 +88,10 @@ pub record IsFixedIn (which : Option ℕ) (frames : List FrameState) : Type 0 wh
 abbrev pub AreUnfixed : Option ℕ → List FrameState → Type 0
 AreUnfixed which frames = (i : ℕ) → IsTrue (is_chosen which (nth_frame frames i).page) → (nth_frame frames i).fixes ≡ 0
 
+-- the page of each frame that is concerned is on its device as it is there
+abbrev pub AreClean : Option ℕ → List FrameState → Type 0
+AreClean which frames = (i : ℕ) → IsTrue (is_chosen which (nth_frame frames i).page) → (nth_frame frames i).dirty ≡ false
+
 -- device dev of a pool may leave for one with pages of this size: none of its pages is fixed, they went to it, and nothing waits on it
 pub record MakesWay (old : PoolState) (dev page_size : ℕ) (new : PoolState) : Type 0 where
   pub there : dev < length old.devices
@@ -90,4 +102,4 @@ pub record MakesWay (old : PoolState) (dev page_size : ℕ) (new : PoolState) : 
 
 -- the pool once another device has taken the place of device dev
 abbrev pub retired : PoolState → ℕ → DeviceState → PoolState
-retired s dev device = record s { frames = vacated_from (Some dev) 0 s.frames; devices = set s.devices dev device }
+retired s dev device = record s { frames = vacated_chosen (Some dev) s.frames; devices = set s.devices dev device }

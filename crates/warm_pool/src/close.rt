@@ -3,13 +3,11 @@ ghost use Rattle.std.specs.Prelude.{◌≡◌, ℕ, List, ◌<◌, ◌+◌, leng
 ghost use Rattle.warm_history.specs.Histories.{HistoryView};
 ghost use Rattle.warm_devices.specs.Device.{DeviceState};
 ghost use Rattle.warm_pool.specs.Frames.{nth_frame};
-ghost use Rattle.warm_pool.specs.FrameSteps.{changed_at, pages_held};
-ghost use Rattle.warm_pool.specs.Residents.{IsLastFree};
 ghost use Rattle.warm_pool.specs.State.{IsPool, IsSettled, IsRankedByAll, nth_device};
 ghost use Rattle.warm_pool.specs.View.{FailsAt, IsUnfixed};
 ghost use Rattle.warm_pool.specs.Keeping.{KeepsRanks};
-ghost use Rattle.warm_pool.specs.WritingBack.{WriteBackFails, PutsAllDown, PutsOneDown, ChosenFails, StopsAt, clean_if, is_chosen};
-ghost use Rattle.warm_pool.specs.Retiring.{EmptyRefused, Emptied, RetireRefused, Retired, AreUnfixed, IsFixedIn, MakesWay, retired, vacate_if, vacated_from};
+ghost use Rattle.warm_pool.specs.WritingBack.{WriteBackFails, PutsAllDown, PutsOneDown, ChosenFails, StopsAt, clean_if};
+ghost use Rattle.warm_pool.specs.Retiring.{EmptyRefused, Emptied, RetireRefused, Retired, AreUnfixed, AreClean, IsFixedIn, MakesWay, retired};
 ghost use Rattle.warm_pool.specs.Flushes.{NoneWaits};
 ghost use Rattle.warm_pool.specs.declared.fault.PoolFault.TheVariants.{Fault};
 ghost use Rattle.warm_pool.specs.Clauses.{pool_state, shown};
@@ -18,8 +16,8 @@ use crate::fault::{PoolFault, Unretired};
 use crate::flush::{exchange, flush_all, flush_device, let_all_go};
 use crate::frames::Frames;
 use crate::pool::{Pool, Pooled};
+use crate::residents::is_chosen;
 use warm_devices::{DeviceFault, PageDevice};
-use warm_stamps::PageId;
 
 /// Why a pool was not closed, and the pool.
 #[derive(Drop)]
@@ -66,7 +64,7 @@ impl Pool {
             (pool_state state self.old) fault (pool_state state self.new)) }
     {
         self.put_down()?;
-        vacate_chosen(&mut self.frames, None);
+        self.frames.vacate_chosen(None);
         Ok(())
     }
 
@@ -175,12 +173,12 @@ impl Pool {
     // Lets a device take the place of one on which nothing waits, and whose pages leave their frames.
     fn take_in(&mut self, dev: u16, device: Box<dyn PageDevice + Send>)
         requires there { dev < length (pool_state state self.old).devices }
-        requires unfixed { AreUnfixed (Some dev) (pool_state state self.old).frames }
+        requires clean { AreClean (Some dev) (pool_state state self.old).frames }
         requires quiet { (nth_device (pool_state state self.old).devices dev).waiting ≡ false }
         ensures { pool_state state self.new ≡ retired
             (pool_state state self.old) dev (state device) }
     {
-        vacate_chosen(&mut self.frames, Some(dev));
+        self.frames.vacate_chosen(Some(dev));
         exchange(&mut self.devices, dev as usize, device);
     }
 
@@ -253,19 +251,6 @@ impl Pool {
     }
 }
 
-// Whether a frame with this page is concerned, where those of one device are, or all.
-fn is_chosen(which: Option<u16>, page: Option<PageId>) -> bool
-    ensures { result ≡ is_chosen which page }
-{
-    let Some(dev) = which else {
-        return true;
-    };
-    let Some(page) = page else {
-        return false;
-    };
-    page.dev == dev
-}
-
 // Whether a frame that is concerned has a fix.
 fn is_fixed(frames: &Frames, which: Option<u16>) -> bool
     ensures { MatchBool result (IsFixedIn which frames.now.frames)
@@ -277,42 +262,4 @@ fn is_fixed(frames: &Frames, which: Option<u16>) -> bool
         }
     }
     false
-}
-
-// Takes the pages out of the frames that are concerned, from the first on: so the last free frame below each is at hand.
-fn vacate_chosen(frames: &mut Frames, which: Option<u16>)
-    requires { AreUnfixed which frames.old.frames }
-    ensures { frames.new ≡ record frames.old { frames = vacated_from which 0 frames.old.frames } }
-{
-    let mut last = None;
-    for at in 0..frames.len() {
-        vacate_if(frames, at, which, last);
-        last = last_free(frames, at, last);
-    }
-}
-
-// Takes the page out of a frame that is concerned.
-fn vacate_if(frames: &mut Frames, at: usize, which: Option<u16>, last: Option<usize>)
-    requires there { at < length frames.old.frames }
-    requires unfixed { IsTrue (is_chosen which (nth_frame frames.old.frames at).page)
-        → (nth_frame frames.old.frames at).fixes ≡ 0 }
-    requires last { IsLastFree (pages_held frames.old.frames) at last }
-    ensures { frames.new ≡ changed_at frames.old at (vacate_if which) }
-{
-    if !is_chosen(which, frames.page(at)) {
-        return;
-    }
-    frames.vacate(at, last);
-}
-
-// The last free frame up to this one, from the last one below it.
-fn last_free(frames: &Frames, at: usize, last: Option<usize>) -> Option<usize>
-    requires there { at < length frames.now.frames }
-    requires last { IsLastFree (pages_held frames.now.frames) at last }
-    ensures { IsLastFree (pages_held frames.now.frames) (at + 1) result }
-{
-    match frames.page(at) {
-        Some(_) => last,
-        None => Some(at),
-    }
 }

@@ -2,13 +2,14 @@
 ghost use Rattle.std.specs.Prelude.{◌≡◌, ◌≢◌, None, ◌+◌, ◌-◌, ◌^◌, ◌<◌, ◌≤◌, map, length, replicate, IfOk};
 ghost use Rattle.warm_rank.specs.Keys.{key_cmp};
 ghost use Rattle.warm_rank.specs.Slots.{IsLeast};
-ghost use Rattle.warm_pool.specs.Frames.{nth_frame, fresh_body, unused_status, leaving_key, key_unless_fixed, cleaned, vacated};
-ghost use Rattle.warm_pool.specs.FrameSteps.{fresh_frames, pages_held, changed_at, fixed, unfixed, ranked, filled, filled_body, written};
+ghost use Rattle.warm_pool.specs.Frames.{nth_frame, fresh_body, unused_status, leaving_key, key_unless_fixed, cleaned};
+ghost use Rattle.warm_pool.specs.FrameSteps.{fresh_frames, fresh_bodies, pages_held, changed_at, fixed, unfixed, ranked, filled, filled_body, written};
 ghost use Rattle.warm_pool.specs.PageBytes.{patched};
-ghost use Rattle.warm_pool.specs.Residents.{IsPlaceOf, IsFirstFree, IsLastFree};
+ghost use Rattle.warm_pool.specs.Residents.{IsPlaceOf, IsFirstFree};
+ghost use Rattle.warm_pool.specs.Retiring.{AreClean, vacated_chosen};
 
 use crate::frame::{Frame, Status};
-use crate::residents::Residents;
+use crate::residents::{Residents, clear_chosen};
 use std::alloc::{AllocError, Global};
 use std::marker::Model;
 use std::mem;
@@ -217,21 +218,14 @@ impl Frames {
         status.dirty = true;
     }
 
-    /// Takes the page out of a frame, of which the generation and the bytes stay. The last free frame below it is known, so the cost
-    /// does not grow with the frames; of a frame without a page the status alone is touched.
-    pub(crate) fn vacate(&mut self, at: usize, last: Option<usize>)
-        requires there { at < length self.old.frames }
-        requires unfixed { (nth_frame self.old.frames at).fixes ≡ 0 }
-        requires last { IsLastFree (pages_held self.old.frames) at last }
-        ensures { self.new ≡ changed_at self.old at vacated }
+    /// Takes the pages that are concerned out of their frames, where each is on its device as it is here. Generations and bytes stay.
+    /// The cost is linear in the frames.
+    pub(crate) fn vacate_chosen(&mut self, which: Option<u16>)
+        requires { AreClean which self.old.frames }
+        ensures { self.new ≡ record self.old { frames = vacated_chosen which self.old.frames } }
     {
-        let status = &mut self.statuses[at];
-        status.dirty = false;
-        let Some(_) = self.residents.page(at) else {
-            return;
-        };
-        self.residents.clear(at, last);
-        self.contest.set(at, None);
+        clear_chosen(&mut self.residents, which);
+        self.contest.clear_vacant(self.residents.pages());
     }
 }
 
@@ -252,7 +246,7 @@ fn unused(alloc: Global, frames: usize) -> Result<Vec<Status>, AllocError>
 
 // Frames into which no page was put.
 fn fresh_frames(alloc: Global, frames: usize, page_size: usize) -> Result<Vec<Frame>, AllocError>
-    ensures { IfOk result (λ made. made.items ≡ replicate frames (fresh_body (replicate page_size 0))) }
+    ensures { IfOk result (λ made. made.items ≡ fresh_bodies frames page_size) }
 {
     let mut made = Vec::with_capacity(alloc, frames)?;
     for _ in 0..frames {

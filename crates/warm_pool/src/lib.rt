@@ -5,8 +5,9 @@
 //! 2-distance (O'Neil, O'Neil, Weikum, "The LRU-K Page Replacement Algorithm For Database Disk Buffering", SIGMOD 1993), as a history
 //! ranks them. A page that was written to goes to its device before it leaves. No call but [`Pool::write`] changes a byte of a page.
 //!
-//! Clauses see a pool by its `state` and, of that, what a caller sees: its `shown`, plain data. They stand in `specs/View.antt`, and
-//! what each call does to them in `specs/Calls.antt`. That a state is one of a pool (`IsPool`) is a condition of each call and is
+//! Clauses see a pool by its `state` and, of that, what a caller sees: its `shown`, plain data. They stand in `specs/State.antt` and
+//! `specs/View.antt`, and what the calls do to them in `Opening.antt`, `Pinning.antt`, `PageBytes.antt`, `Refreshing.antt`,
+//! `WritingBack.antt` and `Retiring.antt` beside them. That a state is one of a pool (`IsPool`) is a condition of each call and is
 //! kept by it. Boxed devices are handed in by the caller; the pool drops one only where nothing waits in it.
 #![tactic(auto)]
 

@@ -3,9 +3,11 @@
 //! Frames stand in chains, each in rising order of frames: pages are spread over as many chains as there are frames, and the frames
 //! without a page stand in one of their own. A link is the number of the next frame, and the number of frames ends a chain. All room
 //! is taken when the frames are made.
-ghost use Rattle.std.specs.Prelude.{◌≡◌, ℕ, List, ◌+◌, ◌<◌, ◌≤◌, length, replicate, set, slice_index, IfOk, IsTrue, None, Some, ◌↔◌};
+ghost use Rattle.std.specs.Prelude.{◌≡◌, ℕ, List, ◌+◌, ◌<◌, ◌≤◌, length, map, replicate, set, slice_index, IfOk, IsTrue, None, Some, ◌↔◌};
 ghost use Rattle.warm_pool.specs.Chains.{AreChains, AreInTurn, AreLinked, IsLastBelow, after, chain_of, chains_of, heads_led, next_led, loose, page_in};
 ghost use Rattle.warm_pool.specs.Residents.{IsFirstFree, IsLastFree, IsPlaceOf};
+ghost use Rattle.warm_pool.specs.WritingBack.{is_chosen};
+ghost use Rattle.warm_pool.specs.Retiring.{clear_if, cleared_at};
 
 use std::alloc::{AllocError, Global};
 use std::marker::Model;
@@ -45,6 +47,13 @@ impl Residents {
         let heads = heads_of_none(alloc, frames)?;
         let next = links_in_turn(alloc, frames)?;
         Ok(Residents { pages, heads, next })
+    }
+
+    /// What each frame holds.
+    pub(crate) fn pages(&self) -> &[Option<PageId>]
+        ensures { result.now ≡ self.now }
+    {
+        &self.pages
     }
 
     /// The page in a frame, if there is one.
@@ -92,6 +101,54 @@ impl Residents {
         }
         free_frame(&self.pages, &mut self.heads, &mut self.next, frame, last);
         self.pages[frame] = None;
+    }
+}
+
+/// Whether a frame with this page is concerned, where those of one device are, or all.
+pub(crate) fn is_chosen(which: Option<u16>, page: Option<PageId>) -> bool
+    ensures { result ≡ is_chosen which page }
+{
+    let Some(dev) = which else {
+        return true;
+    };
+    let Some(page) = page else {
+        return false;
+    };
+    page.dev == dev
+}
+
+/// Takes the pages that are concerned out of their frames, from the first on: so the last free frame below each is at hand.
+pub(crate) fn clear_chosen(residents: &mut Residents, which: Option<u16>)
+    ensures { residents.new ≡ map (clear_if which) residents.old }
+{
+    let mut last = None;
+    for frame in 0..residents.pages().len() {
+        clear_if(residents, frame, which, last);
+        last = last_free(residents, frame, last);
+    }
+}
+
+// Takes the page out of a frame that is concerned.
+fn clear_if(residents: &mut Residents, frame: usize, which: Option<u16>, last: Option<usize>)
+    requires there { frame < length residents.old }
+    requires last { IsLastFree residents.old frame last }
+    ensures { residents.new ≡ cleared_at which residents.old frame }
+{
+    if !is_chosen(which, residents.page(frame)) {
+        return;
+    }
+    residents.clear(frame, last);
+}
+
+// The last free frame up to this one, from the last one below it.
+fn last_free(residents: &Residents, frame: usize, last: Option<usize>) -> Option<usize>
+    requires there { frame < length residents.now }
+    requires last { IsLastFree residents.now frame last }
+    ensures { IsLastFree residents.now (frame + 1) result }
+{
+    match residents.page(frame) {
+        Some(_) => last,
+        None => Some(frame),
     }
 }
 

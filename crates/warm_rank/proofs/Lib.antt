@@ -7,4 +7,5 @@ pub mod SlotLemmas
 pub mod SortLemmas
 pub mod WarmUpLemmas
 pub mod WinnerLemmas
+pub mod VacantLemmas
 pub mod VictimLemmas

@@ -1,5 +1,5 @@
 -- Slots that each may have a key, over any order of keys.
-use Rattle.std.specs.Prelude.{◌≡◌, ◌≢◌, ◌<◌, ℕ, List, length, Option, Some, None, IsSome, slice_index_or}
+use Rattle.std.specs.Prelude.{◌≡◌, ◌≢◌, ◌<◌, ℕ, List, ◌∷◌, length, Option, Some, None, IsSome, slice_index_or}
 use Rattle.std.specs.Option.{option_cmp}
 use Rattle.std.specs.Ordering.{nat_cmp, on, then_cmp, flip_args}
 use Rattle.std.specs.declared.cmp.Ordering.{Ordering}
@@ -31,3 +31,13 @@ IsLeastBelow cmp keys n (Some slot) = ComesFirst cmp keys n slot
 -- the slot of the least key, of equal keys the lesser slot; none where no key is set
 abbrev pub IsLeast : {K : Type 0} → (K → K → Ordering) → List (Option K) → Option ℕ → Type 0
 IsLeast cmp keys least = IsLeastBelow cmp keys (length keys) least
+
+-- a key competes while something stands in its slot
+abbrev pub key_while : {T : Type 0} → {K : Type 0} → Option T → Option K → Option K
+key_while None key = None
+key_while (Some held) key = key
+
+-- of the keys of slots those where something stands
+abbrev pub keys_while : {T : Type 0} → {K : Type 0} → List (Option T) → List (Option K) → List (Option K)
+keys_while (held ∷ all) (key ∷ keys) = key_while held key ∷ keys_while all keys
+keys_while all keys = keys

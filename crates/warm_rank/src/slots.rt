@@ -1,7 +1,7 @@
 //! The contest of a pool's slots for the least key.
 ghost use Rattle.std.specs.Prelude.{◌≡◌, ◌<◌, ◌≤◌, length, replicate, set, IfOk, None};
 ghost use Rattle.warm_rank.specs.Keys.{key_cmp};
-ghost use Rattle.warm_rank.specs.Slots.{IsLeast};
+ghost use Rattle.warm_rank.specs.Slots.{IsLeast, keys_while};
 
 use crate::winners::{number_leaves, play_above, play_all};
 use crate::{MAX_SLOTS, RankKey};
@@ -60,6 +60,19 @@ impl Contest {
         play_above(&self.keys, &mut self.nodes, slot);
     }
 
+    /// Clears the key of each slot where nothing stands, as this list of what stands in them says, and leaves the others. All
+    /// matches are played once, however many slots are cleared. Takes no memory.
+    pub fn clear_vacant<T>(&mut self, held: &[Option<T>])
+        requires { length held.now ≡ length self.old }
+        ensures { self.new ≡ keys_while held.now self.old }
+    {
+        let Some(_) = self.least() else {
+            return;
+        };
+        clear_keys(&mut self.keys, held);
+        play_all(&self.keys, &mut self.nodes);
+    }
+
     /// The slot of the least key, of equal keys the lesser slot; `None` where no slot has a key. Takes no memory.
     pub fn least(&self) -> Option<usize>
         ensures { IsLeast key_cmp self.now result }
@@ -68,6 +81,18 @@ impl Contest {
         match self.keys[first] {
             None => None,
             Some(_) => Some(first),
+        }
+    }
+}
+
+// Clears the keys of the slots where nothing stands.
+fn clear_keys<T>(keys: &mut Vec<Option<RankKey>>, held: &[Option<T>])
+    requires { length held.now ≡ length keys.old.items }
+    ensures { keys.new.items ≡ keys_while held.now keys.old.items }
+{
+    for (slot, held) in held.iter().enumerate() {
+        if held.is_none() {
+            keys[slot] = None;
         }
     }
 }

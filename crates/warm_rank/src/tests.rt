@@ -104,6 +104,19 @@ fn contest_has_any_number_of_slots(rt: HostRuntime) -> Result<(), Fail> {
 }
 
 #[test]
+fn keys_of_vacant_slots_are_cleared(rt: HostRuntime) -> Result<(), Fail> {
+    let mut contest = Contest::new(rt.alloc(), 5)?;
+    set_rising(&mut contest, 5);
+    contest.clear_vacant(&[None, Some('b'), None, None, Some('e')]);
+    assert_eq!(rt; contest.least(), Some(1));
+    contest.set(1, None);
+    assert_eq!(rt; contest.least(), Some(4));
+    contest.clear_vacant::<char>(&[None; 5]);
+    assert_eq!(rt; contest.least(), None);
+    Ok(())
+}
+
+#[test]
 fn key_keeps_its_page(rt: HostRuntime) -> Result<(), Fail> {
     let history = history_of(rt.alloc(), &SCAN)?;
     for no in [1, 5, 7] {

@@ -5,7 +5,7 @@ use Rattle.warm_pool.proofs.EmptyLemmas.{unfixed_to, vacated_pool, empty_ranked,
 use Rattle.warm_pool.proofs.pool.Pool.empty.Goals as goal
 
 pub vacate_chosen-requires : goal.vacate_chosen-requires
-vacate_chosen-requires g c = unfixed_to None _ _ _ c.in_ok-put_down.ensures.down.becomes c.in_ok-put_down.ensures.unfixed
+vacate_chosen-requires g c = λ i _. (settled _ _ c.in_ok-put_down.ensures.down c.in_ok-put_down.ensures.flushed).clean i
 
 pub returns-clause-pool : goal.returns-clause-pool
 returns-clause-pool g c =
