@@ -1,6 +1,7 @@
 -- A history kept in a map from pages.
 use Rattle.std.specs.Prelude.{◌≡◌, List, map}
 use Rattle.warm_stamps.specs.declared.PageId.{PageId}
+use Rattle.warm_stamps.specs.declared.Reference.{Reference}
 use Rattle.warm_history.specs.declared.hist.PageHist.{PageHist}
 use Rattle.warm_history.specs.declared.hist.Entry.{Entry}
 use Rattle.warm_history.specs.ReferenceSets.{ReferenceSet, these, ◌∪◌}
@@ -25,3 +26,17 @@ told_of p h = these (entry_refs (record { page = p; hist = h }))
 -- the pairs new keep what old keep, with these references taken in
 abbrev pub PairsTakeIn : Pairs → ReferenceSet → Pairs → Type 0
 PairsTakeIn old rs new = kept new ≡ history (refs (kept old) ∪ rs)
+
+-- the same, where what is taken in are the stamps of a page, the references of a list, the entries
+-- of a list, or what other pairs keep
+abbrev pub TakesStamps : Pairs → PageId → PageHist → Pairs → Type 0
+TakesStamps old p h new = PairsTakeIn old (told_of p h) new
+
+abbrev pub TakesReferences : Pairs → List Reference → Pairs → Type 0
+TakesReferences old rs new = PairsTakeIn old (these rs) new
+
+abbrev pub TakesEntries : Pairs → List Entry → Pairs → Type 0
+TakesEntries old es new = PairsTakeIn old (refs (holding es)) new
+
+abbrev pub TakesPairs : Pairs → Pairs → Pairs → Type 0
+TakesPairs old more new = PairsTakeIn old (refs (kept more)) new

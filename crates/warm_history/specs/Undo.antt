@@ -1,5 +1,5 @@
 -- What undoes changes of a map that keeps a history.
-use Rattle.std.specs.Prelude.{List, [], ◌∷◌, Option, Some, None}
+use Rattle.std.specs.Prelude.{◌≡◌, List, [], ◌∷◌, Option, Some, None}
 use Rattle.std.specs.Map.{remove_entry, set_value}
 use Rattle.std.specs.BTreeMap.{is_at}
 use Rattle.warm_stamps.specs.declared.PageId.{PageId}
@@ -22,3 +22,11 @@ undone (k ∷ ks) pairs = put_back k.page k.hist (undone ks pairs)
 abbrev pub noted : Option Known → List Known
 noted None = []
 noted (Some k) = k ∷ []
+
+-- undoing these notes leads from the pairs as they are now back to those before
+abbrev pub Undoes : List Known → Pairs → Pairs → Type 0
+Undoes notes now before = undone notes now ≡ before
+
+-- undoing these notes from the pairs as they are now leads where undoing those of before led
+abbrev pub LeadsBack : List Known → Pairs → List Known → Pairs → Type 0
+LeadsBack notes now noted_before before = undone notes now ≡ undone noted_before before

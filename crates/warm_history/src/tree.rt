@@ -5,10 +5,15 @@
 ghost use Rattle.std.specs.Prelude.{◌≡◌, OnOk, OnErr, IfOk, IfSome, IfNone, Some, ◌++◌};
 ghost use Rattle.std.specs.BTreeMap.{get};
 ghost use Rattle.warm_stamps.specs.Stamps.{page_cmp};
-ghost use Rattle.warm_history.specs.ReferenceSets.{these};
-ghost use Rattle.warm_history.specs.Histories.{holding, refs, latest_of, stamps_held, IsHistory};
-ghost use Rattle.warm_history.specs.Tree.{kept, told_of, PairsTakeIn};
-ghost use Rattle.warm_history.specs.Undo.{put_back, undone, noted};
+ghost use Rattle.warm_history.specs.Histories.{latest_of, stamps_held, IsHistory};
+ghost use Rattle.warm_history.specs.Tree.{
+  kept,
+  TakesStamps,
+  TakesReferences,
+  TakesEntries,
+  TakesPairs,
+};
+ghost use Rattle.warm_history.specs.Undo.{put_back, undone, noted, Undoes, LeadsBack};
 
 use crate::hist::{Entry, PageHist, join_hist, join_known};
 use std::alloc::{AllocError, Global};
@@ -36,7 +41,7 @@ pub(crate) fn take_references(
     batch: &[Reference],
 ) -> Result<(), AllocError>
     requires { IsHistory (kept pairs.old.entries) }
-    ensures exact { OnOk result (PairsTakeIn pairs.old.entries (these batch.now) pairs.new.entries) }
+    ensures exact { OnOk result (TakesReferences pairs.old.entries batch.now pairs.new.entries) }
     ensures whole { IsHistory (kept pairs.new.entries) }
     ensures err { OnErr result (pairs.new.entries ≡ pairs.old.entries) }
 {
@@ -55,7 +60,7 @@ pub(crate) fn take_entries(
     more: &[Entry],
 ) -> Result<(), AllocError>
     requires { IsHistory (kept pairs.old.entries) }
-    ensures exact { OnOk result (PairsTakeIn pairs.old.entries (refs (holding more.now)) pairs.new.entries) }
+    ensures exact { OnOk result (TakesEntries pairs.old.entries more.now pairs.new.entries) }
     ensures whole { IsHistory (kept pairs.new.entries) }
     ensures err { OnErr result (pairs.new.entries ≡ pairs.old.entries) }
 {
@@ -74,7 +79,7 @@ pub(crate) fn take_pairs(
     more: &BTreeMap<PageId, PageHist>,
 ) -> Result<(), AllocError>
     requires { IsHistory (kept pairs.old.entries) }
-    ensures exact { OnOk result (PairsTakeIn pairs.old.entries (refs (kept more.now.entries)) pairs.new.entries) }
+    ensures exact { OnOk result (TakesPairs pairs.old.entries more.now.entries pairs.new.entries) }
     ensures whole { IsHistory (kept pairs.new.entries) }
     ensures err { OnErr result (pairs.new.entries ≡ pairs.old.entries) }
 {
@@ -93,8 +98,8 @@ fn record(
     more: PageHist,
 ) -> Result<Option<Known>, AllocError>
     requires { IsHistory (kept pairs.old.entries) }
-    ensures exact { OnOk result (PairsTakeIn pairs.old.entries (told_of page more) pairs.new.entries) }
-    ensures undo { IfOk result (λ change. undone (noted change) pairs.new.entries ≡ pairs.old.entries) }
+    ensures exact { OnOk result (TakesStamps pairs.old.entries page more pairs.new.entries) }
+    ensures undo { IfOk result (λ note. Undoes (noted note) pairs.new.entries pairs.old.entries) }
     ensures err { OnErr result (pairs.new.entries ≡ pairs.old.entries) }
 {
     if let Some(known) = pairs.get_mut(&page) {
@@ -132,8 +137,8 @@ fn take(
     more: PageHist,
 ) -> Result<(), AllocError>
     requires { IsHistory (kept pairs.old.entries) }
-    ensures exact { OnOk result (PairsTakeIn pairs.old.entries (told_of page more) pairs.new.entries) }
-    ensures undo { undone undo.new.items pairs.new.entries ≡ undone undo.old.items pairs.old.entries }
+    ensures exact { OnOk result (TakesStamps pairs.old.entries page more pairs.new.entries) }
+    ensures undo { LeadsBack undo.new.items pairs.new.entries undo.old.items pairs.old.entries }
     ensures whole { IsHistory (kept pairs.new.entries) }
 {
     undo.reserve(1)?;
@@ -150,8 +155,8 @@ fn take_each_reference(
     batch: &[Reference],
 ) -> Result<(), AllocError>
     requires { IsHistory (kept pairs.old.entries) }
-    ensures exact { OnOk result (PairsTakeIn pairs.old.entries (these batch.now) pairs.new.entries) }
-    ensures undo { undone undo.new.items pairs.new.entries ≡ undone undo.old.items pairs.old.entries }
+    ensures exact { OnOk result (TakesReferences pairs.old.entries batch.now pairs.new.entries) }
+    ensures undo { LeadsBack undo.new.items pairs.new.entries undo.old.items pairs.old.entries }
     ensures whole { IsHistory (kept pairs.new.entries) }
 {
     for reference in batch {
@@ -166,8 +171,8 @@ fn take_each_entry(
     more: &[Entry],
 ) -> Result<(), AllocError>
     requires { IsHistory (kept pairs.old.entries) }
-    ensures exact { OnOk result (PairsTakeIn pairs.old.entries (refs (holding more.now)) pairs.new.entries) }
-    ensures undo { undone undo.new.items pairs.new.entries ≡ undone undo.old.items pairs.old.entries }
+    ensures exact { OnOk result (TakesEntries pairs.old.entries more.now pairs.new.entries) }
+    ensures undo { LeadsBack undo.new.items pairs.new.entries undo.old.items pairs.old.entries }
     ensures whole { IsHistory (kept pairs.new.entries) }
 {
     for entry in more {
@@ -182,8 +187,8 @@ fn take_each_pair(
     more: &BTreeMap<PageId, PageHist>,
 ) -> Result<(), AllocError>
     requires { IsHistory (kept pairs.old.entries) }
-    ensures exact { OnOk result (PairsTakeIn pairs.old.entries (refs (kept more.now.entries)) pairs.new.entries) }
-    ensures undo { undone undo.new.items pairs.new.entries ≡ undone undo.old.items pairs.old.entries }
+    ensures exact { OnOk result (TakesPairs pairs.old.entries more.now.entries pairs.new.entries) }
+    ensures undo { LeadsBack undo.new.items pairs.new.entries undo.old.items pairs.old.entries }
     ensures whole { IsHistory (kept pairs.new.entries) }
 {
     for (page, hist) in more {

@@ -1,5 +1,5 @@
 -- What waits in a buffer, and how its refusals are numbered.
-use Rattle.std.specs.Prelude.{ℕ, ◌≤◌, List, codes}
+use Rattle.std.specs.Prelude.{ℕ, ◌≤◌, List, [], ◌∷◌, ◌++◌, codes}
 use Rattle.warm_stamps.specs.declared.Reference.{Reference}
 use Rattle.warm_refbuffer.specs.declared.TheConstants.{MAX_CAPACITY}
 use Rattle.warm_refbuffer.specs.declared.BufferFault.{BufferFault}
@@ -9,6 +9,10 @@ use Rattle.warm_refbuffer.specs.declared.BufferFault.TheVariants.{Memory, BadCap
 pub record Buffered : Type 0 where
   pub refs : List Reference
   pub cap : ℕ
+
+-- the buffer with one reference more, which waits behind the others
+abbrev pub with_last : Buffered → Reference → Buffered
+with_last buffer r = record buffer { refs = buffer.refs ++ r ∷ [] }
 
 -- a capacity that a buffer can have
 pub record IsCapacity (cap : ℕ) : Type 0 where

@@ -5,8 +5,8 @@
 //! reference into it takes no memory.
 #![tactic(auto)]
 
-ghost use Rattle.std.specs.Prelude.{◌≡◌, ◌≤◌, ◌<◌, [], ◌∷◌, ◌++◌, length, IsOk, IfOk, IsTrue, ◌↔◌, codes};
-ghost use Rattle.warm_refbuffer.specs.Buffered.{IsCapacity, code_of, name_of};
+ghost use Rattle.std.specs.Prelude.{◌≡◌, ◌≤◌, ◌<◌, [], length, IsOk, IfOk, IsTrue, ◌↔◌, codes};
+ghost use Rattle.warm_refbuffer.specs.Buffered.{IsCapacity, with_last, code_of, name_of};
 
 use std::alloc::Global;
 use std::marker::Model;
@@ -146,7 +146,7 @@ impl RefBuffer {
     /// it was.
     pub fn touch(&mut self, reference: Reference) -> Result<(), Full>
         ensures taken { length self.old.refs < self.old.cap
-            → IsOk result × (self.new ≡ record self.old { refs = self.old.refs ++ reference ∷ [] }) }
+            → IsOk result × (self.new ≡ with_last self.old reference) }
         ensures full { self.old.cap ≤ length self.old.refs
             → (result ≡ Err (record { 0 = reference })) × (self.new ≡ self.old) }
     {

@@ -10,7 +10,7 @@ use Rattle.warm_replica.specs.declared.ready.Ready.{Ready}
 use Rattle.warm_replica.specs.declared.fault.NoThread.{NoThread}
 use Rattle.warm_replica.specs.declared.job.Job.{Job}
 use Rattle.warm_replica.specs.declared.job.StepReply.{StepReply}
-use Rattle.warm_replica.specs.Jobs.{WentAs}
+use Rattle.warm_replica.specs.Jobs.{JobWent, WentAs}
 use Rattle.warm_replica.specs.Pairs.{Pairs, Triples}
 
 -- the job has its room, and its steps are the same
@@ -25,6 +25,10 @@ abbrev pub ReadyWentAs : Ready → Vec StepReply → Ended Call Reply → Type 0
 ReadyWentAs ready replies e = WentAs ready.buffer.cap ready.steps.items replies.items e
 
 module _ {X : Type 0} where
+  -- a job that had its room went, from an empty buffer on
+  abbrev pub ReadyWent : Ready → Vec StepReply → View X Call Reply → View X Call Reply → Type 0
+  ReadyWent ready replies v w = JobWent ready.buffer.cap ready.steps.items replies.items v w
+
   -- the pass has seen more, and holds one pass for each of the jobs, whose calls are that job's, where all were started
   abbrev pub HasFanned : View X Call Reply → List Ready → Result (Unit {0}) NoThread → List (Vec StepReply) → View X Call Reply → Type 0
   HasFanned v jobs result replies w =

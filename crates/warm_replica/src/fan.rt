@@ -1,9 +1,10 @@
 //! Jobs in threads of their own.
-ghost use Rattle.std.specs.Prelude.{◌≡◌, ◌↔◌, ◌≤◌, [], length, vec_capacity, Err, IfOk, IfErr, IsTrue};
+ghost use Rattle.std.specs.Prelude.{◌≡◌, ◌↔◌, ◌≤◌, [], length, vec_capacity};
+ghost use Rattle.std.specs.Prelude.{Err, IfOk, IfErr, IsTrue};
 ghost use Rattle.std.specs.Thread.{IsSync, IsSend};
 ghost use Rattle.warm_refbuffer.specs.Buffered.{IsCapacity};
-ghost use Rattle.warm_replica.specs.Jobs.{HasSeenMore, HaveCapacities, JobWent, JobsWent};
-ghost use Rattle.warm_replica.specs.Fanning.{AreReady, IsReady, Fanned, HasFanned};
+ghost use Rattle.warm_replica.specs.Jobs.{HasSeenMore, HaveCapacities, JobsWent};
+ghost use Rattle.warm_replica.specs.Fanning.{AreReady, IsReady, ReadyWent, Fanned, HasFanned};
 
 use crate::fault::{NoThread, RunFault};
 use crate::job::{Gate, Job, Step, StepReply, take_steps};
@@ -47,7 +48,7 @@ fn run_job<M: Absorbing, R: Wait, G: Gate>(
 ) -> (Pass<M>, Vec<StepReply>)
     requires { pass.table ≡ replica.now.table }
     ensures table { result.0.table ≡ pass.table }
-    ensures went { JobWent ready.buffer.cap ready.steps.items result.1.items pass.view result.0.view }
+    ensures went { ReadyWent ready result.1 pass.view result.0.view }
 {
     let Ready {
         job,
@@ -102,7 +103,7 @@ fn fan_out<'s, E, M: Absorbing + Send + 's, R: Threads + Wait + Sync, G: Gate + 
         move || -> (Pass<M>, Vec<StepReply>)
             requires { mine.table ≡ replica.now.table }
             ensures { (result.0.table ≡ mine.table)
-                × JobWent ready.buffer.cap ready.steps.items result.1.items mine.view result.0.view }
+                × ReadyWent ready result.1 mine.view result.0.view }
         { run_job(rt, alloc, replica, gate, mine, ready) },
     ) else {
         return Err(NoThread);
@@ -177,7 +178,8 @@ fn run_ready<M: Absorbing + Send, R: Threads + Wait + Sync, G: Gate + Sync>(
         move |scope| -> (Pass<M>, Result<Vec<Vec<StepReply>>, NoThread>)
             requires { IsSend M.row × IsSync R.row × IsSync G.row × (own.table ≡ replica.now.table)
                 × (all.items ≡ []) × (length ready.items ≤ vec_capacity all) }
-            ensures { (result.0.table ≡ own.table) × Fanned own.view ready.items result.1 result.0.view }
+            ensures { (result.0.table ≡ own.table)
+                × Fanned own.view ready.items result.1 result.0.view }
         {
             let mut own = own;
             let mut all = all;

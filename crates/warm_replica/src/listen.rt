@@ -1,6 +1,6 @@
 //! A loop over mail.
-ghost use Rattle.std.specs.Prelude.{◌≡◌, ℕ, ◌≤◌, ◌<◌, ◌^◌, ◌∷◌, [], List, length, map, IfSome};
-ghost use Rattle.warm_replica.specs.Mails.{Posts, HeardBy, Took, sender_of};
+ghost use Rattle.std.specs.Prelude.{◌≡◌, ℕ, ◌≤◌, ◌<◌, ◌^◌, ◌∷◌, [], List, length, IfSome};
+ghost use Rattle.warm_replica.specs.Mails.{PostsTo, HeardBy, Took, sender_of};
 ghost use Rattle.warm_replica.specs.declared.mail.Mail.{Mail};
 ghost use Rattle.warm_replica.specs.declared.mail.Mail.TheVariants.{Bytes};
 
@@ -28,7 +28,7 @@ fn sender_of(frame: &Frame) -> ReplicaId
 
 // Posts one frame, and counts it where it is lost.
 fn post_one<P: Post>(alloc: Global, post: &mut P, to: ReplicaId, frame: &Frame) -> u64
-    ensures posted { Posts P.keeps ((to, frame.now) ∷ []) (P.given post.old) result (P.given post.new) }
+    ensures posted { PostsTo P.keeps P.given to (frame.now ∷ []) post.old result post.new }
     ensures bound { result ≤ 1 }
 {
     let Ok(bytes) = encode(alloc, frame) else {
@@ -42,7 +42,7 @@ fn post_one<P: Post>(alloc: Global, post: &mut P, to: ReplicaId, frame: &Frame) 
 
 // Posts the frames in their order, and counts those that are lost.
 fn post_all<P: Post>(alloc: Global, post: &mut P, to: ReplicaId, frames: &[Frame]) -> u64
-    ensures posted { Posts P.keeps (map (λ answer. (to, answer)) frames.now) (P.given post.old) result (P.given post.new) }
+    ensures posted { PostsTo P.keeps P.given to frames.now post.old result post.new }
     ensures bound { result ≤ length frames.now }
 {
     let mut lost = 0;
@@ -64,7 +64,8 @@ fn hear<M: Machine<Call = Call, Reply = Reply>, P: Post, R: Wait>(
     requires { worker.old.pass.table ≡ replica.now.table }
     ensures table { worker.new.pass.table ≡ worker.old.pass.table }
     ensures buffer { worker.new.buffer ≡ worker.old.buffer }
-    ensures heard { HeardBy P.keeps P.given worker.old post.old (Bytes bytes ∷ []) result worker.new post.new }
+    ensures heard { HeardBy P.keeps P.given worker.old post.old (Bytes bytes ∷ []) result
+        worker.new post.new }
     ensures bound { (result.joined ≤ 1) × (result.refused ≤ 1) × (result.lost < 2 ^ 64) }
 {
     let Ok(frame) = decode(alloc, bytes.as_slice()) else {

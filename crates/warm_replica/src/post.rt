@@ -1,5 +1,6 @@
 //! Posts: where the frames go that a replica answers.
-ghost use Rattle.std.specs.Prelude.{◌≡◌, ◌≢◌, [], ◌∷◌, ◌++◌, true, false, IfErr, IsErr, OnErr, OnOk};
+ghost use Rattle.std.specs.Prelude.{◌≡◌, ◌≢◌, [], ◌∷◌, ◌++◌, true, false};
+ghost use Rattle.std.specs.Prelude.{IfErr, IsErr, OnErr, OnOk};
 ghost use Rattle.std.specs.List.{All};
 ghost use Rattle.warm_replica.specs.Parcels.{Gained};
 
@@ -25,7 +26,8 @@ pub trait Post {
     /// Takes bytes for a replica, or hands them back; then it has gained nothing.
     fn post(&mut self, to: ReplicaId, bytes: ByteList) -> Result<(), ByteList>
         ensures back { IfErr result (λ same. same ≡ bytes) }
-        ensures taken { OnOk result (Gained keeps (given self.old) ((to, bytes) ∷ []) (given self.new)) }
+        ensures taken { OnOk result
+            (Gained keeps (given self.old) ((to, bytes) ∷ []) (given self.new)) }
         ensures same { OnErr result (Gained keeps (given self.old) [] (given self.new)) };
 }
 

@@ -128,7 +128,8 @@ pub(crate) fn listen_all<
     requires send { IsSend M.row × IsSync R.row }
     requires room { (all.old.items ≡ []) × (length stations.items ≤ vec_capacity all.old) }
     ensures room { vec_capacity all.old ≤ vec_capacity all.new }
-    ensures heard { OnOk result (AllListened (λ s. s.worker) turns stations.entry.items all.new.items) }
+    ensures heard { OnOk result
+        (AllListened (λ s. s.worker) turns stations.entry.items all.new.items) }
 {
     let Some(station) = stations.pop() else {
         return Ok(());
@@ -170,8 +171,10 @@ fn run_in_scope<'a, M: Machine<Call = Call, Reply = Reply> + Send, R: Threads + 
         thread::scope_env(),
         rt,
         move |scope| -> ((), Result<Vec<(Worker<M>, MailReport)>, NoThread>)
-            requires { IsSend M.row × IsSync R.row × (all.items ≡ []) × (length stations.items ≤ vec_capacity all) }
-            ensures { IfOk result.1 (λ v. AllListened (λ s. s.worker) turns stations.entry.items v.items) }
+            requires { IsSend M.row × IsSync R.row
+                × (all.items ≡ []) × (length stations.items ≤ vec_capacity all) }
+            ensures { IfOk result.1
+                (λ v. AllListened (λ s. s.worker) turns stations.entry.items v.items) }
         {
             let mut all = all;
             match listen_all(scope, rt, alloc, stations, stops, turns, &mut all) {

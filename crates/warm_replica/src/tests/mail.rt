@@ -248,6 +248,23 @@ fn answers_reach_the_outbox(rt: HostRuntime) -> Result<(), Fail> {
     Ok(())
 }
 
+#[test]
+fn answers_reach_the_first_outbox_of_a_number(rt: HostRuntime) -> Result<(), Fail> {
+    let alloc = rt.alloc();
+    let (mut boxes, first) = outbox_of_nine(alloc)?;
+    let (others, second) = outbox_of_nine(alloc)?;
+    for outbox in others {
+        boxes.push(outbox)?;
+    }
+    let mut post = Outboxes::new(&rt, boxes);
+    let heard = listened_to_digest(&rt, alloc, &mut post)?;
+    assert_eq!(rt; heard, report(1, 0, 0));
+    assert!(rt; first.try_recv(&rt).is_ok());
+    assert!(rt; first.try_recv(&rt).is_ok());
+    assert!(rt; second.try_recv(&rt).is_err());
+    Ok(())
+}
+
 // What two machines do with their mail, each in a thread of its own.
 fn heard_by_both<M: Absorbing + Drop + Send, R: Threads + Wait + Sync>(
     rt: &R,
