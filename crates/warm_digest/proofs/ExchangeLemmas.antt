@@ -68,7 +68,7 @@ same_entries (e ∷ es) (f ∷ fs) some others same =
 
 -- ---- a bucket says all of its pages
 
-get-bucket : (bucket : ℕ) (es : List Entry) (p : PageId) → page_bucket p ≡ bucket → get (bucket_entries bucket es) p ≡ get es p
+pub get-bucket : (bucket : ℕ) (es : List Entry) (p : PageId) → page_bucket p ≡ bucket → get (bucket_entries bucket es) p ≡ get es p
 get-bucket bucket [] p is = refl
 get-bucket bucket (e ∷ es) p is = cases (page_bucket e.page == bucket) refl (is_eq (page_cmp e.page p)) refl (get-bucket bucket es p is)
   where

@@ -1,4 +1,5 @@
 mod Examples
 pub mod ExchangeLemmas
 mod Hashers
+pub mod KeptLemmas
 mod Masks

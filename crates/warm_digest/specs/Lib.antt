@@ -1,3 +1,4 @@
 pub mod BucketSums
 pub mod Exchange
 pub mod Hashing
+pub mod KeptSums

@@ -1,31 +1,15 @@
 use super::*;
+use std::alloc::Global;
+use std::process::Abort;
 use std::test::Fail;
+use warm_history::Entry;
 use warm_stamps::{PageId, Reference, ReplicaId, Stamp};
-
-fn reference(dev: u16, no: u32, time: u64) -> Result<Reference, Fail> {
-    let page = PageId { dev, no };
-    let replica = ReplicaId::new(1)?;
-    Ok(Reference {
-        page,
-        stamp: Stamp { time, replica },
-    })
-}
 
 // SHA-256 of no bytes.
 const OF_NOTHING: [u8; 32] = [
     0xe3, 0xb0, 0xc4, 0x42, 0x98, 0xfc, 0x1c, 0x14, 0x9a, 0xfb, 0xf4, 0xc8, 0x99, 0x6f, 0xb9, 0x24,
     0x27, 0xae, 0x41, 0xe4, 0x64, 0x9b, 0x93, 0x4c, 0xa4, 0x95, 0x99, 0x1b, 0x78, 0x52, 0xb8, 0x55,
 ];
-
-#[test]
-fn each_bucket_of_nothing_has_the_sum_of_no_bytes(rt: HostRuntime) -> Result<(), Fail> {
-    let table = sums(rt.alloc(), &History::new(rt.alloc()))?;
-    for index in 0..64 {
-        let bucket = Bucket::new(index).expect(&rt, "a bucket");
-        assert_eq!(rt; table.sum(bucket), OF_NOTHING);
-    }
-    Ok(())
-}
 
 // SHA-256, by another program, of the 27 bytes
 // 0000 00000007 02 0000000000000014 0001 000000000000000A 0001.
@@ -40,10 +24,18 @@ const OF_THREE_PAGES: [u8; 32] = [
     0x42, 0x29, 0x30, 0x2f, 0x8a, 0x48, 0x38, 0xda, 0xfe, 0xed, 0xc7, 0x59, 0x21, 0x5b, 0xa2, 0x03,
 ];
 
-#[test]
-fn a_bucket_has_the_sum_of_its_entries(rt: HostRuntime) -> Result<(), Fail> {
-    let mut history = History::new(rt.alloc());
-    let batch = [
+fn reference(dev: u16, no: u32, time: u64) -> Result<Reference, Fail> {
+    let page = PageId { dev, no };
+    let replica = ReplicaId::new(1)?;
+    Ok(Reference {
+        page,
+        stamp: Stamp { time, replica },
+    })
+}
+
+// References of which bucket 1 has three pages, bucket 7 one, and no other any.
+fn four_pages() -> Result<[Reference; 7], Fail> {
+    Ok([
         reference(1, 0, 7)?,
         reference(0, 65, 20)?,
         reference(0, 7, 10)?,
@@ -51,18 +43,129 @@ fn a_bucket_has_the_sum_of_its_entries(rt: HostRuntime) -> Result<(), Fail> {
         reference(0, 65, 10)?,
         reference(0, 7, 20)?,
         reference(0, 65, 30)?,
-    ];
-    history.absorb(batch.as_slice())?;
-    let table = sums(rt.alloc(), &history)?;
+    ])
+}
+
+// Buckets 1 and 7 have these sums, and each other has that of nothing.
+fn has_sums(rt: &impl Abort, table: &SumTable, bucket_1: [u8; 32], bucket_7: [u8; 32]) {
     for index in 0..64 {
-        let bucket = Bucket::new(index).expect(&rt, "a bucket");
+        let bucket = Bucket::new(index).expect(rt, "a bucket");
         let want = match index {
-            1 => OF_THREE_PAGES,
-            7 => OF_0_7,
+            1 => bucket_1,
+            7 => bucket_7,
             _ => OF_NOTHING,
         };
         assert_eq!(rt; table.sum(bucket), want);
     }
+}
+
+#[test]
+fn each_bucket_of_nothing_has_the_sum_of_no_bytes(rt: HostRuntime) -> Result<(), Fail> {
+    let history = History::new(rt.alloc());
+    has_sums(&rt, &sums(rt.alloc(), &history)?, OF_NOTHING, OF_NOTHING);
+    has_sums(&rt, &Sums::new(rt.alloc()).table(), OF_NOTHING, OF_NOTHING);
+    Ok(())
+}
+
+#[test]
+fn a_bucket_has_the_sum_of_its_entries(rt: HostRuntime) -> Result<(), Fail> {
+    let mut history = History::new(rt.alloc());
+    history.absorb(four_pages()?.as_slice())?;
+    has_sums(&rt, &sums(rt.alloc(), &history)?, OF_THREE_PAGES, OF_0_7);
+    Ok(())
+}
+
+// What renewing the sums of the buckets of a mask gives, where they were those of nothing, and where
+// they were those of the four pages and the history is forgotten.
+#[derive(Clone, Copy)]
+struct Renewal {
+    mask: u64,
+    grown: ([u8; 32], [u8; 32]),
+    forgotten: ([u8; 32], [u8; 32]),
+}
+
+const RENEWALS: [Renewal; 5] = [
+    Renewal {
+        mask: 0,
+        grown: (OF_NOTHING, OF_NOTHING),
+        forgotten: (OF_THREE_PAGES, OF_0_7),
+    },
+    Renewal {
+        mask: 2,
+        grown: (OF_THREE_PAGES, OF_NOTHING),
+        forgotten: (OF_NOTHING, OF_0_7),
+    },
+    Renewal {
+        mask: 0x80,
+        grown: (OF_NOTHING, OF_0_7),
+        forgotten: (OF_THREE_PAGES, OF_NOTHING),
+    },
+    Renewal {
+        mask: 0x8000_0000_0000_0001,
+        grown: (OF_NOTHING, OF_NOTHING),
+        forgotten: (OF_THREE_PAGES, OF_0_7),
+    },
+    Renewal {
+        mask: u64::MAX,
+        grown: (OF_THREE_PAGES, OF_0_7),
+        forgotten: (OF_NOTHING, OF_NOTHING),
+    },
+];
+
+#[test]
+fn the_buckets_of_the_mask_are_renewed(rt: HostRuntime) -> Result<(), Fail> {
+    let nothing = History::new(rt.alloc());
+    let mut history = History::new(rt.alloc());
+    history.absorb(four_pages()?.as_slice())?;
+    for row in RENEWALS {
+        let mut kept = Sums::new(rt.alloc());
+        kept.renew(&history, row.mask)?;
+        has_sums(&rt, &kept.table(), row.grown.0, row.grown.1);
+        kept.renew(&history, u64::MAX)?;
+        kept.renew(&nothing, row.mask)?;
+        has_sums(&rt, &kept.table(), row.forgotten.0, row.forgotten.1);
+    }
+    Ok(())
+}
+
+// So many references to pages of device 0, each to its own.
+fn new_pages(alloc: Global, first: u32, count: u32) -> Result<Vec<Reference>, Fail> {
+    let mut batch = Vec::new(alloc);
+    for i in 0..count {
+        batch.push(reference(0, first.wrapping_add(i.wrapping_mul(7)), u64::from(i))?)?;
+    }
+    Ok(batch)
+}
+
+// The entries that one reference makes.
+fn entries_of(alloc: Global, batch: &[Reference]) -> Result<Vec<Entry>, Fail> {
+    let mut history = History::new(alloc);
+    history.absorb(batch)?;
+    Ok(history.iter().collect(alloc)?)
+}
+
+#[test]
+fn kept_sums_are_those_of_the_history(rt: HostRuntime) -> Result<(), Fail> {
+    let mut summed = SummedHistory::new(rt.alloc());
+    has_sums(&rt, &summed.sums()?, OF_NOTHING, OF_NOTHING);
+    summed.absorb(four_pages()?.as_slice())?;
+    has_sums(&rt, &summed.sums()?, OF_THREE_PAGES, OF_0_7);
+    has_sums(&rt, &summed.sums()?, OF_THREE_PAGES, OF_0_7);
+    // One page more, a hundred, and a hundred that come as entries.
+    for (first, count) in [(3, 1), (1000, 100)] {
+        let batch = new_pages(rt.alloc(), first, count)?;
+        summed.absorb(&batch)?;
+        let anew = sums(rt.alloc(), summed.history())?;
+        assert_eq!(rt; summed.sums()?, anew);
+    }
+    let more = new_pages(rt.alloc(), 2000, 100)?;
+    summed.join_entries(&entries_of(rt.alloc(), &more)?)?;
+    assert_eq!(rt; summed.history().len(), 205);
+    let anew = sums(rt.alloc(), summed.history())?;
+    assert_eq!(rt; summed.sums()?, anew);
+    summed.clear();
+    assert_eq!(rt; summed.history().len(), 0);
+    has_sums(&rt, &summed.sums()?, OF_NOTHING, OF_NOTHING);
     Ok(())
 }
 
@@ -81,12 +184,35 @@ fn differing_buckets_are_set_bits(rt: HostRuntime) -> Result<(), Fail> {
     Ok(())
 }
 
-// Run again with each growth refused in turn: `rt try --test --fail-alloc N -- a_refused_growth_of_sums`.
-// What is not refused has the right sums.
+// Run again with each growth refused in turn: `rt try --test --fail-alloc N -- a_refused_growth`.
+// A refusal leaves the sums that were kept, and what is asked for again is right.
 #[test]
-fn a_refused_growth_of_sums(rt: HostRuntime) {
-    let history = History::new(rt.alloc());
-    if let Ok(table) = sums(rt.alloc(), &history) {
-        assert_eq!(rt; differing(&table, &SumTable::of([OF_NOTHING; 64])), 0);
+fn a_refused_growth_changes_no_sum(rt: HostRuntime) -> Result<(), Fail> {
+    let batch = four_pages()?;
+    let mut summed = SummedHistory::new(rt.alloc());
+    if summed.absorb(batch.as_slice()).is_err() {
+        assert_eq!(rt; summed.history().len(), 0);
+        has_sums(&rt, &summed.sums()?, OF_NOTHING, OF_NOTHING);
+        summed.absorb(batch.as_slice())?;
     }
+    if summed.sums().is_err() {
+        assert_eq!(rt; summed.history().len(), 4);
+    }
+    has_sums(&rt, &summed.sums()?, OF_THREE_PAGES, OF_0_7);
+    Ok(())
+}
+
+#[test]
+fn a_refused_renewal_changes_no_sum(rt: HostRuntime) -> Result<(), Fail> {
+    let mut history = History::new(rt.alloc());
+    let Ok(()) = history.absorb(four_pages()?.as_slice()) else {
+        return Ok(());
+    };
+    let mut kept = Sums::new(rt.alloc());
+    if kept.renew(&history, 2).is_err() {
+        has_sums(&rt, &kept.table(), OF_NOTHING, OF_NOTHING);
+        kept.renew(&history, 2)?;
+    }
+    has_sums(&rt, &kept.table(), OF_THREE_PAGES, OF_NOTHING);
+    Ok(())
 }

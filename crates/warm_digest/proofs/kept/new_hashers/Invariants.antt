@@ -1,7 +1,7 @@
 use Rattle.std.proofs.Common.{◌≡◌, ◌≤◌, [], length, vec_capacity}
 use Rattle.warm_stamps.specs.declared.TheConstants.{BUCKETS}
 use Rattle.warm_digest.specs.Hashing.{HaveTaken}
-use Rattle.warm_digest.proofs.new_hashers.Given as goal
+use Rattle.warm_digest.proofs.kept.new_hashers.Given as goal
 
 abbrev pub invariant-loop-bucket : goal.invariant-loop-bucket
 invariant-loop-bucket l = record {

@@ -1,0 +1,176 @@
+-- Buckets that a history's growth does not touch, and sums that are renewed bucket by bucket.
+use Rattle.std.proofs.Common.{◌≡◌, ◌≢◌, ◌⊎◌, inl, inr, ℕ, zero, suc, ◌<◌, ◌≤◌, ◌*◌, ◌%◌, ◌^◌, Bool, true, false, cond, List, [], ◌∷◌, ◌++◌, length, filter, map, Option, Some, None, refl, sym, ap, subst, ◌∙◌, arith, if◌then◌else◌}
+use Rattle.std.specs.Prelude.{◌==◌, bit_or}
+use Rattle.std.specs.Int.{bit_at, w64}
+use Rattle.std.specs.List.{All}
+use Rattle.std.specs.Ordering.{is_eq, on, flip_args}
+use Rattle.std.proofs.lemmas.Bool.{cases_eq, eq-eqb, eqb-true, ne_eqb}
+use Rattle.std.proofs.lemmas.List.{append-nil}
+use Rattle.std.proofs.lemmas.List.FromFn.{get_or-map-range_with_len}
+use Rattle.std.proofs.lemmas.Nat.Bits.{bit_at-lt, bit_at_ones, bit_at_set_same, bit_at_set_other}
+use Rattle.warm_stamps.specs.declared.PageId.{PageId}
+use Rattle.warm_stamps.specs.declared.Reference.{Reference}
+use Rattle.warm_stamps.specs.declared.TheConstants.{BUCKETS}
+use Rattle.warm_stamps.specs.Buckets.{page_bucket}
+use Rattle.warm_stamps.specs.Distinct.{distinct}
+use Rattle.warm_stamps.specs.Stamps.{page_cmp, stamp_cmp}
+use Rattle.warm_stamps.proofs.DistinctLemmas.{is_equal, rising_filter}
+use Rattle.warm_stamps.proofs.StampLemmas.{page_order}
+use Rattle.warm_history.specs.declared.hist.Entry.{Entry}
+use Rattle.warm_history.specs.ReferenceSets.{these, ◌∪◌}
+use Rattle.warm_history.specs.Histories.{HistoryView, IsHistory, entries_of, first_two, hist, history, holding, entry_refs, refs}
+use Rattle.warm_history.proofs.HistoryLemmas.{IsHistory-history, get, get-history, hist-refs, same_gets, told, told-append, told_entry}
+use Rattle.warm_frames.specs.Entries.{entries_bytes}
+use Rattle.warm_frames.specs.Sums.{sum_at}
+use Rattle.sha2.specs.Sha256.{sha256}
+use Rattle.warm_digest.specs.BucketSums.{bucket_entries, bucket_sum, sums_of}
+use Rattle.warm_digest.specs.KeptSums.{entries_in, HasSumsOf, SameSumsOutside, IsKept, Marks}
+use Rattle.warm_digest.proofs.ExchangeLemmas.{get-bucket}
+use Rattle.warm_digest.proofs.Hashers.{all_done}
+
+-- ---- wanted buckets
+
+-- a wanted bucket has the same entries among the wanted ones
+pub wanted_whole : (mask bucket : ℕ) (es : List Entry) → bit_at mask bucket ≡ 1 → bucket_entries bucket (entries_in mask es) ≡ bucket_entries bucket es
+wanted_whole mask bucket [] set = refl
+wanted_whole mask bucket (e ∷ es) set = cases (bit_at mask (page_bucket e.page) == 1) refl (page_bucket e.page == bucket) refl (wanted_whole mask bucket es set)
+  where
+    cases : (t : Bool) → (bit_at mask (page_bucket e.page) == 1) ≡ t → (b : Bool) → (page_bucket e.page == bucket) ≡ b
+        → bucket_entries bucket (entries_in mask es) ≡ bucket_entries bucket es
+        → bucket_entries bucket (cond t (e ∷ entries_in mask es) (entries_in mask es)) ≡ cond b (e ∷ bucket_entries bucket es) (bucket_entries bucket es)
+    cases true inside b here rest = rw (here, rest) refl
+    cases false out false here rest = rest
+    cases false out true here rest =
+        let same : page_bucket e.page ≡ bucket = eqb-true (page_bucket e.page) bucket here in
+        let never : true ≡ false = sym (eq-eqb (bit_at mask (page_bucket e.page)) 1 (ap (bit_at mask) same ∙ set)) ∙ out in
+        absurd (cc)
+
+-- one that is not wanted has none among them
+wanted_none : (mask bucket : ℕ) (es : List Entry) → (bit_at mask bucket == 1) ≡ false → bucket_entries bucket (entries_in mask es) ≡ []
+wanted_none mask bucket [] clear = refl
+wanted_none mask bucket (e ∷ es) clear = cases (bit_at mask (page_bucket e.page) == 1) refl (page_bucket e.page == bucket) refl (wanted_none mask bucket es clear)
+  where
+    cases : (t : Bool) → (bit_at mask (page_bucket e.page) == 1) ≡ t → (b : Bool) → (page_bucket e.page == bucket) ≡ b
+        → bucket_entries bucket (entries_in mask es) ≡ [] → bucket_entries bucket (cond t (e ∷ entries_in mask es) (entries_in mask es)) ≡ []
+    cases false out b here rest = rest
+    cases true inside false here rest = rw here rest
+    cases true inside true here rest =
+        let same : page_bucket e.page ≡ bucket = eqb-true (page_bucket e.page) bucket here in
+        let never : true ≡ false = sym inside ∙ ap (λ k. bit_at mask k == 1) same ∙ clear in
+        absurd (cc)
+
+pub wanted_part : (mask bucket : ℕ) (es : List Entry) → bucket_entries bucket (entries_in mask es) ≡ if bit_at mask bucket == 1 then bucket_entries bucket es else []
+wanted_part mask bucket es = cases (bit_at mask bucket == 1) refl
+  where
+    cases : (t : Bool) → (bit_at mask bucket == 1) ≡ t → bucket_entries bucket (entries_in mask es) ≡ if t then bucket_entries bucket es else []
+    cases true set = wanted_whole mask bucket es (eqb-true (bit_at mask bucket) 1 set)
+    cases false clear = wanted_none mask bucket es clear
+
+-- ---- buckets that are not touched
+
+-- a bucket says nothing of the pages of others
+get_elsewhere : (bucket : ℕ) (es : List Entry) (p : PageId) → page_bucket p ≢ bucket → get (bucket_entries bucket es) p ≡ None
+get_elsewhere bucket [] p away = refl
+get_elsewhere bucket (e ∷ es) p away = cases (page_bucket e.page == bucket) refl (is_eq (page_cmp e.page p)) refl (get_elsewhere bucket es p away)
+  where
+    cases : (b : Bool) → (page_bucket e.page == bucket) ≡ b → (c : Bool) → is_eq (page_cmp e.page p) ≡ c → get (bucket_entries bucket es) p ≡ None
+        → get (cond b (e ∷ bucket_entries bucket es) (bucket_entries bucket es)) p ≡ None
+    cases true inside true here rest =
+        let same : e.page ≡ p = page_order.same e.page p (is_equal (page_cmp e.page p) here) in
+        absurd (away (ap page_bucket (sym same) ∙ eqb-true (page_bucket e.page) bucket inside))
+    cases true inside false other rest = rw other rest
+    cases false out c there rest = rest
+
+-- lists that say the same of each page of a bucket have the same entries in it
+same_bucket : (bucket : ℕ) (h g : List Entry) → IsHistory h → IsHistory g → ((p : PageId) → page_bucket p ≡ bucket → get h p ≡ get g p) → bucket_entries bucket h ≡ bucket_entries bucket g
+same_bucket bucket h g whole_h whole_g alike =
+    let by_page = on (λ (e : Entry). e.page) page_cmp in
+    let is_in : Entry → Bool = λ e. page_bucket e.page == bucket in
+    same_gets (bucket_entries bucket h) (bucket_entries bucket g) (rising_filter by_page is_in h whole_h.pages_rise) (rising_filter by_page is_in g whole_g.pages_rise) (λ p. elim (cases_eq (page_bucket p) bucket) [
+      | inl there ↦ get-bucket bucket h p there ∙ alike p there ∙ sym (get-bucket bucket g p there)
+      | inr away ↦ get_elsewhere bucket h p away ∙ sym (get_elsewhere bucket g p away)
+    ])
+
+-- pages of two buckets differ
+apart : (q p : PageId) → page_bucket q ≢ page_bucket p → is_eq (page_cmp q p) ≡ false
+apart q p buckets = cases (is_eq (page_cmp q p)) refl
+  where
+    cases : (c : Bool) → is_eq (page_cmp q p) ≡ c → c ≡ false
+    cases true here = absurd (buckets (ap page_bucket (page_order.same q p (is_equal (page_cmp q p) here))))
+    cases false other = refl
+
+-- nothing is told of a page by references to pages of other buckets
+untold : (T : List Reference) (p : PageId) → All (λ r. page_bucket r.page ≢ page_bucket p) T → told T p ≡ []
+untold [] p away = refl
+untold (r ∷ T) p away = rw (apart r.page p (away 0 r (omega arith))) (untold T p (λ k d low. away (suc k) d (omega (arith, low))))
+
+-- nor by entries of such pages
+untold_entries : (es : List Entry) (p : PageId) → All (λ e. page_bucket e.page ≢ page_bucket p) es → told (refs (holding es)) p ≡ []
+untold_entries [] p away = refl
+untold_entries (e ∷ es) p away =
+    told-append (entry_refs e) (refs (holding es)) p
+    ∙ ap (λ ss. ss ++ told (refs (holding es)) p) (told_entry e.page e.hist p)
+    ∙ rw (apart e.page p (away 0 e (omega arith))) (untold_entries es p (λ k d low. away (suc k) d (omega (arith, low))))
+
+-- a history that takes in what tells nothing of a bucket's pages has the same entries in the bucket
+untouched : (h : HistoryView) (T : List Reference) (bucket : ℕ) → IsHistory h → ((p : PageId) → page_bucket p ≡ bucket → told T p ≡ []) → bucket_entries bucket (history (refs h ++ T)) ≡ bucket_entries bucket h
+untouched h T bucket whole none = same_bucket bucket (history (refs h ++ T)) h (IsHistory-history (refs h ++ T)) whole (λ p there.
+    get-history (refs h ++ T) p
+    ∙ ap (λ ss. first_two (distinct (flip_args stamp_cmp) ss)) (told-append (refs h) T p ∙ ap (λ ss. told (refs h) p ++ ss) (none p there) ∙ append-nil (told (refs h) p))
+    ∙ hist-refs h whole p)
+
+abbrev sum_from : List Entry → List ℕ
+sum_from es = sha256 (entries_bytes es)
+
+-- the sums that are not marked stay right when references are taken in
+pub kept_with_references : (h g : HistoryView) (batch : List Reference) (old new : ℕ) (sums : List (List ℕ)) → IsHistory h → g ≡ history (refs h ∪ these batch)
+    → IsKept old (entries_of h) sums → Marks (λ r. r.page) old batch new → IsKept new (entries_of g) sums
+kept_with_references h g batch old new sums whole is kept marks bucket low clear =
+    let same : bucket_entries bucket g ≡ bucket_entries bucket h =
+    ap (bucket_entries bucket) is
+    ∙ untouched h batch bucket whole (λ p there. untold batch p (subst (λ b. All (λ r. page_bucket r.page ≢ b) batch) (sym there) (marks bucket clear).1)) in
+    kept bucket low (marks bucket clear).0 ∙ sym (ap sum_from same)
+
+-- and when entries are
+pub kept_with_entries : (h g : HistoryView) (more : List Entry) (old new : ℕ) (sums : List (List ℕ)) → IsHistory h → g ≡ history (refs h ∪ refs (holding more))
+    → IsKept old (entries_of h) sums → Marks (λ e. e.page) old more new → IsKept new (entries_of g) sums
+kept_with_entries h g more old new sums whole is kept marks bucket low clear =
+    let same : bucket_entries bucket g ≡ bucket_entries bucket h =
+    ap (bucket_entries bucket) is
+    ∙ untouched h (refs (holding more)) bucket whole (λ p there. untold_entries more p (subst (λ b. All (λ e. page_bucket e.page ≢ b) more) (sym there) (marks bucket clear).1)) in
+    kept bucket low (marks bucket clear).0 ∙ sym (ap sum_from same)
+
+-- ---- renewed sums
+
+pub sum_is : (es : List Entry) (bucket : ℕ) → bucket < BUCKETS → sum_at (sums_of es) bucket ≡ bucket_sum es bucket
+sum_is es bucket low = get_or-map-range_with_len (bucket_sum es) 0 BUCKETS bucket bucket [] low (omega arith)
+
+-- the sums of nothing are right for a history that holds nothing
+pub nothing_kept : (changed : ℕ) (h : HistoryView) (sums : List (List ℕ)) → sums ≡ sums_of [] → h ≡ holding [] → IsKept changed (entries_of h) sums
+nothing_kept changed h sums are none bucket low clear = ap (λ (s : List (List ℕ)). sum_at s bucket) are ∙ sum_is [] bucket low ∙ sym (ap (λ (g : HistoryView). bucket_sum (entries_of g) bucket) none)
+
+-- the sums of what hashers took of the wanted buckets are those of the whole
+pub sums_of_whole : (mask : ℕ) (h : List Entry) (sums : List (List ℕ)) → HasSumsOf mask (entries_in mask h) sums → HasSumsOf mask h sums
+sums_of_whole mask h sums has bucket low set = has bucket low set ∙ ap sum_from (wanted_whole mask bucket h set)
+
+-- sums that were right but for the marked ones, and these renewed, are all right
+pub all_right : (changed : ℕ) (h : List Entry) (old new : List (List ℕ)) → length new ≡ BUCKETS → IsKept changed h old → HasSumsOf changed h new → SameSumsOutside changed old new → new ≡ sums_of h
+all_right changed h old new count kept has same = all_done new h count (λ bucket low. elim (cases_eq (bit_at changed bucket) 1) [
+  | inl set ↦ has bucket low set
+  | inr clear ↦ (let zero_is : bit_at changed bucket ≡ 0 = omega (arith, bit_at-lt changed bucket, clear) in same bucket low zero_is ∙ kept bucket low zero_is)
+])
+
+-- sums that were all renewed are all right
+pub all_renewed : (h : List Entry) (sums : List (List ℕ)) → length sums ≡ BUCKETS → HasSumsOf 18446744073709551615 h sums → sums ≡ sums_of h
+all_renewed h sums count has = all_done sums h count (λ bucket low. has bucket low (bit_at_ones 64 bucket low))
+
+-- ---- marks
+
+-- a bit that is clear once another is set was so before, and is not that one
+pub marked : (mask i bucket : ℕ) → i < 64 → bit_at (bit_or mask (1 * 2 ^ i % 2 ^ 64)) bucket ≡ 0 → (bit_at mask bucket ≡ 0) × (i ≢ bucket)
+marked mask i bucket low clear = elim (cases_eq bucket i) [
+  | inl same ↦ (let one : bit_at (bit_or mask (1 * 2 ^ i % 2 ^ 64)) i ≡ 1 = bit_at_set_same w64 mask i low in
+      let none : bit_at (bit_or mask (1 * 2 ^ i % 2 ^ 64)) i ≡ 0 = subst (λ b. bit_at (bit_or mask (1 * 2 ^ i % 2 ^ 64)) b ≡ 0) same clear in
+      absurd (omega (arith, one, none)))
+  | inr other ↦ (sym (bit_at_set_other w64 mask i low bucket other) ∙ clear, λ is. other (sym is))
+]

@@ -1,0 +1,34 @@
+-- Sums that are kept while a history grows, and renewed bucket by bucket.
+use Rattle.std.specs.Prelude.{◌≡◌, ◌≢◌, ℕ, ◌==◌, ◌<◌, List, filter}
+use Rattle.std.specs.Int.{bit_at}
+use Rattle.std.specs.List.{All}
+use Rattle.warm_stamps.specs.declared.PageId.{PageId}
+use Rattle.warm_stamps.specs.declared.TheConstants.{BUCKETS}
+use Rattle.warm_stamps.specs.Buckets.{page_bucket}
+use Rattle.warm_history.specs.declared.hist.Entry.{Entry}
+use Rattle.warm_frames.specs.Sums.{sum_at}
+use Rattle.warm_digest.specs.BucketSums.{bucket_sum}
+
+-- the entries of the buckets whose bit is set in the mask
+abbrev pub entries_in : ℕ → List Entry → List Entry
+entries_in mask = filter (λ e. bit_at mask (page_bucket e.page) == 1)
+
+-- each bucket whose bit is set has its sum of the entries
+abbrev pub HasSumsOf : ℕ → List Entry → List (List ℕ) → Type 0
+HasSumsOf mask h sums = (bucket : ℕ) → bucket < BUCKETS → bit_at mask bucket ≡ 1 → sum_at sums bucket ≡ bucket_sum h bucket
+
+-- each bucket whose bit is clear has the sum that it had
+abbrev pub SameSumsOutside : ℕ → List (List ℕ) → List (List ℕ) → Type 0
+SameSumsOutside mask old new = (bucket : ℕ) → bucket < BUCKETS → bit_at mask bucket ≡ 0 → sum_at new bucket ≡ sum_at old bucket
+
+-- each bucket that isn't marked as changed has its sum of the entries
+abbrev pub IsKept : ℕ → List Entry → List (List ℕ) → Type 0
+IsKept changed h sums = (bucket : ℕ) → bucket < BUCKETS → bit_at changed bucket ≡ 0 → sum_at sums bucket ≡ bucket_sum h bucket
+
+-- a bucket whose bit is clear now was so before, and is not that of this page
+abbrev pub MarksPage : ℕ → PageId → ℕ → Type 0
+MarksPage old page new = (bucket : ℕ) → bit_at new bucket ≡ 0 → (bit_at old bucket ≡ 0) × (page_bucket page ≢ bucket)
+
+-- the same of a list of items that each have a page
+abbrev pub Marks : {A : Type 0} → (A → PageId) → ℕ → List A → ℕ → Type 0
+Marks page old items new = (bucket : ℕ) → bit_at new bucket ≡ 0 → (bit_at old bucket ≡ 0) × All (λ x. page_bucket (page x) ≢ bucket) items

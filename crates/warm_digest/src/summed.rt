@@ -1,0 +1,135 @@
+//! A history whose bucket sums are kept.
+ghost use Rattle.std.specs.Prelude.{◌≡◌, [], IfOk, OnOk, OnErr};
+ghost use Rattle.warm_history.specs.ReferenceSets.{these, ◌∪◌};
+ghost use Rattle.warm_history.specs.Histories.{entries_of, history, holding, join, refs};
+ghost use Rattle.warm_digest.specs.BucketSums.{sums_of};
+ghost use Rattle.warm_digest.specs.KeptSums.{Marks, MarksPage};
+
+use crate::kept::Sums;
+use std::alloc::{AllocError, Global};
+use std::marker::Model;
+use warm_frames::SumTable;
+use warm_history::{Entry, History};
+use warm_stamps::{PageId, Reference, bucket_of};
+
+/// A history whose bucket sums are kept: what it takes in marks buckets, which takes no memory, and
+/// [`SummedHistory::sums`] takes anew only the sums of the marked ones.
+///
+/// Contracts see it as its history.
+#[derive(Debug, Drop)]
+pub struct SummedHistory {
+    alloc: Global,
+    history: History,
+    sums: Sums,
+    // The buckets of which a page may have changed since their sum was taken.
+    changed: u64,
+}
+
+impl Model for SummedHistory {
+    ghost use Rattle.warm_history.specs.Histories.{HistoryView, entries_of};
+    ghost use Rattle.warm_digest.specs.KeptSums.{IsKept};
+
+    ghost Value = { HistoryView };
+
+    ghost view = { λ summed. summed.history };
+
+    ghost invariant = { λ summed. IsKept summed.changed (entries_of summed.history) summed.sums };
+}
+
+impl SummedHistory {
+    /// A history that holds nothing, with its sums. Takes no memory.
+    pub fn new(alloc: Global) -> SummedHistory
+        ensures { result ≡ holding [] }
+    {
+        SummedHistory {
+            alloc,
+            history: History::new(alloc),
+            sums: Sums::new(alloc),
+            changed: 0,
+        }
+    }
+
+    /// The history.
+    pub fn history(&self) -> &History
+        ensures { result.now ≡ self.now }
+    {
+        &self.history
+    }
+
+    /// Takes in references, as [`History::absorb`] does: `AllocError` changes nothing.
+    pub fn absorb(&mut self, batch: &[Reference]) -> Result<(), AllocError>
+        ensures exact { OnOk result (self.new ≡ history (refs self.old ∪ these batch.now)) }
+        ensures err { OnErr result (self.new ≡ self.old) }
+    {
+        // Asked for what holds of every history: its pages rise.
+        let _whole = self.history.len();
+        self.history.absorb(batch)?;
+        self.changed = mark_references(self.changed, batch);
+        Ok(())
+    }
+
+    /// Takes in all that these entries hold, as [`History::join_entries`] does: `AllocError` changes
+    /// nothing.
+    pub fn join_entries(&mut self, more: &[Entry]) -> Result<(), AllocError>
+        ensures exact { OnOk result (self.new ≡ join self.old (holding more.now)) }
+        ensures err { OnErr result (self.new ≡ self.old) }
+    {
+        // Asked for what holds of every history: its pages rise.
+        let _whole = self.history.len();
+        self.history.join_entries(more)?;
+        self.changed = mark_entries(self.changed, more);
+        Ok(())
+    }
+
+    /// Forgets everything. Takes no memory.
+    pub fn clear(&mut self)
+        ensures { self.new ≡ holding [] }
+    {
+        self.history = History::new(self.alloc);
+        self.sums = Sums::new(self.alloc);
+        self.changed = 0;
+    }
+
+    /// The sums of its buckets.
+    ///
+    /// Costs nothing where nothing was taken in since the last call, and else what [`Sums::renew`] costs
+    /// for the buckets of what was. `AllocError` comes only where that was refused room; the next call
+    /// takes the same sums anew.
+    pub fn sums(&mut self) -> Result<SumTable, AllocError>
+        ensures table { IfOk result (λ table. table ≡ sums_of (entries_of self.old)) }
+        ensures same { self.new ≡ self.old }
+    {
+        self.sums.renew(&self.history, self.changed)?;
+        self.changed = 0;
+        Ok(self.sums.table())
+    }
+}
+
+// The mask with the bit of the page's bucket.
+fn mark(mask: u64, page: PageId) -> u64
+    ensures { MarksPage mask page result }
+{
+    mask | 1 << bucket_of(page).get()
+}
+
+// The mask with the buckets of the references' pages.
+fn mark_references(changed: u64, batch: &[Reference]) -> u64
+    ensures { Marks (λ r. r.page) changed batch.now result }
+{
+    let mut mask = changed;
+    for reference in batch {
+        mask = mark(mask, reference.page);
+    }
+    mask
+}
+
+// The mask with the buckets of the entries' pages.
+fn mark_entries(changed: u64, more: &[Entry]) -> u64
+    ensures { Marks (λ e. e.page) changed more.now result }
+{
+    let mut mask = changed;
+    for entry in more {
+        mask = mark(mask, entry.page);
+    }
+    mask
+}
