@@ -1,10 +1,10 @@
 -- What a decoder does with a piece, in plain variables.
-use Rattle.std.proofs.Common.{◌≡◌, ◌≢◌, ◌⊎◌, inl, inr, ℕ, ◌+◌, ◌-◌, ◌<◌, ◌≤◌, Bool, true, false, cond, List, [], ◌∷◌, ◌++◌, length, take, drop, Option, Some, None, Result, Ok, Err, refl, sym, ap, subst, ◌∙◌, append_assoc, ⊎_elim, arith}
+use Rattle.std.proofs.Common.{◌≡◌, ◌≢◌, ◌⊎◌, inl, inr, ℕ, ◌+◌, ◌-◌, ◌<◌, ◌≤◌, Bool, true, false, cond, List, ◌++◌, length, take, drop, Option, Some, None, Result, Ok, Err, refl, sym, ap, subst, ◌∙◌, append_assoc, ⊎_elim, arith}
 use Rattle.std.specs.Cmp.{nat_cmp_is}
 use Rattle.std.specs.Ordering.{is_lt, nat_cmp, ord_min}
 use Rattle.std.specs.declared.cmp.Ordering.{Ordering}
 use Rattle.std.specs.declared.cmp.Ordering.TheVariants.{Less, Equal, Greater}
-use Rattle.std.proofs.lemmas.List.{append-nil, take_all, take_at, take-append-drop, length-append, length-take}
+use Rattle.std.proofs.lemmas.List.{take_all, take_at, take-append-drop, length-append, length-take}
 use Rattle.std.proofs.lemmas.Slice.{take-put_mid}
 use borrow.Rule.Slice.PartMut.{put_mid}
 use Rattle.warm_frames.specs.declared.decoder.Fed.{Fed}
@@ -12,10 +12,9 @@ use Rattle.warm_frames.specs.declared.fault.FrameFault.{FrameFault}
 use Rattle.warm_frames.specs.declared.fault.FrameFault.TheVariants.{Memory, Truncated}
 use Rattle.warm_frames.specs.declared.frame.Frame.{Frame}
 use Rattle.warm_frames.specs.declared.reading.TheConstants.{HEADER_SIZE}
-use Rattle.warm_frames.specs.Pieces.{DecoderState, Inside, Broken, state_of, IsPart, IsLasting, Feeds, DecodesWith}
-use Rattle.warm_frames.specs.Reading.{read_frame}
+use Rattle.warm_frames.specs.Pieces.{DecoderState, Inside, Broken, state_of, IsPart, IsLasting, Feeds, Takes, DecodesWith, KnowsWith}
 use Rattle.warm_frames.specs.Sizes.{frame_size, KnowsSize, SaysSize}
-use Rattle.warm_frames.proofs.SizeLemmas.{Goes, size_goes, known_stays, no_ok, err_is, lt_or_le, lt_or_is, header_short, header_enough, header_lasts, size_whole, headed, fault_of_body, fault_of_header, ShownIn}
+use Rattle.warm_frames.proofs.SizeLemmas.{size_goes, known_stays, no_ok, err_is, lt_or_le, lt_or_is, header_short, header_enough, header_lasts, size_whole, headed, fault_of_body, fault_of_header, ShownIn}
 
 -- what is known stays so, whatever follows
 pub size_again : (begun more : List ℕ) (size : ℕ) → frame_size begun ≡ Ok size → frame_size (begun ++ more) ≡ Ok size
@@ -35,13 +34,27 @@ still_unknown begun piece held (Some size) knows short is = absurd (no_ok (sym s
 
 -- ---- the answers of feed
 
+-- a decoder that knows something of a size isn't behind a fault
+pub inside : (old : DecoderState) (failed : Bool) (begun piece : List ℕ) (size : Option ℕ) → state_of failed begun ≡ old → KnowsWith old piece size → (failed ≡ false) × SaysSize begun piece (Ok size)
+inside old true begun piece size view knows = absurd (subst (λ (o : DecoderState). KnowsWith o piece size) (sym view) knows)
+inside old false begun piece size view knows = (refl, subst (λ (o : DecoderState). KnowsWith o piece size) (sym view) knows)
+
+-- what is known where no size is, and where one is
+pub said_none : (begun piece : List ℕ) (size : Option ℕ) → ((n : ℕ) → size ≡ Some n → ⊥) → SaysSize begun piece (Ok size) → SaysSize begun piece (Ok None)
+said_none begun piece None none says = says
+said_none begun piece (Some n) none says = absurd (none n refl)
+
+pub said_some : (begun piece : List ℕ) (size : Option ℕ) (n : ℕ) → size ≡ Some n → SaysSize begun piece (Ok size) → SaysSize begun piece (Ok (Some n))
+said_some begun piece size n is says = subst (λ (x : Option ℕ). SaysSize begun piece (Ok x)) is says
+
 -- all of the piece was taken
-pub took_all : (old : DecoderState) (failed : Bool) (begun held piece : List ℕ) → state_of failed begun ≡ old → failed ≡ false → held ≡ begun ++ piece → IsPart (begun ++ piece)
-    → Feeds old piece (Ok (record { taken = length piece; frame = None })) (state_of failed held)
-took_all old failed begun held piece view works is part =
+pub took_all : (old : DecoderState) (failed : Bool) (begun held piece : List ℕ) (fed : Fed) → state_of failed begun ≡ old → failed ≡ false → fed.taken ≡ length piece → fed.frame ≡ None → held ≡ begun ++ piece
+    → IsPart (begun ++ piece) → Feeds old piece (Ok fed) (state_of failed held)
+took_all old failed begun held piece fed view works all none is part =
     let stands : Inside begun ≡ old = ap (λ (b : Bool). state_of b begun) (sym works) ∙ view in
-    subst (λ (o : DecoderState). Feeds o piece (Ok (record { taken = length piece; frame = None })) (state_of failed held)) stands
-    (refl, part, ap (λ (b : Bool). state_of b held) works ∙ ap (λ (bs : List ℕ). Inside bs) is)
+    subst (λ (o : DecoderState). Feeds o piece (Ok fed) (state_of failed held)) stands
+    (subst (λ (frame : Option Frame). Takes begun piece fed.taken frame (state_of failed held)) (sym none)
+    (all, part, ap (λ (b : Bool). state_of b held) works ∙ ap (λ (bs : List ℕ). Inside bs) is))
 
 -- a byte of the piece shows a fault
 pub broke : (old : DecoderState) (failed : Bool) (begun piece : List ℕ) (fault : FrameFault) → state_of failed begun ≡ old → failed ≡ false → ShownIn begun piece fault → Feeds old piece (Err fault) Broken

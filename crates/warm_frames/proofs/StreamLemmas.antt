@@ -1,5 +1,5 @@
 -- Streams: what was fed is frames and a rest, and there is one such reading.
-use Rattle.std.proofs.Common.{◌≡◌, ◌⊎◌, inl, inr, ℕ, ◌+◌, ◌<◌, ◌≤◌, List, [], ◌∷◌, ◌++◌, length, take, drop, Option, Some, None, Result, Ok, Err, refl, sym, ap, subst, ◌∙◌, append_assoc, ⊎_elim, arith}
+use Rattle.std.proofs.Common.{◌≡◌, inl, inr, ℕ, ◌≤◌, List, [], ◌∷◌, ◌++◌, length, take, drop, Option, Some, None, Result, Ok, Err, refl, sym, ap, subst, ◌∙◌, append_assoc, ⊎_elim, arith}
 use Rattle.std.specs.Prelude.{option_to_list}
 use Rattle.std.specs.List.{AllByRecursion, flat_map}
 use Rattle.std.proofs.lemmas.List.{append-nil, take_all, take_at, drop_at, take-append-drop, take-append-le}
@@ -10,7 +10,7 @@ use Rattle.warm_frames.specs.declared.fault.FrameFault.TheVariants.{Truncated}
 use Rattle.warm_frames.specs.declared.frame.Frame.{Frame}
 use Rattle.warm_frames.specs.Pieces.{DecoderState, Inside, Broken, IsPart, IsLasting, ShowsFault, Takes, Breaks, Feeds, Feeding, bytes_taken, taken_in, frame_given, frames_given, Feedings, Splits, Fails}
 use Rattle.warm_frames.specs.Reading.{read_frame}
-use Rattle.warm_frames.specs.Spelling.{IsFrame, spelling, Spells}
+use Rattle.warm_frames.specs.Spelling.{IsFrame, spelling}
 use Rattle.warm_frames.proofs.FrameLemmas.{frame_read, one_spelling, no_prefix}
 use Rattle.warm_frames.proofs.SizeLemmas.{failed, no_ok, err_is, lt_or_le, truncated_mends, nothing_short, part_without_header, fault_for_good}
 

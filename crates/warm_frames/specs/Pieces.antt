@@ -10,6 +10,7 @@ use Rattle.warm_frames.specs.declared.reading.TheConstants.{HEADER_SIZE}
 use Rattle.warm_frames.specs.Entries.{longest_entry}
 use Rattle.warm_frames.specs.Faults.{fault_code}
 use Rattle.warm_frames.specs.Reading.{read_frame}
+use Rattle.warm_frames.specs.Sizes.{SaysSize}
 use Rattle.warm_frames.specs.Spelling.{IsFrame, spelling, Spells}
 
 -- Where a decoder stands in its stream: inside a frame of which these bytes have come, none between two frames; or behind a fault.
@@ -54,6 +55,11 @@ abbrev pub Feeds : DecoderState → List ℕ → Result Fed FrameFault → Decod
 Feeds (Inside begun) piece (Ok fed) new = Takes begun piece fed.taken fed.frame new
 Feeds (Inside begun) piece (Err fault) new = ((fault ≡ Memory) × (new ≡ Inside begun)) ⊎ Breaks begun piece fault new
 Feeds Broken piece answer new = (answer ≡ Err Failed) × (new ≡ Broken)
+
+-- a decoder inside a frame knows so much of its size with the piece
+abbrev pub KnowsWith : DecoderState → List ℕ → Option ℕ → Type 0
+KnowsWith (Inside begun) piece size = SaysSize begun piece (Ok size)
+KnowsWith Broken piece size = ⊥
 
 -- A frame that is the bytes held and those at its end is decoded. Want of memory leaves what is held.
 abbrev pub DecodesWith : List ℕ → List ℕ → Result Frame FrameFault → List ℕ → Type 0

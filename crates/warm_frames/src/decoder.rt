@@ -1,9 +1,9 @@
 //! Frames from a stream of bytes that comes in pieces.
-ghost use Rattle.std.specs.Prelude.{◌≡◌, ◌⊎◌, ◌<◌, ◌++◌, [], length, IfOk, IfErr, OnOk, OnErr};
+ghost use Rattle.std.specs.Prelude.{◌≡◌, ◌⊎◌, ◌<◌, ◌++◌, [], length, None, IfOk, IfErr, OnOk, OnErr};
 ghost use Rattle.warm_frames.specs.declared.reading.TheConstants.{HEADER_SIZE};
 ghost use Rattle.warm_frames.specs.Spelling.{Spells};
 ghost use Rattle.warm_frames.specs.Sizes.{frame_size, KnowsSize, SaysSize};
-ghost use Rattle.warm_frames.specs.Pieces.{DecoderState.Inside, DecodesWith, Feeds, finish_of};
+ghost use Rattle.warm_frames.specs.Pieces.{DecoderState.Inside, DecodesWith, Feeds, KnowsWith, finish_of};
 
 use crate::fault::FrameFault;
 use crate::frame::{Frame, decode};
@@ -93,6 +93,17 @@ fn hold(held: &mut Vec<u8>, piece: &[u8]) -> Result<(), FrameFault>
     Ok(())
 }
 
+// What is told of a piece of which all was taken, and with which the frame isn't whole yet.
+fn all_of(piece: &[u8]) -> Fed
+    ensures taken { result.taken ≡ length piece.now }
+    ensures none { result.frame ≡ None }
+{
+    Fed {
+        taken: piece.len(),
+        frame: None,
+    }
+}
+
 // The frame that is the bytes held and those at its end. One that stands whole in a piece is decoded
 // there, and nothing is copied.
 fn frame_with(alloc: Global, held: &mut Vec<u8>, end: &[u8]) -> Result<Frame, FrameFault>
@@ -142,28 +153,29 @@ impl Decoder {
         if self.failed {
             return Err(FrameFault::Failed);
         }
-        let size = match size_of(&self.held, self.size, piece) {
-            Ok(Some(size)) => size,
-            Ok(None) => {
-                hold(&mut self.held, piece)?;
-                return Ok(Fed {
-                    taken: piece.len(),
-                    frame: None,
-                });
-            }
+        match size_of(&self.held, self.size, piece) {
+            Ok(size) => self.take(size, piece),
             Err(fault) => {
                 self.failed = true;
-                return Err(fault);
+                Err(fault)
             }
+        }
+    }
+
+    // Takes bytes of the piece, where so much is known with it of the size of the frame.
+    fn take(&mut self, size: Option<usize>, piece: &[u8]) -> Result<Fed, FrameFault>
+        requires { KnowsWith self.old piece.now size }
+        ensures { Feeds self.old piece.now result self.new }
+    {
+        let Some(size) = size else {
+            hold(&mut self.held, piece)?;
+            return Ok(all_of(piece));
         };
         let missing = size - self.held.len();
         if piece.len() < missing {
             hold(&mut self.held, piece)?;
             self.size = Some(size);
-            return Ok(Fed {
-                taken: piece.len(),
-                frame: None,
-            });
+            return Ok(all_of(piece));
         }
         match frame_with(self.alloc, &mut self.held, &piece[..missing]) {
             Ok(frame) => {

@@ -1,5 +1,4 @@
-use Rattle.std.proofs.Common.{sym, ◌∙◌}
-use Rattle.warm_frames.specs.Sizes.{frame_size}
+use Rattle.std.proofs.Common.{sym}
 use Rattle.warm_frames.proofs.SizeLemmas.{header_short}
 use Rattle.warm_frames.proofs.DecoderLemmas.{size_again, size_above, unknown_yet, known_size}
 use Rattle.warm_frames.proofs.decoder.size_of.Goals as goal

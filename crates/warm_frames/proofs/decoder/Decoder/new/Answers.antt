@@ -1,6 +1,3 @@
-use Rattle.std.proofs.Common.{List, ℕ, ap, ◌∙◌, refl}
-use Rattle.warm_frames.specs.Reading.{start_at}
-use Rattle.warm_frames.specs.Sizes.{frame_size}
 use Rattle.warm_frames.proofs.SizeLemmas.{nothing_short}
 use Rattle.warm_frames.proofs.decoder.Decoder.new.Goals as goal
 
