@@ -25,11 +25,15 @@ AreSized size devices = (k : ℕ) → k < length devices → AreOfSize size (len
 abbrev pub AreFew : List (List DeviceState) → Type 0
 AreFew devices = (k : ℕ) → k < length devices → length (devices_at devices k) ≤ MAX_DEVICES
 
+-- what a world of these sizes is made over: devices for each replica, all with pages of its size
+abbrev pub AreFitting : Sizes → List (List DeviceState) → Type 0
+AreFitting s devices = (length devices ≡ s.replicas) × AreSized s.page_size devices
+
 -- why no world is made: memory comes last
 abbrev pub NewRefused : Sizes → List (List DeviceState) → BadWorld → Type 0
 NewRefused s devices DevicesDiffer = length devices ≢ s.replicas
 NewRefused s devices SizeDiffers = (length devices ≡ s.replicas) × (AreSized s.page_size devices → ⊥)
-NewRefused s devices Memory = (length devices ≡ s.replicas) × AreSized s.page_size devices
+NewRefused s devices Memory = AreFitting s devices
 
 -- the replica, with this pool
 abbrev pub fails : ReplicaSeen → PoolView → ReplicaSeen

@@ -5,7 +5,7 @@ ghost use Rattle.warm_stamps.specs.declared.TheConstants.{MAX_REPLICAS};
 ghost use Rattle.warm_gossip.specs.Clauses.{node_state};
 ghost use Rattle.warm_world.specs.Lists.{IsNumber, Pairwise, place};
 ghost use Rattle.warm_world.specs.States.{opened_over, opening};
-ghost use Rattle.warm_world.specs.Opening.{AreFew, AreSized, FinishFails, NewRefused};
+ghost use Rattle.warm_world.specs.Opening.{AreFew, AreFitting, AreSized, FinishFails, NewRefused};
 ghost use Rattle.warm_world.specs.Next.{IsNamed, IsMissing};
 ghost use Rattle.warm_world.specs.Seen.{AreNodes, IsWorld, listed, seen, seen_replica};
 ghost use Rattle.warm_world.specs.Seen.{IsAtRest, IsSettledBefore};
@@ -98,6 +98,7 @@ impl World {
         ensures fit { IfOk result (λ world. IsWorld state world) }
         ensures stands { IfOk result (λ world. StandsFor (seen state world)
             (opening setup (listed state devices.items))) }
+        ensures fitting { OnOk result (AreFitting setup (listed state devices.items)) }
         ensures refused { IfErr result (λ why. NewRefused setup (listed state devices.items) why) }
     {
         if devices.len() != setup.replicas() as usize {
