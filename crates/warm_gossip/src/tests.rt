@@ -3,11 +3,13 @@
 ghost use Rattle.std.specs.Prelude.{IfOk};
 ghost use Rattle.warm_gossip.specs.Clauses.{IsFit};
 
+mod growths;
+
 use crate::answers::wanted_frames;
 use crate::call::{Call, Reply};
 use crate::fault::NodeFault;
 use crate::node::Node;
-use std::alloc::Global;
+use std::alloc::{AllocError, Global};
 use std::process::Abort;
 use std::test::Fail;
 use warm_devices::{Flaky, MemDevice, PageDevice};
@@ -58,17 +60,12 @@ fn flaky(alloc: Global) -> Result<Node, Fail>
     over(alloc, 1, 1, device)
 }
 
-// Tells the node of references to pages of device 0 at its own times.
-fn told(
-    rt: &impl Abort,
+// References of a replica to pages of device 0.
+fn batch_of(
     alloc: Global,
-    node: &mut Node,
+    replica: ReplicaId,
     references: &[(u32, u64)],
-) -> Result<(), Fail>
-    requires { IsFit state node.old }
-    ensures { IsFit state node.new }
-{
-    let replica = node.id();
+) -> Result<RefList, AllocError> {
     let mut batch = Vec::new(alloc);
     for (no, time) in references {
         let stamp = Stamp {
@@ -80,7 +77,21 @@ fn told(
             stamp,
         })?;
     }
-    let is_done = match node.call(Call::Absorb(RefList::of(batch))) {
+    Ok(RefList::of(batch))
+}
+
+// Tells the node of references to pages of device 0 at its own times.
+fn told(
+    rt: &impl Abort,
+    alloc: Global,
+    node: &mut Node,
+    references: &[(u32, u64)],
+) -> Result<(), Fail>
+    requires { IsFit state node.old }
+    ensures { IsFit state node.new }
+{
+    let batch = batch_of(alloc, node.id(), references)?;
+    let is_done = match node.call(Call::Absorb(batch)) {
         Reply::Done => true,
         _ => false,
     };
