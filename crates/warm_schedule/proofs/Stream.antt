@@ -1,16 +1,18 @@
 -- A schedule that is read piece by piece.
-use Rattle.std.proofs.Common.{◌≡◌, ◌≢◌, inl, inr, ℕ, ◌+◌, ◌<◌, ◌≤◌, Bool, true, false, List, [], ◌∷◌, ◌++◌, length, get_or, take, Option, Some, None, Result, Ok, Err, refl, sym, ap, subst, ◌∙◌, append_assoc, length-append, arith}
+use Rattle.std.proofs.Common.{◌≡◌, ◌≢◌, inl, inr, ℕ, zero, suc, ◌+◌, ◌-◌, ◌<◌, ◌≤◌, Bool, true, false, List, [], ◌∷◌, ◌++◌, length, get_or, take, Option, Some, None, Result, Ok, Err, refl, sym, ap, subst, ◌∙◌, append_assoc, length-append, arith}
 use Rattle.std.specs.Option.{ok_or, MatchOption}
-use Rattle.std.specs.Prelude.{IfSome, OnOk, is_ok, nat_lt}
+use Rattle.std.specs.Prelude.{min, IfSome, OnOk, is_ok, nat_lt}
 use Rattle.std.specs.Result.{result_ok}
 use Rattle.std.specs.Io.KnownBytes.{Appends, Keeps, Consumes, IsAtEnd}
-use Rattle.std.proofs.lemmas.Bool.{ne_eqb, lt-ltb, ltb-true, ltb-false}
+use Rattle.std.proofs.Math.Nat.{min-eq_left, min_comm}
+use Rattle.std.proofs.Math.Seq.{take-append-add}
+use Rattle.std.proofs.lemmas.Bool.{cases_lt, ne_eqb, lt-ltb, ltb-true, ltb-false}
 use Rattle.std.proofs.lemmas.List.{append-nil, take_all, take-append-le, length-take, length-take-le}
-use Rattle.warm_schedule.specs.Text.{split, lines}
+use Rattle.warm_schedule.specs.Text.{IsLine, split, lines}
 use Rattle.warm_schedule.specs.Grammar.{meaning}
 use Rattle.warm_schedule.specs.Printed.{Answered, PrintedFrom, Played, EndsIn, MayFail}
 use Rattle.warm_schedule.specs.Reading.{Reads, PutsBytes, IsPut}
-use Rattle.warm_schedule.specs.Stream.{SessionSeen, IsLine, HoldsLine, Holds, AddsByte, AnswersLine, Goes, Settles, PrintsLast, Ends}
+use Rattle.warm_schedule.specs.Stream.{SessionSeen, HoldsLine, Holds, AddsBytes, AnswersLine, Goes, Settles, PrintsLast, Ends}
 use Rattle.warm_schedule.specs.declared.parse.TheConstants.{MAX_LINE}
 use Rattle.warm_world.specs.States.{ModelState, nobody, no_pool, pool_of, replica}
 use Rattle.warm_pool.specs.View.{PoolView}
@@ -34,29 +36,64 @@ use Rattle.warm_schedule.specs.declared.parse.LineFault.TheVariants.{Memory, Bad
 
 -- ---- the line that has begun, as it is held
 
--- one more byte of a line that is held whole
-cut_more : (most : ℕ) (held line : List ℕ) (byte : ℕ) → held ≡ take most line → length held < most → held ++ byte ∷ [] ≡ take most (line ++ byte ∷ [])
-cut_more most held line byte is room =
-    let short : length line < most = omega (arith, ap (λ (xs : List ℕ). length xs) is, length-take most line, room) in
-    let whole : held ≡ line = is ∙ take_all most line (omega (arith, short)) in
-    let after : take most (line ++ byte ∷ []) ≡ line ++ byte ∷ [] = take_all most (line ++ byte ∷ []) (omega (arith, length-append line (byte ∷ []), short)) in
-    ap (λ (xs : List ℕ). xs ++ byte ∷ []) whole ∙ sym after
+-- more bytes of a line of which the first `most` are held
+held_more : (most : ℕ) (held line piece : List ℕ) → held ≡ take most line → held ++ take (most - length held) piece ≡ take most (line ++ piece)
+held_more most held line piece is = elim (cases_lt (length held) most) [
+  | inl room ↦
+      let short : length line < most = omega (arith, ap (λ (xs : List ℕ). length xs) is, length-take most line, room) in
+      let whole : held ≡ line = is ∙ take_all most line (omega (arith, short)) in
+      let left : length held + (most - length held) ≡ most = omega (arith, room) in
+      sym (ap (λ (xs : List ℕ). take most (xs ++ piece)) (sym whole) ∙ ap (λ (n : ℕ). take n (held ++ piece)) (sym left) ∙ take-append-add held piece (most - length held))
+  | inr full ↦
+      let long : most ≤ length line = omega (arith, ap (λ (xs : List ℕ). length xs) is, length-take most line, full) in
+      let none : most - length held ≡ 0 = omega (arith, full) in
+      rw none (append-nil held) ∙ is ∙ sym (take-append-le most line piece long)
+]
 
--- one more byte of a line of which enough is held
-cut_full : (most : ℕ) (held line : List ℕ) (byte : ℕ) → held ≡ take most line → most ≤ length held → held ≡ take most (line ++ byte ∷ [])
-cut_full most held line byte is full =
-    let long : most ≤ length line = omega (arith, ap (λ (xs : List ℕ). length xs) is, length-take most line, full) in
-    is ∙ sym (take-append-le most line (byte ∷ []) long)
+is_line_more : (line piece : List ℕ) → IsLine line → IsLine piece → IsLine (line ++ piece)
+is_line_more [] piece h more = more
+is_line_more (c ∷ cs) piece h more = (h.0, is_line_more cs piece h.1 more)
 
-is_line_more : (line : List ℕ) (byte : ℕ) → byte ≢ 10 → IsLine line → IsLine (line ++ byte ∷ [])
-is_line_more [] byte other h = (other, tt)
-is_line_more (c ∷ cs) byte other h = (h.0, is_line_more cs byte other h.1)
+pub holds_more : (held line piece : List ℕ) → IsLine piece → HoldsLine held line → HoldsLine (held ++ take (MAX_LINE + 1 - length held) piece) (line ++ piece)
+holds_more held line piece more h = record { held_is = held_more (MAX_LINE + 1) held line piece h.held_is; is_line = is_line_more line piece h.is_line more }
 
-pub holds_more : (held line : List ℕ) (byte : ℕ) → byte ≢ 10 → length held ≤ MAX_LINE → HoldsLine held line → HoldsLine (held ++ byte ∷ []) (line ++ byte ∷ [])
-holds_more held line byte other room h = record { held_is = cut_more (MAX_LINE + 1) held line byte h.held_is (omega (arith, room)); is_line = is_line_more line byte other h.is_line }
+take_least : (room : ℕ) (piece : List ℕ) → take (min (length piece) room) piece ≡ take room piece
+take_least room piece = elim (cases_lt room (length piece)) [
+  | inl lt ↦
+      let le : room ≤ length piece = omega (arith, lt) in
+      let least : min (length piece) room ≡ room = min_comm (length piece) room ∙ min-eq_left le in
+      ap (λ (n : ℕ). take n piece) least
+  | inr ge ↦
+      let least : min (length piece) room ≡ length piece = min-eq_left ge in
+      ap (λ (n : ℕ). take n piece) least ∙ (take_all (length piece) piece (omega arith) ∙ sym (take_all room piece ge))
+]
 
-pub holds_full : (held line : List ℕ) (byte : ℕ) → byte ≢ 10 → MAX_LINE < length held → HoldsLine held line → HoldsLine held (line ++ byte ∷ [])
-holds_full held line byte other full h = record { held_is = cut_full (MAX_LINE + 1) held line byte h.held_is (omega (arith, full)); is_line = is_line_more line byte other h.is_line }
+-- bytes are held as they come, as far as there is room
+pub adds_held : (a b : SessionSeen) (piece : List ℕ) (room kept : ℕ) → IsLine piece → b.world ≡ a.world → b.number ≡ a.number → room ≡ MAX_LINE + 1 - length a.held → kept ≡ min (length piece) room
+    → b.held ≡ a.held ++ take kept piece → AddsBytes a piece b
+adds_held a b piece room kept more world number left least held =
+    let taken : take kept piece ≡ take (MAX_LINE + 1 - length a.held) piece = ap (λ (n : ℕ). take n piece) least ∙ take_least room piece ∙ ap (λ (n : ℕ). take n piece) left in
+    let is : b.held ≡ a.held ++ take (MAX_LINE + 1 - length a.held) piece = held ∙ ap (λ (xs : List ℕ). a.held ++ xs) taken in record {
+      begun = λ line h. rw is (holds_more a.held line piece more h);
+      world = world;
+      number = number;
+    }
+
+pub nothing : (xs : List ℕ) → length xs ≡ 0 → xs ≡ []
+nothing [] none = refl
+nothing (c ∷ cs) none = absurd (omega (arith, none))
+
+-- nothing is held of a line of which nothing has come
+none_taken : (most : ℕ) (line : List ℕ) → 0 < most → length (take most line) ≡ 0 → line ≡ []
+none_taken most [] some e = refl
+none_taken zero (c ∷ cs) some e = absurd (omega (arith, some))
+none_taken (suc most) (c ∷ cs) some e = absurd (omega (arith, e))
+
+room_for_one : 0 < MAX_LINE + 1
+room_for_one = omega arith
+
+none_begun : (held line : List ℕ) → length held ≡ 0 → HoldsLine held line → line ≡ []
+none_begun held line none h = none_taken (MAX_LINE + 1) line room_for_one (sym (ap (λ (xs : List ℕ). length xs) h.held_is) ∙ none)
 
 meaning_long : (line : List ℕ) → MAX_LINE < length line → meaning line ≡ None
 unfolding meaning
@@ -142,81 +179,102 @@ Goes-then a b c x y o q ab bc = λ state begun h.
 stands_too : (a b : WorldSeen) (state : ModelState) → b ≡ a → StandsFor a state → StandsFor b state
 stands_too a b state same stands = subst (λ (w : WorldSeen). StandsFor w state) (sym same) stands
 
--- a byte that belongs to the line
-pub Goes-add : (a b : SessionSeen) (byte : ℕ) → AddsByte a byte b → Goes a (byte ∷ []) [] b
+-- bytes that belong to the line
+pub Goes-add : (a b : SessionSeen) (bytes : List ℕ) → AddsBytes a bytes b → Goes a bytes [] b
 unfolding Goes
-Goes-add a b byte adds = λ state begun h. (
+Goes-add a b bytes adds = λ state begun h. (
   state,
-  begun ++ byte ∷ [],
+  begun ++ bytes,
   record { stands = stands_too a.world b.world state adds.world h.stands; begun = adds.begun begun h.begun },
   λ tail rest last printed.
-      subst (λ (text : List ℕ). PrintedFrom state a.number (lines text) rest last) (append_assoc begun (byte ∷ []) tail)
-      (subst (λ (n : ℕ). PrintedFrom state n (lines ((begun ++ byte ∷ []) ++ tail)) rest last) adds.number printed),
+      subst (λ (text : List ℕ). PrintedFrom state a.number (lines text) rest last) (append_assoc begun bytes tail)
+      (subst (λ (n : ℕ). PrintedFrom state n (lines ((begun ++ bytes) ++ tail)) rest last) adds.number printed),
 )
 
 -- no byte of a line has come
 pub no_line : (held : List ℕ) → held ≡ [] → HoldsLine held []
 no_line held none = record { held_is = none; is_line = tt }
 
--- the end of a line
-pub Goes-end : (a b : SessionSeen) (out : List ℕ) → AnswersLine a out b.world → b.number ≡ a.number + 1 → b.held ≡ [] → Goes a (10 ∷ []) out b
-unfolding Goes
-Goes-end a b out answered number none = λ state begun h.
-    let next = answered state begun h in (
-      next.0,
-      [],
-      record { stands = next.1; begun = no_line b.held none },
-      λ tail rest last printed. rw (line_ends begun tail h.begun.is_line) (out, rest, next.0, next.2, rw (← number) printed, refl),
-    )
-
--- ---- the line that has come, answered
-
 -- the same line answers the same
 said_so : (old : ModelState) (number : ℕ) (read said : Option Line) (out : List ℕ) (new : ModelState) → read ≡ said → Answered old number read out new → Answered old number said out new
 said_so old number read said out new e answered = subst (λ (o : Option Line). Answered old number o out new) e answered
 
--- the line that has come has this meaning
-abbrev pub Meant : SessionSeen → Option Line → Type 0
-Meant a said = (state : ModelState) (line : List ℕ) → Holds a state line → said ≡ meaning line
+-- the line that has begun and ends with these bytes was answered by this
+abbrev pub AnswersBegun : SessionSeen → List ℕ → List ℕ → WorldSeen → Type 0
+AnswersBegun old piece out world = (state : ModelState) (begun : List ℕ) → Holds old state begun
+    → (next : ModelState) × StandsFor world next × Answered state old.number (meaning (begun ++ piece)) out next
 
-pub meant : (a : SessionSeen) (said : Option Line) → meaning a.held ≡ said → Meant a said
-meant a said is = λ state line h. sym is ∙ says a.held line h.begun
+-- a line that stands whole in its last bytes
+pub answers_whole : (a : SessionSeen) (piece out : List ℕ) (w : WorldSeen) → length a.held ≡ 0 → AnswersLine a.world a.number piece out w → AnswersBegun a piece out w
+answers_whole a piece out w none answered = λ state begun h.
+    let next = answered state h.stands in
+    (next.0, next.1, rw (none_begun a.held begun none h.begun) next.2)
 
-module _ (a : SessionSeen) (held : List ℕ) (read : Result Line LineFault) (same : held ≡ a.held) (reads : Reads PutsBytes (meaning held) read) where
-  read_as : (made : Result Line LineFault) → read ≡ made → Reads PutsBytes (meaning held) made
-  read_as made is = subst (λ (r : Result Line LineFault). Reads PutsBytes (meaning held) r) is reads
+-- a line that is held when its last bytes have come
+pub answers_held : (a b : SessionSeen) (piece out : List ℕ) (w : WorldSeen) → AddsBytes a piece b → AnswersLine b.world b.number b.held out w → AnswersBegun a piece out w
+answers_held a b piece out w adds answered = λ state begun h.
+    let next = answered state (stands_too a.world b.world state adds.world h.stands) in
+    let means : meaning b.held ≡ meaning (begun ++ piece) = says b.held (begun ++ piece) (adds.begun begun h.begun) in
+    let numbered : Answered state a.number (meaning b.held) out next.0 = subst (λ (n : ℕ). Answered state n (meaning b.held) out next.0) adds.number next.2 in
+    (next.0, next.1, said_so state a.number (meaning b.held) (meaning (begun ++ piece)) out next.0 means numbered)
 
-  pub was_bad : read ≡ Err Bad → Meant a None
-  was_bad is = meant a None (ap meaning (sym same) ∙ read_bad (meaning held) (read_as (Err Bad) is))
+-- the end of a line
+pub Goes-end : (a b : SessionSeen) (piece out : List ℕ) → IsLine piece → AnswersBegun a piece out b.world → b.number ≡ a.number + 1 → b.held ≡ [] → Goes a (piece ++ 10 ∷ []) out b
+unfolding Goes
+Goes-end a b piece out line answered number none = λ state begun h.
+    let next = answered state begun h in
+    let all : IsLine (begun ++ piece) = is_line_more begun piece h.begun.is_line line in (
+      next.0,
+      [],
+      record { stands = next.1; begun = no_line b.held none },
+      λ tail rest last printed.
+          let apart : begun ++ ((piece ++ 10 ∷ []) ++ tail) ≡ (begun ++ piece) ++ (10 ∷ tail) = ap (λ (xs : List ℕ). begun ++ xs) (append_assoc piece (10 ∷ []) tail) ∙ sym (append_assoc begun piece (10 ∷ tail)) in
+          rw (apart, line_ends (begun ++ piece) tail all) (out, rest, next.0, next.2, rw (← number) printed, refl),
+    )
 
-  pub was_line : (l : Line) → read ≡ Ok l → Meant a (Some l)
-  was_line l is = meant a (Some l) (ap meaning (sym same) ∙ read_line (meaning held) l (read_as (Ok l) is))
+-- ---- a line, answered
 
-  pub was_put : read ≡ Err Memory → (event : Event) × Meant a (Some (Act event)) × IsPut event
+-- the same line is answered the same
+pub answers_same : (w v : WorldSeen) (number : ℕ) (line other out : List ℕ) → line ≡ other → AnswersLine w number line out v → AnswersLine w number other out v
+answers_same w v number line other out same answered = subst (λ (xs : List ℕ). AnswersLine w number xs out v) same answered
+
+module _ (line : List ℕ) (read : Result Line LineFault) (reads : Reads PutsBytes (meaning line) read) where
+  read_as : (made : Result Line LineFault) → read ≡ made → Reads PutsBytes (meaning line) made
+  read_as made is = subst (λ (r : Result Line LineFault). Reads PutsBytes (meaning line) r) is reads
+
+  pub was_bad : read ≡ Err Bad → None ≡ meaning line
+  was_bad is = sym (read_bad (meaning line) (read_as (Err Bad) is))
+
+  pub was_line : (l : Line) → read ≡ Ok l → Some l ≡ meaning line
+  was_line l is = sym (read_line (meaning line) l (read_as (Ok l) is))
+
+  pub was_put : read ≡ Err Memory → (event : Event) × (Some (Act event) ≡ meaning line) × IsPut event
   was_put is =
-      let put = read_put (meaning held) (read_as (Err Memory) is) in
-      (put.0, meant a (Some (Act put.0)) (ap meaning (sym same) ∙ put.1), put.2)
+      let put = read_put (meaning line) (read_as (Err Memory) is) in
+      (put.0, sym put.1, put.2)
 
-pub answers_bad : (a : SessionSeen) → Meant a None → AnswersLine a (bad_line a.number) a.world
-answers_bad a means = λ state line h. (state, h.stands, said_so state a.number None _ _ state (means state line h) (refl, refl))
+module _ (world : WorldSeen) (number : ℕ) (line : List ℕ) where
+  pub answers_bad : None ≡ meaning line → AnswersLine world number line (bad_line number) world
+  answers_bad means = λ state stands. (state, stands, said_so state number None _ _ state means (refl, refl))
 
-pub answers_nothing : (a : SessionSeen) → Meant a (Some Nothing) → AnswersLine a [] a.world
-answers_nothing a means = λ state line h. (state, h.stands, said_so state a.number (Some Nothing) _ _ state (means state line h) (refl, refl))
+  pub answers_nothing : Some Nothing ≡ meaning line → AnswersLine world number line [] world
+  answers_nothing means = λ state stands. (state, stands, said_so state number (Some Nothing) _ _ state means (refl, refl))
 
-pub answers_event : (a : SessionSeen) (event : Event) (answer : Answer) (w : WorldSeen) → Meant a (Some (Act event)) → Steps a.world event answer w → AnswersLine a (answer_text answer) w
-answers_event a event answer w means steps = λ state line h.
-    let step = steps state h.stands in
-    (step.new, step.stands, said_so state a.number (Some (Act event)) _ _ step.new (means state line h) (inl (answer, step.next, refl)))
+  pub answers_event : (event : Event) (answer : Answer) (w : WorldSeen) → Some (Act event) ≡ meaning line → Steps world event answer w → AnswersLine world number line (answer_text answer) w
+  answers_event event answer w means steps = λ state stands.
+      let step = steps state stands in
+      (step.new, step.stands, said_so state number (Some (Act event)) _ _ step.new means (inl (answer, step.next, refl)))
 
-pub answers_no_room : (a : SessionSeen) → ((event : Event) × Meant a (Some (Act event)) × IsPut event) → AnswersLine a (refused_text (Node node_fault.Memory)) a.world
-answers_no_room a put = λ state line h. (state, h.stands, said_so state a.number (Some (Act put.0)) _ _ state (put.1 state line h) (inr (put.2, refl, refl)))
+  pub answers_no_room : ((event : Event) × (Some (Act event) ≡ meaning line) × IsPut event) → AnswersLine world number line (refused_text (Node node_fault.Memory)) world
+  answers_no_room put = λ state stands. (state, stands, said_so state number (Some (Act put.0)) _ _ state put.1 (inr (put.2, refl, refl)))
 
 -- the last line is answered, and then it is the end
-pub Ends-answer : (a : SessionSeen) (out more : List ℕ) (w : WorldSeen) → AnswersLine a out w → Settles w more → Ends a (out ++ more)
+pub Ends-answer : (a : SessionSeen) (out more : List ℕ) (w : WorldSeen) → AnswersLine a.world a.number a.held out w → Settles w more → Ends a (out ++ more)
 unfolding Ends
 Ends-answer a out more w answered settles = λ state begun h.
-    let next = answered state begun h in
-    let printed : PrintedFrom state a.number (lines begun) out next.0 = rw (line_last begun h.begun.is_line) (out, [], next.0, next.2, (refl, refl), sym (append-nil out)) in
+    let next = answered state h.stands in
+    let said = said_so state a.number _ _ out next.0 (says a.held begun h.begun) next.2 in
+    let printed : PrintedFrom state a.number (lines begun) out next.0 = rw (line_last begun h.begun.is_line) (out, [], next.0, said, (refl, refl), sym (append-nil out)) in
     (out, next.0, printed, settles next.0 out next.1)
 
 -- the devices took what waited for them

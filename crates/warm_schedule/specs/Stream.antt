@@ -1,13 +1,12 @@
 -- A schedule that is read piece by piece.
-use Rattle.std.specs.Prelude.{◌≡◌, ◌≢◌, ℕ, ◌+◌, List, [], ◌∷◌, ◌++◌, take}
-use Rattle.std.specs.List.{AllByRecursion}
+use Rattle.std.specs.Prelude.{◌≡◌, ℕ, ◌+◌, List, [], ◌∷◌, ◌++◌, take}
 use Rattle.std.specs.declared.alloc.Global.{Global}
 use Rattle.std.specs.declared.dyn_box.DynBox.{DynBox}
 use Rattle.warm_devices.specs.Device.{DeviceState}
 use Rattle.warm_world.specs.States.{ModelState}
 use Rattle.warm_world.specs.Seen.{WorldSeen, seen}
 use Rattle.warm_world.specs.Stands.{StandsFor}
-use Rattle.warm_schedule.specs.Text.{lines}
+use Rattle.warm_schedule.specs.Text.{IsLine, lines}
 use Rattle.warm_schedule.specs.Grammar.{meaning}
 use Rattle.warm_schedule.specs.Printed.{Answered, PrintedFrom, EndsIn}
 use Rattle.warm_schedule.specs.declared.parse.TheConstants.{MAX_LINE}
@@ -22,10 +21,6 @@ pub record SessionSeen : Type 0 where
 -- how it is read off a session; `state`, the ghost member of `PageDevice` that a clause has at hand, comes first
 abbrev pub session : {X : Type 0} {P : X → Type 0} → (DynBox X Global P → DeviceState) → Session X P → SessionSeen
 session state s = record { world = seen state s.world; number = s.number; held = s.line.items }
-
--- bytes of one line
-abbrev pub IsLine : List ℕ → Type 0
-IsLine line = AllByRecursion (λ c. c ≢ 10) line
 
 -- the line that has begun, of which no more is held than makes it too long
 pub record HoldsLine (held line : List ℕ) : Type 0 where
@@ -42,16 +37,16 @@ pub record IsFresh (s : SessionSeen) (state : ModelState) : Type 0 where
   pub holds : Holds s state []
   pub first : s.number ≡ 1
 
--- the line that has begun goes on with this byte
-pub record AddsByte (old : SessionSeen) (byte : ℕ) (new : SessionSeen) : Type 0 where
-  pub begun : (line : List ℕ) → HoldsLine old.held line → HoldsLine new.held (line ++ byte ∷ [])
+-- the line that has begun goes on with these bytes
+pub record AddsBytes (old : SessionSeen) (bytes : List ℕ) (new : SessionSeen) : Type 0 where
+  pub begun : (line : List ℕ) → HoldsLine old.held line → HoldsLine new.held (line ++ bytes)
   pub world : new.world ≡ old.world
   pub number : new.number ≡ old.number
 
--- the line that has come was answered by this, and the world stands for the state that follows
-abbrev pub AnswersLine : SessionSeen → List ℕ → WorldSeen → Type 0
-AnswersLine old out world = (state : ModelState) (line : List ℕ) → Holds old state line
-    → (next : ModelState) × StandsFor world next × Answered state old.number (meaning line) out next
+-- the line of this number was answered by this, and the world stands for the state that follows
+abbrev pub AnswersLine : WorldSeen → ℕ → List ℕ → List ℕ → WorldSeen → Type 0
+AnswersLine old number line out new = (state : ModelState) → StandsFor old state
+    → (next : ModelState) × StandsFor new next × Answered state number (meaning line) out next
 
 -- The session took these bytes and printed this: whatever may be printed for the rest completes what may be printed for
 -- all.

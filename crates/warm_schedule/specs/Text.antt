@@ -1,5 +1,6 @@
 -- Bytes parted by a separator: the lines of a schedule, and the words of a line.
-use Rattle.std.specs.Prelude.{ℕ, List, [], ◌∷◌, ◌==◌, if◌then◌else◌, Bool, true, false, filter}
+use Rattle.std.specs.Prelude.{◌≢◌, ℕ, List, [], ◌∷◌, ◌==◌, if◌then◌else◌, Bool, true, false, filter}
+use Rattle.std.specs.List.{AllByRecursion}
 
 -- a byte put before the first piece
 abbrev pub onto_first : ℕ → List (List ℕ) → List (List ℕ)
@@ -10,6 +11,10 @@ onto_first c (piece ∷ pieces) = (c ∷ piece) ∷ pieces
 abbrev pub split : ℕ → List ℕ → List (List ℕ)
 split separator [] = [] ∷ []
 split separator (c ∷ cs) = if c == separator then [] ∷ split separator cs else onto_first c (split separator cs)
+
+-- bytes of one line
+abbrev pub IsLine : List ℕ → Type 0
+IsLine line = AllByRecursion (λ c. c ≢ 10) line
 
 -- a line ends with byte 0A or with the text
 abbrev pub lines : List ℕ → List (List ℕ)

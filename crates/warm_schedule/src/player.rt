@@ -1,18 +1,22 @@
 //! A schedule that comes in pieces, answered line by line.
-ghost use Rattle.std.specs.Prelude.{◌≡◌, ◌≢◌, ◌≤◌, ◌<◌, ◌+◌, ◌^◌, ◌∷◌, [], false, List, ℕ, length, OnOk, IfOk, IfSome};
+ghost use Rattle.std.specs.Prelude.{◌≡◌, ◌≤◌, ◌<◌, ◌+◌, ◌^◌, ◌∷◌, ◌++◌, [], false, List, ℕ, length, OnOk, IfOk, IfErr, IfSome, Err, ◌⊎◌};
 ghost use Rattle.std.specs.Io.KnownBytes.{Appends, Keeps, Consumes, IsAtEnd};
 ghost use Rattle.warm_world.specs.States.{ModelState, opening};
-ghost use Rattle.warm_world.specs.Opening.{AreFew};
-ghost use Rattle.warm_world.specs.Seen.{IsWorld, listed, seen};
+ghost use Rattle.warm_play_fault.specs.declared.PlayFault.TheVariants.{BadDevices};
+ghost use Rattle.warm_world.specs.Opening.{AreFew, AreFitting};
+ghost use Rattle.warm_world.specs.Seen.{IsAtRest, IsWorld, listed, seen};
 ghost use Rattle.warm_world.specs.Stands.{StandsFor};
+ghost use Rattle.warm_schedule.specs.Text.{IsLine};
 ghost use Rattle.warm_schedule.specs.Printed.{Played};
-ghost use Rattle.warm_schedule.specs.Stream.{session, IsFresh, AddsByte, AnswersLine, Settles, Goes, Ends};
+ghost use Rattle.warm_schedule.specs.Stream.{session, IsFresh, AddsBytes, AnswersLine, Settles, Goes, Ends};
 
 use crate::parse::{Line, LineFault, MAX_LINE, parse_line};
 use crate::printer::{print_answer, print_bad_line, print_end_refused, print_refusal};
-use std::alloc::{AllocError, Global};
+use crate::text::first_line;
+use std::alloc::Global;
 use std::io::{ErrorKind, Read, Write};
 use std::marker::PhantomData;
+use std::mem;
 use warm_devices::PageDevice;
 use warm_gossip::NodeFault;
 use warm_play_fault::PlayFault;
@@ -40,6 +44,9 @@ impl Session {
         ensures fit { IfOk result (λ s. IsWorld state s.world) }
         ensures fresh { IfOk result (λ s. IsFresh (session state s)
             (opening setup (listed state devices.items))) }
+        ensures fitting { OnOk result (AreFitting setup (listed state devices.items)) }
+        ensures refused { IfErr result (λ why.
+            (why ≡ BadDevices) ⊎ AreFitting setup (listed state devices.items)) }
     {
         let world = match World::new(alloc, setup, devices) {
             Ok(world) => world,
@@ -55,29 +62,34 @@ impl Session {
         })
     }
 
-    // A byte of the line that has begun.
-    fn add(&mut self, byte: u8) -> Result<(), AllocError>
-        requires { byte ≢ 10 }
-        ensures adds { OnOk result (AddsByte (session state self.old) byte (session state self.new)) }
+    // Goes on with the line that has begun, of which no more is held than makes it too long.
+    fn add(&mut self, piece: &[u8]) -> Result<(), PlayFault>
+        requires { IsLine piece.now }
+        ensures adds { OnOk result
+            (AddsBytes (session state self.old) piece.now (session state self.new)) }
         ensures same { OnOk result (self.new.world ≡ self.old.world) }
+        ensures number { OnOk result (self.new.number ≡ self.old.number) }
     {
-        if self.line.len() > MAX_LINE {
-            return Ok(());
-        }
-        self.line.push(byte)?;
+        let room = (MAX_LINE + 1).saturating_sub(self.line.len());
+        let kept = piece.len().min(room);
+        let Ok(()) = self.line.extend_from_slice(&piece[..kept]) else {
+            return Err(PlayFault::Memory);
+        };
         Ok(())
     }
 
-    // Answers the line that has come.
-    fn answer<W: Write>(&mut self, writer: &mut W) -> Result<(), PlayFault>
+    // Answers a line.
+    fn answer<W: Write>(&mut self, line: &[u8], writer: &mut W) -> Result<(), PlayFault>
         requires fit { IsWorld state self.old.world }
         ensures fit { IsWorld state self.new.world }
         ensures answered { OnOk result ((out : List ℕ)
             × Appends (W.contents writer.old) (W.contents writer.new) out
-            × AnswersLine (session state self.old) out (seen state self.new.world)) }
+            × AnswersLine (seen state self.old.world) self.old.number line.now out
+            (seen state self.new.world)) }
         ensures number { self.new.number ≡ self.old.number }
+        ensures held { self.new.line ≡ self.old.line }
     {
-        match parse_line(self.alloc, self.line.as_slice()) {
+        match parse_line(self.alloc, line) {
             Err(LineFault::Bad) => {
                 print_bad_line(writer, self.number).map_err(|_| PlayFault::WriteFault)?;
                 Ok(())
@@ -96,37 +108,44 @@ impl Session {
         }
     }
 
-    fn end_line<W: Write>(&mut self, writer: &mut W) -> Result<(), PlayFault>
-        requires room { self.old.number + 1 < 2 ^ 64 }
+    // Answers the line that is held. It is held no longer, and its room is kept.
+    fn answer_held<W: Write>(&mut self, writer: &mut W) -> Result<(), PlayFault>
         requires fit { IsWorld state self.old.world }
         ensures fit { OnOk result (IsWorld state self.new.world) }
-        ensures goes { OnOk result ((out : List ℕ)
+        ensures answered { OnOk result ((out : List ℕ)
             × Appends (W.contents writer.old) (W.contents writer.new) out
-            × Goes (session state self.old) (10 ∷ []) out (session state self.new)) }
-        ensures number { OnOk result (self.new.number ≡ self.old.number + 1) }
+            × AnswersLine (seen state self.old.world) self.old.number self.old.line.items out
+            (seen state self.new.world)) }
+        ensures number { self.new.number ≡ self.old.number }
+        ensures none { OnOk result (self.new.line.items ≡ []) }
     {
-        self.answer(writer)?;
-        self.line.clear();
-        self.number += 1;
+        let mut line = mem::replace(&mut self.line, Vec::new(self.alloc));
+        self.answer(line.as_slice(), writer)?;
+        line.clear();
+        self.line = line;
         Ok(())
     }
 
-    fn take<W: Write>(&mut self, byte: u8, writer: &mut W) -> Result<(), PlayFault>
+    // Answers the line whose last bytes these are. One that stands whole in them is read where it stands.
+    fn end_line<W: Write>(&mut self, piece: &[u8], writer: &mut W) -> Result<(), PlayFault>
         requires room { self.old.number + 1 < 2 ^ 64 }
+        requires line { IsLine piece.now }
         requires fit { IsWorld state self.old.world }
         ensures fit { OnOk result (IsWorld state self.new.world) }
         ensures goes { OnOk result ((out : List ℕ)
             × Appends (W.contents writer.old) (W.contents writer.new) out
-            × Goes (session state self.old) (byte ∷ []) out (session state self.new)) }
-        ensures number { OnOk result (self.new.number ≤ self.old.number + 1) }
+            × Goes (session state self.old) (piece.now ++ 10 ∷ []) out (session state self.new)) }
+        ensures number { OnOk result (self.new.number ≡ self.old.number + 1) }
     {
-        if byte == b'\n' {
-            return self.end_line(writer);
+        if self.line.is_empty() {
+            self.answer(piece, writer)?;
+            self.number += 1;
+            return Ok(());
         }
-        match self.add(byte) {
-            Ok(()) => Ok(()),
-            Err(_) => Err(PlayFault::Memory),
-        }
+        self.add(piece)?;
+        self.answer_held(writer)?;
+        self.number += 1;
+        Ok(())
     }
 
     // Takes the next bytes of the schedule, and answers each line that ends in them.
@@ -139,9 +158,12 @@ impl Session {
             × Goes (session state self.old) bytes.now out (session state self.new)) }
         ensures number { OnOk result (self.new.number ≤ self.old.number + length bytes.now) }
     {
-        for byte in bytes {
-            self.take(*byte, writer)?;
+        let mut rest = bytes;
+        while let Some((piece, after)) = first_line(rest) {
+            self.end_line(piece, writer)?;
+            rest = after;
         }
+        self.add(rest)?;
         Ok(())
     }
 
@@ -150,7 +172,8 @@ impl Session {
         requires fit { IsWorld state self.old.world }
         ensures { OnOk result ((out : List ℕ)
             × Appends (W.contents writer.old) (W.contents writer.new) out
-            × Settles (seen state self.old.world) out) }
+            × Settles (seen state self.old.world) out
+            × (out ≡ [] → IsAtRest state self.new.world)) }
     {
         match self.world.finish() {
             Ok(()) => Ok(()),
@@ -168,7 +191,7 @@ impl Session {
             × Appends (W.contents writer.old) (W.contents writer.new) out
             × Ends (session state self.old) out) }
     {
-        self.answer(writer)?;
+        self.answer_held(writer)?;
         self.settle(writer)?;
         hand_on(writer)?;
         Ok(())
@@ -238,6 +261,8 @@ const BUFFER: usize = 65536;
 /// - Where it answers `Ok`, the reader was read to its end, and what was written is one of the outputs that the schedule
 ///   may print from the opening state, and nothing else: over devices that never fail, the answers of its lines alone.
 /// - Bad lines and refused events are printed, and are no fault.
+/// - Where the devices are not one list for each replica, with pages of the setup's size, it answers
+///   [`PlayFault::BadDevices`], and nothing was read or written.
 /// - [`PlayFault`] says when each fault comes.
 pub fn play<R: Read, W: Write>(
     alloc: Global,
@@ -248,6 +273,8 @@ pub fn play<R: Read, W: Write>(
 ) -> Result<(), PlayFault>
     requires few { AreFew (listed state devices.items) }
     ensures end { OnOk result (IsAtEnd (R.remaining reader.new)) }
+    ensures misfit { (AreFitting setup (listed state devices.items) → ⊥)
+        → (result ≡ Err BadDevices) × (reader.new ≡ reader.old) × (writer.new ≡ writer.old) }
     ensures printed { OnOk result (IfSome (R.remaining reader.old) (λ text. (out : List ℕ)
         × Appends (W.contents writer.old) (W.contents writer.new) out
         × Played (opening setup (listed state devices.items)) text out)) }
@@ -264,6 +291,3 @@ pub fn play<R: Read, W: Write>(
     }
     Err(PlayFault::ReadFault)
 }
-
-#[cfg(test)]
-pub(crate) mod tests;

@@ -29,6 +29,3 @@ pub fn random_schedule<W: Write>(
     writer.flush().map_err(|_| PlayFault::WriteFault)?;
     Ok(())
 }
-
-#[cfg(test)]
-mod tests;

@@ -1,6 +1,17 @@
 //! Bytes parted by a separator.
-ghost use Rattle.std.specs.Prelude.{◌≡◌, ◌<◌, [], ◌∷◌, length, MatchOption, IfSome};
-ghost use Rattle.warm_schedule.specs.Text.{split, words};
+ghost use Rattle.std.specs.Prelude.{◌≡◌, ◌<◌, [], ◌∷◌, ◌++◌, length, MatchOption, IfSome};
+ghost use Rattle.warm_schedule.specs.Text.{IsLine, split, words};
+
+use memchr::memchr;
+
+// The line that ends first, and what follows its end. `None` where no line ends.
+pub(crate) fn first_line(text: &[u8]) -> Option<(&[u8], &[u8])>
+    ensures line { MatchOption result (IsLine text.now) (λ x. IsLine x.0.now) }
+    ensures parts { IfSome result (λ x. text.now ≡ x.0.now ++ 10 ∷ x.1.now) }
+{
+    let end = memchr(b'\n', text)?;
+    Some((&text[..end], &text[end + 1..]))
+}
 
 // The piece before the first separator, and what follows it. `None` where there is no separator.
 pub(crate) fn cut(text: &[u8], separator: u8) -> Option<(&[u8], &[u8])>

@@ -272,6 +272,3 @@ pub fn command_of<S: AsStr>(alloc: Global, words: &[S]) -> Result<Cmd, CmdFault>
         Err(_) => Err(CmdFault::Memory),
     }
 }
-
-#[cfg(test)]
-mod tests;

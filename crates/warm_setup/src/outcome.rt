@@ -142,6 +142,3 @@ pub fn outcome_of<'a>(ended: &'a Result<(), RunFault>) -> Outcome<'a>
         },
     }
 }
-
-#[cfg(test)]
-mod tests;

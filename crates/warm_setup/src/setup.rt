@@ -371,6 +371,3 @@ pub fn read_setup_file(alloc: Global, bytes: &[u8]) -> Result<(Setup, Vec<Device
         Err(_) => Err(SetupFault::NotToml),
     }
 }
-
-#[cfg(test)]
-mod tests;

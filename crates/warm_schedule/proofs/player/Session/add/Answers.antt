@@ -1,23 +1,10 @@
-use Rattle.std.proofs.Common.{refl, arith}
-use Rattle.warm_schedule.proofs.Stream.{holds_full, holds_more}
+use Rattle.std.proofs.Common.{◌≡◌, ◌+◌, ◌-◌, length, refl, arith}
+use Rattle.warm_schedule.specs.declared.parse.TheConstants.{MAX_LINE}
+use Rattle.warm_schedule.proofs.Stream.{adds_held}
 use Rattle.warm_schedule.proofs.player.Session.add.Goals as goal
 
-pub returns-then-len-gt-MAX_LINE : goal.returns-then-len-gt-MAX_LINE
-returns-then-len-gt-MAX_LINE g c = record {
-  adds = record {
-    begun = λ line h. holds_full c.args.self.now.line.items line c.args.byte c.requires (omega (arith, c.if-len-gt-MAX_LINE.true, c.len.ensures)) h;
-    world = refl;
-    number = refl;
-  };
-  same = refl;
-}
-
-pub returns : goal.returns
-returns g c = record {
-  adds = record {
-    begun = λ line h. rw c.in_ok-push.ensures.items (holds_more c.args.self.now.line.items line c.args.byte c.requires (omega (arith, c.if-len-gt-MAX_LINE.false, c.len.ensures)) h);
-    world = refl;
-    number = refl;
-  };
-  same = refl;
-}
+pub returns-clause-adds : goal.returns-clause-adds
+returns-clause-adds g c =
+    let line = c.args.self.now.line in
+    let room : c.saturating_sub-room.result ≡ MAX_LINE + 1 - length line.items = omega (arith, line.ok.0, c.len.ensures, c.saturating_sub-room.ensures) in
+    adds_held _ _ c.args.piece.now c.saturating_sub-room.result c.min-kept.result c.requires refl refl room c.min-kept.ensures c.in-Ok.ensures.items

@@ -13,28 +13,28 @@ pub returns-in_ok-map_err-in-Err-Bad-clause-answered : goal.returns-in_ok-map_er
 returns-in_ok-map_err-in-Err-Bad-clause-answered g c = (
   bad_line c.args.self.now.number,
   done c.print_bad_line.result c.in_ok-map_err-in-Err-Bad.ensures.variant c.print_bad_line.ensures,
-  answers_bad _ (was_bad _ c.as_slice.result.now c.parse_line.result c.as_slice.ensures.value c.parse_line.ensures (c.in-Err-Bad.is ∙ ap (λ (fault : LineFault). Err fault) c.in-Err-Bad.field-0-is)),
+  answers_bad _ _ c.args.line.now (was_bad c.args.line.now c.parse_line.result c.parse_line.ensures (c.in-Err-Bad.is ∙ ap (λ (fault : LineFault). Err fault) c.in-Err-Bad.field-0-is)),
 )
 
 pub returns-in_ok-map_err-in-Err-Memory-clause-answered : goal.returns-in_ok-map_err-in-Err-Memory-clause-answered
 returns-in_ok-map_err-in-Err-Memory-clause-answered g c = (
   refused_text (Node Memory),
   done c.print_refusal.result c.in_ok-map_err-in-Err-Memory.ensures.variant c.print_refusal.ensures,
-  answers_no_room _ (was_put _ c.as_slice.result.now c.parse_line.result c.as_slice.ensures.value c.parse_line.ensures (c.in-Err-Memory.is ∙ ap (λ (fault : LineFault). Err fault) c.in-Err-Memory.field-0-is)),
+  answers_no_room _ _ c.args.line.now (was_put c.args.line.now c.parse_line.result c.parse_line.ensures (c.in-Err-Memory.is ∙ ap (λ (fault : LineFault). Err fault) c.in-Err-Memory.field-0-is)),
 )
 
 pub returns-in-Ok-Nothing-clause-answered : goal.returns-in-Ok-Nothing-clause-answered
 returns-in-Ok-Nothing-clause-answered g c = (
   [],
   Appends-none _,
-  answers_nothing _ (was_line _ c.as_slice.result.now c.parse_line.result c.as_slice.ensures.value c.parse_line.ensures Nothing (c.in-Ok-Nothing.is ∙ ap (λ (l : Line). Ok l) c.in-Ok-Nothing.field-0-is)),
+  answers_nothing _ _ c.args.line.now (was_line c.args.line.now c.parse_line.result c.parse_line.ensures Nothing (c.in-Ok-Nothing.is ∙ ap (λ (l : Line). Ok l) c.in-Ok-Nothing.field-0-is)),
 )
 
 pub returns-in_ok-map_err-in-Ok-Act-clause-answered : goal.returns-in_ok-map_err-in-Ok-Act-clause-answered
 returns-in_ok-map_err-in-Ok-Act-clause-answered g c = (
   answer_text c.step-answer.result,
   done c.print_answer.result c.in_ok-map_err-in-Ok-Act.ensures.variant c.print_answer.ensures,
-  answers_event _ c.in-Ok-Act.event c.step-answer.result _
-      (was_line _ c.as_slice.result.now c.parse_line.result c.as_slice.ensures.value c.parse_line.ensures (Act c.in-Ok-Act.event) (c.in-Ok-Act.is ∙ ap (λ (l : Line). Ok l) c.in-Ok-Act.field-0-is))
+  answers_event _ _ c.args.line.now c.in-Ok-Act.event c.step-answer.result _
+      (was_line c.args.line.now c.parse_line.result c.parse_line.ensures (Act c.in-Ok-Act.event) (c.in-Ok-Act.is ∙ ap (λ (l : Line). Ok l) c.in-Ok-Act.field-0-is))
       c.step-answer.ensures.step,
 )

@@ -1,38 +1,42 @@
-use Rattle.std.proofs.Common.{List, ℕ, [], ◌∷◌, ◌++◌, take, get_or, subst, sym, arith}
-use Rattle.std.proofs.lemmas.List.{take_more, take_all}
-use Rattle.warm_schedule.specs.Stream.{Goes}
+use Rattle.std.proofs.Common.{List, ℕ, [], ◌∷◌, ◌++◌, refl, sym, ◌∙◌, ap, append_assoc, length, length-append, arith}
 use Rattle.warm_random.proofs.Written.{Appends-none, Appends-then}
-use Rattle.warm_schedule.proofs.Stream.{Goes-none, Goes-then, Goes-bytes}
+use Rattle.warm_schedule.proofs.Stream.{Goes-none, Goes-then, Goes-bytes, Goes-add}
 use Rattle.warm_schedule.proofs.player.Session.feed.Goals as goal
 
-pub loop-byte-init : goal.loop-byte-init
-loop-byte-init g c = record {
-  goes = ([], Appends-none _, Goes-none _);
+pub loop-piece-init : goal.loop-piece-init
+loop-piece-init g c = record {
+  goes = ([], [], refl, Appends-none _, Goes-none _);
   fit = c.requires.fit;
   number = omega arith;
 }
 
-pub loop-byte-preserved : goal.loop-byte-preserved
-loop-byte-preserved g c =
-    let so_far = c.loop-byte.invariant.goes in
-    let next = c.in_ok-take.ensures.goes in
-    let i = c.loop-byte.byte-index in
+pub loop-piece-preserved : goal.loop-piece-preserved
+loop-piece-preserved g c =
+    let so_far = c.loop-piece.invariant.goes in
+    let next = c.in_ok-end_line.ensures.goes in
+    let piece = c.in-Some.piece.now in
+    let after = c.in-Some.after.now in
     record {
       goes = (
-        so_far.0 ++ next.0,
-        Appends-then _ _ _ so_far.0 next.0 so_far.1 next.1,
-        Goes-bytes _ _ _ _ (so_far.0 ++ next.0) (sym (take_more c.args.bytes.now i 0 c.loop-byte-test.true))
-            (Goes-then _ _ _ (take i c.args.bytes.now) (get_or c.args.bytes.now i 0 ∷ []) so_far.0 next.0 so_far.2 next.2),
+        so_far.0 ++ (piece ++ 10 ∷ []),
+        so_far.1 ++ next.0,
+        so_far.2 ∙ ap (λ (xs : List ℕ). so_far.0 ++ xs) (c.in-Some.ensures.parts ∙ sym (append_assoc piece (10 ∷ []) after)) ∙ sym (append_assoc so_far.0 (piece ++ 10 ∷ []) after),
+        Appends-then _ _ _ so_far.1 next.0 so_far.3 next.1,
+        Goes-then _ _ _ so_far.0 (piece ++ 10 ∷ []) so_far.1 next.0 so_far.4 next.2,
       );
-      fit = c.in_ok-take.ensures.fit;
-      number = omega (arith, c.in_ok-take.ensures.number);
+      fit = c.in_ok-end_line.ensures.fit;
+      number = omega (arith, c.in_ok-end_line.ensures.number, c.loop-piece.invariant.number, ap (λ (xs : List ℕ). length xs) c.in-Some.ensures.parts, length-append piece (10 ∷ after));
     }
 
 pub returns : goal.returns
 returns g c =
-    let so_far = c.loop-byte.invariant.goes in
+    let so_far = c.loop-piece.invariant.goes in
     record {
-      fit = c.loop-byte.invariant.fit;
-      goes = (so_far.0, so_far.1, Goes-bytes _ _ _ _ so_far.0 (take_all c.loop-byte.byte-index c.args.bytes.now c.loop-byte-test.false) so_far.2);
-      number = omega (arith, c.loop-byte.invariant.number);
+      fit = rw c.in_ok-add.ensures.same c.loop-piece.invariant.fit;
+      goes = (
+        so_far.1 ++ [],
+        Appends-then _ _ _ so_far.1 [] so_far.3 (Appends-none _),
+        Goes-bytes _ _ _ _ (so_far.1 ++ []) (sym so_far.2) (Goes-then _ _ _ so_far.0 c.loop-piece.rest.now so_far.1 [] so_far.4 (Goes-add _ _ c.loop-piece.rest.now c.in_ok-add.ensures.adds)),
+      );
+      number = omega (arith, c.loop-piece.invariant.number, c.in_ok-add.ensures.number);
     }

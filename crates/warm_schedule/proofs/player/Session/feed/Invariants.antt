@@ -1,15 +1,18 @@
-use Rattle.std.proofs.Common.{ℕ, List, ◌+◌, ◌≤◌, take}
+use Rattle.std.proofs.Common.{◌≡◌, ℕ, List, ◌+◌, ◌≤◌, ◌++◌, length}
 use Rattle.std.specs.Io.KnownBytes.{Appends}
 use Rattle.warm_world.specs.Seen.{IsWorld}
 use Rattle.warm_schedule.specs.Stream.{session, Goes}
 use Rattle.warm_schedule.proofs.player.Session.feed.Given as goal
 
-abbrev pub invariant-loop-byte : goal.invariant-loop-byte
-invariant-loop-byte g l =
+abbrev pub invariant-loop-piece : goal.invariant-loop-piece
+invariant-loop-piece g l =
     let contents = g.W.Write.contents in
     record {
-      goes : (out : List ℕ) × Appends (contents l.fn.writer) (contents l.writer) out
-          × Goes (session (λ b. (goal.PageDevice-dyn g (b.vtable, b.value)).state b.value) l.fn.self) (take l.byte-index l.bytes) out (session (λ b. (goal.PageDevice-dyn g (b.vtable, b.value)).state b.value) l.self);
+      goes : (taken out : List ℕ) × (l.bytes ≡ taken ++ l.rest) × Appends (contents l.fn.writer) (contents l.writer) out
+          × Goes (session (λ b. (goal.PageDevice-dyn g (b.vtable, b.value)).state b.value) l.fn.self) taken out (session (λ b. (goal.PageDevice-dyn g (b.vtable, b.value)).state b.value) l.self);
       fit : IsWorld (λ b. (goal.PageDevice-dyn g (b.vtable, b.value)).state b.value) l.self.world;
-      number : l.self.number ≤ l.fn.self.number + l.byte-index;
+      number : l.self.number + length l.rest ≤ l.fn.self.number + length l.bytes;
     }
+
+abbrev pub decreases-loop-piece : goal.decreases-loop-piece
+decreases-loop-piece g l = length l.rest

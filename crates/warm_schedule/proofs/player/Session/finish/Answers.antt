@@ -5,7 +5,7 @@ use Rattle.warm_schedule.proofs.player.Session.finish.Goals as goal
 
 pub returns : goal.returns
 returns g c =
-    let answered = c.in_ok-answer.ensures.answered in
+    let answered = c.in_ok-answer_held.ensures.answered in
     let settled = c.in_ok-settle.ensures in (
       answered.0 ++ settled.0,
       Appends-kept _ _ _ (answered.0 ++ settled.0) (Appends-then _ _ _ answered.0 settled.0 answered.1 settled.1) c.in_ok-hand_on.ensures,

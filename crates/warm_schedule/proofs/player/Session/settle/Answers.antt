@@ -7,4 +7,5 @@ returns-in_ok-map_err-in-Err g c = (
   end_refused,
   done c.print_end_refused.result c.in_ok-map_err-in-Err.ensures.variant c.print_end_refused.ensures,
   settles_ill _ _ _ c.in-Err.ensures.refused,
+  λ none. absurd (cc),
 )

@@ -1,4 +1,5 @@
-use super::*;
+use warm_setup::{DeviceSpec, PathText, SetupFault, read_setup, read_setup_file};
+use warm_world::Setup;
 
 const SEVENTEEN: &str =
     "device = [{pages = 1}, {pages = 2}, {pages = 3}, {pages = 4}, {pages = 5}, {pages = 6}, {pages = 7}, {pages = 8}, {pages = 9}, {pages = 10}, {pages = 11}, {pages = 12}, {pages = 13}, {pages = 14}, {pages = 15}, {pages = 16}, {pages = 17}]";

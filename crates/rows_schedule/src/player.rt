@@ -4,10 +4,13 @@ ghost use Rattle.std.specs.Prelude.{IfOk};
 ghost use Rattle.warm_world.specs.Opening.{AreFew};
 ghost use Rattle.warm_world.specs.Seen.{listed};
 
-use super::*;
+use std::alloc::{AllocError, Global};
+use std::io::{ErrorKind, Read, Write};
 use std::test::Fail;
 use std::{io, str};
-use warm_devices::{Flaky, MemDevice};
+use warm_devices::{Flaky, MemDevice, PageDevice};
+use warm_schedule::{Line, LineFault, PlayFault, parse_line, play};
+use warm_world::Setup;
 
 fn default_setup() -> Setup {
     Setup::new(3, 2, 64, 4, 16).unwrap()

@@ -1,8 +1,9 @@
 //! Schedules drawn at random, played.
-use super::*;
-use crate::player::tests::ended;
+use crate::player::ended;
 use std::str;
 use std::test::Fail;
+use warm_schedule::random_schedule;
+use warm_world::Setup;
 
 fn schedule_of(rt: &HostRuntime, seed: u64, events: u32, setup: Setup) -> Result<Vec<u8>, Fail> {
     let mut text = Vec::new(rt.alloc());

@@ -1,4 +1,5 @@
-use super::*;
+use clap::error::ErrorKind;
+use warm_setup::{Cmd, CmdFault, PathText, command_of, not_text};
 
 // The texts of a command, or `None` where the words gave none.
 fn play_texts(read: &Result<Cmd, CmdFault>) -> Option<(Option<&str>, Option<&str>)> {

@@ -1,5 +1,5 @@
-use super::*;
-use crate::command::{command_of, not_text};
+use warm_play_fault::PlayFault;
+use warm_setup::{CmdFault, PathText, RunFault, SetupFault, command_of, not_text, outcome_of};
 
 // The status and the line, or `None` where there was no room.
 fn told(rt: &HostRuntime, ended: &Result<(), RunFault>) -> Option<(u8, String)> {
