@@ -1,15 +1,16 @@
 #!/usr/bin/env python3
-"""Measures warmplay beside a plain Rust program of the same job, and prints the table of docs/PERFORMANCE.md.
+"""Measures warmplay beside a plain Rust program of the same job, and prints the tables of docs/PERFORMANCE.md.
 
-usage: measure.py [CASE..]      the cases are: refs orders longline merge warm (all of them, where none is named)
+usage: measure.py [CASE..]      the cases are: refs zipf orders longline gossip warm memory growth (all of them, where none is named)
 
 It wants the proved program (`rt run` in crates/warmplay leaves it as crates/warmplay/out/warmplay) and `rustc`.
-Every case runs both programs, in turn, on one machine, and takes the fastest of five runs; their answers must be equal.
+Every case runs all programs in turn, on one machine, and takes the least user time of five runs; their answers must be equal.
 A case with a set-up is measured by difference: the whole schedule against the schedule of the set-up alone.
 """
 
 import array
 import fcntl
+import os
 import random
 import re
 import shutil
@@ -19,24 +20,30 @@ import tempfile
 import termios
 import time
 from pathlib import Path
-from typing import Callable, Iterator
+from typing import Callable, Iterable
 
 HERE = Path(__file__).resolve().parent
 ROOT = HERE.parent
 WARMPLAY = ROOT / "crates/warmplay/out/warmplay"
 ORDERS = ROOT / "examples/sqlite-orders"
 RUNS = 5
+REPLICAS = 64
+SIZES = [1_000, 10_000, 100_000, 1_000_000]
+OURS, PLAIN, UNDO = "warmplay", "plain", "plain with undo"
 
 
-def run(program: list[str], schedule: Path, answer: Path) -> float:
-    """Seconds from the start of the program to its end."""
+def user_seconds(program: list[str], schedule: Path, answer: Path) -> float:
+    """The processor time that the program itself took, without the system's for it."""
     with open(schedule, "rb") as text, open(answer, "wb") as out:
-        start = time.perf_counter()
-        subprocess.run(program, stdin=text, stdout=out, check=True)
-        return time.perf_counter() - start
+        process = subprocess.Popen(program, stdin=text, stdout=out)
+        _, status, used = os.wait4(process.pid, 0)
+        process.returncode = os.waitstatus_to_exitcode(status)
+    if process.returncode != 0:
+        sys.exit(f"{program} ended with status {process.returncode}")
+    return used.ru_utime
 
 
-def peak_mb(program: list[str], schedule: Path) -> float:
+def peak_kb(program: list[str], schedule: Path) -> int:
     """The most memory that the program held, read when it has taken its whole input and still waits for more."""
     process = subprocess.Popen(program, stdin=subprocess.PIPE, stdout=subprocess.DEVNULL)
     with open(schedule, "rb") as text:
@@ -49,59 +56,88 @@ def peak_mb(program: list[str], schedule: Path) -> float:
     status = Path(f"/proc/{process.pid}/status").read_text()
     process.stdin.close()
     process.wait()
-    return int(re.search(r"VmHWM:\s+(\d+) kB", status)[1]) / 1024
+    return int(re.search(r"VmHWM:\s+(\d+) kB", status)[1])
 
 
 class Bench:
     def __init__(self, folder: Path) -> None:
         self.folder = folder
-        plain = folder / "plain"
+        plain = str(folder / "plain")
         subprocess.run(["rustc", "-O", "--edition", "2024", "-o", plain, HERE / "plain.rs"], check=True)
-        self.programs = {"warmplay": [str(WARMPLAY), "play"], "plain": [str(plain)]}
+        setup = folder / "setup.toml"
+        setup.write_text(f"replicas = {REPLICAS}\n", encoding="ascii")
+        self.programs = {
+            OURS: [str(WARMPLAY), "play", "--setup", str(setup)],
+            PLAIN: [plain, str(REPLICAS)],
+            UNDO: [plain, str(REPLICAS), "undo"],
+        }
 
-    def write(self, name: str, lines: Iterator[str]) -> Path:
+    def write(self, name: str, lines: Iterable[str]) -> Path:
         path = self.folder / name
         with open(path, "w", encoding="ascii") as out:
             out.writelines(f"{line}\n" for line in lines)
         return path
 
     def best(self, schedule: Path) -> dict[str, float]:
-        """The fastest run of each program, which take turns; their answers must be equal."""
+        """The least user time of each program, which take turns; their answers must be equal."""
         best: dict[str, float] = {}
         for _ in range(RUNS):
             for name, program in self.programs.items():
-                seconds = run(program, schedule, self.folder / f"{name}.answer")
+                seconds = user_seconds(program, schedule, self.folder / f"{name}.answer")
                 best[name] = min(best.get(name, seconds), seconds)
-        subprocess.run(["cmp", self.folder / "warmplay.answer", self.folder / "plain.answer"], check=True)
+        for name in (PLAIN, UNDO):
+            subprocess.run(["cmp", self.folder / f"{OURS}.answer", self.folder / f"{name}.answer"], check=True)
         return best
 
-    def row(self, what: str, ours: float, plain: float, note: str) -> None:
-        print(f"| {what} | {ours:.3f} s | {plain:.3f} s | {plain / ours:.2f} | {note} |", flush=True)
-
-    def whole(self, what: str, schedule: Path) -> None:
-        seconds = self.best(schedule)
-        peak = {name: peak_mb(program, schedule) for name, program in self.programs.items()}
-        speed = schedule.stat().st_size / 1e6 / seconds["warmplay"]
-        note = f"{speed:.0f} MB/s, peak {peak['warmplay']:.1f} MB (plain {peak['plain']:.1f} MB)"
-        self.row(what, seconds["warmplay"], seconds["plain"], note)
-
-    def added(self, what: str, setup: list[str], events: list[str]) -> None:
-        before = self.best(self.write("setup", iter(setup)))
-        after = self.best(self.write("schedule", iter(setup + events)))
-        ours, plain = (after[name] - before[name] for name in ("warmplay", "plain"))
-        self.row(what, ours, plain, f"{ours / len(events) * 1e3:.3f} ms an event, {len(events)} events")
+    def added(self, setup: list[str], events: list[str]) -> dict[str, float]:
+        """What the events cost after the set-up."""
+        before = self.best(self.write("setup", setup))
+        after = self.best(self.write("schedule", setup + events))
+        return {name: max(after[name] - before[name], 1e-9) for name in self.programs}
 
 
-def reached(replica: int, pages: Iterator[int], start: int) -> list[str]:
+def row(what: str, seconds: dict[str, float], note: str) -> None:
+    ours, plain, undo = (seconds[name] for name in (OURS, PLAIN, UNDO))
+    times = f"{ours:.3f} s | {plain:.3f} s | {undo:.3f} s | {plain / ours:.2f} | {undo / ours:.2f}"
+    print(f"| {what} | {times} | {note} |", flush=True)
+
+
+def whole(bench: Bench, what: str, schedule: Path) -> None:
+    seconds = bench.best(schedule)
+    row(what, seconds, f"{schedule.stat().st_size / 1e6 / seconds[OURS]:.0f} MB/s")
+
+
+def each(bench: Bench, what: str, setup: list[str], events: list[str]) -> None:
+    seconds = bench.added(setup, events)
+    row(what, seconds, f"{seconds[OURS] / len(events) * 1e3:.3f} ms an event, {len(events)} events")
+
+
+def reached(replica: int, pages: Iterable[int], start: int) -> list[str]:
     """References to these pages, in this order, and the flush that brings them all to the replica."""
     lines = [f"ref {replica} 1 0:{page} {start + at}" for at, page in enumerate(pages)]
     return [*lines, f"flush {replica} 1"]
 
 
+def scattered(count: int, start: int = 0) -> list[int]:
+    """So many pages, out of their order."""
+    pages = list(range(start, start + count))
+    random.Random(count).shuffle(pages)
+    return pages
+
+
 def refs(bench: Bench) -> None:
     draw = random.Random(1)
     lines = (f"ref 1 {1 + n % 2} 0:{draw.randrange(1000)} {n}" for n in range(2_000_000))
-    bench.whole("2,000,000 `ref` lines over 1,000 pages", bench.write("refs", lines))
+    whole(bench, "2,000,000 `ref` lines over 1,000 pages", bench.write("refs", lines))
+
+
+def zipf(bench: Bench) -> None:
+    draw = random.Random(3)
+    pages = scattered(1_000_000)
+    # 1,000,000 to a power drawn evenly from 0 to 1: page r comes in proportion to 1 / r
+    ranks = (int(1_000_000 ** draw.random()) - 1 for _ in range(2_000_000))
+    lines = (f"ref 1 {1 + n % 2} 0:{pages[rank]} {n}" for n, rank in enumerate(ranks))
+    whole(bench, "2,000,000 `ref` lines, Zipf over 1,000,000 pages", bench.write("zipf", lines))
 
 
 def orders(bench: Bench) -> None:
@@ -109,36 +145,78 @@ def orders(bench: Bench) -> None:
     schedule = bench.folder / "orders"
     with open(schedule, "wb") as out:
         subprocess.run(script, stdout=out, check=True)
-    bench.whole("the trace of sqlite-orders", schedule)
+    whole(bench, "the trace of sqlite-orders", schedule)
 
 
 def longline(bench: Bench) -> None:
     schedule = bench.folder / "longline"
     with open(schedule, "wb") as out:
         out.write(b"a" * 100_000_000 + b"\nref 1 1 0:1 10\n")
-    bench.whole("one line of 100 MB", schedule)
+    whole(bench, "one line of 100 MB", schedule)
 
 
-def merge(bench: Bench) -> None:
-    # replica 1 knows the pages 0 to 199,999, replica 2 the 100,000 pages from 200,000 on: a frame of 1000 entries is new to it once
-    setup = reached(1, iter(range(200_000)), 1) + reached(2, iter(range(200_000, 300_000)), 1)
-    buckets = range(64)
-    sends = [f"send 1 {bucket}" for bucket in buckets]
-    delivers = [f"deliver 2 {bucket + 1}" for bucket in buckets]
-    bench.added("a send of 1000 entries, of 200,000 pages", setup, sends * 10)
-    bench.added("its delivery where all are new, to 100,000 pages and more", setup + sends, delivers)
-    bench.added("its delivery where all are known, to 164,000 pages", setup + sends + delivers, delivers * 5)
+def gossip(bench: Bench) -> None:
+    setup: list[str] = []
+    for replica in range(1, REPLICAS + 1):
+        setup += reached(replica, scattered(20_000, 20_000 * (replica - 1)), 1)
+    sends = [f"send {1 + n % REPLICAS} {n % 64}" for n in range(200 * REPLICAS)]
+    # a frame of replica i comes to replica i + 1, where its pages are new, and then once more, where they are known
+    delivers = [f"deliver {1 + (n + 1) % REPLICAS} {n + 1}" for n in range(200 * REPLICAS)]
+    each(bench, "64 replicas of 20,000 pages, 200 sends each", setup, sends)
+    each(bench, "their deliveries", setup + sends, delivers)
+    each(bench, "the same once more, all known", setup + sends + delivers, delivers)
 
 
 def warm(bench: Bench) -> None:
     draw = random.Random(2)
     pages = list(range(500_000))
     twice = sorted(draw.sample(pages, 250_000))
-    setup = reached(1, iter(pages), 1) + reached(1, iter(twice), 1_000_000)
-    bench.added("`warm 1 65536` over 500,000 pages", setup, ["warm 1 65536"] * 5)
+    setup = reached(1, pages, 1) + reached(1, twice, 1_000_000)
+    each(bench, "`warm 1 65536` over 500,000 pages", setup, ["warm 1 65536"] * 5)
 
 
-CASES: dict[str, Callable[[Bench], None]] = {"refs": refs, "orders": orders, "longline": longline, "merge": merge, "warm": warm}
+def memory(bench: Bench) -> None:
+    nothing = bench.write("nothing", [])
+    schedule = bench.write("pages", reached(1, scattered(1_000_000), 1))
+    held = {name: (peak_kb(program, schedule) - peak_kb(program, nothing)) * 1024 / 1e6 for name, program in bench.programs.items()}
+    shares = " | ".join(f"{held[name]:.1f} bytes" for name in bench.programs)
+    print(f"| memory a page, of 1,000,000 | {shares} | {held[PLAIN] / held[OURS]:.2f} | {held[UNDO] / held[OURS]:.2f} | |", flush=True)
+
+
+def growth(bench: Bench) -> None:
+    """Nanoseconds a page, in as many replicas as hold a million pages, or all."""
+    print("\n| a page of, in ns | " + " | ".join(f"{size:,}" for size in SIZES) + " |\n|---|" + "---|" * len(SIZES))
+    loads: dict[str, list[str]] = {}
+    for size in SIZES:
+        replicas = range(1, min(REPLICAS, 1_000_000 // size) + 1)
+        rounds = max(1, 1_000_000 // (size * len(replicas)))
+        new = [line for i in replicas for line in reached(i, scattered(size), 1)]
+        known = [line for n in range(rounds) for i in replicas for line in reached(i, scattered(size), 2 + n)]
+        listed = [f"warm {i} {size // 8}" for _ in range(rounds) for i in replicas]
+        pages = size * len(replicas)
+        for what, setup, events, count in (
+            ("a `ref` line of a new page", [], new, pages),
+            ("a `ref` line of a known page", new, known, pages * rounds),
+            ("`warm` of an eighth", new, listed, pages * rounds),
+            ("`show`", new, [f"show {i}" for _ in range(rounds) for i in replicas], pages * rounds),
+        ):
+            seconds = bench.added(setup, events)
+            for name in (OURS, PLAIN):
+                loads.setdefault(f"{what}, {name}", []).append(f"{seconds[name] / count * 1e9:.0f}")
+    for what, cells in loads.items():
+        print(f"| {what} | " + " | ".join(cells) + " |", flush=True)
+
+
+CASES: dict[str, Callable[[Bench], None]] = {
+    "refs": refs,
+    "zipf": zipf,
+    "orders": orders,
+    "longline": longline,
+    "gossip": gossip,
+    "warm": warm,
+    "memory": memory,
+    "growth": growth,
+}
 
 
 def main() -> None:
@@ -147,7 +225,7 @@ def main() -> None:
     names = sys.argv[1:] or list(CASES)
     with tempfile.TemporaryDirectory() as folder:
         bench = Bench(Path(folder))
-        print("| what | warmplay | plain Rust | plain time by ours | |\n|---|---|---|---|---|")
+        print("| what | warmplay | plain Rust | plain with undo | plain time by ours | with undo | |\n|---|---|---|---|---|---|---|")
         for name in names:
             CASES[name](bench)
 

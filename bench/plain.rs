@@ -1,22 +1,39 @@
 //! The same job as `warmplay play`, in plain Rust: the measure for docs/PERFORMANCE.md, and no part of the product.
 //!
-//! It reads a schedule from standard input and answers each line. Histories are sorted vectors, as the product's are.
-//! Built by `bench/measure.py` with `rustc -O`.
+//! It reads a schedule from standard input and answers each line. A history is one BTreeMap by page and a frame is the bytes that go
+//! over the wire, as the product's are. It has no pool, and knows the lines of the measured schedules alone.
+//!
+//!     plain REPLICAS [undo]
+//!
+//! With `undo` it notes what was known of each page before it changes, as all or nothing wants it: the notes of a flush or of a
+//! delivery are kept until all is taken in. Built by `bench/measure.py` with `rustc -O`.
 
-use std::cmp::Ordering;
+use std::collections::BTreeMap;
+use std::collections::btree_map::Entry as Place;
+use std::env;
+use std::hint::black_box;
 use std::io::{self, BufRead, BufWriter, Write};
+use std::ops::Bound;
 
-type Stamp = (u64, u16);
-type Page = (u16, u32);
+#[derive(Clone, Copy, PartialEq, Eq, PartialOrd, Ord)]
+struct Stamp {
+    time: u64,
+    replica: u16,
+}
+
+#[derive(Clone, Copy, PartialEq, Eq, PartialOrd, Ord)]
+struct Page {
+    dev: u16,
+    no: u32,
+}
 
 #[derive(Clone, Copy)]
-struct Entry {
-    page: Page,
+struct Hist {
     last: Stamp,
     prev: Option<Stamp>,
 }
 
-impl Entry {
+impl Hist {
     fn take(&mut self, stamp: Stamp) {
         if stamp > self.last {
             self.prev = Some(self.last);
@@ -26,7 +43,7 @@ impl Entry {
         }
     }
 
-    fn join(&mut self, other: &Entry) {
+    fn join(&mut self, other: Hist) {
         self.take(other.last);
         if let Some(prev) = other.prev {
             self.take(prev);
@@ -34,64 +51,166 @@ impl Entry {
     }
 
     // The page of the lesser rank leaves the pool first.
-    fn rank(&self) -> (u8, Stamp, Stamp, Page) {
+    fn rank(&self, page: Page) -> (u8, Stamp, Stamp, Page) {
         match self.prev {
-            None => (0, self.last, self.last, self.page),
-            Some(prev) => (1, prev, self.last, self.page),
+            None => (0, self.last, self.last, page),
+            Some(prev) => (1, prev, self.last, page),
         }
     }
 }
 
-#[derive(Default)]
+// What was known of pages before they changed. Nothing fails here, so nothing is put back.
+struct Notes<const UNDO: bool>(Vec<(Page, Option<Hist>)>);
+
+impl<const UNDO: bool> Notes<UNDO> {
+    fn with_room(count: usize) -> Self {
+        Notes(Vec::with_capacity(if UNDO { count } else { 0 }))
+    }
+
+    fn note(&mut self, page: Page, known: Option<Hist>) {
+        if UNDO {
+            self.0.push((page, known));
+        }
+    }
+
+    // Keeps the compiler from leaving the notes out.
+    fn are_kept(self) {
+        if UNDO {
+            black_box(&self.0);
+        }
+    }
+}
+
 struct Replica {
-    entries: Vec<Entry>,
+    history: BTreeMap<Page, Hist>,
     buffers: Vec<Vec<(Page, Stamp)>>,
 }
 
 impl Replica {
-    fn flush(&mut self, worker: usize) {
-        for (page, stamp) in self.buffers[worker].drain(..) {
-            match self.entries.binary_search_by_key(&page, |entry| entry.page) {
-                Ok(at) => self.entries[at].take(stamp),
-                Err(at) => self.entries.insert(at, Entry { page, last: stamp, prev: None }),
+    fn take<const UNDO: bool>(&mut self, page: Page, more: Hist, notes: &mut Notes<UNDO>) {
+        match self.history.entry(page) {
+            Place::Vacant(place) => {
+                notes.note(page, None);
+                place.insert(more);
+            }
+            Place::Occupied(mut place) => {
+                notes.note(page, Some(*place.get()));
+                place.get_mut().join(more);
             }
         }
     }
 
-    fn join(&mut self, more: &[Entry]) {
-        let mut joined = Vec::with_capacity(self.entries.len() + more.len());
-        let (mut here, mut there) = (self.entries.iter().peekable(), more.iter().peekable());
-        while let (Some(mine), Some(theirs)) = (here.peek(), there.peek()) {
-            match mine.page.cmp(&theirs.page) {
-                Ordering::Less => joined.extend(here.next()),
-                Ordering::Greater => joined.extend(there.next()),
-                Ordering::Equal => {
-                    let mut both = **mine;
-                    both.join(theirs);
-                    joined.push(both);
-                    here.next();
-                    there.next();
-                }
-            }
+    fn flush<const UNDO: bool>(&mut self, worker: usize) {
+        let mut waiting = std::mem::take(&mut self.buffers[worker]);
+        let mut notes = Notes::<UNDO>::with_room(waiting.len());
+        for (page, stamp) in waiting.drain(..) {
+            self.take(page, Hist { last: stamp, prev: None }, &mut notes);
         }
-        joined.extend(here);
-        joined.extend(there);
-        self.entries = joined;
+        notes.are_kept();
+        self.buffers[worker] = waiting;
     }
 
-    fn carried(&self, bucket: u64, after: Option<Page>) -> Vec<Entry> {
-        let wanted = |entry: &&Entry| {
-            (u64::from(entry.page.0) + u64::from(entry.page.1)) % 64 == bucket && after.is_none_or(|page| entry.page > page)
-        };
-        self.entries.iter().filter(wanted).take(1000).copied().collect()
+    fn join<const UNDO: bool>(&mut self, more: &[(Page, Hist)]) {
+        let mut notes = Notes::<UNDO>::with_room(more.len());
+        for (page, hist) in more {
+            self.take(*page, *hist, &mut notes);
+        }
+        notes.are_kept();
+    }
+
+    fn carried(&self, bucket: u64, after: Option<Page>) -> Vec<(Page, Hist)> {
+        let from = after.map_or(Bound::Unbounded, Bound::Excluded);
+        let later = self.history.range((from, Bound::Unbounded));
+        later
+            .filter(|(page, _)| (u64::from(page.dev) + u64::from(page.no)) % 64 == bucket)
+            .take(1000)
+            .map(|(page, hist)| (*page, *hist))
+            .collect()
     }
 
     fn warm(&self, count: usize) -> Vec<Page> {
-        let mut ranks: Vec<_> = self.entries.iter().map(Entry::rank).collect();
+        let mut ranks: Vec<_> = self.history.iter().map(|(page, hist)| hist.rank(*page)).collect();
+        if count < ranks.len() {
+            ranks.select_nth_unstable_by(count, |a, b| b.cmp(a));
+            ranks.truncate(count);
+        }
         ranks.sort_unstable_by(|a, b| b.cmp(a));
-        ranks.into_iter().take(count).map(|rank| rank.3).collect()
+        ranks.into_iter().map(|rank| rank.3).collect()
     }
 }
+
+// ---- frames of entries, as they go over the wire
+
+const HEADER: [u8; 5] = *b"L2G1\x01";
+
+fn put_stamp(bytes: &mut Vec<u8>, stamp: Stamp) {
+    bytes.extend_from_slice(&stamp.time.to_be_bytes());
+    bytes.extend_from_slice(&stamp.replica.to_be_bytes());
+}
+
+fn encoded(sender: u16, entries: &[(Page, Hist)]) -> Vec<u8> {
+    let size: usize = entries.iter().map(|(_, hist)| if hist.prev.is_some() { 27 } else { 17 }).sum();
+    let mut bytes = Vec::with_capacity(15 + size);
+    bytes.extend_from_slice(&HEADER);
+    bytes.extend_from_slice(&sender.to_be_bytes());
+    bytes.extend_from_slice(&(4 + size as u32).to_be_bytes());
+    bytes.extend_from_slice(&(entries.len() as u32).to_be_bytes());
+    for (page, hist) in entries {
+        bytes.extend_from_slice(&page.dev.to_be_bytes());
+        bytes.extend_from_slice(&page.no.to_be_bytes());
+        bytes.push(if hist.prev.is_some() { 2 } else { 1 });
+        put_stamp(&mut bytes, hist.last);
+        if let Some(prev) = hist.prev {
+            put_stamp(&mut bytes, prev);
+        }
+    }
+    bytes
+}
+
+fn first<const N: usize>(bytes: &mut &[u8]) -> Option<[u8; N]> {
+    let (taken, rest) = bytes.split_first_chunk()?;
+    *bytes = rest;
+    Some(*taken)
+}
+
+fn stamp_of(bytes: &mut &[u8]) -> Option<Stamp> {
+    let stamp = Stamp { time: u64::from_be_bytes(first(bytes)?), replica: u16::from_be_bytes(first(bytes)?) };
+    (1..=64).contains(&stamp.replica).then_some(stamp)
+}
+
+// The entries of a frame: `None` where it spells none.
+fn decoded(mut bytes: &[u8]) -> Option<Vec<(Page, Hist)>> {
+    let sender = (first(&mut bytes)? == HEADER).then(|| first(&mut bytes))??;
+    let length = u32::from_be_bytes(first(&mut bytes)?);
+    if !(1..=64).contains(&u16::from_be_bytes(sender)) || length as usize != bytes.len() {
+        return None;
+    }
+    let count = u32::from_be_bytes(first(&mut bytes)?) as usize;
+    if count > 1000 {
+        return None;
+    }
+    let mut entries: Vec<(Page, Hist)> = Vec::with_capacity(count);
+    for _ in 0..count {
+        let page = Page { dev: u16::from_be_bytes(first(&mut bytes)?), no: u32::from_be_bytes(first(&mut bytes)?) };
+        if entries.last().is_some_and(|(before, _)| *before >= page) {
+            return None;
+        }
+        let [tag] = first(&mut bytes)?;
+        let last = stamp_of(&mut bytes)?;
+        let prev = match tag {
+            1 => None,
+            2 => Some(stamp_of(&mut bytes)?).filter(|prev| *prev < last),
+            _ => return None,
+        };
+        if tag == 2 && prev.is_none() {
+            return None;
+        }
+        entries.push((page, Hist { last, prev }));
+    }
+    bytes.is_empty().then_some(entries)
+}
+
+// ---- lines
 
 fn number(word: &[u8], most: u64) -> Option<u64> {
     if word.is_empty() {
@@ -103,22 +222,23 @@ fn number(word: &[u8], most: u64) -> Option<u64> {
     })
 }
 
-fn page(word: &[u8]) -> Option<Page> {
+fn page_of(word: &[u8]) -> Option<Page> {
     let colon = word.iter().position(|byte| *byte == b':')?;
-    Some((number(&word[..colon], 65535)? as u16, number(&word[colon + 1..], 4294967295)? as u32))
+    Some(Page { dev: number(&word[..colon], 65535)? as u16, no: number(&word[colon + 1..], 4294967295)? as u32 })
 }
 
-struct World {
+struct World<const UNDO: bool> {
     replicas: Vec<Replica>,
-    frames: Vec<Vec<Entry>>,
+    frames: Vec<Vec<u8>>,
 }
 
 const WORKERS: usize = 2;
 const ROOM: usize = 64;
 
-impl World {
-    fn new(replicas: usize) -> World {
-        let replica = || Replica { entries: Vec::new(), buffers: vec![Vec::with_capacity(ROOM); WORKERS] };
+impl<const UNDO: bool> World<UNDO> {
+    fn new(replicas: usize) -> Self {
+        let buffers = || (0..WORKERS).map(|_| Vec::with_capacity(ROOM)).collect();
+        let replica = || Replica { history: BTreeMap::new(), buffers: buffers() };
         World { replicas: (0..replicas).map(|_| replica()).collect(), frames: Vec::new() }
     }
 
@@ -133,15 +253,16 @@ impl World {
         let mut field = |most| number(words.next()?, most);
         let refused = |out: &mut dyn Write, what: &str| Some(writeln!(out, "refused {what}"));
         let there = |i: usize, count: usize| 1 <= i && i <= count;
+        let known = there(i, self.replicas.len());
         match command {
             b"ref" => {
                 let w = field(65535)? as usize;
-                let page = page(words.next()?)?;
+                let page = page_of(words.next()?)?;
                 let time = number(words.next()?, u64::MAX)?;
                 if words.next().is_some() {
                     return None;
                 }
-                if !there(i, self.replicas.len()) {
+                if !known {
                     return refused(out, "14 NoSuchReplica");
                 }
                 let replica = &mut self.replicas[i - 1];
@@ -149,54 +270,71 @@ impl World {
                     return refused(out, "15 NoSuchWorker");
                 }
                 if replica.buffers[w - 1].len() == ROOM {
-                    replica.flush(w - 1);
+                    replica.flush::<UNDO>(w - 1);
                 }
-                replica.buffers[w - 1].push((page, (time, i as u16)));
+                replica.buffers[w - 1].push((page, Stamp { time, replica: i as u16 }));
                 Some(out.write_all(b"ok\n"))
             }
             b"flush" => {
                 let w = field(65535)? as usize;
-                if !there(i, self.replicas.len()) {
+                if words.next().is_some() {
+                    return None;
+                }
+                if !known {
                     return refused(out, "14 NoSuchReplica");
                 }
                 if !there(w, WORKERS) {
                     return refused(out, "15 NoSuchWorker");
                 }
-                self.replicas[i - 1].flush(w - 1);
+                self.replicas[i - 1].flush::<UNDO>(w - 1);
                 Some(out.write_all(b"ok\n"))
             }
             b"send" => {
                 let bucket = field(63)?;
                 let after = match words.next() {
                     None => None,
-                    Some(word) => Some(page(word)?),
+                    Some(word) => Some(page_of(word)?),
                 };
-                if !there(i, self.replicas.len()) {
+                if words.next().is_some() {
+                    return None;
+                }
+                if !known {
                     return refused(out, "14 NoSuchReplica");
                 }
-                self.frames.push(self.replicas[i - 1].carried(bucket, after));
+                let carried = self.replicas[i - 1].carried(bucket, after);
+                self.frames.push(encoded(i as u16, &carried));
                 Some(writeln!(out, "frame {}", self.frames.len()))
             }
             b"deliver" => {
                 let k = field(u64::MAX)? as usize;
-                if !there(i, self.replicas.len()) {
+                if words.next().is_some() {
+                    return None;
+                }
+                if !known {
                     return refused(out, "14 NoSuchReplica");
                 }
                 if !there(k, self.frames.len()) {
                     return refused(out, "16 NoSuchFrame");
                 }
-                self.replicas[i - 1].join(&self.frames[k - 1]);
+                let entries = decoded(&self.frames[k - 1]).expect("a frame of entries");
+                self.replicas[i - 1].join::<UNDO>(&entries);
                 Some(out.write_all(b"took 0\n"))
             }
             b"warm" => {
                 let count = field(4294967295)? as usize;
-                if !there(i, self.replicas.len()) {
+                if words.next().is_some() {
+                    return None;
+                }
+                if !known {
                     return refused(out, "14 NoSuchReplica");
                 }
                 Some(self.print_warm(i, count, out))
             }
             b"show" => {
-                if !there(i, self.replicas.len()) {
+                if words.next().is_some() {
+                    return None;
+                }
+                if !known {
                     return refused(out, "14 NoSuchReplica");
                 }
                 Some(self.show(i, out))
@@ -207,29 +345,29 @@ impl World {
 
     fn print_warm(&self, i: usize, count: usize, out: &mut impl Write) -> io::Result<()> {
         out.write_all(b"pages")?;
-        for (dev, no) in self.replicas[i - 1].warm(count) {
+        for Page { dev, no } in self.replicas[i - 1].warm(count) {
             write!(out, " {dev}:{no}")?;
         }
         writeln!(out)
     }
 
     fn show(&self, i: usize, out: &mut impl Write) -> io::Result<()> {
-        let entries = &self.replicas[i - 1].entries;
-        for Entry { page: (dev, no), last: (time, replica), prev } in entries {
-            write!(out, "{dev}:{no} last {time}@{replica}")?;
-            if let Some((time, replica)) = prev {
-                write!(out, " prev {time}@{replica}")?;
+        let history = &self.replicas[i - 1].history;
+        for (Page { dev, no }, Hist { last, prev }) in history {
+            write!(out, "{dev}:{no} last {}@{}", last.time, last.replica)?;
+            if let Some(prev) = prev {
+                write!(out, " prev {}@{}", prev.time, prev.replica)?;
             }
             writeln!(out)?;
         }
-        writeln!(out, "end {}", entries.len())
+        writeln!(out, "end {}", history.len())
     }
 }
 
-fn main() -> io::Result<()> {
+fn play<const UNDO: bool>(replicas: usize) -> io::Result<()> {
     let mut input = io::stdin().lock();
     let mut out = BufWriter::with_capacity(65536, io::stdout().lock());
-    let mut world = World::new(3);
+    let mut world = World::<UNDO>::new(replicas);
     let mut line = Vec::new();
     let mut at = 0u64;
     loop {
@@ -245,5 +383,14 @@ fn main() -> io::Result<()> {
             Some(written) => written?,
             None => writeln!(out, "bad line {at}")?,
         }
+    }
+}
+
+fn main() -> io::Result<()> {
+    let words: Vec<String> = env::args().skip(1).collect();
+    let replicas = words.first().and_then(|word| word.parse().ok()).expect("plain REPLICAS [undo]");
+    match words.get(1).map(String::as_str) {
+        Some("undo") => play::<true>(replicas),
+        _ => play::<false>(replicas),
     }
 }

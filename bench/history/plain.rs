@@ -3,6 +3,10 @@
 //! Prints what was made and the nanoseconds. Absorbing is done a second time with a list of what was
 //! there before, as all or nothing wants it.
 
+#[path = "../parts/mod.rs"]
+mod parts;
+
+use parts::hist::{Hist, Page, Stamp, join};
 use std::collections::BTreeMap;
 use std::collections::btree_map::Entry as Slot;
 use std::hint::black_box;
@@ -10,24 +14,6 @@ use std::time::{Duration, Instant};
 
 const BATCH: usize = 64;
 const SMALL: u64 = 1_000;
-
-#[derive(Clone, Copy, PartialEq, Eq, PartialOrd, Ord)]
-struct Stamp {
-    time: u64,
-    replica: u16,
-}
-
-#[derive(Clone, Copy, PartialEq, Eq, PartialOrd, Ord)]
-struct Page {
-    dev: u16,
-    no: u32,
-}
-
-#[derive(Clone, Copy)]
-enum Hist {
-    Once(Stamp),
-    Twice { last: Stamp, prev: Stamp },
-}
 
 #[derive(Clone, Copy)]
 struct Reference {
@@ -55,23 +41,6 @@ fn zipf_page(drawn: u64, pages: u64) -> Page {
     };
     let below = 1u64 << ((drawn >> 32) % octaves);
     scattered(below + (drawn >> 40) % below, pages)
-}
-
-fn with(hist: Hist, stamp: Stamp) -> Hist {
-    match hist {
-        Hist::Once(last) if last < stamp => Hist::Twice { last: stamp, prev: last },
-        Hist::Once(last) if stamp < last => Hist::Twice { last, prev: stamp },
-        Hist::Twice { last, .. } if last < stamp => Hist::Twice { last: stamp, prev: last },
-        Hist::Twice { last, prev } if stamp < last && prev < stamp => Hist::Twice { last, prev: stamp },
-        _ => hist,
-    }
-}
-
-fn join(a: Hist, b: Hist) -> Hist {
-    match a {
-        Hist::Once(last) => with(b, last),
-        Hist::Twice { last, prev } => with(with(b, prev), last),
-    }
 }
 
 fn take(history: &mut History, page: Page, more: Hist) {

@@ -1,17 +1,20 @@
-//! The visits of `crates/bench_pool` in plain Rust, over a pool with a `HashMap` for its index.
+//! The visits and misses of `crates/bench_pool` in plain Rust, over a pool with a `HashMap` for its index.
 //!
-//! With no argument 1,000 visits are made; with a number so many, and the nanoseconds are printed too. The map has the
-//! hash that std gives it, or, with a further word `mixed`, one that multiplies, as that of the proved pool's index does.
+//! With no argument 1,000 visits are made; with a number so many, and the nanoseconds are printed too; with `misses` and a
+//! number so many pins of pages that are in no frame. The map has the hash that std gives it, or, with a further word `mixed`,
+//! one that multiplies, as that of the proved pool's index does. The page that leaves is found by a winner tree, as in the
+//! proved pool, or, with a further word `ordered`, by a `BTreeSet` of ranks.
 
-use std::collections::HashMap;
+use std::collections::{BTreeMap, BTreeSet, HashMap};
 use std::hash::{BuildHasher, BuildHasherDefault, Hasher, RandomState};
 use std::hint::black_box;
+use std::mem;
 use std::time::{Duration, Instant};
 
 const FRAMES: u32 = 65_536;
 const PAGE_SIZE: usize = 64;
 
-#[derive(Clone, Copy, PartialEq, Eq, Hash)]
+#[derive(Clone, Copy, PartialEq, Eq, PartialOrd, Ord, Hash)]
 struct Page {
     dev: u16,
     no: u32,
@@ -20,14 +23,114 @@ struct Page {
 /// A time and a replica.
 type Stamp = (u64, u16);
 
-/// What ranks a page: its older and its later stamp, as far as it has them. Those here have none.
+/// What is known of a page: its latest stamp, and the one before it.
 #[derive(Clone, Copy)]
+enum Seen {
+    #[expect(dead_code)]
+    Once(Stamp),
+    Twice(Stamp, Stamp),
+}
+
+type History = BTreeMap<Page, Seen>;
+
+/// What ranks a page: its older and its later stamp, as far as it has them. The least leaves first.
+#[derive(Clone, Copy, PartialEq, Eq, PartialOrd, Ord)]
 enum Rank {
-    Never(#[expect(dead_code)] Page),
-    #[expect(dead_code)]
+    Never(Page),
     Once(Stamp, Page),
-    #[expect(dead_code)]
     Twice(Stamp, Stamp, Page),
+}
+
+fn rank_of(history: &History, page: Page) -> Rank {
+    match history.get(&page) {
+        None => Rank::Never(page),
+        Some(Seen::Once(last)) => Rank::Once(*last, page),
+        Some(Seen::Twice(prev, last)) => Rank::Twice(*prev, *last, page),
+    }
+}
+
+/// Finds the frame of the least rank.
+trait Contest {
+    fn new(frames: usize) -> Self;
+    fn set(&mut self, frame: u32, rank: Option<Rank>);
+    fn least(&self) -> Option<u32>;
+}
+
+/// A winner tree: node 1 is the root, node j stands over nodes 2j and 2j + 1, and the last nodes are the frames in order.
+struct Winners {
+    ranks: Vec<Option<Rank>>,
+    nodes: Vec<u32>,
+}
+
+impl Winners {
+    fn winner(&self, a: u32, b: u32) -> u32 {
+        match (self.ranks[a as usize], self.ranks[b as usize]) {
+            (Some(first), Some(second)) if second < first => b,
+            (None, Some(_)) => b,
+            _ => a,
+        }
+    }
+}
+
+impl Contest for Winners {
+    fn new(frames: usize) -> Winners {
+        let mut nodes = vec![0; 2 * frames];
+        for frame in 0..frames {
+            nodes[frames + frame] = frame as u32;
+        }
+        for node in (1..frames).rev() {
+            nodes[node] = nodes[2 * node];
+        }
+        Winners { ranks: vec![None; frames], nodes }
+    }
+
+    fn set(&mut self, frame: u32, rank: Option<Rank>) {
+        self.ranks[frame as usize] = rank;
+        let mut node = self.ranks.len() + frame as usize;
+        while node > 1 {
+            node /= 2;
+            let before = self.nodes[node];
+            let now = self.winner(self.nodes[2 * node], self.nodes[2 * node + 1]);
+            self.nodes[node] = now;
+            if now == before && now != frame {
+                return;
+            }
+        }
+    }
+
+    fn least(&self) -> Option<u32> {
+        let first = self.nodes[1];
+        self.ranks[first as usize].map(|_| first)
+    }
+}
+
+/// The ranks in order.
+struct Ordered {
+    ranks: Vec<Option<Rank>>,
+    order: BTreeSet<(Rank, u32)>,
+}
+
+impl Contest for Ordered {
+    fn new(frames: usize) -> Ordered {
+        Ordered { ranks: vec![None; frames], order: BTreeSet::new() }
+    }
+
+    fn set(&mut self, frame: u32, rank: Option<Rank>) {
+        let old = mem::replace(&mut self.ranks[frame as usize], rank);
+        if old == rank {
+            return;
+        }
+        if let Some(old) = old {
+            self.order.remove(&(old, frame));
+        }
+        if let Some(rank) = rank {
+            self.order.insert((rank, frame));
+        }
+    }
+
+    fn least(&self) -> Option<u32> {
+        self.order.first().map(|(_, frame)| *frame)
+    }
 }
 
 /// Multiplies what is hashed, and turns it.
@@ -73,14 +176,40 @@ struct Slot {
     generation: u64,
 }
 
-struct Pool<H> {
-    frames: Vec<Frame>,
-    index: HashMap<Page, u32, H>,
-    contest: Vec<Option<Rank>>,
+/// A device of numbered pages in memory.
+struct Device {
+    bytes: Vec<u8>,
 }
 
-impl<H: BuildHasher + Default> Pool<H> {
-    fn opened() -> Pool<H> {
+impl Device {
+    fn at(no: u32) -> std::ops::Range<usize> {
+        let from = no as usize * PAGE_SIZE;
+        from..from + PAGE_SIZE
+    }
+
+    fn read(&self, no: u32, into: &mut [u8]) -> Option<()> {
+        into.copy_from_slice(self.bytes.get(Device::at(no))?);
+        Some(())
+    }
+
+    fn write(&mut self, no: u32, bytes: &[u8]) -> Option<()> {
+        self.bytes.get_mut(Device::at(no))?.copy_from_slice(bytes);
+        Some(())
+    }
+}
+
+struct Pool<H, C> {
+    frames: Vec<Frame>,
+    free: Vec<u32>,
+    index: HashMap<Page, u32, H>,
+    contest: C,
+    spare: Vec<u8>,
+    device: Device,
+}
+
+impl<H: BuildHasher + Default, C: Contest> Pool<H, C> {
+    /// A pool over a device of so many pages, each of which is filled with the lowest byte of its number, or with zeros.
+    fn opened(pages: u32, numbered: bool) -> Pool<H, C> {
         let frame = || Frame {
             page: None,
             rank: None,
@@ -89,32 +218,58 @@ impl<H: BuildHasher + Default> Pool<H> {
             dirty: false,
             bytes: vec![0; PAGE_SIZE],
         };
+        let byte = |no: u32| if numbered { no as u8 } else { 0 };
         Pool {
             frames: (0..FRAMES).map(|_| frame()).collect(),
+            free: (0..FRAMES).rev().collect(),
             index: HashMap::with_capacity_and_hasher(FRAMES as usize, H::default()),
-            contest: vec![None; FRAMES as usize],
+            contest: C::new(FRAMES as usize),
+            spare: vec![0; PAGE_SIZE],
+            device: Device { bytes: (0..pages).flat_map(|no| [byte(no); PAGE_SIZE]).collect() },
         }
     }
 
-    fn load(&mut self, at: u32, page: Page) {
-        let rank = Some(Rank::Never(page));
+    /// A frame for another page: one without a page, or that of the page that leaves, which is written back.
+    fn place(&mut self) -> Option<u32> {
+        if let Some(at) = self.free.pop() {
+            return Some(at);
+        }
+        let at = self.contest.least()?;
         let frame = &mut self.frames[at as usize];
-        frame.page = Some(page);
-        frame.rank = rank;
-        frame.generation += 1;
-        self.contest[at as usize] = rank;
-        self.index.insert(page, at);
+        let page = frame.page?;
+        if frame.dirty {
+            self.device.write(page.no, &frame.bytes)?;
+            frame.dirty = false;
+        }
+        Some(at)
     }
 
-    fn pin(&mut self, page: Page) -> Option<Slot> {
-        let index = *self.index.get(&page)?;
+    /// Brings a page in with so many fixes. Where it cannot be read, the pool is as it was.
+    fn load(&mut self, page: Page, fixes: u32, history: &History) -> Option<Slot> {
+        self.device.read(page.no, &mut self.spare)?;
+        let index = self.place()?;
+        let rank = Some(rank_of(history, page));
+        let frame = &mut self.frames[index as usize];
+        if let Some(old) = frame.page.replace(page) {
+            self.index.remove(&old);
+        }
+        mem::swap(&mut frame.bytes, &mut self.spare);
+        frame.rank = rank;
+        frame.fixes = fixes;
+        frame.generation += 1;
+        self.contest.set(index, if fixes == 0 { rank } else { None });
+        self.index.insert(page, index);
+        Some(Slot { index, generation: self.frames[index as usize].generation })
+    }
+
+    fn pin(&mut self, page: Page, history: &History) -> Option<Slot> {
+        let Some(&index) = self.index.get(&page) else {
+            return self.load(page, 1, history);
+        };
         let frame = &mut self.frames[index as usize];
         frame.fixes = frame.fixes.checked_add(1)?;
-        self.contest[index as usize] = None;
-        Some(Slot {
-            index,
-            generation: frame.generation,
-        })
+        self.contest.set(index, None);
+        Some(Slot { index, generation: frame.generation })
     }
 
     /// What a caller sees to before it reads, writes or unpins. An optimized build doesn't check it, nor does the proved pool.
@@ -144,25 +299,34 @@ impl<H: BuildHasher + Default> Pool<H> {
         let frame = &mut self.frames[slot.index as usize];
         frame.fixes -= 1;
         if frame.fixes == 0 {
-            self.contest[slot.index as usize] = frame.rank;
+            self.contest.set(slot.index, frame.rank);
         }
     }
 
-    fn visit(&mut self, page: Page, byte: u8) -> Option<u8> {
-        let slot = self.pin(page)?;
+    fn visit(&mut self, page: Page, history: &History, byte: u8) -> Option<u8> {
+        let slot = self.pin(page, history)?;
         let mut bytes = [0; 8];
         self.read(slot, 0, &mut bytes)?;
         self.write(slot, 0, &[byte; 8])?;
         self.unpin(slot);
         Some(bytes[0])
     }
+
+    fn look_at(&mut self, page: Page, history: &History) -> Option<u8> {
+        let slot = self.pin(page, history)?;
+        let mut bytes = [0; 8];
+        self.read(slot, 0, &mut bytes)?;
+        self.unpin(slot);
+        Some(bytes[0])
+    }
 }
 
 /// Makes so many visits to a pool with every page in a frame, and gives the sum of what was read, and how long it took.
-fn visit_often<H: BuildHasher + Default>(visits: u64) -> Option<(u64, Duration)> {
-    let mut pool = Pool::<H>::opened();
+fn visit_often<H: BuildHasher + Default, C: Contest>(visits: u32) -> Option<(u64, Duration)> {
+    let mut pool = Pool::<H, C>::opened(FRAMES, false);
+    let history = History::new();
     for no in 0..FRAMES {
-        pool.load(no, Page { dev: 0, no });
+        pool.load(Page { dev: 0, no }, 0, &history)?;
     }
     let pool = black_box(&mut pool);
     let start = Instant::now();
@@ -173,25 +337,57 @@ fn visit_often<H: BuildHasher + Default>(visits: u64) -> Option<(u64, Duration)>
             .wrapping_mul(6_364_136_223_846_793_005)
             .wrapping_add(1_442_695_040_888_963_407);
         let no = (drawn >> 48) as u32;
-        let byte = pool.visit(Page { dev: 0, no }, (drawn >> 40) as u8)?;
+        let byte = pool.visit(Page { dev: 0, no }, &history, (drawn >> 40) as u8)?;
         sum = sum.wrapping_mul(31).wrapping_add(u64::from(byte));
     }
     Some((sum, start.elapsed()))
 }
 
+/// Pins so many pages that are in no frame. Of each page two references are known, so that ranks rise with the pages; those that
+/// follow one another stand far apart in the frames.
+fn miss_often<H: BuildHasher + Default, C: Contest>(misses: u32) -> Option<(u64, Duration)> {
+    let pages = FRAMES + misses;
+    let seen = |no: u32| Seen::Twice((u64::from(no), 1), (u64::from(no) + (1 << 32), 1));
+    let mut history = History::new();
+    for no in 0..pages {
+        history.insert(Page { dev: 0, no }, seen(no));
+    }
+    let mut pool = Pool::<H, C>::opened(pages, true);
+    for frame in 0..FRAMES {
+        let no = frame * 40_503 % FRAMES;
+        pool.load(Page { dev: 0, no }, 0, &history)?;
+    }
+    let pool = black_box(&mut pool);
+    let start = Instant::now();
+    let mut sum = 0u64;
+    for no in FRAMES..pages {
+        let byte = pool.look_at(Page { dev: 0, no }, &history)?;
+        sum = sum.wrapping_mul(31).wrapping_add(u64::from(byte));
+    }
+    Some((sum, start.elapsed()))
+}
+
+fn done<H: BuildHasher + Default, C: Contest>(what: &str, count: u32) -> Option<(u64, Duration)> {
+    match what {
+        "misses" => miss_often::<H, C>(count),
+        _ => visit_often::<H, C>(count),
+    }
+}
+
 fn main() {
-    let mut asked = std::env::args().skip(1);
-    let number = asked.next();
-    let visits = number
-        .as_ref()
-        .map_or(1_000, |word| word.parse().expect("the number of visits"));
-    let done = match asked.next().as_deref() {
-        None => visit_often::<RandomState>(visits),
-        Some("mixed") => visit_often::<BuildHasherDefault<Mixed>>(visits),
-        Some(word) => panic!("there is no hash {word}"),
+    let words: Vec<String> = std::env::args().skip(1).collect();
+    let has = |word: &str| words.iter().any(|other| other == word);
+    let number = words.iter().find_map(|word| word.parse().ok());
+    let count = number.unwrap_or(1_000);
+    let what = if has("misses") { "misses" } else { "visits" };
+    let made = match (has("mixed"), has("ordered")) {
+        (false, false) => done::<RandomState, Winners>(what, count),
+        (false, true) => done::<RandomState, Ordered>(what, count),
+        (true, false) => done::<BuildHasherDefault<Mixed>, Winners>(what, count),
+        (true, true) => done::<BuildHasherDefault<Mixed>, Ordered>(what, count),
     };
-    let (sum, spent) = done.expect("every page is resident");
-    println!("{visits} visits: {sum}");
+    let (sum, spent) = made.expect("every page is known");
+    println!("{count} {what}: {sum}");
     if number.is_some() {
         println!("{} ns", spent.as_nanos());
     }

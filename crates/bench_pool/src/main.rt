@@ -1,9 +1,13 @@
-//! Visits resident pages of a pool of 65,536 frames, drawn evenly: each visit pins a page, reads eight bytes of it, writes
-//! eight, and unpins it. Or takes the pages out of the frames of a pool.
+//! Measures a pool of pages of 64 bytes over devices in memory, for `bench/pool/measure.py`. Each call prints nanoseconds.
 //!
-//! With no argument 1,000 visits are made, what was read is printed, and a pool of 4,096 frames whose upper half holds pages is
-//! emptied. For `bench/pool/measure.py`: with a number so many visits are made, and the nanoseconds are printed too; with `empty`, a
-//! number of frames and a word, that many frames are emptied, and the nanoseconds are printed.
+//! - With a number: so many visits of resident pages, drawn evenly from 65,536 frames. A visit pins a page, reads eight bytes of
+//!   it, writes eight, and unpins it.
+//! - `misses` and a number: so many pins of pages that are in no frame of 65,536, each read and unpinned. Of each page two
+//!   references are known, and the page that leaves stands anywhere among the frames.
+//! - `empty` or `retire`, a number of frames and a word: a pool of that many frames is emptied, or the device of the pages that it
+//!   holds is retired (where all frames hold one, that of the lower half).
+//!
+//! With no argument a little of each is done.
 #![tactic(auto)]
 
 ghost use Rattle.std.specs.Prelude.{IfOk};
@@ -16,7 +20,7 @@ use std::time::{Clock, Duration, Instant};
 use warm_devices::{MemDevice, PageDevice};
 use warm_history::History;
 use warm_pool::{Pool, PoolFault, Pooled};
-use warm_stamps::PageId;
+use warm_stamps::{PageId, Reference, ReplicaId, Stamp};
 
 const FRAMES: u32 = 65_536;
 
@@ -32,6 +36,14 @@ enum Held {
 }
 
 impl Held {
+    // The device that is retired.
+    fn device(self) -> u16 {
+        match self {
+            Held::UpperHalf => 1,
+            Held::None | Held::LowerHalf | Held::All => 0,
+        }
+    }
+
     fn from_word(word: &str) -> Result<Held> {
         match word {
             "none" => Ok(Held::None),
@@ -69,6 +81,50 @@ fn load_pages(pool: &mut Pool, history: &History, dev: u16, pages: u32) -> Resul
         pool.load(PageId { dev, no }, history)?;
     }
     Ok(())
+}
+
+// Pins, reads and unpins a page, and gives the first byte that was read.
+fn look_at(pool: &mut Pool, history: &History, no: u32) -> Result<u8, PoolFault>
+    requires pool { IsPool (⟦<Pool as Pooled>⟧.state pool.old) }
+    requires ranked { RankedBy (⟦<Pool as Pooled>⟧.state pool.old) history.now }
+    ensures pool { IsPool (⟦<Pool as Pooled>⟧.state pool.new) }
+    ensures ranked { RankedBy (⟦<Pool as Pooled>⟧.state pool.new) history.now }
+{
+    let slot = pool.pin(PageId { dev: 0, no }, history)?;
+    let mut bytes = [0u8; 8];
+    pool.read(slot, 0, &mut bytes)?;
+    pool.unpin(slot);
+    Ok(bytes[0])
+}
+
+// Brings the first pages of device 0 into all frames, so that pages that follow one another stand far apart.
+fn load_apart(pool: &mut Pool, history: &History) -> Result<(), PoolFault>
+    requires pool { IsPool (⟦<Pool as Pooled>⟧.state pool.old) }
+    requires ranked { RankedBy (⟦<Pool as Pooled>⟧.state pool.old) history.now }
+    ensures pool { IsPool (⟦<Pool as Pooled>⟧.state pool.new) }
+    ensures ranked { RankedBy (⟦<Pool as Pooled>⟧.state pool.new) history.now }
+{
+    for frame in 0..FRAMES {
+        let no = frame * 40_503 % FRAMES;
+        pool.load(PageId { dev: 0, no }, history)?;
+    }
+    Ok(())
+}
+
+// Looks at the pages from the number of frames up to another, and gives the sum of what was read. Where the first pages are in
+// the frames and ranks rise, none of these is, and the page of the least number leaves.
+fn miss_often(pool: &mut Pool, history: &History, pages: u32) -> Result<u64, PoolFault>
+    requires pool { IsPool (⟦<Pool as Pooled>⟧.state pool.old) }
+    requires ranked { RankedBy (⟦<Pool as Pooled>⟧.state pool.old) history.now }
+    ensures pool { IsPool (⟦<Pool as Pooled>⟧.state pool.new) }
+    ensures ranked { RankedBy (⟦<Pool as Pooled>⟧.state pool.new) history.now }
+{
+    let mut sum = 0u64;
+    for no in FRAMES..pages {
+        let byte = look_at(pool, history, no)?;
+        sum = sum.wrapping_mul(31).wrapping_add(u64::from(byte));
+    }
+    Ok(sum)
 }
 
 // Makes so many visits to pages that a linear congruence draws, and gives the sum of what was read.
@@ -137,13 +193,78 @@ fn visited(clock: &impl Clock, alloc: Global, visits: u64) -> Result<(u64, Durat
     Ok((sum, start.elapsed(clock)?))
 }
 
-// A pool of which these frames hold a page: those of the lower half one of device 0, those of the upper half one of device 1.
+// What is known of so many pages: of each two references, so that ranks rise with the pages.
+fn references(alloc: Global, pages: u32) -> Result<History> {
+    let Ok(replica) = ReplicaId::new(1) else {
+        bail!("1 names a replica")
+    };
+    let mut history = History::new(alloc);
+    for no in 0..pages {
+        let page = PageId { dev: 0, no };
+        let first = u64::from(no);
+        let seen = [first, first + (1 << 32)].map(|time| Reference {
+            page,
+            stamp: Stamp { time, replica },
+        });
+        if history.absorb(&seen).is_err() {
+            bail!("no memory")
+        }
+    }
+    Ok(history)
+}
+
+// Fills a page of a device with the lowest byte of its number, where it has such a page.
+fn fill(device: &mut MemDevice, no: u32) -> Result<()> {
+    if no >= device.pages() || device.page_size() != PAGE_SIZE {
+        bail!("there is no such page")
+    }
+    match device.write(no, &[(no % 256) as u8; PAGE_SIZE]) {
+        Ok(()) => Ok(()),
+        Err(_) => bail!("a page was not written"),
+    }
+}
+
+// A device of so many pages, all of them filled.
+fn numbered(alloc: Global, pages: u32) -> Result<Box<MemDevice>> {
+    let mut device = device(alloc, pages)?;
+    for no in 0..pages {
+        fill(&mut device, no)?;
+    }
+    Ok(device)
+}
+
+// The sum of what so many pins with misses read, and the time that they took.
+fn missed(clock: &impl Clock, alloc: Global, misses: u32) -> Result<(u64, Duration)> {
+    let pages = FRAMES.saturating_add(misses);
+    let (first, second) = (numbered(alloc, pages)?, device(alloc, 1)?);
+    let mut pool = opened(alloc, FRAMES, first, second)?;
+    let history = references(alloc, pages)?;
+    let Ok(()) = load_apart(&mut pool, &history) else {
+        bail!("a page was not loaded")
+    };
+    let start = Instant::now(clock)?;
+    let Ok(sum) = miss_often(&mut pool, &history, pages) else {
+        bail!("a pin was refused")
+    };
+    Ok((sum, start.elapsed(clock)?))
+}
+
+/// What is timed.
+#[derive(Clone, Copy, PartialEq, Eq, Debug)]
+enum Call {
+    Empty,
+    Retire,
+}
+
+// A pool of which these frames hold a page: those of the lower half one of device 0, those of the upper half one of device 1. Where the
+// upper half alone holds pages, those of the lower half left as another device took the place of theirs.
 fn filled(
     alloc: Global,
     frames: u32,
     held: Held,
     first: Box<dyn PageDevice + Send>,
     second: Box<dyn PageDevice + Send>,
+    another: Box<dyn PageDevice + Send>,
 ) -> Result<Pool>
     ensures { IfOk result (λ pool. IsPool (⟦<Pool as Pooled>⟧.state pool)) }
 {
@@ -161,6 +282,10 @@ fn filled(
     if load_pages(&mut pool, &history, 1, upper).is_err() {
         bail!("a page was not loaded")
     }
+    if held != Held::UpperHalf {
+        return Ok(pool);
+    }
+    retire(&mut pool, 0, another)?;
     Ok(pool)
 }
 
@@ -175,54 +300,82 @@ fn empty(pool: &mut Pool) -> Result<()>
     }
 }
 
-// Takes the pages of device 0 out of their frames, as another device takes its place.
-fn retire(pool: &mut Pool, another: Box<dyn PageDevice + Send>) -> Result<()>
+// Takes the pages of a device out of their frames, as another device takes its place.
+fn retire(pool: &mut Pool, dev: u16, another: Box<dyn PageDevice + Send>) -> Result<()>
     requires { IsPool (⟦<Pool as Pooled>⟧.state pool.old) }
     ensures { IsPool (⟦<Pool as Pooled>⟧.state pool.new) }
 {
-    match pool.retire(0, another) {
+    match pool.retire(dev, another) {
         Ok(()) => Ok(()),
         Err(_) => bail!("the device was not retired"),
     }
 }
 
-// The time to empty a pool. Where the upper half alone holds pages, those of the lower half left as their device was retired, which
-// counts too.
-fn emptied(clock: &impl Clock, alloc: Global, frames: u32, held: Held) -> Result<Duration> {
+// The time of a call on a pool of which these frames hold a page.
+fn timed(
+    clock: &impl Clock,
+    alloc: Global,
+    frames: u32,
+    held: Held,
+    call: Call,
+) -> Result<Duration> {
     let half = frames / 2;
     let (first, second) = (device(alloc, half)?, device(alloc, half)?);
-    let another = device(alloc, half)?;
-    let mut pool = filled(alloc, frames, held, first, second)?;
+    let (another, yet_another) = (device(alloc, half)?, device(alloc, half)?);
+    let mut pool = filled(alloc, frames, held, first, second, another)?;
     let start = Instant::now(clock)?;
-    if held == Held::UpperHalf {
-        retire(&mut pool, another)?;
-        empty(&mut pool)?;
-        return Ok(start.elapsed(clock)?);
+    match call {
+        Call::Empty => empty(&mut pool)?,
+        Call::Retire => retire(&mut pool, held.device(), yet_another)?,
     }
-    empty(&mut pool)?;
     Ok(start.elapsed(clock)?)
+}
+
+// Does a little of all that is measured.
+fn try_all(rt: &HostRuntime) -> Result<()> {
+    let (sum, _) = visited(rt, rt.alloc(), 1_000)?;
+    println!(rt; "1000 visits: {}", sum)?;
+    let (sum, _) = missed(rt, rt.alloc(), 1_000)?;
+    println!(rt; "1000 misses: {}", sum)?;
+    timed(rt, rt.alloc(), 4_096, Held::UpperHalf, Call::Empty)?;
+    println!(rt; "4096 frames emptied")?;
+    timed(rt, rt.alloc(), 4_096, Held::UpperHalf, Call::Retire)?;
+    println!(rt; "the device of 2048 frames retired")?;
+    Ok(())
+}
+
+// Says what visits or misses read, and the time that they took.
+fn tell(rt: &HostRuntime, count: u64, what: &str, read: (u64, Duration)) -> Result<()> {
+    println!(rt; "{} {}: {}", count, what, read.0)?;
+    println!(rt; "{} ns", read.1.as_nanos())?;
+    Ok(())
 }
 
 fn main(rt: HostRuntime) -> Result<()> {
     let mut words = env::args(&rt)?.skip(1);
     let Some(word) = words.next() else {
-        let (sum, _) = visited(&rt, rt.alloc(), 1_000)?;
-        println!(rt; "1000 visits: {}", sum)?;
-        emptied(&rt, rt.alloc(), 4_096, Held::UpperHalf)?;
-        println!(rt; "4096 frames emptied")?;
-        return Ok(());
+        return try_all(&rt);
     };
-    if word.as_str() == "empty" {
+    if word.as_str() == "misses" {
+        let misses = words.next().context("the number of misses")?;
+        let misses = misses.parse::<u32>().context("the number of misses")?;
+        let read = missed(&rt, rt.alloc(), misses)?;
+        return tell(&rt, u64::from(misses), "misses", read);
+    }
+    if word.as_str() == "empty" || word.as_str() == "retire" {
+        let call = if word.as_str() == "empty" {
+            Call::Empty
+        } else {
+            Call::Retire
+        };
         let frames = words.next().context("the number of frames")?;
         let frames = frames.parse::<u32>().context("the number of frames")?;
         let held = words.next().context("which frames hold a page")?;
-        let spent = emptied(&rt, rt.alloc(), frames, Held::from_word(&held)?)?;
+        let spent = timed(&rt, rt.alloc(), frames, Held::from_word(&held)?, call)?;
         println!(rt; "{} ns", spent.as_nanos())?;
         return Ok(());
     }
     let visits = word.parse::<u64>().context("the number of visits")?;
-    let (sum, spent) = visited(&rt, rt.alloc(), visits)?;
-    println!(rt; "{} visits: {}", visits, sum)?;
-    println!(rt; "{} ns", spent.as_nanos())?;
-    Ok(())
+    let read = visited(&rt, rt.alloc(), visits)?;
+    tell(&rt, visits, "visits", read)
 }

@@ -1,0 +1,102 @@
+//! Frames of entries as bytes, and the sums of all buckets.
+
+use super::hist::{Entry, Hist, Page, Stamp};
+use super::sha256::Sha256;
+
+fn put_stamp(bytes: &mut Vec<u8>, stamp: Stamp) {
+    bytes.extend_from_slice(&stamp.time.to_be_bytes());
+    bytes.extend_from_slice(&stamp.replica.to_be_bytes());
+}
+
+pub fn put_entry(bytes: &mut Vec<u8>, entry: &Entry) {
+    bytes.extend_from_slice(&entry.page.dev.to_be_bytes());
+    bytes.extend_from_slice(&entry.page.no.to_be_bytes());
+    match entry.hist {
+        Hist::Once(last) => {
+            bytes.push(1);
+            put_stamp(bytes, last);
+        }
+        Hist::Twice { last, prev } => {
+            bytes.push(2);
+            put_stamp(bytes, last);
+            put_stamp(bytes, prev);
+        }
+    }
+}
+
+pub fn encode(sender: u16, entries: &[Entry]) -> Vec<u8> {
+    let len: usize = entries.iter().map(|e| if let Hist::Once(_) = e.hist { 17 } else { 27 }).sum();
+    let mut bytes = Vec::with_capacity(15 + len);
+    bytes.extend_from_slice(b"L2G1\x01");
+    bytes.extend_from_slice(&sender.to_be_bytes());
+    bytes.extend_from_slice(&(4 + len as u32).to_be_bytes());
+    bytes.extend_from_slice(&(entries.len() as u32).to_be_bytes());
+    for entry in entries {
+        put_entry(&mut bytes, entry);
+    }
+    bytes
+}
+
+fn stamp_at(bytes: &[u8]) -> Option<(Stamp, &[u8])> {
+    let (time, rest) = bytes.split_first_chunk::<8>()?;
+    let (replica, rest) = rest.split_first_chunk::<2>()?;
+    let replica = u16::from_be_bytes(*replica);
+    if !(1..=64).contains(&replica) {
+        return None;
+    }
+    Some((Stamp { time: u64::from_be_bytes(*time), replica }, rest))
+}
+
+fn entry_at(bytes: &[u8]) -> Option<(Entry, &[u8])> {
+    let (dev, rest) = bytes.split_first_chunk::<2>()?;
+    let (no, rest) = rest.split_first_chunk::<4>()?;
+    let page = Page { dev: u16::from_be_bytes(*dev), no: u32::from_be_bytes(*no) };
+    let (tag, rest) = rest.split_first()?;
+    let (last, rest) = stamp_at(rest)?;
+    match tag {
+        1 => Some((Entry { page, hist: Hist::Once(last) }, rest)),
+        2 => {
+            let (prev, rest) = stamp_at(rest)?;
+            (prev < last).then_some((Entry { page, hist: Hist::Twice { last, prev } }, rest))
+        }
+        _ => None,
+    }
+}
+
+pub fn decode(bytes: &[u8]) -> Option<Vec<Entry>> {
+    let rest = bytes.strip_prefix(b"L2G1\x01")?;
+    let (sender, rest) = rest.split_first_chunk::<2>()?;
+    if !(1..=64).contains(&u16::from_be_bytes(*sender)) {
+        return None;
+    }
+    let (len, body) = rest.split_first_chunk::<4>()?;
+    if u32::from_be_bytes(*len) as usize != body.len() {
+        return None;
+    }
+    let (count, mut rest) = body.split_first_chunk::<4>()?;
+    let count = u32::from_be_bytes(*count);
+    if count > 1000 {
+        return None;
+    }
+    let mut entries: Vec<Entry> = Vec::with_capacity(count as usize);
+    for _ in 0..count {
+        let (entry, after) = entry_at(rest)?;
+        if entries.last().is_some_and(|before| before.page >= entry.page) {
+            return None;
+        }
+        entries.push(entry);
+        rest = after;
+    }
+    rest.is_empty().then_some(entries)
+}
+
+pub fn sums(history: impl Iterator<Item = Entry>) -> Vec<[u8; 32]> {
+    let mut hashers: Vec<Sha256> = (0..64).map(|_| Sha256::new()).collect();
+    let mut bytes = Vec::with_capacity(27);
+    for entry in history {
+        bytes.clear();
+        put_entry(&mut bytes, &entry);
+        hashers[(entry.page.dev as usize + entry.page.no as usize) % 64].update(&bytes);
+    }
+    hashers.into_iter().map(Sha256::finalize).collect()
+}

@@ -1,0 +1,6 @@
+//! Parts that several of the plain programs share. None uses all of them.
+#![allow(dead_code)]
+
+pub mod frames;
+pub mod hist;
+pub mod sha256;

@@ -1,0 +1,443 @@
+//! Measures a round of gossip between two replicas, a standby's warm-up, and the room that a history takes.
+//!
+//! With no argument each is done once, small, and what came out is printed. For `bench/gossip/measure.py` the
+//! nanoseconds are printed too:
+//! - `round PAGES BUCKETS ROUNDS`: that many rounds between replicas that know the same pages, and differ in so many
+//!   buckets before each round. Frames go as bytes.
+//! - `warm PAGES STEPS`: that many steps of the warm-up of a replica that knows so many pages, into 4,096 frames.
+//! - `history PAGES`: a replica is told of so many pages.
+#![tactic(auto)]
+
+ghost use Rattle.std.specs.Prelude.{IfOk};
+
+use anyhow::{Context, Result, bail};
+use std::alloc::Global;
+use std::env;
+use std::time::{Clock, Instant};
+use warm_devices::{MemDevice, PageDevice};
+use warm_frames::{Frame, decode, encode};
+use warm_gossip::{Node, NodeFault, Shown};
+use warm_history::{History, PageHist};
+use warm_pool::Pool;
+use warm_stamps::{PageId, Reference, ReplicaId, Stamp};
+
+const WARMED: usize = 4_096;
+
+const PAGE_SIZE: usize = 16;
+
+// What came out, and how long it took.
+#[derive(Clone, Copy)]
+struct Made {
+    sum: u64,
+    nanos: u128,
+}
+
+// A refusal as an error of this program.
+fn refused<T>(fault: NodeFault) -> Result<T> {
+    bail!("refused {} {}", fault.code(), fault.name())
+}
+
+fn device(alloc: Global, pages: u32) -> Result<Box<MemDevice>> {
+    let memory = MemDevice::new(alloc, pages, PAGE_SIZE)?;
+    Ok(Box::new(alloc, memory)?)
+}
+
+// A node that was told nothing, with a pool of so many frames over the device.
+fn opened(
+    alloc: Global,
+    number: u16,
+    frames: usize,
+    device: Box<dyn PageDevice + Send>,
+) -> Result<Node>
+    ensures { IfOk result (λ node. ⟦<Node as Shown>⟧.is_fit node) }
+{
+    let Ok(id) = ReplicaId::new(number) else {
+        bail!("no replica has the number {number}")
+    };
+    let mut devices = Vec::with_capacity(alloc, 1)?;
+    devices.push_reserved(device);
+    match Pool::new(alloc, frames, PAGE_SIZE, devices) {
+        Ok(pool) => Ok(Node::new(alloc, id, pool)),
+        Err(unmade) => bail!("no pool: {}", unmade.fault.name()),
+    }
+}
+
+// One page in turn of so many, so that all come, in a scattered order.
+fn scattered(i: u32, pages: u32) -> PageId {
+    let no = u64::from(i)
+        .wrapping_mul(7919)
+        .checked_rem(u64::from(pages));
+    PageId {
+        dev: 0,
+        no: u32::try_from(no.unwrap_or(0)).unwrap_or(0),
+    }
+}
+
+// Two references to each page, by replica 1.
+fn references(alloc: Global, pages: u32) -> Result<Vec<Reference>> {
+    let Ok(replica) = ReplicaId::new(1) else {
+        bail!("1 is a replica")
+    };
+    let mut batch = Vec::with_capacity(alloc, 2 * pages as usize)?;
+    for i in 0..pages {
+        let page = scattered(i, pages);
+        for time in [u64::from(i), u64::from(i) + 7] {
+            let stamp = Stamp { time, replica };
+            batch.push(Reference { page, stamp })?;
+        }
+    }
+    Ok(batch)
+}
+
+// A reference to a page of each of so many buckets, at a time.
+fn in_buckets(
+    alloc: Global,
+    replica: ReplicaId,
+    buckets: u32,
+    time: u64,
+) -> Result<Vec<Reference>> {
+    let mut batch = Vec::with_capacity(alloc, buckets as usize)?;
+    for no in 0..buckets {
+        let page = PageId { dev: 0, no };
+        let stamp = Stamp { time, replica };
+        batch.push(Reference { page, stamp })?;
+    }
+    Ok(batch)
+}
+
+fn absorbed(node: &mut Node, batch: &[Reference]) -> Result<()>
+    requires { ⟦<Node as Shown>⟧.is_fit node.old }
+    ensures { ⟦<Node as Shown>⟧.is_fit node.new }
+{
+    match node.absorb(batch) {
+        Ok(()) => Ok(()),
+        Err(fault) => refused(fault),
+    }
+}
+
+// The bytes of a node's sums.
+fn offered(alloc: Global, node: &mut Node) -> Result<Vec<u8>>
+    requires { ⟦<Node as Shown>⟧.is_fit node.old }
+    ensures { ⟦<Node as Shown>⟧.is_fit node.new }
+{
+    match node.offer() {
+        Ok(frame) => Ok(encode(alloc, &frame)?),
+        Err(fault) => refused(fault),
+    }
+}
+
+// The bytes of each of the frames.
+fn encoded(alloc: Global, frames: &[Frame]) -> Result<Vec<Vec<u8>>> {
+    let mut all = Vec::with_capacity(alloc, frames.len())?;
+    for frame in frames {
+        all.push(encode(alloc, frame)?)?;
+    }
+    Ok(all)
+}
+
+// What a node answers to the bytes of a frame.
+fn answered(alloc: Global, node: &mut Node, bytes: &[u8]) -> Result<Vec<Vec<u8>>>
+    requires { ⟦<Node as Shown>⟧.is_fit node.old }
+    ensures { ⟦<Node as Shown>⟧.is_fit node.new }
+{
+    let Ok(frame) = decode(alloc, bytes) else {
+        bail!("the bytes are of a frame")
+    };
+    match node.receive(frame) {
+        Ok(answers) => encoded(alloc, answers.as_slice()),
+        Err(fault) => refused(fault),
+    }
+}
+
+// What a node answers to all of these, one after the other.
+fn answers(alloc: Global, node: &mut Node, sent: &[Vec<u8>]) -> Result<Vec<Vec<u8>>>
+    requires { ⟦<Node as Shown>⟧.is_fit node.old }
+    ensures { ⟦<Node as Shown>⟧.is_fit node.new }
+{
+    let mut all = Vec::new(alloc);
+    for bytes in sent {
+        all.append(&mut answered(alloc, node, bytes)?)?;
+    }
+    Ok(all)
+}
+
+fn length_of(sent: &[Vec<u8>]) -> u64 {
+    let mut bytes = 0u64;
+    for frame in sent {
+        bytes = bytes.wrapping_add(frame.len() as u64);
+    }
+    bytes
+}
+
+// A round: the first offers its sums, and all that is answered comes to whom it answers. Gives how many bytes went.
+fn round(alloc: Global, first: &mut Node, second: &mut Node) -> Result<u64>
+    requires first { ⟦<Node as Shown>⟧.is_fit first.old }
+    requires second { ⟦<Node as Shown>⟧.is_fit second.old }
+    ensures first { ⟦<Node as Shown>⟧.is_fit first.new }
+    ensures second { ⟦<Node as Shown>⟧.is_fit second.new }
+{
+    let sums = offered(alloc, first)?;
+    let entries_and_wish = answered(alloc, second, &sums)?;
+    let wanted = answers(alloc, first, &entries_and_wish)?;
+    let _none = answers(alloc, second, &wanted)?;
+    let sent = length_of(&entries_and_wish).wrapping_add(length_of(&wanted));
+    Ok(sent.wrapping_add(sums.len() as u64))
+}
+
+// So many rounds. Before each the first hears of pages in so many buckets.
+fn rounds_of(
+    alloc: Global,
+    first: &mut Node,
+    second: &mut Node,
+    buckets: u32,
+    rounds: u32,
+) -> Result<u64>
+    requires first { ⟦<Node as Shown>⟧.is_fit first.old }
+    requires second { ⟦<Node as Shown>⟧.is_fit second.old }
+    ensures first { ⟦<Node as Shown>⟧.is_fit first.new }
+    ensures second { ⟦<Node as Shown>⟧.is_fit second.new }
+{
+    let replica = first.id();
+    let mut sent = 0u64;
+    for i in 0..rounds {
+        let time = (1u64 << 40).wrapping_add(u64::from(i));
+        absorbed(first, &in_buckets(alloc, replica, buckets, time)?)?;
+        sent = sent.wrapping_add(round(alloc, first, second)?);
+    }
+    Ok(sent)
+}
+
+fn last_time(hist: PageHist) -> u64 {
+    match hist {
+        PageHist::Once(last) => last.time,
+        PageHist::Twice(two) => two.last().time,
+    }
+}
+
+// A sum over all entries, so that what was made is seen.
+fn sum_of(history: &History) -> u64 {
+    let mut sum = 0u64;
+    for entry in history.iter() {
+        sum = sum
+            .wrapping_mul(31)
+            .wrapping_add(u64::from(entry.page.no))
+            .wrapping_add(last_time(entry.hist));
+    }
+    sum
+}
+
+fn gossiped(
+    clock: &impl Clock,
+    alloc: Global,
+    first: &mut Node,
+    second: &mut Node,
+    buckets: u32,
+    rounds: u32,
+) -> Result<Made>
+    requires first { ⟦<Node as Shown>⟧.is_fit first.old }
+    requires second { ⟦<Node as Shown>⟧.is_fit second.old }
+{
+    let start = Instant::now(clock)?;
+    let sent = rounds_of(alloc, first, second, buckets, rounds)?;
+    let nanos = start.elapsed(clock)?.as_nanos();
+    if sum_of(first.history()) != sum_of(second.history()) {
+        bail!("the histories differ")
+    }
+    let sum = sum_of(second.history()).wrapping_add(sent);
+    Ok(Made { sum, nanos })
+}
+
+// A node of the number, over this device, that was told of so many pages.
+fn told(
+    alloc: Global,
+    number: u16,
+    frames: usize,
+    device: Box<dyn PageDevice + Send>,
+    pages: u32,
+) -> Result<Node>
+    ensures { IfOk result (λ node. ⟦<Node as Shown>⟧.is_fit node) }
+{
+    let mut node = opened(alloc, number, frames, device)?;
+    absorbed(&mut node, &references(alloc, pages)?)?;
+    Ok(node)
+}
+
+fn rounds_over(
+    clock: &impl Clock,
+    alloc: Global,
+    pages: u32,
+    buckets: u32,
+    rounds: u32,
+) -> Result<Made> {
+    let mut first = told(alloc, 1, 1, device(alloc, pages)?, pages)?;
+    let mut second = told(alloc, 2, 1, device(alloc, pages)?, pages)?;
+    gossiped(clock, alloc, &mut first, &mut second, buckets, rounds)
+}
+
+// So many steps of a node's warm-up, and a sum over the pages that came in, in their order.
+fn warm_steps(node: &mut Node, steps: u32) -> Result<u64>
+    requires { ⟦<Node as Shown>⟧.is_fit node.old }
+    ensures { ⟦<Node as Shown>⟧.is_fit node.new }
+{
+    let mut sum = 0u64;
+    for _ in 0..steps {
+        match node.warm_step() {
+            Ok(Some(page)) => {
+                sum = sum.wrapping_mul(31).wrapping_add(u64::from(page.no));
+            }
+            Ok(None) => return Ok(sum),
+            Err(fault) => return refused(fault),
+        }
+    }
+    Ok(sum)
+}
+
+fn warmed(clock: &impl Clock, alloc: Global, pages: u32, steps: u32) -> Result<Made> {
+    let mut node = told(alloc, 1, WARMED, device(alloc, pages)?, pages)?;
+    let start = Instant::now(clock)?;
+    let sum = warm_steps(&mut node, steps)?;
+    let nanos = start.elapsed(clock)?.as_nanos();
+    Ok(Made { sum, nanos })
+}
+
+// A node is told of so many pages, a batch at a time, so that nothing but its history takes much room.
+fn remember(alloc: Global, node: &mut Node, pages: u32) -> Result<()>
+    requires { ⟦<Node as Shown>⟧.is_fit node.old }
+    ensures { ⟦<Node as Shown>⟧.is_fit node.new }
+{
+    let replica = node.id();
+    for i in 0..pages {
+        let page = scattered(i, pages);
+        let earlier = Stamp {
+            time: u64::from(i),
+            replica,
+        };
+        let later = Stamp {
+            time: u64::from(i) + 7,
+            replica,
+        };
+        let batch = [
+            Reference {
+                page,
+                stamp: earlier,
+            },
+            Reference { page, stamp: later },
+        ];
+        absorbed(node, &batch)?;
+    }
+    Ok(())
+}
+
+fn remembered(clock: &impl Clock, alloc: Global, pages: u32) -> Result<Made> {
+    let mut node = opened(alloc, 1, 1, device(alloc, 1)?)?;
+    let start = Instant::now(clock)?;
+    remember(alloc, &mut node, pages)?;
+    let nanos = start.elapsed(clock)?.as_nanos();
+    let sum = sum_of(node.history());
+    Ok(Made { sum, nanos })
+}
+
+// What is measured.
+#[derive(Clone, Copy)]
+enum Case {
+    Round {
+        pages: u32,
+        buckets: u32,
+        rounds: u32,
+    },
+    Warm {
+        pages: u32,
+        steps: u32,
+    },
+    History {
+        pages: u32,
+    },
+}
+
+fn measured(clock: &impl Clock, alloc: Global, case: Case) -> Result<Made> {
+    match case {
+        Case::Round {
+            pages,
+            buckets,
+            rounds,
+        } => rounds_over(clock, alloc, pages, buckets, rounds),
+        Case::Warm { pages, steps } => warmed(clock, alloc, pages, steps),
+        Case::History { pages } => remembered(clock, alloc, pages),
+    }
+}
+
+fn case_of(words: &[String]) -> Result<Case> {
+    let mut numbers = [0u32; 3];
+    for (i, number) in numbers.iter_mut().enumerate() {
+        if let Some(word) = words.get(i + 1) {
+            *number = word.parse::<u32>().context("a number")?;
+        }
+    }
+    let [pages, second, third] = numbers;
+    match words.first().map(|word| word.as_str()) {
+        Some("round") => Ok(Case::Round {
+            pages,
+            buckets: second.min(64),
+            rounds: third,
+        }),
+        Some("warm") => Ok(Case::Warm {
+            pages,
+            steps: second,
+        }),
+        Some("history") => Ok(Case::History { pages }),
+        _ => bail!("round, warm or history"),
+    }
+}
+
+const SMALL: [(&str, Case); 5] = [
+    (
+        "round, 1 bucket",
+        Case::Round {
+            pages: 1_000,
+            buckets: 1,
+            rounds: 1,
+        },
+    ),
+    (
+        "round, 10 buckets",
+        Case::Round {
+            pages: 1_000,
+            buckets: 10,
+            rounds: 1,
+        },
+    ),
+    (
+        "round, 64 buckets",
+        Case::Round {
+            pages: 1_000,
+            buckets: 64,
+            rounds: 1,
+        },
+    ),
+    (
+        "warm-up",
+        Case::Warm {
+            pages: 1_000,
+            steps: 64,
+        },
+    ),
+    ("history", Case::History { pages: 1_000 }),
+];
+
+fn main(rt: HostRuntime) -> Result<()> {
+    let mut words = Vec::new(rt.alloc());
+    for word in env::args(&rt)?.skip(1) {
+        words.push(word)?;
+    }
+    if words.is_empty() {
+        for (what, case) in SMALL {
+            let made = measured(&rt, rt.alloc(), case)?;
+            println!(rt; "{}: {}", what, made.sum)?;
+        }
+        return Ok(());
+    }
+    let made = measured(&rt, rt.alloc(), case_of(&words)?)?;
+    println!(rt; "{}", made.sum)?;
+    println!(rt; "{} ns", made.nanos)?;
+    Ok(())
+}
