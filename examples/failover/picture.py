@@ -1,0 +1,115 @@
+"""The results as a picture: SVG, written without a library."""
+
+from html import escape
+
+from case import BLOCK, POLICIES, Outcome, Result
+
+WIDTH, HEIGHT = 250, 170  # of a panel
+LEFT, TOP, RIGHT, BOTTOM = 34, 26, 18, 22  # inside of a panel, around its lines
+LEGEND = 50  # height above the panels
+
+# Of each policy the colour, the width of its line, and its dashes.
+STYLES = dict(zip(POLICIES, [
+    ("#222222", 2.0, ""),
+    ("#7f7f7f", 1.2, ""),
+    ("#b07aa1", 1.2, "2 2"),
+    ("#d62728", 2.0, ""),
+    ("#1f77b4", 1.4, ""),
+    ("#ff7f0e", 1.2, "5 2"),
+    ("#2ca02c", 1.2, "5 2"),
+]))  # fmt: skip
+
+
+def text(x: float, y: float, content: str, anchor: str = "start", size: int = 10) -> str:
+    """Words at a place."""
+    return f'<text x="{x:g}" y="{y:g}" font-size="{size}" text-anchor="{anchor}">{escape(content)}</text>\n'
+
+
+def line(x1: float, y1: float, x2: float, y2: float, colour: str) -> str:
+    """A thin line between two places."""
+    return f'<line x1="{x1:g}" y1="{y1:g}" x2="{x2:g}" y2="{y2:g}" stroke="{colour}"/>\n'
+
+
+class Panel:
+    """One case: ratios upward, accesses after the takeover to the right."""
+
+    def __init__(self, result: Result, left: int, top: int, lowest: float) -> None:
+        self.result = result
+        self.left, self.top, self.lowest = left + LEFT, top + TOP, lowest
+        self.width, self.height = WIDTH - LEFT - RIGHT, HEIGHT - TOP - BOTTOM
+        self.blocks = len(next(iter(result.outcomes.values())).hits)
+
+    def x(self, accesses: float) -> float:
+        """Where so many accesses stand."""
+        return round(self.left + self.width * accesses / (BLOCK * self.blocks), 1)
+
+    def y(self, ratio: float) -> float:
+        """Where a ratio stands."""
+        return round(self.top + self.height * (1 - ratio) / (1 - self.lowest), 1)
+
+    def draw(self) -> str:
+        """Title, axes and a curve for each policy."""
+        plan = self.result.plan
+        title = text(self.left, self.top - 8, f"{plan.frames} frames, takeover after {plan.takeover:,}", size=11)
+        curves = "".join(self.curve(policy, outcome) for policy, outcome in self.result.outcomes.items())
+        return title + self.axes() + curves
+
+    def axes(self) -> str:
+        """A line at each tenth, and the numbers beside and below."""
+        parts = []
+        for tenth in range(round(10 * self.lowest), 11):
+            height = self.y(tenth / 10)
+            parts.append(line(self.left, height, self.left + self.width, height, "#dddddd"))
+            parts.append(text(self.left - 4, height + 3, f"{tenth / 10:.1f}", "end", 9))
+        foot = self.top + self.height + 13
+        for part in range(5):
+            accesses = BLOCK * self.blocks * part / 4
+            parts.append(text(self.x(accesses), foot, f"{accesses:,.0f}", "middle", 9))
+        return "".join(parts)
+
+    def curve(self, policy: str, outcome: Outcome) -> str:
+        """The ratio of each block, at the block's middle."""
+        colour, width, dashes = STYLES[policy]
+        points = " ".join(
+            f"{self.x(BLOCK * (block + 0.5)):g},{self.y(hits / BLOCK):g}" for block, hits in enumerate(outcome.hits)
+        )
+        dashed = f' stroke-dasharray="{dashes}"' if dashes else ""
+        return f'<polyline points="{points}" fill="none" stroke="{colour}" stroke-width="{width}"{dashed}/>\n'
+
+
+def legend() -> str:
+    """Which line is which policy's."""
+    parts = [text(LEFT, 16, f"hit ratio in each {BLOCK} accesses, by accesses after the takeover", size=12)]
+    for place, policy in enumerate(POLICIES):
+        left = LEFT + 110 * place
+        colour, width, dashes = STYLES[policy]
+        parts.append(
+            f'<line x1="{left}" y1="34" x2="{left + 24}" y2="34" stroke="{colour}" stroke-width="{width}"'
+            f' stroke-dasharray="{dashes or "none"}"/>\n'
+        )
+        parts.append(text(left + 29, 38, policy, size=11))
+    return "".join(parts)
+
+
+def picture(results: list[Result]) -> str:
+    """A panel for each case: a row for each number of frames, a column for each takeover."""
+    rows = sorted({result.plan.frames for result in results})
+    columns = sorted({result.plan.takeover for result in results})
+    least = min(hits for result in results for outcome in result.outcomes.values() for hits in outcome.hits)
+    # a tenth, below every ratio and below 1
+    foot = min(10 * least // BLOCK, 9) / 10
+    panels = "".join(
+        Panel(
+            result,
+            WIDTH * columns.index(result.plan.takeover),
+            LEGEND + HEIGHT * rows.index(result.plan.frames),
+            foot,
+        ).draw()
+        for result in results
+    )
+    width, height = max(WIDTH * len(columns), LEFT + 110 * len(POLICIES)), LEGEND + HEIGHT * len(rows)
+    return (
+        f'<svg xmlns="http://www.w3.org/2000/svg" viewBox="0 0 {width} {height}" width="{width}" height="{height}"'
+        f' font-family="sans-serif" fill="#222222">\n<rect width="{width}" height="{height}" fill="#ffffff"/>\n'
+        f"{legend()}{panels}</svg>\n"
+    )
