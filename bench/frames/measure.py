@@ -17,12 +17,16 @@ OURS = HERE.parent.parent / "crates/bench_frames/out/bench_frames"
 RUNS = 5
 FRAME = 27_015
 SUMMED = 2_700_000
+# a stream has so many frames, and comes in pieces of so many bytes
+STREAM = 1000
+PIECES = [1, 64, 4_096, 65_536]
 
 
 def one_run(program: Path, rounds: int) -> tuple[list[str], list[int]]:
-    """What the program made, and the nanoseconds of encoding, decoding and summing."""
+    """What the program made, and the nanoseconds of encoding, decoding and summing, and of each size of pieces."""
     said = subprocess.run([program, str(rounds)], stdout=subprocess.PIPE, check=True, text=True).stdout.splitlines()
-    return said[:-1], [int(it) for it in said[-1].split()[:3]]
+    made = [line for line in said if not line.endswith(" ns")]
+    return made, [int(word) for line in said if line.endswith(" ns") for word in line.split()[:-1]]
 
 
 def main() -> None:
@@ -39,8 +43,10 @@ def main() -> None:
             assert made["ours"] == made["plain"], made
     print("| what | ours, MB/s | plain Rust, MB/s | ours to plain |")
     print("|---|---|---|---|")
-    for i, (what, size) in enumerate([("encode a full frame", FRAME), ("decode it", FRAME), ("sum the buckets of 100,000 pages", SUMMED)]):
-        ours, plain = (size * rounds / best[name][i] * 1e3 for name in ["ours", "plain"])
+    rows = [("encode a full frame", FRAME * rounds), ("decode it", FRAME * rounds), ("sum the buckets of 100,000 pages", SUMMED * rounds)]
+    rows += [(f"decode {STREAM:,} frames in pieces of {size:,} bytes", FRAME * STREAM) for size in PIECES]
+    for i, (what, size) in enumerate(rows):
+        ours, plain = (size / best[name][i] * 1e3 for name in ["ours", "plain"])
         print(f"| {what} | {ours:.0f} | {plain:.0f} | {ours / plain:.2f} |")
 
 

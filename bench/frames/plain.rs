@@ -1,17 +1,20 @@
 //! The frames and sums of `crates/bench_frames` in plain Rust, for the same measurements.
 //!
-//! With no argument each is done once; with a number each is done so many times, and the nanoseconds are printed too.
+//! With no argument each is done once; with a number each is done so many times, and the nanoseconds are printed too; the stream is then
+//! of 1000 frames.
 
 #[path = "../parts/mod.rs"]
 mod parts;
 
-use parts::frames::{decode, encode, sums};
+use parts::frames::{Decoder, decode, encode, sums};
 use parts::hist::{Entry, Hist, Page, Stamp};
 use std::hint::black_box;
 use std::time::Instant;
 
 const FULL: u32 = 1000;
 const MANY: u32 = 100_000;
+const STREAM: usize = 1000;
+const PIECES: [usize; 4] = [1, 64, 4_096, 65_536];
 
 fn entries_of(pages: u32, apart: u32) -> Vec<Entry> {
     (0..pages)
@@ -25,6 +28,21 @@ fn entries_of(pages: u32, apart: u32) -> Vec<Entry> {
 
 fn check_sum(bytes: &[u8]) -> u64 {
     bytes.iter().fold(0u64, |sum, byte| sum.wrapping_mul(31).wrapping_add(u64::from(*byte)))
+}
+
+// How many entries a stream has that comes in pieces of so many bytes.
+fn feed_in_pieces(stream: &[u8], size: usize) -> usize {
+    let mut decoder = Decoder::default();
+    let mut count = 0;
+    for piece in stream.chunks(size) {
+        let mut rest = piece;
+        while !rest.is_empty() {
+            let (taken, frame) = decoder.feed(rest).expect("the stream is one of frames");
+            count += frame.map_or(0, |entries| entries.len());
+            rest = &rest[taken..];
+        }
+    }
+    count
 }
 
 fn main() {
@@ -57,5 +75,15 @@ fn main() {
     println!("sums: {}", check_sum(&first));
     if asked.is_some() {
         println!("{} {} {} ns", encoding.as_nanos(), decoding.as_nanos(), summing.as_nanos());
+    }
+    let stream = bytes.repeat(if asked.is_some() { STREAM } else { 1 });
+    for size in PIECES {
+        let start = Instant::now();
+        let count = feed_in_pieces(black_box(&stream), size);
+        let feeding = start.elapsed();
+        println!("in pieces of {size}: {count} entries");
+        if asked.is_some() {
+            println!("{} ns", feeding.as_nanos());
+        }
     }
 }

@@ -90,6 +90,55 @@ pub fn decode(bytes: &[u8]) -> Option<Vec<Entry>> {
     rest.is_empty().then_some(entries)
 }
 
+/// Frames from a stream that comes in pieces. It holds the bytes of the frame that has begun, and decodes one that stands whole in a
+/// piece where it stands.
+#[derive(Default)]
+pub struct Decoder {
+    held: Vec<u8>,
+    size: Option<usize>,
+}
+
+const HEADER: usize = 11;
+
+impl Decoder {
+    /// How many bytes of the piece were taken, and the frame that is whole now.
+    pub fn feed(&mut self, piece: &[u8]) -> Option<(usize, Option<Vec<Entry>>)> {
+        if self.size.is_none() {
+            self.size = self.size_with(piece);
+        }
+        let missing = match self.size {
+            Some(size) => size - self.held.len(),
+            None => usize::MAX,
+        };
+        if piece.len() < missing {
+            self.held.extend_from_slice(piece);
+            return Some((piece.len(), None));
+        }
+        self.size = None;
+        if self.held.is_empty() {
+            return Some((missing, Some(decode(&piece[..missing])?)));
+        }
+        self.held.extend_from_slice(&piece[..missing]);
+        let entries = decode(&self.held)?;
+        self.held.clear();
+        Some((missing, Some(entries)))
+    }
+
+    // How many bytes the frame has in all, where its header is whole with the piece.
+    fn size_with(&self, piece: &[u8]) -> Option<usize> {
+        let mut header = [0; HEADER];
+        let len = self.held.len();
+        let more = (HEADER - len).min(piece.len());
+        if len + more < HEADER {
+            return None;
+        }
+        header[..len].copy_from_slice(&self.held);
+        header[len..].copy_from_slice(&piece[..more]);
+        let body = u32::from_be_bytes(header[7..].try_into().expect("four bytes"));
+        Some(HEADER + body as usize)
+    }
+}
+
 pub fn sums(history: impl Iterator<Item = Entry>) -> Vec<[u8; 32]> {
     let mut hashers: Vec<Sha256> = (0..64).map(|_| Sha256::new()).collect();
     let mut bytes = Vec::with_capacity(27);

@@ -1,15 +1,18 @@
-//! Encodes and decodes a full frame, and sums the buckets of a history of 100,000 pages.
+//! Encodes and decodes a full frame, sums the buckets of a history of 100,000 pages, and decodes a stream of frames that
+//! comes in pieces.
 //!
 //! With no argument each is done once, and what came out is printed. With a number each is done so many times, and the
-//! nanoseconds are printed too, for `bench/frames/measure.py`.
+//! nanoseconds are printed too, for `bench/frames/measure.py`; the stream is then of 1000 frames.
 #![tactic(auto)]
+
+ghost use Rattle.std.specs.Prelude.{◌<◌};
 
 use anyhow::{Context, Result, bail};
 use std::alloc::Global;
 use std::env;
 use std::time::Instant;
 use warm_digest::sums;
-use warm_frames::{EntryList, Frame, decode, encode};
+use warm_frames::{Decoder, EntryList, Fed, Frame, decode, encode};
 use warm_history::History;
 use warm_stamps::{Bucket, PageId, Reference, ReplicaId, Stamp};
 
@@ -17,6 +20,11 @@ use warm_stamps::{Bucket, PageId, Reference, ReplicaId, Stamp};
 const FULL: u32 = 1000;
 
 const MANY: u32 = 100_000;
+
+// How many frames the stream has where times are asked for, and how many bytes its pieces.
+const STREAM: u64 = 1000;
+
+const PIECES: [usize; 4] = [1, 64, 4_096, 65_536];
 
 // A history of so many pages, whose numbers are so far apart, with two stamps each.
 fn history_of(alloc: Global, replica: ReplicaId, pages: u32, apart: u32) -> Result<History> {
@@ -111,6 +119,52 @@ fn sum_often(alloc: Global, history: &History, rounds: u64) -> Result<[u8; 32]> 
     Ok(first)
 }
 
+// So many frames with these bytes, one after the other.
+fn stream_of(alloc: Global, bytes: &[u8], frames: u64) -> Result<Vec<u8>> {
+    let mut stream = Vec::new(alloc);
+    for _ in 0..frames {
+        stream.extend_from_slice(bytes)?;
+    }
+    Ok(stream)
+}
+
+// How many entries a frame has, where there is one.
+fn entries_in(frame: Option<Frame>) -> u64 {
+    match frame {
+        Some(Frame::Entries { entries, .. }) => entries.as_slice().len() as u64,
+        _ => 0,
+    }
+}
+
+// Feeds all of a piece, and counts the entries of the frames that end in it.
+fn feed_all(decoder: &mut Decoder, piece: &[u8]) -> Result<u64> {
+    let mut count = 0u64;
+    let mut rest = piece;
+    for _ in 0..=piece.len() {
+        if rest.is_empty() {
+            break;
+        }
+        let Ok(Fed { taken, frame }) = decoder.feed(rest) else {
+            bail!("the stream is one of frames")
+        };
+        count = count.wrapping_add(entries_in(frame));
+        rest = rest.get(taken..).context("no more was taken")?;
+    }
+    Ok(count)
+}
+
+// How many entries a stream has that comes in pieces of so many bytes.
+fn feed_in_pieces(alloc: Global, stream: &[u8], size: usize) -> Result<u64>
+    requires { 0 < size }
+{
+    let mut decoder = Decoder::new(alloc);
+    let mut count = 0u64;
+    for piece in stream.chunks(size) {
+        count = count.wrapping_add(feed_all(&mut decoder, piece)?);
+    }
+    Ok(count)
+}
+
 fn main(rt: HostRuntime) -> Result<()> {
     let asked = env::args(&rt)?.nth(1);
     let rounds = match &asked {
@@ -143,6 +197,17 @@ fn main(rt: HostRuntime) -> Result<()> {
             decoding.as_nanos(),
             summing.as_nanos()
         )?;
+    }
+    let frames = if asked.is_some() { STREAM } else { 1 };
+    let stream = stream_of(rt.alloc(), &bytes, frames)?;
+    for size in PIECES {
+        let start = Instant::now(&rt)?;
+        let count = feed_in_pieces(rt.alloc(), &stream, size)?;
+        let feeding = start.elapsed(&rt)?;
+        println!(rt; "in pieces of {}: {} entries", size, count)?;
+        if asked.is_some() {
+            println!(rt; "{} ns", feeding.as_nanos())?;
+        }
     }
     Ok(())
 }
