@@ -115,7 +115,8 @@ impl<'a, R: Wait> Post for Outboxes<'a, R> {
         ensures back { IfErr result (λ same. same ≡ bytes) }
         ensures taken { OnOk result (Gained false [] ((to, bytes) ∷ []) []) }
         ensures same { OnErr result (Gained false [] [] []) }
-        ensures nobody { All (λ outbox. outbox.replica ≢ to) self.old.boxes.items → IsErr result }
+        ensures nobody { All (λ outbox. outbox.replica ≢ to) self.old.boxes.items
+            → IsErr result }
     {
         for outbox in &self.boxes {
             if outbox.replica == to {
