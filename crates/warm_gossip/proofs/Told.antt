@@ -1,5 +1,5 @@
 -- What a node was told is its history.
-use Rattle.std.proofs.Common.{◌≡◌, refl, sym, ap, ◌∙◌, List, [], ◌∷◌, Some, None}
+use Rattle.std.proofs.Common.{◌≡◌, refl, sym, ap, ◌∙◌, List, [], ◌∷◌, Option, Some, None}
 use Rattle.warm_history.specs.ReferenceSets.{ReferenceSet, these, ◌∪◌}
 use Rattle.warm_history.specs.Histories.{holding, history, refs}
 use Rattle.warm_history.proofs.JoinLemmas.{history_first}
