@@ -71,7 +71,10 @@ fn refer(alloc: Global, node: &mut Node, from: u64, pages: &[u32]) -> Result<()>
 }
 
 // What one replica sends another, as bytes: the sums of what it has heard of.
-fn offer(alloc: Global, node: &Node) -> Result<Vec<u8>> {
+fn offer(alloc: Global, node: &mut Node) -> Result<Vec<u8>>
+    requires { ⟦<Node as Shown>⟧.is_fit node.old }
+    ensures { ⟦<Node as Shown>⟧.is_fit node.new }
+{
     match node.offer() {
         Ok(frame) => Ok(encode(alloc, &frame)?),
         Err(fault) => refused(fault),

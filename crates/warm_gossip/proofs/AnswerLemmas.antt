@@ -22,8 +22,10 @@ use Rattle.warm_frames.specs.declared.frame.Frame.{Frame}
 use Rattle.warm_frames.specs.declared.frame.Frame.TheVariants.{Entries, Want}
 use Rattle.warm_frames.specs.Sums.{sum_at}
 use Rattle.warm_digest.specs.BucketSums.{bucket_entries, sums_of}
+use Rattle.warm_digest.specs.KeptSums.{entries_in}
+use Rattle.warm_digest.proofs.KeptLemmas.{wanted_part}
 use Rattle.warm_gossip.specs.Answers.{pieces_of, pieces, entry_frames, bucket_frames, buckets_in, wanted_frames, IsDiffering, AnswersSums}
-use Rattle.warm_gossip.specs.Gathering.{wanted, HaveGathered, list_frames}
+use Rattle.warm_gossip.specs.Gathering.{HaveGathered, list_frames}
 
 -- ---- pieces
 
@@ -73,11 +75,10 @@ pages_rise_take n es part is rise = subst PagesRise (sym is) (rising_take (on (�
 pub pages_rise_drop : (n : ℕ) (es later : List Entry) → later ≡ drop n es → PagesRise es → PagesRise later
 pages_rise_drop n es later is rise = subst PagesRise (sym is) (rising_drop (on (λ e. e.page) page_cmp) n es rise)
 
-wanted_rise : (mask : ℕ) (h : List Entry) (bucket : ℕ) → PagesRise h → PagesRise (wanted mask h bucket)
-wanted_rise mask h bucket rise = elim (bit_at mask bucket == 1) as (λ b. PagesRise (cond b (bucket_entries bucket h) [])) [
-  | true ↦ rising_filter (on (λ e. e.page) page_cmp) (λ e. page_bucket e.page == bucket) h rise
-  | false ↦ tt
-]
+wanted_rise : (mask : ℕ) (h : List Entry) (bucket : ℕ) → PagesRise h → PagesRise (bucket_entries bucket (entries_in mask h))
+wanted_rise mask h bucket rise =
+    let by_page = on (λ (e : Entry). e.page) page_cmp in
+    rising_filter by_page (λ e. page_bucket e.page == bucket) (entries_in mask h) (rising_filter by_page (λ e. bit_at mask (page_bucket e.page) == 1) h rise)
 
 -- one empty list more
 pub empty_more : (lists all : List (Vec Entry)) (next : Vec Entry) → all ≡ lists ++ next ∷ [] → next.items ≡ [] → All (λ list. list.items ≡ []) lists → All (λ list. list.items ≡ []) all
@@ -85,12 +86,16 @@ empty_more lists all next is empty each = subst (All (λ (list : Vec Entry). lis
 
 -- ---- frames of gathered lists
 
-pub all_rise : (mask : ℕ) (lists : List (Vec Entry)) (h : HistoryView) → HaveGathered mask lists (entries_of h) → IsHistory h → All (λ list. PagesRise list.items) lists
+pub all_rise : (mask : ℕ) (lists : List (Vec Entry)) (h : HistoryView) → HaveGathered lists (entries_in mask (entries_of h)) → IsHistory h → All (λ list. PagesRise list.items) lists
 all_rise mask lists h have whole = λ k d low. subst PagesRise (sym (have.each k d (omega (arith, have.count)))) (wanted_rise mask (entries_of h) k whole.pages_rise)
 
 flat_map-map : {X Y A : Type 0} (f : Y → List A) (g : X → Y) (xs : List X) → flat_map f (map g xs) ≡ flat_map (λ x. f (g x)) xs
 flat_map-map f g [] = refl
 flat_map-map f g (x ∷ xs) = ap (λ t. f (g x) ++ t) (flat_map-map f g xs)
+
+-- the entries of a bucket where its bit is set, and none where it is clear
+abbrev wanted : ℕ → List Entry → ℕ → List Entry
+wanted mask h bucket = if bit_at mask bucket == 1 then bucket_entries bucket h else []
 
 -- a bucket whose bit is clear gives no frame
 set_alone : (id mask : ℕ) (h : HistoryView) (ks : List ℕ) → flat_map (λ k. entry_frames id (wanted mask (entries_of h) k)) ks ≡ flat_map (bucket_frames id h) (filter (λ k. bit_at mask k == 1) ks)
@@ -121,11 +126,11 @@ frames_below id mask n (v ∷ vs) h count each =
     ∙ flat_map-map (entry_frames id) (wanted mask (entries_of h)) (range_with_len 0 n)
     ∙ set_alone id mask h (range_with_len 0 n)
 
-pub all_frames : (id mask : ℕ) (lists : List (Vec Entry)) (h : HistoryView) → HaveGathered mask lists (entries_of h) → list_frames id lists ≡ wanted_frames id h mask
+pub all_frames : (id mask : ℕ) (lists : List (Vec Entry)) (h : HistoryView) → HaveGathered lists (entries_in mask (entries_of h)) → list_frames id lists ≡ wanted_frames id h mask
 unfolding buckets_in
-all_frames id mask lists h have = frames_below id mask BUCKETS lists h have.count have.each
+all_frames id mask lists h have = frames_below id mask BUCKETS lists h have.count (λ k other low. have.each k other low ∙ wanted_part mask k (entries_of h))
 
-pub all_framed : {E : Type 0} (id mask : ℕ) (lists : List (Vec Entry)) (h : HistoryView) (result : Result (Vec Frame) E) → HaveGathered mask lists (entries_of h)
+pub all_framed : {E : Type 0} (id mask : ℕ) (lists : List (Vec Entry)) (h : HistoryView) (result : Result (Vec Frame) E) → HaveGathered lists (entries_in mask (entries_of h))
     → IfOk result (λ frames. frames.items ≡ list_frames id lists) → IfOk result (λ frames. frames.items ≡ wanted_frames id h mask)
 all_framed id mask lists h (Ok frames) have is = is ∙ all_frames id mask lists h have
 all_framed id mask lists h (Err e) have is = tt

@@ -1,7 +1,8 @@
 -- What loading does of a page that a device has and no frame.
-use Rattle.std.proofs.Common.{◌≡◌, ℕ, List, Option, length, ap, inl, inr, subst, ◌∙◌, arith}
+use Rattle.std.proofs.Common.{◌≡◌, ℕ, List, Option, length, ap, inl, inr, subst, sym, ◌∙◌, arith}
 use Rattle.warm_stamps.specs.declared.PageId.{PageId}
-use Rattle.warm_history.specs.Histories.{HistoryView, refs}
+use Rattle.warm_history.specs.Histories.{HistoryView, IsHistory, history, refs}
+use Rattle.warm_history.proofs.JoinLemmas.{history_of_own_references}
 use Rattle.warm_rank.specs.Ranking.{warm}
 use Rattle.warm_pool.specs.declared.slot.Slot.{Slot}
 use Rattle.warm_pool.specs.declared.fault.PoolFault.{PoolFault}
@@ -9,28 +10,39 @@ use Rattle.warm_pool.specs.declared.fault.PoolFault.TheVariants.{Memory, BadFram
 use Rattle.warm_pool.specs.State.{PoolState, IsPool}
 use Rattle.warm_pool.specs.View.{view_of, PoolView}
 use Rattle.warm_pool.specs.Pinning.{Loaded, LoadRefused, PutsIn, PutRefused}
+use Rattle.warm_gossip.specs.declared.remembered.Hottest.{Hottest}
+use Rattle.warm_gossip.specs.Remembered.{IsHottest}
 use Rattle.warm_gossip.specs.Step.{IsFirstLoadable, IsLoadable}
 
+put_in : {h : HistoryView} {v w : PoolView} {p : PageId} {slot : Slot} → IsLoadable v p → Loaded h v p slot w → PutsIn h v p 0 slot w
+put_in loadable loaded = elim loaded.1 [ inl stays ↦ absurd (loadable.1 _ stays.resident) | inr puts ↦ puts ]
+
 -- it is put into a frame
-pub loaded_in : {h : HistoryView} {v w : PoolView} {p : PageId} {slot : Slot} → IsLoadable v p → Loaded h v p slot w → PutsIn h v p 0 slot w
-loaded_in loadable loaded = elim loaded.1 [ inl stays ↦ absurd (loadable.1 _ stays.resident) | inr puts ↦ puts ]
+pub loaded_in : {h k : HistoryView} {v w : PoolView} {p : PageId} {slot : Slot} → k ≡ h → IsLoadable v p → Loaded k v p slot w → PutsIn h v p 0 slot w
+loaded_in {h} {k} {v} {w} {p} {slot} is loadable loaded = subst (λ (l : HistoryView). PutsIn l v p 0 slot w) is (put_in loadable loaded)
+
+refused_in : (h : HistoryView) {v : PoolView} {p : PageId} (w : PoolView) (why : PoolFault) → IsLoadable v p → LoadRefused h v p why w → PutRefused h v p why w
+refused_in h w NoDevice loadable refused = let there = loadable.0.device in absurd (omega arith)
+refused_in h w NoPage loadable refused = let there = loadable.0.number in absurd (omega arith)
+refused_in h w Memory loadable refused = refused.2
+refused_in h w BadFrames loadable refused = refused.2
+refused_in h w SizeDiffers loadable refused = refused.2
+refused_in h w AllFixed loadable refused = refused.2
+refused_in h w ReadFault loadable refused = refused.2
+refused_in h w WriteBack loadable refused = refused.2
+refused_in h w FixesFull loadable refused = refused.2
+refused_in h w OutOfPage loadable refused = refused.2
+refused_in h w Fixed loadable refused = refused.2
+refused_in h w Fault loadable refused = refused.2
 
 -- or it is refused as a page is that has a device
-pub load_refused_in : (h : HistoryView) {v : PoolView} {p : PageId} (w : PoolView) (why : PoolFault) → IsLoadable v p → LoadRefused h v p why w → PutRefused h v p why w
-load_refused_in h w NoDevice loadable refused = let there = loadable.0.device in absurd (omega arith)
-load_refused_in h w NoPage loadable refused = let there = loadable.0.number in absurd (omega arith)
-load_refused_in h w Memory loadable refused = refused.2
-load_refused_in h w BadFrames loadable refused = refused.2
-load_refused_in h w SizeDiffers loadable refused = refused.2
-load_refused_in h w AllFixed loadable refused = refused.2
-load_refused_in h w ReadFault loadable refused = refused.2
-load_refused_in h w WriteBack loadable refused = refused.2
-load_refused_in h w FixesFull loadable refused = refused.2
-load_refused_in h w OutOfPage loadable refused = refused.2
-load_refused_in h w Fixed loadable refused = refused.2
-load_refused_in h w Fault loadable refused = refused.2
+pub load_refused_in : {h k : HistoryView} {v : PoolView} {p : PageId} (w : PoolView) (why : PoolFault) → k ≡ h → IsLoadable v p → LoadRefused k v p why w → PutRefused h v p why w
+load_refused_in {h} {k} {v} {p} w why is loadable refused = subst (λ (l : HistoryView). PutRefused l v p why w) is (refused_in k w why loadable refused)
 
--- the first page of the list that was made is the first of the warm-up list
-pub next_warm : {s : PoolState} → IsPool s → (h : HistoryView) (ps : List PageId) (n : ℕ) (o : Option PageId) → ps ≡ warm (refs h) n → n ≡ length (view_of s).frames
+-- the first page of a list of as many of the hottest pages as there are frames is the next to load
+pub next_warm : {s : PoolState} → IsPool s → (h k : HistoryView) (list : Hottest) (ps : List PageId) (n : ℕ) (o : Option PageId) → IsHistory k → k ≡ h
+    → IsHottest h list → list.asked ≡ n → ps ≡ list.pages.items → n ≡ length (view_of s).frames
     → IsFirstLoadable (view_of s) ps o → IsFirstLoadable (view_of s) (warm (refs h) (length (view_of s).frames)) o
-next_warm {s} pool h ps n o list frames = subst (λ xs. IsFirstLoadable (view_of s) xs o) (list ∙ ap (warm (refs h)) frames)
+next_warm {s} pool h k list ps n o whole is hottest many are frames =
+    let own : h ≡ history (refs h) = sym (history_of_own_references h (subst IsHistory is whole)) in
+    subst (λ xs. IsFirstLoadable (view_of s) xs o) (are ∙ hottest (refs h) own ∙ ap (warm (refs h)) (many ∙ frames))

@@ -2,11 +2,13 @@
 ghost use Rattle.std.specs.Prelude.{◌≡◌, ◌≤◌, ◌++◌, length, IfOk, OnOk};
 ghost use Rattle.std.specs.List.{All};
 ghost use Rattle.warm_history.specs.Histories.{PagesRise, entries_of};
+ghost use Rattle.warm_digest.specs.KeptSums.{entries_in};
 ghost use Rattle.warm_gossip.specs.Answers.{AnswersSums, entry_frames, wanted_frames};
 ghost use Rattle.warm_gossip.specs.Gathering.{AreEmpty, HaveGathered, Takes, list_frames};
 
+use crate::remembered::Remembered;
 use std::alloc::{AllocError, Global};
-use warm_digest::differing;
+use warm_digest::{differing, wanted_entries};
 use warm_frames::{EntryList, Frame, MAX_ENTRIES, SumTable};
 use warm_history::{Entry, History};
 use warm_stamps::{BUCKETS, ReplicaId, bucket_of};
@@ -22,18 +24,14 @@ fn new_lists(alloc: Global) -> Result<Vec<Vec<Entry>>, AllocError>
     Ok(lists)
 }
 
-// Takes an entry into the list of its bucket, if the bucket is wanted.
-fn take_into(lists: &mut Vec<Vec<Entry>>, mask: u64, entry: Entry) -> Result<(), AllocError>
+// Takes an entry into the list of its bucket.
+fn take_into(lists: &mut Vec<Vec<Entry>>, entry: Entry) -> Result<(), AllocError>
     requires { length lists.old.items ≡ BUCKETS }
-    ensures { OnOk result (Takes mask lists.old.items entry lists.new.items) }
+    ensures { OnOk result (Takes lists.old.items entry lists.new.items) }
 {
     // Taken apart, since the prover loses a whole entry while a list is lent.
     let Entry { page, hist } = entry;
-    let bucket = bucket_of(page).get();
-    if (mask >> bucket) % 2 == 0 {
-        return Ok(());
-    }
-    let list = &mut lists[usize::from(bucket)];
+    let list = &mut lists[usize::from(bucket_of(page).get())];
     list.reserve(1)?;
     list.push_reserved(Entry { page, hist });
     Ok(())
@@ -41,11 +39,12 @@ fn take_into(lists: &mut Vec<Vec<Entry>>, mask: u64, entry: Entry) -> Result<(),
 
 // The entries of the wanted buckets, each bucket's in a list of its own.
 fn gathered(alloc: Global, history: &History, mask: u64) -> Result<Vec<Vec<Entry>>, AllocError>
-    ensures { IfOk result (λ lists. HaveGathered mask lists.items (entries_of history.now)) }
+    ensures { IfOk result (λ lists.
+        HaveGathered lists.items (entries_in mask (entries_of history.now))) }
 {
     let mut lists = new_lists(alloc)?;
-    for entry in history.iter() {
-        take_into(&mut lists, mask, entry)?;
+    for entry in wanted_entries(history, mask) {
+        take_into(&mut lists, entry)?;
     }
     Ok(lists)
 }
@@ -123,17 +122,18 @@ pub(crate) fn wanted_frames(
 pub(crate) fn answer_to_sums(
     alloc: Global,
     id: ReplicaId,
-    history: &History,
+    history: &mut Remembered,
     sums: &SumTable,
 ) -> Result<Vec<Frame>, AllocError>
-    ensures { IfOk result (λ frames. AnswersSums id history.now sums.now frames.items) }
+    ensures answer { IfOk result (λ frames. AnswersSums id history.old sums.now frames.items) }
+    ensures same { history.new ≡ history.old }
 {
-    let own = warm_digest::sums(alloc, history)?;
+    let own = history.sums()?;
     let mask = differing(sums, &own);
     if mask == 0 {
         return Ok(Vec::new(alloc));
     }
-    let mut frames = wanted_frames(alloc, id, history, mask)?;
+    let mut frames = wanted_frames(alloc, id, history.history(), mask)?;
     frames.push(Frame::Want { sender: id, mask })?;
     Ok(frames)
 }

@@ -9,7 +9,6 @@ use crate::answers::{answer_to_sums, wanted_frames};
 use crate::fault::NodeFault;
 use crate::node::Node;
 use std::alloc::{AllocError, Global};
-use warm_digest::sums;
 use warm_frames::{EntryList, Frame, FrameList, MAX_ENTRIES};
 use warm_history::Entry;
 use warm_rank::warm_list;
@@ -31,7 +30,7 @@ impl Node {
         let Ok(()) = self.history.absorb(batch) else {
             return Err(NodeFault::Memory);
         };
-        self.pool.refresh(&self.history, &touched);
+        self.pool.refresh(self.history.history(), &touched);
         Ok(())
     }
 
@@ -48,14 +47,16 @@ impl Node {
         let Ok(()) = self.history.join_entries(entries) else {
             return Err(NodeFault::Memory);
         };
-        self.pool.refresh(&self.history, &named);
+        self.pool.refresh(self.history.history(), &named);
         Ok(())
     }
 
     /// Takes what a frame says, and gives the frames that answer it, in order: the call `Receive`.
     ///
+    /// Sums are compared with the node's own, which are kept: having them costs what [`Node::offer`] does.
+    ///
     /// # Errors
-    /// `Memory`: room was refused; nothing has changed.
+    /// `Memory`: room was refused; nothing has changed that a caller sees.
     pub fn receive(&mut self, frame: Frame) -> Result<FrameList, NodeFault>
         requires fit { IsFit state self.old }
         ensures fit { IsFit state self.new }
@@ -67,13 +68,13 @@ impl Node {
                 Ok(FrameList::of(Vec::new(self.alloc)))
             }
             Frame::Digest { sums, .. } => {
-                match answer_to_sums(self.alloc, self.id, &self.history, &sums) {
+                match answer_to_sums(self.alloc, self.id, &mut self.history, &sums) {
                     Ok(frames) => Ok(FrameList::of(frames)),
                     Err(_) => Err(NodeFault::Memory),
                 }
             }
             Frame::Want { mask, .. } => {
-                match wanted_frames(self.alloc, self.id, &self.history, mask) {
+                match wanted_frames(self.alloc, self.id, self.history.history(), mask) {
                     Ok(frames) => Ok(FrameList::of(frames)),
                     Err(_) => Err(NodeFault::Memory),
                 }
@@ -90,8 +91,9 @@ impl Node {
         ensures { Answered state self.now (Send bucket after) Sent result self.now }
     {
         // Asked for what holds of every history: its pages rise.
-        let _whole = self.history.len();
-        let Ok(entries) = self.history.entries(bucket, after, MAX_ENTRIES) else {
+        let history = self.history.history();
+        let _whole = history.len();
+        let Ok(entries) = history.entries(bucket, after, MAX_ENTRIES) else {
             return Err(NodeFault::Memory);
         };
         let Ok(entries) = EntryList::of(entries) else {
@@ -105,12 +107,17 @@ impl Node {
 
     /// A frame of the sums of all buckets: the call `Offer`.
     ///
+    /// The sums are kept. It costs nothing where the history has not changed since the last offer or the last sums received, and
+    /// else a pass over the history, and the hashing of the buckets that changed.
+    ///
     /// # Errors
     /// `Memory`: room was refused; nothing has changed.
-    pub fn offer(&self) -> Result<Frame, NodeFault>
-        ensures { Answered state self.now Offer Sent result self.now }
+    pub fn offer(&mut self) -> Result<Frame, NodeFault>
+        requires fit { IsFit state self.old }
+        ensures fit { IsFit state self.new }
+        ensures step { Answered state self.old Offer Sent result self.new }
     {
-        match sums(self.alloc, &self.history) {
+        match self.history.sums() {
             Ok(sums) => Ok(Frame::Digest {
                 sender: self.id,
                 sums,
@@ -127,8 +134,9 @@ impl Node {
         ensures { Answered state self.now (WarmList n) Pages result self.now }
     {
         // Asked for what holds of every history: its pages rise.
-        let _whole = self.history.len();
-        match warm_list(self.alloc, &self.history, n) {
+        let history = self.history.history();
+        let _whole = history.len();
+        match warm_list(self.alloc, history, n) {
             Ok(pages) => Ok(PageList::of(pages)),
             Err(_) => Err(NodeFault::Memory),
         }

@@ -24,6 +24,7 @@ pub mod laws;
 mod machine;
 mod node;
 mod pool_calls;
+mod remembered;
 #[cfg(test)]
 mod tests;
 mod warm_step;

@@ -9,6 +9,7 @@ ghost use Rattle.warm_gossip.specs.Clauses.{Answered, Goes, IsAtRest, IsBare, Is
 
 use crate::call::{Call, Reply};
 use crate::fault::NodeFault;
+use crate::remembered::Remembered;
 use std::alloc::Global;
 use std::marker::PhantomData;
 use warm_devices::PageDevice;
@@ -18,6 +19,9 @@ use warm_stamps::ReplicaId;
 
 /// One replica: the history of the references that reached it, and its buffer pool, which that history ranks.
 ///
+/// It keeps the sums of its history's buckets, and the list of pages by which it warms up, until the history changes: an offer and a
+/// step of the warm-up that come after no change make neither anew.
+///
 /// A pin is no reference: pages are ranked by the references that the node absorbed. Whoever pins a page also absorbs one.
 ///
 /// Clauses see [`Shown::shown`] of a node. That it is *fit*, its pool a pool and ranked by its history, is a condition that
@@ -26,7 +30,7 @@ use warm_stamps::ReplicaId;
 pub struct Node {
     pub(crate) alloc: Global,
     pub(crate) id: ReplicaId,
-    pub(crate) history: History,
+    pub(crate) history: Remembered,
     pub(crate) pool: Pool,
     // What holds of every boxed device is known where a type names the box.
     pub(crate) boxes: PhantomData<Box<dyn PageDevice + Send>>,
@@ -65,7 +69,7 @@ impl Node {
         Node {
             alloc,
             id,
-            history: History::new(alloc),
+            history: Remembered::new(alloc),
             pool,
             boxes: PhantomData,
         }
@@ -82,7 +86,7 @@ impl Node {
     pub fn history(&self) -> &History
         ensures { result.now ≡ (shown state self.now).history }
     {
-        &self.history
+        self.history.history()
     }
 
     /// Its pool.

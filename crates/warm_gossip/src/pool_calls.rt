@@ -8,7 +8,6 @@ ghost use Rattle.warm_gossip.specs.Step.{IsWithin};
 
 use crate::fault::NodeFault;
 use crate::node::Node;
-use warm_history::History;
 use warm_pool::{PoolFault, Slot};
 use warm_stamps::{ByteList, PageId};
 
@@ -24,7 +23,7 @@ impl Node {
         ensures fit { IsFit state self.new }
         ensures step { Answered state self.old (Pin page) Pinned result self.new }
     {
-        match self.pool.pin(page, &self.history) {
+        match self.pool.pin(page, self.history.history()) {
             Ok(slot) => Ok(slot),
             Err(fault) => Err(NodeFault::Pool(fault)),
         }
@@ -123,7 +122,7 @@ impl Node {
     {
         match self.pool.empty() {
             Ok(()) => {
-                self.history = History::new(self.alloc);
+                self.history.clear();
                 Ok(())
             }
             Err(fault) => Err(NodeFault::Pool(fault)),

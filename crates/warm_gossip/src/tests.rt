@@ -4,11 +4,13 @@ ghost use Rattle.std.specs.Prelude.{IfOk};
 ghost use Rattle.warm_gossip.specs.Clauses.{IsFit};
 
 mod growths;
+mod kept;
 
 use crate::answers::wanted_frames;
 use crate::call::{Call, Reply};
 use crate::fault::NodeFault;
 use crate::node::Node;
+use kept::{hears, offers};
 use std::alloc::{AllocError, Global};
 use std::process::Abort;
 use std::test::Fail;
@@ -250,6 +252,10 @@ enum Row<'a> {
     Loads(Result<Option<PageId>, NodeFault>),
     // The node is restarted.
     Restarts(Result<(), NodeFault>),
+    // All that a history of such references knows is received.
+    Hears(&'a [(u32, u64)]),
+    // The sums offered are of such references, and not those of nothing in the buckets of the mask.
+    Offers(&'a [(u32, u64)], u64),
 }
 
 // Asks what the row says and changes no frame for. `at` is its number.
@@ -298,6 +304,8 @@ fn meets(
 {
     match row {
         Row::Told(references) => told(rt, alloc, node, references),
+        Row::Hears(references) => hears(rt, alloc, node, references),
+        Row::Offers(references, mask) => offers(rt, alloc, node, references, mask),
         Row::Visits(no) => visit(node, no),
         Row::Writes(slot, from, text) => put(alloc, node, slot, from, text),
         Row::Pins(page, wanted) => {

@@ -7,15 +7,17 @@ ghost use Rattle.warm_gossip.specs.Step.{IsFirstLoadable, IsLoadable};
 
 use crate::fault::NodeFault;
 use crate::node::Node;
-use warm_rank::warm_list;
 use warm_stamps::PageId;
 
 impl Node {
     /// Loads the hottest page that is not resident and that a device has, of as many as the pool has frames, and gives it; `None`
     /// where there is none: the call `WarmStep`. On a standby it is called until it gives none, before the standby takes over.
     ///
+    /// The list of these pages is made at the first step, and kept until the history changes. A step that finds it kept takes no
+    /// memory, and looks each page up from the hottest on until one is not resident.
+    ///
     /// # Errors
-    /// `Memory`: there was no room for the list of the hottest pages. `Pool`, with the fault and the order of
+    /// `Memory`: there was no room for the list of the hottest pages; the next step makes it. `Pool`, with the fault and the order of
     /// [`warm_pool::Pool::load`]. Pages, fixes and contents are as they were.
     pub fn warm_step(&mut self) -> Result<Option<PageId>, NodeFault>
         requires fit { IsFit state self.old }
@@ -23,14 +25,16 @@ impl Node {
         ensures step { Answered state self.old WarmStep Loaded result self.new }
     {
         // Asked for what holds of every history: its pages rise.
-        let _whole = self.history.len();
-        let Ok(pages) = warm_list(self.alloc, &self.history, self.pool.frames()) else {
+        let _whole = self.history.history().len();
+        let Ok(list) = self.history.take_hottest(self.pool.frames()) else {
             return Err(NodeFault::Memory);
         };
-        let Some(page) = self.first_loadable(&pages) else {
+        let next = self.first_loadable(&list.pages);
+        self.history.keep(list);
+        let Some(page) = next else {
             return Ok(None);
         };
-        match self.pool.load(page, &self.history) {
+        match self.pool.load(page, self.history.history()) {
             Ok(_) => Ok(Some(page)),
             Err(fault) => Err(NodeFault::Pool(fault)),
         }

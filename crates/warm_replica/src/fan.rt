@@ -14,7 +14,7 @@ use std::alloc::{AllocError, Global};
 use std::snapshot::Snapshot;
 use std::sync::Wait;
 use std::thread;
-use std::thread::{Promise, Scope, Threads};
+use std::thread::{Promise, PromisedHandle, Scope, Threads};
 use warm_refbuffer::{MAX_CAPACITY, RefBuffer};
 use warm_turn::{Machine, Pass, Turn};
 
@@ -71,6 +71,40 @@ fn run_job<M: Absorbing, R: Wait, G: Gate>(
     (pass, replies)
 }
 
+// Starts a job in a thread of its own, with a pass of its own.
+fn start_job<'s, E, M: Absorbing + Send + 's, R: Wait + Sync, G: Gate + Sync>(
+    scope: &Scope<'s, E>,
+    rt: &'s R,
+    alloc: Global,
+    replica: &'s Turn<M>,
+    gate: &'s G,
+    mine: Pass<M>,
+    ready: Ready,
+) -> Result<PromisedHandle<(Pass<M>, Vec<StepReply>), Began<M>>, NoThread>
+    requires send { IsSend M.row × IsSync R.row × IsSync G.row }
+    requires table { mine.table ≡ replica.now.table }
+    ensures buffer { IfOk result (λ child. child.promise.buffer.value ≡ ready.buffer) }
+    ensures steps { IfOk result (λ child. child.promise.steps.value ≡ ready.steps) }
+    ensures pass { IfOk result (λ child. child.promise.pass.value ≡ mine) }
+{
+    let began = Began {
+        buffer: Snapshot::of(&ready.buffer),
+        steps: Snapshot::of(&ready.steps),
+        pass: Snapshot::of(&mine),
+    };
+    match scope.spawn_with(
+        began,
+        move || -> (Pass<M>, Vec<StepReply>)
+            requires { mine.table ≡ replica.now.table }
+            ensures { (result.0.table ≡ mine.table)
+                × ReadyWent ready result.1 mine.view result.0.view }
+        { run_job(rt, alloc, replica, gate, mine, ready) },
+    ) {
+        Ok(child) => Ok(child),
+        Err(_) => Err(NoThread),
+    }
+}
+
 // Runs each job in a thread of its own, the last one first to start, and ends their passes into this one.
 fn fan_out<'s, E, M: Absorbing + Send + 's, R: Threads + Wait + Sync, G: Gate + Sync>(
     scope: &Scope<'s, E>,
@@ -93,19 +127,7 @@ fn fan_out<'s, E, M: Absorbing + Send + 's, R: Threads + Wait + Sync, G: Gate + 
         return Ok(());
     };
     let mine = replica.pass(pass);
-    let began = Began {
-        buffer: Snapshot::of(&ready.buffer),
-        steps: Snapshot::of(&ready.steps),
-        pass: Snapshot::of(&mine),
-    };
-    let Ok(child) = scope.spawn_with(
-        began,
-        move || -> (Pass<M>, Vec<StepReply>)
-            requires { mine.table ≡ replica.now.table }
-            ensures { (result.0.table ≡ mine.table)
-                × ReadyWent ready result.1 mine.view result.0.view }
-        { run_job(rt, alloc, replica, gate, mine, ready) },
-    ) else {
+    let Ok(child) = start_job(scope, rt, alloc, replica, gate, mine, ready) else {
         return Err(NoThread);
     };
     let rest = fan_out(scope, rt, alloc, replica, gate, pass, jobs, all);
@@ -176,7 +198,8 @@ fn run_ready<M: Absorbing + Send, R: Threads + Wait + Sync, G: Gate + Sync>(
         thread::scope_env(),
         rt,
         move |scope| -> (Pass<M>, Result<Vec<Vec<StepReply>>, NoThread>)
-            requires { IsSend M.row × IsSync R.row × IsSync G.row × (own.table ≡ replica.now.table)
+            requires { IsSend M.row × IsSync R.row × IsSync G.row
+                × (own.table ≡ replica.now.table)
                 × (all.items ≡ []) × (length ready.items ≤ vec_capacity all) }
             ensures { (result.0.table ≡ own.table)
                 × Fanned own.view ready.items result.1 result.0.view }
@@ -216,7 +239,8 @@ pub fn run_workers<M: Absorbing + Send, R: Threads + Wait + Sync, G: Gate + Sync
     ensures went { IfOk result (λ all. JobsWent pass.old.view jobs.items all.items pass.new.view) }
     ensures capacity { (result ≡ Err RunFault.BadCapacity) ↔ (¬ HaveCapacities jobs.items) }
     ensures started { result ≡ Err RunFault.NoThread → HasSeenMore pass.old.view pass.new.view }
-    ensures refused { IfErr result (λ fault. ¬ (fault ≡ RunFault.NoThread) → pass.new ≡ pass.old) }
+    ensures refused { IfErr result
+        (λ fault. ¬ (fault ≡ RunFault.NoThread) → pass.new ≡ pass.old) }
 {
     if !have_capacities(&jobs) {
         return Err(RunFault::BadCapacity);

@@ -95,7 +95,8 @@ pub(crate) fn take_steps<M: Absorbing, R: Wait, G: Gate>(
     replies: &mut Vec<StepReply>,
 )
     requires table { worker.old.pass.table ≡ replica.now.table }
-    requires room { (replies.old.items ≡ []) × (length steps.items ≤ vec_capacity replies.old) }
+    requires room { (replies.old.items ≡ [])
+        × (length steps.items ≤ vec_capacity replies.old) }
     ensures table { worker.new.pass.table ≡ worker.old.pass.table }
     ensures went { StepsWent worker.old steps.items replies.new.items worker.new }
 {

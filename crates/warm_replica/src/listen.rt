@@ -6,7 +6,7 @@ ghost use Rattle.warm_replica.specs.declared.mail.Mail.TheVariants.{Bytes};
 
 use crate::mail::Mail;
 use crate::post::Post;
-use crate::report::MailReport;
+use crate::report::{MailReport, NOTHING, REFUSED};
 use crate::worker::Worker;
 use std::alloc::Global;
 use std::sync::Wait;
@@ -69,26 +69,14 @@ fn hear<M: Machine<Call = Call, Reply = Reply>, P: Post, R: Wait>(
     ensures bound { (result.joined ≤ 1) × (result.refused ≤ 1) × (result.lost < 2 ^ 64) }
 {
     let Ok(frame) = decode(alloc, bytes.as_slice()) else {
-        return MailReport {
-            joined: 0,
-            refused: 1,
-            lost: 0,
-        };
+        return REFUSED;
     };
     let to = sender_of(&frame);
     let Ok(reply) = worker.call(rt, replica, Call::Receive(frame)) else {
-        return MailReport {
-            joined: 0,
-            refused: 1,
-            lost: 0,
-        };
+        return REFUSED;
     };
     let Reply::Answers(frames) = reply else {
-        return MailReport {
-            joined: 0,
-            refused: 1,
-            lost: 0,
-        };
+        return REFUSED;
     };
     let lost = post_all(alloc, post, to, frames.as_slice());
     MailReport {
@@ -136,11 +124,7 @@ pub fn mail_loop<
     ensures heard { (items : List Mail) × Took I.next_gives mail stops turns items
         × HeardBy P.keeps P.given worker.old post.old items result worker.new post.new }
 {
-    let mut report = MailReport {
-        joined: 0,
-        refused: 0,
-        lost: 0,
-    };
+    let mut report = NOTHING;
     let mut missing = stops;
     for _turn in 0..turns {
         if missing == 0 {
@@ -151,12 +135,7 @@ pub fn mail_loop<
         };
         match item {
             Mail::Stop => missing -= 1,
-            Mail::Bytes(bytes) => {
-                let one = hear(rt, alloc, replica, worker, post, bytes);
-                report.joined += one.joined;
-                report.refused += one.refused;
-                report.lost += one.lost;
-            }
+            Mail::Bytes(bytes) => report.add(hear(rt, alloc, replica, worker, post, bytes)),
         }
     }
     report

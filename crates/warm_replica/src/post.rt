@@ -1,6 +1,6 @@
 //! Posts: where the frames go that a replica answers.
 ghost use Rattle.std.specs.Prelude.{◌≡◌, ◌≢◌, [], ◌∷◌, ◌++◌, true, false};
-ghost use Rattle.std.specs.Prelude.{IfErr, IsErr, OnErr, OnOk};
+ghost use Rattle.std.specs.Prelude.{IfErr, IsErr, OnErr, OnOk, Some, ◌==◌, position};
 ghost use Rattle.std.specs.List.{All};
 ghost use Rattle.warm_replica.specs.Parcels.{Gained};
 
@@ -89,6 +89,36 @@ pub struct Outbox {
     pub sender: Sender<Mail>,
 }
 
+// The place of the first outbox of a replica's number.
+fn place_of(boxes: &[Outbox], to: ReplicaId) -> Option<usize>
+    ensures { result ≡ position (λ outbox. outbox.replica == to) boxes.now }
+{
+    boxes.iter().position(|outbox| outbox.replica == to)
+}
+
+// Sends bytes to an outbox, which is the first of the replica's number: the one call that sends. What the other end of a channel
+// gets no clause can say. May wait.
+fn send_at<R: Wait>(
+    rt: &R,
+    boxes: &[Outbox],
+    at: usize,
+    to: ReplicaId,
+    bytes: ByteList,
+) -> Result<(), ByteList>
+    requires { position (λ outbox. outbox.replica == to) boxes.now ≡ Some at }
+    ensures { IfErr result (λ same. same ≡ bytes) }
+{
+    match boxes[at].sender.send(rt, Mail::Bytes(bytes)) {
+        Ok(()) => Ok(()),
+        Err(failed) => {
+            let Mail::Bytes(back) = failed.into_inner() else {
+                unreachable!()
+            };
+            Err(back)
+        }
+    }
+}
+
 /// A post that sends to the first outbox of a replica's number, for replicas that listen in threads of one program. It keeps nothing.
 #[derive(Drop)]
 pub struct Outboxes<'a, R: Wait> {
@@ -115,21 +145,12 @@ impl<'a, R: Wait> Post for Outboxes<'a, R> {
         ensures back { IfErr result (λ same. same ≡ bytes) }
         ensures taken { OnOk result (Gained false [] ((to, bytes) ∷ []) []) }
         ensures same { OnErr result (Gained false [] [] []) }
-        ensures nobody { All (λ outbox. outbox.replica ≢ to) self.old.boxes.items → IsErr result }
+        ensures nobody { All (λ outbox. outbox.replica ≢ to) self.old.boxes.items
+            → IsErr result }
     {
-        for outbox in &self.boxes {
-            if outbox.replica == to {
-                return match outbox.sender.send(self.rt, Mail::Bytes(bytes)) {
-                    Ok(()) => Ok(()),
-                    Err(failed) => {
-                        let Mail::Bytes(back) = failed.into_inner() else {
-                            unreachable!()
-                        };
-                        Err(back)
-                    }
-                };
-            }
+        match place_of(self.boxes.as_slice(), to) {
+            Some(at) => send_at(self.rt, self.boxes.as_slice(), at, to, bytes),
+            None => Err(bytes),
         }
-        Err(bytes)
     }
 }

@@ -14,7 +14,7 @@ use std::alloc::Global;
 use std::snapshot::Snapshot;
 use std::sync::Wait;
 use std::thread;
-use std::thread::{Promise, Scope, Threads};
+use std::thread::{Promise, PromisedHandle, Scope, Threads};
 use warm_gossip::{Call, Reply};
 use warm_turn::{Machine, Turn};
 
@@ -110,6 +110,34 @@ fn listen_at<M: Machine<Call = Call, Reply = Reply>, R: Wait>(
     listen_alone(rt, alloc, replica, worker, receiver, boxes, stops, turns)
 }
 
+// Starts a station's loop in a thread of its own.
+fn start_station<'s, E, M: Machine<Call = Call, Reply = Reply> + Send + 's, R: Wait + Sync>(
+    scope: &Scope<'s, E>,
+    rt: &'s R,
+    alloc: Global,
+    station: Station<'s, M>,
+    stops: u64,
+    turns: u64,
+) -> Result<PromisedHandle<(Worker<M>, MailReport), Began<M>>, NoThread>
+    requires send { IsSend M.row × IsSync R.row }
+    ensures worker { IfOk result (λ child. child.promise.worker.value ≡ station.entry.worker) }
+    ensures turns { IfOk result (λ child. child.promise.turns ≡ turns) }
+{
+    let began = Began {
+        worker: Snapshot::of(&station.worker),
+        turns,
+    };
+    match scope.spawn_with(
+        began,
+        move || -> (Worker<M>, MailReport)
+            ensures { Listened turns station.entry.worker.pass.view result.1 result.0.pass.view }
+        { listen_at(rt, alloc, station, stops, turns) },
+    ) {
+        Ok(child) => Ok(child),
+        Err(_) => Err(NoThread),
+    }
+}
+
 // Each station takes its mail in a thread of its own, the last one first to start.
 pub(crate) fn listen_all<
     's,
@@ -134,16 +162,7 @@ pub(crate) fn listen_all<
     let Some(station) = stations.pop() else {
         return Ok(());
     };
-    let began = Began {
-        worker: Snapshot::of(&station.worker),
-        turns,
-    };
-    let Ok(child) = scope.spawn_with(
-        began,
-        move || -> (Worker<M>, MailReport)
-            ensures { Listened turns station.entry.worker.pass.view result.1 result.0.pass.view }
-        { listen_at(rt, alloc, station, stops, turns) },
-    ) else {
+    let Ok(child) = start_station(scope, rt, alloc, station, stops, turns) else {
         return Err(NoThread);
     };
     let rest = listen_all(scope, rt, alloc, stations, stops, turns, all);

@@ -81,7 +81,8 @@ impl<M: Machine<Call = Call, Reply = Reply>> Worker<M> {
             → IsOk result
             × (self.new.buffer ≡ touched self.old.buffer reference) }
         ensures full { self.old.buffer.cap ≤ length self.old.buffer.refs
-            → (result ≡ Err (record { 0 = reference })) × (self.new.buffer ≡ self.old.buffer) }
+            → (result ≡ Err (record { 0 = reference }))
+            × (self.new.buffer ≡ self.old.buffer) }
     {
         self.buffer.touch(reference)
     }
@@ -94,7 +95,8 @@ impl<M: Machine<Call = Call, Reply = Reply>> Worker<M> {
         requires { self.old.pass.table ≡ replica.now.table }
         ensures table { self.new.pass.table ≡ self.old.pass.table }
         ensures buffer { self.new.buffer ≡ self.old.buffer }
-        ensures ok { IfOk result (λ r. Called M.goes self.old.pass.view call r self.new.pass.view) }
+        ensures ok { IfOk result
+            (λ r. Called M.goes self.old.pass.view call r self.new.pass.view) }
         ensures back { IfErr result (λ c. c ≡ call) }
         ensures spent { IfErr result (λ _. self.new.pass.view ≡ marked self.old.pass.view) }
     {

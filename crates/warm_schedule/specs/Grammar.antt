@@ -117,13 +117,9 @@ show_of fields = do
 
 -- ---- a whole line
 
-abbrev pub event_of : List ℕ → List (List ℕ) → Option Event
-event_of command fields = if bytes_eq command (codes "ref") then refer_of fields
-    else (if bytes_eq command (codes "flush") then flush_of fields
-    else (if bytes_eq command (codes "send") then send_of fields
-    else (if bytes_eq command (codes "offer") then offer_of fields
-    else (if bytes_eq command (codes "deliver") then deliver_of fields
-    else (if bytes_eq command (codes "pin") then pin_of fields
+-- the commands that name neither a worker nor a message: what a pool is asked, a restart, and a show
+abbrev pub alone_event_of : List ℕ → List (List ℕ) → Option Event
+alone_event_of command fields = if bytes_eq command (codes "pin") then pin_of fields
     else (if bytes_eq command (codes "unpin") then unpin_of fields
     else (if bytes_eq command (codes "put") then put_of fields
     else (if bytes_eq command (codes "get") then get_of fields
@@ -131,7 +127,15 @@ event_of command fields = if bytes_eq command (codes "ref") then refer_of fields
     else (if bytes_eq command (codes "warm") then warm_of fields
     else (if bytes_eq command (codes "warmstep") then warmstep_of fields
     else (if bytes_eq command (codes "restart") then restart_of fields
-    else (if bytes_eq command (codes "show") then show_of fields else None)))))))))))))
+    else (if bytes_eq command (codes "show") then show_of fields else None))))))))
+
+abbrev pub event_of : List ℕ → List (List ℕ) → Option Event
+event_of command fields = if bytes_eq command (codes "ref") then refer_of fields
+    else (if bytes_eq command (codes "flush") then flush_of fields
+    else (if bytes_eq command (codes "send") then send_of fields
+    else (if bytes_eq command (codes "offer") then offer_of fields
+    else (if bytes_eq command (codes "deliver") then deliver_of fields
+    else alone_event_of command fields))))
 
 abbrev pub begins_with : ℕ → List ℕ → Bool
 begins_with c [] = false

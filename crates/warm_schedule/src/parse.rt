@@ -2,7 +2,8 @@
 ghost use Rattle.std.specs.Prelude.{◌≡◌, false, bytes_eq, codes, option_map, option_and_then};
 ghost use Rattle.warm_schedule.specs.Text.{words};
 ghost use Rattle.warm_schedule.specs.Grammar.{refer_of, flush_of, send_of, offer_of, deliver_of, pin_of, unpin_of, put_of, get_of};
-ghost use Rattle.warm_schedule.specs.Grammar.{victim_of, warm_of, warmstep_of, restart_of, show_of, event_of, meaning};
+ghost use Rattle.warm_schedule.specs.Grammar.{victim_of, warm_of, warmstep_of, restart_of, show_of};
+ghost use Rattle.warm_schedule.specs.Grammar.{alone_event_of, event_of, meaning};
 ghost use Rattle.warm_world.specs.declared.event.Event.TheVariants.{Put};
 ghost use Rattle.warm_schedule.specs.Fields.{bytes_of};
 ghost use Rattle.warm_schedule.specs.Reading.{Reads, IsPut, PutsBytes, line_fault_code, line_fault_name};
@@ -252,26 +253,11 @@ fn show(fields: &[u8]) -> Option<Event>
     Some(Event::Show(replica as u16))
 }
 
-// What a command with its fields asks for, where it isn't `put`.
-fn plain_event(command: &[u8], fields: &[u8]) -> Option<Event>
+// The commands that name neither a worker nor a message, but for `put`.
+fn alone_event(command: &[u8], fields: &[u8]) -> Option<Event>
     requires { bytes_eq command.now (codes "put") ≡ false }
-    ensures { result ≡ event_of command.now (words fields.now) }
+    ensures { result ≡ alone_event_of command.now (words fields.now) }
 {
-    if command == b"ref".as_slice() {
-        return refer(fields);
-    }
-    if command == b"flush".as_slice() {
-        return flush(fields);
-    }
-    if command == b"send".as_slice() {
-        return send(fields);
-    }
-    if command == b"offer".as_slice() {
-        return offer(fields);
-    }
-    if command == b"deliver".as_slice() {
-        return deliver(fields);
-    }
     if command == b"pin".as_slice() {
         return pin(fields);
     }
@@ -297,6 +283,29 @@ fn plain_event(command: &[u8], fields: &[u8]) -> Option<Event>
         return show(fields);
     }
     None
+}
+
+// What a command with its fields asks for, where it isn't `put`.
+fn plain_event(command: &[u8], fields: &[u8]) -> Option<Event>
+    requires { bytes_eq command.now (codes "put") ≡ false }
+    ensures { result ≡ event_of command.now (words fields.now) }
+{
+    if command == b"ref".as_slice() {
+        return refer(fields);
+    }
+    if command == b"flush".as_slice() {
+        return flush(fields);
+    }
+    if command == b"send".as_slice() {
+        return send(fields);
+    }
+    if command == b"offer".as_slice() {
+        return offer(fields);
+    }
+    if command == b"deliver".as_slice() {
+        return deliver(fields);
+    }
+    alone_event(command, fields)
 }
 
 fn event(alloc: Global, command: &[u8], fields: &[u8]) -> Result<Event, LineFault>

@@ -134,7 +134,8 @@ impl Session {
         ensures fit { OnOk result (IsWorld state self.new.world) }
         ensures goes { OnOk result ((out : List ℕ)
             × Appends (W.contents writer.old) (W.contents writer.new) out
-            × Goes (session state self.old) (piece.now ++ 10 ∷ []) out (session state self.new)) }
+            × Goes (session state self.old) (piece.now ++ 10 ∷ []) out
+            (session state self.new)) }
         ensures number { OnOk result (self.new.number ≡ self.old.number + 1) }
     {
         if self.line.is_empty() {
@@ -274,7 +275,8 @@ pub fn play<R: Read, W: Write>(
     requires few { AreFew (listed state devices.items) }
     ensures end { OnOk result (IsAtEnd (R.remaining reader.new)) }
     ensures misfit { (AreFitting setup (listed state devices.items) → ⊥)
-        → (result ≡ Err BadDevices) × (reader.new ≡ reader.old) × (writer.new ≡ writer.old) }
+        → (result ≡ Err BadDevices)
+        × (reader.new ≡ reader.old) × (writer.new ≡ writer.old) }
     ensures printed { OnOk result (IfSome (R.remaining reader.old) (λ text. (out : List ℕ)
         × Appends (W.contents writer.old) (W.contents writer.new) out
         × Played (opening setup (listed state devices.items)) text out)) }

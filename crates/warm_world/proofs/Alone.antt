@@ -84,17 +84,17 @@ send_refused old new bucket after Memory r = refl
 send_refused old new bucket after StaleSlot r = absurd r
 send_refused old new bucket after (Pool why) r = absurd r
 
-pub offer_refused : (old new : NodeView) (why : NodeFault) → Refuses old call.Offer why new → why ≡ Memory
-offer_refused old new Memory r = refl
-offer_refused old new StaleSlot r = absurd r
-offer_refused old new (Pool why) r = absurd r
-
 pub warm_list_refused : (old new : NodeView) (n : ℕ) (why : NodeFault) → Refuses old (call.WarmList n) why new → why ≡ Memory
 warm_list_refused old new n Memory r = refl
 warm_list_refused old new n StaleSlot r = absurd r
 warm_list_refused old new n (Pool why) r = absurd r
 
 -- and changes nothing then
+pub offer_refused : (old new : NodeView) (why : NodeFault) → Refuses old call.Offer why new → (why ≡ Memory) × (new ≡ old)
+offer_refused old new Memory r = (refl, r)
+offer_refused old new StaleSlot r = absurd r
+offer_refused old new (Pool why) r = absurd r
+
 pub receive_refused : (old new : NodeView) (frame : Frame) (why : NodeFault) → Refuses old (call.Receive frame) why new → (why ≡ Memory) × (new ≡ old)
 receive_refused old new frame Memory r = (refl, r)
 receive_refused old new frame StaleSlot r = absurd r

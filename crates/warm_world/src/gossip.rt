@@ -15,8 +15,8 @@ use warm_stamps::{Bucket, PageId};
 
 // The bytes of each of the frames.
 fn encoded(alloc: Global, frames: &[Frame]) -> Result<Vec<Vec<u8>>, AllocError>
-    ensures { IfOk result (λ all.
-        Pairwise (λ _ bytes frame. Encodes bytes frame) (map (λ f. f.items) all.items) frames.now) }
+    ensures { IfOk result (λ all. Pairwise (λ _ bytes frame. Encodes bytes frame)
+        (map (λ f. f.items) all.items) frames.now) }
 {
     let mut all = Vec::with_capacity(alloc, frames.len())?;
     for frame in frames {

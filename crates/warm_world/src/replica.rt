@@ -108,7 +108,8 @@ impl Replica {
         ensures puts { (room place : ℕ) (m : ReplicaState)
             → ReplicaStands room place (seen_replica state self.old) m
             → length (pending m worker) < room
-            → ReplicaStands room place (seen_replica state self.new) (put_last worker reference m) }
+            → ReplicaStands room place (seen_replica state self.new)
+            (put_last worker reference m) }
     {
         let _ = self.buffers[worker].touch(reference);
     }
@@ -119,8 +120,8 @@ impl Replica {
         requires there { worker < length self.old.buffers.items }
         ensures fit { IsFit state self.new.node }
         ensures ok { (room : ℕ) (made : Reference) → made ≡ stamped self.old.node.id page time
-            → OnOk result (Becomes room (seen_replica state self.old) (seen_replica state self.new)
-            (referred room worker made)) }
+            → OnOk result (Becomes room (seen_replica state self.old)
+            (seen_replica state self.new) (referred room worker made)) }
         ensures err { IfErr result (λ why. (why ≡ Memory)
             × (seen_replica state self.new ≡ seen_replica state self.old)) }
         ensures full { OnErr result (IsFull (seen_replica state self.old) worker) }

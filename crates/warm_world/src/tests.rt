@@ -387,22 +387,16 @@ fn meets(
         Row::Hottest(i, pages, wanted) => return are_hottest(rt, world, i, pages, wanted, at),
         Row::Knows(i, wanted) => return has_entries(rt, &shown(world, i)?, wanted, at),
         Row::Refers(i, w, page, time, wanted) => {
-            assert_eq!(rt;
-                settled(world, Event::Refer(i, w, page, time)),
-                wanted,
-                "row {at}"
-            )
+            let refer = Event::Refer(i, w, page, time);
+            assert_eq!(rt; settled(world, refer), wanted, "row {at}")
         }
         Row::Flushes(i, w, wanted) => {
             assert_eq!(rt; settled(world, Event::Flush(i, w)), wanted, "row {at}")
         }
         Row::Sends(i, bucket, after, wanted) => {
             let bucket = Bucket::new(bucket).ok_or("a bucket")?;
-            assert_eq!(rt;
-                kept(world, Event::Send(i, bucket, after)),
-                Ok(wanted),
-                "row {at}"
-            )
+            let send = Event::Send(i, bucket, after);
+            assert_eq!(rt; kept(world, send), Ok(wanted), "row {at}")
         }
         Row::Offers(i, wanted) => {
             assert_eq!(rt; kept(world, Event::Offer(i)), Ok(wanted), "row {at}")

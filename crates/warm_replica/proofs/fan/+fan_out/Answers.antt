@@ -1,13 +1,9 @@
 use Rattle.std.proofs.Common.{rules, ◌≡◌, ◌<◌, ◌≤◌, ◌+◌, ◌++◌, [], ◌∷◌, length, ap, ◌∙◌, sym, arith, append-nil, subst}
 use Rattle.std.proofs.lemmas.List.{length-append}
-use denote.Param.Send.{sendable}
-use Rattle.std.proofs.Crossing.{crosses}
-use Rattle.warm_turn.proofs.Sent.{pass_send, turn_sync}
 use Rattle.warm_turn.specs.Turns.{Widened}
 use Rattle.warm_replica.specs.Fanning.{ReadyWentAs}
 use Rattle.warm_replica.specs.Jobs.{JobWent, WentAs}
 use Rattle.warm_replica.specs.Pairs.{Triples}
-use Rattle.warm_replica.proofs.Sent.{ready_send, step_reply_send}
 use Rattle.warm_replica.proofs.Fans.{widened_none, widened_more, fan_none, fan_stop, fan_err, fan_room, fan_more, triples_length, job_as, ran_as, none_ended}
 use Rattle.warm_turn.specs.Turns.{new_pass}
 use Rattle.warm_replica.proofs.fan.+fan_out.Goals as goal
@@ -15,21 +11,14 @@ use Rattle.warm_replica.proofs.fan.+fan_out.Goals as goal
 pub returns-in_default-clause-fanned : goal.returns-in_default-clause-fanned
 returns-in_default-clause-fanned g t c = fan_none _ c.args.pass.now.view c.args.jobs.items c.args.all.now.items (search rules) c.requires.room.0
 
-pub spawn_with-requires-send-F : goal.spawn_with-requires-send-F
-spawn_with-requires-send-F g t c κs within = let m = c.requires.send.0 in let r = c.requires.send.1 in let gate = c.requires.send.2 in search (sendable, crosses, pass_send, turn_sync, ready_send) depth 20
-
-pub spawn_with-requires-send-T : goal.spawn_with-requires-send-T
-spawn_with-requires-send-T g t c κs within = let m = c.requires.send.0 in search (sendable, crosses, pass_send, step_reply_send) depth 20
-
-pub returns-in_default-spawn_with-clause-fanned : goal.returns-in_default-spawn_with-clause-fanned
-returns-in_default-spawn_with-clause-fanned g t c = fan_stop c.args.pass.now.view _ (ap (λ p. p.view) c.pass-mine.ensures.same)
+pub returns-in_default-start_job-clause-fanned : goal.returns-in_default-start_job-clause-fanned
+returns-in_default-start_job-clause-fanned g t c = fan_stop c.args.pass.now.view _ (ap (λ p. p.view) c.pass-mine.ensures.same)
 
 pub returns-in-Err-clause-fanned : goal.returns-in-Err-clause-fanned
 returns-in-Err-clause-fanned g t c =
-    let began = c.in-Ok.ensures.ok in
-    let room = ap (λ p. p.buffer.value) began ∙ c.of.ensures in
-    let steps = ap (λ p. p.steps.value) began ∙ c.of-2.ensures in
-    let start = ap (λ p. p.pass.value) began ∙ c.of-3.ensures in
+    let room = c.in-Ok.ensures.buffer in
+    let steps = c.in-Ok.ensures.steps in
+    let start = c.in-Ok.ensures.pass in
     let n = c.pass-mine.ensures.given.0 in
     let v = c.args.pass.now.view in
     let end = c.join-theirs.result.0.view in
@@ -45,10 +34,9 @@ push_reserved-requires g t c =
 
 pub returns-clause-fanned : goal.returns-clause-fanned
 returns-clause-fanned g t c =
-    let began = c.in-Ok.ensures.ok in
-    let room = ap (λ p. p.buffer.value) began ∙ c.of.ensures in
-    let steps = ap (λ p. p.steps.value) began ∙ c.of-2.ensures in
-    let start = ap (λ p. p.pass.value) began ∙ c.of-3.ensures in
+    let room = c.in-Ok.ensures.buffer in
+    let steps = c.in-Ok.ensures.steps in
+    let start = c.in-Ok.ensures.pass in
     let n = c.pass-mine.ensures.given.0 in
     let v = c.args.pass.now.view in
     let end = c.join-theirs.result.0.view in

@@ -4,4 +4,5 @@ use Rattle.warm_gossip.proofs.node.Node.absorb.Goals as goal
 
 pub returns-clause-fit : goal.returns-clause-fit
 returns-clause-fit g c =
-    (c.refresh.ensures.pool, c.refresh.ensures.ranked c.args.self.now.history c.requires.fit.1 (absorbed_agrees_as _ _ _ _ (c.deref.ensures.value ∙ c.in-Ok.ensures) c.in-Ok-absorb.ensures.exact))
+    let agrees = absorbed_agrees_as _ _ _ _ (c.deref.ensures.value ∙ c.in-Ok.ensures) (c.history.ensures ∙ c.in-Ok-absorb.ensures.exact) in
+    (c.refresh.ensures.pool, rw c.history.ensures at (c.refresh.ensures.ranked c.args.self.now.history c.requires.fit.1 agrees))

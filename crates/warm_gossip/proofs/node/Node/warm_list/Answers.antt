@@ -1,9 +1,14 @@
-use Rattle.std.proofs.Common.{refl, sym, ◌∙◌}
-use Rattle.warm_history.specs.Histories.{refs}
+use Rattle.std.proofs.Common.{ap, refl, sym, ◌∙◌}
+use Rattle.warm_history.specs.Histories.{HistoryView, refs}
 use Rattle.warm_history.proofs.JoinLemmas.{history_of_own_references}
+use Rattle.warm_rank.specs.Ranking.{warm}
 use Rattle.warm_gossip.proofs.node.Node.warm_list.Goals as goal
 
 pub returns-in-Ok : goal.returns-in-Ok
 returns-in-Ok g c =
-    let h = c.args.self.now.history in
-    (c.of.ensures ∙ c.in-Ok.ensures (refs h) (sym (history_of_own_references h c.len-whole.ensures.whole)), refl)
+    let h = c.history-history.result.now in (
+      c.of.ensures
+          ∙ c.in-Ok.ensures (refs h) (sym (history_of_own_references h c.len-whole.ensures.whole))
+          ∙ ap (λ (k : HistoryView). warm (refs k) c.args.n) c.history-history.ensures,
+      refl,
+    )

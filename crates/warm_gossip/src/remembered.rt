@@ -1,0 +1,125 @@
+//! What a node remembers: its history, and what it has made of that.
+ghost use Rattle.std.specs.Prelude.{◌≡◌, [], IfOk, OnOk, OnErr};
+ghost use Rattle.warm_history.specs.ReferenceSets.{these, ◌∪◌};
+ghost use Rattle.warm_history.specs.Histories.{entries_of, history, holding, join, refs};
+ghost use Rattle.warm_digest.specs.BucketSums.{sums_of};
+ghost use Rattle.warm_gossip.specs.Remembered.{IsHottest};
+
+use std::alloc::{AllocError, Global};
+use std::marker::Model;
+use warm_digest::SummedHistory;
+use warm_frames::SumTable;
+use warm_history::{Entry, History};
+use warm_rank::warm_list;
+use warm_stamps::{PageId, Reference};
+
+/// The hottest pages of a history, hottest first: so many of them, or all where it has fewer.
+#[derive(Drop)]
+pub(crate) struct Hottest {
+    pub(crate) asked: usize,
+    pub(crate) pages: Vec<PageId>,
+}
+
+/// A history with the sums of its buckets and a list of its hottest pages. Both are kept until the history changes: then the
+/// sums of the buckets that changed are taken anew when they are next asked for, and so is the whole list.
+///
+/// Contracts see it as its history.
+#[derive(Drop)]
+pub(crate) struct Remembered {
+    alloc: Global,
+    summed: SummedHistory,
+    hottest: Option<Hottest>,
+}
+
+impl Model for Remembered {
+    ghost use Rattle.std.specs.Prelude.{IfSome};
+    ghost use Rattle.warm_history.specs.Histories.{HistoryView};
+    ghost use Rattle.warm_gossip.specs.Remembered.{IsHottest};
+
+    ghost Value = { HistoryView };
+
+    ghost view = { λ remembered. remembered.summed };
+
+    ghost invariant = { λ remembered. IfSome remembered.hottest (IsHottest remembered.summed) };
+}
+
+impl Remembered {
+    /// Nothing. Takes no memory.
+    pub(crate) fn new(alloc: Global) -> Remembered
+        ensures { result ≡ holding [] }
+    {
+        Remembered {
+            alloc,
+            summed: SummedHistory::new(alloc),
+            hottest: None,
+        }
+    }
+
+    /// The history.
+    pub(crate) fn history(&self) -> &History
+        ensures { result.now ≡ self.now }
+    {
+        self.summed.history()
+    }
+
+    /// Takes in references. `AllocError` changes nothing.
+    pub(crate) fn absorb(&mut self, batch: &[Reference]) -> Result<(), AllocError>
+        ensures exact { OnOk result (self.new ≡ history (refs self.old ∪ these batch.now)) }
+        ensures err { OnErr result (self.new ≡ self.old) }
+    {
+        self.summed.absorb(batch)?;
+        self.hottest = None;
+        Ok(())
+    }
+
+    /// Takes in all that these entries hold. `AllocError` changes nothing.
+    pub(crate) fn join_entries(&mut self, more: &[Entry]) -> Result<(), AllocError>
+        ensures exact { OnOk result (self.new ≡ join self.old (holding more.now)) }
+        ensures err { OnErr result (self.new ≡ self.old) }
+    {
+        self.summed.join_entries(more)?;
+        self.hottest = None;
+        Ok(())
+    }
+
+    /// Forgets everything. Takes no memory.
+    pub(crate) fn clear(&mut self)
+        ensures { self.new ≡ holding [] }
+    {
+        self.summed.clear();
+        self.hottest = None;
+    }
+
+    /// The sums of the history's buckets, at the cost of [`SummedHistory::sums`]: nothing where none has changed.
+    pub(crate) fn sums(&mut self) -> Result<SumTable, AllocError>
+        ensures table { IfOk result (λ table. table ≡ sums_of (entries_of self.old)) }
+        ensures same { self.new ≡ self.old }
+    {
+        let table = self.summed.sums()?;
+        Ok(table)
+    }
+
+    /// So many of the hottest pages. Takes no memory where this list was kept, and else makes it, at the cost of [`warm_list`].
+    /// It is kept no more: [`Remembered::keep`] takes it back.
+    pub(crate) fn take_hottest(&mut self, n: usize) -> Result<Hottest, AllocError>
+        ensures list { IfOk result (λ list. IsHottest self.old list) }
+        ensures many { IfOk result (λ list. list.asked ≡ n) }
+        ensures same { self.new ≡ self.old }
+    {
+        if let Some(list) = self.hottest.take() {
+            if list.asked == n {
+                return Ok(list);
+            }
+        }
+        let pages = warm_list(self.alloc, self.summed.history(), n)?;
+        Ok(Hottest { asked: n, pages })
+    }
+
+    /// Keeps a list of the hottest pages until the history changes.
+    pub(crate) fn keep(&mut self, list: Hottest)
+        requires { IsHottest self.old list }
+        ensures { self.new ≡ self.old }
+    {
+        self.hottest = Some(list);
+    }
+}
