@@ -3,7 +3,7 @@
 
 usage: measure.py [whole] [PAGES..]      how many pages there are (1000 10000 100000 1000000, where none is named)
 
-With `whole` the warm-up is taken to its end instead, 4,096 steps over 500,000 pages, once by each program. It wants the proved
+With `whole` the warm-up is taken to its end instead, 4,096 steps over 500,000 pages, by each program. It wants the proved
 program (`rt run` in crates/bench_gossip leaves it as crates/bench_gossip/out/bench_gossip) and `rustc`. Both programs run in turn,
 five times, and the fastest run of each counts. Both must make the same.
 """
@@ -20,6 +20,7 @@ OURS = HERE.parent.parent / "crates/bench_gossip/out/bench_gossip"
 RUNS = 5
 BUCKETS = [1, 10, 64]
 STEPS = 16
+CHANGED = [0, 1, 10, 64]
 LARGE = [500_000, 1_000_000, 2_000_000]
 
 
@@ -59,8 +60,8 @@ def head(*cells: str) -> None:
 
 def whole_warm_up(plain: Path) -> None:
     head("steps", "pages", "ours, s", "plain Rust, s", "plain time by ours")
-    ours, other = fastest(plain, 1, "warm", 500_000, 4_096)
-    row("4,096", "500,000", f"{ours.nanos / 1e9:.1f}", f"{other.nanos / 1e9:.1f}", f"{other.nanos / ours.nanos:.2f}")
+    ours, other = fastest(plain, RUNS, "warm", 500_000, 4_096)
+    row("4,096", "500,000", f"{ours.nanos / 1e9:.3f}", f"{other.nanos / 1e9:.3f}", f"{other.nanos / ours.nanos:.2f}")
 
 
 def by_size(plain: Path, sizes: list[int]) -> None:
@@ -76,6 +77,13 @@ def by_size(plain: Path, sizes: list[int]) -> None:
         ours, other = fastest(plain, RUNS, "warm", pages, STEPS)
         each, others = (it.nanos / STEPS / 1e6 for it in (ours, other))
         row(f"{pages:,}", f"{each:.3f}", f"{others:.3f}", f"{others / each:.2f}")
+    head("pages", "buckets that changed", "an offer, ours, ms", "plain Rust, ms", "plain time by ours")
+    for pages in sizes:
+        offers = max(1, 2_000_000 // pages)
+        for buckets in CHANGED:
+            ours, other = fastest(plain, RUNS, "offer", pages, buckets, offers)
+            each, others = (it.nanos / offers / 1e6 for it in (ours, other))
+            row(f"{pages:,}", buckets, f"{each:.4f}", f"{others:.4f}", f"{others / each:.2f}")
     head("pages", "two references to a page, ours, ns", "plain Rust, ns", "plain time by ours")
     for pages in sizes:
         ours, other = fastest(plain, RUNS, "history", pages)

@@ -1,12 +1,12 @@
 //! The gossip and the warm-up of `crates/bench_gossip` in plain Rust, for the same measurements.
 //!
-//! A replica is a `BTreeMap`, and a pool that finds its pages by a `HashMap`. Nothing is undone where memory runs out, as nothing
-//! is refused here. The arguments are those of the proved program.
+//! A replica is a `BTreeMap`, and a pool that finds its pages by a `HashMap`. It keeps the sums of its buckets and its warm-up list
+//! until its history changes. Nothing is undone where memory runs out, as nothing is refused here. The arguments are those of the proved program.
 
 #[path = "../parts/mod.rs"]
 mod parts;
 
-use parts::frames::{decode, encode, sums};
+use parts::frames::{decode, encode, renew};
 use parts::hist::{Entry, Hist, Page, Stamp, join};
 use std::collections::btree_map::Entry as Place;
 use std::collections::{BTreeMap, HashMap};
@@ -84,14 +84,20 @@ struct Node {
     id: u16,
     history: BTreeMap<Page, Hist>,
     pool: Pool,
+    sums: Vec<[u8; 32]>,
+    // The buckets whose sums are not those of the history.
+    changed: u64,
+    hottest: Option<Vec<Page>>,
 }
 
 impl Node {
     fn new(id: u16, frames: usize, pages: u32) -> Node {
-        Node { id, history: BTreeMap::new(), pool: Pool::new(frames, pages) }
+        Node { id, history: BTreeMap::new(), pool: Pool::new(frames, pages), sums: vec![[0; 32]; 64], changed: u64::MAX, hottest: None }
     }
 
     fn take(&mut self, page: Page, more: Hist) {
+        self.changed |= 1 << ((page.dev as usize + page.no as usize) % 64);
+        self.hottest = None;
         let known = match self.history.entry(page) {
             Place::Occupied(mut place) => {
                 let known = place.get_mut();
@@ -107,8 +113,15 @@ impl Node {
         self.history.iter().map(|(page, hist)| Entry { page: *page, hist: *hist })
     }
 
-    fn offer(&self) -> Vec<u8> {
-        framed(2, self.id, &sums(self.entries()).concat())
+    fn renewed(&mut self) -> &[[u8; 32]] {
+        let history = self.history.iter().map(|(page, hist)| Entry { page: *page, hist: *hist });
+        renew(&mut self.sums, self.changed, history);
+        self.changed = 0;
+        &self.sums
+    }
+
+    fn offer(&mut self) -> Vec<u8> {
+        framed(2, self.id, &self.renewed().concat())
     }
 
     /// The entries of the buckets of a mask, in frames.
@@ -132,7 +145,7 @@ impl Node {
                 Vec::new()
             }
             2 => {
-                let own = sums(self.entries());
+                let own = self.renewed();
                 let differ = |b: &usize| bytes[11 + 32 * b..43 + 32 * b] != own[*b];
                 let mask = (0..64).filter(differ).fold(0u64, |mask, b| mask | 1 << b);
                 if mask == 0 {
@@ -146,7 +159,7 @@ impl Node {
         }
     }
 
-    /// The hottest pages, of as many as there are frames: made anew each time.
+    /// The hottest pages, of as many as there are frames.
     fn warm_list(&self) -> Vec<Page> {
         let mut ranks: Vec<Rank> = self.history.iter().map(|(page, hist)| Rank::of(*page, *hist)).collect();
         let hottest = match ranks.len().checked_sub(self.pool.frames.len() + 1) {
@@ -158,8 +171,11 @@ impl Node {
     }
 
     fn warm_step(&mut self) -> Option<Page> {
-        let is_loadable = |page: &Page| (page.no as usize) < self.pool.device.len() && !self.pool.index.contains_key(page);
-        let page = self.warm_list().into_iter().find(is_loadable)?;
+        let hottest = self.hottest.take().unwrap_or_else(|| self.warm_list());
+        let is_loadable = |page: &&Page| (page.no as usize) < self.pool.device.len() && !self.pool.index.contains_key(*page);
+        let next = hottest.iter().find(is_loadable).copied();
+        self.hottest = Some(hottest);
+        let page = next?;
         self.pool.load(Rank::of(page, *self.history.get(&page)?))?;
         Some(page)
     }
@@ -239,6 +255,24 @@ fn warmed(pages: u32, steps: u32) -> (u64, u128) {
     (sum, nanos)
 }
 
+// So many offers. Before each the node hears of pages in so many buckets, which is not timed.
+fn offers(pages: u32, buckets: u32, offers: u32) -> (u64, u128) {
+    let mut node = told(1, 1, pages);
+    node.offer();
+    let (mut sum, mut nanos) = (0u64, 0);
+    for i in 0..offers {
+        for no in 0..buckets {
+            let time = (1 << 40) + u64::from(i);
+            node.take(Page { dev: 0, no }, Hist::Once(Stamp { time, replica: 1 }));
+        }
+        let start = Instant::now();
+        let bytes = node.offer();
+        nanos += start.elapsed().as_nanos();
+        sum = bytes.iter().fold(sum, |sum, byte| sum.wrapping_mul(31).wrapping_add(u64::from(*byte)));
+    }
+    (sum, nanos)
+}
+
 fn remembered(pages: u32) -> (u64, u128) {
     let mut node = Node::new(1, 1, 1);
     let start = Instant::now();
@@ -253,8 +287,9 @@ fn main() {
     let (sum, nanos) = match words.first().map(String::as_str) {
         Some("round") => rounds(number(1), number(2), number(3)),
         Some("warm") => warmed(number(1), number(2)),
+        Some("offer") => offers(number(1), number(2), number(3)),
         Some("history") => remembered(number(1)),
-        _ => panic!("round, warm or history"),
+        _ => panic!("round, warm, offer or history"),
     };
     println!("{sum}");
     println!("{nanos} ns");

@@ -139,13 +139,30 @@ impl Decoder {
     }
 }
 
-pub fn sums(history: impl Iterator<Item = Entry>) -> Vec<[u8; 32]> {
+/// Takes the sums of the buckets of a mask anew.
+pub fn renew(sums: &mut [[u8; 32]], mask: u64, history: impl Iterator<Item = Entry>) {
+    if mask == 0 {
+        return;
+    }
     let mut hashers: Vec<Sha256> = (0..64).map(|_| Sha256::new()).collect();
     let mut bytes = Vec::with_capacity(27);
     for entry in history {
-        bytes.clear();
-        put_entry(&mut bytes, &entry);
-        hashers[(entry.page.dev as usize + entry.page.no as usize) % 64].update(&bytes);
+        let bucket = (entry.page.dev as usize + entry.page.no as usize) % 64;
+        if mask >> bucket & 1 == 1 {
+            bytes.clear();
+            put_entry(&mut bytes, &entry);
+            hashers[bucket].update(&bytes);
+        }
     }
-    hashers.into_iter().map(Sha256::finalize).collect()
+    for (bucket, hasher) in hashers.into_iter().enumerate() {
+        if mask >> bucket & 1 == 1 {
+            sums[bucket] = hasher.finalize();
+        }
+    }
+}
+
+pub fn sums(history: impl Iterator<Item = Entry>) -> Vec<[u8; 32]> {
+    let mut sums = vec![[0; 32]; 64];
+    renew(&mut sums, u64::MAX, history);
+    sums
 }

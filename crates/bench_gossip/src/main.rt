@@ -1,9 +1,12 @@
-//! Measures a round of gossip between two replicas, a standby's warm-up, and the room that a history takes.
+//! Measures a round of gossip between two replicas, a replica's offer of its sums, a standby's warm-up, and the room that a
+//! history takes.
 //!
 //! With no argument each is done once, small, and what came out is printed. For `bench/gossip/measure.py` the
 //! nanoseconds are printed too:
 //! - `round PAGES BUCKETS ROUNDS`: that many rounds between replicas that know the same pages, and differ in so many
 //!   buckets before each round. Frames go as bytes.
+//! - `offer PAGES BUCKETS OFFERS`: that many offers by a replica that knows so many pages, before each of which it hears
+//!   of a page in each of so many buckets, which is not timed.
 //! - `warm PAGES STEPS`: that many steps of the warm-up of a replica that knows so many pages, into 4,096 frames.
 //! - `history PAGES`: a replica is told of so many pages.
 #![tactic(auto)]
@@ -274,6 +277,53 @@ fn rounds_over(
     gossiped(clock, alloc, &mut first, &mut second, buckets, rounds)
 }
 
+// A sum over bytes, so that what was made is seen.
+fn sum_of_bytes(before: u64, bytes: &[u8]) -> u64 {
+    let mut sum = before;
+    for byte in bytes {
+        sum = sum.wrapping_mul(31).wrapping_add(u64::from(*byte));
+    }
+    sum
+}
+
+// So many offers of a node that hears of a page in each of so many buckets before each.
+fn offers_of(
+    clock: &impl Clock,
+    alloc: Global,
+    node: &mut Node,
+    buckets: u32,
+    offers: u32,
+) -> Result<Made>
+    requires { ⟦<Node as Shown>⟧.is_fit node.old }
+    ensures { ⟦<Node as Shown>⟧.is_fit node.new }
+{
+    let replica = node.id();
+    let mut sum = 0u64;
+    let mut nanos = 0u128;
+    for i in 0..offers {
+        let time = (1u64 << 40).wrapping_add(u64::from(i));
+        absorbed(node, &in_buckets(alloc, replica, buckets, time)?)?;
+        let start = Instant::now(clock)?;
+        let bytes = offered(alloc, node)?;
+        nanos = nanos.wrapping_add(start.elapsed(clock)?.as_nanos());
+        sum = sum_of_bytes(sum, &bytes);
+    }
+    Ok(Made { sum, nanos })
+}
+
+fn offers_over(
+    clock: &impl Clock,
+    alloc: Global,
+    pages: u32,
+    buckets: u32,
+    offers: u32,
+) -> Result<Made> {
+    let mut node = told(alloc, 1, 1, device(alloc, pages)?, pages)?;
+    // The first takes all sums.
+    let _first = offered(alloc, &mut node)?;
+    offers_of(clock, alloc, &mut node, buckets, offers)
+}
+
 // So many steps of a node's warm-up, and a sum over the pages that came in, in their order.
 fn warm_steps(node: &mut Node, steps: u32) -> Result<u64>
     requires { ⟦<Node as Shown>⟧.is_fit node.old }
@@ -345,6 +395,11 @@ enum Case {
         buckets: u32,
         rounds: u32,
     },
+    Offer {
+        pages: u32,
+        buckets: u32,
+        offers: u32,
+    },
     Warm {
         pages: u32,
         steps: u32,
@@ -361,6 +416,11 @@ fn measured(clock: &impl Clock, alloc: Global, case: Case) -> Result<Made> {
             buckets,
             rounds,
         } => rounds_over(clock, alloc, pages, buckets, rounds),
+        Case::Offer {
+            pages,
+            buckets,
+            offers,
+        } => offers_over(clock, alloc, pages, buckets, offers),
         Case::Warm { pages, steps } => warmed(clock, alloc, pages, steps),
         Case::History { pages } => remembered(clock, alloc, pages),
     }
@@ -380,16 +440,21 @@ fn case_of(words: &[String]) -> Result<Case> {
             buckets: second.min(64),
             rounds: third,
         }),
+        Some("offer") => Ok(Case::Offer {
+            pages,
+            buckets: second.min(64),
+            offers: third,
+        }),
         Some("warm") => Ok(Case::Warm {
             pages,
             steps: second,
         }),
         Some("history") => Ok(Case::History { pages }),
-        _ => bail!("round, warm or history"),
+        _ => bail!("round, offer, warm or history"),
     }
 }
 
-const SMALL: [(&str, Case); 5] = [
+const SMALL: [(&str, Case); 6] = [
     (
         "round, 1 bucket",
         Case::Round {
@@ -412,6 +477,14 @@ const SMALL: [(&str, Case); 5] = [
             pages: 1_000,
             buckets: 64,
             rounds: 1,
+        },
+    ),
+    (
+        "two offers",
+        Case::Offer {
+            pages: 1_000,
+            buckets: 1,
+            offers: 2,
         },
     ),
     (
