@@ -104,7 +104,7 @@ def row(what: str, seconds: dict[str, float], note: str) -> None:
 
 def whole(bench: Bench, what: str, schedule: Path) -> None:
     seconds = bench.best(schedule)
-    row(what, seconds, f"{schedule.stat().st_size / 1e6 / seconds[OURS]:.0f} MB/s")
+    row(what, seconds, f"{schedule.stat().st_size / 1e6 / max(seconds[OURS], 0.001):.0f} MB/s")
 
 
 def each(bench: Bench, what: str, setup: list[str], events: list[str]) -> None:

@@ -1,5 +1,5 @@
 //! The fields of a line: each reader takes the first word of the text, and gives what it says and what follows it.
-ghost use Rattle.std.specs.Prelude.{◌≡◌, ◌<◌, ◌≤◌, ◌+◌, ◌∷◌, None, length, IfSome, MatchOption, option_map, is_some};
+ghost use Rattle.std.specs.Prelude.{◌≡◌, ◌<◌, ◌≤◌, ◌+◌, ◌*◌, ◌^◌, ◌∷◌, None, length, IfSome, MatchOption, option_map, is_some};
 ghost use Rattle.warm_schedule.specs.Text.{words};
 ghost use Rattle.warm_schedule.specs.Fields.{digit_of, number_up_to, page_of, slot_of, hex_digit_of, pairs_of, bytes_of};
 ghost use Rattle.warm_schedule.specs.Fields.{number_field, page_field, after_field, slot_field};
@@ -27,6 +27,13 @@ fn digit(c: u8) -> Option<u8>
     }
 }
 
+// The number with one more digit, where 64 bits hold it.
+fn with_digit(number: u64, digit: u8) -> Option<u64>
+    ensures { MatchOption result (2 ^ 64 ≤ 10 * number + digit) (λ n. n ≡ 10 * number + digit) }
+{
+    number.checked_mul(10)?.checked_add(u64::from(digit))
+}
+
 // The number that a word spells, where it is at most `limit`.
 fn number(word: &[u8], limit: u64) -> Option<u64>
     ensures value { result ≡ number_up_to limit word.now }
@@ -37,11 +44,10 @@ fn number(word: &[u8], limit: u64) -> Option<u64>
     }
     let mut number = 0u64;
     for c in word {
-        let next = 10 * u128::from(number) + u128::from(digit(*c)?);
-        if next > u128::from(limit) {
+        number = with_digit(number, digit(*c)?)?;
+        if number > limit {
             return None;
         }
-        number = next as u64;
     }
     Some(number)
 }
