@@ -29,7 +29,8 @@ fn digit(c: u8) -> Option<u8>
 
 // The number with one more digit, where 64 bits hold it.
 fn with_digit(number: u64, digit: u8) -> Option<u64>
-    ensures { MatchOption result (2 ^ 64 ≤ 10 * number + digit) (λ n. n ≡ 10 * number + digit) }
+    ensures { MatchOption result (2 ^ 64 ≤ 10 * number + digit)
+        (λ n. n ≡ 10 * number + digit) }
 {
     number.checked_mul(10)?.checked_add(u64::from(digit))
 }
