@@ -15,6 +15,7 @@ pub mod Opens
 pub mod Pins
 pub mod PlaceLemmas
 pub mod PoolSteps
+pub mod RelinkLemmas
 pub mod Renewals
 pub mod RetireLemmas
 pub mod SettleLemmas

@@ -2,7 +2,7 @@
 use Rattle.std.proofs.Common.{◌≡◌, ◌≢◌, ℕ, suc, ◌<◌, ◌≤◌, List, length, get_or, set, sym, ap, refl, ◌∙◌, subst, Option, Some, None, inl, inr, ◌⊎◌, arith, get_or-set_same, get_or-set_other}
 use Rattle.std.proofs.lemmas.List.{length-set}
 use Rattle.std.proofs.lemmas.Bool.{cases_eq, cases_lt}
-use Rattle.warm_pool.specs.Chains.{IsFirstFrom, AreChains, IsLastBelow, IsOf, after, link_after, heads_led, next_led, loose}
+use Rattle.warm_pool.specs.Chains.{IsFirstFrom, AreChains, IsLastBelow, after, link_after, heads_led, next_led, loose}
 use Rattle.warm_pool.proofs.ChainLemmas.{not_after, link_first, outside, of_others, passed_over, comes_first, comes_before, other_than, same_count}
 
 pub length-heads_led : (heads : List ℕ) (b : ℕ) (last : Option ℕ) (to : ℕ) → length (heads_led heads b last to) ≡ length heads
@@ -109,18 +109,6 @@ unlinked frames heads next b f last lt in_heads is chains is_last =
             (next_after frames heads next b f n to last lt in_heads chains is_last leads others y ne (subst (λ m. y < m) (same_count frames f n) low) (omega (arith, same, in_chain, length-heads_led heads b last to)))
       ];
     }
-
--- a change of a frame leaves the last one below it
-still_of : (frames : List ℕ) (f v b : ℕ) (last : Option ℕ) → after last ≤ f → IsOf frames b last → IsOf (set frames f v) b last
-still_of frames f v b None below of = tt
-still_of frames f v b (Some x) below of = (subst (λ n. x < n) (sym (same_count frames f v)) of.0, other_than frames f v x (omega arith) ∙ of.1)
-
-pub still_last : (frames : List ℕ) (f v b : ℕ) (last : Option ℕ) → IsLastBelow frames b f last → IsLastBelow (set frames f v) b f last
-still_last frames f v b last is = record {
-  below = is.below;
-  is_of = still_of frames f v b last is.below is.is_of;
-  between = λ y ge less here. is.between y ge less (sym (other_than frames f v y (omega arith)) ∙ here);
-}
 
 -- a frame's own link, set before the last frame leads to it, changes no other link
 linked_elsewhere : (next : List ℕ) (f link : ℕ) (last : Option ℕ) (y : ℕ) → after last ≤ length next → y ≢ f → get_or (next_led (set next f link) last f) y 0 ≡ get_or (next_led next last f) y 0

@@ -3,10 +3,9 @@ use Rattle.std.proofs.Common.{◌≡◌, ◌≢◌, ℕ, zero, suc, ◌+◌, ◌
 use Rattle.std.proofs.lemmas.List.{length-set, length-map, length-replicate, get_or-map, get_or-replicate, get_or_read, map-set}
 use Rattle.std.proofs.lemmas.Bool.{cases_eq, cases_lt}
 use Rattle.warm_stamps.specs.declared.PageId.{PageId}
-use Rattle.warm_pool.specs.Chains.{IsFirstFrom, AreChains, AreInTurn, AreLinked, IsLastBelow, IsOf, after, chain_of, chains_of, page_in}
+use Rattle.warm_pool.specs.Chains.{IsFirstFrom, AreChains, AreInTurn, AreLinked, chain_of, chains_of, page_in}
 use Rattle.warm_pool.proofs.ChainLemmas.{link_first}
-use Rattle.warm_pool.proofs.MoveLemmas.{still_last}
-use Rattle.warm_pool.specs.Residents.{IsFirstFree, IsFree, IsLastFree}
+use Rattle.warm_pool.specs.Residents.{IsFirstFree}
 
 pub count_chains : (pages : List (Option PageId)) → length (chains_of pages) ≡ length pages
 count_chains pages = length-map pages (chain_of (length pages))
@@ -89,21 +88,6 @@ free_found pages heads next frames at linked count is lt = first_is_free pages a
 pub free_full : (pages : List (Option PageId)) (heads next : List ℕ) (frames at : ℕ) → AreLinked pages heads next → frames ≡ length pages → at ≡ get_or heads frames at → frames ≤ at → IsFirstFree pages None
 free_full pages heads next frames at linked count is le frame lt = none_below pages at (head_read pages heads next frames at linked count is) frame (omega arith) lt
 
--- the last frame without a page below a frame is the last of their chain there
-last_of : (pages : List (Option PageId)) (frame : ℕ) (last : Option ℕ) → frame ≤ length pages → after last ≤ frame → IsFree pages last → IsOf (chains_of pages) (length pages) last
-last_of pages frame None within below free = tt
-last_of pages frame (Some x) within below free =
-    let lt : x < length pages = omega arith in
-    (subst (λ n. x < n) (sym (count_chains pages)) lt, chain_at pages x lt ∙ ap (chain_of (length pages)) free ∙ chain_of_none (length pages))
-
-last_free : (pages : List (Option PageId)) (frame : ℕ) (last : Option ℕ) → frame ≤ length pages → IsLastFree pages frame last → IsLastBelow (chains_of pages) (length pages) frame last
-last_free pages frame last within is = record {
-  below = is.below;
-  is_of = last_of pages frame last within is.below is.free;
-  between = λ other ge less here.
-      is.between other ge less (free_of_chain (length pages) (page_in pages other) (omega arith) (sym (chain_at pages other (omega arith)) ∙ here));
-}
-
 -- a changed frame changes its chain alone
 chains_set : (pages : List (Option PageId)) (frame : ℕ) (held : Option PageId) → chains_of (set pages frame held) ≡ set (chains_of pages) frame (chain_of (length pages) held)
 chains_set pages frame held = ap (λ n. map (chain_of n) (set pages frame held)) (length-set pages frame held) ∙ map-set (chain_of (length pages)) pages frame held
@@ -130,20 +114,6 @@ pub moved_linked : (frames : List ℕ) (pages : List (Option PageId)) (heads nex
 moved_linked frames pages heads next new_heads new_next frame out to held are linked lt same is chains =
     let now = ap (λ frames. set (set frames frame out) frame to) are ∙ set_twice (chains_of pages) frame out to ∙ ap (set (chains_of pages) frame) is in
     set_linked pages heads next new_heads new_next frame held linked lt same (subst (λ frames. AreChains frames new_heads new_next) now chains)
-
--- a frame that has left its chain has the number of none
-pub in_frames : (frames : List ℕ) (pages : List (Option PageId)) (frame : ℕ) → frames ≡ chains_of pages → frame < length pages → frame < length frames
-in_frames frames pages frame are lt = subst (λ frames. frame < length frames) (sym are) (subst (λ n. frame < n) (sym (count_chains pages)) lt)
-
-pub is_out : (frames : List ℕ) (frame out : ℕ) → frame < length frames → (frame < length (set frames frame out)) × (get_or (set frames frame out) frame 0 ≡ out)
-is_out frames frame out lt = (subst (λ n. frame < n) (sym (length-set frames frame out)) lt, get_or-set_same frames frame out 0 lt)
-
--- once a frame has left its chain, the last frame without a page below it is the last one of theirs
-pub last_of_free : (frames : List ℕ) (pages : List (Option PageId)) (frame out : ℕ) (last : Option ℕ) → frames ≡ chains_of pages → frame < length pages
-    → IsLastFree pages frame last → IsLastBelow (set frames frame out) (length pages) frame last
-last_of_free frames pages frame out last are lt is =
-    subst (λ frames. IsLastBelow (set frames frame out) (length pages) frame last) (sym are)
-    (still_last (chains_of pages) frame out (length pages) last (last_free pages frame last (omega arith) is))
 
 -- frames without a page: each is followed by the next
 module _ (n : ℕ) (pages : List (Option PageId)) (heads next : List ℕ) (no_pages : pages ≡ replicate n None) (no_heads : heads ≡ set (replicate (n + 1) n) n 0) (turn : AreInTurn n next) where

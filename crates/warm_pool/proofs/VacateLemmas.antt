@@ -1,17 +1,15 @@
 -- Pages that leave their frames, from the first frame on.
-use Rattle.std.proofs.Common.{◌≡◌, ◌≢◌, ℕ, zero, suc, ◌+◌, ◌<◌, ◌≤◌, cond, true, false, IsTrue, List, [], ◌∷◌, ◌++◌, map, take, drop, length, set, Option, Some, None, inl, inr, refl, sym, ap, ◌∙◌, subst, arith, get_or-set_other}
+use Rattle.std.proofs.Common.{◌≡◌, ℕ, zero, suc, ◌<◌, cond, true, false, IsTrue, List, [], ◌∷◌, ◌++◌, map, take, drop, length, set, Option, Some, None, refl, sym, ap, ◌∙◌, subst, arith}
 use Rattle.std.proofs.Math.Path.{ap₂}
-use Rattle.std.proofs.lemmas.Bool.{cases_eq}
-use Rattle.std.proofs.lemmas.List.{length-map, length-set, set-get_or}
+use Rattle.std.proofs.lemmas.List.{length-map}
 use Rattle.warm_stamps.specs.declared.PageId.{PageId}
 use Rattle.warm_rank.specs.declared.RankKey.{RankKey}
 use Rattle.warm_rank.specs.Slots.{key_while, keys_while}
-use Rattle.warm_pool.specs.Chains.{after, page_in}
-use Rattle.warm_pool.specs.Residents.{IsFree, IsLastFree}
+use Rattle.warm_pool.specs.Chains.{page_in}
 use Rattle.warm_pool.specs.declared.frame.Status.{Status}
 use Rattle.warm_pool.specs.Frames.{FrameState, FrameBody, FramesState, AreTied, nth_frame, cleaned, vacated, frame_of, frames_of, leaving_key}
 use Rattle.warm_pool.specs.WritingBack.{is_chosen, cleaned_chosen}
-use Rattle.warm_pool.specs.Retiring.{AreClean, clear_if, cleared_at, vacate_if, vacated_chosen}
+use Rattle.warm_pool.specs.Retiring.{AreClean, clear_if, vacate_if, vacated_chosen}
 use Rattle.warm_pool.proofs.Slots.{bare_key}
 use Rattle.warm_pool.proofs.FrameParts.{kept}
 use Rattle.warm_pool.proofs.ClosingLemmas.{nth_page}
@@ -27,63 +25,23 @@ length-cleared_to which zero pages = refl
 length-cleared_to which (suc n) [] = refl
 length-cleared_to which (suc n) (page ∷ pages) = ap suc (length-cleared_to which n pages)
 
-pub length-cleared_at : (which : Option ℕ) (pages : List (Option PageId)) (at : ℕ) → length (cleared_at which pages at) ≡ length pages
-length-cleared_at which pages at = length-set pages at _
-
-pub clear_next : (which : Option ℕ) (at : ℕ) (pages : List (Option PageId)) → at < length pages → cleared_at which (cleared_to which at pages) at ≡ cleared_to which (suc at) pages
-clear_next which at [] lt = absurd (omega arith)
-clear_next which zero (page ∷ pages) lt = refl
-clear_next which (suc at) (page ∷ pages) lt = ap (λ rest. clear_if which page ∷ rest) (clear_next which at pages (omega arith))
-
 clear_whole : (which : Option ℕ) (pages : List (Option PageId)) → cleared_to which (length pages) pages ≡ map (clear_if which) pages
 clear_whole which [] = refl
 clear_whole which (page ∷ pages) = ap (λ rest. clear_if which page ∷ rest) (clear_whole which pages)
 
-pub clear_step : (which : Option ℕ) (at more : ℕ) (old mid new : List (Option PageId)) → more ≡ suc at → at < length old → mid ≡ cleared_to which at old → new ≡ cleared_at which mid at → new ≡ cleared_to which more old
-clear_step which at more old mid new one lt is next =
-    next ∙ ap (λ pages. cleared_at which pages at) is ∙ clear_next which at old lt ∙ ap (λ n. cleared_to which n old) (sym one)
-
 pub clear_done : (which : Option ℕ) (at : ℕ) (old new : List (Option PageId)) → at ≡ length old → new ≡ cleared_to which at old → new ≡ map (clear_if which) old
 clear_done which at old new end is = is ∙ ap (λ n. cleared_to which n old) end ∙ clear_whole which old
 
--- a frame that isn't concerned
-pub clear_same : (which : Option ℕ) (pages : List (Option PageId)) (at : ℕ) → is_chosen which (page_in pages at) ≡ false → pages ≡ cleared_at which pages at
-clear_same which pages at isnt =
-    sym (ap (λ t. set pages at (cond t None (page_in pages at))) isnt ∙ set-get_or pages at None)
+-- the frame at hand, as its page is concerned or not
+pub one_gone : (which : Option ℕ) (at : ℕ) (pages : List (Option PageId)) → at < length pages → is_chosen which (page_in (cleared_to which at pages) at) ≡ true → set (cleared_to which at pages) at None ≡ cleared_to which (suc at) pages
+one_gone which at [] lt is = absurd (omega arith)
+one_gone which zero (page ∷ pages) lt is = ap (λ t. cond t None page ∷ pages) (sym is)
+one_gone which (suc at) (page ∷ pages) lt is = ap (λ rest. clear_if which page ∷ rest) (one_gone which at pages (omega arith) is)
 
-pub clear_chosen : (which : Option ℕ) (pages : List (Option PageId)) (at : ℕ) → is_chosen which (page_in pages at) ≡ true → set pages at None ≡ cleared_at which pages at
-clear_chosen which pages at is = ap (λ t. set pages at (cond t None (page_in pages at))) (sym is)
-
--- The last frame without a page so far
-
--- what a later frame holds doesn't change it
-free_kept : (pages : List (Option PageId)) (at : ℕ) (page : Option PageId) (last : Option ℕ) → after last ≤ at → IsFree pages last → IsFree (set pages at page) last
-free_kept pages at page None below free = tt
-free_kept pages at page (Some x) below free = get_or-set_other pages at x page None (omega arith) ∙ free
-
-pub last_kept : (pages : List (Option PageId)) (at : ℕ) (page : Option PageId) (last : Option ℕ) → IsLastFree pages at last → IsLastFree (set pages at page) at last
-last_kept pages at page last is = record {
-  below = is.below;
-  free = free_kept pages at page last is.below is.free;
-  between = λ other ge less none. is.between other ge less (sym (get_or-set_other pages at other page None (omega arith)) ∙ none);
-}
-
-pub last_none : (pages : List (Option PageId)) → IsLastFree pages 0 None
-last_none pages = record { below = omega arith; free = tt; between = λ other ge less free. omega arith }
-
--- a frame with a page is passed over, and one without a page is the last
-pub last_stays : (pages : List (Option PageId)) (at : ℕ) (last : Option ℕ) → page_in pages at ≢ None → IsLastFree pages at last → IsLastFree pages (at + 1) last
-last_stays pages at last some is = record {
-  below = let below : after last ≤ at = is.below in omega arith;
-  free = is.free;
-  between = λ other ge less none. elim (cases_eq other at) [
-    | inl e ↦ some (ap (page_in pages) (sym e) ∙ none)
-    | inr ne ↦ is.between other ge (omega arith) none
-  ];
-}
-
-pub last_here : (pages : List (Option PageId)) (at : ℕ) → page_in pages at ≡ None → IsLastFree pages (at + 1) (Some at)
-last_here pages at none = record { below = omega arith; free = none; between = λ other ge less free. omega arith }
+pub one_stays : (which : Option ℕ) (at : ℕ) (pages : List (Option PageId)) → at < length pages → is_chosen which (page_in (cleared_to which at pages) at) ≡ false → cleared_to which at pages ≡ cleared_to which (suc at) pages
+one_stays which at [] lt isnt = absurd (omega arith)
+one_stays which zero (page ∷ pages) lt isnt = ap (λ t. cond t None page ∷ pages) (sym isnt)
+one_stays which (suc at) (page ∷ pages) lt isnt = ap (λ rest. clear_if which page ∷ rest) (one_stays which at pages (omega arith) isnt)
 
 -- Frames of which pages were taken
 

@@ -1,7 +1,6 @@
 -- Which frame holds a page, and which is the first without one.
-use Rattle.std.specs.Prelude.{◌≡◌, ◌≢◌, ℕ, ◌<◌, ◌≤◌, List, length, Option, Some, None, slice_index_or}
+use Rattle.std.specs.Prelude.{◌≡◌, ◌≢◌, ℕ, ◌<◌, List, length, Option, Some, None, slice_index_or}
 use Rattle.warm_stamps.specs.declared.PageId.{PageId}
-use Rattle.warm_pool.specs.Chains.{after, page_in}
 
 -- the page is in this frame, or in none
 abbrev pub IsPlaceOf : List (Option PageId) → PageId → Option ℕ → Type 0
@@ -12,14 +11,3 @@ IsPlaceOf pages p None = (i : ℕ) → i < length pages → slice_index_or pages
 abbrev pub IsFirstFree : List (Option PageId) → Option ℕ → Type 0
 IsFirstFree pages (Some i) = (i < length pages) × (slice_index_or pages i None ≡ None) × ((j : ℕ) → j < i → slice_index_or pages j None ≢ None)
 IsFirstFree pages None = (i : ℕ) → i < length pages → slice_index_or pages i None ≢ None
-
--- the frame has no page, where there is one
-abbrev pub IsFree : List (Option PageId) → Option ℕ → Type 0
-IsFree pages None = Unit {0}
-IsFree pages (Some frame) = page_in pages frame ≡ None
-
--- this is the last frame without a page below a frame, or there is none
-pub record IsLastFree (pages : List (Option PageId)) (frame : ℕ) (last : Option ℕ) : Type 0 where
-  pub below : after last ≤ frame
-  pub free : IsFree pages last
-  pub between : (other : ℕ) → after last ≤ other → other < frame → page_in pages other ≢ None

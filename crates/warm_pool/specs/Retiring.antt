@@ -3,7 +3,6 @@ use Rattle.std.specs.Prelude.{ℕ, ◌≡◌, ◌≢◌, ◌<◌, ◌≤◌, fal
 use Rattle.warm_stamps.specs.declared.PageId.{PageId}
 use Rattle.warm_devices.specs.Device.{DeviceState, page_at}
 use Rattle.warm_pool.specs.Frames.{FrameState, nth_frame, vacated}
-use Rattle.warm_pool.specs.Chains.{page_in}
 use Rattle.warm_pool.specs.declared.fault.PoolFault.{PoolFault}
 use Rattle.warm_pool.specs.declared.fault.PoolFault.TheVariants.{SizeDiffers, NoDevice, Fixed, Fault}
 use Rattle.warm_pool.specs.State.{PoolState, nth_device}
@@ -74,9 +73,6 @@ vacated_chosen which frames = map (vacate_if which) frames
 -- what a frame holds once its page has left, where it is concerned
 abbrev pub clear_if : Option ℕ → Option PageId → Option PageId
 clear_if which page = if is_chosen which page then None else page
-
-abbrev pub cleared_at : Option ℕ → List (Option PageId) → ℕ → List (Option PageId)
-cleared_at which pages frame = set pages frame (clear_if which (page_in pages frame))
 
 -- a frame that is concerned has a fix, or none has
 pub record IsFixedIn (which : Option ℕ) (frames : List FrameState) : Type 0 where

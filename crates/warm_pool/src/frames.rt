@@ -9,7 +9,7 @@ ghost use Rattle.warm_pool.specs.Residents.{IsPlaceOf, IsFirstFree};
 ghost use Rattle.warm_pool.specs.Retiring.{AreClean, vacated_chosen};
 
 use crate::frame::{Frame, Status};
-use crate::residents::{Residents, clear_chosen};
+use crate::residents::Residents;
 use std::alloc::{AllocError, Global};
 use std::marker::Model;
 use std::mem;
@@ -224,7 +224,7 @@ impl Frames {
         requires { AreClean which self.old.frames }
         ensures { self.new ≡ record self.old { frames = vacated_chosen which self.old.frames } }
     {
-        clear_chosen(&mut self.residents, which);
+        self.residents.clear_chosen(which);
         self.contest.clear_vacant(self.residents.pages());
     }
 }

@@ -5,9 +5,9 @@
 //! is taken when the frames are made.
 ghost use Rattle.std.specs.Prelude.{◌≡◌, ℕ, List, ◌+◌, ◌<◌, ◌≤◌, length, map, replicate, set, slice_index, IfOk, IsTrue, None, Some, ◌↔◌};
 ghost use Rattle.warm_pool.specs.Chains.{AreChains, AreInTurn, AreLinked, IsLastBelow, after, chain_of, chains_of, heads_led, next_led, loose, page_in};
-ghost use Rattle.warm_pool.specs.Residents.{IsFirstFree, IsLastFree, IsPlaceOf};
+ghost use Rattle.warm_pool.specs.Residents.{IsFirstFree, IsPlaceOf};
 ghost use Rattle.warm_pool.specs.WritingBack.{is_chosen};
-ghost use Rattle.warm_pool.specs.Retiring.{clear_if, cleared_at};
+ghost use Rattle.warm_pool.specs.Retiring.{clear_if};
 
 use std::alloc::{AllocError, Global};
 use std::marker::Model;
@@ -89,18 +89,13 @@ impl Residents {
         self.pages[frame] = page;
     }
 
-    /// Takes out the page that a frame holds, if it holds one. Where the last free frame below it is known, no chain of free frames
-    /// is walked.
-    pub(crate) fn clear(&mut self, frame: usize, last: Option<usize>)
-        requires there { frame < length self.old }
-        requires last { IsLastFree self.old frame last }
-        ensures { self.new ≡ set self.old frame None }
+    /// Takes the pages that are concerned out of their frames. All chains are then built anew, in one pass over the frames, however many
+    /// pages leave: to take each frame out of its chain would be to read links all over memory. Takes no memory.
+    pub(crate) fn clear_chosen(&mut self, which: Option<u16>)
+        ensures { self.new ≡ map (clear_if which) self.old }
     {
-        if self.pages[frame].is_none() {
-            return;
-        }
-        free_frame(&self.pages, &mut self.heads, &mut self.next, frame, last);
-        self.pages[frame] = None;
+        clear_pages(&mut self.pages, which);
+        link_all(&self.pages, &mut self.heads, &mut self.next);
     }
 }
 
@@ -117,38 +112,14 @@ pub(crate) fn is_chosen(which: Option<u16>, page: Option<PageId>) -> bool
     page.dev == dev
 }
 
-/// Takes the pages that are concerned out of their frames, from the first on: so the last free frame below each is at hand.
-pub(crate) fn clear_chosen(residents: &mut Residents, which: Option<u16>)
-    ensures { residents.new ≡ map (clear_if which) residents.old }
+// Takes the pages that are concerned out of their frames.
+fn clear_pages(pages: &mut Vec<Option<PageId>>, which: Option<u16>)
+    ensures { pages.new.items ≡ map (clear_if which) pages.old.items }
 {
-    let mut last = None;
-    for frame in 0..residents.pages().len() {
-        clear_if(residents, frame, which, last);
-        last = last_free(residents, frame, last);
-    }
-}
-
-// Takes the page out of a frame that is concerned.
-fn clear_if(residents: &mut Residents, frame: usize, which: Option<u16>, last: Option<usize>)
-    requires there { frame < length residents.old }
-    requires last { IsLastFree residents.old frame last }
-    ensures { residents.new ≡ cleared_at which residents.old frame }
-{
-    if !is_chosen(which, residents.page(frame)) {
-        return;
-    }
-    residents.clear(frame, last);
-}
-
-// The last free frame up to this one, from the last one below it.
-fn last_free(residents: &Residents, frame: usize, last: Option<usize>) -> Option<usize>
-    requires there { frame < length residents.now }
-    requires last { IsLastFree residents.now frame last }
-    ensures { IsLastFree residents.now (frame + 1) result }
-{
-    match residents.page(frame) {
-        Some(_) => last,
-        None => Some(frame),
+    for frame in 0..pages.len() {
+        if is_chosen(which, pages[frame]) {
+            pages[frame] = None;
+        }
     }
 }
 
@@ -302,22 +273,28 @@ fn move_frame(
     link(heads, next, frame, to, last);
 }
 
-// Moves a frame from the chain of its page into that of the frames without one, after the last of them below it.
-fn free_frame(
-    pages: &[Option<PageId>],
-    heads: &mut Vec<u32>,
-    next: &mut Vec<u32>,
-    frame: usize,
-    last: Option<usize>,
-)
+// Lets no chain have a frame.
+fn clear_heads(heads: &mut Vec<u32>, frames: usize)
+    requires { frames ≤ MAX_SLOTS }
+    ensures { heads.new.items ≡ replicate (length heads.old.items) frames }
+{
+    heads.fill(frames as u32);
+}
+
+// Puts each frame into the chain of what it holds, whatever the links were: from the last frame on, so each comes first in its chain.
+fn link_all(pages: &[Option<PageId>], heads: &mut Vec<u32>, next: &mut Vec<u32>)
     ghost frames: { List ℕ }
     requires frames { frames ≡ chains_of pages.now }
-    requires frame { frame < length pages.now }
-    requires linked { AreLinked pages.now heads.old.items next.old.items }
-    requires last { IsLastFree pages.now frame last }
-    ensures { AreLinked (set pages.now frame None) heads.new.items next.new.items }
+    requires few { length pages.now ≤ MAX_SLOTS }
+    requires heads { length heads.old.items ≡ length pages.now + 1 }
+    requires next { length next.old.items ≡ length pages.now }
+    ensures { AreLinked pages.now heads.new.items next.new.items }
 {
-    let from = chain_of(pages.len(), pages[frame]);
-    unlink(heads, next, frame, from);
-    link(heads, next, frame, pages.len(), last);
+    clear_heads(heads, pages.len());
+    let mut frame = pages.len();
+    while frame > 0 {
+        frame -= 1;
+        let chain = chain_of(pages.len(), pages[frame]);
+        link(heads, next, frame, chain, None);
+    }
 }

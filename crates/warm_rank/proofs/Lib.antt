@@ -3,6 +3,7 @@ mod Examples
 pub mod KeyLemmas
 pub mod LeavingLemmas
 pub mod PlacesBack
+pub mod SetKeyLemmas
 pub mod SlotLemmas
 pub mod SortLemmas
 pub mod WarmUpLemmas

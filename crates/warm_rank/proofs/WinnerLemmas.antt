@@ -12,6 +12,7 @@ use Rattle.std.proofs.lemmas.Bool.{cases_eq, cases_lt}
 use Rattle.warm_stamps.proofs.DistinctLemmas.{by_cases}
 use Rattle.warm_stamps.proofs.StampLemmas.{both_tie}
 use Rattle.warm_rank.specs.Slots.{set_first_cmp, key_at, slot_cmp, IsLeast}
+use Rattle.warm_rank.proofs.VacantLemmas.{none_there}
 use Rattle.warm_rank.specs.WinnerTree.{winner, IsPlayed, HasLeaves, IsTree, halved, IsAbove, IsPlayedBut, HasChanged}
 
 -- ---- halves
@@ -448,12 +449,11 @@ module _ {K : Type 0} (cmp : K → K → Ordering) (total : IsTotalOrder cmp) wh
       any_default (x ∷ xs) (suc i) d e lt = any_default xs i d e (omega arith)
 
   -- the least slot, from the root and its key as they are read
-  pub least_read : (keys : List (Option K)) (nodes : List ℕ) → IsTree cmp keys nodes → (root : ℕ) (k : Option K) → root ≡ get_or nodes 1 root → k ≡ get_or keys root k → record { none : k ≡ None → IsLeast cmp keys None; some : (x : K) → k ≡ Some x → IsLeast cmp keys (Some root) }
-  least_read keys nodes tree root k is_root is_key =
-      let root_is : root ≡ get_or nodes 1 0 = root_read keys nodes tree root is_root in
-      let lt : root < length keys = subst (λ t. t < length keys) (sym root_is) (root_in_range keys nodes tree) in
-      let key : key_at keys (get_or nodes 1 0) ≡ k = ap (key_at keys) (sym root_is) ∙ key_read keys root k is_key lt in
+  pub least_read : (keys : List (Option K)) (nodes : List ℕ) → IsTree cmp keys nodes → (root : ℕ) → root ≡ get_or nodes 1 root → record { within : root < length keys; none : is_some (key_at keys root) ≡ false → IsLeast cmp keys None; some : is_some (key_at keys root) ≡ true → IsLeast cmp keys (Some root) }
+  least_read keys nodes tree root is =
+      let root_is : root ≡ get_or nodes 1 0 = root_read keys nodes tree root is in
       record {
-        none = λ e. least_none keys nodes tree (key ∙ e);
-        some = λ x e. subst (λ t. IsLeast cmp keys (Some t)) (sym root_is) (least_some keys nodes tree (ap is_some (key ∙ e)));
+        within = subst (λ t. t < length keys) (sym root_is) (root_in_range keys nodes tree);
+        none = λ e. least_none keys nodes tree (none_there _ (ap (λ t. is_some (key_at keys t)) (sym root_is) ∙ e));
+        some = λ e. subst (λ t. IsLeast cmp keys (Some t)) (sym root_is) (least_some keys nodes tree (ap (λ t. is_some (key_at keys t)) (sym root_is) ∙ e));
       }

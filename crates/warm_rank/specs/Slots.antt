@@ -1,5 +1,5 @@
 -- Slots that each may have a key, over any order of keys.
-use Rattle.std.specs.Prelude.{◌≡◌, ◌≢◌, ◌<◌, ℕ, List, ◌∷◌, length, Option, Some, None, IsSome, slice_index_or}
+use Rattle.std.specs.Prelude.{◌≡◌, ◌≢◌, ◌<◌, ℕ, Bool, List, [], ◌∷◌, length, if◌then◌else◌, Option, Some, None, IsSome, slice_index_or}
 use Rattle.std.specs.Option.{option_cmp}
 use Rattle.std.specs.Ordering.{nat_cmp, on, then_cmp, flip_args}
 use Rattle.std.specs.declared.cmp.Ordering.{Ordering}
@@ -8,6 +8,11 @@ use Rattle.std.specs.declared.cmp.Ordering.TheVariants.{Less}
 -- what is set at a slot
 abbrev pub key_at : {K : Type 0} → List (Option K) → ℕ → Option K
 key_at keys slot = slice_index_or keys slot None
+
+-- the keys of slots, each of which is set or not
+abbrev pub keys_set : {K : Type 0} → List Bool → List K → List (Option K)
+keys_set (is_set ∷ all) (key ∷ keys) = (if is_set then Some key else None) ∷ keys_set all keys
+keys_set all keys = []
 
 -- the lesser key first, and a set key before none
 abbrev pub set_first_cmp : {K : Type 0} → (K → K → Ordering) → Option K → Option K → Ordering

@@ -3,6 +3,7 @@ ghost use Rattle.std.specs.Prelude.{◌≡◌, ◌<◌, ◌≤◌, length, repli
 ghost use Rattle.warm_rank.specs.Keys.{key_cmp};
 ghost use Rattle.warm_rank.specs.Slots.{IsLeast, keys_while};
 
+use crate::slot_keys::SlotKeys;
 use crate::winners::{number_leaves, play_above, play_all};
 use crate::{MAX_SLOTS, RankKey};
 use std::alloc::{AllocError, Global};
@@ -15,7 +16,7 @@ use std::marker::Model;
 /// key is compared at most once for each level, and the least is read at the root.
 #[derive(Debug, Drop)]
 pub struct Contest {
-    keys: Vec<Option<RankKey>>,
+    keys: SlotKeys,
     nodes: Vec<u32>,
 }
 
@@ -27,9 +28,9 @@ impl Model for Contest {
 
     ghost Value = { List (Option RankKey) };
 
-    ghost view = { λ contest. contest.keys.items };
+    ghost view = { λ contest. contest.keys };
 
-    ghost invariant = { λ contest. IsTree key_cmp contest.keys.items contest.nodes.items };
+    ghost invariant = { λ contest. IsTree key_cmp contest.keys contest.nodes.items };
 }
 
 impl Contest {
@@ -42,8 +43,7 @@ impl Contest {
         requires few { slots ≤ MAX_SLOTS }
         ensures { IfOk result (λ contest. contest ≡ replicate slots None) }
     {
-        let mut keys: Vec<Option<RankKey>> = Vec::new(alloc);
-        keys.resize(slots, None)?;
+        let keys = SlotKeys::new(alloc, slots)?;
         let mut nodes = Vec::new(alloc);
         nodes.resize(2 * slots, 0)?;
         number_leaves(slots, &mut nodes);
@@ -56,7 +56,7 @@ impl Contest {
         requires { slot < length self.old }
         ensures { self.new ≡ set self.old slot key }
     {
-        self.keys[slot] = key;
+        self.keys.set(slot, key);
         play_above(&self.keys, &mut self.nodes, slot);
     }
 
@@ -69,7 +69,7 @@ impl Contest {
         let Some(_) = self.least() else {
             return;
         };
-        clear_keys(&mut self.keys, held);
+        self.keys.clear_vacant(held);
         play_all(&self.keys, &mut self.nodes);
     }
 
@@ -78,21 +78,10 @@ impl Contest {
         ensures { IsLeast key_cmp self.now result }
     {
         let first = self.nodes[1] as usize;
-        match self.keys[first] {
-            None => None,
-            Some(_) => Some(first),
-        }
-    }
-}
-
-// Clears the keys of the slots where nothing stands.
-fn clear_keys<T>(keys: &mut Vec<Option<RankKey>>, held: &[Option<T>])
-    requires { length held.now ≡ length keys.old.items }
-    ensures { keys.new.items ≡ keys_while held.now keys.old.items }
-{
-    for (slot, held) in held.iter().enumerate() {
-        if held.is_none() {
-            keys[slot] = None;
+        if self.keys.is_set(first) {
+            Some(first)
+        } else {
+            None
         }
     }
 }

@@ -1,10 +1,11 @@
 use Rattle.std.proofs.Common.{◌≡◌, ◌<◌, ◌≤◌, ◌-◌, ◌+◌, length, set, sym, subst, arith}
+use Rattle.warm_rank.specs.Keys.{key_cmp}
 use Rattle.warm_rank.proofs.WinnerLemmas.{match_at, match_read, match_in_range, played_shape, play_next, ArePlayedFrom}
 use Rattle.warm_rank.proofs.winners.play_all.Goals as goal
 
 pub loop-node-preserved : goal.loop-node-preserved
-loop-node-preserved g c =
-    let cmp : _ = g.K.Ord.cmp in
+loop-node-preserved c =
+    let cmp : _ = key_cmp in
     let keys : _ = c.args.keys.now in
     let nodes : _ = c.loop-node.nodes.items in
     let inv : _ = c.loop-node.invariant in

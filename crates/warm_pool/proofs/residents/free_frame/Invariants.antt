@@ -1,8 +1,0 @@
-use Rattle.std.proofs.Common.{length, set}
-use Rattle.warm_pool.proofs.residents.free_frame.Given as goal
-
-abbrev pub ghost-unlink : goal.ghost-unlink
-ghost-unlink g a = g.frames
-
-abbrev pub ghost-link : goal.ghost-link
-ghost-link g a = set g.frames a.frame (length a.heads.now.items)

@@ -1,0 +1,151 @@
+//! The keys of a contest's slots.
+ghost use Rattle.std.specs.Prelude.{◌≡◌, List, ◌<◌, ◌≤◌, length, replicate, set, false, true, is_some, IfOk, None};
+ghost use Rattle.warm_rank.specs.declared.RankKey.{RankKey};
+ghost use Rattle.warm_rank.specs.Keys.{key_cmp};
+ghost use Rattle.warm_rank.specs.Slots.{key_at, keys_set, keys_while, set_first_cmp};
+
+use crate::RankKey;
+use std::alloc::{AllocError, Global};
+use std::cmp::Ordering;
+use std::marker::Model;
+use warm_stamps::PageId;
+
+/// Slots that each may have a key. Contracts see the list of the keys.
+///
+/// Whether a slot has a key stands apart from the key: where slots are cleared, and in the matches of slots without a key, little memory
+/// is touched.
+#[derive(Debug, Drop)]
+pub(crate) struct SlotKeys {
+    is_set: Vec<bool>,
+    keys: Vec<RankKey>,
+}
+
+impl Model for SlotKeys {
+    ghost use Rattle.std.specs.Prelude.{◌≡◌, List, Option, length};
+    ghost use Rattle.warm_rank.specs.declared.RankKey.{RankKey};
+    ghost use Rattle.warm_rank.specs.Slots.{keys_set};
+
+    ghost Value = { List (Option RankKey) };
+
+    ghost view = { λ slots. keys_set slots.is_set.items slots.keys.items };
+
+    ghost invariant = { λ slots. length slots.keys.items ≡ length slots.is_set.items };
+}
+
+impl SlotKeys {
+    /// Slots without a key.
+    ///
+    /// # Errors
+    /// `AllocError` where there is no memory for them.
+    pub(crate) fn new(alloc: Global, slots: usize) -> Result<SlotKeys, AllocError>
+        ensures { IfOk result (λ keys. keys ≡ replicate slots None) }
+    {
+        let is_set = none_set(alloc, slots)?;
+        let keys = no_keys(alloc, slots)?;
+        Ok(SlotKeys { is_set, keys })
+    }
+
+    /// How many slots there are.
+    pub(crate) fn len(&self) -> usize
+        ensures { result ≡ length self.now }
+    {
+        self.is_set.len()
+    }
+
+    /// Whether a slot has a key.
+    pub(crate) fn is_set(&self, slot: usize) -> bool
+        requires { slot < length self.now }
+        ensures { result ≡ is_some (key_at self.now slot) }
+    {
+        self.is_set[slot]
+    }
+
+    /// Sets or clears the key of a slot.
+    pub(crate) fn set(&mut self, slot: usize, key: Option<RankKey>)
+        requires { slot < length self.old }
+        ensures { self.new ≡ set self.old slot key }
+    {
+        match key {
+            None => self.is_set[slot] = false,
+            Some(key) => {
+                self.is_set[slot] = true;
+                self.keys[slot] = key;
+            }
+        }
+    }
+
+    /// Clears the key of each slot where nothing stands.
+    pub(crate) fn clear_vacant<T>(&mut self, held: &[Option<T>])
+        requires { length held.now ≡ length self.old }
+        ensures { self.new ≡ keys_while held.now self.old }
+    {
+        unset_vacant(&mut self.is_set, held);
+    }
+
+    /// The order of the keys of two slots: the lesser key first, and a set key before none.
+    pub(crate) fn compare(&self, a: usize, b: usize) -> Ordering
+        requires first { a < length self.now }
+        requires second { b < length self.now }
+        ensures { result ≡ set_first_cmp key_cmp (key_at self.now a) (key_at self.now b) }
+    {
+        compare_set(&self.is_set, &self.keys, a, b)
+    }
+}
+
+// Slots of which none is set.
+fn none_set(alloc: Global, slots: usize) -> Result<Vec<bool>, AllocError>
+    ensures { IfOk result (λ is_set. is_set.items ≡ replicate slots false) }
+{
+    let mut is_set = Vec::new(alloc);
+    is_set.resize(slots, false)?;
+    Ok(is_set)
+}
+
+// Room for keys. What stands there means nothing until it is set.
+fn no_keys(alloc: Global, slots: usize) -> Result<Vec<RankKey>, AllocError>
+    ensures { IfOk result (λ keys. length keys.items ≡ slots) }
+{
+    let mut keys = Vec::new(alloc);
+    keys.resize(
+        slots,
+        RankKey::Never {
+            page: PageId { dev: 0, no: 0 },
+        },
+    )?;
+    Ok(keys)
+}
+
+// Marks the slots where nothing stands as without a key.
+fn unset_vacant<T>(is_set: &mut Vec<bool>, held: &[Option<T>])
+    requires { length held.now ≡ length is_set.old.items }
+    ensures count { length is_set.new.items ≡ length is_set.old.items }
+    ensures keys { (keys : List RankKey) → length keys ≡ length is_set.old.items
+        → keys_set is_set.new.items keys ≡ keys_while held.now (keys_set is_set.old.items keys) }
+{
+    for (slot, held) in held.iter().enumerate() {
+        if held.is_none() {
+            is_set[slot] = false;
+        }
+    }
+}
+
+// The order of the keys of two slots.
+fn compare_set(is_set: &[bool], keys: &[RankKey], a: usize, b: usize) -> Ordering
+    requires same { length keys.now ≡ length is_set.now }
+    requires first { a < length is_set.now }
+    requires second { b < length is_set.now }
+    ensures { result ≡ set_first_cmp key_cmp
+        (key_at (keys_set is_set.now keys.now) a) (key_at (keys_set is_set.now keys.now) b) }
+{
+    if !is_set[a] {
+        return if is_set[b] {
+            Ordering::Greater
+        } else {
+            Ordering::Equal
+        };
+    }
+    if !is_set[b] {
+        return Ordering::Less;
+    }
+    keys[a].cmp(&keys[b])
+}
