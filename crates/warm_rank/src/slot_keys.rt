@@ -1,47 +1,42 @@
-//! The keys of a contest's slots.
+//! The keys of slots, of any type.
 ghost use Rattle.std.specs.Prelude.{◌≡◌, List, ◌<◌, ◌≤◌, length, replicate, set, false, true, is_some, IfOk, None};
-ghost use Rattle.warm_rank.specs.declared.RankKey.{RankKey};
-ghost use Rattle.warm_rank.specs.Keys.{key_cmp};
 ghost use Rattle.warm_rank.specs.Slots.{key_at, keys_set, keys_while, set_first_cmp};
 
-use crate::RankKey;
 use std::alloc::{AllocError, Global};
 use std::cmp::Ordering;
 use std::marker::Model;
-use warm_stamps::PageId;
 
-/// Slots that each may have a key. Contracts see the list of the keys.
+/// Slots that each may have a key, of any type. Contracts see the list of the keys.
 ///
 /// Whether a slot has a key stands apart from the key: where slots are cleared, and in the matches of slots without a key, little memory
-/// is touched.
+/// is touched. So some key stands in each slot, and means nothing in one that is not set.
 #[derive(Debug, Drop)]
-pub(crate) struct SlotKeys {
+pub(crate) struct SlotKeys<K> {
     is_set: Vec<bool>,
-    keys: Vec<RankKey>,
+    keys: Vec<K>,
 }
 
-impl Model for SlotKeys {
+impl<K> Model for SlotKeys<K> {
     ghost use Rattle.std.specs.Prelude.{◌≡◌, List, Option, length};
-    ghost use Rattle.warm_rank.specs.declared.RankKey.{RankKey};
     ghost use Rattle.warm_rank.specs.Slots.{keys_set};
 
-    ghost Value = { List (Option RankKey) };
+    ghost Value = { List (Option K) };
 
     ghost view = { λ slots. keys_set slots.is_set.items slots.keys.items };
 
     ghost invariant = { λ slots. length slots.keys.items ≡ length slots.is_set.items };
 }
 
-impl SlotKeys {
-    /// Slots without a key.
+impl<K: Ord + Copy> SlotKeys<K> {
+    /// Slots without a key; `unused`, which may be any key, stands in them.
     ///
     /// # Errors
     /// `AllocError` where there is no memory for them.
-    pub(crate) fn new(alloc: Global, slots: usize) -> Result<SlotKeys, AllocError>
+    pub(crate) fn new(alloc: Global, slots: usize, unused: K) -> Result<SlotKeys<K>, AllocError>
         ensures { IfOk result (λ keys. keys ≡ replicate slots None) }
     {
         let is_set = none_set(alloc, slots)?;
-        let keys = no_keys(alloc, slots)?;
+        let keys = no_keys(alloc, slots, unused)?;
         Ok(SlotKeys { is_set, keys })
     }
 
@@ -61,7 +56,7 @@ impl SlotKeys {
     }
 
     /// Sets or clears the key of a slot.
-    pub(crate) fn set(&mut self, slot: usize, key: Option<RankKey>)
+    pub(crate) fn set(&mut self, slot: usize, key: Option<K>)
         requires { slot < length self.old }
         ensures { self.new ≡ set self.old slot key }
     {
@@ -79,14 +74,14 @@ impl SlotKeys {
         requires { length held.now ≡ length self.old }
         ensures { self.new ≡ keys_while held.now self.old }
     {
-        unset_vacant(&mut self.is_set, held);
+        unset_vacant::<K, T>(&mut self.is_set, held);
     }
 
     /// The order of the keys of two slots: the lesser key first, and a set key before none.
     pub(crate) fn compare(&self, a: usize, b: usize) -> Ordering
         requires first { a < length self.now }
         requires second { b < length self.now }
-        ensures { result ≡ set_first_cmp key_cmp (key_at self.now a) (key_at self.now b) }
+        ensures { result ≡ set_first_cmp K.cmp (key_at self.now a) (key_at self.now b) }
     {
         compare_set(&self.is_set, &self.keys, a, b)
     }
@@ -102,24 +97,19 @@ fn none_set(alloc: Global, slots: usize) -> Result<Vec<bool>, AllocError>
 }
 
 // Room for keys. What stands there means nothing until it is set.
-fn no_keys(alloc: Global, slots: usize) -> Result<Vec<RankKey>, AllocError>
+fn no_keys<K: Copy>(alloc: Global, slots: usize, unused: K) -> Result<Vec<K>, AllocError>
     ensures { IfOk result (λ keys. length keys.items ≡ slots) }
 {
     let mut keys = Vec::new(alloc);
-    keys.resize(
-        slots,
-        RankKey::Never {
-            page: PageId { dev: 0, no: 0 },
-        },
-    )?;
+    keys.resize(slots, unused)?;
     Ok(keys)
 }
 
-// Marks the slots where nothing stands as without a key.
-fn unset_vacant<T>(is_set: &mut Vec<bool>, held: &[Option<T>])
+// Marks the slots where nothing stands as without a key, whatever keys of type K go with the marks.
+fn unset_vacant<K, T>(is_set: &mut Vec<bool>, held: &[Option<T>])
     requires { length held.now ≡ length is_set.old.items }
     ensures count { length is_set.new.items ≡ length is_set.old.items }
-    ensures keys { (keys : List RankKey) → length keys ≡ length is_set.old.items
+    ensures keys { (keys : List K) → length keys ≡ length is_set.old.items
         → keys_set is_set.new.items keys ≡ keys_while held.now (keys_set is_set.old.items keys) }
 {
     for (slot, held) in held.iter().enumerate() {
@@ -130,11 +120,11 @@ fn unset_vacant<T>(is_set: &mut Vec<bool>, held: &[Option<T>])
 }
 
 // The order of the keys of two slots.
-fn compare_set(is_set: &[bool], keys: &[RankKey], a: usize, b: usize) -> Ordering
+fn compare_set<K: Ord>(is_set: &[bool], keys: &[K], a: usize, b: usize) -> Ordering
     requires same { length keys.now ≡ length is_set.now }
     requires first { a < length is_set.now }
     requires second { b < length is_set.now }
-    ensures { result ≡ set_first_cmp key_cmp
+    ensures { result ≡ set_first_cmp K.cmp
         (key_at (keys_set is_set.now keys.now) a) (key_at (keys_set is_set.now keys.now) b) }
 {
     if !is_set[a] {

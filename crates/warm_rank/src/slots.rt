@@ -8,6 +8,7 @@ use crate::winners::{number_leaves, play_above, play_all};
 use crate::{MAX_SLOTS, RankKey};
 use std::alloc::{AllocError, Global};
 use std::marker::Model;
+use warm_stamps::PageId;
 
 /// Slots that each may have a key, and the slot of the least of them. Contracts see the list of the keys.
 ///
@@ -16,7 +17,7 @@ use std::marker::Model;
 /// key is compared at most once for each level, and the least is read at the root.
 #[derive(Debug, Drop)]
 pub struct Contest {
-    keys: SlotKeys,
+    keys: SlotKeys<RankKey>,
     nodes: Vec<u32>,
 }
 
@@ -43,7 +44,7 @@ impl Contest {
         requires few { slots ≤ MAX_SLOTS }
         ensures { IfOk result (λ contest. contest ≡ replicate slots None) }
     {
-        let keys = SlotKeys::new(alloc, slots)?;
+        let keys = SlotKeys::new(alloc, slots, unused_key())?;
         let mut nodes = Vec::new(alloc);
         nodes.resize(2 * slots, 0)?;
         number_leaves(slots, &mut nodes);
@@ -83,5 +84,12 @@ impl Contest {
         } else {
             None
         }
+    }
+}
+
+// What stands in a slot without a key. It means nothing.
+const fn unused_key() -> RankKey {
+    RankKey::Never {
+        page: PageId { dev: 0, no: 0 },
     }
 }
