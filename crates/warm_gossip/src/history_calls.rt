@@ -107,11 +107,11 @@ impl Node {
 
     /// A frame of the sums of all buckets: the call `Offer`.
     ///
-    /// The sums are kept. It costs nothing where the history has not changed since the last offer or the last sums received, and
-    /// else a pass over the history, and the hashing of the buckets that changed.
+    /// The sums are kept. Having them costs nothing where nothing was taken in since the last offer or the last sums received, and
+    /// else a pass over the history, and the hashing of the buckets of what was.
     ///
     /// # Errors
-    /// `Memory`: room was refused; nothing has changed.
+    /// `Memory`: room was refused; nothing has changed that a caller sees, and the next offer takes the same sums anew.
     pub fn offer(&mut self) -> Result<Frame, NodeFault>
         requires fit { IsFit state self.old }
         ensures fit { IsFit state self.new }

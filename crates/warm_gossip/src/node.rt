@@ -19,8 +19,8 @@ use warm_stamps::ReplicaId;
 
 /// One replica: the history of the references that reached it, and its buffer pool, which that history ranks.
 ///
-/// It keeps the sums of its history's buckets, and the list of pages by which it warms up, until the history changes: an offer and a
-/// step of the warm-up that come after no change make neither anew.
+/// It keeps the sums of its history's buckets, and the list of pages by which it warms up, until it takes something in or restarts:
+/// an offer, and a step of the warm-up, with nothing taken in since the last one makes neither anew.
 ///
 /// A pin is no reference: pages are ranked by the references that the node absorbed. Whoever pins a page also absorbs one.
 ///

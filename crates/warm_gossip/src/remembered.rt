@@ -20,8 +20,8 @@ pub(crate) struct Hottest {
     pub(crate) pages: Vec<PageId>,
 }
 
-/// A history with the sums of its buckets and a list of its hottest pages. Both are kept until the history changes: then the
-/// sums of the buckets that changed are taken anew when they are next asked for, and so is the whole list.
+/// A history with the sums of its buckets and a list of its hottest pages. Both are kept until something is taken in: then the
+/// sums of its buckets are taken anew when they are next asked for, and so is the whole list.
 ///
 /// Contracts see it as its history.
 #[derive(Drop)]
@@ -90,7 +90,7 @@ impl Remembered {
         self.hottest = None;
     }
 
-    /// The sums of the history's buckets, at the cost of [`SummedHistory::sums`]: nothing where none has changed.
+    /// The sums of the history's buckets, at the cost of [`SummedHistory::sums`]: nothing where nothing was taken in since.
     pub(crate) fn sums(&mut self) -> Result<SumTable, AllocError>
         ensures table { IfOk result (λ table. table ≡ sums_of (entries_of self.old)) }
         ensures same { self.new ≡ self.old }
@@ -115,7 +115,7 @@ impl Remembered {
         Ok(Hottest { asked: n, pages })
     }
 
-    /// Keeps a list of the hottest pages until the history changes.
+    /// Keeps a list of the hottest pages until something is taken in.
     pub(crate) fn keep(&mut self, list: Hottest)
         requires { IsHottest self.old list }
         ensures { self.new ≡ self.old }

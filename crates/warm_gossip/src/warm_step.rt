@@ -13,8 +13,8 @@ impl Node {
     /// Loads the hottest page that is not resident and that a device has, of as many as the pool has frames, and gives it; `None`
     /// where there is none: the call `WarmStep`. On a standby it is called until it gives none, before the standby takes over.
     ///
-    /// The list of these pages is made at the first step, and kept until the history changes. A step that finds it kept takes no
-    /// memory, and looks each page up from the hottest on until one is not resident.
+    /// The list of these pages is made at the first step, at the cost of [`Node::warm_list`], and kept until the node takes something
+    /// in or restarts. A step that finds it kept takes no memory for it, and looks the pages up from the hottest on until it finds one.
     ///
     /// # Errors
     /// `Memory`: there was no room for the list of the hottest pages; the next step makes it. `Pool`, with the fault and the order of
