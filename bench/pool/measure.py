@@ -1,8 +1,8 @@
 #!/usr/bin/env python3
-"""Measures visits to resident pages of a pool and pins of pages that are in no frame beside those in plain Rust, and how emptying a
-pool and retiring a device grow with the frames, and prints the tables of docs/PERFORMANCE.md.
+"""Measures visits to resident pages of a pool, pins of pages that are in no frame, and the emptying of a full pool beside those in plain
+Rust, and how emptying a pool and retiring a device grow with the frames, and prints the tables of docs/PERFORMANCE.md.
 
-usage: measure.py [NAME..]      empty, visits, misses (all, where none is named)
+usage: measure.py [NAME..]      empty, full, visits, misses (all, where none is named)
 
 It wants the proved program (`rt run` in crates/bench_pool leaves it as crates/bench_pool/out/bench_pool) and `rustc`.
 The programs run in turn, five times, and the fastest run of each counts. All must print the same sum.
@@ -20,6 +20,14 @@ VISITS, MISSES = 5_000_000, 1_000_000
 FEW, MANY = 4_096, 65_536
 # what holds pages as a pool is emptied, and the program's word for it
 HELD = {"none": "none", "the lower half": "lower", "the upper half": "upper", "all": "all"}
+
+# how the plain program finds its pages and victims, and its words for it
+PLAINS = {
+    "a HashMap, a winner tree": [],
+    "a HashMap whose hash multiplies, a winner tree": ["mixed"],
+    "a HashMap, a BTreeSet of ranks": ["ordered"],
+    "a HashMap whose hash multiplies, a BTreeSet of ranks": ["mixed", "ordered"],
+}
 
 
 def one_run(command: list[str | Path]) -> tuple[str, int]:
@@ -45,6 +53,24 @@ def print_emptying() -> None:
         for name, word in HELD.items():
             best = fastest(call, word)
             print(f"| {call}, {name} | {best[FEW]:.0f} | {best[MANY]:.0f} | {best[MANY] / best[FEW]:.1f} |")
+
+
+def print_full() -> None:
+    """A restart empties its pool. Runs of ours and of the plain programs take turns."""
+    with tempfile.TemporaryDirectory() as folder:
+        plain = Path(folder) / "plain"
+        subprocess.run(["rustc", "-O", "--edition", "2024", "-o", plain, HERE / "plain.rs"], check=True)
+        commands = {"ours": [OURS, "empty", str(MANY), "all"]} | {name: [plain, "empty", *words] for name, words in PLAINS.items()}
+        best: dict[str, float] = {}
+        for _ in range(4 * RUNS):
+            for name, command in commands.items():
+                said = subprocess.run(command, stdout=subprocess.PIPE, check=True, text=True).stdout
+                best[name] = min(int(said.split()[0]) / 1000, best.get(name, float("inf")))
+    ours = best.pop("ours")
+    print(f"| the plain program | ours, µs for {MANY:,} frames | plain Rust, µs | plain time by ours |")
+    print("|---|---|---|---|")
+    for name, spent in best.items():
+        print(f"| {name} | {ours:.0f} | {spent:.0f} | {spent / ours:.2f} |", flush=True)
 
 
 def beside(what: list[str], count: int, plains: dict[str, list[str]]) -> None:
@@ -75,16 +101,10 @@ def print_visits() -> None:
 def print_misses() -> None:
     print("| the plain program | ours, ns a pin | plain Rust, ns a pin | plain time by ours |")
     print("|---|---|---|---|")
-    plains = {
-        "a HashMap, a winner tree": [],
-        "a HashMap whose hash multiplies, a winner tree": ["mixed"],
-        "a HashMap, a BTreeSet of ranks": ["ordered"],
-        "a HashMap whose hash multiplies, a BTreeSet of ranks": ["mixed", "ordered"],
-    }
-    beside(["misses", str(MISSES)], MISSES, plains)
+    beside(["misses", str(MISSES)], MISSES, PLAINS)
 
 
-TABLES = {"empty": print_emptying, "visits": print_visits, "misses": print_misses}
+TABLES = {"empty": print_emptying, "full": print_full, "visits": print_visits, "misses": print_misses}
 
 
 def main() -> None:

@@ -1,7 +1,7 @@
 //! The visits and misses of `crates/bench_pool` in plain Rust, over a pool with a `HashMap` for its index.
 //!
 //! With no argument 1,000 visits are made; with a number so many, and the nanoseconds are printed too; with `misses` and a
-//! number so many pins of pages that are in no frame. The map has the hash that std gives it, or, with a further word `mixed`,
+//! number so many pins of pages that are in no frame; with `empty` a full pool is emptied, and the nanoseconds are printed. The map has the hash that std gives it, or, with a further word `mixed`,
 //! one that multiplies, as that of the proved pool's index does. The page that leaves is found by a winner tree, as in the
 //! proved pool, or, with a further word `ordered`, by a `BTreeSet` of ranks.
 
@@ -54,6 +54,7 @@ trait Contest {
     fn new(frames: usize) -> Self;
     fn set(&mut self, frame: u32, rank: Option<Rank>);
     fn least(&self) -> Option<u32>;
+    fn clear(&mut self);
 }
 
 /// A winner tree: node 1 is the root, node j stands over nodes 2j and 2j + 1, and the last nodes are the frames in order.
@@ -102,6 +103,13 @@ impl Contest for Winners {
         let first = self.nodes[1];
         self.ranks[first as usize].map(|_| first)
     }
+
+    fn clear(&mut self) {
+        self.ranks.fill(None);
+        for node in (1..self.ranks.len()).rev() {
+            self.nodes[node] = self.winner(self.nodes[2 * node], self.nodes[2 * node + 1]);
+        }
+    }
 }
 
 /// The ranks in order.
@@ -130,6 +138,11 @@ impl Contest for Ordered {
 
     fn least(&self) -> Option<u32> {
         self.order.first().map(|(_, frame)| *frame)
+    }
+
+    fn clear(&mut self) {
+        self.ranks.fill(None);
+        self.order.clear();
     }
 }
 
@@ -312,6 +325,28 @@ impl<H: BuildHasher + Default, C: Contest> Pool<H, C> {
         Some(bytes[0])
     }
 
+    /// Writes each page back that was written to, and takes all pages out of their frames, where none is fixed.
+    fn empty(&mut self) -> Option<()> {
+        if self.frames.iter().any(|frame| frame.fixes > 0) {
+            return None;
+        }
+        for frame in &mut self.frames {
+            if let (true, Some(page)) = (frame.dirty, frame.page) {
+                self.device.write(page.no, &frame.bytes)?;
+                frame.dirty = false;
+            }
+        }
+        for frame in &mut self.frames {
+            frame.page = None;
+            frame.rank = None;
+        }
+        self.index.clear();
+        self.free.clear();
+        self.free.extend((0..FRAMES).rev());
+        self.contest.clear();
+        Some(())
+    }
+
     fn look_at(&mut self, page: Page, history: &History) -> Option<u8> {
         let slot = self.pin(page, history)?;
         let mut bytes = [0; 8];
@@ -367,9 +402,23 @@ fn miss_often<H: BuildHasher + Default, C: Contest>(misses: u32) -> Option<(u64,
     Some((sum, start.elapsed()))
 }
 
+/// How long it takes to empty a pool of which each frame holds a page.
+fn emptied<H: BuildHasher + Default, C: Contest>() -> Option<(u64, Duration)> {
+    let mut pool = Pool::<H, C>::opened(FRAMES, false);
+    let history = History::new();
+    for no in 0..FRAMES {
+        pool.load(Page { dev: 0, no }, 0, &history)?;
+    }
+    let pool = black_box(&mut pool);
+    let start = Instant::now();
+    pool.empty()?;
+    Some((u64::from(FRAMES), start.elapsed()))
+}
+
 fn done<H: BuildHasher + Default, C: Contest>(what: &str, count: u32) -> Option<(u64, Duration)> {
     match what {
         "misses" => miss_often::<H, C>(count),
+        "empty" => emptied::<H, C>(),
         _ => visit_often::<H, C>(count),
     }
 }
@@ -379,7 +428,7 @@ fn main() {
     let has = |word: &str| words.iter().any(|other| other == word);
     let number = words.iter().find_map(|word| word.parse().ok());
     let count = number.unwrap_or(1_000);
-    let what = if has("misses") { "misses" } else { "visits" };
+    let what = ["misses", "empty"].into_iter().find(|what| has(what)).unwrap_or("visits");
     let made = match (has("mixed"), has("ordered")) {
         (false, false) => done::<RandomState, Winners>(what, count),
         (false, true) => done::<RandomState, Ordered>(what, count),
@@ -387,6 +436,10 @@ fn main() {
         (true, true) => done::<BuildHasherDefault<Mixed>, Ordered>(what, count),
     };
     let (sum, spent) = made.expect("every page is known");
+    if what == "empty" {
+        println!("{} ns", spent.as_nanos());
+        return;
+    }
     println!("{count} {what}: {sum}");
     if number.is_some() {
         println!("{} ns", spent.as_nanos());
