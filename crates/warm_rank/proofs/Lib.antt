@@ -2,6 +2,7 @@ pub mod Counting
 mod Examples
 pub mod KeyLemmas
 pub mod LeavingLemmas
+pub mod PackedLemmas
 pub mod PlacesBack
 pub mod SetKeyLemmas
 pub mod SlotLemmas

@@ -17,13 +17,15 @@ use Rattle.warm_stamps.proofs.DistinctLemmas.{Has, by_cases, distinct_rises, has
 use Rattle.warm_stamps.proofs.StampLemmas.{page_order}
 use Rattle.warm_history.specs.ReferenceSets.{ReferenceSet, references}
 use Rattle.warm_history.specs.declared.hist.PageHist.{PageHist}
-use Rattle.warm_history.specs.Histories.{hist, pages, history}
+use Rattle.warm_history.specs.Histories.{hist, pages, history, entries_of}
 use Rattle.warm_history.proofs.HistoryLemmas.{some_named}
-use Rattle.warm_rank.specs.declared.RankKey.{RankKey}
+use Rattle.warm_rank.specs.declared.packed.PackedKey.{PackedKey}
 use Rattle.warm_rank.specs.Greatest.{AreGreatest}
-use Rattle.warm_rank.specs.Keys.{rank_key, key_cmp, entry_key, keys_in, page_of}
+use Rattle.warm_rank.specs.Keys.{rank_key, entry_key}
+use Rattle.warm_rank.specs.Packed.{packed_key, packed_keys, packed_page, packed_cmp}
 use Rattle.warm_rank.specs.Ranking.{leaving_cmp, warm}
-use Rattle.warm_rank.proofs.KeyLemmas.{keys_rank, key_order, page_of-rank_key}
+use Rattle.warm_rank.proofs.KeyLemmas.{keys_rank, page_of-rank_key}
+use Rattle.warm_rank.proofs.PackedLemmas.{packed_compares, packed_keeps_page, packed_order}
 use Rattle.warm_rank.proofs.SortLemmas.{ties, ties-here, ties-other, HasNoTies, IsAbove, distinct-falling, above_from_split}
 
 insert-map : {A B : Type 0} (f : A → B) (c : A → A → Ordering) (d : B → B → Ordering) → ((x y : A) → d (f x) (f y) ≡ c x y) → (x : A) (ys : List A) → insert_distinct d (f x) (map f ys) ≡ map f (insert_distinct c x ys)
@@ -46,52 +48,66 @@ keys_of_entries f (p ∷ ps) some = go (f p) (some p (inl refl)) (keys_of_entrie
     go None is later = absurd (cc)
     go (Some h) is later = ap (λ t. rank_key p (Some h) ∷ t) later
 
-keys_of_pages : (S : ReferenceSet) → keys_in (history S) ≡ map (λ p. rank_key p (hist S p)) (pages S)
+keys_of_pages : (S : ReferenceSet) → map entry_key (entries_of (history S)) ≡ map (λ p. rank_key p (hist S p)) (pages S)
 unfolding history
 keys_of_pages S = keys_of_entries (hist S) (pages S) (λ p has. some_named S p (has_from_distinct page_cmp page_order (map (λ (r : Reference). r.page) (references S)) p has))
+
+-- a page's packed key, by what is known of it
+abbrev packed_of : (PageId → Option PageHist) → PageId → PackedKey
+packed_of f p = packed_key (rank_key p (f p))
+
+packed_of_pages : (S : ReferenceSet) → packed_keys (history S) ≡ map (packed_of (hist S)) (pages S)
+packed_of_pages S = map_twice entry_key packed_key (entries_of (history S)) ∙ ap (map packed_key) (keys_of_pages S) ∙ sym (map_twice (λ p. rank_key p (hist S p)) packed_key (pages S))
+  where
+    map_twice : {A B C : Type 0} (f : A → B) (g : B → C) (xs : List A) → map (λ x. g (f x)) xs ≡ map g (map f xs)
+    map_twice f g [] = refl
+    map_twice f g (x ∷ xs) = ap (λ t. g (f x) ∷ t) (map_twice f g xs)
+
+page_of-packed : (f : PageId → Option PageHist) (p : PageId) → packed_page (packed_of f p) ≡ p
+page_of-packed f p = packed_keeps_page (rank_key p (f p)) ∙ page_of-rank_key p (f p)
 
 map_inverse : {A B : Type 0} (f : A → B) (g : B → A) → ((x : A) → g (f x) ≡ x) → (xs : List A) → map g (map f xs) ≡ xs
 map_inverse f g back [] = refl
 map_inverse f g back (x ∷ xs) = ap (λ y. y ∷ map g (map f xs)) (back x) ∙ ap (λ t. x ∷ t) (map_inverse f g back xs)
 
 -- the pages of the greatest keys are the warm-up list
-pub warm_from_keys : (S : ReferenceSet) (n : ℕ) → map page_of (take n (distinct (flip_args key_cmp) (keys_in (history S)))) ≡ warm S n
+pub warm_from_keys : (S : ReferenceSet) (n : ℕ) → map packed_page (take n (distinct (flip_args packed_cmp) (packed_keys (history S)))) ≡ warm S n
 warm_from_keys S n =
-    let key = λ (p : PageId). rank_key p (hist S p) in
-    ap (λ ks. map page_of (take n (distinct (flip_args key_cmp) ks))) (keys_of_pages S)
-    ∙ ap (λ ks. map page_of (take n ks)) (distinct-map key (flip_args (leaving_cmp S)) (flip_args key_cmp) (λ p q. keys_rank S q p) (pages S))
-    ∙ ap (map page_of) (take-map key n (distinct (flip_args (leaving_cmp S)) (pages S)))
-    ∙ map_inverse key page_of (λ p. page_of-rank_key p (hist S p)) (warm S n)
+    let key = packed_of (hist S) in
+    ap (λ ks. map packed_page (take n (distinct (flip_args packed_cmp) ks))) (packed_of_pages S)
+    ∙ ap (λ ks. map packed_page (take n ks)) (distinct-map key (flip_args (leaving_cmp S)) (flip_args packed_cmp) (λ p q. packed_compares (rank_key q (hist S q)) (rank_key p (hist S p)) ∙ keys_rank S q p) (pages S))
+    ∙ ap (map packed_page) (take-map key n (distinct (flip_args (leaving_cmp S)) (pages S)))
+    ∙ map_inverse key packed_page (page_of-packed (hist S)) (warm S n)
 
 -- ---- no two keys of a history's entries tie
 
-none_tied : (f : PageId → Option PageHist) (p : PageId) (ps : List PageId) → AllByRecursion (λ q. page_cmp p q ≡ Less) ps → ties key_cmp (rank_key p (f p)) (map (λ q. rank_key q (f q)) ps) ≡ 0
+none_tied : (f : PageId → Option PageHist) (p : PageId) (ps : List PageId) → AllByRecursion (λ q. page_cmp p q ≡ Less) ps → ties packed_cmp (packed_of f p) (map (packed_of f) ps) ≡ 0
 none_tied f p [] above = refl
 none_tied f p (q ∷ ps) above =
-    let apart : is_eq (key_cmp (rank_key p (f p)) (rank_key q (f q))) ≡ false = by_cases (key_cmp (rank_key p (f p)) (rank_key q (f q))) _
+    let apart : is_eq (packed_cmp (packed_of f p) (packed_of f q)) ≡ false = by_cases (packed_cmp (packed_of f p) (packed_of f q)) _
     (λ less. ap is_eq less)
     (λ tied.
-    let same : p ≡ q = sym (page_of-rank_key p (f p)) ∙ ap page_of {x = rank_key p (f p)} {y = rank_key q (f q)} (key_order.same (rank_key p (f p)) (rank_key q (f q)) tied) ∙ page_of-rank_key q (f q) in
+    let same : p ≡ q = sym (page_of-packed f p) ∙ ap packed_page {x = packed_of f p} {y = packed_of f q} (packed_order.same (packed_of f p) (packed_of f q) tied) ∙ page_of-packed f q in
     let no : Less ≡ Equal = sym above.0 ∙ ap (page_cmp p) (sym same) ∙ tied_itself page_order.total p in
     absurd (cc))
     (λ more. ap is_eq more)
     in
-    ties-other key_cmp key_order (rank_key p (f p)) (rank_key q (f q)) (map (λ r. rank_key r (f r)) ps) apart ∙ none_tied f p ps above.1
+    ties-other packed_cmp packed_order (packed_of f p) (packed_of f q) (map (packed_of f) ps) apart ∙ none_tied f p ps above.1
 
-no_ties : (f : PageId → Option PageHist) (ps : List PageId) → IsRising page_cmp ps → HasNoTies key_cmp (map (λ p. rank_key p (f p)) ps)
+no_ties : (f : PageId → Option PageHist) (ps : List PageId) → IsRising page_cmp ps → HasNoTies packed_cmp (map (packed_of f) ps)
 no_ties f [] rising x = omega arith
 no_ties f (p ∷ ps) rising x =
-    let key : RankKey = rank_key p (f p) in
-    let keys : List RankKey = map (λ q. rank_key q (f q)) ps in
-    by_cases (key_cmp x key) _
-    (λ less. omega (arith, ties-other key_cmp key_order x key keys (ap is_eq less), no_ties f ps rising.1 x))
+    let key : PackedKey = packed_of f p in
+    let keys : List PackedKey = map (packed_of f) ps in
+    by_cases (packed_cmp x key) _
+    (λ less. omega (arith, ties-other packed_cmp packed_order x key keys (ap is_eq less), no_ties f ps rising.1 x))
     (λ tied.
-    let same : x ≡ key = key_order.same x key tied in
-    omega (arith, ties-here key_cmp key_order x key keys tied, ap (λ k. ties key_cmp k keys) same ∙ none_tied f p ps rising.0))
-    (λ more. omega (arith, ties-other key_cmp key_order x key keys (ap is_eq more), no_ties f ps rising.1 x))
+    let same : x ≡ key = packed_order.same x key tied in
+    omega (arith, ties-here packed_cmp packed_order x key keys tied, ap (λ k. ties packed_cmp k keys) same ∙ none_tied f p ps rising.0))
+    (λ more. omega (arith, ties-other packed_cmp packed_order x key keys (ap is_eq more), no_ties f ps rising.1 x))
 
-history_has_no_ties : (S : ReferenceSet) (keys : List RankKey) → keys ≡ keys_in (history S) → HasNoTies key_cmp keys
-history_has_no_ties S keys is = subst (HasNoTies key_cmp) (sym (is ∙ keys_of_pages S)) (no_ties (hist S) (pages S) (distinct_rises page_cmp page_order (map (λ (r : Reference). r.page) (references S))))
+history_has_no_ties : (S : ReferenceSet) (keys : List PackedKey) → keys ≡ packed_keys (history S) → HasNoTies packed_cmp keys
+history_has_no_ties S keys is = subst (HasNoTies packed_cmp) (sym (is ∙ packed_of_pages S)) (no_ties (hist S) (pages S) (distinct_rises page_cmp page_order (map (λ (r : Reference). r.page) (references S))))
 
 -- ---- the warm-up list from a part of the keys, or from all, once it is sorted
 
@@ -109,21 +125,21 @@ all_of (x ∷ xs) zero short = absurd (omega arith)
 all_of (x ∷ xs) (suc n) short = ap (λ t. x ∷ t) (all_of xs n (omega arith))
 
 -- keys of which no item of top is below one of rest
-warm_from_parts : (S : ReferenceSet) (n : ℕ) (keys rest top sorted : List RankKey) → keys ≡ keys_in (history S) → IsPermutation keys (rest ++ top) → IsAbove key_cmp rest top → IsPermutation top sorted → IsSorted key_cmp sorted
-    → take n (reverse sorted ++ distinct (flip_args key_cmp) rest) ≡ reverse sorted → map page_of (reverse sorted) ≡ warm S n
+warm_from_parts : (S : ReferenceSet) (n : ℕ) (keys rest top sorted : List PackedKey) → keys ≡ packed_keys (history S) → IsPermutation keys (rest ++ top) → IsAbove packed_cmp rest top → IsPermutation top sorted → IsSorted packed_cmp sorted
+    → take n (reverse sorted ++ distinct (flip_args packed_cmp) rest) ≡ reverse sorted → map packed_page (reverse sorted) ≡ warm S n
 warm_from_parts S n keys rest top sorted is parted above moved in_order first =
-    ap (map page_of) (sym first ∙ ap (take n) (sym (distinct-falling key_cmp key_order keys rest top sorted (history_has_no_ties S keys is) parted above moved in_order)))
-    ∙ ap (λ ks. map page_of (take n (distinct (flip_args key_cmp) ks))) is
+    ap (map packed_page) (sym first ∙ ap (take n) (sym (distinct-falling packed_cmp packed_order keys rest top sorted (history_has_no_ties S keys is) parted above moved in_order)))
+    ∙ ap (λ ks. map packed_page (take n (distinct (flip_args packed_cmp) ks))) is
     ∙ warm_from_keys S n
 
 -- the n greatest keys
-pub warm_from_greatest : (S : ReferenceSet) (n : ℕ) (keys top sorted : List RankKey) → keys ≡ keys_in (history S) → AreGreatest key_cmp keys n top → IsPermutation top sorted → IsSorted key_cmp sorted → map page_of (reverse sorted) ≡ warm S n
+pub warm_from_greatest : (S : ReferenceSet) (n : ℕ) (keys top sorted : List PackedKey) → keys ≡ packed_keys (history S) → AreGreatest packed_cmp keys n top → IsPermutation top sorted → IsSorted packed_cmp sorted → map packed_page (reverse sorted) ≡ warm S n
 warm_from_greatest S n keys top sorted is great moved in_order =
-    warm_from_parts S n keys (great.others ++ great.next ∷ []) top sorted is (subst (IsPermutation keys) (sym (append_assoc great.others (great.next ∷ []) top)) great.parts) (above_from_split key_cmp key_order great.others great.next top great.split) moved in_order
+    warm_from_parts S n keys (great.others ++ great.next ∷ []) top sorted is (subst (IsPermutation keys) (sym (append_assoc great.others (great.next ∷ []) top)) great.parts) (above_from_split packed_cmp packed_order great.others great.next top great.split) moved in_order
     (first_of (reverse sorted) _ n (length-reverse sorted ∙ length_permutation top sorted moved ∙ great.count))
 
 -- all keys
-pub warm_from_all : (S : ReferenceSet) (n : ℕ) (keys sorted : List RankKey) → keys ≡ keys_in (history S) → length keys ≤ n → IsPermutation keys sorted → IsSorted key_cmp sorted → map page_of (reverse sorted) ≡ warm S n
+pub warm_from_all : (S : ReferenceSet) (n : ℕ) (keys sorted : List PackedKey) → keys ≡ packed_keys (history S) → length keys ≤ n → IsPermutation keys sorted → IsSorted packed_cmp sorted → map packed_page (reverse sorted) ≡ warm S n
 warm_from_all S n keys sorted is short moved in_order =
     warm_from_parts S n keys [] keys sorted is (IsPermutation-refl keys) (λ r t none has. absurd none) moved in_order
     (all_of (reverse sorted) n (omega (arith, length-reverse sorted, length_permutation keys sorted moved)))

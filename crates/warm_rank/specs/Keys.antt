@@ -1,5 +1,5 @@
 -- The key of a page, and the order of keys.
-use Rattle.std.specs.Prelude.{List, map, Option, Some, None}
+use Rattle.std.specs.Prelude.{Option, Some, None}
 use Rattle.std.specs.Ordering.{ordering_then}
 use Rattle.std.specs.declared.cmp.Ordering.{Ordering}
 use Rattle.std.specs.declared.cmp.Ordering.TheVariants.{Less, Greater}
@@ -8,7 +8,6 @@ use Rattle.warm_stamps.specs.Stamps.{stamp_cmp, page_cmp}
 use Rattle.warm_history.specs.declared.hist.Entry.{Entry}
 use Rattle.warm_history.specs.declared.hist.PageHist.{PageHist}
 use Rattle.warm_history.specs.declared.hist.PageHist.TheVariants as page
-use Rattle.warm_history.specs.Histories.{HistoryView, entries_of}
 use Rattle.warm_rank.specs.declared.RankKey.{RankKey}
 use Rattle.warm_rank.specs.declared.RankKey.TheVariants.{Never, Once, Twice}
 
@@ -21,10 +20,6 @@ rank_key p (Some (page.Twice two)) = Twice two.prev two.last p
 -- the key of an entry's page
 abbrev pub entry_key : Entry → RankKey
 entry_key e = rank_key e.page (Some e.hist)
-
--- the keys of a history's pages
-abbrev pub keys_in : HistoryView → List RankKey
-keys_in h = map entry_key (entries_of h)
 
 -- the page of a key
 abbrev pub page_of : RankKey → PageId

@@ -2,6 +2,7 @@ pub mod Backward
 pub mod Greatest
 pub mod Keys
 pub mod Laws
+pub mod Packed
 pub mod Ranking
 pub mod Slots
 pub mod WarmUp

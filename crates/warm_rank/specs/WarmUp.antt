@@ -3,8 +3,8 @@ use Rattle.std.specs.Prelude.{◌≡◌, ℕ, List}
 use Rattle.warm_stamps.specs.declared.PageId.{PageId}
 use Rattle.warm_history.specs.ReferenceSets.{ReferenceSet}
 use Rattle.warm_history.specs.Histories.{HistoryView, history, StandsFor}
-use Rattle.warm_rank.specs.declared.RankKey.{RankKey}
-use Rattle.warm_rank.specs.Keys.{keys_in}
+use Rattle.warm_rank.specs.declared.packed.PackedKey.{PackedKey}
+use Rattle.warm_rank.specs.Packed.{packed_keys}
 use Rattle.warm_rank.specs.Ranking.{warm}
 
 -- the n pages that leave last, whichever references the history stands for
@@ -12,5 +12,5 @@ abbrev pub IsWarmUp : HistoryView → ℕ → List PageId → Type 0
 IsWarmUp h n ps = (S : ReferenceSet) → StandsFor h S → ps ≡ warm S n
 
 -- the n pages that leave last, whichever references have a history with these keys
-abbrev pub IsWarmUpOfKeys : List RankKey → ℕ → List PageId → Type 0
-IsWarmUpOfKeys keys n ps = (S : ReferenceSet) → keys ≡ keys_in (history S) → ps ≡ warm S n
+abbrev pub IsWarmUpOfKeys : List PackedKey → ℕ → List PageId → Type 0
+IsWarmUpOfKeys keys n ps = (S : ReferenceSet) → keys ≡ packed_keys (history S) → ps ≡ warm S n

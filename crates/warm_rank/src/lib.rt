@@ -17,6 +17,7 @@ ghost use Rattle.warm_rank.specs.Keys.{rank_key, page_of};
 ghost use Rattle.warm_rank.specs.Ranking.{leaving_cmp};
 
 pub mod laws;
+mod packed;
 mod slot_keys;
 mod slots;
 #[cfg(test)]

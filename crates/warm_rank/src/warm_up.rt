@@ -1,10 +1,12 @@
 //! The pages to load first.
 ghost use Rattle.std.specs.Prelude.{◌≡◌, ◌<◌, length, map, reverse, IfOk, IsPermutation, IsSorted};
 ghost use Rattle.warm_rank.specs.Greatest.{AreGreatest};
-ghost use Rattle.warm_rank.specs.Keys.{entry_key, key_cmp, keys_in, page_of};
+ghost use Rattle.warm_rank.specs.Keys.{entry_key};
+ghost use Rattle.warm_rank.specs.Packed.{packed_cmp, packed_key, packed_keys, packed_page};
 ghost use Rattle.warm_rank.specs.WarmUp.{IsWarmUp, IsWarmUpOfKeys};
 
-use crate::{RankKey, key_of};
+use crate::key_of;
+use crate::packed::PackedKey;
 use std::alloc::{AllocError, Global};
 use warm_history::{Entry, History};
 use warm_stamps::PageId;
@@ -24,8 +26,8 @@ pub fn warm_list(alloc: Global, history: &History, n: usize) -> Result<Vec<PageI
 }
 
 // The keys of all entries.
-fn keys_of(alloc: Global, history: &History) -> Result<Vec<RankKey>, AllocError>
-    ensures { IfOk result (λ keys. keys.items ≡ keys_in history.now) }
+fn keys_of(alloc: Global, history: &History) -> Result<Vec<PackedKey>, AllocError>
+    ensures { IfOk result (λ keys. keys.items ≡ packed_keys history.now) }
 {
     let mut keys = Vec::with_capacity(alloc, history.len())?;
     for entry in history.iter() {
@@ -34,15 +36,15 @@ fn keys_of(alloc: Global, history: &History) -> Result<Vec<RankKey>, AllocError>
     Ok(keys)
 }
 
-fn key_of_entry(entry: Entry) -> RankKey
-    ensures { result ≡ entry_key entry }
+fn key_of_entry(entry: Entry) -> PackedKey
+    ensures { result ≡ packed_key (entry_key entry) }
 {
-    key_of(entry.page, Some(entry.hist))
+    PackedKey::of(key_of(entry.page, Some(entry.hist)))
 }
 
 // The warm-up list from the keys of a history's entries, in any order. Where only some are asked for, the rest is set
 // apart first and never sorted.
-fn hottest_pages(alloc: Global, keys: &mut [RankKey], n: usize) -> Result<Vec<PageId>, AllocError>
+fn hottest_pages(alloc: Global, keys: &mut [PackedKey], n: usize) -> Result<Vec<PageId>, AllocError>
     ensures { IfOk result (λ pages. IsWarmUpOfKeys keys.old n pages.items) }
 {
     if n < keys.len() {
@@ -62,10 +64,10 @@ fn greatest<K: Ord>(items: &mut [K], n: usize) -> &mut [K]
 }
 
 // The pages of keys, that of the greatest first; the keys are sorted.
-fn falling_pages(alloc: Global, keys: &mut [RankKey]) -> Result<Vec<PageId>, AllocError>
+fn falling_pages(alloc: Global, keys: &mut [PackedKey]) -> Result<Vec<PageId>, AllocError>
     ensures same_keys { IsPermutation keys.old keys.new }
-    ensures sorted { IsSorted key_cmp keys.new }
-    ensures pages { IfOk result (λ pages. pages.items ≡ map page_of (reverse keys.new)) }
+    ensures sorted { IsSorted packed_cmp keys.new }
+    ensures pages { IfOk result (λ pages. pages.items ≡ map packed_page (reverse keys.new)) }
 {
     keys.sort_unstable();
     keys.iter().rev().map(|key| key.page()).collect(alloc)
