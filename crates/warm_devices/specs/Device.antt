@@ -1,5 +1,5 @@
 -- What a page device is to a proof, and what its calls do to it.
-use Rattle.std.specs.Prelude.{◌≡◌, ◌≢◌, ◌⊎◌, ℕ, ◌+◌, ◌-◌, ◌^◌, ◌<◌, ◌≤◌, min, Bool, true, false, IsTrue, List, [], length, slice_index_or, replicate, Result, MatchResult, OnOk, OnErr}
+use Rattle.std.specs.Prelude.{◌≡◌, ◌≢◌, ◌⊎◌, ℕ, ◌+◌, ◌-◌, ◌^◌, min, Bool, true, false, IsTrue, List, [], length, slice_index_or, replicate, Result, MatchResult}
 use Rattle.warm_devices.specs.declared.fault.DeviceFault.{DeviceFault}
 
 -- A device as plain data: what its pages hold, whether a page was written since the last flush, how many calls failed, and what it
@@ -74,7 +74,3 @@ zeroed pages page_size = record {
   honest = true;
   unfailing = true;
 }
-
--- each page has this size
-abbrev pub AllSized : ℕ → List (List ℕ) → Type 0
-AllSized size contents = (k : ℕ) → k < length contents → length (page_at contents k) ≡ size

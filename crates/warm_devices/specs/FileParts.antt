@@ -1,5 +1,5 @@
 -- What a `FileDevice` shows: its contents are unknown, and it claims nothing of them.
-use Rattle.std.specs.Prelude.{ℕ, false, []}
+use Rattle.std.specs.Prelude.{false, []}
 use Rattle.warm_devices.specs.Device.{DeviceState}
 use Rattle.warm_devices.specs.declared.file.FileDevice.{FileDevice}
 

@@ -1,5 +1,5 @@
 -- What a `Flaky` shows.
-use Rattle.std.specs.Prelude.{◌≡◌, ◌≢◌, ℕ, ◌+◌, ◌-◌, ◌^◌, min, replicate, false, IsTrue, IsOk, Result, Err, Bool, if◌then◌else◌}
+use Rattle.std.specs.Prelude.{◌≡◌, ◌≢◌, ℕ, ◌+◌, ◌-◌, ◌^◌, min, replicate, false, IsTrue, IsOk, Result, Err, if◌then◌else◌}
 use Rattle.warm_devices.specs.Device.{DeviceState, SameWaiting, page_at}
 use Rattle.warm_devices.specs.declared.fault.DeviceFault.{DeviceFault}
 use Rattle.warm_devices.specs.declared.device.PageDevice.{Ghosts}

@@ -2,3 +2,4 @@ pub mod Device
 pub mod Faults
 pub mod FlakyParts
 pub mod FileParts
+pub mod Pieces

@@ -1,63 +1,97 @@
 //! A device that keeps its pages in memory.
-ghost use Rattle.std.specs.Prelude.{◌≡◌, IfOk};
+ghost use Rattle.std.specs.Prelude.{◌≡◌, ◌+◌, ◌-◌, ◌*◌, ◌^◌, ◌<◌, ◌≤◌, length, replicate, IfOk};
 ghost use Rattle.warm_devices.specs.Device.{zeroed};
+ghost use Rattle.warm_devices.specs.Pieces.{with_part};
 
 use crate::{DeviceFault, PageDevice};
 use std::alloc::{AllocError, Global};
 use std::marker::Model;
+use std::ops::Range;
 
 /// Pages in memory. It never fails, and gives back what was written.
+///
+/// It takes the bytes of its pages in one piece, and nothing else.
 pub struct MemDevice {
-    pages: Vec<Vec<u8>>,
+    // One page after the other.
+    bytes: Vec<u8>,
+    pages: u32,
     page_size: usize,
     waiting: bool,
 }
 
 impl Model for MemDevice {
-    ghost use Rattle.std.specs.Prelude.{ℕ, ◌^◌, ◌<◌, length, map, true, List};
-    ghost use Rattle.warm_devices.specs.Device.{DeviceState, AllSized};
+    ghost use Rattle.std.specs.Prelude.{◌≡◌, ◌*◌, length, true};
+    ghost use Rattle.warm_devices.specs.Device.{DeviceState};
+    ghost use Rattle.warm_devices.specs.Pieces.{pieces};
 
     ghost Value = { DeviceState };
 
     ghost view = { λ m. record {
-      pages = length m.pages.items;
+      pages = m.pages;
       page_size = m.page_size;
-      contents = map (λ page. page.items) m.pages.items;
+      contents = pieces m.pages m.page_size m.bytes.items;
       waiting = m.waiting;
       failures = 0;
       honest = true;
       unfailing = true;
     } };
 
-    ghost invariant = { λ m. (length m.pages.items < 2 ^ 32)
-        × AllSized m.page_size (map (λ page. page.items) m.pages.items) };
+    ghost invariant = { λ m. length m.bytes.items ≡ m.pages * m.page_size };
 }
 
 impl MemDevice {
     /// A device of zero pages: `pages` of them, of `page_size` bytes each.
     ///
     /// # Errors
-    /// Where the room for the pages is refused; what was taken by then is given back.
+    /// Where the room for the pages is refused, or is more than any memory.
     pub fn new(alloc: Global, pages: u32, page_size: usize) -> Result<MemDevice, AllocError>
         ensures { IfOk result (λ device. device ≡ zeroed pages page_size) }
     {
-        let mut all = Vec::with_capacity(alloc, pages as usize)?;
-        for _ in 0..pages {
-            all.push(Vec::from_elem(alloc, 0, page_size)?)?;
-        }
+        let bytes = zeros(alloc, pages as usize, page_size)?;
         Ok(MemDevice {
-            pages: all,
+            bytes,
+            pages,
             page_size,
             waiting: false,
         })
     }
 }
 
+// So many zeros, in pages of one size.
+fn zeros(alloc: Global, pages: usize, page_size: usize) -> Result<Vec<u8>, AllocError>
+    ensures { IfOk result (λ bytes. bytes.items ≡ replicate (pages * page_size) 0) }
+{
+    let Some(size) = pages.checked_mul(page_size) else {
+        return Err(AllocError);
+    };
+    Vec::from_elem(alloc, 0, size)
+}
+
+// Where a page stands among the bytes of all.
+fn place_of(no: u32, page_size: usize) -> Range<usize>
+    requires { (no + 1) * page_size < 2 ^ 64 }
+    ensures start { result.start ≡ no * page_size }
+    ensures end { result.end ≡ no * page_size + page_size }
+{
+    let start = no as usize * page_size;
+    start..start + page_size
+}
+
+// Writes the bytes over those of a part.
+fn write_at(all: &mut Vec<u8>, place: Range<usize>, bytes: &[u8])
+    requires ordered { place.start ≤ place.end }
+    requires inside { place.end ≤ length all.old.items }
+    requires sized { length bytes.now ≡ place.end - place.start }
+    ensures part { all.new.items ≡ with_part place.start place.end bytes.now all.old.items }
+{
+    all[place].copy_from_slice(bytes);
+}
+
 impl PageDevice for MemDevice {
     ghost state = { λ device. device };
 
     fn pages(&self) -> u32 {
-        self.pages.len() as u32
+        self.pages
     }
 
     fn page_size(&self) -> usize {
@@ -74,12 +108,14 @@ impl PageDevice for MemDevice {
     }
 
     fn read(&mut self, no: u32, into: &mut [u8]) -> Result<(), DeviceFault> {
-        into.copy_from_slice(&self.pages[no as usize]);
+        let place = place_of(no, self.page_size);
+        into.copy_from_slice(&self.bytes[place]);
         Ok(())
     }
 
     fn write(&mut self, no: u32, bytes: &[u8]) -> Result<(), DeviceFault> {
-        self.pages[no as usize].copy_from_slice(bytes);
+        let place = place_of(no, self.page_size);
+        write_at(&mut self.bytes, place, bytes);
         self.waiting = true;
         Ok(())
     }
@@ -100,10 +136,11 @@ impl Drop for MemDevice {
     fn drop(mut self) {
         self.settle();
         let MemDevice {
-            pages,
+            bytes,
+            pages: _,
             page_size: _,
             waiting: _,
         } = self;
-        drop(pages);
+        drop(bytes);
     }
 }

@@ -1,28 +1,38 @@
-use Rattle.std.proofs.Common.{◌≡◌, ℕ, ◌<◌, length, List, [], map, ap, sym, ◌∙◌}
-use Rattle.std.proofs.lemmas.List.{map-set, length-set, length-map, get_or-set_same}
-use Rattle.warm_devices.proofs.Pages.{changes-set, sized-set, sized-item}
+use Rattle.std.proofs.Common.{◌≡◌, ℕ, ◌*◌, ◌<◌, List, length, ap, sym, ◌∙◌, subst}
+use Rattle.std.proofs.Math.ListN.{set}
+use Rattle.std.proofs.lemmas.List.{get_or-set_same}
+use Rattle.warm_devices.specs.Device.{page_at, ChangesPage}
+use Rattle.warm_devices.specs.Pieces.{pieces, with_part}
+use Rattle.warm_devices.proofs.Pages.{changes-set}
+use Rattle.warm_devices.proofs.Pieces.{page-write, pieces-count}
 use Rattle.warm_devices.proofs.memory.MemDevicePageDevice.write.Goals as goal
 
-pub copy_from_slice-requires : goal.copy_from_slice-requires
-copy_from_slice-requires c =
-    let lt : c.args.no < length c.self.inside.pages.items = rw (ap (λ s. s.pages) c.self.view_is) c.requires.known in
-    c.index_mut.result.now.ok.0
-    ∙ sized-item (λ page. page.items) _ _ _ _ c.self.invariant.1 lt c.index_mut.ensures.value
-    ∙ ap (λ s. s.page_size) c.self.view_is
-    ∙ sym c.requires.sized
+is_page : (c : goal.After-self-1) → c.args.no < c.self.inside.pages
+is_page c = rw (ap (λ s. s.pages) c.self.view_is) c.requires.known
 
-pub invariant_of-self : goal.invariant_of-self
-invariant_of-self c = (
-  rw length-set (c.self.invariant.0),
-  rw map-set (sized-set _ _ _ _ c.self.invariant.1
-      (ap length c.copy_from_slice.ensures.items ∙ c.requires.sized ∙ sym (ap (λ s. s.page_size) c.self.view_is))),
-)
+-- the pages before the write
+before : goal.After-self-1 → List (List ℕ)
+before c = pieces c.self.inside.pages c.self.inside.page_size c.self.inside.bytes.items
+
+-- the pages after it
+written : (c : goal.After-self-1) → pieces c.self.inside.pages c.self.inside.page_size c.write_at.new.all.items ≡ set (before c) c.args.no c.args.bytes.now
+unfolding before
+written c =
+    let size = c.self.inside.page_size in
+    ap (pieces c.self.inside.pages size)
+    (c.write_at.ensures.part
+    ∙ ap (λ start. with_part start c.place_of-place.result.end c.args.bytes.now c.self.inside.bytes.items) c.place_of-place.ensures.start
+    ∙ ap (λ end. with_part (c.args.no * size) end c.args.bytes.now c.self.inside.bytes.items) c.place_of-place.ensures.end)
+    ∙ page-write c.self.inside.pages size c.args.no c.self.inside.bytes.items c.args.bytes.now (is_page c) c.self.invariant (c.requires.sized ∙ sym (ap (λ s. s.page_size) c.self.view_is))
 
 pub returns-clause-others : goal.returns-clause-others
-returns-clause-others c = rw map-set (rw (← c.self.view_is) (changes-set _ _ _))
+unfolding before
+returns-clause-others c =
+    subst (ChangesPage c.args.no c.args.self.now.contents) (sym (written c))
+    (subst (λ s. ChangesPage c.args.no s.contents (set (before c) c.args.no c.args.bytes.now)) c.self.view_is (changes-set (before c) c.args.no c.args.bytes.now))
 
 pub returns-clause-bytes : goal.returns-clause-bytes
+unfolding before
 returns-clause-bytes c h =
-    let lt : c.args.no < length c.self.inside.pages.items = rw (ap (λ s. s.pages) c.self.view_is) c.requires.known in
-    let at : c.args.no < length (map (λ page. page.items) c.self.inside.pages.items) = rw length-map lt in
-    rw map-set (get_or-set_same _ _ _ _ at ∙ c.copy_from_slice.ensures.items)
+    let known : c.args.no < length (before c) = rw (pieces-count c.self.inside.pages c.self.inside.page_size c.self.inside.bytes.items) (is_page c) in
+    ap (λ pages. page_at pages c.args.no) (written c) ∙ get_or-set_same (before c) c.args.no c.args.bytes.now _ known
