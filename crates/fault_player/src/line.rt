@@ -1,0 +1,135 @@
+//! Lines that ask something of a pool: a word, and numbers behind it.
+use anyhow::{Context, Result, bail};
+use std::alloc::Global;
+use warm_pool::Slot;
+use warm_stamps::PageId;
+
+/// How many numbers a line has at most.
+const MOST: usize = 5;
+
+/// How many devices a pool has at most, with those that are spare.
+const MOST_DEVICES: usize = 8;
+
+/// What is asked of a pool.
+#[derive(Clone, Copy, Debug)]
+pub enum Asked {
+    /// `pin DEVICE PAGE`
+    Pins(PageId),
+    /// `load DEVICE PAGE`
+    Loads(PageId),
+    /// `unpin FRAME GENERATION`
+    Unpins(Slot),
+    /// `write FRAME GENERATION AT LEN BYTE`: so many times the byte.
+    Writes(Slot, usize, usize, u8),
+    /// `read FRAME GENERATION`: the whole page.
+    Reads(Slot),
+    /// `show`: which pages are in frames, and which leaves next.
+    Shows,
+    /// `writeback`
+    WritesBack,
+    /// `empty`
+    Empties,
+    /// `retire DEVICE`: the next spare device takes the place of one.
+    Retires(u16),
+    /// `close`
+    Closes,
+}
+
+/// A device that is to be made.
+#[derive(Clone, Copy, Debug)]
+pub struct Made {
+    /// How many pages it has.
+    pub pages: u32,
+    /// The number of the call that fails, counted from 1, or 0 where none does.
+    pub call: u64,
+}
+
+/// The first line of a pool's calls, `FRAMES PAGES CALL PAGES CALL ..`: how many frames it has, and its devices, with those
+/// that are spare behind them.
+///
+/// # Errors
+/// Where the line is no such line, or there is no memory.
+pub fn opening_in(alloc: Global, line: &str) -> Result<(u32, Vec<Made>)> {
+    let mut words = line.split_whitespace();
+    let frames = number(words.next())?;
+    let mut devices = Vec::new(alloc);
+    for _ in 0..MOST_DEVICES {
+        let Some(pages) = words.next() else {
+            break;
+        };
+        devices.push(Made {
+            pages: small(number(Some(pages))?)?,
+            call: number(words.next())?,
+        })?;
+    }
+    Ok((small(frames)?, devices))
+}
+
+fn number(word: Option<&str>) -> Result<u64> {
+    Ok(
+        word.context("a number")?
+            .parse::<u64>()
+            .context("a number")?,
+    )
+}
+
+/// What a line asks.
+///
+/// # Errors
+/// Where the line is none of those above.
+pub fn asked_in(line: &str) -> Result<Asked> {
+    let mut words = line.split_whitespace();
+    let word = words.next().context("a line has a word")?;
+    let mut numbers = [0u64; MOST];
+    let mut at = 0usize;
+    for text in words {
+        if at >= MOST {
+            bail!("a line has {MOST} numbers at most")
+        }
+        numbers[at] = number(Some(text))?;
+        at += 1;
+    }
+    asked_by(word, &numbers)
+}
+
+fn asked_by(word: &str, numbers: &[u64; MOST]) -> Result<Asked> {
+    match word {
+        "pin" => Ok(Asked::Pins(page(numbers)?)),
+        "load" => Ok(Asked::Loads(page(numbers)?)),
+        "unpin" => Ok(Asked::Unpins(slot(numbers)?)),
+        "write" => {
+            let (at, len) = (small(numbers[2])?, small(numbers[3])?);
+            let byte = u8::try_from(numbers[4]).context("a byte")?;
+            Ok(Asked::Writes(slot(numbers)?, at as usize, len as usize, byte))
+        }
+        "read" => Ok(Asked::Reads(slot(numbers)?)),
+        "show" => Ok(Asked::Shows),
+        "writeback" => Ok(Asked::WritesBack),
+        "empty" => Ok(Asked::Empties),
+        "retire" => Ok(Asked::Retires(device(numbers[0])?)),
+        "close" => Ok(Asked::Closes),
+        _ => bail!("no call of a pool: {word}"),
+    }
+}
+
+fn small(number: u64) -> Result<u32> {
+    Ok(u32::try_from(number).context("a number of 32 bits")?)
+}
+
+fn device(number: u64) -> Result<u16> {
+    Ok(u16::try_from(number).context("the number of a device")?)
+}
+
+fn page(numbers: &[u64; MOST]) -> Result<PageId> {
+    Ok(PageId {
+        dev: device(numbers[0])?,
+        no: small(numbers[1])?,
+    })
+}
+
+fn slot(numbers: &[u64; MOST]) -> Result<Slot> {
+    Ok(Slot {
+        index: small(numbers[0])?,
+        generation: numbers[1],
+    })
+}

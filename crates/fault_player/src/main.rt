@@ -1,0 +1,119 @@
+//! Plays over devices of which one call fails, for `examples/failing-devices/check`. A read, a write and a flush are calls, counted
+//! from 1.
+//!
+//! - `play CALL FRAMES`: a schedule from standard input, as `warmplay` plays it, over one replica with one worker and so many
+//!   frames, on a device in memory of 8 pages of 16 bytes whose call of that number fails. With 0 none does.
+//! - `pools`: calls of pools from standard input, each with its answer. Pools are parted by blank lines; `src/line.rt` says how a
+//!   pool's first line says what it is over, and how calls are spelled.
+#![tactic(auto)]
+
+mod line;
+mod pools;
+
+use anyhow::{Context, Result, bail};
+use line::{Made, opening_in};
+use pools::{PAGE_SIZE, ask_all, opened};
+use std::alloc::Global;
+use std::{env, io};
+use warm_devices::{Flaky, MemDevice, PageDevice};
+use warm_history::History;
+use warm_schedule::play;
+use warm_stamps::{PageId, Reference, ReplicaId, Stamp};
+use warm_world::Setup;
+
+// What is known of pages: device, page and time of each reference.
+const KNOWN: [(u16, u32, u64); 9] = [
+    (0, 3, 1),
+    (0, 3, 9),
+    (1, 2, 2),
+    (1, 2, 4),
+    (0, 1, 6),
+    (1, 5, 3),
+    (0, 4, 5),
+    (0, 4, 7),
+    (0, 4, 8),
+];
+
+// A device in memory, of whose calls one fails.
+fn failing(alloc: Global, made: Made) -> Result<Box<Flaky<MemDevice>>> {
+    let Ok(memory) = MemDevice::new(alloc, made.pages, PAGE_SIZE) else {
+        bail!("no memory")
+    };
+    let Ok(device) = Box::new(alloc, Flaky::new(memory, made.call)) else {
+        bail!("no memory")
+    };
+    Ok(device)
+}
+
+fn known(alloc: Global) -> Result<History> {
+    let Ok(replica) = ReplicaId::new(1) else {
+        bail!("1 names a replica")
+    };
+    let mut history = History::new(alloc);
+    for (dev, no, time) in KNOWN {
+        let seen = [Reference {
+            page: PageId { dev, no },
+            stamp: Stamp { time, replica },
+        }];
+        if history.absorb(&seen).is_err() {
+            bail!("no memory")
+        }
+    }
+    Ok(history)
+}
+
+// Asks a pool what the lines after the first say, which says how it is made.
+fn ask_pool(rt: &HostRuntime, history: &History, text: &str) -> Result<()> {
+    let alloc = rt.alloc();
+    let (opening, lines) = text.split_once('\n').context("a pool has calls")?;
+    let (frames, devices) = opening_in(alloc, opening)?;
+    let [first, second, others @ ..] = devices.as_slice() else {
+        bail!("a pool has two devices")
+    };
+    let (first, second) = (failing(alloc, *first)?, failing(alloc, *second)?);
+    let mut spare: Vec<Box<dyn PageDevice + Send>> = Vec::new(alloc);
+    for made in others {
+        spare.push(failing(alloc, *made)?)?;
+    }
+    let pool = opened(alloc, frames, first, second)?;
+    ask_all(rt, pool, history, spare, lines)
+}
+
+// Plays standard input over a device whose call of this number fails.
+fn play_over(rt: &HostRuntime, call: u64, frames: u32) -> Result<()> {
+    let alloc = rt.alloc();
+    let Ok(setup) = Setup::new(1, 1, 4, frames, PAGE_SIZE as u32) else {
+        bail!("a pool has 1 to 65536 frames")
+    };
+    let mut list: Vec<Box<dyn PageDevice + Send>> = Vec::with_capacity(alloc, 1)?;
+    list.push_reserved(failing(alloc, Made { pages: 8, call })?);
+    let mut devices: Vec<Vec<Box<dyn PageDevice + Send>>> = Vec::with_capacity(alloc, 1)?;
+    devices.push_reserved(list);
+    match play(alloc, &mut rt.stdin(), &mut rt.stdout(), setup, devices) {
+        Ok(()) => Ok(()),
+        Err(fault) => bail!("{}", fault.name()),
+    }
+}
+
+fn main(rt: HostRuntime) -> Result<()> {
+    let mut words = env::args(&rt)?.skip(1);
+    let what = words.next().context("play or pools")?;
+    match what.as_str() {
+        "pools" => {
+            let text = io::read_to_string(rt.alloc(), rt.stdin())?;
+            let history = known(rt.alloc())?;
+            for pool in text.split("\n\n") {
+                ask_pool(&rt, &history, pool)?;
+            }
+            Ok(())
+        }
+        "play" => {
+            let call = words.next().context("the number of a call")?;
+            let call = call.parse::<u64>().context("the number of a call")?;
+            let frames = words.next().context("the number of frames")?;
+            let frames = frames.parse::<u32>().context("the number of frames")?;
+            play_over(&rt, call, frames)
+        }
+        _ => bail!("play or pools"),
+    }
+}

@@ -1,0 +1,232 @@
+//! Calls of a pool, each in a function of its own that keeps what a pool is and by which history it is ranked, and prints what
+//! came of it.
+ghost use Rattle.std.specs.Prelude.{IfOk, IfSome};
+ghost use Rattle.warm_pool.specs.State.{IsPool, IsRankedByAll, RankedBy};
+
+use crate::line::{Asked, asked_in};
+use anyhow::{Result, bail};
+use std::alloc::Global;
+use std::io::Print;
+use warm_devices::PageDevice;
+use warm_history::History;
+use warm_pool::{Pool, PoolFault, Pooled, Slot};
+use warm_stamps::PageId;
+
+/// How many bytes a page has.
+pub const PAGE_SIZE: usize = 16;
+
+/// The number of devices of a pool, and of pages of each that `show` looks for.
+const SHOWN: (u16, u32) = (2, 8);
+
+/// A pool over two devices, without a page.
+///
+/// # Errors
+/// Where it is refused.
+pub fn opened(
+    alloc: Global,
+    frames: u32,
+    first: Box<dyn PageDevice + Send>,
+    second: Box<dyn PageDevice + Send>,
+) -> Result<Pool>
+    ensures pool { IfOk result (λ pool. IsPool (⟦<Pool as Pooled>⟧.state pool)) }
+    ensures ranked { IfOk result (λ pool. IsRankedByAll (⟦<Pool as Pooled>⟧.state pool)) }
+{
+    let Ok(mut devices) = Vec::with_capacity(alloc, 2) else {
+        bail!("no memory")
+    };
+    devices.push_reserved(first);
+    devices.push_reserved(second);
+    match Pool::new(alloc, frames as usize, PAGE_SIZE, devices) {
+        Ok(pool) => Ok(pool),
+        Err(unmade) => bail!("no pool: {}", unmade.fault.name()),
+    }
+}
+
+/// Asks a pool what the lines say, one after the other, up to the first by which it is closed, and prints the answers. The spare
+/// devices are taken from the end.
+///
+/// # Errors
+/// Where a line says nothing, or nothing can be printed.
+pub fn ask_all(
+    rt: &impl Print,
+    pool: Pool,
+    history: &History,
+    mut spare: Vec<Box<dyn PageDevice + Send>>,
+    lines: &str,
+) -> Result<()>
+    requires pool { IsPool (⟦<Pool as Pooled>⟧.state pool) }
+    requires ranked { RankedBy (⟦<Pool as Pooled>⟧.state pool) history.now }
+{
+    let mut pool = pool;
+    for line in lines.lines() {
+        match asked_in(line)? {
+            Asked::Closes => match closed(rt, pool, history)? {
+                Some(kept) => pool = kept,
+                None => return Ok(()),
+            },
+            asked => ask(rt, &mut pool, history, asked, &mut spare)?,
+        }
+    }
+    Ok(())
+}
+
+// Asks a pool what a line says, which does not close it.
+fn ask(
+    rt: &impl Print,
+    pool: &mut Pool,
+    history: &History,
+    asked: Asked,
+    spare: &mut Vec<Box<dyn PageDevice + Send>>,
+) -> Result<()>
+    requires pool { IsPool (⟦<Pool as Pooled>⟧.state pool.old) }
+    requires ranked { RankedBy (⟦<Pool as Pooled>⟧.state pool.old) history.now }
+    ensures pool { IsPool (⟦<Pool as Pooled>⟧.state pool.new) }
+    ensures ranked { RankedBy (⟦<Pool as Pooled>⟧.state pool.new) history.now }
+{
+    match asked {
+        Asked::Retires(dev) => retire(rt, pool, history, dev, spare),
+        Asked::Pins(page) => tell_slot(rt, pool.pin(page, history)),
+        Asked::Loads(page) => tell_slot(rt, pool.load(page, history)),
+        Asked::Unpins(slot) => unpin(rt, pool, history, slot),
+        Asked::Writes(slot, at, len, byte) => write(rt, pool, history, slot, at, len, byte),
+        Asked::Reads(slot) => read(rt, pool, slot),
+        Asked::Shows => show(rt, pool),
+        Asked::WritesBack => tell(rt, pool.write_back_all()),
+        Asked::Empties => tell(rt, pool.empty()),
+        Asked::Closes => bail!("a pool is closed by its owner"),
+    }
+}
+
+fn tell_fault(rt: &impl Print, fault: PoolFault) -> Result<()> {
+    Ok(println!(rt; "refused {} {}", fault.code(), fault.name())?)
+}
+
+fn tell(rt: &impl Print, done: Result<(), PoolFault>) -> Result<()> {
+    match done {
+        Ok(()) => Ok(println!(rt; "ok")?),
+        Err(fault) => tell_fault(rt, fault),
+    }
+}
+
+fn tell_slot(rt: &impl Print, slot: Result<Slot, PoolFault>) -> Result<()> {
+    match slot {
+        Ok(slot) => Ok(println!(rt; "slot {} {}", slot.index, slot.generation)?),
+        Err(fault) => tell_fault(rt, fault),
+    }
+}
+
+fn unpin(rt: &impl Print, pool: &mut Pool, history: &History, slot: Slot) -> Result<()>
+    requires pool { IsPool (⟦<Pool as Pooled>⟧.state pool.old) }
+    requires ranked { RankedBy (⟦<Pool as Pooled>⟧.state pool.old) history.now }
+    ensures pool { IsPool (⟦<Pool as Pooled>⟧.state pool.new) }
+    ensures ranked { RankedBy (⟦<Pool as Pooled>⟧.state pool.new) history.now }
+{
+    if !pool.holds(slot) {
+        return Ok(println!(rt; "stale")?);
+    }
+    pool.unpin(slot);
+    Ok(println!(rt; "ok")?)
+}
+
+fn write(
+    rt: &impl Print,
+    pool: &mut Pool,
+    history: &History,
+    slot: Slot,
+    at: usize,
+    len: usize,
+    byte: u8,
+) -> Result<()>
+    requires pool { IsPool (⟦<Pool as Pooled>⟧.state pool.old) }
+    requires ranked { RankedBy (⟦<Pool as Pooled>⟧.state pool.old) history.now }
+    ensures pool { IsPool (⟦<Pool as Pooled>⟧.state pool.new) }
+    ensures ranked { RankedBy (⟦<Pool as Pooled>⟧.state pool.new) history.now }
+{
+    if !pool.holds(slot) {
+        return Ok(println!(rt; "stale")?);
+    }
+    let bytes = [byte; 2 * PAGE_SIZE];
+    let len = len.min(2 * PAGE_SIZE);
+    tell(rt, pool.write(slot, at, &bytes[..len]))
+}
+
+fn read(rt: &impl Print, pool: &Pool, slot: Slot) -> Result<()>
+    requires { IsPool (⟦<Pool as Pooled>⟧.state pool.now) }
+{
+    if !pool.holds(slot) {
+        return Ok(println!(rt; "stale")?);
+    }
+    let mut bytes = [0u8; PAGE_SIZE];
+    if let Err(fault) = pool.read(slot, 0, &mut bytes) {
+        return tell_fault(rt, fault);
+    }
+    print!(rt; "bytes")?;
+    for byte in bytes {
+        print!(rt; " {byte}")?;
+    }
+    Ok(println!(rt; "")?)
+}
+
+fn show(rt: &impl Print, pool: &Pool) -> Result<()>
+    requires { IsPool (⟦<Pool as Pooled>⟧.state pool.now) }
+{
+    print!(rt; "resident")?;
+    for dev in 0..SHOWN.0 {
+        for no in 0..SHOWN.1 {
+            if pool.resident(PageId { dev, no }) {
+                print!(rt; " {dev}:{no}")?;
+            }
+        }
+    }
+    match pool.victim() {
+        Some(page) => Ok(println!(rt; " victim {}:{}", page.dev, page.no)?),
+        None => Ok(println!(rt; " victim none")?),
+    }
+}
+
+// A spare device that is refused stays the next.
+fn retire(
+    rt: &impl Print,
+    pool: &mut Pool,
+    history: &History,
+    dev: u16,
+    spare: &mut Vec<Box<dyn PageDevice + Send>>,
+) -> Result<()>
+    requires pool { IsPool (⟦<Pool as Pooled>⟧.state pool.old) }
+    requires ranked { RankedBy (⟦<Pool as Pooled>⟧.state pool.old) history.now }
+    ensures pool { IsPool (⟦<Pool as Pooled>⟧.state pool.new) }
+    ensures ranked { RankedBy (⟦<Pool as Pooled>⟧.state pool.new) history.now }
+{
+    let Some(device) = spare.pop() else {
+        return Ok(println!(rt; "none spare")?);
+    };
+    match pool.retire(dev, device) {
+        Ok(()) => Ok(println!(rt; "ok")?),
+        Err(unretired) => {
+            let fault = unretired.fault;
+            spare.push(unretired.device)?;
+            tell_fault(rt, fault)
+        }
+    }
+}
+
+// Closes the pool, or gives it back where that is refused.
+fn closed(rt: &impl Print, pool: Pool, history: &History) -> Result<Option<Pool>>
+    requires pool { IsPool (⟦<Pool as Pooled>⟧.state pool) }
+    requires ranked { RankedBy (⟦<Pool as Pooled>⟧.state pool) history.now }
+    ensures pool { IfOk result (λ kept. IfSome kept
+        (λ pool. IsPool (⟦<Pool as Pooled>⟧.state pool))) }
+    ensures ranked { IfOk result (λ kept. IfSome kept
+        (λ pool. RankedBy (⟦<Pool as Pooled>⟧.state pool) history.now)) }
+{
+    match pool.close() {
+        Ok(()) => {
+            println!(rt; "ok")?;
+            Ok(None)
+        }
+        Err(unclosed) => {
+            tell_fault(rt, unclosed.fault)?;
+            Ok(Some(unclosed.pool))
+        }
+    }
+}
