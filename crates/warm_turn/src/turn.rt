@@ -1,5 +1,5 @@
 //! The turn, its passes and notes.
-ghost use Rattle.std.specs.Prelude.{◌≡◌, ℕ, ◌<◌, true, false, [], ◌∷◌, Some};
+ghost use Rattle.std.specs.Prelude.{◌≡◌, ℕ, ◌+◌, ◌<◌, ◌^◌, true, false, [], ◌∷◌, Some};
 ghost use Rattle.std.specs.Prelude.{IfOk, IfErr, IfSome, IfNone};
 ghost use Rattle.warm_turn.specs.declared.board.Held.{Held};
 ghost use Rattle.warm_turn.specs.Turns.{calls_by, first_pass, new_pass, note_of, marked};
@@ -13,9 +13,12 @@ use crate::machine::Machine;
 use crate::plays::{Become, CatchUp, Come, End, Learn, Look, PassOn, Take, Tell};
 use atomic_table::{Refused, Table};
 use std::alloc::{AllocFailed, Global};
+use std::hint::spin_loop;
 use std::marker::Model;
 use std::snapshot::Snapshot;
 use std::sync::Wait;
+use std::thread::yield_now;
+use std::time::Duration;
 
 /// A machine that threads share: they call it through a `&`, each with a [`Pass`] of its own.
 ///
@@ -86,29 +89,68 @@ impl<M: Machine> Model for Note<M> {
     ghost invariant = { λ p. (p.place.me.1 ≡ []) × IsNote p.place.me.0 };
 }
 
+// How often a caller that waits looks with a hint to the processor alone between two looks. Then it sleeps between them.
+const SPINS: u32 = 100;
+
+// How often a caller looks for a ticket that is served at once. Then it takes one that is not.
+const LOOKS: u32 = 1_000;
+
+// How long a caller sleeps between two looks, in microseconds, where the serving word stays as it was.
+const NAP: u64 = 50;
+
+// Waits a little between two looks, of which so many were made. The last one found that this ticket is served.
+fn pause<M: Machine, R: Wait>(rt: &R, top: &Top<M>, served: u64, looks: u32)
+    requires { IsBoard top.now.table_id }
+{
+    if looks < SPINS {
+        spin_loop();
+    } else {
+        let low = (served & 0xFFFF_FFFF) as u32;
+        top.park_timeout(rt, 1, low, Duration::from_micros(NAP));
+    }
+}
+
+// A ticket to try for where this one was seen to be the next. The last number is none.
+fn tried_for(next: u64) -> u64
+    ensures { result + 1 < 2 ^ 64 }
+{
+    if next == u64::MAX { 0 } else { next }
+}
+
 // Takes a ticket, or finds that the last number stands in the ticket word.
+//
+// It waits before it takes one, rather than with one: whoever has a ticket and is not running holds up all that have
+// later ones, and whoever has none holds up nobody. After many looks it takes one all the same, so that it is not
+// passed over for ever.
 fn take_ticket<M: Machine, R: Wait>(rt: &R, top: &Top<M>, place: &mut Place<M>) -> Option<u64>
-    requires table { (place.old.table_id ≡ top.now.table_id) × (top.now.table_id.words ≡ 2) }
+    requires table { (place.old.table_id ≡ top.now.table_id) × IsBoard top.now.table_id }
     requires idle { IsPass M.goes place.old.me.0 }
     ensures table { (place.new.table_id ≡ place.old.table_id) × (place.new.id ≡ place.old.id) }
     ensures some { IfSome result (λ k. HasTicket place.old.me k place.new.me) }
     ensures none { IfNone result (place.new.me ≡ (marked place.old.me.0, place.old.me.1)) }
 {
-    let mut expected = 0;
+    let mut looks = 0;
     for _ in rt.forever() {
-        let found = top.compare_exchange::<Take>(place, 0, expected, expected + 1);
-        if found == expected {
-            return Some(found);
+        let next = top.peek(0);
+        let served = top.peek(1);
+        if looks < LOOKS && next != served {
+            pause(rt, top, served, looks);
+            looks += 1;
+        } else {
+            let expected = tried_for(next);
+            let found = top.compare_exchange::<Take>(place, 0, expected, expected + 1);
+            if found == expected {
+                return Some(found);
+            }
+            if found == u64::MAX {
+                return None;
+            }
         }
-        if found == u64::MAX {
-            return None;
-        }
-        expected = found;
     }
     unreachable!()
 }
 
-// Waits until the ticket is served. Then the seat has the machine.
+// Waits until the ticket is served. Then the seat has the machine. Whoever is next sleeps no longer than others run.
 fn wait_turn<M: Machine, R: Wait>(rt: &R, top: &Top<M>, place: &mut Place<M>, ticket: u64)
     requires table { (place.old.table_id ≡ top.now.table_id) × IsBoard top.now.table_id }
     requires waits { (place.old.me.1 ≡ []) × (place.old.me.0.waits ≡ true)
@@ -116,11 +158,18 @@ fn wait_turn<M: Machine, R: Wait>(rt: &R, top: &Top<M>, place: &mut Place<M>, ti
     ensures table { (place.new.table_id ≡ place.old.table_id) × (place.new.id ≡ place.old.id) }
     ensures serves { HasMachine M.meaning M.is_fit place.old.me.0 place.new.me }
 {
+    let mut looks = 0;
     for _ in rt.forever() {
-        if top.load::<Look>(place, 1) == ticket {
+        let served = top.load::<Look>(place, 1);
+        if served == ticket {
             return;
         }
-        std::thread::yield_now();
+        if looks >= SPINS && served.wrapping_add(1) == ticket {
+            yield_now();
+        } else {
+            pause(rt, top, served, looks);
+        }
+        looks = looks.saturating_add(1);
     }
 }
 
