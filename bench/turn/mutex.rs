@@ -1,7 +1,6 @@
 //! The counter of `crates/bench_turn` behind a `std::sync::Mutex`, for the same measurements.
 //!
-//! With no argument each thread adds 1,000 times; with a number each adds so many times, and the
-//! nanoseconds are printed too.
+//! `mutex THREADS TURNS`: so many threads add so many times each, and the total and the nanoseconds are printed.
 
 use std::hint::black_box;
 use std::sync::Mutex;
@@ -53,18 +52,13 @@ fn count(threads: usize, turns: u64) -> u64 {
 }
 
 fn main() {
-    let asked = std::env::args().nth(1);
-    let turns = match &asked {
-        None => 1_000,
-        Some(word) => word.parse().expect("the number of turns of each thread"),
+    let mut words = std::env::args().skip(1).map(|word| word.parse::<u64>().expect("a number"));
+    let (Some(threads), Some(turns)) = (words.next(), words.next()) else {
+        panic!("mutex THREADS TURNS")
     };
-    for (threads, name) in [(1, "1 thread"), (2, "2 threads"), (4, "4 threads")] {
-        let start = Instant::now();
-        let total = count(threads, turns);
-        let spent = start.elapsed();
-        match asked {
-            None => println!("{name}: {total}"),
-            Some(_) => println!("{name}: {total} in {} ns", spent.as_nanos()),
-        }
-    }
+    let start = Instant::now();
+    let total = count(threads as usize, turns);
+    let spent = start.elapsed();
+    let name = if threads == 1 { "thread" } else { "threads" };
+    println!("{threads} {name}: {total} in {} ns", spent.as_nanos());
 }

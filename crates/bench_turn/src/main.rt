@@ -1,7 +1,8 @@
-//! Counts turns: a counter behind one turn, called by one pass, and by 2 and 4 threads at once.
+//! Counts turns: a counter behind one turn, called by one pass, and by 2, 4 and 8 threads at once.
 //!
-//! With no argument each thread takes 1,000 turns, and the totals are printed. With a number each
-//! thread takes so many turns, and the nanoseconds are printed too, for `bench/turn/measure.py`.
+//! With no argument each thread takes 1,000 turns, and the totals are printed. With two numbers,
+//! `THREADS TURNS`, 1, 2, 4 or 8 threads take so many turns each, and the nanoseconds are printed
+//! too, for `bench/turn/measure.py`.
 #![tactic(auto)]
 
 ghost use Rattle.std.specs.Prelude.{◌≡◌};
@@ -10,9 +11,10 @@ ghost use Rattle.std.specs.Thread.{IsSend, IsSync};
 use anyhow::{Context, Result};
 use std::alloc::Global;
 use std::env;
+use std::io::Print;
 use std::sync::Wait;
 use std::thread::{Threads, join};
-use std::time::Instant;
+use std::time::{Clock, Instant};
 use warm_turn::{Add, Added, Counter, Machine, Pass, Turn};
 
 // Takes so many turns.
@@ -83,19 +85,60 @@ fn add_in_four<M: Machine<Call = Add, Reply = Added> + Send, R: Threads + Wait +
     pass
 }
 
+// The same with eight threads.
+fn add_in_eight<M: Machine<Call = Add, Reply = Added> + Send, R: Threads + Wait + Sync>(
+    rt: &R,
+    turn: &Turn<M>,
+    mut pass: Pass<M>,
+    turns: u64,
+) -> Pass<M>
+    requires { pass.table ≡ turn.now.table }
+    ensures { result.table ≡ turn.now.table }
+{
+    let other = turn.pass(&mut pass);
+    let (mut pass, other) = join(
+        rt,
+        move || -> Pass<M>
+            requires { IsSend M.row × IsSync R.row × (pass.table ≡ turn.now.table) }
+            ensures { result.table ≡ turn.entry.now.table }
+        { add_in_four(rt, turn, pass, turns) },
+        move || -> Pass<M>
+            requires { IsSend M.row × IsSync R.row × (other.table ≡ turn.now.table) }
+            ensures { result.table ≡ turn.entry.now.table }
+        { add_in_four(rt, turn, other, turns) },
+    );
+    turn.end(&mut pass, other);
+    pass
+}
+
 #[derive(Clone, Copy)]
 enum Crowd {
     One,
     Two,
     Four,
+    Eight,
 }
 
+const CROWDS: [Crowd; 4] = [Crowd::One, Crowd::Two, Crowd::Four, Crowd::Eight];
+
 impl Crowd {
+    // The crowd of so many threads.
+    fn of(threads: &str) -> Result<Crowd> {
+        match threads {
+            "1" => Ok(Crowd::One),
+            "2" => Ok(Crowd::Two),
+            "4" => Ok(Crowd::Four),
+            "8" => Ok(Crowd::Eight),
+            _ => anyhow::bail!("1, 2, 4 or 8 threads"),
+        }
+    }
+
     fn name(self) -> &'static str {
         match self {
             Crowd::One => "1 thread",
             Crowd::Two => "2 threads",
             Crowd::Four => "4 threads",
+            Crowd::Eight => "8 threads",
         }
     }
 }
@@ -109,6 +152,7 @@ fn count<R: Threads + Wait + Sync>(rt: &R, alloc: Global, crowd: Crowd, turns: u
         Crowd::One => add_ones(rt, &turn, pass, turns),
         Crowd::Two => add_in_two(rt, &turn, pass, turns),
         Crowd::Four => add_in_four(rt, &turn, pass, turns),
+        Crowd::Eight => add_in_eight(rt, &turn, pass, turns),
     };
     let Ok(counter) = turn.close(pass) else {
         anyhow::bail!("a ticket was not passed on")
@@ -116,22 +160,29 @@ fn count<R: Threads + Wait + Sync>(rt: &R, alloc: Global, crowd: Crowd, turns: u
     Ok(counter.total)
 }
 
+// Has the crowd count, and prints the total and how long it took.
+fn time<R: Threads + Wait + Sync + Clock + Print>(
+    rt: &R,
+    alloc: Global,
+    crowd: Crowd,
+    turns: u64,
+) -> Result<()> {
+    let start = Instant::now(rt)?;
+    let total = count(rt, alloc, crowd, turns)?;
+    let spent = start.elapsed(rt)?;
+    println!(rt; "{}: {} in {} ns", crowd.name(), total, spent.as_nanos())?;
+    Ok(())
+}
+
 fn main(rt: HostRuntime) -> Result<()> {
-    let asked = env::args(&rt)?.nth(1);
-    let turns = match &asked {
-        None => 1_000,
-        Some(word) => word
-            .parse::<u64>()
-            .context("the number of turns of each thread")?,
-    };
-    for crowd in [Crowd::One, Crowd::Two, Crowd::Four] {
-        let start = Instant::now(&rt)?;
-        let total = count(&rt, rt.alloc(), crowd, turns)?;
-        let spent = start.elapsed(&rt)?;
-        match asked {
-            None => println!(rt; "{}: {}", crowd.name(), total)?,
-            Some(_) => println!(rt; "{}: {} in {} ns", crowd.name(), total, spent.as_nanos())?,
-        }
+    let mut words = env::args(&rt)?.skip(1);
+    if let Some(threads) = words.next() {
+        let turns = words.next().context("the number of turns of each thread")?;
+        return time(&rt, rt.alloc(), Crowd::of(&threads)?, turns.parse::<u64>()?);
+    }
+    for crowd in CROWDS {
+        let total = count(&rt, rt.alloc(), crowd, 1_000)?;
+        println!(rt; "{}: {}", crowd.name(), total)?;
     }
     Ok(())
 }

@@ -2,7 +2,8 @@
 //!
 //! A [`Machine`] answers calls one after the other. A [`Turn`] lets any number of threads call one
 //! machine: each call takes the next ticket, waits until it is served, has the machine alone, and
-//! passes the turn on. A thread calls with a [`Pass`] of its own, in which contracts see what it
+//! passes the turn on. It takes a ticket when that is served at once, or when it has looked often
+//! enough for such a moment. A thread calls with a [`Pass`] of its own, in which contracts see what it
 //! knows: a list of calls and replies that some run of the machine has from the opening state, in
 //! which the pass's own calls stand once each, in their order, with the replies that were given.
 //!

@@ -363,7 +363,8 @@ impl<M: Machine> Turn<M> {
         self.table.shared.load::<CatchUp>(&mut pass.place, 0);
     }
 
-    /// Takes the next ticket, waits until it is served, calls the machine and passes the turn on.
+    /// Takes the next ticket, waits until it is served, calls the machine and passes the turn on. Most
+    /// of its waiting it does before it takes the ticket: then it holds up nobody.
     ///
     /// The reply is the machine's at this point of the history: the pass's list begins with the
     /// list that it had and ends with the call and its reply, which is one more of its own calls. A
