@@ -25,8 +25,6 @@ mod machine;
 mod node;
 mod pool_calls;
 mod remembered;
-#[cfg(test)]
-mod tests;
 mod warm_step;
 
 pub use call::{Call, Reply};

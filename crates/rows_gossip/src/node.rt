@@ -1,22 +1,17 @@
 //! Rows of a node's life, run. Each call stands in a function of its own, which keeps that the node is fit: what is proved of a
 //! test does not grow with its rows.
 ghost use Rattle.std.specs.Prelude.{IfOk};
-ghost use Rattle.warm_gossip.specs.Clauses.{IsFit};
 
 mod growths;
 mod kept;
 
-use crate::answers::wanted_frames;
-use crate::call::{Call, Reply};
-use crate::fault::NodeFault;
-use crate::node::Node;
 use kept::{hears, offers};
 use std::alloc::{AllocError, Global};
 use std::process::Abort;
 use std::test::Fail;
 use warm_devices::{Flaky, MemDevice, PageDevice};
 use warm_frames::{Frame, encode};
-use warm_history::History;
+use warm_gossip::{Call, Node, NodeFault, Reply, Shown};
 use warm_pool::{Pool, PoolFault, Slot};
 use warm_stamps::{Bucket, ByteList, PageId, PageList, RefList, Reference, ReplicaId, Stamp};
 
@@ -35,7 +30,7 @@ fn over(
     frames: usize,
     device: Box<dyn PageDevice + Send>,
 ) -> Result<Node, Fail>
-    ensures { IfOk result (λ node. IsFit state node) }
+    ensures { IfOk result (λ node. ⟦<Node as Shown>⟧.is_fit node) }
 {
     let mut devices = Vec::with_capacity(alloc, 1)?;
     devices.push_reserved(device);
@@ -47,7 +42,7 @@ fn over(
 
 // A node of so many frames over a device of 256 pages.
 fn fresh(alloc: Global, id: u16, frames: usize) -> Result<Node, Fail>
-    ensures { IfOk result (λ node. IsFit state node) }
+    ensures { IfOk result (λ node. ⟦<Node as Shown>⟧.is_fit node) }
 {
     let device: Box<dyn PageDevice + Send> = Box::new(alloc, MemDevice::new(alloc, 256, 16)?)?;
     over(alloc, id, frames, device)
@@ -55,7 +50,7 @@ fn fresh(alloc: Global, id: u16, frames: usize) -> Result<Node, Fail>
 
 // A node of one frame over a device of 8 pages, whose first call fails.
 fn flaky(alloc: Global) -> Result<Node, Fail>
-    ensures { IfOk result (λ node. IsFit state node) }
+    ensures { IfOk result (λ node. ⟦<Node as Shown>⟧.is_fit node) }
 {
     let memory = MemDevice::new(alloc, 8, 16)?;
     let device: Box<dyn PageDevice + Send> = Box::new(alloc, Flaky::new(memory, 1))?;
@@ -89,8 +84,8 @@ fn told(
     node: &mut Node,
     references: &[(u32, u64)],
 ) -> Result<(), Fail>
-    requires { IsFit state node.old }
-    ensures { IsFit state node.new }
+    requires { ⟦<Node as Shown>⟧.is_fit node.old }
+    ensures { ⟦<Node as Shown>⟧.is_fit node.new }
 {
     let batch = batch_of(alloc, node.id(), references)?;
     let is_done = match node.call(Call::Absorb(batch)) {
@@ -102,8 +97,8 @@ fn told(
 }
 
 fn pinned_at(node: &mut Node, page: PageId) -> Result<Slot, NodeFault>
-    requires { IsFit state node.old }
-    ensures { IsFit state node.new }
+    requires { ⟦<Node as Shown>⟧.is_fit node.old }
+    ensures { ⟦<Node as Shown>⟧.is_fit node.new }
 {
     match node.call(Call::Pin(page)) {
         Reply::Pinned(slot) => Ok(slot),
@@ -113,8 +108,8 @@ fn pinned_at(node: &mut Node, page: PageId) -> Result<Slot, NodeFault>
 }
 
 fn is_done(node: &mut Node, call: Call) -> Result<(), NodeFault>
-    requires { IsFit state node.old }
-    ensures { IsFit state node.new }
+    requires { ⟦<Node as Shown>⟧.is_fit node.old }
+    ensures { ⟦<Node as Shown>⟧.is_fit node.new }
 {
     match node.call(call) {
         Reply::Done => Ok(()),
@@ -124,8 +119,8 @@ fn is_done(node: &mut Node, call: Call) -> Result<(), NodeFault>
 }
 
 fn victim(node: &mut Node) -> Result<Option<PageId>, Fail>
-    requires { IsFit state node.old }
-    ensures { IsFit state node.new }
+    requires { ⟦<Node as Shown>⟧.is_fit node.old }
+    ensures { ⟦<Node as Shown>⟧.is_fit node.new }
 {
     match node.call(Call::Victim) {
         Reply::Page(page) => Ok(page),
@@ -135,8 +130,8 @@ fn victim(node: &mut Node) -> Result<Option<PageId>, Fail>
 
 // The frame of the first entries of bucket 1.
 fn sent(node: &mut Node, after: Option<PageId>) -> Result<Frame, Fail>
-    requires { IsFit state node.old }
-    ensures { IsFit state node.new }
+    requires { ⟦<Node as Shown>⟧.is_fit node.old }
+    ensures { ⟦<Node as Shown>⟧.is_fit node.new }
 {
     let bucket = Bucket::new(1).ok_or("a bucket")?;
     match node.call(Call::Send { bucket, after }) {
@@ -146,8 +141,8 @@ fn sent(node: &mut Node, after: Option<PageId>) -> Result<Frame, Fail>
 }
 
 fn loaded(node: &mut Node) -> Result<Option<PageId>, NodeFault>
-    requires { IsFit state node.old }
-    ensures { IsFit state node.new }
+    requires { ⟦<Node as Shown>⟧.is_fit node.old }
+    ensures { ⟦<Node as Shown>⟧.is_fit node.new }
 {
     match node.call(Call::WarmStep) {
         Reply::Loaded(page) => Ok(page),
@@ -157,8 +152,8 @@ fn loaded(node: &mut Node) -> Result<Option<PageId>, NodeFault>
 }
 
 fn bytes(node: &mut Node, slot: Slot, at: usize, len: usize) -> Result<ByteList, NodeFault>
-    requires { IsFit state node.old }
-    ensures { IsFit state node.new }
+    requires { ⟦<Node as Shown>⟧.is_fit node.old }
+    ensures { ⟦<Node as Shown>⟧.is_fit node.new }
 {
     match node.call(Call::Read { slot, at, len }) {
         Reply::Bytes(bytes) => Ok(bytes),
@@ -168,8 +163,8 @@ fn bytes(node: &mut Node, slot: Slot, at: usize, len: usize) -> Result<ByteList,
 }
 
 fn put(alloc: Global, node: &mut Node, slot: Slot, at: usize, text: &[u8]) -> Result<(), Fail>
-    requires { IsFit state node.old }
-    ensures { IsFit state node.new }
+    requires { ⟦<Node as Shown>⟧.is_fit node.old }
+    ensures { ⟦<Node as Shown>⟧.is_fit node.new }
 {
     let mut bytes = Vec::new(alloc);
     bytes.extend_from_slice(text)?;
@@ -181,8 +176,8 @@ fn put(alloc: Global, node: &mut Node, slot: Slot, at: usize, text: &[u8]) -> Re
 }
 
 fn answers(node: &mut Node, frame: Frame) -> Result<Vec<Frame>, Fail>
-    requires { IsFit state node.old }
-    ensures { IsFit state node.new }
+    requires { ⟦<Node as Shown>⟧.is_fit node.old }
+    ensures { ⟦<Node as Shown>⟧.is_fit node.new }
 {
     match node.call(Call::Receive(frame)) {
         Reply::Answers(frames) => Ok(frames.into_vec()),
@@ -191,8 +186,8 @@ fn answers(node: &mut Node, frame: Frame) -> Result<Vec<Frame>, Fail>
 }
 
 fn offered(node: &mut Node) -> Result<Frame, Fail>
-    requires { IsFit state node.old }
-    ensures { IsFit state node.new }
+    requires { ⟦<Node as Shown>⟧.is_fit node.old }
+    ensures { ⟦<Node as Shown>⟧.is_fit node.new }
 {
     match node.call(Call::Offer) {
         Reply::Sent(frame) => Ok(frame),
@@ -202,8 +197,8 @@ fn offered(node: &mut Node) -> Result<Frame, Fail>
 
 // The hottest pages, so many of them.
 fn hottest(node: &mut Node, pages: usize) -> Result<PageList, Fail>
-    requires { IsFit state node.old }
-    ensures { IsFit state node.new }
+    requires { ⟦<Node as Shown>⟧.is_fit node.old }
+    ensures { ⟦<Node as Shown>⟧.is_fit node.new }
 {
     match node.call(Call::WarmList(pages)) {
         Reply::Pages(pages) => Ok(pages),
@@ -213,8 +208,8 @@ fn hottest(node: &mut Node, pages: usize) -> Result<PageList, Fail>
 
 // Pins a page and takes the fix away again.
 fn visit(node: &mut Node, no: u32) -> Result<(), Fail>
-    requires { IsFit state node.old }
-    ensures { IsFit state node.new }
+    requires { ⟦<Node as Shown>⟧.is_fit node.old }
+    ensures { ⟦<Node as Shown>⟧.is_fit node.new }
 {
     let Ok(slot) = pinned_at(node, page(no)) else {
         return Err("the page is pinned".into());
@@ -260,8 +255,8 @@ enum Row<'a> {
 
 // Asks what the row says and changes no frame for. `at` is its number.
 fn shows(rt: &impl Abort, node: &mut Node, row: Row<'_>, at: usize) -> Result<(), Fail>
-    requires { IsFit state node.old }
-    ensures { IsFit state node.new }
+    requires { ⟦<Node as Shown>⟧.is_fit node.old }
+    ensures { ⟦<Node as Shown>⟧.is_fit node.new }
 {
     match row {
         Row::Knows(pages) => {
@@ -299,8 +294,8 @@ fn meets(
     row: Row<'_>,
     at: usize,
 ) -> Result<(), Fail>
-    requires { IsFit state node.old }
-    ensures { IsFit state node.new }
+    requires { ⟦<Node as Shown>⟧.is_fit node.old }
+    ensures { ⟦<Node as Shown>⟧.is_fit node.new }
 {
     match row {
         Row::Told(references) => told(rt, alloc, node, references),
@@ -330,8 +325,8 @@ fn meets(
 
 // Asks a node what the rows say, in turn.
 fn runs(rt: &impl Abort, alloc: Global, node: &mut Node, rows: &[Row<'_>]) -> Result<(), Fail>
-    requires { IsFit state node.old }
-    ensures { IsFit state node.new }
+    requires { ⟦<Node as Shown>⟧.is_fit node.old }
+    ensures { ⟦<Node as Shown>⟧.is_fit node.new }
 {
     for (at, row) in rows.iter().enumerate() {
         meets(rt, alloc, node, *row, at)?;
@@ -454,8 +449,8 @@ fn pages_that_cannot_come_in_are_refused(rt: HostRuntime) -> Result<(), Fail> {
 
 // The frame of all that the node knows of bucket 1, before it forgets everything.
 fn sent_before_a_restart(rt: &impl Abort, alloc: Global, node: &mut Node) -> Result<Frame, Fail>
-    requires { IsFit state node.old }
-    ensures { IsFit state node.new }
+    requires { ⟦<Node as Shown>⟧.is_fit node.old }
+    ensures { ⟦<Node as Shown>⟧.is_fit node.new }
 {
     let frame = sent(node, None)?;
     assert_eq!(rt; entries_in(&frame), 1);
@@ -466,8 +461,8 @@ fn sent_before_a_restart(rt: &impl Abort, alloc: Global, node: &mut Node) -> Res
 }
 
 fn comes_back(rt: &impl Abort, alloc: Global, node: &mut Node) -> Result<(), Fail>
-    requires { IsFit state node.old }
-    ensures { IsFit state node.new }
+    requires { ⟦<Node as Shown>⟧.is_fit node.old }
+    ensures { ⟦<Node as Shown>⟧.is_fit node.new }
 {
     told(rt, alloc, node, &[(1, 10), (1, 20)])?;
     let known = node.history().at(0);
@@ -496,10 +491,10 @@ fn answered_to_sums(
     first: &mut Node,
     second: &mut Node,
 ) -> Result<(Frame, Frame), Fail>
-    requires first { IsFit state first.old }
-    requires second { IsFit state second.old }
-    ensures first { IsFit state first.new }
-    ensures second { IsFit state second.new }
+    requires first { ⟦<Node as Shown>⟧.is_fit first.old }
+    requires second { ⟦<Node as Shown>⟧.is_fit second.old }
+    ensures first { ⟦<Node as Shown>⟧.is_fit first.new }
+    ensures second { ⟦<Node as Shown>⟧.is_fit second.new }
 {
     let sums = offered(first)?;
     let mut answered = answers(second, sums)?;
@@ -512,8 +507,8 @@ fn answered_to_sums(
 
 // Takes a frame that nothing answers.
 fn takes(rt: &impl Abort, node: &mut Node, frame: Frame) -> Result<(), Fail>
-    requires { IsFit state node.old }
-    ensures { IsFit state node.new }
+    requires { ⟦<Node as Shown>⟧.is_fit node.old }
+    ensures { ⟦<Node as Shown>⟧.is_fit node.new }
 {
     assert_eq!(rt; answers(node, frame)?.len(), 0);
     Ok(())
@@ -521,10 +516,10 @@ fn takes(rt: &impl Abort, node: &mut Node, frame: Frame) -> Result<(), Fail>
 
 // The first answers the wish with its entries of two buckets, which the second takes, the later ones first.
 fn grants(rt: &impl Abort, first: &mut Node, second: &mut Node, want: Frame) -> Result<(), Fail>
-    requires first { IsFit state first.old }
-    requires second { IsFit state second.old }
-    ensures first { IsFit state first.new }
-    ensures second { IsFit state second.new }
+    requires first { ⟦<Node as Shown>⟧.is_fit first.old }
+    requires second { ⟦<Node as Shown>⟧.is_fit second.old }
+    ensures first { ⟦<Node as Shown>⟧.is_fit first.new }
+    ensures second { ⟦<Node as Shown>⟧.is_fit second.new }
 {
     let mut wanted = answers(first, want)?;
     assert_eq!(rt; wanted.len(), 2);
@@ -547,8 +542,8 @@ fn become_equal(
     first: &mut Node,
     second: &mut Node,
 ) -> Result<(), Fail>
-    requires first { IsFit state first.old }
-    requires second { IsFit state second.old }
+    requires first { ⟦<Node as Shown>⟧.is_fit first.old }
+    requires second { ⟦<Node as Shown>⟧.is_fit second.old }
 {
     told(rt, alloc, first, &[(1, 10)])?;
     told(rt, alloc, second, &[(2, 11)])?;
@@ -574,24 +569,33 @@ fn entries_in(frame: &Frame) -> usize {
     }
 }
 
-// A history of so many pages of bucket 0.
-fn of_one_bucket(alloc: Global, pages: u32) -> Result<History, Fail> {
-    let replica = ReplicaId::new(1)?;
-    let mut history = History::new(alloc);
+// So many references to pages of bucket 0, each to its own.
+fn of_one_bucket(alloc: Global, replica: ReplicaId, pages: u32) -> Result<RefList, Fail> {
+    let mut batch = Vec::new(alloc);
     for i in 0..pages {
         let stamp = Stamp { time: 5, replica };
         let page = page(i.wrapping_mul(64));
-        history.absorb([Reference { page, stamp }].as_slice())?;
+        batch.push(Reference { page, stamp })?;
     }
-    Ok(history)
+    Ok(RefList::of(batch))
 }
 
-#[test]
-fn a_long_bucket_goes_in_frames_of_a_thousand(rt: HostRuntime) -> Result<(), Fail> {
-    let alloc = rt.alloc();
-    let history = of_one_bucket(alloc, 2001)?;
-    let id = ReplicaId::new(3)?;
-    let frames = wanted_frames(alloc, id, &history, 1)?;
+// The frames by which a node answers a wish for the buckets of a mask.
+fn wanted_frames(node: &mut Node, mask: u64) -> Result<Vec<Frame>, Fail>
+    requires { ⟦<Node as Shown>⟧.is_fit node.old }
+    ensures { ⟦<Node as Shown>⟧.is_fit node.new }
+{
+    let sender = ReplicaId::new(3)?;
+    answers(node, Frame::Want { sender, mask })
+}
+
+fn answers_in_thousands(rt: &impl Abort, alloc: Global, node: &mut Node) -> Result<(), Fail>
+    requires { ⟦<Node as Shown>⟧.is_fit node.old }
+    ensures { ⟦<Node as Shown>⟧.is_fit node.new }
+{
+    let batch = of_one_bucket(alloc, node.id(), 2001)?;
+    assert_eq!(rt; is_done(node, Call::Absorb(batch)), Ok(()));
+    let frames = wanted_frames(node, 1)?;
     assert_eq!(rt; frames.len(), 3);
     let lengths = [
         entries_in(&frames[0]),
@@ -599,6 +603,12 @@ fn a_long_bucket_goes_in_frames_of_a_thousand(rt: HostRuntime) -> Result<(), Fai
         entries_in(&frames[2]),
     ];
     assert_eq!(rt; lengths, [1000, 1000, 1]);
-    assert_eq!(rt; wanted_frames(alloc, id, &history, 2)?.len(), 0);
+    assert_eq!(rt; wanted_frames(node, 2)?.len(), 0);
     Ok(())
+}
+
+#[test]
+fn a_long_bucket_goes_in_frames_of_a_thousand(rt: HostRuntime) -> Result<(), Fail> {
+    let mut node = fresh(rt.alloc(), 1, 4)?;
+    answers_in_thousands(&rt, rt.alloc(), &mut node)
 }

@@ -1,22 +1,19 @@
 //! What a refused growth leaves. Run with each growth refused in turn, the test shows that a refusal changes nothing, and that the
 //! same call then succeeds.
 ghost use Rattle.std.specs.Prelude.{IfOk};
-ghost use Rattle.warm_gossip.specs.Clauses.{IsFit};
 
 use super::{batch_of, page, slot};
-use crate::call::{Call, Reply};
-use crate::fault::NodeFault;
-use crate::node::Node;
 use std::alloc::{AllocError, Global};
 use std::process::Abort;
 use warm_devices::{MemDevice, PageDevice};
 use warm_frames::Frame;
+use warm_gossip::{Call, Node, NodeFault, Reply, Shown};
 use warm_pool::Pool;
 use warm_stamps::{Bucket, RefList, ReplicaId};
 
 // A node of two frames over a device of 8 pages.
 fn opened(alloc: Global, id: ReplicaId) -> Result<Node, AllocError>
-    ensures { IfOk result (λ node. IsFit state node) }
+    ensures { IfOk result (λ node. ⟦<Node as Shown>⟧.is_fit node) }
 {
     let memory = MemDevice::new(alloc, 8, 16)?;
     let device: Box<dyn PageDevice + Send> = Box::new(alloc, memory)?;
@@ -30,7 +27,7 @@ fn opened(alloc: Global, id: ReplicaId) -> Result<Node, AllocError>
 
 // Opens a node. Where one growth is refused, the next try has the memory.
 fn opened_again(rt: &impl Abort, alloc: Global, number: u16) -> Node
-    ensures { IsFit state result }
+    ensures { ⟦<Node as Shown>⟧.is_fit result }
 {
     let Ok(id) = ReplicaId::new(number) else {
         panic!(rt; "the number is of a replica");
@@ -48,8 +45,8 @@ const CALLS: usize = 11;
 
 // Each kind of call that takes room, one after the other; `None` where room for the call itself was refused.
 fn call_at(alloc: Global, other: &mut Node, place: usize) -> Option<Call>
-    requires { IsFit state other.old }
-    ensures { IsFit state other.new }
+    requires { ⟦<Node as Shown>⟧.is_fit other.old }
+    ensures { ⟦<Node as Shown>⟧.is_fit other.new }
 {
     let bucket = Bucket::new(1)?;
     let references = [(1, 10), (1, 20), (65, 30)];
@@ -79,8 +76,8 @@ fn call_at(alloc: Global, other: &mut Node, place: usize) -> Option<Call>
 }
 
 fn call_again(rt: &impl Abort, alloc: Global, other: &mut Node, place: usize) -> Call
-    requires { IsFit state other.old }
-    ensures { IsFit state other.new }
+    requires { ⟦<Node as Shown>⟧.is_fit other.old }
+    ensures { ⟦<Node as Shown>⟧.is_fit other.new }
 {
     if let Some(call) = call_at(alloc, other, place) {
         return call;
@@ -93,8 +90,8 @@ fn call_again(rt: &impl Abort, alloc: Global, other: &mut Node, place: usize) ->
 
 // Whether all that a node knows, and what would leave its pool, is as in another.
 fn is_same(node: &Node, twin: &Node) -> bool
-    requires node { IsFit state node.now }
-    requires twin { IsFit state twin.now }
+    requires node { ⟦<Node as Shown>⟧.is_fit node.now }
+    requires twin { ⟦<Node as Shown>⟧.is_fit twin.now }
 {
     let known = node.history();
     let others = twin.history();
@@ -112,11 +109,11 @@ fn ask_again(
     other: &mut Node,
     place: usize,
 )
-    requires node { IsFit state node.old }
-    requires twin { IsFit state twin.now }
-    requires other { IsFit state other.old }
-    ensures node { IsFit state node.new }
-    ensures other { IsFit state other.new }
+    requires node { ⟦<Node as Shown>⟧.is_fit node.old }
+    requires twin { ⟦<Node as Shown>⟧.is_fit twin.now }
+    requires other { ⟦<Node as Shown>⟧.is_fit other.old }
+    ensures node { ⟦<Node as Shown>⟧.is_fit node.new }
+    ensures other { ⟦<Node as Shown>⟧.is_fit other.new }
 {
     let Reply::Refused(fault) = node.call(call_again(rt, alloc, other, place)) else {
         return;
@@ -129,10 +126,10 @@ fn ask_again(
 }
 
 fn ask_twin(rt: &impl Abort, alloc: Global, twin: &mut Node, other: &mut Node, place: usize)
-    requires twin { IsFit state twin.old }
-    requires other { IsFit state other.old }
-    ensures twin { IsFit state twin.new }
-    ensures other { IsFit state other.new }
+    requires twin { ⟦<Node as Shown>⟧.is_fit twin.old }
+    requires other { ⟦<Node as Shown>⟧.is_fit other.old }
+    ensures twin { ⟦<Node as Shown>⟧.is_fit twin.new }
+    ensures other { ⟦<Node as Shown>⟧.is_fit other.new }
 {
     if let Reply::Refused(_) = twin.call(call_again(rt, alloc, other, place)) {
         let _ = twin.call(call_again(rt, alloc, other, place));
@@ -141,8 +138,8 @@ fn ask_twin(rt: &impl Abort, alloc: Global, twin: &mut Node, other: &mut Node, p
 
 // Tells another node of a page of bucket 1 and of one of bucket 2, if there is room.
 fn tell(alloc: Global, other: &mut Node) -> bool
-    requires { IsFit state other.old }
-    ensures { IsFit state other.new }
+    requires { ⟦<Node as Shown>⟧.is_fit other.old }
+    ensures { ⟦<Node as Shown>⟧.is_fit other.new }
 {
     let Ok(batch) = batch_of(alloc, other.id(), &[(129, 5), (2, 7)]) else {
         return false;
@@ -151,8 +148,8 @@ fn tell(alloc: Global, other: &mut Node) -> bool
 }
 
 fn tell_again(rt: &impl Abort, alloc: Global, other: &mut Node)
-    requires { IsFit state other.old }
-    ensures { IsFit state other.new }
+    requires { ⟦<Node as Shown>⟧.is_fit other.old }
+    ensures { ⟦<Node as Shown>⟧.is_fit other.new }
 {
     if tell(alloc, other) {
         return;
@@ -161,9 +158,9 @@ fn tell_again(rt: &impl Abort, alloc: Global, other: &mut Node)
 }
 
 fn stay_same(rt: &impl Abort, alloc: Global, node: &mut Node, twin: &mut Node, other: &mut Node)
-    requires node { IsFit state node.old }
-    requires twin { IsFit state twin.old }
-    requires other { IsFit state other.old }
+    requires node { ⟦<Node as Shown>⟧.is_fit node.old }
+    requires twin { ⟦<Node as Shown>⟧.is_fit twin.old }
+    requires other { ⟦<Node as Shown>⟧.is_fit other.old }
 {
     tell_again(rt, alloc, other);
     for place in 0..CALLS {

@@ -1,15 +1,13 @@
 //! What a node keeps is not stale: its offers are those of a node that was told everything at once, and its warm-up follows what it
 //! was told last.
-ghost use Rattle.warm_gossip.specs.Clauses.{IsFit};
 
 use super::{Row, answers, batch_of, lives, offered, page};
-use crate::node::Node;
-use crate::remembered::Remembered;
 use std::alloc::Global;
 use std::process::Abort;
 use std::test::Fail;
 use warm_digest::{differing, sums};
 use warm_frames::{EntryList, Frame, SumTable};
+use warm_gossip::{Node, Shown};
 use warm_history::History;
 use warm_stamps::ReplicaId;
 
@@ -45,8 +43,8 @@ pub fn hears(
     node: &mut Node,
     references: &[(u32, u64)],
 ) -> Result<(), Fail>
-    requires { IsFit state node.old }
-    ensures { IsFit state node.new }
+    requires { ⟦<Node as Shown>⟧.is_fit node.old }
+    ensures { ⟦<Node as Shown>⟧.is_fit node.new }
 {
     let frame = frame_of(alloc, node.id(), references)?;
     assert_eq!(rt; answers(node, frame)?.len(), 0);
@@ -84,8 +82,8 @@ pub fn offers(
     references: &[(u32, u64)],
     mask: u64,
 ) -> Result<(), Fail>
-    requires { IsFit state node.old }
-    ensures { IsFit state node.new }
+    requires { ⟦<Node as Shown>⟧.is_fit node.old }
+    ensures { ⟦<Node as Shown>⟧.is_fit node.new }
 {
     let offer = sums_of(offered(node)?)?;
     are_of(rt, alloc, &offer, node.id(), references, mask)
@@ -130,34 +128,36 @@ fn the_warm_up_follows_the_history(rt: HostRuntime) -> Result<(), Fail> {
     lives(&rt, rt.alloc(), 2, &rows)
 }
 
-// The hottest pages, so many of them, which are kept again.
-fn listed(
-    rt: &impl Abort,
-    remembered: &mut Remembered,
-    n: usize,
-    wanted: &[u32],
-) -> Result<(), Fail> {
-    let list = remembered.take_hottest(n)?;
-    assert_eq!(rt; list.pages.len(), wanted.len());
-    for (at, no) in wanted.iter().enumerate() {
-        assert_eq!(rt;
-            list.pages.get(at).copied(),
-            Some(page(*no)),
-            "page {at} of {n}"
-        );
-    }
-    remembered.keep(list);
-    Ok(())
-}
-
+// The list that a warm-up keeps is of as many pages as there are frames, whatever other lists are asked for meanwhile.
 #[test]
 fn a_kept_list_is_of_its_number(rt: HostRuntime) -> Result<(), Fail> {
-    let alloc = rt.alloc();
-    let mut remembered = Remembered::new(alloc);
-    let batch = batch_of(alloc, ReplicaId::new(1)?, &[(1, 1), (2, 2), (3, 3)])?;
-    remembered.absorb(batch.as_slice())?;
-    listed(&rt, &mut remembered, 2, &[3, 2])?;
-    listed(&rt, &mut remembered, 2, &[3, 2])?;
-    listed(&rt, &mut remembered, 1, &[3])?;
-    listed(&rt, &mut remembered, 3, &[3, 2, 1])
+    let told = Row::Told(&[(1, 1), (2, 2), (3, 3)]);
+    let two = [
+        told,
+        Row::Hottest(2, &[page(3), page(2)]),
+        Row::Loads(Ok(Some(page(3)))),
+        Row::Hottest(2, &[page(3), page(2)]),
+        Row::Hottest(1, &[page(3)]),
+        Row::Hottest(3, &[page(3), page(2), page(1)]),
+        Row::Loads(Ok(Some(page(2)))),
+        Row::Loads(Ok(None)),
+    ];
+    lives(&rt, rt.alloc(), 2, &two)?;
+    let one = [
+        told,
+        Row::Hottest(2, &[page(3), page(2)]),
+        Row::Loads(Ok(Some(page(3)))),
+        Row::Loads(Ok(None)),
+    ];
+    lives(&rt, rt.alloc(), 1, &one)?;
+    let three = [
+        told,
+        Row::Hottest(1, &[page(3)]),
+        Row::Loads(Ok(Some(page(3)))),
+        Row::Loads(Ok(Some(page(2)))),
+        Row::Hottest(2, &[page(3), page(2)]),
+        Row::Loads(Ok(Some(page(1)))),
+        Row::Loads(Ok(None)),
+    ];
+    lives(&rt, rt.alloc(), 3, &three)
 }
