@@ -1,9 +1,5 @@
 //! Rows of jobs in threads of their own.
-use super::setup::{fresh, opened, reference};
-use crate::fan::{MAX_JOBS, run_workers};
-use crate::fault::RunFault;
-use crate::job::{Gate, Job, Step, StepReply};
-use crate::worker::Absorbing;
+use crate::setup::{fresh, opened, reference};
 use std::alloc::Global;
 use std::sync::Wait;
 use std::sync::atomic::{AtomicU64, Ordering};
@@ -12,11 +8,12 @@ use std::thread;
 use std::thread::Threads;
 use std::time::{Clock, Duration};
 use warm_gossip::{Call, Reply};
+use warm_replica::{Absorbing, Gate, Job, MAX_JOBS, RunFault, Step, StepReply, run_workers};
 use warm_stamps::PageList;
 
 // A gate that holds nobody back.
 #[derive(Clone, Copy)]
-struct Open;
+pub(crate) struct Open;
 
 impl Gate for Open {
     fn before(&self, _job: usize, _step: usize) {}
@@ -112,12 +109,16 @@ fn ran<M: Absorbing + Drop + Send, R: Threads + Wait + Sync, G: Gate + Sync>(
 // A job with a buffer of two: three touches of its page, a flush and a call.
 fn job_of(alloc: Global, no: u32) -> Result<Job, Fail> {
     let later = u64::from(no);
-    let mut steps = Vec::new(alloc);
-    steps.push(Step::Touch(reference(no, u64::wrapping_add(10, later))?))?;
-    steps.push(Step::Touch(reference(no, u64::wrapping_add(20, later))?))?;
-    steps.push(Step::Touch(reference(no, 30)?))?;
-    steps.push(Step::Flush)?;
-    steps.push(Step::Make(Call::Victim))?;
+    let first = reference(no, u64::wrapping_add(10, later))?;
+    let second = reference(no, u64::wrapping_add(20, later))?;
+    let third = reference(no, 30)?;
+    let steps = vec![in alloc;
+        Step::Touch(first),
+        Step::Touch(second),
+        Step::Touch(third),
+        Step::Flush,
+        Step::Make(Call::Victim),
+    ]?;
     Ok(Job { cap: 2, steps })
 }
 
@@ -168,10 +169,8 @@ fn ran_with<R: Threads + Wait + Sync>(
     alloc: Global,
     cap: usize,
 ) -> Result<Result<(), RunFault>, Fail> {
-    let mut steps = Vec::new(alloc);
-    steps.push(Step::Touch(reference(1, 10)?))?;
-    let mut jobs = Vec::new(alloc);
-    jobs.push(Job { cap, steps })?;
+    let steps = vec![in alloc; Step::Touch(reference(1, 10)?)]?;
+    let jobs = vec![in alloc; Job { cap, steps }]?;
     let gate = Open;
     let (ran, pages) = ran(rt, alloc, fresh(alloc)?, jobs, &gate)?;
     if !pages.as_slice().is_empty() {
@@ -198,8 +197,7 @@ fn sixty_four_jobs_flush(rt: HostRuntime) -> Result<(), Fail> {
     let alloc = rt.alloc();
     let mut jobs = Vec::new(alloc);
     for _ in 0..64 {
-        let mut steps = Vec::new(alloc);
-        steps.push(Step::Flush)?;
+        let steps = vec![in alloc; Step::Flush]?;
         jobs.push(Job { cap: 1, steps })?;
     }
     let gate = Open;

@@ -1,11 +1,7 @@
 //! Rows of mail: the frames are an entry of a history, and the digest of the empty one.
-use super::setup::{fresh, opened, reference};
-use crate::listen::mail_loop;
-use crate::mail::{Mail, MailIter};
-use crate::post::{MemPost, Outbox, Outboxes, Post};
-use crate::report::MailReport;
-use crate::stations::{Station, run_stations};
-use crate::worker::Absorbing;
+ghost use Rattle.std.specs.Prelude.{◌≡◌};
+
+use crate::setup::{fresh, opened, reference};
 use crossbeam_channel::{Receiver, unbounded};
 use std::alloc::Global;
 use std::sync::Wait;
@@ -15,7 +11,12 @@ use warm_digest::sums;
 use warm_frames::{Frame, decode, encode};
 use warm_gossip::{Call, Reply};
 use warm_history::History;
+use warm_replica::{
+    Absorbing, Mail, MailIter, MailReport, MemPost, Outbox, Outboxes, Post, Station, Worker,
+    mail_loop, run_stations,
+};
 use warm_stamps::{ByteList, RefList, ReplicaId};
+use warm_turn::Turn;
 
 // A channel with this mail, and a Stop.
 fn mailed(rt: &impl Wait, alloc: Global, texts: &[&[u8]]) -> Result<Receiver<Mail>, Fail> {
@@ -83,17 +84,47 @@ fn listened<M: Absorbing + Drop, P: Post, R: Wait>(
 ) -> Result<MailReport, Fail>
     requires { M.is_fit machine }
 {
+    let batch = told(alloc)?;
     let (replica, mut worker) = opened(alloc, machine, 2)?;
-    let mut batch = Vec::new(alloc);
-    batch.push(reference(1, 10)?)?;
-    let Ok(Reply::Done) = worker.call(rt, &replica, Call::Absorb(RefList::of(batch))) else {
+    heard(
+        rt,
+        alloc,
+        &replica,
+        &mut worker,
+        batch,
+        receiver,
+        post,
+        bounds,
+    )
+}
+
+// A batch of one reference, to 0:1 at 10.
+fn told(alloc: Global) -> Result<RefList, Fail> {
+    let batch = vec![in alloc; reference(1, 10)?]?;
+    Ok(RefList::of(batch))
+}
+
+// What a worker does with the mail, after it had the replica absorb this batch.
+fn heard<M: Absorbing, P: Post, R: Wait>(
+    rt: &R,
+    alloc: Global,
+    replica: &Turn<M>,
+    worker: &mut Worker<M>,
+    batch: RefList,
+    receiver: Receiver<Mail>,
+    post: &mut P,
+    bounds: Bounds,
+) -> Result<MailReport, Fail>
+    requires { worker.old.pass.table ≡ replica.now.table }
+{
+    let Ok(Reply::Done) = worker.call(rt, replica, Call::Absorb(batch)) else {
         return Err("the reference is absorbed".into());
     };
     Ok(mail_loop(
         rt,
         alloc,
-        &replica,
-        &mut worker,
+        replica,
+        worker,
         MailIter::new(rt, receiver, bounds.most),
         post,
         bounds.stops,
@@ -282,6 +313,15 @@ fn heard_by_both<M: Absorbing + Drop + Send, R: Threads + Wait + Sync>(
     let mut stations = Vec::with_capacity(alloc, 2)?;
     stations.push_reserved(Station::new(&first, one, to_first, Vec::new(alloc)));
     stations.push_reserved(Station::new(&second, two, to_second, of_second));
+    ended(rt, alloc, stations)
+}
+
+// What two stations count until a Stop came to each.
+fn ended<M: Absorbing + Drop + Send, R: Threads + Wait + Sync>(
+    rt: &R,
+    alloc: Global,
+    stations: Vec<Station<'_, M>>,
+) -> Result<(MailReport, MailReport), Fail> {
     let Ok(heard) = run_stations(rt, alloc, stations, 1, 10) else {
         return Err("no thread".into());
     };

@@ -1,13 +1,13 @@
 //! Machines and workers that the rows begin with.
 ghost use Rattle.std.specs.Prelude.{◌≡◌, IfOk};
 
-use crate::worker::{Absorbing, Worker};
 use std::alloc::Global;
 use std::test::Fail;
 use warm_devices::{MemDevice, PageDevice};
 use warm_gossip::Node;
 use warm_pool::Pool;
 use warm_refbuffer::RefBuffer;
+use warm_replica::{Absorbing, Worker};
 use warm_stamps::{PageId, Reference, ReplicaId, Stamp};
 use warm_turn::{Machine, Turn};
 

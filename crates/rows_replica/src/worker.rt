@@ -1,14 +1,13 @@
 //! Rows of one worker.
 ghost use Rattle.std.specs.Prelude.{◌≡◌};
 
-use super::setup::{fresh, opened, reference};
-use crate::fault::FlushFault;
-use crate::worker::{Absorbing, Worker};
+use crate::setup::{fresh, opened, reference};
 use std::alloc::Global;
 use std::sync::Wait;
 use std::test::Fail;
 use warm_gossip::{Call, NodeFault, Reply};
 use warm_refbuffer::Full;
+use warm_replica::{Absorbing, FlushFault, Worker};
 use warm_stamps::PageId;
 use warm_turn::{Machine, Turn};
 
