@@ -1,0 +1,135 @@
+//! A node's calls that take no memory, and those of a buffer and a contest.
+ghost use Rattle.std.specs.Prelude.{IfOk};
+
+use crate::{Ended, Met};
+use std::alloc::Global;
+use warm_devices::PageDevice;
+use warm_gossip::{Call, Node, Reply, Shown};
+use warm_history::{History, PageHist};
+use warm_pool::{Pool, Slot};
+use warm_rank::{Contest, key_of};
+use warm_refbuffer::RefBuffer;
+use warm_stamps::{ByteList, PageId, Reference, ReplicaId, Stamp};
+
+// A node of one frame over the device, which knows of 0:1 and 0:2.
+pub(crate) fn opened(alloc: Global, device: Box<dyn PageDevice + Send>) -> Result<Node, Ended>
+    ensures { IfOk result (λ node. ⟦<Node as Shown>⟧.is_fit node) }
+{
+    let Ok(id) = ReplicaId::new(1) else {
+        return Err(Ended::Broken);
+    };
+    let mut devices = Vec::with_capacity(alloc, 1)?;
+    devices.push_reserved(device);
+    let Ok(pool) = Pool::new(alloc, 1, 16, devices) else {
+        return Err(Ended::NoRoom);
+    };
+    let mut node = Node::new(alloc, id, pool);
+    if node.absorb(&[reference(id, 1), reference(id, 2)]).is_err() {
+        return Err(Ended::NoRoom);
+    }
+    Ok(node)
+}
+
+// A reference to page `no` of device 0, at the time of its number.
+fn reference(replica: ReplicaId, no: u32) -> Reference {
+    let time = u64::from(no);
+    Reference {
+        page: PageId { dev: 0, no },
+        stamp: Stamp { time, replica },
+    }
+}
+
+fn is_pinned(node: &mut Node, no: u32, generation: u64) -> bool
+    requires { ⟦<Node as Shown>⟧.is_fit node.old }
+    ensures { ⟦<Node as Shown>⟧.is_fit node.new }
+{
+    let page = PageId { dev: 0, no };
+    let slot = Slot {
+        index: 0,
+        generation,
+    };
+    matches!(node.call(Call::Pin(page)), Reply::Pinned(found) if found == slot)
+}
+
+fn is_unpinned(node: &mut Node, generation: u64) -> bool
+    requires { ⟦<Node as Shown>⟧.is_fit node.old }
+    ensures { ⟦<Node as Shown>⟧.is_fit node.new }
+{
+    let slot = Slot {
+        index: 0,
+        generation,
+    };
+    matches!(node.call(Call::Unpin(slot)), Reply::Done)
+}
+
+// A page is pinned, written to and unpinned; another takes its place, and the node restarts.
+pub(crate) fn rows(met: &mut Met, node: &mut Node, bytes: ByteList) -> Result<(), Ended>
+    requires { ⟦<Node as Shown>⟧.is_fit node.old }
+    ensures { ⟦<Node as Shown>⟧.is_fit node.new }
+{
+    met.holds(is_pinned(node, 1, 1), "a pin is refused")?;
+    let slot = Slot {
+        index: 0,
+        generation: 1,
+    };
+    let written = node.call(Call::Write { slot, at: 3, bytes });
+    met.holds(matches!(written, Reply::Done), "a write is refused")?;
+    met.holds(is_unpinned(node, 1), "an unpin is refused")?;
+    let left = node.call(Call::Victim);
+    met.holds(matches!(left, Reply::Page(Some(_))), "a victim is refused")?;
+    met.holds(is_pinned(node, 2, 2), "a pin over a dirty page is refused")?;
+    met.holds(is_unpinned(node, 2), "an unpin is refused")?;
+    let ended = node.call(Call::Restart);
+    met.holds(matches!(ended, Reply::Done), "a restart is refused")
+}
+
+// A buffer of two, a contest of two slots, and a history of one page.
+#[derive(Drop)]
+pub(crate) struct Made {
+    replica: ReplicaId,
+    buffer: RefBuffer,
+    contest: Contest,
+    history: History,
+}
+
+impl Made {
+    pub(crate) fn new(alloc: Global) -> Result<Made, Ended> {
+        let Ok(replica) = ReplicaId::new(1) else {
+            return Err(Ended::Broken);
+        };
+        let Ok(buffer) = RefBuffer::new(alloc, 2) else {
+            return Err(Ended::NoRoom);
+        };
+        let contest = Contest::new(alloc, 2)?;
+        let mut history = History::new(alloc);
+        history.absorb(&[reference(replica, 1)])?;
+        Ok(Made {
+            replica,
+            buffer,
+            contest,
+            history,
+        })
+    }
+
+    // Touches up to the buffer's capacity, reads of the history, and ranks.
+    pub(crate) fn rows(self, met: &mut Met) -> Result<(), Ended> {
+        let Made {
+            replica,
+            mut buffer,
+            contest: _,
+            history,
+        } = self;
+        let first = reference(replica, 1);
+        let touched = buffer.touch(first).is_ok() && buffer.touch(first).is_ok();
+        met.holds(touched && buffer.is_full(), "a touch is refused")?;
+        buffer.clear();
+        met.holds(
+            buffer.touch(first).is_ok(),
+            "a touch of an emptied buffer is refused",
+        )?;
+        let known = Some(PageHist::Once(first.stamp));
+        met.holds(history.get(first.page) == known, "a history forgets")?;
+        let key = key_of(first.page, known);
+        met.holds(key.page() == first.page, "a key is of its page")
+    }
+}

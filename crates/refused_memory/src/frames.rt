@@ -1,0 +1,74 @@
+//! A frame of one entry, written and read, whole and in pieces.
+use crate::met::{Ended, Met};
+use std::alloc::Global;
+use warm_frames::{Decoder, Fed, Frame, FrameFault, decode, encode};
+
+// Sender 1 says that 0:7 has 20@1 and 10@1.
+const TWICE: [u8; 42] = [
+    0x4C, 0x32, 0x47, 0x31, 1, 0, 1, 0, 0, 0, 0x1F, 0, 0, 0, 1, 0, 0, 0, 0, 0, 7, 2, 0, 0, 0, 0, 0,
+    0, 0, 0x14, 0, 1, 0, 0, 0, 0, 0, 0, 0, 0x0A, 0, 1,
+];
+
+fn decoded(met: &mut Met, alloc: Global) -> Result<Frame, Ended> {
+    match decode(alloc, &TWICE) {
+        Ok(frame) => Ok(frame),
+        Err(fault) => {
+            met.refuse(fault == FrameFault::Memory, "the bytes spell a frame")?;
+            match decode(alloc, &TWICE) {
+                Ok(frame) => Ok(frame),
+                Err(_) => Err(met.broken("decode is refused again")),
+            }
+        }
+    }
+}
+
+fn spelled(met: &mut Met, alloc: Global, frame: &Frame) -> Result<(), Ended> {
+    let bytes = match encode(alloc, frame) {
+        Ok(bytes) => bytes,
+        Err(_) => {
+            met.refuse(true, "")?;
+            let Ok(bytes) = encode(alloc, frame) else {
+                return Err(met.broken("encode is refused again"));
+            };
+            bytes
+        }
+    };
+    met.holds(
+        bytes.as_slice() == TWICE.as_slice(),
+        "a frame has one spelling",
+    )
+}
+
+// Feeds a piece, all of which the frame needs. A refusal takes nothing, so that the same piece is fed again.
+fn fed(met: &mut Met, decoder: &mut Decoder, piece: &[u8]) -> Result<Option<Frame>, Ended> {
+    let Fed { taken, frame } = match decoder.feed(piece) {
+        Ok(fed) => fed,
+        Err(fault) => {
+            met.refuse(fault == FrameFault::Memory, "the pieces are of a frame")?;
+            let Ok(fed) = decoder.feed(piece) else {
+                return Err(met.broken("a piece is refused again"));
+            };
+            fed
+        }
+    };
+    met.holds(taken == piece.len(), "a piece is taken whole")?;
+    Ok(frame)
+}
+
+fn pieces(met: &mut Met, alloc: Global) -> Result<(), Ended> {
+    let mut decoder = Decoder::new(alloc);
+    let first = fed(met, &mut decoder, &TWICE[..20])?;
+    met.holds(first.is_none(), "20 bytes are no frame")?;
+    let second = fed(met, &mut decoder, &TWICE[20..41])?;
+    met.holds(second.is_none(), "41 bytes are no frame")?;
+    let Some(frame) = fed(met, &mut decoder, &TWICE[41..])? else {
+        return Err(met.broken("42 bytes are a frame"));
+    };
+    spelled(met, alloc, &frame)
+}
+
+pub(crate) fn rows(met: &mut Met, alloc: Global) -> Result<(), Ended> {
+    let frame = decoded(met, alloc)?;
+    spelled(met, alloc, &frame)?;
+    pieces(met, alloc)
+}

@@ -1,0 +1,75 @@
+//! Rows of calls that may be refused for memory.
+//!
+//! `scripts/refuse-growths` runs this with each growth refused in turn. A call that is refused has to leave what can be seen as it
+//! was, or to hand back what it took, and is asked for once more, which has to succeed. What is printed says how many calls were
+//! refused; or that a row had no room for what it needs before its call, and ended.
+#![tactic(auto)]
+
+mod frames;
+mod histories;
+mod met;
+mod nodes;
+mod sizes;
+mod summed;
+mod turns;
+
+use crate::met::{Ended, Met};
+use std::alloc::Global;
+use std::io::{self, Print};
+use std::process::ExitCode;
+use std::sync::Wait;
+use std::thread::Threads;
+use warm_devices::MemDevice;
+
+// A device of 8 pages.
+fn device(alloc: Global) -> Result<Box<MemDevice>, Ended> {
+    let Ok(device) = Box::new(alloc, MemDevice::new(alloc, 8, 16)?) else {
+        return Err(Ended::NoRoom);
+    };
+    Ok(device)
+}
+
+fn play_nodes(met: &mut Met, alloc: Global) -> Result<(), Ended> {
+    let mut node = nodes::opened(met, alloc, 1, device(alloc)?)?;
+    let mut other = nodes::opened(met, alloc, 2, device(alloc)?)?;
+    nodes::rows(met, alloc, &mut node, &mut other)
+}
+
+fn play_turns<R: Threads + Wait + Sync>(met: &mut Met, rt: &R, alloc: Global) -> Result<(), Ended> {
+    let node = nodes::opened(met, alloc, 1, device(alloc)?)?;
+    turns::rows(met, rt, alloc, node)
+}
+
+// All rows, one after the other, up to one that ends early.
+fn play<R: Threads + Wait + Sync>(met: &mut Met, rt: &R, alloc: Global) -> Result<(), Ended> {
+    histories::rows(met, alloc)?;
+    sizes::rows(met, alloc)?;
+    frames::rows(met, alloc)?;
+    summed::rows(met, alloc)?;
+    play_nodes(met, alloc)?;
+    play_turns(met, rt, alloc)
+}
+
+// Says how the rows ended.
+fn tell(rt: &impl Print, ended: &Result<(), Ended>, met: &Met) -> io::Result<()> {
+    match ended {
+        Ok(()) => println!(rt; "all rows hold, {} calls refused", met.refused),
+        Err(Ended::NoRoom) => println!(rt; "no room for a row"),
+        Err(Ended::Broken) => println!(rt; "broken: {}", met.broken),
+    }
+}
+
+fn main(rt: HostRuntime) -> ExitCode {
+    let mut met = Met {
+        refused: 0,
+        broken: "a number",
+    };
+    let ended = play(&mut met, &rt, rt.alloc());
+    if tell(&rt, &ended, &met).is_err() {
+        return ExitCode::FAILURE;
+    }
+    match ended {
+        Err(Ended::Broken) => ExitCode::FAILURE,
+        _ => ExitCode::SUCCESS,
+    }
+}

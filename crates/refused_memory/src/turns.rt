@@ -1,0 +1,257 @@
+//! A machine that is shared by turns, a worker of it, jobs in threads of their own, and mail.
+ghost use Rattle.std.specs.Prelude.{◌≡◌, IfOk};
+
+use crate::met::{Ended, Met, reference};
+use std::alloc::Global;
+use std::sync::Wait;
+use std::thread::Threads;
+use warm_frames::{Frame, SUM_SIZE, SumTable, encode};
+use warm_gossip::{Call, NodeFault, Reply};
+use warm_refbuffer::RefBuffer;
+use warm_replica::{
+    Absorbing, FlushFault, Gate, Job, Mail, MemPost, Post, RunFault, Step, StepReply, Worker,
+    mail_loop, run_workers,
+};
+use warm_stamps::{BUCKETS, ByteList, PageId, ReplicaId};
+use warm_turn::{Machine, Memory, Pass, Turn};
+
+// A turn over the machine. Where it is refused the machine comes back, and is shared at the second try.
+fn shared<M: Machine>(met: &mut Met, alloc: Global, machine: M) -> Result<(Turn<M>, Pass<M>), Ended>
+where
+    M: Drop,
+    requires { M.is_fit machine }
+    ensures { IfOk result (λ made. made.1.table ≡ made.0.table) }
+{
+    let machine = match Turn::new(alloc, machine) {
+        Ok(made) => return Ok(made),
+        Err(Memory { machine }) => machine,
+    };
+    met.refuse(true, "")?;
+    match Turn::new(alloc, machine) {
+        Ok(made) => Ok(made),
+        Err(_) => Err(met.broken("a turn is refused again")),
+    }
+}
+
+// Fills a worker's buffer of two, and flushes it. A refused flush keeps the two, and the next is taken.
+fn flush<M: Absorbing + Drop, R: Wait>(
+    met: &mut Met,
+    rt: &R,
+    alloc: Global,
+    replica: &Turn<M>,
+    mut worker: Worker<M>,
+) -> Result<Worker<M>, Ended>
+    requires { worker.pass.table ≡ replica.now.table }
+    ensures { IfOk result (λ w. w.pass.table ≡ replica.now.table) }
+{
+    let both = [reference(1, 10)?, reference(1, 20)?];
+    let is_taken = worker.touch(both[0]).is_ok() && worker.touch(both[1]).is_ok();
+    met.holds(is_taken, "there is room for two")?;
+    let Err(fault) = worker.flush(rt, alloc, replica) else {
+        return Ok(worker);
+    };
+    let (pass, buffer) = worker.into_parts();
+    let is_kept = buffer.refs() == both.as_slice();
+    met.refuse(
+        is_kept && fault == FlushFault::Memory,
+        "a refused flush keeps the batch",
+    )?;
+    let mut worker = Worker::new(pass, buffer);
+    met.holds(
+        worker.flush(rt, alloc, replica).is_ok(),
+        "a flush is refused again",
+    )?;
+    Ok(worker)
+}
+
+// Asks by a worker for the hottest page, which is that of its flush.
+fn list<M: Absorbing, R: Wait>(
+    met: &mut Met,
+    rt: &R,
+    replica: &Turn<M>,
+    worker: &mut Worker<M>,
+) -> Result<(), Ended>
+    requires { worker.old.pass.table ≡ replica.now.table }
+    ensures { worker.new.pass.table ≡ replica.now.table }
+{
+    let mut answer = worker.call(rt, replica, Call::WarmList(5));
+    if let Ok(Reply::Refused(fault)) = answer {
+        met.refuse(
+            fault == NodeFault::Memory,
+            "a list is refused for memory alone",
+        )?;
+        answer = worker.call(rt, replica, Call::WarmList(5));
+    }
+    let Ok(Reply::Pages(pages)) = answer else {
+        return Err(met.broken("a list is refused again"));
+    };
+    let hottest = PageId { dev: 0, no: 1 };
+    met.holds(pages.as_slice() == [hottest].as_slice(), "0:1 was flushed")
+}
+
+// A gate that holds nobody back.
+#[derive(Clone, Copy)]
+struct Open;
+
+impl Gate for Open {
+    fn before(&self, _job: usize, _step: usize) {}
+
+    fn after(&self, _job: usize, _step: usize) {}
+}
+
+// Two jobs: a touch, a flush and a list.
+fn jobs(alloc: Global) -> Result<Vec<Job>, Ended> {
+    let mut all = Vec::new(alloc);
+    for no in 2..4u32 {
+        let mut steps = Vec::with_capacity(alloc, 3)?;
+        steps.push_reserved(Step::Touch(reference(no, 30)?));
+        steps.push_reserved(Step::Flush);
+        steps.push_reserved(Step::Make(Call::WarmList(1)));
+        if all.push(Job { cap: 1, steps }).is_err() {
+            return Err(Ended::NoRoom);
+        }
+    }
+    Ok(all)
+}
+
+// How many of the steps were refused for memory; none may be refused otherwise.
+fn refused_in(met: &mut Met, replies: &[Vec<StepReply>]) -> Result<usize, Ended> {
+    let mut refused = 0usize;
+    for job in replies {
+        met.holds(job.len() == 3, "each step has its reply")?;
+        for reply in job {
+            match reply {
+                StepReply::Touched | StepReply::Flushed => {}
+                StepReply::Answered(Reply::Pages(_)) => {}
+                StepReply::Failed(FlushFault::Memory) => refused = refused.wrapping_add(1),
+                StepReply::Answered(Reply::Refused(NodeFault::Memory)) => {
+                    refused = refused.wrapping_add(1);
+                }
+                _ => return Err(met.broken("a step is answered otherwise")),
+            }
+        }
+    }
+    Ok(refused)
+}
+
+// Runs the jobs; where one is refused, or a thread is not to be had, once more.
+fn run<M: Absorbing + Send, R: Threads + Wait + Sync>(
+    met: &mut Met,
+    rt: &R,
+    alloc: Global,
+    replica: &Turn<M>,
+    pass: &mut Pass<M>,
+) -> Result<(), Ended>
+    requires { pass.old.table ≡ replica.now.table }
+    ensures { pass.new.table ≡ replica.now.table }
+{
+    match run_workers(rt, alloc, replica, pass, jobs(alloc)?, &Open) {
+        Ok(replies) => {
+            let refused = refused_in(met, &replies)?;
+            if refused == 0 {
+                return Ok(());
+            }
+            met.refuse(refused == 1, "one step is refused")?;
+        }
+        Err(fault) => met.refuse(fault != RunFault::BadCapacity, "the jobs have capacities")?,
+    }
+    match run_workers(rt, alloc, replica, pass, jobs(alloc)?, &Open) {
+        Ok(replies) => {
+            let refused = refused_in(met, &replies)?;
+            met.holds(refused == 0, "a step is refused again")
+        }
+        Err(_) => Err(met.broken("jobs are refused again")),
+    }
+}
+
+// The sums of a history of which nobody has heard, from replica 9, as mail.
+fn mail(alloc: Global) -> Result<Vec<Mail>, Ended> {
+    let Ok(sender) = ReplicaId::new(9) else {
+        return Err(Ended::Broken);
+    };
+    let sums = SumTable::of([[0; SUM_SIZE]; BUCKETS as usize]);
+    let text = encode(alloc, &Frame::Digest { sender, sums })?;
+    let mut items = Vec::with_capacity(alloc, 2)?;
+    items.push_reserved(Mail::Bytes(ByteList::of(text)));
+    items.push_reserved(Mail::Stop);
+    Ok(items)
+}
+
+// A replica takes mail, and what it answers is kept. What is refused for memory is counted.
+fn listen<M: Absorbing, R: Wait>(
+    met: &mut Met,
+    rt: &R,
+    alloc: Global,
+    replica: &Turn<M>,
+    worker: &mut Worker<M>,
+) -> Result<(), Ended>
+    requires { worker.old.pass.table ≡ replica.now.table }
+    ensures { worker.new.pass.table ≡ replica.now.table }
+{
+    let items = mail(alloc)?;
+    let mut post = MemPost::new(alloc);
+    let report = mail_loop(
+        rt,
+        alloc,
+        replica,
+        worker,
+        items.into_iter(),
+        &mut post,
+        1,
+        9,
+    );
+    met.holds(
+        report.joined.wrapping_add(report.refused) == 1,
+        "one item is counted",
+    )?;
+    // a wish of all buckets, and an answer for each of the pages 0:1 to 0:3
+    let kept = post.given().len() as u128;
+    if report.refused == 1 {
+        return met.refuse(kept == 0 && report.lost == 0, "a refused frame is answered");
+    }
+    if report.lost > 0 {
+        met.refuse(report.lost == 1, "one answer is lost")?;
+    }
+    met.holds(
+        kept.wrapping_add(report.lost) == 4,
+        "each answer is kept or lost",
+    )
+}
+
+fn posted(met: &mut Met, alloc: Global) -> Result<(), Ended> {
+    let Ok(to) = ReplicaId::new(9) else {
+        return Err(met.broken("9 is a replica"));
+    };
+    let mut bytes = Vec::new(alloc);
+    bytes.extend_from_slice(b"warm")?;
+    let mut post = MemPost::new(alloc);
+    if let Err(back) = post.post(to, ByteList::of(bytes)) {
+        let is_back = back.as_slice() == b"warm".as_slice() && post.given().is_empty();
+        met.refuse(is_back, "bytes that are not taken come back")?;
+        met.holds(post.post(to, back).is_ok(), "bytes are refused again")?;
+    }
+    met.holds(post.given().len() == 1, "the bytes are kept")
+}
+
+pub(crate) fn rows<M: Absorbing + Drop + Send, R: Threads + Wait + Sync>(
+    met: &mut Met,
+    rt: &R,
+    alloc: Global,
+    machine: M,
+) -> Result<(), Ended>
+    requires { M.is_fit machine }
+{
+    posted(met, alloc)?;
+    let Ok(buffer) = RefBuffer::new(alloc, 2) else {
+        return Err(Ended::NoRoom);
+    };
+    let (replica, pass) = shared(met, alloc, machine)?;
+    let mut worker = flush(met, rt, alloc, &replica, Worker::new(pass, buffer))?;
+    list(met, rt, &replica, &mut worker)?;
+    let (mut pass, buffer) = worker.into_parts();
+    run(met, rt, alloc, &replica, &mut pass)?;
+    let mut worker = Worker::new(pass, buffer);
+    listen(met, rt, alloc, &replica, &mut worker)?;
+    let (pass, _buffer) = worker.into_parts();
+    met.holds(replica.close(pass).is_ok(), "each ticket was passed on")
+}
