@@ -90,21 +90,32 @@ pub fn decode(bytes: &[u8]) -> Option<Vec<Entry>> {
     rest.is_empty().then_some(entries)
 }
 
-/// Frames from a stream that comes in pieces. It holds the bytes of the frame that has begun, and decodes one that stands whole in a
-/// piece where it stands.
+/// Frames from a stream that comes in pieces. It holds the bytes of the frame that has begun, at most those of the longest, and decodes
+/// one that stands whole in a piece where it stands.
 #[derive(Default)]
 pub struct Decoder {
     held: Vec<u8>,
     size: Option<usize>,
+    failed: bool,
 }
 
 const HEADER: usize = 11;
 
 impl Decoder {
-    /// How many bytes of the piece were taken, and the frame that is whole now.
+    /// How many bytes of the piece were taken, and the frame that is whole now. `None` as soon as the byte is there that shows a fault,
+    /// and from then on.
     pub fn feed(&mut self, piece: &[u8]) -> Option<(usize, Option<Vec<Entry>>)> {
+        if self.failed {
+            return None;
+        }
+        let fed = self.take(piece);
+        self.failed = fed.is_none();
+        fed
+    }
+
+    fn take(&mut self, piece: &[u8]) -> Option<(usize, Option<Vec<Entry>>)> {
         if self.size.is_none() {
-            self.size = self.size_with(piece);
+            self.size = self.size_with(piece)?;
         }
         let missing = match self.size {
             Some(size) => size - self.held.len(),
@@ -124,19 +135,33 @@ impl Decoder {
         Some((missing, Some(entries)))
     }
 
-    // How many bytes the frame has in all, where its header is whole with the piece.
-    fn size_with(&self, piece: &[u8]) -> Option<usize> {
+    // The size of the frame, where its header is whole with the piece. `None` for a fault of the header.
+    fn size_with(&self, piece: &[u8]) -> Option<Option<usize>> {
         let mut header = [0; HEADER];
         let len = self.held.len();
         let more = (HEADER - len).min(piece.len());
-        if len + more < HEADER {
+        header[..len].copy_from_slice(&self.held);
+        header[len..len + more].copy_from_slice(&piece[..more]);
+        size_of(&header[..len + more])
+    }
+}
+
+// The size that a header says, once it is whole. `None` for a fault.
+fn size_of(header: &[u8]) -> Option<Option<usize>> {
+    let magic = header.len().min(5);
+    if header[..magic] != b"L2G1\x01"[..magic] {
+        return None;
+    }
+    if let Some(sender) = header.get(5..7) {
+        if !(1..=64).contains(&u16::from_be_bytes([sender[0], sender[1]])) {
             return None;
         }
-        header[..len].copy_from_slice(&self.held);
-        header[len..].copy_from_slice(&piece[..more]);
-        let body = u32::from_be_bytes(header[7..].try_into().expect("four bytes"));
-        Some(HEADER + body as usize)
     }
+    let Some(len) = header.get(7..HEADER) else {
+        return Some(None);
+    };
+    let len = u32::from_be_bytes(len.try_into().expect("four bytes")) as usize;
+    (4..=4 + 27 * 1000).contains(&len).then_some(Some(HEADER + len))
 }
 
 /// Takes the sums of the buckets of a mask anew.
