@@ -20,8 +20,6 @@ pub mod laws;
 mod packed;
 mod slot_keys;
 mod slots;
-#[cfg(test)]
-mod tests;
 mod warm_up;
 mod winners;
 

@@ -1,12 +1,12 @@
 //! The worked histories, run.
 ghost use Rattle.std.specs.Prelude.{◌≡◌, length};
 
-use crate::{Contest, RankKey, key_of, leaving_order, warm_list};
 use std::alloc::Global;
 use std::cmp::Ordering;
 use std::process::Abort;
 use std::test::Fail;
 use warm_history::History;
+use warm_rank::{Contest, RankKey, key_of, leaving_order, warm_list};
 use warm_stamps::{PageId, PageList, Reference, ReplicaId, Stamp};
 
 const fn page(no: u32) -> PageId {
