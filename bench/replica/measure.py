@@ -1,0 +1,71 @@
+#!/usr/bin/env python3
+"""Measures references a second that 1, 2 and 4 workers bring to one replica, beside a plain Rust replica behind a
+std::sync::Mutex, and prints the table of docs/PERFORMANCE.md.
+
+usage: measure.py [idle|busy|both] [REFERENCES] [PAGES]      both, 1,000,000 of each worker, 100,000, where nothing is said
+
+For `busy` as many other processes as there are processors each keep one busy meanwhile. It wants the proved program
+(`rt run` in crates/bench_replica leaves it as crates/bench_replica/out/bench_replica) and `rustc`. The programs run in
+turn, seven times, and the fastest run of each counts. All must end with the same hottest pages.
+"""
+
+import re
+import subprocess
+import sys
+import tempfile
+from pathlib import Path
+
+HERE = Path(__file__).resolve().parent
+sys.path.insert(0, str(HERE.parent))
+from busy import all_processors_busy  # noqa: E402
+
+OURS = HERE.parent.parent / "crates/bench_replica/out/bench_replica"
+RUNS = 7
+CROWDS = [1, 2, 4]
+LINE = re.compile(r"workers (\d): (\d+) in (\d+) ns")
+
+
+def one_run(command: list, workers: int, references: int, pages: int) -> tuple[int, float]:
+    """The sum of the hottest pages, and references a second."""
+    words = [command[0], str(workers), str(references), str(pages), *command[1:]]
+    said = subprocess.run(words, stdout=subprocess.PIPE, check=True, text=True).stdout
+    _, made, spent = (int(it) for it in LINE.fullmatch(said.strip()).groups())
+    return made, workers * references / spent * 1e9
+
+
+def measured(commands: dict[str, list], references: int, pages: int) -> dict[tuple[str, int], float]:
+    best = {}
+    for _ in range(RUNS):
+        for workers in CROWDS:
+            made = {}
+            for name, command in commands.items():
+                made[name], speed = one_run(command, workers, references, pages)
+                best[name, workers] = max(speed, best.get((name, workers), 0))
+            assert len(set(made.values())) == 1, made
+    return best
+
+
+def main() -> None:
+    when = sys.argv[1] if len(sys.argv) > 1 else "both"
+    assert when in ["idle", "busy", "both"], __doc__
+    references = int(sys.argv[2]) if len(sys.argv) > 2 else 1_000_000
+    pages = int(sys.argv[3]) if len(sys.argv) > 3 else 100_000
+    with tempfile.TemporaryDirectory() as folder:
+        plain = Path(folder) / "plain"
+        subprocess.run(["rustc", "-O", "--edition", "2024", "-o", plain, HERE / "plain.rs"], check=True)
+        commands = {"ours": [OURS], "map": [plain, "map"], "node": [plain, "node"]}
+        print("| processors | workers | ours, million a second | a plain map | ours to it | a plain node | ours to it |")
+        print("|---|---|---|---|---|---|---|")
+        for are_busy in {"idle": [False], "busy": [True], "both": [False, True]}[when]:
+            with all_processors_busy(are_busy):
+                best = measured(commands, references, pages)
+            for workers in CROWDS:
+                ours, bare, node = (best[name, workers] for name in commands)
+                print(
+                    f"| {'busy' if are_busy else 'idle'} | {workers} | {ours / 1e6:.2f} | {bare / 1e6:.2f} | {ours / bare:.2f} "
+                    f"| {node / 1e6:.2f} | {ours / node:.2f} |"
+                )
+
+
+if __name__ == "__main__":
+    main()
