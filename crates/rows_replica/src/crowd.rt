@@ -20,7 +20,7 @@ const JOBS: usize = 8;
 // How many rounds each job makes of a run, and how many runs there are.
 const ROUNDS: u32 = 4_000;
 
-const RUNS: u32 = 20;
+const RUNS: u32 = 6;
 
 // The replies of these jobs.
 fn answered<M: Absorbing + Drop + Send, R: Threads + Wait + Sync>(
