@@ -9,8 +9,8 @@ use warm_frames::{Frame, SUM_SIZE, SumTable, encode};
 use warm_gossip::{Call, NodeFault, Reply};
 use warm_refbuffer::RefBuffer;
 use warm_replica::{
-    Absorbing, FlushFault, Gate, Job, Mail, MemPost, Post, RunFault, Step, StepReply, Worker,
-    mail_loop, run_workers,
+    Absorbing, FlushFault, Gate, Job, MAX_JOBS, Mail, MemPost, Post, RunFault, Step, StepReply,
+    Worker, mail_loop, run_workers,
 };
 use warm_stamps::{BUCKETS, ByteList, PageId, ReplicaId};
 use warm_turn::{Machine, Memory, Pass, Turn};
@@ -114,6 +114,23 @@ fn jobs(alloc: Global) -> Result<Vec<Job>, Ended> {
     Ok(all)
 }
 
+// The replies of the jobs, each in a thread of its own.
+fn replies_to<M: Absorbing + Send, R: Threads + Wait + Sync>(
+    rt: &R,
+    alloc: Global,
+    replica: &Turn<M>,
+    pass: &mut Pass<M>,
+) -> Result<Result<Vec<Vec<StepReply>>, RunFault>, Ended>
+    requires { pass.old.table ≡ replica.now.table }
+    ensures { pass.new.table ≡ replica.now.table }
+{
+    let all = jobs(alloc)?;
+    if all.len() > MAX_JOBS {
+        return Err(Ended::Broken);
+    }
+    Ok(run_workers(rt, alloc, replica, pass, all, &Open))
+}
+
 // How many of the steps were refused for memory; none may be refused otherwise.
 fn refused_in(met: &mut Met, replies: &[Vec<StepReply>]) -> Result<usize, Ended> {
     let mut refused = 0usize;
@@ -145,7 +162,7 @@ fn run<M: Absorbing + Send, R: Threads + Wait + Sync>(
     requires { pass.old.table ≡ replica.now.table }
     ensures { pass.new.table ≡ replica.now.table }
 {
-    match run_workers(rt, alloc, replica, pass, jobs(alloc)?, &Open) {
+    match replies_to(rt, alloc, replica, pass)? {
         Ok(replies) => {
             let refused = refused_in(met, &replies)?;
             if refused == 0 {
@@ -155,7 +172,7 @@ fn run<M: Absorbing + Send, R: Threads + Wait + Sync>(
         }
         Err(fault) => met.refuse(fault != RunFault::BadCapacity, "the jobs have capacities")?,
     }
-    match run_workers(rt, alloc, replica, pass, jobs(alloc)?, &Open) {
+    match replies_to(rt, alloc, replica, pass)? {
         Ok(replies) => {
             let refused = refused_in(met, &replies)?;
             met.holds(refused == 0, "a step is refused again")
