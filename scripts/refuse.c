@@ -9,6 +9,7 @@ typedef unsigned long size;
 
 extern char *getenv(const char *name);
 extern long write(int fd, const void *bytes, size count);
+extern int *__errno_location(void);
 extern void *__libc_malloc(size bytes);
 extern void *__libc_calloc(size count, size bytes);
 extern void *__libc_realloc(void *old, size bytes);
@@ -35,7 +36,7 @@ __attribute__((constructor)) static void begin(void) {
     first = number("REFUSE_FIRST");
 }
 
-/* Whether the next growth is refused. Threads may ask at the same time. */
+/* Whether the next growth is refused, with its reason where the C library looks for it. Threads may ask at the same time. */
 static int is_refused(void) {
     if (first == 0)
         return 0;
@@ -44,6 +45,7 @@ static int is_refused(void) {
         return 0;
     if (place == first && note >= 0 && write(note, "r", 1) != 1)
         note = -1;
+    *__errno_location() = NO_MEMORY;
     return 1;
 }
 
