@@ -8,6 +8,7 @@ mod parts;
 
 use parts::frames::{Decoder, decode, encode, sums};
 use parts::hist::{Entry, Hist, Page, Stamp};
+use std::collections::BTreeMap;
 use std::hint::black_box;
 use std::time::Instant;
 
@@ -49,7 +50,7 @@ fn main() {
     let asked = std::env::args().nth(1);
     let rounds: u64 = asked.as_ref().map_or(1, |word| word.parse().expect("how often each is done"));
     let entries = entries_of(FULL, 64);
-    let history = entries_of(MANY, 1);
+    let history: BTreeMap<Page, Hist> = entries_of(MANY, 1).into_iter().map(|entry| (entry.page, entry.hist)).collect();
 
     let start = Instant::now();
     let mut bytes = Vec::new();
@@ -66,7 +67,7 @@ fn main() {
     let start = Instant::now();
     let mut first = [0; 32];
     for _ in 0..rounds {
-        first = sums(black_box(&history).iter().copied())[0];
+        first = sums(black_box(&history).iter().map(|(&page, &hist)| Entry { page, hist }))[0];
     }
     let summing = start.elapsed();
 
