@@ -12,7 +12,7 @@ use std::alloc::Global;
 use std::env;
 use std::time::Instant;
 use warm_digest::sums;
-use warm_frames::{Decoder, EntryList, Fed, Frame, decode, encode};
+use warm_frames::{BoxedFrame, Decoder, EntryList, Fed, Frame, decode, encode};
 use warm_history::History;
 use warm_stamps::{Bucket, PageId, Reference, ReplicaId, Stamp};
 
@@ -129,9 +129,12 @@ fn stream_of(alloc: Global, bytes: &[u8], frames: u64) -> Result<Vec<u8>> {
 }
 
 // How many entries a frame has, where there is one.
-fn entries_in(frame: Option<Frame>) -> u64 {
-    match frame {
-        Some(Frame::Entries { entries, .. }) => entries.as_slice().len() as u64,
+fn entries_in(frame: Option<BoxedFrame>) -> u64 {
+    let Some(frame) = frame else {
+        return 0;
+    };
+    match frame.as_frame() {
+        Frame::Entries { entries, .. } => entries.as_slice().len() as u64,
         _ => 0,
     }
 }

@@ -98,7 +98,7 @@ fn put_fed<W: Write>(
             reader.fed = reader.fed.wrapping_add(taken);
             if let Some(frame) = frame {
                 let spelled = reader.bytes.get(reader.begun..reader.fed);
-                put_frame(alloc, writer, &frame, spelled.unwrap_or(&[]))?;
+                put_frame(alloc, writer, frame.as_frame(), spelled.unwrap_or(&[]))?;
                 reader.begun = reader.fed;
                 write!(writer, " to {}", reader.fed)?;
             }

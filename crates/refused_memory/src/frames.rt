@@ -1,7 +1,7 @@
 //! A frame of one entry, written and read, whole and in pieces.
 use crate::met::{Ended, Met};
 use std::alloc::Global;
-use warm_frames::{Decoder, Fed, Frame, FrameFault, decode, encode};
+use warm_frames::{BoxedFrame, Decoder, Fed, Frame, FrameFault, decode, encode};
 
 // Sender 1 says that 0:7 has 20@1 and 10@1.
 const TWICE: [u8; 42] = [
@@ -40,7 +40,7 @@ fn spelled(met: &mut Met, alloc: Global, frame: &Frame) -> Result<(), Ended> {
 }
 
 // Feeds a piece, all of which the frame needs. A refusal takes nothing, so that the same piece is fed again.
-fn fed(met: &mut Met, decoder: &mut Decoder, piece: &[u8]) -> Result<Option<Frame>, Ended> {
+fn fed(met: &mut Met, decoder: &mut Decoder, piece: &[u8]) -> Result<Option<BoxedFrame>, Ended> {
     let Fed { taken, frame } = match decoder.feed(piece) {
         Ok(fed) => fed,
         Err(fault) => {
@@ -64,7 +64,7 @@ fn pieces(met: &mut Met, alloc: Global) -> Result<(), Ended> {
     let Some(frame) = fed(met, &mut decoder, &TWICE[41..])? else {
         return Err(met.broken("42 bytes are a frame"));
     };
-    spelled(met, alloc, &frame)
+    spelled(met, alloc, frame.as_frame())
 }
 
 pub(crate) fn rows(met: &mut Met, alloc: Global) -> Result<(), Ended> {

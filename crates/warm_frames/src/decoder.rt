@@ -6,7 +6,7 @@ ghost use Rattle.warm_frames.specs.Sizes.{frame_size, KnowsSize, SaysSize};
 ghost use Rattle.warm_frames.specs.Pieces.{DecoderState.Inside, DecodesWith, Feeds, KnowsWith, finish_of};
 
 use crate::fault::FrameFault;
-use crate::frame::{Frame, decode};
+use crate::frame::{BoxedFrame, decode_boxed};
 use crate::reading::{HEADER_SIZE, frame_size};
 use std::alloc::Global;
 use std::cmp::min;
@@ -18,7 +18,7 @@ pub struct Fed {
     /// How many bytes of the piece were taken: up to the end of the frame, or all of them.
     pub taken: usize,
     /// The frame that is whole now, if one is.
-    pub frame: Option<Frame>,
+    pub frame: Option<BoxedFrame>,
 }
 
 /// Decodes frames that follow one another in a stream, however it is cut into pieces.
@@ -106,16 +106,16 @@ fn all_of(piece: &[u8]) -> Fed
 
 // The frame that is the bytes held and those at its end. One that stands whole in a piece is decoded
 // there, and nothing is copied.
-fn frame_with(alloc: Global, held: &mut Vec<u8>, end: &[u8]) -> Result<Frame, FrameFault>
+fn frame_with(alloc: Global, held: &mut Vec<u8>, end: &[u8]) -> Result<BoxedFrame, FrameFault>
     ensures reads { DecodesWith held.old.items end.now result held.new.items }
     ensures spelled { IfOk result (λ frame. Spells (held.old.items ++ end.now) frame) }
 {
     if held.is_empty() {
-        return decode(alloc, end);
+        return decode_boxed(alloc, end);
     }
     let before = held.len();
     hold(held, end)?;
-    match decode(alloc, held) {
+    match decode_boxed(alloc, held) {
         Err(FrameFault::Memory) => {
             held.truncate(before);
             Err(FrameFault::Memory)
@@ -141,7 +141,7 @@ impl Decoder {
     /// of them, where it isn't whole yet. What wasn't taken belongs to the next frame: it is fed again.
     ///
     /// Refused:
-    /// - `Memory`: room for the bytes or for the frame's entries was refused. Nothing was taken, and the
+    /// - `Memory`: room for the bytes, for the frame or for its entries was refused. Nothing was taken, and the
     ///   same piece may be fed again;
     /// - any fault of [`decode`] but `Truncated`, as soon as the byte is there at which it is known: that
     ///   of a field of the header with the field's last byte, that of the body with the body's last byte.

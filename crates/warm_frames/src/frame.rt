@@ -1,5 +1,5 @@
 //! Frames, and their spelling.
-ghost use Rattle.std.specs.Prelude.{◌≡◌, IfOk};
+ghost use Rattle.std.specs.Prelude.{◌≡◌, ◌⊎◌, IfOk, Err};
 ghost use Rattle.warm_frames.specs.Spelling.{spelling, Spells};
 ghost use Rattle.warm_frames.specs.Reading.{Gives, FindsSpelled, read_frame, room_of};
 
@@ -9,6 +9,7 @@ use crate::reading::frame_in;
 use crate::sums::SumTable;
 use crate::writing::{digest_text, entries_text, want_text};
 use std::alloc::{AllocError, Global};
+use std::marker::Model;
 use warm_stamps::{Items, ReplicaId};
 
 /// What one replica sends another.
@@ -79,4 +80,47 @@ pub fn decode(alloc: Global, bytes: &[u8]) -> Result<Frame, FrameFault>
     ensures first { Gives result (read_frame bytes.now) (room_of bytes.now) }
 {
     frame_in(alloc, bytes)
+}
+
+/// A frame in memory of its own: a pointer, where a [`Frame`] has room for a table of sums, which is
+/// some 2,080 bytes. Contracts see the frame.
+#[derive(Debug, Drop)]
+pub struct BoxedFrame {
+    frame: Box<Frame>,
+}
+
+impl Model for BoxedFrame {
+    ghost use Rattle.warm_frames.specs.declared.frame.Frame.{Frame};
+
+    ghost Value = { Frame };
+
+    ghost view = { λ boxed. boxed.frame.value };
+}
+
+impl BoxedFrame {
+    /// The frame. Takes no memory.
+    pub fn as_frame(&self) -> &Frame
+        ensures { result.now ≡ self.now }
+    {
+        &self.frame
+    }
+
+    /// The frame. Takes no memory, and gives back that of the box.
+    pub fn into_frame(self) -> Frame
+        ensures { result ≡ self }
+    {
+        Box::into_inner(self.frame)
+    }
+}
+
+/// As [`decode`], but that want of memory for the box is `Memory` too.
+pub(crate) fn decode_boxed(alloc: Global, bytes: &[u8]) -> Result<BoxedFrame, FrameFault>
+    ensures found { IfOk result (λ frame. Spells bytes.now frame) }
+    ensures reads { (result ≡ read_frame bytes.now) ⊎ (result ≡ Err FrameFault.Memory) }
+{
+    let frame = decode(alloc, bytes)?;
+    match Box::new(alloc, frame) {
+        Ok(frame) => Ok(BoxedFrame { frame }),
+        Err(_) => Err(FrameFault::Memory),
+    }
 }

@@ -22,6 +22,6 @@ mod writing;
 pub use decoder::{Decoder, Fed};
 pub use entries::{EntryList, MAX_ENTRIES};
 pub use fault::FrameFault;
-pub use frame::{Frame, FrameList, decode, encode};
+pub use frame::{BoxedFrame, Frame, FrameList, decode, encode};
 pub use sums::{SUM_SIZE, SumTable};
 pub use writing::{MAX_ENTRY_SIZE, put_entry};

@@ -43,7 +43,7 @@ fn feed_all(
         let fed = fed(decoder, rest)?;
         rest = rest.get(fed.taken..).ok_or("took too much")?;
         if let Some(frame) = fed.frame {
-            put(text, &encoded(alloc, &frame)?)?;
+            put(text, &encoded(alloc, frame.as_frame())?)?;
         }
     }
     Ok(())
@@ -109,7 +109,10 @@ fn a_frame_and_a_byte(rt: HostRuntime) -> Result<(), Fail> {
     let whole = fed(&mut decoder, &bytes)?;
     assert_eq!(rt; whole.taken, 42);
     let frame = whole.frame.ok_or("no frame")?;
-    assert_eq!(rt; encoded(rt.alloc(), &frame)?.as_slice(), TWICE.as_slice());
+    assert_eq!(rt;
+        encoded(rt.alloc(), frame.as_frame())?.as_slice(),
+        TWICE.as_slice()
+    );
 
     let begun = fed(&mut decoder, &[0x4D])?;
     assert_eq!(rt; (begun.taken, begun.frame.is_none()), (1, true));
@@ -298,7 +301,10 @@ fn damaged_frames_against_decode(rt: HostRuntime) -> Result<(), Fail> {
             (Some((len, Ok(want))), Ok(fed)) => {
                 assert_eq!(rt; before.wrapping_add(fed.taken), len);
                 let frame = fed.frame.ok_or("no frame")?;
-                assert_eq!(rt; encoded(rt.alloc(), &frame)?, encoded(rt.alloc(), &want)?);
+                assert_eq!(rt;
+                    encoded(rt.alloc(), frame.as_frame())?,
+                    encoded(rt.alloc(), &want)?
+                );
             }
             (Some((_, Err(want))), Err(fault)) => assert_eq!(rt; fault, want),
             _ => return Err("another answer".into()),
