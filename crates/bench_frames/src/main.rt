@@ -139,8 +139,8 @@ fn entries_in(frame: Option<BoxedFrame>) -> u64 {
     }
 }
 
-// Feeds all of a piece, and counts the entries of the frames that end in it.
-fn feed_all(decoder: &mut Decoder, piece: &[u8]) -> Result<u64> {
+// Feeds all of a piece, and counts the entries of the frames that end in it. `None` at a fault.
+fn feed_all(decoder: &mut Decoder, piece: &[u8]) -> Option<u64> {
     let mut count = 0u64;
     let mut rest = piece;
     for _ in 0..=piece.len() {
@@ -148,16 +148,16 @@ fn feed_all(decoder: &mut Decoder, piece: &[u8]) -> Result<u64> {
             break;
         }
         let Ok(Fed { taken, frame }) = decoder.feed(rest) else {
-            bail!("the stream is one of frames")
+            return None;
         };
         count = count.wrapping_add(entries_in(frame));
-        rest = rest.get(taken..).context("no more was taken")?;
+        rest = rest.get(taken..)?;
     }
-    Ok(count)
+    Some(count)
 }
 
 // How many entries a stream has that comes in pieces of so many bytes.
-fn feed_in_pieces(alloc: Global, stream: &[u8], size: usize) -> Result<u64>
+fn feed_in_pieces(alloc: Global, stream: &[u8], size: usize) -> Option<u64>
     requires { 0 < size }
 {
     let mut decoder = Decoder::new(alloc);
@@ -165,35 +165,32 @@ fn feed_in_pieces(alloc: Global, stream: &[u8], size: usize) -> Result<u64>
     for piece in stream.chunks(size) {
         count = count.wrapping_add(feed_all(&mut decoder, piece)?);
     }
-    Ok(count)
+    Some(count)
 }
 
-fn main(rt: HostRuntime) -> Result<()> {
-    let asked = env::args(&rt)?.nth(1);
-    let rounds = match &asked {
-        None => 1,
-        Some(word) => word.parse::<u64>().context("how often each is done")?,
-    };
+// Encodes and decodes a full frame, and sums a history: so often, and says what came out. Gives the frame's bytes.
+fn time_whole(rt: &HostRuntime, rounds: Option<u64>) -> Result<Vec<u8>> {
     let Ok(sender) = ReplicaId::new(1) else {
         bail!("1 is a replica")
     };
     let frame = full_frame(rt.alloc(), sender)?;
     let history = history_of(rt.alloc(), sender, MANY, 1)?;
+    let often = rounds.unwrap_or(1);
 
-    let start = Instant::now(&rt)?;
-    let bytes = encode_often(rt.alloc(), &frame, rounds)?;
-    let encoding = start.elapsed(&rt)?;
-    let start = Instant::now(&rt)?;
-    let count = decode_often(rt.alloc(), &bytes, rounds)?;
-    let decoding = start.elapsed(&rt)?;
-    let start = Instant::now(&rt)?;
-    let first = sum_often(rt.alloc(), &history, rounds)?;
-    let summing = start.elapsed(&rt)?;
+    let start = Instant::now(rt)?;
+    let bytes = encode_often(rt.alloc(), &frame, often)?;
+    let encoding = start.elapsed(rt)?;
+    let start = Instant::now(rt)?;
+    let count = decode_often(rt.alloc(), &bytes, often)?;
+    let decoding = start.elapsed(rt)?;
+    let start = Instant::now(rt)?;
+    let first = sum_often(rt.alloc(), &history, often)?;
+    let summing = start.elapsed(rt)?;
 
     println!(rt; "encode: {} bytes {}", bytes.len(), check_sum(&bytes))?;
     println!(rt; "decode: {} entries", count)?;
     println!(rt; "sums: {}", check_sum(&first))?;
-    if asked.is_some() {
+    if rounds.is_some() {
         println!(rt;
             "{} {} {} ns",
             encoding.as_nanos(),
@@ -201,16 +198,30 @@ fn main(rt: HostRuntime) -> Result<()> {
             summing.as_nanos()
         )?;
     }
-    let frames = if asked.is_some() { STREAM } else { 1 };
-    let stream = stream_of(rt.alloc(), &bytes, frames)?;
+    Ok(bytes)
+}
+
+// Decodes a stream of frames with these bytes, in pieces of each size, and says what came out.
+fn time_pieces(rt: &HostRuntime, bytes: &[u8], timed: bool) -> Result<()> {
+    let frames = if timed { STREAM } else { 1 };
+    let stream = stream_of(rt.alloc(), bytes, frames)?;
     for size in PIECES {
-        let start = Instant::now(&rt)?;
-        let count = feed_in_pieces(rt.alloc(), &stream, size)?;
-        let feeding = start.elapsed(&rt)?;
+        let start = Instant::now(rt)?;
+        let count = feed_in_pieces(rt.alloc(), &stream, size).context("a stream of frames")?;
+        let feeding = start.elapsed(rt)?;
         println!(rt; "in pieces of {}: {} entries", size, count)?;
-        if asked.is_some() {
+        if timed {
             println!(rt; "{} ns", feeding.as_nanos())?;
         }
     }
     Ok(())
+}
+
+fn main(rt: HostRuntime) -> Result<()> {
+    let rounds = match env::args(&rt)?.nth(1) {
+        None => None,
+        Some(word) => Some(word.parse::<u64>().context("how often each is done")?),
+    };
+    let bytes = time_whole(&rt, rounds)?;
+    time_pieces(&rt, &bytes, rounds.is_some())
 }
