@@ -5,7 +5,8 @@ ghost use Rattle.warm_frames.specs.Faults.{fault_code, fault_name};
 /// Why bytes were not decoded.
 #[derive(Clone, Copy, Debug, PartialEq, Eq)]
 pub enum FrameFault {
-    /// 1: there was no memory for the entries.
+    /// 1: there was no memory for the entries; of a [`crate::Decoder`] also for the bytes that it
+    /// holds, or for the frame that it gives.
     Memory,
     /// 2: the bytes end inside the header or the body.
     Truncated,
@@ -31,7 +32,7 @@ pub enum FrameFault {
 }
 
 impl FrameFault {
-    /// The number of the refusal, 1 to 10.
+    /// The number of the refusal, 1 to 11.
     pub fn code(self) -> u8
         ensures { result ≡ fault_code self }
     {

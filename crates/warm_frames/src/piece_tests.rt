@@ -6,7 +6,8 @@ use crate::decoder::{Decoder, Fed};
 use crate::entries::EntryList;
 use crate::fault::FrameFault;
 use crate::frame::{Frame, decode};
-use crate::tests::{TWICE, encoded};
+use crate::sums::{SUM_SIZE, SumTable};
+use crate::tests::{TWICE, decoded, encoded};
 use std::alloc::Global;
 use std::test::Fail;
 use warm_history::{Entry, PageHist, Two};
@@ -28,6 +29,43 @@ fn put(text: &mut Vec<u8>, bytes: &[u8]) -> Result<(), Fail> {
     Ok(())
 }
 
+// Whether two frames have the same fields.
+fn same(left: &Frame, right: &Frame) -> bool {
+    match (left, right) {
+        (
+            Frame::Entries { sender, entries },
+            Frame::Entries {
+                sender: other,
+                entries: more,
+            },
+        ) => sender == other && entries.as_slice() == more.as_slice(),
+        (
+            Frame::Digest { sender, sums },
+            Frame::Digest {
+                sender: other,
+                sums: more,
+            },
+        ) => sender == other && sums == more,
+        (
+            Frame::Want { sender, mask },
+            Frame::Want {
+                sender: other,
+                mask: more,
+            },
+        ) => sender == other && mask == more,
+        _ => false,
+    }
+}
+
+// Puts the spelling of a frame, which `decode` has to give of it, behind the text.
+fn put_frame(alloc: Global, frame: &Frame, text: &mut Vec<u8>) -> Result<(), Fail> {
+    let bytes = encoded(alloc, frame)?;
+    if !same(frame, &decoded(alloc, &bytes)?) {
+        return Err("decode gives another frame".into());
+    }
+    put(text, &bytes)
+}
+
 // Feeds all of a piece, and puts the spellings of the frames that it gives behind the text.
 fn feed_all(
     alloc: Global,
@@ -43,7 +81,7 @@ fn feed_all(
         let fed = fed(decoder, rest)?;
         rest = rest.get(fed.taken..).ok_or("took too much")?;
         if let Some(frame) = fed.frame {
-            put(text, &encoded(alloc, frame.as_frame())?)?;
+            put_frame(alloc, frame.as_frame(), text)?;
         }
     }
     Ok(())
@@ -205,37 +243,59 @@ fn stamp(numbers: &mut Numbers) -> Result<Stamp, Fail> {
     })
 }
 
-// A frame of up to four entries, whose pages are so far apart, or a wish.
-fn any_frame(alloc: Global, numbers: &mut Numbers) -> Result<Frame, Fail> {
-    let sender = ReplicaId::new(1 + (numbers.next() % 64) as u16)?;
-    let count = (numbers.next() % 6) as u32;
-    if count == 5 {
-        return Ok(Frame::Want {
-            sender,
-            mask: numbers.next(),
-        });
-    }
-    let mut entries = match Vec::with_capacity(alloc, count as usize) {
+// So many entries, whose pages are up to nine apart.
+fn any_entries(alloc: Global, numbers: &mut Numbers, count: usize) -> Result<EntryList, Fail> {
+    let mut entries = match Vec::with_capacity(alloc, count) {
         Ok(entries) => entries,
-        Err(_) => Vec::with_capacity(alloc, count as usize)?,
+        Err(_) => Vec::with_capacity(alloc, count)?,
     };
-    for no in 0..count {
+    let mut no = 0u32;
+    for _ in 0..count {
+        no = no.wrapping_add(1 + (numbers.next() % 9) as u32);
         let (last, prev) = (stamp(numbers)?, stamp(numbers)?);
-        let page = PageId {
-            dev: 7,
-            no: no.wrapping_mul(1 + (numbers.next() % 9) as u32),
-        };
         let hist = if prev < last {
             PageHist::Twice(Two::new(last, prev))
         } else {
             PageHist::Once(last)
         };
+        let page = PageId { dev: 7, no };
         entries.push(Entry { page, hist })?;
     }
-    match EntryList::of(entries) {
-        Ok(entries) => Ok(Frame::Entries { sender, entries }),
-        Err(_) => Ok(Frame::Want { sender, mask: 0 }),
+    let Ok(entries) = EntryList::of(entries) else {
+        return Err("the pages rise".into());
+    };
+    Ok(entries)
+}
+
+// A table of sums of any bytes.
+fn any_sums(numbers: &mut Numbers) -> SumTable {
+    let mut sums = [[0; SUM_SIZE]; 64];
+    for bucket in 0..64 {
+        for at in 0..SUM_SIZE {
+            sums[bucket][at] = (numbers.next() % 256) as u8;
+        }
     }
+    SumTable::of(sums)
+}
+
+// A frame of up to four entries, a wish, or a table of sums.
+fn any_frame(alloc: Global, numbers: &mut Numbers) -> Result<Frame, Fail> {
+    let sender = ReplicaId::new(1 + (numbers.next() % 64) as u16)?;
+    let frame = match numbers.below(7) {
+        5 => Frame::Want {
+            sender,
+            mask: numbers.next() << 33 | numbers.next(),
+        },
+        6 => Frame::Digest {
+            sender,
+            sums: any_sums(numbers),
+        },
+        count => Frame::Entries {
+            sender,
+            entries: any_entries(alloc, numbers, count)?,
+        },
+    };
+    Ok(frame)
 }
 
 #[test]
@@ -301,10 +361,7 @@ fn damaged_frames_against_decode(rt: HostRuntime) -> Result<(), Fail> {
             (Some((len, Ok(want))), Ok(fed)) => {
                 assert_eq!(rt; before.wrapping_add(fed.taken), len);
                 let frame = fed.frame.ok_or("no frame")?;
-                assert_eq!(rt;
-                    encoded(rt.alloc(), frame.as_frame())?,
-                    encoded(rt.alloc(), &want)?
-                );
+                assert!(rt; same(frame.as_frame(), &want));
             }
             (Some((_, Err(want))), Err(fault)) => assert_eq!(rt; fault, want),
             _ => return Err("another answer".into()),

@@ -46,7 +46,7 @@ fn once(no: u32) -> Result<Entry, Fail> {
 }
 
 // Decodes; where memory is refused, once more.
-fn decoded(alloc: Global, bytes: &[u8]) -> Result<Frame, FrameFault> {
+pub(crate) fn decoded(alloc: Global, bytes: &[u8]) -> Result<Frame, FrameFault> {
     match decode(alloc, bytes) {
         Err(FrameFault::Memory) => decode(alloc, bytes),
         answer => answer,
