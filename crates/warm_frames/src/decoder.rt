@@ -141,8 +141,8 @@ impl Decoder {
     /// of them, where it isn't whole yet. What wasn't taken belongs to the next frame: it is fed again.
     ///
     /// Refused:
-    /// - `Memory`: room for the bytes, for the frame or for its entries was refused. Nothing was taken, and the
-    ///   same piece may be fed again;
+    /// - `Memory`: room for the bytes, for the frame or for its entries was refused. Nothing was taken,
+    ///   and the same piece may be fed again;
     /// - any fault of [`decode`] but `Truncated`, as soon as the byte is there at which it is known: that
     ///   of a field of the header with the field's last byte, that of the body with the body's last byte.
     ///   No frame's spelling begins with the bytes up to there;
