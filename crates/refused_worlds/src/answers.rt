@@ -1,0 +1,36 @@
+//! What a world answers, compared.
+use warm_gossip::NodeFault;
+use warm_history::History;
+use warm_world::{Answer, WorldFault};
+
+// Whether an event was refused for memory.
+pub(crate) fn is_memory(answer: &Answer) -> bool {
+    matches!(answer, Answer::Refused(WorldFault::Node(NodeFault::Memory)))
+}
+
+fn is_same_history(left: &History, right: &History) -> bool {
+    left.len() == right.len() && (0..left.len()).all(|place| left.at(place) == right.at(place))
+}
+
+// Whether two answers say the same.
+pub(crate) fn is_same(left: &Answer, right: &Answer) -> bool {
+    match (left, right) {
+        (Answer::Done, Answer::Done) => true,
+        (Answer::Shown(left), Answer::Shown(right)) => is_same_history(left, right),
+        (Answer::FrameNo(left), Answer::FrameNo(right)) => left == right,
+        (
+            Answer::Took { count, first },
+            Answer::Took {
+                count: others,
+                first: other,
+            },
+        ) => count == others && first == other,
+        (Answer::Pinned(left), Answer::Pinned(right)) => left == right,
+        (Answer::Bytes(left), Answer::Bytes(right)) => left.as_slice() == right.as_slice(),
+        (Answer::Page(left), Answer::Page(right)) => left == right,
+        (Answer::Pages(left), Answer::Pages(right)) => left.as_slice() == right.as_slice(),
+        (Answer::Loaded(left), Answer::Loaded(right)) => left == right,
+        (Answer::Refused(left), Answer::Refused(right)) => left == right,
+        _ => false,
+    }
+}

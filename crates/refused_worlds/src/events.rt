@@ -1,0 +1,96 @@
+//! Events of each kind, that none refuses but for memory.
+use crate::met::Ended;
+use std::alloc::Global;
+use warm_pool::Slot;
+use warm_stamps::{Bucket, ByteList, PageId};
+use warm_world::Event;
+
+// How many events there are. Replica 1 tells 2 of its pages, and 2 tells it of its own.
+pub(crate) const EVENTS: usize = 26;
+
+fn page(no: u32) -> PageId {
+    PageId { dev: 0, no }
+}
+
+// Where 0:7 is at replica 1: no page was in a frame before it.
+const FIRST: Slot = Slot {
+    index: 0,
+    generation: 1,
+};
+
+// Whether what is said of the events of a place says that these take no memory: of a `Refer` into a buffer that has room.
+pub(crate) fn is_free(place: usize) -> bool {
+    matches!(place, 0 | 1 | 7 | 14 | 15 | 17 | 18 | 22)
+}
+
+fn first_bucket() -> Result<Bucket, Ended> {
+    match Bucket::new(1) {
+        Some(bucket) => Ok(bucket),
+        None => Err(Ended::Broken),
+    }
+}
+
+fn put(alloc: Global) -> Result<Event, Ended> {
+    let mut bytes = Vec::new(alloc);
+    bytes.extend_from_slice(b"warm")?;
+    Ok(Event::Put(1, FIRST, 2, ByteList::of(bytes)))
+}
+
+// The events of replicas that come to know pages.
+fn gossip_at(place: usize) -> Result<Event, Ended> {
+    Ok(match place {
+        0 => Event::Refer(1, 1, page(1), 10),
+        1 => Event::Refer(1, 1, page(65), 20),
+        // over a full buffer of two
+        2 => Event::Refer(1, 1, page(2), 30),
+        3 => Event::Flush(1, 1),
+        4 => Event::Send(1, first_bucket()?, None),
+        5 => Event::Offer(1),
+        6 => Event::Deliver(2, 1),
+        7 => Event::Refer(2, 1, page(3), 40),
+        8 => Event::Flush(2, 1),
+        // sums, answered by what differs and by a wish
+        9 => Event::Deliver(2, 2),
+        10 => Event::Deliver(1, 3),
+        11 => Event::Deliver(1, 4),
+        12 => Event::Deliver(2, 5),
+        _ => Event::Show(1),
+    })
+}
+
+// Those of a replica's pool.
+fn pool_at(alloc: Global, place: usize) -> Result<Event, Ended> {
+    Ok(match place {
+        14 => Event::Pin(1, page(7)),
+        15 => put(alloc)?,
+        16 => Event::Get(1, FIRST, 0, 6),
+        17 => Event::Unpin(1, FIRST),
+        18 => Event::Victim(1),
+        19 => Event::Warm(2, 2),
+        20 => Event::WarmStep(2),
+        21 => Event::Show(2),
+        22 => Event::Restart(1),
+        23 => Event::Show(1),
+        24 => Event::Offer(1),
+        _ => Event::Deliver(2, 6),
+    })
+}
+
+// The event of a place.
+pub(crate) fn event_at(alloc: Global, place: usize) -> Result<Event, Ended> {
+    if place < 14 {
+        return gossip_at(place);
+    }
+    pool_at(alloc, place)
+}
+
+// All events, in their order.
+pub(crate) fn all_events(alloc: Global) -> Result<Vec<Event>, Ended> {
+    let mut events = Vec::new(alloc);
+    for place in 0..EVENTS {
+        let Ok(()) = events.push(event_at(alloc, place)?) else {
+            return Err(Ended::NoRoom);
+        };
+    }
+    Ok(events)
+}

@@ -1,0 +1,367 @@
+//! Worlds of two replicas, made, stepped and run. What was refused is compared with a world that was never refused: one growth alone
+//! is refused, so that a world that is made after it is one.
+ghost use Rattle.std.specs.Prelude.{◌≡◌, IfOk, IfSome, length};
+ghost use Rattle.warm_world.specs.Opening.{AreFew};
+ghost use Rattle.warm_world.specs.Seen.{IsWorld, listed};
+
+use crate::answers::{is_memory, is_same};
+use crate::events::{EVENTS, all_events, event_at, is_free};
+use crate::met::{Ended, Met};
+use std::alloc::Global;
+use std::marker::PhantomData;
+use warm_devices::{MemDevice, PageDevice};
+use warm_world::{Answer, BadWorld, Event, Setup, World};
+
+// A world.
+#[derive(Drop)]
+struct Lived {
+    world: World,
+    // What holds of every boxed device is known where a type names the box.
+    boxes: PhantomData<Box<dyn PageDevice + Send>>,
+}
+
+// A device of 80 pages.
+fn device(alloc: Global) -> Result<Box<MemDevice>, Ended> {
+    let Ok(device) = Box::new(alloc, MemDevice::new(alloc, 80, 16)?) else {
+        return Err(Ended::NoRoom);
+    };
+    Ok(device)
+}
+
+// A list of one device.
+fn list_of(
+    alloc: Global,
+    device: Box<dyn PageDevice + Send>,
+) -> Result<Vec<Box<dyn PageDevice + Send>>, Ended>
+    ensures { IfOk result (λ list. length list.items ≡ 1) }
+{
+    let mut list = Vec::with_capacity(alloc, 1)?;
+    list.push_reserved(device);
+    Ok(list)
+}
+
+// A device for each of two replicas.
+fn lists_of(
+    alloc: Global,
+    first: Box<dyn PageDevice + Send>,
+    second: Box<dyn PageDevice + Send>,
+) -> Result<Vec<Vec<Box<dyn PageDevice + Send>>>, Ended>
+    ensures { IfOk result (λ lists. AreFew (listed state lists.items)) }
+{
+    let first = list_of(alloc, first)?;
+    let second = list_of(alloc, second)?;
+    let mut lists = Vec::with_capacity(alloc, 2)?;
+    lists.push_reserved(first);
+    lists.push_reserved(second);
+    Ok(lists)
+}
+
+// A world of two replicas with a buffer of two and two frames each, or none where it is refused for memory.
+fn over(
+    met: &mut Met,
+    alloc: Global,
+    first: Box<dyn PageDevice + Send>,
+    second: Box<dyn PageDevice + Send>,
+) -> Result<Option<Lived>, Ended>
+    ensures { IfOk result (λ made. IfSome made (λ lived. IsWorld state lived.world)) }
+{
+    let Ok(setup) = Setup::new(2, 1, 2, 2, 16) else {
+        return Err(met.broken("the setup is within its limits"));
+    };
+    match World::new(alloc, setup, lists_of(alloc, first, second)?) {
+        Ok(world) => Ok(Some(Lived {
+            world,
+            boxes: PhantomData,
+        })),
+        Err(fault) => {
+            met.refuse(fault == BadWorld::Memory, "the devices fit")?;
+            Ok(None)
+        }
+    }
+}
+
+// What a world shows without a change.
+fn look_at(place: usize) -> Event {
+    match place {
+        0 => Event::Show(1),
+        1 => Event::Show(2),
+        2 => Event::Warm(1, 9),
+        3 => Event::Victim(1),
+        _ => Event::Victim(2),
+    }
+}
+
+// Whether two worlds show the same.
+fn look_same(world: &mut Lived, other: &mut Lived) -> bool
+    requires first { IsWorld state world.old.world }
+    requires second { IsWorld state other.old.world }
+    ensures first { IsWorld state world.new.world }
+    ensures second { IsWorld state other.new.world }
+{
+    let mut same = true;
+    for place in 0..5usize {
+        let seen = world.world.step(look_at(place));
+        let others = other.world.step(look_at(place));
+        same = same && is_same(&seen, &others);
+    }
+    same
+}
+
+// Steps a world up to the first of these events that is refused, and gives its place.
+fn step_up_to(
+    met: &mut Met,
+    alloc: Global,
+    world: &mut Lived,
+    end: usize,
+) -> Result<Option<usize>, Ended>
+    requires { IsWorld state world.old.world }
+    ensures { IsWorld state world.new.world }
+{
+    for place in 0..end {
+        let answer = world.world.step(event_at(alloc, place)?);
+        if is_memory(&answer) {
+            met.holds(!is_free(place), "an event that takes no memory is refused")?;
+            return Ok(Some(place));
+        }
+    }
+    Ok(None)
+}
+
+// Both worlds answer an event, and alike.
+fn step_both(
+    met: &mut Met,
+    alloc: Global,
+    world: &mut Lived,
+    twin: &mut Lived,
+    place: usize,
+) -> Result<(), Ended>
+    requires first { IsWorld state world.old.world }
+    requires second { IsWorld state twin.old.world }
+    ensures first { IsWorld state world.new.world }
+    ensures second { IsWorld state twin.new.world }
+{
+    let answer = world.world.step(event_at(alloc, place)?);
+    met.holds(!is_memory(&answer), "an event is refused again")?;
+    let others = twin.world.step(event_at(alloc, place)?);
+    met.holds(is_same(&answer, &others), "an event is answered otherwise")
+}
+
+// A world of which the event of a place was refused, and one that is stepped up to it: both go on.
+fn go_on(
+    met: &mut Met,
+    alloc: Global,
+    world: &mut Lived,
+    twin: &mut Lived,
+    refused: usize,
+) -> Result<(), Ended>
+    requires first { IsWorld state world.old.world }
+    requires second { IsWorld state twin.old.world }
+    ensures first { IsWorld state world.new.world }
+    ensures second { IsWorld state twin.new.world }
+{
+    let stopped = step_up_to(met, alloc, twin, refused)?;
+    met.holds(stopped.is_none(), "an event of another world is refused")?;
+    met.refuse(look_same(world, twin), "a refused event changes nothing")?;
+    for place in refused..EVENTS {
+        step_both(met, alloc, world, twin, place)?;
+    }
+    Ok(())
+}
+
+// Steps a world by the event of a place, which a run answered; one that the run refused is left out.
+fn step_as(
+    met: &mut Met,
+    alloc: Global,
+    twin: &mut Lived,
+    place: usize,
+    answer: &Answer,
+) -> Result<(), Ended>
+    requires { IsWorld state twin.old.world }
+    ensures { IsWorld state twin.new.world }
+{
+    if is_memory(answer) {
+        return met.refuse(!is_free(place), "an event that takes no memory is refused");
+    }
+    let other = twin.world.step(event_at(alloc, place)?);
+    met.holds(is_same(answer, &other), "a run answers otherwise")
+}
+
+// Steps a world by each event that a run answered, and gives the place of the one that the run refused.
+fn step_along(
+    met: &mut Met,
+    alloc: Global,
+    twin: &mut Lived,
+    answers: &[Answer],
+) -> Result<Option<usize>, Ended>
+    requires { IsWorld state twin.old.world }
+    ensures { IsWorld state twin.new.world }
+{
+    let mut refused = None;
+    for place in 0..answers.len() {
+        step_as(met, alloc, twin, place, &answers[place])?;
+        if is_memory(&answers[place]) {
+            refused = Some(place);
+        }
+    }
+    Ok(refused)
+}
+
+// A world that was run, and one that is stepped along. What the run refused, both are asked for at the end.
+fn go_along(
+    met: &mut Met,
+    alloc: Global,
+    world: &mut Lived,
+    twin: &mut Lived,
+    answers: &[Answer],
+) -> Result<(), Ended>
+    requires first { IsWorld state world.old.world }
+    requires second { IsWorld state twin.old.world }
+    ensures first { IsWorld state world.new.world }
+    ensures second { IsWorld state twin.new.world }
+{
+    let refused = step_along(met, alloc, twin, answers)?;
+    met.holds(look_same(world, twin), "a run leaves something else")?;
+    match refused {
+        Some(place) => step_both(met, alloc, world, twin, place),
+        None => Ok(()),
+    }
+}
+
+// What a world was refused.
+#[derive(Drop)]
+enum Refusal {
+    // The event of a place.
+    Event(usize),
+    // A run: its events came back.
+    Run(Vec<Event>),
+    // An event of a run, which answered so.
+    EventOfRun(Vec<Answer>),
+}
+
+// Steps a world through all events, up to one that is refused.
+fn step_all(met: &mut Met, alloc: Global, world: &mut Lived) -> Result<Option<Refusal>, Ended>
+    requires { IsWorld state world.old.world }
+    ensures { IsWorld state world.new.world }
+{
+    match step_up_to(met, alloc, world, EVENTS)? {
+        Some(place) => Ok(Some(Refusal::Event(place))),
+        None => Ok(None),
+    }
+}
+
+// Runs a world through all events.
+fn run_all(met: &mut Met, alloc: Global, world: &mut Lived) -> Result<Option<Refusal>, Ended>
+    requires { IsWorld state world.old.world }
+    ensures { IsWorld state world.new.world }
+{
+    let answers = match world.world.run(all_events(alloc)?) {
+        Ok(answers) => answers,
+        Err(back) => return Ok(Some(Refusal::Run(back))),
+    };
+    met.holds(answers.len() == EVENTS, "each event is answered")?;
+    if answers.iter().any(is_memory) {
+        return Ok(Some(Refusal::EventOfRun(answers)));
+    }
+    Ok(None)
+}
+
+// A world whose run was refused shows what one shows in which nothing has happened, and runs the events that came back.
+fn run_again(
+    met: &mut Met,
+    alloc: Global,
+    world: &mut Lived,
+    twin: &mut Lived,
+    back: Vec<Event>,
+) -> Result<(), Ended>
+    requires first { IsWorld state world.old.world }
+    requires second { IsWorld state twin.old.world }
+    ensures first { IsWorld state world.new.world }
+    ensures second { IsWorld state twin.new.world }
+{
+    let same = look_same(world, twin);
+    met.refuse(same && back.len() == EVENTS, "a refused run does something")?;
+    let Ok(answers) = world.world.run(back) else {
+        return Err(met.broken("a run is refused again"));
+    };
+    met.holds(answers.len() == EVENTS, "each event is answered again")?;
+    go_along(met, alloc, world, twin, &answers)
+}
+
+// Goes on with a world beside one that is never refused.
+fn compare(
+    met: &mut Met,
+    alloc: Global,
+    world: &mut Lived,
+    twin: &mut Lived,
+    refusal: Refusal,
+) -> Result<(), Ended>
+    requires first { IsWorld state world.old.world }
+    requires second { IsWorld state twin.old.world }
+    ensures first { IsWorld state world.new.world }
+    ensures second { IsWorld state twin.new.world }
+{
+    match refusal {
+        Refusal::Event(place) => go_on(met, alloc, world, twin, place),
+        Refusal::Run(back) => run_again(met, alloc, world, twin, back),
+        Refusal::EventOfRun(answers) => go_along(met, alloc, world, twin, &answers),
+    }
+}
+
+// How a world comes to its events.
+#[derive(Clone, Copy)]
+enum Life {
+    Steps,
+    Runs,
+}
+
+fn play(
+    met: &mut Met,
+    alloc: Global,
+    world: &mut Lived,
+    life: Life,
+) -> Result<Option<Refusal>, Ended>
+    requires { IsWorld state world.old.world }
+    ensures { IsWorld state world.new.world }
+{
+    match life {
+        Life::Steps => step_all(met, alloc, world),
+        Life::Runs => run_all(met, alloc, world),
+    }
+}
+
+// Finishes a world, which takes no memory.
+fn finish(met: &mut Met, world: &mut Lived) -> Result<bool, Ended>
+    requires { IsWorld state world.old.world }
+{
+    met.holds(world.world.finish().is_ok(), "a finish is refused")?;
+    Ok(true)
+}
+
+// A world that comes to all events, and is finished; or none, where the world is refused.
+fn live(met: &mut Met, alloc: Global, life: Life) -> Result<bool, Ended> {
+    let Some(mut world) = over(met, alloc, device(alloc)?, device(alloc)?)? else {
+        return Ok(false);
+    };
+    let Some(refusal) = play(met, alloc, &mut world, life)? else {
+        return finish(met, &mut world);
+    };
+    let Some(mut twin) = over(met, alloc, device(alloc)?, device(alloc)?)? else {
+        return Err(met.broken("another world is refused"));
+    };
+    compare(met, alloc, &mut world, &mut twin, refusal)?;
+    finish(met, &mut world)
+}
+
+// A world that is refused is asked for once more, over other devices.
+fn row(met: &mut Met, alloc: Global, life: Life) -> Result<(), Ended> {
+    if live(met, alloc, life)? {
+        return Ok(());
+    }
+    let lived = live(met, alloc, life)?;
+    met.holds(lived, "a world is refused again")
+}
+
+pub(crate) fn rows(met: &mut Met, alloc: Global) -> Result<(), Ended> {
+    row(met, alloc, Life::Steps)?;
+    row(met, alloc, Life::Runs)
+}
