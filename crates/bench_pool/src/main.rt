@@ -26,6 +26,9 @@ const FRAMES: u32 = 65_536;
 
 const PAGE_SIZE: usize = 64;
 
+// Some times the memory of a core's own cache.
+const BESIDE: usize = 32 << 20;
+
 /// Which frames hold a page as a pool is emptied.
 #[derive(Clone, Copy, PartialEq, Eq, Debug)]
 enum Held {
@@ -179,18 +182,30 @@ fn opened(
 }
 
 // The sum of what so many visits read, and the time that they took.
+fn visits_of(
+    clock: &impl Clock,
+    pool: &mut Pool,
+    history: &History,
+    visits: u64,
+) -> Result<(u64, Duration)>
+    requires pool { IsPool (⟦<Pool as Pooled>⟧.state pool.old) }
+    requires ranked { RankedBy (⟦<Pool as Pooled>⟧.state pool.old) history.now }
+{
+    let Ok(()) = load_pages(pool, history, 0, FRAMES) else {
+        bail!("a page was not loaded")
+    };
+    let start = Instant::now(clock)?;
+    let Ok(sum) = visit_often(pool, history, visits) else {
+        bail!("a visit was refused")
+    };
+    Ok((sum, start.elapsed(clock)?))
+}
+
 fn visited(clock: &impl Clock, alloc: Global, visits: u64) -> Result<(u64, Duration)> {
     let (first, second) = (device(alloc, FRAMES)?, device(alloc, FRAMES)?);
     let mut pool = opened(alloc, FRAMES, first, second)?;
     let history = History::new(alloc);
-    let Ok(()) = load_pages(&mut pool, &history, 0, FRAMES) else {
-        bail!("a page was not loaded")
-    };
-    let start = Instant::now(clock)?;
-    let Ok(sum) = visit_often(&mut pool, &history, visits) else {
-        bail!("a visit was refused")
-    };
-    Ok((sum, start.elapsed(clock)?))
+    visits_of(clock, &mut pool, &history, visits)
 }
 
 // What is known of so many pages: of each two references, so that ranks rise with the pages.
@@ -234,19 +249,31 @@ fn numbered(alloc: Global, pages: u32) -> Result<Box<MemDevice>> {
 }
 
 // The sum of what so many pins with misses read, and the time that they took.
+fn misses_of(
+    clock: &impl Clock,
+    pool: &mut Pool,
+    history: &History,
+    pages: u32,
+) -> Result<(u64, Duration)>
+    requires pool { IsPool (⟦<Pool as Pooled>⟧.state pool.old) }
+    requires ranked { RankedBy (⟦<Pool as Pooled>⟧.state pool.old) history.now }
+{
+    let Ok(()) = load_apart(pool, history) else {
+        bail!("a page was not loaded")
+    };
+    let start = Instant::now(clock)?;
+    let Ok(sum) = miss_often(pool, history, pages) else {
+        bail!("a pin was refused")
+    };
+    Ok((sum, start.elapsed(clock)?))
+}
+
 fn missed(clock: &impl Clock, alloc: Global, misses: u32) -> Result<(u64, Duration)> {
     let pages = FRAMES.saturating_add(misses);
     let (first, second) = (numbered(alloc, pages)?, device(alloc, 1)?);
     let mut pool = opened(alloc, FRAMES, first, second)?;
     let history = references(alloc, pages)?;
-    let Ok(()) = load_apart(&mut pool, &history) else {
-        bail!("a page was not loaded")
-    };
-    let start = Instant::now(clock)?;
-    let Ok(sum) = miss_often(&mut pool, &history, pages) else {
-        bail!("a pin was refused")
-    };
-    Ok((sum, start.elapsed(clock)?))
+    misses_of(clock, &mut pool, &history, pages)
 }
 
 /// What is timed.
@@ -256,37 +283,25 @@ enum Call {
     Retire,
 }
 
-// A pool of which these frames hold a page: those of the lower half one of device 0, those of the upper half one of device 1. Where the
-// upper half alone holds pages, those of the lower half left as another device took the place of theirs.
-fn filled(
-    alloc: Global,
-    frames: u32,
-    held: Held,
-    first: Box<dyn PageDevice + Send>,
-    second: Box<dyn PageDevice + Send>,
-    another: Box<dyn PageDevice + Send>,
-) -> Result<Pool>
-    ensures { IfOk result (λ pool. IsPool (⟦<Pool as Pooled>⟧.state pool)) }
+// Brings a page of device 0 into each frame of the lower half, and one of device 1 into each of the upper half, as far as these
+// are to hold pages or to have held some.
+fn load_halves(pool: &mut Pool, history: &History, half: u32, held: Held) -> Result<()>
+    requires pool { IsPool (⟦<Pool as Pooled>⟧.state pool.old) }
+    requires ranked { RankedBy (⟦<Pool as Pooled>⟧.state pool.old) history.now }
+    ensures { IsPool (⟦<Pool as Pooled>⟧.state pool.new) }
 {
-    let half = frames / 2;
-    let mut pool = opened(alloc, frames, first, second)?;
-    let history = History::new(alloc);
     let (lower, upper) = match held {
         Held::None => (0, 0),
         Held::LowerHalf => (half, 0),
         Held::UpperHalf | Held::All => (half, half),
     };
-    if load_pages(&mut pool, &history, 0, lower).is_err() {
+    if load_pages(pool, history, 0, lower).is_err() {
         bail!("a page was not loaded")
     }
-    if load_pages(&mut pool, &history, 1, upper).is_err() {
+    if load_pages(pool, history, 1, upper).is_err() {
         bail!("a page was not loaded")
     }
-    if held != Held::UpperHalf {
-        return Ok(pool);
-    }
-    retire(&mut pool, 0, another)?;
-    Ok(pool)
+    Ok(())
 }
 
 // Takes every page out of its frame.
@@ -311,6 +326,55 @@ fn retire(pool: &mut Pool, dev: u16, another: Box<dyn PageDevice + Send>) -> Res
     }
 }
 
+// Writes to so much memory that nothing of a pool is left in a core's own cache: a pool that restarts was not gone over just before, and
+// a small one would else be found there, and a large one not.
+fn write_beside(alloc: Global) -> Result<()> {
+    let beside = Vec::from_elem(alloc, 1u8, BESIDE)?;
+    if beside.first() != Some(&1) {
+        bail!("a byte has another value")
+    }
+    Ok(())
+}
+
+// The time of a call on a pool that is about to be emptied, or whose device is about to be retired.
+fn call_timed(
+    clock: &impl Clock,
+    alloc: Global,
+    pool: &mut Pool,
+    held: Held,
+    call: Call,
+    another: Box<dyn PageDevice + Send>,
+) -> Result<Duration>
+    requires { IsPool (⟦<Pool as Pooled>⟧.state pool.old) }
+{
+    write_beside(alloc)?;
+    let start = Instant::now(clock)?;
+    match call {
+        Call::Empty => empty(pool)?,
+        Call::Retire => retire(pool, held.device(), another)?,
+    }
+    Ok(start.elapsed(clock)?)
+}
+
+// The same, once the frames hold the pages that they are to hold. Where the upper half alone is to hold pages, those of the lower
+// half leave as another device takes the place of theirs.
+fn filled_and_timed(
+    clock: &impl Clock,
+    alloc: Global,
+    pool: &mut Pool,
+    held: Held,
+    call: Call,
+    another: Box<dyn PageDevice + Send>,
+    yet_another: Box<dyn PageDevice + Send>,
+) -> Result<Duration>
+    requires { IsPool (⟦<Pool as Pooled>⟧.state pool.old) }
+{
+    if held == Held::UpperHalf {
+        retire(pool, 0, another)?;
+    }
+    call_timed(clock, alloc, pool, held, call, yet_another)
+}
+
 // The time of a call on a pool of which these frames hold a page.
 fn timed(
     clock: &impl Clock,
@@ -322,13 +386,9 @@ fn timed(
     let half = frames / 2;
     let (first, second) = (device(alloc, half)?, device(alloc, half)?);
     let (another, yet_another) = (device(alloc, half)?, device(alloc, half)?);
-    let mut pool = filled(alloc, frames, held, first, second, another)?;
-    let start = Instant::now(clock)?;
-    match call {
-        Call::Empty => empty(&mut pool)?,
-        Call::Retire => retire(&mut pool, held.device(), yet_another)?,
-    }
-    Ok(start.elapsed(clock)?)
+    let mut pool = opened(alloc, frames, first, second)?;
+    load_halves(&mut pool, &History::new(alloc), half, held)?;
+    filled_and_timed(clock, alloc, &mut pool, held, call, another, yet_another)
 }
 
 // Does a little of all that is measured.

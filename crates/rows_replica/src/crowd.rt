@@ -64,7 +64,8 @@ impl Machine for Tally {
 
     ghost is_fit = { λ _. Unit {0} };
 
-    ghost goes = { λ _ call reply _. (batch : List Reference) → call ≡ Absorb batch → reply ≡ Done };
+    ghost goes = { λ _ call reply _.
+        (batch : List Reference) → call ≡ Absorb batch → reply ≡ Done };
 
     fn call(&mut self, call: Call) -> Reply {
         if let Call::Absorb(_) = call {

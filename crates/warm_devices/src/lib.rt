@@ -23,6 +23,3 @@ pub use memory::MemDevice;
 
 /// The most bytes of a page that a pool takes, or that a failed write fills.
 pub const MAX_PAGE_SIZE: usize = 65_536;
-
-#[cfg(test)]
-mod tests;

@@ -48,6 +48,3 @@ pub fn differing(left: &SumTable, right: &SumTable) -> u64
     }
     mask
 }
-
-#[cfg(test)]
-mod tests;

@@ -30,6 +30,3 @@ pub use slot::Slot;
 
 /// The most devices of a pool: a page names its device in 16 bits.
 pub const MAX_DEVICES: usize = 65_536;
-
-#[cfg(test)]
-mod tests;

@@ -1,9 +1,12 @@
-use super::*;
-use std::alloc::Global;
+//! Sums of buckets, taken anew and kept.
+
+use std::alloc::{AllocError, Global};
 use std::process::Abort;
 use std::test::Fail;
-use warm_history::Entry;
-use warm_stamps::{PageId, Reference, ReplicaId, Stamp};
+use warm_digest::{SummedHistory, Sums, differing, sums};
+use warm_frames::SumTable;
+use warm_history::{Entry, History};
+use warm_stamps::{Bucket, PageId, Reference, ReplicaId, Stamp};
 
 // SHA-256 of no bytes.
 const OF_NOTHING: [u8; 32] = [
@@ -112,6 +115,22 @@ const RENEWALS: [Renewal; 5] = [
     },
 ];
 
+// Sums of nothing are renewed as the row says.
+fn renews(
+    rt: &impl Abort,
+    kept: &mut Sums,
+    history: &History,
+    nothing: &History,
+    row: Renewal,
+) -> Result<(), AllocError> {
+    kept.renew(history, row.mask)?;
+    has_sums(rt, &kept.table(), row.grown.0, row.grown.1);
+    kept.renew(history, u64::MAX)?;
+    kept.renew(nothing, row.mask)?;
+    has_sums(rt, &kept.table(), row.forgotten.0, row.forgotten.1);
+    Ok(())
+}
+
 #[test]
 fn the_buckets_of_the_mask_are_renewed(rt: HostRuntime) -> Result<(), Fail> {
     let nothing = History::new(rt.alloc());
@@ -119,11 +138,7 @@ fn the_buckets_of_the_mask_are_renewed(rt: HostRuntime) -> Result<(), Fail> {
     history.absorb(four_pages()?.as_slice())?;
     for row in RENEWALS {
         let mut kept = Sums::new(rt.alloc());
-        kept.renew(&history, row.mask)?;
-        has_sums(&rt, &kept.table(), row.grown.0, row.grown.1);
-        kept.renew(&history, u64::MAX)?;
-        kept.renew(&nothing, row.mask)?;
-        has_sums(&rt, &kept.table(), row.forgotten.0, row.forgotten.1);
+        renews(&rt, &mut kept, &history, &nothing, row)?;
     }
     Ok(())
 }
@@ -144,29 +159,73 @@ fn entries_of(alloc: Global, batch: &[Reference]) -> Result<Vec<Entry>, Fail> {
     Ok(history.iter().collect(alloc)?)
 }
 
+// Buckets 1 and 7 have these sums as they are kept, and each other has that of nothing.
+fn keeps(
+    rt: &impl Abort,
+    summed: &mut SummedHistory,
+    bucket_1: [u8; 32],
+    bucket_7: [u8; 32],
+) -> Result<(), AllocError> {
+    has_sums(rt, &summed.sums()?, bucket_1, bucket_7);
+    Ok(())
+}
+
+// The sums that are kept are those that are taken anew.
+fn keeps_those_taken_anew(
+    rt: &impl Abort,
+    alloc: Global,
+    summed: &mut SummedHistory,
+) -> Result<(), AllocError> {
+    let anew = sums(alloc, summed.history())?;
+    assert_eq!(rt; summed.sums()?, anew);
+    Ok(())
+}
+
+// So many pages come as references.
+fn is_told(
+    rt: &impl Abort,
+    alloc: Global,
+    summed: &mut SummedHistory,
+    first: u32,
+    count: u32,
+) -> Result<(), Fail> {
+    let batch = new_pages(alloc, first, count)?;
+    summed.absorb(&batch)?;
+    Ok(keeps_those_taken_anew(rt, alloc, summed)?)
+}
+
+// So many pages come as entries.
+fn hears(
+    rt: &impl Abort,
+    alloc: Global,
+    summed: &mut SummedHistory,
+    first: u32,
+    count: u32,
+) -> Result<(), Fail> {
+    let batch = new_pages(alloc, first, count)?;
+    let entries = entries_of(alloc, &batch)?;
+    summed.join_entries(&entries)?;
+    Ok(keeps_those_taken_anew(rt, alloc, summed)?)
+}
+
+fn follows(rt: &impl Abort, alloc: Global, summed: &mut SummedHistory) -> Result<(), Fail> {
+    keeps(rt, summed, OF_NOTHING, OF_NOTHING)?;
+    summed.absorb(four_pages()?.as_slice())?;
+    keeps(rt, summed, OF_THREE_PAGES, OF_0_7)?;
+    keeps(rt, summed, OF_THREE_PAGES, OF_0_7)?;
+    is_told(rt, alloc, summed, 3, 1)?;
+    is_told(rt, alloc, summed, 1000, 100)?;
+    hears(rt, alloc, summed, 2000, 100)?;
+    assert_eq!(rt; summed.history().len(), 205);
+    summed.clear();
+    assert_eq!(rt; summed.history().len(), 0);
+    Ok(keeps(rt, summed, OF_NOTHING, OF_NOTHING)?)
+}
+
 #[test]
 fn kept_sums_are_those_of_the_history(rt: HostRuntime) -> Result<(), Fail> {
     let mut summed = SummedHistory::new(rt.alloc());
-    has_sums(&rt, &summed.sums()?, OF_NOTHING, OF_NOTHING);
-    summed.absorb(four_pages()?.as_slice())?;
-    has_sums(&rt, &summed.sums()?, OF_THREE_PAGES, OF_0_7);
-    has_sums(&rt, &summed.sums()?, OF_THREE_PAGES, OF_0_7);
-    // One page more, a hundred, and a hundred that come as entries.
-    for (first, count) in [(3, 1), (1000, 100)] {
-        let batch = new_pages(rt.alloc(), first, count)?;
-        summed.absorb(&batch)?;
-        let anew = sums(rt.alloc(), summed.history())?;
-        assert_eq!(rt; summed.sums()?, anew);
-    }
-    let more = new_pages(rt.alloc(), 2000, 100)?;
-    summed.join_entries(&entries_of(rt.alloc(), &more)?)?;
-    assert_eq!(rt; summed.history().len(), 205);
-    let anew = sums(rt.alloc(), summed.history())?;
-    assert_eq!(rt; summed.sums()?, anew);
-    summed.clear();
-    assert_eq!(rt; summed.history().len(), 0);
-    has_sums(&rt, &summed.sums()?, OF_NOTHING, OF_NOTHING);
-    Ok(())
+    follows(&rt, rt.alloc(), &mut summed)
 }
 
 #[test]
@@ -184,22 +243,26 @@ fn differing_buckets_are_set_bits(rt: HostRuntime) -> Result<(), Fail> {
     Ok(())
 }
 
-// Run again with each growth refused in turn: `rt try --test --fail-alloc N -- a_refused_growth`.
-// A refusal leaves the sums that were kept, and what is asked for again is right.
-#[test]
-fn a_refused_growth_changes_no_sum(rt: HostRuntime) -> Result<(), Fail> {
+// Takes the four pages in, where a growth may be refused, and the sums of them.
+fn takes_again(rt: &impl Abort, summed: &mut SummedHistory) -> Result<(), Fail> {
     let batch = four_pages()?;
-    let mut summed = SummedHistory::new(rt.alloc());
     if summed.absorb(batch.as_slice()).is_err() {
         assert_eq!(rt; summed.history().len(), 0);
-        has_sums(&rt, &summed.sums()?, OF_NOTHING, OF_NOTHING);
+        keeps(rt, summed, OF_NOTHING, OF_NOTHING)?;
         summed.absorb(batch.as_slice())?;
     }
     if summed.sums().is_err() {
         assert_eq!(rt; summed.history().len(), 4);
     }
-    has_sums(&rt, &summed.sums()?, OF_THREE_PAGES, OF_0_7);
-    Ok(())
+    Ok(keeps(rt, summed, OF_THREE_PAGES, OF_0_7)?)
+}
+
+// Run again with each growth refused in turn: `rt try --test --fail-alloc N -- a_refused_growth`.
+// A refusal leaves the sums that were kept, and what is asked for again is right.
+#[test]
+fn a_refused_growth_changes_no_sum(rt: HostRuntime) -> Result<(), Fail> {
+    let mut summed = SummedHistory::new(rt.alloc());
+    takes_again(&rt, &mut summed)
 }
 
 #[test]

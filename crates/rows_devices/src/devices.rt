@@ -1,6 +1,8 @@
-use super::*;
+//! Devices in memory, in files, and that fail when they are told to.
+
 use std::fs;
 use std::test::Fail;
+use warm_devices::{DeviceFault, FileDevice, Flaky, MemDevice, OpenFault, PageDevice, let_go};
 
 #[test]
 fn a_device_in_memory_keeps_its_pages(rt: HostRuntime) -> Result<(), Fail> {

@@ -1,0 +1,712 @@
+//! Rows of a pool's life, run. Each call stands in a function of its own, which keeps what a pool is and by which history it is
+//! ranked: what is proved of a test does not grow with its rows.
+//!
+//! With `rt try --test --fail-alloc N`, for N from 1 on, each growth is refused in turn: what takes room is then asked for once
+//! more, with what the refusal handed back.
+ghost use Rattle.std.specs.Prelude.{◌≡◌, ◌≤◌, IfOk, length, vec_capacity};
+ghost use Rattle.warm_pool.specs.State.{IsPool, IsRankedByAll, RankedBy};
+
+mod let_go;
+mod ranks;
+
+use std::alloc::{AllocError, Global};
+use std::process::Abort;
+use std::test::Fail;
+use warm_devices::{Flaky, MemDevice, PageDevice};
+use warm_history::History;
+use warm_pool::{Pool, PoolFault, Pooled, Slot, Unretired};
+use warm_stamps::PageId;
+
+const fn page(no: u32) -> PageId {
+    PageId { dev: 0, no }
+}
+
+const fn slot(index: u32, generation: u64) -> Slot {
+    Slot { index, generation }
+}
+
+fn new_memory(alloc: Global, pages: u32) -> Result<Box<dyn PageDevice + Send>, AllocError> {
+    Ok(Box::new(alloc, MemDevice::new(alloc, pages, 16)?)?)
+}
+
+fn memory(alloc: Global, pages: u32) -> Result<Box<dyn PageDevice + Send>, Fail> {
+    match new_memory(alloc, pages) {
+        Ok(device) => Ok(device),
+        Err(_) => Ok(new_memory(alloc, pages)?),
+    }
+}
+
+fn new_flaky(alloc: Global, n: u64) -> Result<Box<dyn PageDevice + Send>, AllocError> {
+    Ok(Box::new(alloc, Flaky::new(MemDevice::new(alloc, 8, 16)?, n))?)
+}
+
+fn flaky(alloc: Global, n: u64) -> Result<Box<dyn PageDevice + Send>, Fail> {
+    match new_flaky(alloc, n) {
+        Ok(device) => Ok(device),
+        Err(_) => Ok(new_flaky(alloc, n)?),
+    }
+}
+
+// An empty list with room for so many devices.
+fn room_for(alloc: Global, count: usize) -> Result<Vec<Box<dyn PageDevice + Send>>, Fail>
+    ensures room { IfOk result (λ devices. count ≤ vec_capacity devices) }
+    ensures empty { IfOk result (λ devices. length devices.items ≡ 0) }
+{
+    match Vec::with_capacity(alloc, count) {
+        Ok(devices) => Ok(devices),
+        Err(_) => Ok(Vec::with_capacity(alloc, count)?),
+    }
+}
+
+// A list of one device.
+fn alone(
+    alloc: Global,
+    device: Box<dyn PageDevice + Send>,
+) -> Result<Vec<Box<dyn PageDevice + Send>>, Fail>
+    ensures { IfOk result (λ devices. length devices.items ≡ 1) }
+{
+    let mut devices = room_for(alloc, 1)?;
+    devices.push_reserved(device);
+    Ok(devices)
+}
+
+// A list of two devices.
+fn both(
+    alloc: Global,
+    first: Box<dyn PageDevice + Send>,
+    second: Box<dyn PageDevice + Send>,
+) -> Result<Vec<Box<dyn PageDevice + Send>>, Fail>
+    ensures { IfOk result (λ devices. length devices.items ≡ 2) }
+{
+    let mut devices = room_for(alloc, 2)?;
+    devices.push_reserved(first);
+    devices.push_reserved(second);
+    Ok(devices)
+}
+
+fn pool_of(
+    rt: &impl Abort,
+    alloc: Global,
+    frames: usize,
+    devices: Vec<Box<dyn PageDevice + Send>>,
+) -> Result<Pool, Fail>
+    requires { length devices.items ≤ 2 }
+    ensures pool { IfOk result (λ pool. IsPool (⟦<Pool as Pooled>⟧.state pool)) }
+    ensures ranked { IfOk result (λ pool. IsRankedByAll (⟦<Pool as Pooled>⟧.state pool)) }
+{
+    let count = devices.len();
+    match Pool::new(alloc, frames, 16, devices) {
+        Ok(pool) => Ok(pool),
+        Err(unmade) => {
+            let given = (unmade.fault, unmade.devices.len());
+            assert_eq!(rt; given, (PoolFault::Memory, count));
+            match Pool::new(alloc, frames, 16, unmade.devices) {
+                Ok(pool) => Ok(pool),
+                Err(_) => Err("no memory for the pool".into()),
+            }
+        }
+    }
+}
+
+fn pool_over(
+    rt: &impl Abort,
+    alloc: Global,
+    frames: usize,
+    device: Box<dyn PageDevice + Send>,
+) -> Result<Pool, Fail>
+    ensures pool { IfOk result (λ pool. IsPool (⟦<Pool as Pooled>⟧.state pool)) }
+    ensures ranked { IfOk result (λ pool. IsRankedByAll (⟦<Pool as Pooled>⟧.state pool)) }
+{
+    pool_of(rt, alloc, frames, alone(alloc, device)?)
+}
+
+// Pins a page, which no fault hinders.
+fn pinned(pool: &mut Pool, history: &History, no: u32) -> Result<Slot, Fail>
+    requires pool { IsPool (⟦<Pool as Pooled>⟧.state pool.old) }
+    requires ranked { RankedBy (⟦<Pool as Pooled>⟧.state pool.old) history.now }
+    ensures pool { IsPool (⟦<Pool as Pooled>⟧.state pool.new) }
+    ensures ranked { RankedBy (⟦<Pool as Pooled>⟧.state pool.new) history.now }
+{
+    match pool.pin(page(no), history) {
+        Ok(slot) => Ok(slot),
+        Err(_) => Err("the page is pinned".into()),
+    }
+}
+
+fn unpin(rt: &impl Abort, pool: &mut Pool, history: &History, slot: Slot)
+    requires pool { IsPool (⟦<Pool as Pooled>⟧.state pool.old) }
+    requires ranked { RankedBy (⟦<Pool as Pooled>⟧.state pool.old) history.now }
+    ensures pool { IsPool (⟦<Pool as Pooled>⟧.state pool.new) }
+    ensures ranked { RankedBy (⟦<Pool as Pooled>⟧.state pool.new) history.now }
+{
+    assert!(rt; pool.holds(slot), "the slot holds its page");
+    pool.unpin(slot);
+}
+
+fn write(
+    rt: &impl Abort,
+    pool: &mut Pool,
+    history: &History,
+    slot: Slot,
+    at: usize,
+    bytes: &[u8],
+) -> Result<(), PoolFault>
+    requires pool { IsPool (⟦<Pool as Pooled>⟧.state pool.old) }
+    requires ranked { RankedBy (⟦<Pool as Pooled>⟧.state pool.old) history.now }
+    ensures pool { IsPool (⟦<Pool as Pooled>⟧.state pool.new) }
+    ensures ranked { RankedBy (⟦<Pool as Pooled>⟧.state pool.new) history.now }
+{
+    assert!(rt; pool.holds(slot), "the slot holds its page");
+    pool.write(slot, at, bytes)
+}
+
+// Fills a page with AA, which goes to no device yet.
+fn fill(rt: &impl Abort, pool: &mut Pool, history: &History, no: u32) -> Result<(), Fail>
+    requires pool { IsPool (⟦<Pool as Pooled>⟧.state pool.old) }
+    requires ranked { RankedBy (⟦<Pool as Pooled>⟧.state pool.old) history.now }
+    ensures pool { IsPool (⟦<Pool as Pooled>⟧.state pool.new) }
+    ensures ranked { RankedBy (⟦<Pool as Pooled>⟧.state pool.new) history.now }
+{
+    let held = pinned(pool, history, no)?;
+    let written = write(rt, pool, history, held, 0, &[0xAA; 16]);
+    assert_eq!(rt; written, Ok(()));
+    unpin(rt, pool, history, held);
+    Ok(())
+}
+
+// The sixteen bytes of the slot's page.
+fn read(rt: &impl Abort, pool: &Pool, slot: Slot) -> [u8; 16]
+    requires { IsPool (⟦<Pool as Pooled>⟧.state pool.now) }
+{
+    assert!(rt; pool.holds(slot), "the slot holds its page");
+    let mut bytes = [0; 16];
+    assert_eq!(rt; pool.read(slot, 0, &mut bytes), Ok(()));
+    bytes
+}
+
+fn retire(
+    pool: &mut Pool,
+    history: &History,
+    dev: u16,
+    device: Box<dyn PageDevice + Send>,
+) -> Result<(), Unretired>
+    requires pool { IsPool (⟦<Pool as Pooled>⟧.state pool.old) }
+    requires ranked { RankedBy (⟦<Pool as Pooled>⟧.state pool.old) history.now }
+    ensures pool { IsPool (⟦<Pool as Pooled>⟧.state pool.new) }
+    ensures ranked { RankedBy (⟦<Pool as Pooled>⟧.state pool.new) history.now }
+{
+    pool.retire(dev, device)
+}
+
+fn empty(pool: &mut Pool, history: &History) -> Result<(), PoolFault>
+    requires pool { IsPool (⟦<Pool as Pooled>⟧.state pool.old) }
+    requires ranked { RankedBy (⟦<Pool as Pooled>⟧.state pool.old) history.now }
+    ensures pool { IsPool (⟦<Pool as Pooled>⟧.state pool.new) }
+    ensures ranked { RankedBy (⟦<Pool as Pooled>⟧.state pool.new) history.now }
+{
+    pool.empty()
+}
+
+fn write_back_all(pool: &mut Pool, history: &History) -> Result<(), PoolFault>
+    requires pool { IsPool (⟦<Pool as Pooled>⟧.state pool.old) }
+    requires ranked { RankedBy (⟦<Pool as Pooled>⟧.state pool.old) history.now }
+    ensures pool { IsPool (⟦<Pool as Pooled>⟧.state pool.new) }
+    ensures ranked { RankedBy (⟦<Pool as Pooled>⟧.state pool.new) history.now }
+{
+    pool.write_back_all()
+}
+
+// The pool, which a fixed page keeps from being closed.
+fn not_closed(rt: &impl Abort, pool: Pool, history: &History) -> Result<Pool, Fail>
+    requires pool { IsPool (⟦<Pool as Pooled>⟧.state pool) }
+    requires ranked { RankedBy (⟦<Pool as Pooled>⟧.state pool) history.now }
+    ensures pool { IfOk result (λ pool. IsPool (⟦<Pool as Pooled>⟧.state pool)) }
+    ensures ranked { IfOk result (λ pool. RankedBy (⟦<Pool as Pooled>⟧.state pool) history.now) }
+{
+    match pool.close() {
+        Ok(()) => Err("the pool is not closed".into()),
+        Err(unclosed) => {
+            assert_eq!(rt; unclosed.fault, PoolFault::Fixed);
+            Ok(unclosed.pool)
+        }
+    }
+}
+
+// The pool is closed, which nothing hinders.
+fn closes(rt: &impl Abort, pool: Pool)
+    requires { IsPool (⟦<Pool as Pooled>⟧.state pool) }
+{
+    let is_closed = match pool.close() {
+        Ok(()) => true,
+        Err(_) => false,
+    };
+    assert!(rt; is_closed, "the pool is closed");
+}
+
+// The device takes the place of one, which nothing hinders.
+fn exchange(
+    rt: &impl Abort,
+    pool: &mut Pool,
+    history: &History,
+    dev: u16,
+    device: Box<dyn PageDevice + Send>,
+)
+    requires pool { IsPool (⟦<Pool as Pooled>⟧.state pool.old) }
+    requires ranked { RankedBy (⟦<Pool as Pooled>⟧.state pool.old) history.now }
+    ensures pool { IsPool (⟦<Pool as Pooled>⟧.state pool.new) }
+    ensures ranked { RankedBy (⟦<Pool as Pooled>⟧.state pool.new) history.now }
+{
+    let is_exchanged = match retire(pool, history, dev, device) {
+        Ok(()) => true,
+        Err(_) => false,
+    };
+    assert!(rt; is_exchanged, "the device is exchanged");
+}
+
+// Pins a page, and takes the fix away again.
+fn visit(rt: &impl Abort, pool: &mut Pool, history: &History, no: u32) -> Result<(), Fail>
+    requires pool { IsPool (⟦<Pool as Pooled>⟧.state pool.old) }
+    requires ranked { RankedBy (⟦<Pool as Pooled>⟧.state pool.old) history.now }
+    ensures pool { IsPool (⟦<Pool as Pooled>⟧.state pool.new) }
+    ensures ranked { RankedBy (⟦<Pool as Pooled>⟧.state pool.new) history.now }
+{
+    let held = pinned(pool, history, no)?;
+    unpin(rt, pool, history, held);
+    Ok(())
+}
+
+// Pins a page, which has these bytes, and takes the fix away again.
+fn find(
+    rt: &impl Abort,
+    pool: &mut Pool,
+    history: &History,
+    no: u32,
+    wanted: [u8; 16],
+) -> Result<(), Fail>
+    requires pool { IsPool (⟦<Pool as Pooled>⟧.state pool.old) }
+    requires ranked { RankedBy (⟦<Pool as Pooled>⟧.state pool.old) history.now }
+    ensures pool { IsPool (⟦<Pool as Pooled>⟧.state pool.new) }
+    ensures ranked { RankedBy (⟦<Pool as Pooled>⟧.state pool.new) history.now }
+{
+    let held = pinned(pool, history, no)?;
+    assert_eq!(rt; read(rt, pool, held), wanted);
+    unpin(rt, pool, history, held);
+    Ok(())
+}
+
+// What is asked of a pool, and what is to come of it.
+#[derive(Clone, Copy)]
+enum Row<'a> {
+    // A page is given a fix.
+    Pins(u32, Result<Slot, PoolFault>),
+    // A page is brought in, without a fix.
+    Loads(PageId, Result<Slot, PoolFault>),
+    // A fix is taken away.
+    Unpins(Slot),
+    // A page is given a fix, which is taken away again.
+    Visits(u32),
+    // A page is filled with AA, which goes to no device yet.
+    Fills(u32),
+    // A page has these bytes.
+    Finds(u32, [u8; 16]),
+    // Bytes are written into the slot's page.
+    Writes(Slot, usize, &'a [u8], Result<(), PoolFault>),
+    // The page that leaves next.
+    Victim(Option<PageId>),
+    // Whether the slot holds its page.
+    Holds(Slot, bool),
+    // Whether the page is in a frame.
+    Resident(PageId, bool),
+    // Whether the page is on a device.
+    Has(u32, bool),
+    // So many frames.
+    Frames(usize),
+    // What is dirty is written to its device.
+    WritesBack(Result<(), PoolFault>),
+    // The frames are emptied.
+    Empties(Result<(), PoolFault>),
+}
+
+// Asks what the row says and changes nothing for. `at` is its number.
+fn shows(rt: &impl Abort, pool: &Pool, row: Row<'_>, at: usize) -> Result<(), Fail>
+    requires { IsPool (⟦<Pool as Pooled>⟧.state pool.now) }
+{
+    match row {
+        Row::Victim(wanted) => {
+            assert_eq!(rt; pool.victim(), wanted, "row {at}");
+            Ok(())
+        }
+        Row::Holds(slot, wanted) => {
+            assert_eq!(rt; pool.holds(slot), wanted, "row {at}");
+            Ok(())
+        }
+        Row::Resident(page, wanted) => {
+            assert_eq!(rt; pool.resident(page), wanted, "row {at}");
+            Ok(())
+        }
+        Row::Has(no, wanted) => {
+            assert_eq!(rt; pool.has(page(no)), wanted, "row {at}");
+            Ok(())
+        }
+        Row::Frames(wanted) => {
+            assert_eq!(rt; pool.frames(), wanted, "row {at}");
+            Ok(())
+        }
+        _ => Err("no such row".into()),
+    }
+}
+
+// Writes back or empties, if the row says so. `at` is its number.
+fn puts_down(
+    rt: &impl Abort,
+    pool: &mut Pool,
+    history: &History,
+    row: Row<'_>,
+    at: usize,
+) -> Result<(), Fail>
+    requires pool { IsPool (⟦<Pool as Pooled>⟧.state pool.old) }
+    requires ranked { RankedBy (⟦<Pool as Pooled>⟧.state pool.old) history.now }
+    ensures pool { IsPool (⟦<Pool as Pooled>⟧.state pool.new) }
+    ensures ranked { RankedBy (⟦<Pool as Pooled>⟧.state pool.new) history.now }
+{
+    match row {
+        Row::WritesBack(wanted) => {
+            assert_eq!(rt; write_back_all(pool, history), wanted, "row {at}");
+            Ok(())
+        }
+        Row::Empties(wanted) => {
+            assert_eq!(rt; empty(pool, history), wanted, "row {at}");
+            Ok(())
+        }
+        shown => shows(rt, pool, shown, at),
+    }
+}
+
+// Asks what the row says. `at` is its number.
+fn meets(
+    rt: &impl Abort,
+    pool: &mut Pool,
+    history: &History,
+    row: Row<'_>,
+    at: usize,
+) -> Result<(), Fail>
+    requires pool { IsPool (⟦<Pool as Pooled>⟧.state pool.old) }
+    requires ranked { RankedBy (⟦<Pool as Pooled>⟧.state pool.old) history.now }
+    ensures pool { IsPool (⟦<Pool as Pooled>⟧.state pool.new) }
+    ensures ranked { RankedBy (⟦<Pool as Pooled>⟧.state pool.new) history.now }
+{
+    match row {
+        Row::Visits(no) => visit(rt, pool, history, no),
+        Row::Fills(no) => fill(rt, pool, history, no),
+        Row::Finds(no, wanted) => find(rt, pool, history, no, wanted),
+        Row::Pins(no, wanted) => {
+            assert_eq!(rt; pool.pin(page(no), history), wanted, "row {at}");
+            Ok(())
+        }
+        Row::Loads(page, wanted) => {
+            assert_eq!(rt; pool.load(page, history), wanted, "row {at}");
+            Ok(())
+        }
+        Row::Unpins(slot) => {
+            unpin(rt, pool, history, slot);
+            Ok(())
+        }
+        Row::Writes(slot, from, bytes, wanted) => {
+            let written = write(rt, pool, history, slot, from, bytes);
+            assert_eq!(rt; written, wanted, "row {at}");
+            Ok(())
+        }
+        other => puts_down(rt, pool, history, other, at),
+    }
+}
+
+// Asks a pool what the rows say, in turn.
+fn runs(rt: &impl Abort, pool: &mut Pool, history: &History, rows: &[Row<'_>]) -> Result<(), Fail>
+    requires pool { IsPool (⟦<Pool as Pooled>⟧.state pool.old) }
+    requires ranked { RankedBy (⟦<Pool as Pooled>⟧.state pool.old) history.now }
+    ensures pool { IsPool (⟦<Pool as Pooled>⟧.state pool.new) }
+    ensures ranked { RankedBy (⟦<Pool as Pooled>⟧.state pool.new) history.now }
+{
+    for (at, row) in rows.iter().enumerate() {
+        meets(rt, pool, history, *row, at)?;
+    }
+    Ok(())
+}
+
+// A fresh pool of so many frames over the device lives through the rows, by a history that was told nothing, and is closed.
+fn lives(
+    rt: &impl Abort,
+    alloc: Global,
+    frames: usize,
+    device: Box<dyn PageDevice + Send>,
+    rows: &[Row<'_>],
+) -> Result<(), Fail> {
+    let history = History::new(alloc);
+    let mut pool = pool_over(rt, alloc, frames, device)?;
+    runs(rt, &mut pool, &history, rows)?;
+    closes(rt, pool);
+    Ok(())
+}
+
+// The device, which the pool refuses to exchange by this fault.
+fn unretired(
+    rt: &impl Abort,
+    pool: &mut Pool,
+    history: &History,
+    dev: u16,
+    device: Box<dyn PageDevice + Send>,
+    fault: PoolFault,
+) -> Result<Box<dyn PageDevice + Send>, Fail>
+    requires pool { IsPool (⟦<Pool as Pooled>⟧.state pool.old) }
+    requires ranked { RankedBy (⟦<Pool as Pooled>⟧.state pool.old) history.now }
+    ensures pool { IsPool (⟦<Pool as Pooled>⟧.state pool.new) }
+    ensures ranked { RankedBy (⟦<Pool as Pooled>⟧.state pool.new) history.now }
+{
+    match retire(pool, history, dev, device) {
+        Ok(()) => Err("the device is not exchanged".into()),
+        Err(unretired) => {
+            assert_eq!(rt; unretired.fault, fault);
+            Ok(unretired.device)
+        }
+    }
+}
+
+const fn on(dev: u16, no: u32) -> PageId {
+    PageId { dev, no }
+}
+
+// Pages that come into four frames are found there, one number on two devices, and one that left is not.
+fn come_in(rt: &impl Abort, pool: &mut Pool, history: &History) -> Result<(), Fail>
+    requires pool { IsPool (⟦<Pool as Pooled>⟧.state pool.old) }
+    requires ranked { RankedBy (⟦<Pool as Pooled>⟧.state pool.old) history.now }
+    ensures pool { IsPool (⟦<Pool as Pooled>⟧.state pool.new) }
+    ensures ranked { RankedBy (⟦<Pool as Pooled>⟧.state pool.new) history.now }
+{
+    let rows = [
+        Row::Loads(on(1, 7), Ok(slot(0, 1))),
+        Row::Loads(on(1, 100), Ok(slot(1, 1))),
+        Row::Resident(on(0, 7), false),
+        Row::Loads(on(0, 7), Ok(slot(2, 1))),
+        Row::Loads(on(0, 7), Ok(slot(2, 1))),
+        Row::Resident(on(0, 4), false),
+        Row::Loads(on(0, 4), Ok(slot(3, 1))),
+        Row::Loads(on(0, 7), Ok(slot(2, 1))),
+        Row::Loads(on(1, 100), Ok(slot(1, 1))),
+        Row::Loads(on(1, 7), Ok(slot(0, 1))),
+        // No frame is free, and 0:4 is the least page.
+        Row::Loads(on(0, 8), Ok(slot(3, 2))),
+        Row::Resident(on(0, 4), false),
+        Row::Loads(on(0, 8), Ok(slot(3, 2))),
+        Row::Loads(on(0, 7), Ok(slot(2, 1))),
+        Row::Resident(on(1, 100), true),
+    ];
+    runs(rt, pool, history, &rows)
+}
+
+// The frames of the device that was retired are free, and taken in turn.
+fn stay_and_follow(rt: &impl Abort, pool: &mut Pool, history: &History) -> Result<(), Fail>
+    requires pool { IsPool (⟦<Pool as Pooled>⟧.state pool.old) }
+    requires ranked { RankedBy (⟦<Pool as Pooled>⟧.state pool.old) history.now }
+    ensures pool { IsPool (⟦<Pool as Pooled>⟧.state pool.new) }
+    ensures ranked { RankedBy (⟦<Pool as Pooled>⟧.state pool.new) history.now }
+{
+    let rows = [
+        Row::Resident(on(1, 7), false),
+        Row::Resident(on(1, 100), false),
+        Row::Loads(on(0, 8), Ok(slot(3, 2))),
+        Row::Loads(on(0, 7), Ok(slot(2, 1))),
+        Row::Loads(on(0, 9), Ok(slot(0, 2))),
+        Row::Loads(on(0, 4), Ok(slot(1, 2))),
+        Row::Loads(on(0, 9), Ok(slot(0, 2))),
+        Row::Loads(on(0, 7), Ok(slot(2, 1))),
+        Row::Resident(on(1, 4), false),
+    ];
+    runs(rt, pool, history, &rows)
+}
+
+fn stand_and_leave(
+    rt: &impl Abort,
+    pool: &mut Pool,
+    history: &History,
+    device: Box<dyn PageDevice + Send>,
+) -> Result<(), Fail>
+    requires pool { IsPool (⟦<Pool as Pooled>⟧.state pool.old) }
+    requires ranked { RankedBy (⟦<Pool as Pooled>⟧.state pool.old) history.now }
+    ensures pool { IsPool (⟦<Pool as Pooled>⟧.state pool.new) }
+    ensures ranked { RankedBy (⟦<Pool as Pooled>⟧.state pool.new) history.now }
+{
+    come_in(rt, pool, history)?;
+    exchange(rt, pool, history, 1, device);
+    stay_and_follow(rt, pool, history)
+}
+
+#[test]
+fn pages_are_found_where_they_stand(rt: HostRuntime) -> Result<(), Fail> {
+    let alloc = rt.alloc();
+    let history = History::new(alloc);
+    let devices = both(alloc, memory(alloc, 16)?, memory(alloc, 128)?)?;
+    let mut pool = pool_of(&rt, alloc, 4, devices)?;
+    stand_and_leave(&rt, &mut pool, &history, memory(alloc, 8)?)?;
+    closes(&rt, pool);
+    Ok(())
+}
+
+// Pages with a fix keep their device from being exchanged for another, which is handed back.
+fn kept_by_fixes(
+    rt: &impl Abort,
+    pool: &mut Pool,
+    history: &History,
+    device: Box<dyn PageDevice + Send>,
+) -> Result<Box<dyn PageDevice + Send>, Fail>
+    requires pool { IsPool (⟦<Pool as Pooled>⟧.state pool.old) }
+    requires ranked { RankedBy (⟦<Pool as Pooled>⟧.state pool.old) history.now }
+    ensures pool { IsPool (⟦<Pool as Pooled>⟧.state pool.new) }
+    ensures ranked { RankedBy (⟦<Pool as Pooled>⟧.state pool.new) history.now }
+{
+    let rows = [
+        Row::Pins(3, Ok(slot(0, 1))),
+        Row::Pins(4, Ok(slot(1, 1))),
+        Row::Unpins(slot(1, 1)),
+        Row::Victim(Some(page(4))),
+        Row::Loads(page(5), Ok(slot(1, 2))),
+        Row::Holds(slot(1, 2), false),
+        Row::Resident(page(4), false),
+        Row::Pins(5, Ok(slot(1, 2))),
+        Row::Writes(slot(1, 2), 15, &[1, 2], Err(PoolFault::OutOfPage)),
+    ];
+    runs(rt, pool, history, &rows)?;
+    let device = unretired(rt, pool, history, 1, device, PoolFault::NoDevice)?;
+    unretired(rt, pool, history, 0, device, PoolFault::Fixed)
+}
+
+// Without a fix the device is exchanged for one of four pages.
+fn let_go_unfixed(
+    rt: &impl Abort,
+    pool: &mut Pool,
+    history: &History,
+    device: Box<dyn PageDevice + Send>,
+) -> Result<(), Fail>
+    requires pool { IsPool (⟦<Pool as Pooled>⟧.state pool.old) }
+    requires ranked { RankedBy (⟦<Pool as Pooled>⟧.state pool.old) history.now }
+    ensures pool { IsPool (⟦<Pool as Pooled>⟧.state pool.new) }
+    ensures ranked { RankedBy (⟦<Pool as Pooled>⟧.state pool.new) history.now }
+{
+    let rows = [
+        Row::Empties(Err(PoolFault::Fixed)),
+        Row::Unpins(slot(0, 1)),
+        Row::Unpins(slot(1, 2)),
+    ];
+    runs(rt, pool, history, &rows)?;
+    exchange(rt, pool, history, 0, device);
+    let rows = [
+        Row::Has(5, false),
+        Row::Pins(5, Err(PoolFault::NoPage)),
+        Row::Frames(2),
+    ];
+    runs(rt, pool, history, &rows)
+}
+
+#[test]
+fn two_frames_over_eight_pages(rt: HostRuntime) -> Result<(), Fail> {
+    let alloc = rt.alloc();
+    let history = History::new(alloc);
+    let mut pool = pool_over(&rt, alloc, 2, memory(alloc, 8)?)?;
+    let device = kept_by_fixes(&rt, &mut pool, &history, memory(alloc, 4)?)?;
+    let mut pool = not_closed(&rt, pool, &history)?;
+    let_go_unfixed(&rt, &mut pool, &history, device)?;
+    closes(&rt, pool);
+    Ok(())
+}
+
+#[test]
+fn refused_pools_hand_their_devices_back(rt: HostRuntime) -> Result<(), Fail> {
+    let alloc = rt.alloc();
+    for (frames, page_size, fault) in [
+        (0, 16, PoolFault::BadFrames),
+        (65_537, 16, PoolFault::BadFrames),
+        (2, 8, PoolFault::SizeDiffers),
+    ] {
+        let devices = alone(alloc, memory(alloc, 8)?)?;
+        let unmade = Pool::new(alloc, frames, page_size, devices)
+            .err()
+            .ok_or("made")?;
+        assert_eq!(rt; (unmade.fault, unmade.devices.len()), (fault, 1));
+    }
+    Ok(())
+}
+
+#[test]
+fn a_dirty_victim_stays_where_its_write_fails(rt: HostRuntime) -> Result<(), Fail> {
+    let rows = [
+        Row::Fills(1),
+        Row::Pins(2, Err(PoolFault::WriteBack)),
+        Row::Resident(page(1), true),
+        Row::Resident(page(2), false),
+        Row::Visits(2),
+        Row::Finds(1, [0xAA; 16]),
+    ];
+    lives(&rt, rt.alloc(), 1, flaky(rt.alloc(), 3)?, &rows)
+}
+
+fn stays_unflushed(
+    rt: &impl Abort,
+    pool: &mut Pool,
+    history: &History,
+    device: Box<dyn PageDevice + Send>,
+) -> Result<(), Fail>
+    requires pool { IsPool (⟦<Pool as Pooled>⟧.state pool.old) }
+    requires ranked { RankedBy (⟦<Pool as Pooled>⟧.state pool.old) history.now }
+    ensures pool { IsPool (⟦<Pool as Pooled>⟧.state pool.new) }
+    ensures ranked { RankedBy (⟦<Pool as Pooled>⟧.state pool.new) history.now }
+{
+    fill(rt, pool, history, 1)?;
+    let device = unretired(rt, pool, history, 0, device, PoolFault::Fault)?;
+    let rows = [Row::Resident(page(1), true), Row::Finds(1, [0xAA; 16])];
+    runs(rt, pool, history, &rows)?;
+    exchange(rt, pool, history, 0, device);
+    assert!(rt; !pool.resident(page(1)));
+    Ok(())
+}
+
+#[test]
+fn a_device_stays_where_its_flush_fails(rt: HostRuntime) -> Result<(), Fail> {
+    let alloc = rt.alloc();
+    let history = History::new(alloc);
+    let mut pool = pool_over(&rt, alloc, 1, flaky(alloc, 3)?)?;
+    stays_unflushed(&rt, &mut pool, &history, memory(alloc, 8)?)?;
+    closes(&rt, pool);
+    Ok(())
+}
+
+#[test]
+fn an_emptied_pool_keeps_its_pages(rt: HostRuntime) -> Result<(), Fail> {
+    let bytes = [0, 0, 0, 0, 0, 0, 0, 0, 0, 0, 0, 0, 0, 0, 7, 8];
+    let rows = [
+        Row::Pins(6, Ok(slot(0, 1))),
+        Row::Writes(slot(0, 1), 14, &[7, 8], Ok(())),
+        Row::Unpins(slot(0, 1)),
+        Row::WritesBack(Ok(())),
+        Row::Resident(page(6), true),
+        Row::Empties(Ok(())),
+        Row::Resident(page(6), false),
+        Row::Victim(None),
+        Row::Pins(6, Ok(slot(0, 2))),
+        Row::Finds(6, bytes),
+        Row::Unpins(slot(0, 2)),
+    ];
+    lives(&rt, rt.alloc(), 2, memory(rt.alloc(), 8)?, &rows)
+}
+
+#[test]
+fn a_page_stays_out_where_no_frame_or_no_byte_is_to_be_had(rt: HostRuntime) -> Result<(), Fail> {
+    let rows = [
+        Row::Pins(1, Err(PoolFault::ReadFault)),
+        Row::Resident(page(1), false),
+        Row::Pins(1, Ok(slot(0, 1))),
+        Row::Pins(2, Err(PoolFault::AllFixed)),
+        Row::Resident(page(1), true),
+        Row::Victim(None),
+        Row::Unpins(slot(0, 1)),
+    ];
+    lives(&rt, rt.alloc(), 1, flaky(rt.alloc(), 1)?, &rows)
+}

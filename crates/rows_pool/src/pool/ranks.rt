@@ -1,0 +1,102 @@
+//! Which page leaves, by what a history was told.
+ghost use Rattle.warm_pool.specs.State.{IsPool, RankedBy};
+
+use super::{Row, closes, memory, page, pool_over, runs, slot};
+use std::alloc::Global;
+use std::process::Abort;
+use std::test::Fail;
+use warm_history::History;
+use warm_pool::{Pool, Pooled};
+use warm_stamps::{PageId, Reference, ReplicaId, Stamp};
+
+// References to pages at times, all seen at one replica.
+fn history_of(alloc: Global, seen: &[(u32, u64)]) -> Result<History, Fail> {
+    let replica = ReplicaId::new(1)?;
+    let mut history = History::new(alloc);
+    for &(no, time) in seen {
+        let batch = [Reference {
+            page: page(no),
+            stamp: Stamp { time, replica },
+        }];
+        if history.absorb(&batch).is_err() {
+            history.absorb(&batch)?;
+        }
+    }
+    Ok(history)
+}
+
+// Brings a page in without a fix, which no fault hinders.
+fn load(pool: &mut Pool, history: &History, no: u32) -> Result<(), Fail>
+    requires pool { IsPool (⟦<Pool as Pooled>⟧.state pool.old) }
+    requires ranked { RankedBy (⟦<Pool as Pooled>⟧.state pool.old) history.now }
+    ensures pool { IsPool (⟦<Pool as Pooled>⟧.state pool.new) }
+    ensures ranked { RankedBy (⟦<Pool as Pooled>⟧.state pool.new) history.now }
+{
+    match pool.load(page(no), history) {
+        Ok(_) => Ok(()),
+        Err(_) => Err("the page is loaded".into()),
+    }
+}
+
+// The page that leaves for page 3, of two frames with the pages 1 and 2.
+fn leaving_of(rt: &impl Abort, pool: &mut Pool, history: &History) -> Result<Option<PageId>, Fail>
+    requires pool { IsPool (⟦<Pool as Pooled>⟧.state pool.old) }
+    requires ranked { RankedBy (⟦<Pool as Pooled>⟧.state pool.old) history.now }
+    ensures pool { IsPool (⟦<Pool as Pooled>⟧.state pool.new) }
+    ensures ranked { RankedBy (⟦<Pool as Pooled>⟧.state pool.new) history.now }
+{
+    load(pool, history, 1)?;
+    load(pool, history, 2)?;
+    let victim = pool.victim();
+    load(pool, history, 3)?;
+    assert!(rt; pool.resident(page(1)) != (victim == Some(page(1))));
+    assert!(rt; pool.resident(page(2)) != (victim == Some(page(2))));
+    Ok(victim)
+}
+
+// The page that leaves so, by what was seen.
+fn leaving(rt: &impl Abort, alloc: Global, seen: &[(u32, u64)]) -> Result<Option<PageId>, Fail> {
+    let history = history_of(alloc, seen)?;
+    let mut pool = pool_over(rt, alloc, 2, memory(alloc, 8)?)?;
+    let victim = leaving_of(rt, &mut pool, &history)?;
+    closes(rt, pool);
+    Ok(victim)
+}
+
+#[test]
+fn the_history_says_which_page_leaves(rt: HostRuntime) -> Result<(), Fail> {
+    let alloc = rt.alloc();
+    let farther = [(1, 1), (1, 100), (2, 50), (2, 60)];
+    assert_eq!(rt; leaving(&rt, alloc, &farther)?, Some(page(1)));
+    let once = [(1, 1), (1, 2), (2, 100), (2, 100)];
+    assert_eq!(rt; leaving(&rt, alloc, &once)?, Some(page(2)));
+    let older = [(1, 7), (2, 6)];
+    assert_eq!(rt; leaving(&rt, alloc, &older)?, Some(page(2)));
+    assert_eq!(rt; leaving(&rt, alloc, &[])?, Some(page(1)));
+    Ok(())
+}
+
+fn refresh(pool: &mut Pool, history: &History, no: u32)
+    requires { IsPool (⟦<Pool as Pooled>⟧.state pool.old) }
+    ensures { IsPool (⟦<Pool as Pooled>⟧.state pool.new) }
+{
+    pool.refresh(history, &[page(no)]);
+}
+
+#[test]
+fn a_refreshed_page_has_a_new_rank(rt: HostRuntime) -> Result<(), Fail> {
+    let alloc = rt.alloc();
+    let history = History::new(alloc);
+    let later = history_of(alloc, &[(1, 5)])?;
+    let mut pool = pool_over(&rt, alloc, 2, memory(alloc, 8)?)?;
+    let rows = [
+        Row::Loads(page(1), Ok(slot(0, 1))),
+        Row::Loads(page(2), Ok(slot(1, 1))),
+        Row::Victim(Some(page(1))),
+    ];
+    runs(&rt, &mut pool, &history, &rows)?;
+    refresh(&mut pool, &later, 1);
+    assert_eq!(rt; pool.victim(), Some(page(2)));
+    closes(&rt, pool);
+    Ok(())
+}
