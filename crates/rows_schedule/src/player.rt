@@ -6,6 +6,7 @@ ghost use Rattle.warm_world.specs.Seen.{listed};
 
 use std::alloc::{AllocError, Global};
 use std::io::{ErrorKind, Read, Write};
+use std::process::Abort;
 use std::test::Fail;
 use std::{io, str};
 use warm_devices::{Flaky, MemDevice, PageDevice};
@@ -57,6 +58,19 @@ fn answers_of(alloc: Global, setup: Setup, schedule: &str) -> Result<Vec<u8>, Fa
     Ok(answers)
 }
 
+// A schedule prints this.
+fn prints(
+    rt: &impl Abort,
+    alloc: Global,
+    setup: Setup,
+    schedule: &str,
+    want: &str,
+) -> Result<(), Fail> {
+    let answers = answers_of(alloc, setup, schedule)?;
+    assert_eq!(rt; str::from_utf8(answers.as_slice())?, want);
+    Ok(())
+}
+
 const FIRST_PATH: [(&str, &str); 6] = [
     ("", ""),
     ("show 1\nvictim 1\nwarm 1 5\n", "end 0\nnone\npages\n"),
@@ -81,8 +95,7 @@ const FIRST_PATH: [(&str, &str); 6] = [
 #[test]
 fn references_reach_a_history(rt: HostRuntime) -> Result<(), Fail> {
     for (schedule, want) in FIRST_PATH {
-        let answers = answers_of(rt.alloc(), default_setup(), schedule)?;
-        assert_eq!(rt; str::from_utf8(answers.as_slice())?, want);
+        prints(&rt, rt.alloc(), default_setup(), schedule, want)?;
     }
     Ok(())
 }
@@ -122,8 +135,7 @@ const GOSSIP: [(&str, &str); 5] = [
 #[test]
 fn frames_bring_what_reached_their_sender(rt: HostRuntime) -> Result<(), Fail> {
     for (schedule, want) in GOSSIP {
-        let answers = answers_of(rt.alloc(), default_setup(), schedule)?;
-        assert_eq!(rt; str::from_utf8(answers.as_slice())?, want);
+        prints(&rt, rt.alloc(), default_setup(), schedule, want)?;
     }
     Ok(())
 }
@@ -147,8 +159,7 @@ const BUFFERS_AND_RANKS: [(&str, &str); 3] = [
 #[test]
 fn references_wait_and_pages_are_ranked(rt: HostRuntime) -> Result<(), Fail> {
     for (schedule, want) in BUFFERS_AND_RANKS {
-        let answers = answers_of(rt.alloc(), default_setup(), schedule)?;
-        assert_eq!(rt; str::from_utf8(answers.as_slice())?, want);
+        prints(&rt, rt.alloc(), default_setup(), schedule, want)?;
     }
     Ok(())
 }
@@ -177,8 +188,7 @@ const REFUSED: [(u16, &str, &str); 3] = [
 fn refusals_have_names(rt: HostRuntime) -> Result<(), Fail> {
     for (replicas, schedule, want) in REFUSED {
         let setup = Setup::new(replicas, 2, 64, 4, 16)?;
-        let answers = answers_of(rt.alloc(), setup, schedule)?;
-        assert_eq!(rt; str::from_utf8(answers.as_slice())?, want);
+        prints(&rt, rt.alloc(), setup, schedule, want)?;
     }
     Ok(())
 }
@@ -232,8 +242,7 @@ const POOLS: [(u32, &str, &str); 6] = [
 #[test]
 fn pools_hold_pages(rt: HostRuntime) -> Result<(), Fail> {
     for (frames, schedule, want) in POOLS {
-        let answers = answers_of(rt.alloc(), of_frames(frames)?, schedule)?;
-        assert_eq!(rt; str::from_utf8(answers.as_slice())?, want);
+        prints(&rt, rt.alloc(), of_frames(frames)?, schedule, want)?;
     }
     Ok(())
 }
@@ -245,9 +254,7 @@ fn sums_and_a_wish_make_replicas_equal(rt: HostRuntime) -> Result<(), Fail> {
         offer 1\ndeliver 2 1\ndeliver 1 2\ndeliver 1 3\ndeliver 2 4\ndeliver 2 5\nshow 1\nshow 2\noffer 1\ndeliver 2 6\n";
     let want = "ok\nok\nok\nok\nframe 1\ntook 2 from 2\ntook 0\ntook 2 from 4\ntook 0\ntook 0\n\
         0:1 last 10@1\n0:2 last 11@2\nend 2\n0:1 last 10@1\n0:2 last 11@2\nend 2\nframe 6\ntook 0\n";
-    let answers = answers_of(rt.alloc(), default_setup(), schedule)?;
-    assert_eq!(rt; str::from_utf8(answers.as_slice())?, want);
-    Ok(())
+    prints(&rt, rt.alloc(), default_setup(), schedule, want)
 }
 
 const SLOTS_AND_BYTES: [(&str, &str); 3] = [
@@ -276,8 +283,7 @@ const SLOTS_AND_BYTES: [(&str, &str); 3] = [
 #[test]
 fn slots_and_bytes_are_read_exactly(rt: HostRuntime) -> Result<(), Fail> {
     for (schedule, want) in SLOTS_AND_BYTES {
-        let answers = answers_of(rt.alloc(), default_setup(), schedule)?;
-        assert_eq!(rt; str::from_utf8(answers.as_slice())?, want);
+        prints(&rt, rt.alloc(), default_setup(), schedule, want)?;
     }
     Ok(())
 }
@@ -290,16 +296,9 @@ fn a_put_of_the_longest_line_is_past_the_page(rt: HostRuntime) -> Result<(), Fai
     for _ in 0..131066 {
         schedule.extend_from_slice(b"00")?;
     }
-    let answers = answers_of(
-        rt.alloc(),
-        default_setup(),
-        str::from_utf8(schedule.as_slice())?,
-    )?;
-    assert_eq!(rt;
-        str::from_utf8(answers.as_slice())?,
-        "slot 0.1\nrefused 10 OutOfPage\n"
-    );
-    Ok(())
+    let schedule = str::from_utf8(schedule.as_slice())?;
+    let want = "slot 0.1\nrefused 10 OutOfPage\n";
+    prints(&rt, rt.alloc(), default_setup(), schedule, want)
 }
 
 // A world of three replicas refuses two lists of devices.
@@ -391,70 +390,81 @@ const LANGUAGE: [(&str, &str); 7] = [
 #[test]
 fn lines_are_read_as_the_language_has_them(rt: HostRuntime) -> Result<(), Fail> {
     for (schedule, want) in LANGUAGE {
-        let answers = answers_of(rt.alloc(), default_setup(), schedule)?;
-        assert_eq!(rt; str::from_utf8(answers.as_slice())?, want);
+        prints(&rt, rt.alloc(), default_setup(), schedule, want)?;
     }
+    Ok(())
+}
+
+// References of worker 1 of replica 1, so many, each to a page so many after that of the one before, at times from the first on;
+// then these lines.
+fn references(
+    alloc: Global,
+    count: u32,
+    spread: u32,
+    first: u32,
+    lines: &str,
+) -> Result<Vec<u8>, Fail> {
+    let mut schedule = Vec::new(alloc);
+    for place in 0..count {
+        let (no, time) = (spread.wrapping_mul(place), first.wrapping_add(place));
+        writeln!(&mut schedule, "ref 1 1 0:{no} {time}")?;
+    }
+    writeln!(&mut schedule, "{lines}")?;
+    Ok(schedule)
+}
+
+// A schedule prints so many times ok, and then this.
+fn prints_after(
+    rt: &impl Abort,
+    alloc: Global,
+    schedule: &[u8],
+    count: usize,
+    want: &str,
+) -> Result<(), Fail> {
+    let answers = answers_of(alloc, default_setup(), str::from_utf8(schedule)?)?;
+    let mut rest = str::from_utf8(answers.as_slice())?;
+    for _ in 0..count {
+        rest = rest.strip_prefix("ok\n").ok_or("the reference waits")?;
+    }
+    assert!(rt; rest == want);
     Ok(())
 }
 
 // A buffer of 64 is flushed by the reference that finds it full.
 #[test]
 fn a_full_buffer_is_flushed_first(rt: HostRuntime) -> Result<(), Fail> {
-    let mut schedule = Vec::new(rt.alloc());
-    let mut want = Vec::new(rt.alloc());
-    for time in 1..66u32 {
-        writeln!(&mut schedule, "ref 1 1 0:1 {time}")?;
-        writeln!(&mut want, "ok")?;
+    let schedule = references(rt.alloc(), 65, 0, 1, "show 1\nflush 1 1\nshow 1")?;
+    let want = "0:0 last 64@1 prev 63@1\nend 1\nok\n0:0 last 65@1 prev 64@1\nend 1\n";
+    prints_after(&rt, rt.alloc(), schedule.as_slice(), 65, want)
+}
+
+// The pages of bucket 0 from the first on, so many, each referenced once at the time of its place; then these lines.
+fn show_pages(want: &mut Vec<u8>, count: u32, lines: &str) -> Result<(), Fail> {
+    for place in 0..count {
+        let no = place.wrapping_mul(64);
+        writeln!(want, "0:{no} last {place}@1")?;
     }
-    writeln!(&mut schedule, "show 1\nflush 1 1\nshow 1")?;
-    writeln!(
-        &mut want,
-        "0:1 last 64@1 prev 63@1\nend 1\nok\n0:1 last 65@1 prev 64@1\nend 1"
-    )?;
-    let answers = answers_of(
-        rt.alloc(),
-        default_setup(),
-        str::from_utf8(schedule.as_slice())?,
-    )?;
-    assert_eq!(rt;
-        str::from_utf8(answers.as_slice())?,
-        str::from_utf8(want.as_slice())?
-    );
+    writeln!(want, "{lines}")?;
     Ok(())
+}
+
+// What is answered once the references wait: the second of two frames brings one page more.
+fn in_two_frames(alloc: Global) -> Result<Vec<u8>, Fail> {
+    let mut want = Vec::new(alloc);
+    writeln!(&mut want, "ok\nframe 1\nframe 2\ntook 0")?;
+    show_pages(&mut want, 1000, "end 1000\ntook 0")?;
+    show_pages(&mut want, 1001, "end 1001")?;
+    Ok(want)
 }
 
 // A frame carries 1000 pages of its bucket, and the next one goes on after the last of them.
 #[test]
 fn a_long_bucket_takes_two_frames(rt: HostRuntime) -> Result<(), Fail> {
-    let mut schedule = Vec::new(rt.alloc());
-    let mut want = Vec::new(rt.alloc());
-    for place in 0..1001u32 {
-        let no = 64 * place;
-        writeln!(&mut schedule, "ref 1 1 0:{no} {place}")?;
-        writeln!(&mut want, "ok")?;
-    }
-    writeln!(
-        &mut schedule,
-        "flush 1 1\nsend 1 0\nsend 1 0 0:63936\ndeliver 2 1\nshow 2\ndeliver 2 2\nshow 2"
-    )?;
-    writeln!(&mut want, "ok\nframe 1\nframe 2\ntook 0")?;
-    for place in 0..1000u32 {
-        let no = 64 * place;
-        writeln!(&mut want, "0:{no} last {place}@1")?;
-    }
-    writeln!(&mut want, "end 1000\ntook 0")?;
-    for place in 0..1001u32 {
-        let no = 64 * place;
-        writeln!(&mut want, "0:{no} last {place}@1")?;
-    }
-    writeln!(&mut want, "end 1001")?;
-    let answers = answers_of(
-        rt.alloc(),
-        default_setup(),
-        str::from_utf8(schedule.as_slice())?,
-    )?;
-    assert!(rt; answers.as_slice() == want.as_slice());
-    Ok(())
+    let lines = "flush 1 1\nsend 1 0\nsend 1 0 0:63936\ndeliver 2 1\nshow 2\ndeliver 2 2\nshow 2";
+    let schedule = references(rt.alloc(), 1001, 64, 0, lines)?;
+    let want = in_two_frames(rt.alloc())?;
+    let want = str::from_utf8(want.as_slice())?;
+    prints_after(&rt, rt.alloc(), schedule.as_slice(), 1001, want)
 }
 
 // A line of 262,144 bytes is read, and of one more it is bad, whatever it begins with.
@@ -502,16 +512,22 @@ impl Read for Trickle<'_> {
     }
 }
 
+// A schedule that comes so prints this.
+fn trickles(rt: &impl Abort, alloc: Global, schedule: &[u8], want: &str) -> Result<(), Fail> {
+    let mut reader = Trickle {
+        rest: schedule,
+        is_ready: false,
+    };
+    let mut answers = Vec::new(alloc);
+    ended(alloc, &mut reader, &mut answers, default_setup())?;
+    assert_eq!(rt; str::from_utf8(answers.as_slice())?, want);
+    Ok(())
+}
+
 #[test]
 fn a_schedule_may_come_in_bytes(rt: HostRuntime) -> Result<(), Fail> {
     for (schedule, want) in GOSSIP {
-        let mut reader = Trickle {
-            rest: schedule.as_bytes(),
-            is_ready: false,
-        };
-        let mut answers = Vec::new(rt.alloc());
-        ended(rt.alloc(), &mut reader, &mut answers, default_setup())?;
-        assert_eq!(rt; str::from_utf8(answers.as_slice())?, want);
+        trickles(&rt, rt.alloc(), schedule.as_bytes(), want)?;
     }
     Ok(())
 }
@@ -524,19 +540,13 @@ fn a_long_trickle_plays_to_its_end(rt: HostRuntime) -> Result<(), Fail> {
         schedule.extend_from_slice(b"  show 001\n")?;
     }
     schedule.truncate(100_000);
-    let mut reader = Trickle {
-        rest: schedule.as_slice(),
-        is_ready: false,
-    };
-    let mut answers = Vec::new(rt.alloc());
-    ended(rt.alloc(), &mut reader, &mut answers, default_setup())?;
     // 9,090 lines of 11 bytes, and of the last line 10
     let mut want = Vec::new(rt.alloc());
     for _ in 0..9_091 {
         want.extend_from_slice(b"end 0\n")?;
     }
-    assert!(rt; answers.as_slice() == want.as_slice());
-    Ok(())
+    let want = str::from_utf8(want.as_slice())?;
+    trickles(&rt, rt.alloc(), schedule.as_slice(), want)
 }
 
 // Marks each flush.

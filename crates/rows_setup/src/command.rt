@@ -29,48 +29,63 @@ fn shown(path: &Option<PathText>) -> Option<&str> {
     }
 }
 
+type Words = &'static [&'static str];
+
+// Words of a play, and the file and the setup that they name.
+const PLAYS: [(Words, (Option<&str>, Option<&str>)); 4] = [
+    (&["warmplay", "play"], (None, None)),
+    (
+        &["warmplay", "play", "a", "--setup", "b"],
+        (Some("a"), Some("b")),
+    ),
+    (&["warmplay", "play", "--setup=b"], (None, Some("b"))),
+    (
+        &["warmplay", "play", "--", "--setup"],
+        (Some("--setup"), None),
+    ),
+];
+
 #[test]
 fn play_takes_a_file_and_a_setup(rt: HostRuntime) {
-    let words = ["warmplay", "play"];
-    let read = command_of(rt.alloc(), words.as_slice());
-    assert_eq!(rt; play_texts(&read), Some((None, None)));
-    let words = ["warmplay", "play", "a", "--setup", "b"];
-    let read = command_of(rt.alloc(), words.as_slice());
-    assert_eq!(rt; play_texts(&read), Some((Some("a"), Some("b"))));
-    let words = ["warmplay", "play", "--setup=b"];
-    let read = command_of(rt.alloc(), words.as_slice());
-    assert_eq!(rt; play_texts(&read), Some((None, Some("b"))));
-    let words = ["warmplay", "play", "--", "--setup"];
-    let read = command_of(rt.alloc(), words.as_slice());
-    assert_eq!(rt; play_texts(&read), Some((Some("--setup"), None)));
+    for (words, texts) in PLAYS {
+        let read = command_of(rt.alloc(), words);
+        assert_eq!(rt; play_texts(&read), Some(texts));
+    }
 }
+
+// Words that ask for a schedule, and its seed, its number of events and its setup.
+const RANDOMS: [(Words, (u64, u32, Option<&str>)); 2] = [
+    (
+        &[
+            "warmplay",
+            "random",
+            "--seed",
+            "18446744073709551615",
+            "--events",
+            "1000000",
+        ],
+        (18446744073709551615, 1000000, None),
+    ),
+    (
+        &[
+            "warmplay",
+            "random",
+            "--events=0",
+            "--setup",
+            "b",
+            "--seed",
+            "007",
+        ],
+        (7, 0, Some("b")),
+    ),
+];
 
 #[test]
 fn random_takes_two_numbers_and_a_setup(rt: HostRuntime) {
-    let words = [
-        "warmplay",
-        "random",
-        "--seed",
-        "18446744073709551615",
-        "--events",
-        "1000000",
-    ];
-    let read = command_of(rt.alloc(), words.as_slice());
-    assert_eq!(rt;
-        random_values(&read),
-        Some((18446744073709551615, 1000000, None))
-    );
-    let words = [
-        "warmplay",
-        "random",
-        "--events=0",
-        "--setup",
-        "b",
-        "--seed",
-        "007",
-    ];
-    let read = command_of(rt.alloc(), words.as_slice());
-    assert_eq!(rt; random_values(&read), Some((7, 0, Some("b"))));
+    for (words, values) in RANDOMS {
+        let read = command_of(rt.alloc(), words);
+        assert_eq!(rt; random_values(&read), Some(values));
+    }
 }
 
 fn kind_of_words(rt: &HostRuntime, words: &[&str]) -> Option<ErrorKind> {
@@ -80,38 +95,40 @@ fn kind_of_words(rt: &HostRuntime, words: &[&str]) -> Option<ErrorKind> {
     }
 }
 
+// Words that are refused, and how.
+const REFUSED: [(Words, ErrorKind); 12] = [
+    (&["warmplay"], ErrorKind::MissingSubcommand),
+    (&["warmplay", "threads"], ErrorKind::InvalidSubcommand),
+    (&["warmplay", "play", "a", "b"], ErrorKind::UnknownArgument),
+    (&["warmplay", "play", "--setup"], ErrorKind::InvalidValue),
+    (
+        &["warmplay", "play", "--setup", "a", "--setup", "b"],
+        ErrorKind::ArgumentConflict,
+    ),
+    (
+        &["warmplay", "--setup", "a", "play"],
+        ErrorKind::UnknownArgument,
+    ),
+    (
+        &["warmplay", "random", "--seed", "1", "--events", "1000001"],
+        ErrorKind::ValueValidation,
+    ),
+    (
+        &["warmplay", "random", "--seed", "1"],
+        ErrorKind::MissingRequiredArgument,
+    ),
+    // Help is asked for in each form.
+    (&["warmplay", "--help"], ErrorKind::DisplayHelp),
+    (&["warmplay", "-h"], ErrorKind::DisplayHelp),
+    (&["warmplay", "help"], ErrorKind::DisplayHelp),
+    (&["warmplay", "play", "--help"], ErrorKind::DisplayHelp),
+];
+
 #[test]
 fn other_words_are_refused(rt: HostRuntime) {
-    let words = ["warmplay"];
-    assert_eq!(rt;
-        kind_of_words(&rt, words.as_slice()),
-        Some(ErrorKind::MissingSubcommand)
-    );
-    let words = ["warmplay", "threads"];
-    assert_eq!(rt;
-        kind_of_words(&rt, words.as_slice()),
-        Some(ErrorKind::InvalidSubcommand)
-    );
-    let words = ["warmplay", "play", "a", "b"];
-    assert_eq!(rt;
-        kind_of_words(&rt, words.as_slice()),
-        Some(ErrorKind::UnknownArgument)
-    );
-    let words = ["warmplay", "play", "--setup"];
-    assert_eq!(rt;
-        kind_of_words(&rt, words.as_slice()),
-        Some(ErrorKind::InvalidValue)
-    );
-    let words = ["warmplay", "play", "--setup", "a", "--setup", "b"];
-    assert_eq!(rt;
-        kind_of_words(&rt, words.as_slice()),
-        Some(ErrorKind::ArgumentConflict)
-    );
-    let words = ["warmplay", "--setup", "a", "play"];
-    assert_eq!(rt;
-        kind_of_words(&rt, words.as_slice()),
-        Some(ErrorKind::UnknownArgument)
-    );
+    for (at, (words, kind)) in REFUSED.iter().enumerate() {
+        assert_eq!(rt; kind_of_words(&rt, words), Some(*kind), "row {at}");
+    }
 }
 
 #[test]
@@ -126,33 +143,6 @@ fn numbers_out_of_range_are_refused(rt: HostRuntime) {
         let words = ["warmplay", "random", "--seed", seed, "--events", events];
         assert!(rt; kind_of_words(&rt, words.as_slice()).is_some());
     }
-    let words = ["warmplay", "random", "--seed", "1", "--events", "1000001"];
-    assert_eq!(rt;
-        kind_of_words(&rt, words.as_slice()),
-        Some(ErrorKind::ValueValidation)
-    );
-    let words = ["warmplay", "random", "--seed", "1"];
-    assert_eq!(rt;
-        kind_of_words(&rt, words.as_slice()),
-        Some(ErrorKind::MissingRequiredArgument)
-    );
-}
-
-#[test]
-fn help_is_asked_for_in_each_form(rt: HostRuntime) {
-    for word in ["--help", "-h", "help"] {
-        let words = ["warmplay", word];
-        assert_eq!(rt;
-            kind_of_words(&rt, words.as_slice()),
-            Some(ErrorKind::DisplayHelp),
-            "{word}"
-        );
-    }
-    let words = ["warmplay", "play", "--help"];
-    assert_eq!(rt;
-        kind_of_words(&rt, words.as_slice()),
-        Some(ErrorKind::DisplayHelp)
-    );
 }
 
 // Run again with each growth refused in turn: `rt try --test --fail-alloc N -- a_refused_growth_of_a_command`.
