@@ -17,8 +17,6 @@ pub mod laws;
 mod pages;
 mod replica;
 mod setup;
-#[cfg(test)]
-mod tests;
 mod world;
 
 pub use event::{Answer, BadWorld, Event, WorldFault};

@@ -2,16 +2,14 @@
 ghost use Rattle.std.specs.Prelude.{IfOk};
 ghost use Rattle.warm_world.specs.Seen.{IsWorld};
 
-use super::{Row, Use, add_list, devices_for, lives, made, page, runs, slot};
-use crate::event::WorldFault;
-use crate::setup::Setup;
-use crate::world::World;
+use super::{Live, Row, Use, add_list, devices_for, lives, made, page, runs, slot};
 use std::alloc::Global;
 use std::test::Fail;
 use warm_devices::{Flaky, MemDevice, PageDevice};
 use warm_gossip::NodeFault;
 use warm_pool::PoolFault;
 use warm_stamps::PageId;
+use warm_world::{Setup, WorldFault};
 
 const DONE: Result<(), WorldFault> = Ok(());
 
@@ -174,8 +172,8 @@ fn a_restart_waits_for_fixes(rt: HostRuntime) -> Result<(), Fail> {
 }
 
 // A world of one replica, with one frame over 8 pages; of the calls of its device this one fails.
-fn failing(alloc: Global, call: u64) -> Result<World, Fail>
-    ensures { IfOk result (λ world. IsWorld state world) }
+fn failing(alloc: Global, call: u64) -> Result<Live, Fail>
+    ensures { IfOk result (λ live. IsWorld state live.world) }
 {
     let Ok(setup) = Setup::new(1, 1, 64, 1, 16) else {
         return Err("the setup is within its limits".into());
@@ -198,8 +196,8 @@ fn a_page_that_was_not_read_comes_in_later(rt: HostRuntime) -> Result<(), Fail> 
         Row::Pool(1, Use::Loads(Ok(Some(page(1))))),
         Row::Pool(1, Use::Loads(Ok(None))),
     ];
-    let mut world = failing(rt.alloc(), 1)?;
-    runs(&rt, rt.alloc(), &mut world, &rows)
+    let mut live = failing(rt.alloc(), 1)?;
+    runs(&rt, rt.alloc(), &mut live, &rows)
 }
 
 // The page is read by the first call, and its write, the second, fails.
@@ -220,8 +218,8 @@ fn a_restart_that_fails_forgets_nothing(rt: HostRuntime) -> Result<(), Fail> {
         Row::Pool(1, Use::Pins(page(1), Ok(slot(0, 2)))),
         Row::Pool(1, Use::Has(slot(0, 2), 0, &[7])),
     ];
-    let mut world = failing(rt.alloc(), 2)?;
-    runs(&rt, rt.alloc(), &mut world, &rows)
+    let mut live = failing(rt.alloc(), 2)?;
+    runs(&rt, rt.alloc(), &mut live, &rows)
 }
 
 #[test]
@@ -234,6 +232,6 @@ fn a_world_that_could_not_be_finished_is_finished_later(rt: HostRuntime) -> Resu
         Row::Finishes(Ok(())),
         Row::Pool(1, Use::Has(slot(0, 1), 3, &[9])),
     ];
-    let mut world = failing(rt.alloc(), 2)?;
-    runs(&rt, rt.alloc(), &mut world, &rows)
+    let mut live = failing(rt.alloc(), 2)?;
+    runs(&rt, rt.alloc(), &mut live, &rows)
 }

@@ -9,10 +9,8 @@ mod growths;
 mod pools;
 mod setups;
 
-use crate::event::{Answer, Event, WorldFault};
-use crate::setup::Setup;
-use crate::world::World;
 use std::alloc::{AllocError, Global};
+use std::marker::PhantomData;
 use std::process::Abort;
 use std::test::Fail;
 use warm_devices::{MemDevice, PageDevice};
@@ -20,6 +18,7 @@ use warm_gossip::NodeFault;
 use warm_history::{History, PageHist};
 use warm_pool::Slot;
 use warm_stamps::{Bucket, ByteList, PageId};
+use warm_world::{Answer, Event, Setup, World, WorldFault};
 
 const fn page(no: u32) -> PageId {
     PageId { dev: 0, no }
@@ -72,24 +71,35 @@ fn devices_for(
     Ok(lists)
 }
 
+// A world that is tried.
+#[derive(Drop)]
+struct Live {
+    world: World,
+    // What holds of every boxed device is known where a type names the box.
+    boxes: PhantomData<Box<dyn PageDevice + Send>>,
+}
+
 fn made(
     alloc: Global,
     setup: Setup,
     devices: Vec<Vec<Box<dyn PageDevice + Send>>>,
-) -> Result<World, Fail>
+) -> Result<Live, Fail>
     requires { AreFew (listed state devices.items) }
-    ensures { IfOk result (λ world. IsWorld state world) }
+    ensures { IfOk result (λ live. IsWorld state live.world) }
 {
     match World::new(alloc, setup, devices) {
-        Ok(world) => Ok(world),
+        Ok(world) => Ok(Live {
+            world,
+            boxes: PhantomData,
+        }),
         Err(_) => Err("no world".into()),
     }
 }
 
 // Replicas with two workers each, whose buffers hold 64 references, and whose pools have so many frames over a device
 // of 256 pages of 16 bytes.
-fn fresh(alloc: Global, replicas: u16, frames: u32) -> Result<World, Fail>
-    ensures { IfOk result (λ world. IsWorld state world) }
+fn fresh(alloc: Global, replicas: u16, frames: u32) -> Result<Live, Fail>
+    ensures { IfOk result (λ live. IsWorld state live.world) }
 {
     let Ok(setup) = Setup::new(replicas, 2, 64, frames, 16) else {
         return Err("the setup is within its limits".into());
@@ -167,87 +177,87 @@ enum Use<'a> {
 // That memory was wanting, which no row expects.
 const UNEXPECTED: WorldFault = WorldFault::Node(NodeFault::Memory);
 
-fn settled(world: &mut World, event: Event) -> Done
-    requires { IsWorld state world.old }
-    ensures { IsWorld state world.new }
+fn settled(live: &mut Live, event: Event) -> Done
+    requires { IsWorld state live.old.world }
+    ensures { IsWorld state live.new.world }
 {
-    match world.step(event) {
+    match live.world.step(event) {
         Answer::Done => Ok(()),
         Answer::Refused(fault) => Err(fault),
         _ => Err(UNEXPECTED),
     }
 }
 
-fn kept(world: &mut World, event: Event) -> Result<u64, WorldFault>
-    requires { IsWorld state world.old }
-    ensures { IsWorld state world.new }
+fn kept(live: &mut Live, event: Event) -> Result<u64, WorldFault>
+    requires { IsWorld state live.old.world }
+    ensures { IsWorld state live.new.world }
 {
-    match world.step(event) {
+    match live.world.step(event) {
         Answer::FrameNo(frame) => Ok(frame),
         Answer::Refused(fault) => Err(fault),
         _ => Err(UNEXPECTED),
     }
 }
 
-fn heard(world: &mut World, j: u16, k: u64) -> Result<(u64, u64), WorldFault>
-    requires { IsWorld state world.old }
-    ensures { IsWorld state world.new }
+fn heard(live: &mut Live, j: u16, k: u64) -> Result<(u64, u64), WorldFault>
+    requires { IsWorld state live.old.world }
+    ensures { IsWorld state live.new.world }
 {
-    match world.step(Event::Deliver(j, k)) {
+    match live.world.step(Event::Deliver(j, k)) {
         Answer::Took { count, first } => Ok((count, first)),
         Answer::Refused(fault) => Err(fault),
         _ => Err(UNEXPECTED),
     }
 }
 
-fn shown(world: &mut World, i: u16) -> Result<History, Fail>
-    requires { IsWorld state world.old }
-    ensures { IsWorld state world.new }
+fn shown(live: &mut Live, i: u16) -> Result<History, Fail>
+    requires { IsWorld state live.old.world }
+    ensures { IsWorld state live.new.world }
 {
-    match world.step(Event::Show(i)) {
+    match live.world.step(Event::Show(i)) {
         Answer::Shown(history) => Ok(history),
         _ => Err("the replica is shown".into()),
     }
 }
 
-fn pinned(world: &mut World, i: u16, page: PageId) -> Result<Slot, WorldFault>
-    requires { IsWorld state world.old }
-    ensures { IsWorld state world.new }
+fn pinned(live: &mut Live, i: u16, page: PageId) -> Result<Slot, WorldFault>
+    requires { IsWorld state live.old.world }
+    ensures { IsWorld state live.new.world }
 {
-    match world.step(Event::Pin(i, page)) {
+    match live.world.step(Event::Pin(i, page)) {
         Answer::Pinned(slot) => Ok(slot),
         Answer::Refused(fault) => Err(fault),
         _ => Err(UNEXPECTED),
     }
 }
 
-fn bytes(world: &mut World, i: u16, slot: Slot, at: u32, len: u32) -> Result<ByteList, WorldFault>
-    requires { IsWorld state world.old }
-    ensures { IsWorld state world.new }
+fn bytes(live: &mut Live, i: u16, slot: Slot, at: u32, len: u32) -> Result<ByteList, WorldFault>
+    requires { IsWorld state live.old.world }
+    ensures { IsWorld state live.new.world }
 {
-    match world.step(Event::Get(i, slot, at, len)) {
+    match live.world.step(Event::Get(i, slot, at, len)) {
         Answer::Bytes(bytes) => Ok(bytes),
         Answer::Refused(fault) => Err(fault),
         _ => Err(UNEXPECTED),
     }
 }
 
-fn victim(world: &mut World, i: u16) -> Result<Option<PageId>, WorldFault>
-    requires { IsWorld state world.old }
-    ensures { IsWorld state world.new }
+fn victim(live: &mut Live, i: u16) -> Result<Option<PageId>, WorldFault>
+    requires { IsWorld state live.old.world }
+    ensures { IsWorld state live.new.world }
 {
-    match world.step(Event::Victim(i)) {
+    match live.world.step(Event::Victim(i)) {
         Answer::Page(page) => Ok(page),
         Answer::Refused(fault) => Err(fault),
         _ => Err(UNEXPECTED),
     }
 }
 
-fn loaded(world: &mut World, i: u16) -> Result<Option<PageId>, WorldFault>
-    requires { IsWorld state world.old }
-    ensures { IsWorld state world.new }
+fn loaded(live: &mut Live, i: u16) -> Result<Option<PageId>, WorldFault>
+    requires { IsWorld state live.old.world }
+    ensures { IsWorld state live.new.world }
 {
-    match world.step(Event::WarmStep(i)) {
+    match live.world.step(Event::WarmStep(i)) {
         Answer::Loaded(page) => Ok(page),
         Answer::Refused(fault) => Err(fault),
         _ => Err(UNEXPECTED),
@@ -255,30 +265,30 @@ fn loaded(world: &mut World, i: u16) -> Result<Option<PageId>, WorldFault>
 }
 
 // Pins a page and takes the fix away again.
-fn visited(world: &mut World, i: u16, page: PageId) -> Done
-    requires { IsWorld state world.old }
-    ensures { IsWorld state world.new }
+fn visited(live: &mut Live, i: u16, page: PageId) -> Done
+    requires { IsWorld state live.old.world }
+    ensures { IsWorld state live.new.world }
 {
-    match pinned(world, i, page) {
-        Ok(slot) => settled(world, Event::Unpin(i, slot)),
+    match pinned(live, i, page) {
+        Ok(slot) => settled(live, Event::Unpin(i, slot)),
         Err(fault) => Err(fault),
     }
 }
 
 fn put(
     alloc: Global,
-    world: &mut World,
+    live: &mut Live,
     i: u16,
     slot: Slot,
     at: u32,
     text: &[u8],
 ) -> Result<Done, Fail>
-    requires { IsWorld state world.old }
-    ensures { IsWorld state world.new }
+    requires { IsWorld state live.old.world }
+    ensures { IsWorld state live.new.world }
 {
     let mut bytes = Vec::new(alloc);
     bytes.extend_from_slice(text)?;
-    Ok(settled(world, Event::Put(i, slot, at, ByteList::of(bytes))))
+    Ok(settled(live, Event::Put(i, slot, at, ByteList::of(bytes))))
 }
 
 // A history has just these entries. `at` is the number of the row.
@@ -298,16 +308,16 @@ fn has_entries(
 
 fn are_hottest(
     rt: &impl Abort,
-    world: &mut World,
+    live: &mut Live,
     i: u16,
     pages: u32,
     wanted: &[PageId],
     at: usize,
 ) -> Result<(), Fail>
-    requires { IsWorld state world.old }
-    ensures { IsWorld state world.new }
+    requires { IsWorld state live.old.world }
+    ensures { IsWorld state live.new.world }
 {
-    let Answer::Pages(hottest) = world.step(Event::Warm(i, pages)) else {
+    let Answer::Pages(hottest) = live.world.step(Event::Warm(i, pages)) else {
         return Err("the replica has a warm-up list".into());
     };
     assert_eq!(rt; hottest.as_slice(), wanted, "row {at}");
@@ -316,20 +326,20 @@ fn are_hottest(
 
 fn reads(
     rt: &impl Abort,
-    world: &mut World,
+    live: &mut Live,
     i: u16,
     slot: Slot,
     from: u32,
     wanted: &[u8],
     at: usize,
 ) -> Result<(), Fail>
-    requires { IsWorld state world.old }
-    ensures { IsWorld state world.new }
+    requires { IsWorld state live.old.world }
+    ensures { IsWorld state live.new.world }
 {
     let Ok(count) = u32::try_from(wanted.len()) else {
         return Err("a row wants few bytes".into());
     };
-    let Ok(read) = bytes(world, i, slot, from, count) else {
+    let Ok(read) = bytes(live, i, slot, from, count) else {
         return Err("the bytes are read".into());
     };
     assert_eq!(rt; read.as_slice(), wanted, "row {at}");
@@ -340,33 +350,33 @@ fn reads(
 fn uses(
     rt: &impl Abort,
     alloc: Global,
-    world: &mut World,
+    live: &mut Live,
     i: u16,
     row: Use<'_>,
     at: usize,
 ) -> Result<(), Fail>
-    requires { IsWorld state world.old }
-    ensures { IsWorld state world.new }
+    requires { IsWorld state live.old.world }
+    ensures { IsWorld state live.new.world }
 {
     match row {
-        Use::Has(slot, from, wanted) => return reads(rt, world, i, slot, from, wanted, at),
-        Use::Pins(page, wanted) => assert_eq!(rt; pinned(world, i, page), wanted, "row {at}"),
+        Use::Has(slot, from, wanted) => return reads(rt, live, i, slot, from, wanted, at),
+        Use::Pins(page, wanted) => assert_eq!(rt; pinned(live, i, page), wanted, "row {at}"),
         Use::Unpins(slot, wanted) => {
-            assert_eq!(rt; settled(world, Event::Unpin(i, slot)), wanted, "row {at}")
+            assert_eq!(rt; settled(live, Event::Unpin(i, slot)), wanted, "row {at}")
         }
-        Use::Visits(no) => assert_eq!(rt; visited(world, i, page(no)), Ok(()), "row {at}"),
+        Use::Visits(no) => assert_eq!(rt; visited(live, i, page(no)), Ok(()), "row {at}"),
         Use::Puts(slot, from, text, wanted) => {
-            assert_eq!(rt; put(alloc, world, i, slot, from, text)?, wanted, "row {at}")
+            assert_eq!(rt; put(alloc, live, i, slot, from, text)?, wanted, "row {at}")
         }
         Use::Lacks(slot, from, len, fault) => {
             assert_eq!(rt;
-                bytes(world, i, slot, from, len).err(),
+                bytes(live, i, slot, from, len).err(),
                 Some(fault),
                 "row {at}"
             )
         }
-        Use::Victim(wanted) => assert_eq!(rt; victim(world, i), Ok(wanted), "row {at}"),
-        Use::Loads(wanted) => assert_eq!(rt; loaded(world, i), wanted, "row {at}"),
+        Use::Victim(wanted) => assert_eq!(rt; victim(live, i), Ok(wanted), "row {at}"),
+        Use::Loads(wanted) => assert_eq!(rt; loaded(live, i), wanted, "row {at}"),
     }
     Ok(())
 }
@@ -375,48 +385,48 @@ fn uses(
 fn meets(
     rt: &impl Abort,
     alloc: Global,
-    world: &mut World,
+    live: &mut Live,
     row: Row<'_>,
     at: usize,
 ) -> Result<(), Fail>
-    requires { IsWorld state world.old }
-    ensures { IsWorld state world.new }
+    requires { IsWorld state live.old.world }
+    ensures { IsWorld state live.new.world }
 {
     match row {
-        Row::Pool(i, row) => return uses(rt, alloc, world, i, row, at),
-        Row::Hottest(i, pages, wanted) => return are_hottest(rt, world, i, pages, wanted, at),
-        Row::Knows(i, wanted) => return has_entries(rt, &shown(world, i)?, wanted, at),
+        Row::Pool(i, row) => return uses(rt, alloc, live, i, row, at),
+        Row::Hottest(i, pages, wanted) => return are_hottest(rt, live, i, pages, wanted, at),
+        Row::Knows(i, wanted) => return has_entries(rt, &shown(live, i)?, wanted, at),
         Row::Refers(i, w, page, time, wanted) => {
             let refer = Event::Refer(i, w, page, time);
-            assert_eq!(rt; settled(world, refer), wanted, "row {at}")
+            assert_eq!(rt; settled(live, refer), wanted, "row {at}")
         }
         Row::Flushes(i, w, wanted) => {
-            assert_eq!(rt; settled(world, Event::Flush(i, w)), wanted, "row {at}")
+            assert_eq!(rt; settled(live, Event::Flush(i, w)), wanted, "row {at}")
         }
         Row::Sends(i, bucket, after, wanted) => {
             let bucket = Bucket::new(bucket).ok_or("a bucket")?;
             let send = Event::Send(i, bucket, after);
-            assert_eq!(rt; kept(world, send), Ok(wanted), "row {at}")
+            assert_eq!(rt; kept(live, send), Ok(wanted), "row {at}")
         }
         Row::Offers(i, wanted) => {
-            assert_eq!(rt; kept(world, Event::Offer(i)), Ok(wanted), "row {at}")
+            assert_eq!(rt; kept(live, Event::Offer(i)), Ok(wanted), "row {at}")
         }
-        Row::Hears(j, k, wanted) => assert_eq!(rt; heard(world, j, k), wanted, "row {at}"),
+        Row::Hears(j, k, wanted) => assert_eq!(rt; heard(live, j, k), wanted, "row {at}"),
         Row::Restarts(i, wanted) => {
-            assert_eq!(rt; settled(world, Event::Restart(i)), wanted, "row {at}")
+            assert_eq!(rt; settled(live, Event::Restart(i)), wanted, "row {at}")
         }
-        Row::Finishes(wanted) => assert_eq!(rt; world.finish(), wanted, "row {at}"),
+        Row::Finishes(wanted) => assert_eq!(rt; live.world.finish(), wanted, "row {at}"),
     }
     Ok(())
 }
 
 // Asks a world what the rows say, in turn.
-fn runs(rt: &impl Abort, alloc: Global, world: &mut World, rows: &[Row<'_>]) -> Result<(), Fail>
-    requires { IsWorld state world.old }
-    ensures { IsWorld state world.new }
+fn runs(rt: &impl Abort, alloc: Global, live: &mut Live, rows: &[Row<'_>]) -> Result<(), Fail>
+    requires { IsWorld state live.old.world }
+    ensures { IsWorld state live.new.world }
 {
     for (at, row) in rows.iter().enumerate() {
-        meets(rt, alloc, world, *row, at)?;
+        meets(rt, alloc, live, *row, at)?;
     }
     Ok(())
 }
@@ -429,6 +439,6 @@ fn lives(
     frames: u32,
     rows: &[Row<'_>],
 ) -> Result<(), Fail> {
-    let mut world = fresh(alloc, replicas, frames)?;
-    runs(rt, alloc, &mut world, rows)
+    let mut live = fresh(alloc, replicas, frames)?;
+    runs(rt, alloc, &mut live, rows)
 }

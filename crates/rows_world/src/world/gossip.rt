@@ -1,13 +1,14 @@
 //! References, buffers, frames and rounds of gossip.
 ghost use Rattle.warm_world.specs.Seen.{IsWorld};
 
-use super::{Row, fresh, kept, lives, page, runs, settled};
-use crate::event::{Answer, Event, WorldFault};
-use crate::world::World;
+use super::{Live, Row, fresh, heard, kept, lives, page, runs, settled, shown};
 use std::alloc::Global;
 use std::process::Abort;
 use std::test::Fail;
-use warm_stamps::{Bucket, PageId};
+use warm_frames::{EntryList, Frame, encode};
+use warm_history::History;
+use warm_stamps::{Bucket, PageId, ReplicaId};
+use warm_world::{Answer, Event, WorldFault};
 
 const PAGE: PageId = PageId { dev: 0, no: 1 };
 
@@ -118,41 +119,35 @@ fn warms_the_hottest_first(rt: HostRuntime) -> Result<(), Fail> {
 
 // Worker 1 of replica 1 references pages: so many, each with a number that is so many times its place, at the time of its
 // place.
-fn refers(
-    rt: &impl Abort,
-    world: &mut World,
-    count: u32,
-    spread: u32,
-    first: u64,
-) -> Result<(), Fail>
-    requires { IsWorld state world.old }
-    ensures { IsWorld state world.new }
+fn refers(rt: &impl Abort, live: &mut Live, count: u32, spread: u32, first: u64) -> Result<(), Fail>
+    requires { IsWorld state live.old.world }
+    ensures { IsWorld state live.new.world }
 {
     for place in 0..count {
         let page = page(place.wrapping_mul(spread));
         let time = first.wrapping_add(place as u64);
-        assert_eq!(rt; settled(world, Event::Refer(1, 1, page, time)), Ok(()));
+        assert_eq!(rt; settled(live, Event::Refer(1, 1, page, time)), Ok(()));
     }
     Ok(())
 }
 
-fn full_buffer_moves(rt: &impl Abort, alloc: Global, world: &mut World) -> Result<(), Fail>
-    requires { IsWorld state world.old }
-    ensures { IsWorld state world.new }
+fn full_buffer_moves(rt: &impl Abort, alloc: Global, live: &mut Live) -> Result<(), Fail>
+    requires { IsWorld state live.old.world }
+    ensures { IsWorld state live.new.world }
 {
-    refers(rt, world, 65, 0, 1)?;
+    refers(rt, live, 65, 0, 1)?;
     let rows = [
         Row::Knows(1, &[(page(0), (64, 1, Some((63, 1))))]),
         Row::Flushes(1, 1, DONE),
         Row::Knows(1, &[(page(0), (65, 1, Some((64, 1))))]),
     ];
-    runs(rt, alloc, world, &rows)
+    runs(rt, alloc, live, &rows)
 }
 
 #[test]
 fn a_full_buffer_moves_first(rt: HostRuntime) -> Result<(), Fail> {
-    let mut world = fresh(rt.alloc(), 1, 4)?;
-    full_buffer_moves(&rt, rt.alloc(), &mut world)
+    let mut live = fresh(rt.alloc(), 1, 4)?;
+    full_buffer_moves(&rt, rt.alloc(), &mut live)
 }
 
 // The frame of page 0:7 with 20@1 and 10@1, from replica 1.
@@ -161,9 +156,9 @@ const FRAME: [u8; 42] = [
     0, 0, 0x14, 0, 1, 0, 0, 0, 0, 0, 0, 0, 0x0A, 0, 1,
 ];
 
-fn sends_bucket_seven(rt: &impl Abort, alloc: Global, world: &mut World) -> Result<(), Fail>
-    requires { IsWorld state world.old }
-    ensures { IsWorld state world.new }
+fn sends_bucket_seven(rt: &impl Abort, alloc: Global, live: &mut Live) -> Result<(), Fail>
+    requires { IsWorld state live.old.world }
+    ensures { IsWorld state live.new.world }
 {
     let rows = [
         Row::Refers(1, 1, page(7), 10, DONE),
@@ -171,59 +166,80 @@ fn sends_bucket_seven(rt: &impl Abort, alloc: Global, world: &mut World) -> Resu
         Row::Flushes(1, 1, DONE),
         Row::Sends(1, 7, None, 1),
     ];
-    runs(rt, alloc, world, &rows)
+    runs(rt, alloc, live, &rows)
 }
 
-fn keeps_bytes(rt: &impl Abort, world: &World) {
-    let kept = world.frames.first().map(|bytes| bytes.as_slice());
-    assert_eq!(rt; kept, Some(FRAME.as_slice()));
+// The bytes of a frame of replica 1 that has what a history knows, from its entry at a place on.
+fn spelled(alloc: Global, history: &History, from: usize) -> Result<Vec<u8>, Fail> {
+    let mut entries = Vec::new(alloc);
+    for place in from..history.len() {
+        entries.push(history.at(place).ok_or("an entry")?)?;
+    }
+    let Ok(entries) = EntryList::of(entries) else {
+        return Err("the pages rise".into());
+    };
+    let sender = ReplicaId::new(1)?;
+    Ok(encode(alloc, &Frame::Entries { sender, entries })?)
 }
 
-#[test]
-fn frames_are_kept_as_bytes(rt: HostRuntime) -> Result<(), Fail> {
-    let mut world = fresh(rt.alloc(), 2, 4)?;
-    sends_bucket_seven(&rt, rt.alloc(), &mut world)?;
-    keeps_bytes(&rt, &world);
+// What frame 1 brings to replica 2, who knew nothing, are the entries of these bytes.
+fn brings_what_it_says(rt: &impl Abort, alloc: Global, live: &mut Live) -> Result<(), Fail>
+    requires { IsWorld state live.old.world }
+    ensures { IsWorld state live.new.world }
+{
+    runs(rt, alloc, live, &[Row::Hears(2, 1, NOT_ANSWERED)])?;
+    let bytes = spelled(alloc, &shown(live, 2)?, 0)?;
+    assert_eq!(rt; bytes.as_slice(), FRAME.as_slice());
     Ok(())
 }
 
-// Bucket 0 of replica 1, after a page, comes to replica 2 as a frame of this length; it then knows of so many pages.
+#[test]
+fn a_frame_brings_what_its_bytes_say(rt: HostRuntime) -> Result<(), Fail> {
+    let mut live = fresh(rt.alloc(), 2, 4)?;
+    sends_bucket_seven(&rt, rt.alloc(), &mut live)?;
+    brings_what_it_says(&rt, rt.alloc(), &mut live)
+}
+
+// Bucket 0 of replica 1, after a page, comes to replica 2, who knew its first pages, so many; what it brings fills a frame
+// of this length.
 fn carries(
     rt: &impl Abort,
-    world: &mut World,
+    alloc: Global,
+    live: &mut Live,
     after: Option<PageId>,
     length: usize,
     known: usize,
 ) -> Result<(), Fail>
-    requires { IsWorld state world.old }
-    ensures { IsWorld state world.new }
+    requires { IsWorld state live.old.world }
+    ensures { IsWorld state live.new.world }
 {
     let bucket = Bucket::new(0).ok_or("a bucket")?;
-    let Ok(number) = kept(world, Event::Send(1, bucket, after)) else {
+    let Ok(number) = kept(live, Event::Send(1, bucket, after)) else {
         return Err("a frame is sent".into());
     };
-    let kept = world.frames.iter().last().map(|bytes| bytes.len());
-    assert_eq!(rt; kept, Some(length));
-    assert_eq!(rt; super::heard(world, 2, number), NOT_ANSWERED);
-    assert_eq!(rt; super::shown(world, 2)?.len(), known);
+    assert_eq!(rt; heard(live, 2, number), NOT_ANSWERED);
+    let bytes = spelled(alloc, &shown(live, 2)?, known)?;
+    assert_eq!(rt; bytes.len(), length);
     Ok(())
 }
 
 // 1001 pages of bucket 0 take two frames: 1000 entries of 17 bytes after a header of 11 and a count of 4, and one entry.
-fn goes_in_two_frames(rt: &impl Abort, world: &mut World) -> Result<(), Fail>
-    requires { IsWorld state world.old }
-    ensures { IsWorld state world.new }
+fn goes_in_two_frames(rt: &impl Abort, alloc: Global, live: &mut Live) -> Result<(), Fail>
+    requires { IsWorld state live.old.world }
+    ensures { IsWorld state live.new.world }
 {
-    refers(rt, world, 1001, 64, 0)?;
-    assert_eq!(rt; settled(world, Event::Flush(1, 1)), Ok(()));
-    carries(rt, world, None, 17_015, 1000)?;
-    carries(rt, world, Some(page(63_936)), 32, 1001)
+    refers(rt, live, 1001, 64, 0)?;
+    assert_eq!(rt; settled(live, Event::Flush(1, 1)), Ok(()));
+    carries(rt, alloc, live, None, 17_015, 0)?;
+    carries(rt, alloc, live, Some(page(63_936)), 32, 1000)?;
+    assert_eq!(rt; shown(live, 2)?.len(), 1001);
+    Ok(())
 }
 
 #[test]
 fn a_bucket_of_1001_pages_takes_two_frames(rt: HostRuntime) -> Result<(), Fail> {
-    let mut world = fresh(rt.alloc(), 2, 4)?;
-    goes_in_two_frames(&rt, &mut world)
+    let mut live = fresh(rt.alloc(), 2, 4)?;
+    goes_in_two_frames(&rt, rt.alloc(), &mut live)
 }
 
 // References to 10,000 pages in turn, one at each time.
@@ -243,22 +259,22 @@ fn all_done(rt: &impl Abort, answers: &[Answer]) {
     }
 }
 
-fn runs_at_once(rt: &impl Abort, alloc: Global, world: &mut World) -> Result<(), Fail>
-    requires { IsWorld state world.old }
-    ensures { IsWorld state world.new }
+fn runs_at_once(rt: &impl Abort, alloc: Global, live: &mut Live) -> Result<(), Fail>
+    requires { IsWorld state live.old.world }
+    ensures { IsWorld state live.new.world }
 {
-    let Ok(answers) = world.run(references_in_turn(alloc, 70_000)?) else {
+    let Ok(answers) = live.world.run(references_in_turn(alloc, 70_000)?) else {
         return Err("memory is ample".into());
     };
     assert_eq!(rt; answers.len(), 70_000);
     all_done(rt, &answers);
-    assert_eq!(rt; settled(world, Event::Flush(1, 1)), Ok(()));
-    let Answer::Pages(pages) = world.step(Event::Warm(1, 10_000)) else {
+    assert_eq!(rt; settled(live, Event::Flush(1, 1)), Ok(()));
+    let Answer::Pages(pages) = live.world.step(Event::Warm(1, 10_000)) else {
         return Err("the replica has a warm-up list".into());
     };
     assert_eq!(rt; pages.as_slice().len(), 10_000);
     assert_eq!(rt; pages.as_slice().first().copied(), Some(page(9_999)));
-    assert_eq!(rt; super::shown(world, 1)?.len(), 10_000);
+    assert_eq!(rt; shown(live, 1)?.len(), 10_000);
     Ok(())
 }
 
@@ -266,6 +282,6 @@ fn runs_at_once(rt: &impl Abort, alloc: Global, world: &mut World) -> Result<(),
 // is referenced seven times, in turn: the last of them is the hottest.
 #[test]
 fn seventy_thousand_events_run_at_once(rt: HostRuntime) -> Result<(), Fail> {
-    let mut world = fresh(rt.alloc(), 1, 4)?;
-    runs_at_once(&rt, rt.alloc(), &mut world)
+    let mut live = fresh(rt.alloc(), 1, 4)?;
+    runs_at_once(&rt, rt.alloc(), &mut live)
 }

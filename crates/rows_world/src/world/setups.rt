@@ -3,14 +3,12 @@ ghost use Rattle.warm_world.specs.Opening.{AreFew};
 ghost use Rattle.warm_world.specs.Seen.{listed};
 
 use super::{add_list, devices_for, one_device};
-use crate::event::{BadWorld, WorldFault};
-use crate::setup::{BadSetup, Setup};
-use crate::world::World;
 use std::alloc::Global;
 use std::test::Fail;
 use warm_devices::PageDevice;
 use warm_gossip::NodeFault;
 use warm_pool::PoolFault;
+use warm_world::{BadSetup, BadWorld, Setup, World, WorldFault};
 
 #[test]
 fn setups_are_within_limits(rt: HostRuntime) {
