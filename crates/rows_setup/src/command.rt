@@ -88,6 +88,30 @@ fn random_takes_two_numbers_and_a_setup(rt: HostRuntime) {
     }
 }
 
+fn threads_texts(read: &Result<Cmd, CmdFault>) -> Option<(&str, Option<&str>)> {
+    match read {
+        Ok(Cmd::Threads { file, setup }) => Some((file.as_str(), shown(setup))),
+        _ => None,
+    }
+}
+
+// Words of a play by threads, and the file and the setup that they name.
+const THREADS: [(Words, (&str, Option<&str>)); 2] = [
+    (&["warmplay", "threads", "a"], ("a", None)),
+    (
+        &["warmplay", "threads", "--setup", "b", "a"],
+        ("a", Some("b")),
+    ),
+];
+
+#[test]
+fn threads_takes_a_file_and_a_setup(rt: HostRuntime) {
+    for (words, texts) in THREADS {
+        let read = command_of(rt.alloc(), words);
+        assert_eq!(rt; threads_texts(&read), Some(texts));
+    }
+}
+
 fn kind_of_words(rt: &HostRuntime, words: &[&str]) -> Option<ErrorKind> {
     match command_of(rt.alloc(), words) {
         Err(CmdFault::Refused(error)) => Some(error.kind()),
@@ -96,9 +120,10 @@ fn kind_of_words(rt: &HostRuntime, words: &[&str]) -> Option<ErrorKind> {
 }
 
 // Words that are refused, and how.
-const REFUSED: [(Words, ErrorKind); 12] = [
+const REFUSED: [(Words, ErrorKind); 13] = [
     (&["warmplay"], ErrorKind::MissingSubcommand),
-    (&["warmplay", "threads"], ErrorKind::InvalidSubcommand),
+    (&["warmplay", "thread"], ErrorKind::InvalidSubcommand),
+    (&["warmplay", "threads"], ErrorKind::MissingRequiredArgument),
     (&["warmplay", "play", "a", "b"], ErrorKind::UnknownArgument),
     (&["warmplay", "play", "--setup"], ErrorKind::InvalidValue),
     (

@@ -49,6 +49,8 @@ fn a_play_fault_is_named(rt: HostRuntime) {
         (PlayFault::Memory, "warmplay: Memory\n"),
         (PlayFault::ReadFault, "warmplay: ReadFault\n"),
         (PlayFault::WriteFault, "warmplay: WriteFault\n"),
+        (PlayFault::BadLine(7), "warmplay: BadLine 7\n"),
+        (PlayFault::NoThread, "warmplay: NoThread\n"),
         (PlayFault::BadDevices, "warmplay: BadDevices\n"),
     ] {
         let (status, line) = told(&rt, &Err(RunFault::Play(fault))).expect(&rt, "room");

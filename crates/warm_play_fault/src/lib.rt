@@ -13,7 +13,7 @@ use thiserror::Error;
 #[derive(Clone, Copy, Debug, PartialEq, Eq, Error)]
 pub enum PlayFault {
     /// There was no room for the read buffer, for the world or for a line: 1. Want of memory inside an event is no fault of
-    /// the play: it is printed, and the schedule goes on.
+    /// the play: it is printed, and the schedule goes on. A play by threads has this one refusal for all its want of memory.
     #[error("Memory")]
     Memory,
     /// The reader failed, or 2^40 reads came to no end: 2.
@@ -22,6 +22,14 @@ pub enum PlayFault {
     /// The writer failed: 3.
     #[error("WriteFault")]
     WriteFault,
+    /// The line of this number, counted from 1, is none that threads can play: 4. It comes of a play by threads alone, and
+    /// nothing was written.
+    #[error("BadLine")]
+    BadLine(u64),
+    /// A thread could not be started, for want of memory too: 5. It comes of a play by threads alone. Those that were started
+    /// have run to their end.
+    #[error("NoThread")]
+    NoThread,
     /// The world refused the devices, for their number of lists or the size of their pages: 6.
     #[error("BadDevices")]
     BadDevices,
@@ -36,11 +44,13 @@ impl PlayFault {
             PlayFault::Memory => 1,
             PlayFault::ReadFault => 2,
             PlayFault::WriteFault => 3,
+            PlayFault::BadLine(_) => 4,
+            PlayFault::NoThread => 5,
             PlayFault::BadDevices => 6,
         }
     }
 
-    /// Its name.
+    /// Its name: the word alone, also of a bad line.
     pub fn name(self) -> &'static str
         ensures { result.now ≡ play_fault_name self }
     {
@@ -48,6 +58,8 @@ impl PlayFault {
             PlayFault::Memory => "Memory",
             PlayFault::ReadFault => "ReadFault",
             PlayFault::WriteFault => "WriteFault",
+            PlayFault::BadLine(_) => "BadLine",
+            PlayFault::NoThread => "NoThread",
             PlayFault::BadDevices => "BadDevices",
         }
     }

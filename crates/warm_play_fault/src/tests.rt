@@ -7,6 +7,8 @@ fn faults_have_numbers_and_names(rt: HostRuntime) -> Result<(), Fail> {
         (PlayFault::Memory, 1, "Memory"),
         (PlayFault::ReadFault, 2, "ReadFault"),
         (PlayFault::WriteFault, 3, "WriteFault"),
+        (PlayFault::BadLine(7), 4, "BadLine"),
+        (PlayFault::NoThread, 5, "NoThread"),
         (PlayFault::BadDevices, 6, "BadDevices"),
     ] {
         assert_eq!(rt; (fault.code(), fault.name()), (code, name));

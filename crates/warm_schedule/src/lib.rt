@@ -15,6 +15,7 @@ mod text;
 
 pub use parse::{Line, LineFault, MAX_LINE, parse_line};
 pub use player::play;
-pub use printer::{print_answer, print_bad_line, print_end_refused};
+pub use printer::{print_answer, print_bad_line, print_end_refused, print_history};
 pub use random::random_schedule;
+pub use text::first_line;
 pub use warm_play_fault::PlayFault;

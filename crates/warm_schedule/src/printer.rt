@@ -55,7 +55,9 @@ fn print_entry<W: Write>(writer: &mut W, entry: Entry) -> io::Result<()>
     writer.write_all(b"\n")
 }
 
-fn print_history<W: Write>(writer: &mut W, history: &History) -> io::Result<()>
+/// Prints a history as `show` does: a line for each page, in page order, and then their number. After an error nothing is said
+/// of how much of it was written.
+pub fn print_history<W: Write>(writer: &mut W, history: &History) -> io::Result<()>
     ensures { Prints result (W.contents writer.old) (W.contents writer.new)
         (shown_text history.now) }
 {

@@ -1,4 +1,4 @@
--- Words in which clap's definition has no fault ask for `play` or `random`: a subcommand is wanted, and `help` is a fault.
+-- Words in which clap's definition has no fault ask for `play`, `random` or `threads`: a subcommand is wanted, and `help` is a fault.
 use Rattle.std.proofs.Common.{◌≡◌, Err, ℕ, List, [], ◌∷◌, Bool, true, false, not, ◌&&◌, ◌||◌, cond, zero, suc, drop, subst, Option, Some, None, is_some, option_map, codes, refl, sym, ap, ◌⊎◌, inl, inr, ◌∙◌, true≢false}
 use Rattle.std.specs.Prelude.{bytes_eq, option_and_then, fold}
 use Rattle.std.proofs.lemmas.Slice.Eq.{bytes_eq-Decides}
@@ -11,7 +11,7 @@ use Rattle.clap.specs.Faults.{check_fault, entered_fault, fault_of, other_fault,
 use Rattle.clap.specs.declared.error.kind.ErrorKind.TheVariants.{ValueValidation}
 use Rattle.warm_setup.specs.declared.command.CmdFault.{CmdFault}
 use Rattle.warm_setup.specs.declared.command.CmdFault.TheVariants.{Memory, Refused}
-use Rattle.warm_setup.specs.Words.{Answers, IsRefusal, LacksNumber, command_by, command_in, play, warmplay}
+use Rattle.warm_setup.specs.Words.{Answers, IsRefusal, LacksValue, command_by, command_in, play, warmplay}
 
 both_empty : (first rest : Kinds) → or_else first rest ≡ [] → (first ≡ []) × (rest ≡ [])
 both_empty [] rest e = (refl, e)
@@ -112,29 +112,37 @@ help_other name other =
       | false ↦ λ differs. refl
     ] refl
 
--- a command, or the subcommand that lacks a number
+-- the subcommand of this name
+abbrev IsNamed : Text → Option (Text × List Row) → Type 0
+IsNamed name found = option_map (λ f. bytes_eq f.0 name) found ≡ Some true
+
+-- a command, or a subcommand that may lack a value
 abbrev pub IsAsked : Option (Text × List Row) → Type 0
-IsAsked found = (is_some (option_and_then command_by found) ≡ true) ⊎ (option_map (λ f. bytes_eq f.0 (codes "random")) found ≡ Some true)
+IsAsked found = (is_some (option_and_then command_by found) ≡ true) ⊎ (IsNamed (codes "random") found ⊎ IsNamed (codes "threads") found)
 
 abbrev shape_at : ℕ → List Shape → Shape
 shape_at n [] = play.top
 shape_at zero (s ∷ rest) = s
 shape_at (suc n) (s ∷ rest) = shape_at n rest
 
--- the first of the three subcommands whose name is that of the words
-abbrev entered_by : Bool → Bool → Bool → List Text → Option (Text × List Row)
-entered_by is_play is_random is_help rest = option_map (λ s. rows_at s rest)
-    (cond (is_play || false) (Some (shape_at 0 (built warmplay).subs)) (cond (is_random || false) (Some (shape_at 1 (built warmplay).subs)) (cond (is_help || false) (Some (shape_at 2 (built warmplay).subs)) None)))
+-- the first of the four subcommands whose name is that of the words
+abbrev entered_by : Bool → Bool → Bool → Bool → List Text → Option (Text × List Row)
+entered_by is_play is_random is_threads is_help rest = option_map (λ s. rows_at s rest)
+    (cond (is_play || false) (Some (shape_at 0 (built warmplay).subs)) (cond (is_random || false) (Some (shape_at 1 (built warmplay).subs))
+    (cond (is_threads || false) (Some (shape_at 2 (built warmplay).subs)) (cond (is_help || false) (Some (shape_at 3 (built warmplay).subs)) None))))
 
-play_or_random : (is_play is_random is_help : Bool) (rest : List Text) → is_help ≡ false → is_some (entered_by is_play is_random is_help rest) ≡ true → IsAsked (entered_by is_play is_random is_help rest)
-play_or_random true is_random is_help rest other there = inl refl
-play_or_random false true is_help rest other there = inr refl
-play_or_random false false false rest other there = absurd (true≢false (sym there))
-play_or_random false false true rest other there = absurd (true≢false other)
+one_is_asked : (is_play is_random is_threads is_help : Bool) (rest : List Text) → is_help ≡ false → is_some (entered_by is_play is_random is_threads is_help rest) ≡ true
+    → IsAsked (entered_by is_play is_random is_threads is_help rest)
+one_is_asked true is_random is_threads is_help rest other there = inl refl
+one_is_asked false true is_threads is_help rest other there = inr (inl refl)
+one_is_asked false false true is_help rest other there = inr (inr refl)
+one_is_asked false false false false rest other there = absurd (true≢false (sym there))
+one_is_asked false false false true rest other there = absurd (true≢false other)
 
 asked_at : (stop : Option (Text × List Text)) → StopsAtNoHelp stop → is_some (entered (built warmplay) stop) ≡ true → IsAsked (entered (built warmplay) stop)
 asked_at None kept there = absurd (true≢false (sym there))
-asked_at (Some p) kept there = play_or_random (bytes_eq (codes "play") p.0) (bytes_eq (codes "random") p.0) (bytes_eq (codes "help") p.0) p.1 (help_other p.0 kept) there
+asked_at (Some p) kept there =
+    one_is_asked (bytes_eq (codes "play") p.0) (bytes_eq (codes "random") p.0) (bytes_eq (codes "threads") p.0) (bytes_eq (codes "help") p.0) p.1 (help_other p.0 kept) there
 
 pub is_asked : (words : List Text) → fault_of warmplay words ≡ [] → IsAsked (subcommand_of warmplay words)
 is_asked words e =
@@ -148,13 +156,13 @@ is_asked words e =
     let fills = both_empty _ _ settles.1 in
     asked_at stop (by_walk top refl names (walk_from nothing_held) rest walks.0 tt) (wanted top (finished top.rules (walk top.rules names nothing_held rest).held) (is_some (entered (built warmplay) stop)) refl fills.1)
 
--- no fault, and no command: a number is wanted
-pub lacks_number : (words : List Text) → fault_of warmplay words ≡ [] → None ≡ command_in words → LacksNumber words
-lacks_number words e none = elim (is_asked words e) [
+-- no fault, and no command: a number or a file is wanted
+pub lacks_value : (words : List Text) → fault_of warmplay words ≡ [] → None ≡ command_in words → LacksValue words
+lacks_value words e none = elim (is_asked words e) [
   | inl there ↦ absurd (true≢false (sym (ap is_some none ∙ there)))
-  | inr random ↦ (e, random, sym none)
+  | inr asks ↦ (e, asks, sym none)
 ]
 
-pub refused_for_number : (words : List Text) (fault : CmdFault) → LacksNumber words → IsRefusal ValueValidation fault → Answers words (Err fault)
-refused_for_number words Memory lacks is = tt
-refused_for_number words (Refused error) lacks is = inr (lacks, is)
+pub refused_for_value : (words : List Text) (fault : CmdFault) → LacksValue words → IsRefusal ValueValidation fault → Answers words (Err fault)
+refused_for_value words Memory lacks is = tt
+refused_for_value words (Refused error) lacks is = inr (lacks, is)

@@ -1,5 +1,5 @@
 -- How a run of the program ends: its exit status, and its line on standard error.
-use Rattle.std.specs.Prelude.{ℕ, List, [], ◌∷◌, ◌++◌, Result, Ok, Err, codes}
+use Rattle.std.specs.Prelude.{ℕ, List, [], ◌∷◌, ◌++◌, Option, Some, None, Result, Ok, Err, codes, decimal}
 use Rattle.clap.specs.Words.{kind_of}
 use Rattle.clap.specs.declared.error.kind.ErrorKind.{ErrorKind}
 use Rattle.clap.specs.declared.error.kind.ErrorKind.TheVariants.{DisplayHelp, DisplayVersion}
@@ -8,6 +8,8 @@ use Rattle.warm_setup.specs.declared.command.CmdFault.TheVariants as command
 use Rattle.warm_setup.specs.declared.outcome.RunFault.{RunFault}
 use Rattle.warm_setup.specs.declared.outcome.RunFault.TheVariants.{Command, CannotOpen, Setup, Play}
 use Rattle.warm_play_fault.specs.Faults.{play_fault_name}
+use Rattle.warm_play_fault.specs.declared.PlayFault.{PlayFault}
+use Rattle.warm_play_fault.specs.declared.PlayFault.TheVariants.{BadLine}
 use Rattle.warm_setup.specs.SetupFaults.{name_of}
 
 -- what was asked for is no mistake
@@ -35,12 +37,22 @@ abbrev pub line_of_command : CmdFault → List ℕ
 line_of_command command.Memory = codes "warmplay: " ++ codes "Memory" ++ line_end
 line_of_command (command.Refused error) = []
 
+-- a number after a space, or nothing
+abbrev pub number_text : Option ℕ → List ℕ
+number_text None = []
+number_text (Some number) = codes " " ++ decimal number
+
+-- the number that a play's fault names: that of a bad line
+abbrev pub number_named : PlayFault → Option ℕ
+number_named (BadLine number) = Some number
+number_named _ = None
+
 abbrev pub line_of : Result (Unit {0}) RunFault → List ℕ
 line_of (Ok _) = []
 line_of (Err (Command fault)) = line_of_command fault
 line_of (Err (CannotOpen name)) = codes "warmplay: cannot open " ++ name ++ line_end
 line_of (Err (Setup fault)) = codes "warmplay: setup: " ++ name_of fault ++ line_end
-line_of (Err (Play fault)) = codes "warmplay: " ++ play_fault_name fault ++ line_end
+line_of (Err (Play fault)) = codes "warmplay: " ++ play_fault_name fault ++ number_text (number_named fault) ++ line_end
 
 -- ---- the faults of a command line, by number and name
 

@@ -10,7 +10,7 @@ use Rattle.clap.specs.Faults.{fault_of}
 use Rattle.clap.specs.declared.error.kind.ErrorKind.{ErrorKind}
 use Rattle.warm_setup.specs.declared.command.TheConstants.{MAX_EVENTS}
 use Rattle.warm_setup.specs.declared.command.Cmd.{Cmd}
-use Rattle.warm_setup.specs.declared.command.Cmd.TheVariants.{Play, Random}
+use Rattle.warm_setup.specs.declared.command.Cmd.TheVariants.{Play, Random, Threads}
 use Rattle.warm_setup.specs.declared.command.CmdFault.{CmdFault}
 use Rattle.warm_setup.specs.declared.command.CmdFault.TheVariants.{Memory, Refused}
 
@@ -48,13 +48,17 @@ random =
     let events = number (codes "events") MAX_EVENTS in
     with_rule (with_rule (with_rule (new_app (codes "random")) seed) events) setup
 
+-- `threads FILE [--setup FILE]`
+abbrev pub threads : App
+threads = with_rule (with_rule (new_app (codes "threads")) (record file { required = true })) setup
+
 abbrev pub wants_command : Shape → Shape
 wants_command top = record top { subcommand_required = true }
 
 abbrev pub warmplay : App
 warmplay =
     let top = on_top wants_command (new_app (codes "warmplay")) in
-    with_subcommand (with_subcommand top play.top) random.top
+    with_subcommand (with_subcommand (with_subcommand top play.top) random.top) threads.top
 
 -- ---- what words ask for
 
@@ -73,32 +77,44 @@ random_by rows = do
   events ← number_of (2 ^ 32 - 1) (codes "events") rows
   Some (Random seed events (first_of (codes "setup") rows))
 
+abbrev pub threads_by : List Row → Option Cmd
+threads_by rows = do
+  file ← first_of (codes "file") rows
+  Some (Threads file (first_of (codes "setup") rows))
+
 abbrev pub command_by : Text × List Row → Option Cmd
 command_by found =
     if bytes_eq found.0 (codes "play")
     then Some (Play (first_of (codes "file") found.1) (first_of (codes "setup") found.1))
     else (if bytes_eq found.0 (codes "random") then random_by found.1
-    else None)
+    else (if bytes_eq found.0 (codes "threads") then threads_by found.1
+    else None))
 
 -- the command and the values of clap's own definition of the matches
 abbrev pub command_in : List Text → Option Cmd
 command_in words = option_and_then command_by (subcommand_of warmplay words)
 
--- the words ask for a schedule drawn at random, in clap's own definition without a fault, but with a number that is none
-abbrev pub LacksNumber : List Text → Type 0
-LacksNumber words =
+-- the words ask for this command
+abbrev pub AsksFor : Text → List Text → Type 0
+AsksFor name words =
+    option_map (λ found. bytes_eq found.0 name) (subcommand_of warmplay words) ≡ Some true
+
+-- the words ask for a schedule drawn at random, or for one played by threads, in clap's own definition without a fault, but with a number
+-- that is none, or without a file
+abbrev pub LacksValue : List Text → Type 0
+LacksValue words =
     (fault_of warmplay words ≡ [])
-    × (option_map (λ found. bytes_eq found.0 (codes "random")) (subcommand_of warmplay words) ≡ Some true)
+    × (AsksFor (codes "random") words ⊎ AsksFor (codes "threads") words)
     × (command_in words ≡ None)
 
 -- A command comes only where clap's own definition has no fault in the words, a refusal only with a fault that it has,
--- or for want of a number.
+-- or for want of a number or a file.
 abbrev pub Answers : List Text → Result Cmd CmdFault → Type 0
 Answers words (Ok command) = (fault_of warmplay words ≡ []) × (Some command ≡ command_in words)
 Answers words (Err Memory) = Unit {0}
 Answers words (Err (Refused error)) =
     IsAmong (kind_of error) (fault_of warmplay words)
-    ⊎ (LacksNumber words × (kind_of error ≡ ValueValidation))
+    ⊎ (LacksValue words × (kind_of error ≡ ValueValidation))
 
 -- a refusal of this kind, or want of memory
 abbrev pub IsRefusal : ErrorKind → CmdFault → Type 0

@@ -6,7 +6,7 @@ use Rattle.clap.specs.declared.error.kind.ErrorKind.TheVariants.{OutOfMemory}
 use Rattle.warm_setup.specs.declared.command.Asked.{Asked}
 use Rattle.warm_setup.specs.declared.command.Asked.TheVariants as asked
 use Rattle.warm_setup.specs.declared.command.Cmd.{Cmd}
-use Rattle.warm_setup.specs.declared.command.Cmd.TheVariants.{Play, Random}
+use Rattle.warm_setup.specs.declared.command.Cmd.TheVariants.{Play, Random, Threads}
 use Rattle.warm_setup.specs.declared.command.CmdFault.{CmdFault}
 use Rattle.warm_setup.specs.declared.command.CmdFault.TheVariants.{Memory, Refused}
 
@@ -15,6 +15,7 @@ command_for (asked.Play file setup) =
     Play (option_map (λ text. text.now) file) (option_map (λ text. text.now) setup)
 command_for (asked.Random seed events setup) =
     Random seed events (option_map (λ text. text.now) setup)
+command_for (asked.Threads file setup) = Threads file.now (option_map (λ text. text.now) setup)
 
 -- clap's want of memory is the program's own
 abbrev pub IsFaultOf : Error → CmdFault → Type 0

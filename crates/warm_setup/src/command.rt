@@ -1,11 +1,12 @@
-//! The command line: `warmplay play [FILE] [--setup FILE]` and `warmplay random --seed S --events N [--setup FILE]`.
+//! The command line: `warmplay play [FILE] [--setup FILE]`, `warmplay random --seed S --events N [--setup FILE]` and
+//! `warmplay threads FILE [--setup FILE]`.
 
 ghost use Rattle.std.specs.Prelude.{◌≡◌, IfOk, Some, map, option_map, option_and_then, codes, List, ℕ, ◌-◌, ◌^◌, false};
 ghost use Rattle.clap.specs.Words.{app_of, found_of, rows_of, rule_of, subcommand_of, subcommand_rows_of, FailsBy};
 ghost use Rattle.clap.specs.Faults.{fault_of};
 ghost use Rattle.clap.specs.declared.builder.Command.TheViews.{out-Command};
 ghost use Rattle.warm_setup.specs.Endings.{command_fault_code, command_fault_name};
-ghost use Rattle.warm_setup.specs.Words.{setup, number, number_of, play, random, random_by, warmplay, command_by, Answers, IsRefusal};
+ghost use Rattle.warm_setup.specs.Words.{setup, number, number_of, play, random, random_by, threads, threads_by, warmplay, command_by, Answers, IsRefusal};
 ghost use Rattle.warm_setup.specs.WordsSeen.{command_for, IsFaultOf};
 
 use crate::path::PathText;
@@ -32,6 +33,11 @@ pub enum Cmd {
     Random {
         seed: u64,
         events: u32,
+        setup: Option<PathText>,
+    },
+    /// To play the schedule `file` by threads, with the setup file `setup`, or the defaults.
+    Threads {
+        file: PathText,
         setup: Option<PathText>,
     },
 }
@@ -74,6 +80,7 @@ impl CmdFault {
 enum Asked<'a> {
     Play(Option<&'a str>, Option<&'a str>),
     Random(u64, u32, Option<&'a str>),
+    Threads(&'a str, Option<&'a str>),
 }
 
 fn setup_argument<'a>(alloc: Global) -> Arg<'a>
@@ -124,6 +131,20 @@ fn random_command<'a>(alloc: Global) -> Result<Command<'a>, AllocError>
     random.arg(seed)?.arg(events)?.arg(setup_argument(alloc))
 }
 
+fn threads_command<'a>(alloc: Global) -> Result<Command<'a>, AllocError>
+    ensures app { IfOk result (λ c. app_of c ≡ threads) }
+    ensures local { IfOk result (λ c. (out-Command c).has_globals ≡ false) }
+{
+    let file = Arg::new(alloc, "file")
+        .value_name("FILE")
+        .help("The schedule, of references and flushes alone")
+        .required(true);
+    let threads = Command::new(alloc, "threads").about(
+        "Play a schedule by threads, and print what each replica has heard of",
+    );
+    threads.arg(file)?.arg(setup_argument(alloc))
+}
+
 fn whole_command<'a>(alloc: Global) -> Result<Command<'a>, AllocError>
     ensures app { IfOk result (λ c. app_of c ≡ warmplay) }
     ensures local { IfOk result (λ c. (out-Command c).has_globals ≡ false) }
@@ -133,7 +154,8 @@ fn whole_command<'a>(alloc: Global) -> Result<Command<'a>, AllocError>
         .about("Warm-standby buffer pools that merge LRU-2 histories")
         .subcommand_required(true);
     let random = random_command(alloc)?;
-    let whole = top.subcommand(play)?.subcommand(random)?;
+    let threads = threads_command(alloc)?;
+    let whole = top.subcommand(play)?.subcommand(random)?.subcommand(threads)?;
     Ok(whole)
 }
 
@@ -167,6 +189,13 @@ fn random_in<'a>(found: &ArgMatches<'a>) -> Option<Asked<'a>>
     Some(Asked::Random(seed, events, found.get_str("setup")))
 }
 
+fn threads_in<'a>(found: &ArgMatches<'a>) -> Option<Asked<'a>>
+    ensures { option_map command_for result ≡ threads_by (rows_of (found_of found.now)) }
+{
+    let file = found.get_str("file")?;
+    Some(Asked::Threads(file, found.get_str("setup")))
+}
+
 fn asked_in<'a>(matches: &ArgMatches<'a>) -> Option<Asked<'a>>
     ensures { option_map command_for result
         ≡ option_and_then command_by (subcommand_rows_of matches.now) }
@@ -179,6 +208,9 @@ fn asked_in<'a>(matches: &ArgMatches<'a>) -> Option<Asked<'a>>
     }
     if name == "random" {
         return random_in(found);
+    }
+    if name == "threads" {
+        return threads_in(found);
     }
     None
 }
@@ -208,6 +240,11 @@ fn command_for<'a>(alloc: Global, asked: Asked<'a>) -> Result<Cmd, AllocError>
                 events,
                 setup,
             })
+        }
+        Asked::Threads(file, setup) => {
+            let file = PathText::copied_from(alloc, file)?;
+            let setup = copied(alloc, setup)?;
+            Ok(Cmd::Threads { file, setup })
         }
     }
 }
@@ -252,7 +289,7 @@ fn refused(alloc: Global, kind: ErrorKind, why: &str) -> CmdFault
 ///
 /// The command and its values are those that clap's own definition of the matches gives for the words. The error is
 /// [`CmdFault::Refused`] where clap refuses them, or answers a request for help, or where the numbers of `random` are
-/// none, and [`CmdFault::Memory`] where room was refused, which clap's own kind `OutOfMemory` becomes too.
+/// none or `threads` has no file, and [`CmdFault::Memory`] where room was refused, which clap's own kind `OutOfMemory` becomes too.
 pub fn command_of<S: AsStr>(alloc: Global, words: &[S]) -> Result<Cmd, CmdFault>
     ensures { Answers (map S.text words.now) result }
 {
@@ -264,7 +301,7 @@ pub fn command_of<S: AsStr>(alloc: Global, words: &[S]) -> Result<Cmd, CmdFault>
         return Err(refused(
             alloc,
             ErrorKind::ValueValidation,
-            "--seed and --events want numbers",
+            "--seed and --events want numbers, and threads wants a FILE",
         ));
     };
     match command_for(alloc, asked) {

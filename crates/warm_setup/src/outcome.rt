@@ -2,7 +2,7 @@
 
 ghost use Rattle.std.specs.Prelude.{◌≡◌, OnOk};
 ghost use Rattle.std.specs.Io.KnownBytes.{Appends};
-ghost use Rattle.warm_setup.specs.Endings.{status_of, status_of_command, line_of, line_of_command};
+ghost use Rattle.warm_setup.specs.Endings.{status_of, status_of_command, line_of, line_of_command, number_named};
 
 use crate::command::CmdFault;
 use crate::path::PathText;
@@ -40,21 +40,24 @@ pub struct Outcome<'a> {
 pub struct ErrorLine<'a> {
     opening: &'a str,
     subject: &'a str,
+    number: Option<u64>,
     end: &'a str,
 }
 
 impl<'a> Model for ErrorLine<'a> {
     ghost use Rattle.std.specs.Prelude.{List, ℕ, ◌++◌};
+    ghost use Rattle.warm_setup.specs.Endings.{number_text};
 
     ghost Value = { List ℕ };
 
-    ghost view = { λ line. line.opening.now ++ line.subject.now ++ line.end.now };
+    ghost view = { λ line. line.opening.now ++ line.subject.now ++ number_text line.number
+        ++ line.end.now };
 }
 
 impl<'a> ErrorLine<'a> {
     ghost use Rattle.std.specs.Prelude.{◌≡◌, ◌++◌, OnOk, [], ◌∷◌};
     ghost use Rattle.std.specs.Io.KnownBytes.{Appends};
-    ghost use Rattle.warm_setup.specs.Endings.{line_end};
+    ghost use Rattle.warm_setup.specs.Endings.{line_end, number_text};
 
     fn nothing() -> ErrorLine<'a>
         ensures { result ≡ [] }
@@ -62,6 +65,7 @@ impl<'a> ErrorLine<'a> {
         ErrorLine {
             opening: "",
             subject: "",
+            number: None,
             end: "",
         }
     }
@@ -72,6 +76,20 @@ impl<'a> ErrorLine<'a> {
         ErrorLine {
             opening,
             subject,
+            number: None,
+            end: "\n",
+        }
+    }
+
+    // The same, with a number after the subject where there is one.
+    fn numbered(opening: &'a str, subject: &'a str, number: Option<u64>) -> ErrorLine<'a>
+        ensures { result
+            ≡ opening.entry.now ++ subject.entry.now ++ number_text number ++ line_end }
+    {
+        ErrorLine {
+            opening,
+            subject,
+            number,
             end: "\n",
         }
     }
@@ -80,7 +98,11 @@ impl<'a> ErrorLine<'a> {
     pub fn write_to<W: Write>(&self, writer: &mut W) -> io::Result<()>
         ensures { OnOk result (Appends (W.contents writer.old) (W.contents writer.new) self.now) }
     {
-        write!(writer, "{}{}{}", self.opening, self.subject, self.end)
+        write!(writer, "{}{}", self.opening, self.subject)?;
+        if let Some(number) = self.number {
+            write!(writer, " {number}")?;
+        }
+        write!(writer, "{}", self.end)
     }
 }
 
@@ -105,6 +127,16 @@ fn command_line<'a>(fault: &'a CmdFault) -> ErrorLine<'a>
     }
 }
 
+// The number that a play's fault names.
+fn number_of(fault: PlayFault) -> Option<u64>
+    ensures { result ≡ number_named fault }
+{
+    match fault {
+        PlayFault::BadLine(number) => Some(number),
+        _ => None,
+    }
+}
+
 /// The exit status and the line on standard error of a run of the program:
 ///
 /// | What happened | Status | On standard error |
@@ -114,7 +146,7 @@ fn command_line<'a>(fault: &'a CmdFault) -> ErrorLine<'a>
 /// | the command line was refused | 2 | clap's text, and no line |
 /// | a file could not be opened, a device's among them | 1 | `warmplay: cannot open NAME` |
 /// | the setup was refused | 2 | `warmplay: setup: ` and the fault's name |
-/// | the play stopped, or there was no room for the command line | 1 | `warmplay: ` and the fault's name |
+/// | the play stopped, or there was no room for the command line | 1 | `warmplay: ` and the fault's name; for a bad line its number follows |
 pub fn outcome_of<'a>(ended: &'a Result<(), RunFault>) -> Outcome<'a>
     ensures status { result.status ≡ status_of ended.entry.now }
     ensures line { result.line ≡ line_of ended.entry.now }
@@ -138,7 +170,7 @@ pub fn outcome_of<'a>(ended: &'a Result<(), RunFault>) -> Outcome<'a>
         },
         Err(RunFault::Play(fault)) => Outcome {
             status: 1,
-            line: ErrorLine::of("warmplay: ", fault.name()),
+            line: ErrorLine::numbered("warmplay: ", fault.name(), number_of(*fault)),
         },
     }
 }

@@ -21,7 +21,7 @@ mod world;
 
 pub use event::{Answer, BadWorld, Event, WorldFault};
 pub use setup::{BadSetup, Setup};
-pub use world::World;
+pub use world::{World, are_sized};
 
 /// The most workers that a replica has. They are numbered from 1.
 pub const MAX_WORKERS: u16 = 16;

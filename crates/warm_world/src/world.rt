@@ -44,8 +44,8 @@ fn is_number(number: u64, count: usize) -> bool
     0 < number && number <= count as u64
 }
 
-// Whether each device of each list has pages of this size.
-fn are_sized(devices: &[Vec<Box<dyn PageDevice + Send>>], page_size: usize) -> bool
+/// Whether each device of each list has pages of this size: what [`World::new`] asks of its devices. Takes no memory.
+pub fn are_sized(devices: &[Vec<Box<dyn PageDevice + Send>>], page_size: usize) -> bool
     ensures { IsTrue result ↔ AreSized page_size (listed state devices.now) }
 {
     for list in devices {

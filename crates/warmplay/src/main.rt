@@ -1,5 +1,6 @@
 //! `warmplay play [FILE] [--setup FILE]` plays a schedule, from a file or from standard input, to standard output.
 //! `warmplay random --seed S --events N [--setup FILE]` writes a schedule drawn at random.
+//! `warmplay threads FILE [--setup FILE]` plays a schedule of references and flushes by threads.
 #![tactic(auto)]
 
 use std::alloc::Global;
@@ -7,6 +8,8 @@ use std::env;
 use std::fs::{self, File};
 use std::io::{self, BufWriter, Read, Write};
 use std::process::ExitCode;
+use std::sync::Wait;
+use std::thread::Threads;
 use warm_devices::{FileDevice, MemDevice, OpenFault, PageDevice};
 use warm_pool::MAX_DEVICES;
 use warm_schedule::{PlayFault, play, random_schedule};
@@ -14,6 +17,7 @@ use warm_setup::{
     Cmd, CmdFault, DeviceSpec, PathText, RunFault, SetupFault, command_of, not_text, outcome_of,
     read_setup, read_setup_file,
 };
+use warm_threads::{nodes_over, play_threads, print_replicas};
 use warm_world::Setup;
 
 // How many bytes of answers are gathered before they are written.
@@ -113,10 +117,18 @@ fn device_of(
     }
 }
 
-// Makes the devices, by replica and then by device, and plays to standard output through a buffer, which `play` flushes at the
-// end.
-fn play_over<R: Read>(
+// How a schedule is played: line by line, or by threads.
+#[derive(Clone, Copy)]
+enum Player {
+    Lines,
+    Threads,
+}
+
+// Makes the devices, by replica and then by device, and plays to standard output through a buffer, which is flushed at the end.
+fn play_over<T: Threads + Wait + Sync, R: Read>(
     rt: &HostRuntime,
+    threads: &T,
+    player: Player,
     reader: &mut R,
     setup: Setup,
     specs: &[DeviceSpec],
@@ -144,23 +156,45 @@ fn play_over<R: Read>(
     let Ok(mut buffered) = BufWriter::with_capacity(rt.alloc(), GATHERED, rt.stdout()) else {
         return Err(no_memory());
     };
-    play(rt.alloc(), reader, &mut buffered, setup, devices).map_err(RunFault::Play)
+    let played = match player {
+        Player::Lines => play(rt.alloc(), reader, &mut buffered, setup, devices),
+        Player::Threads => match nodes_over(rt.alloc(), setup, devices) {
+            Ok(nodes) => match play_threads(threads, rt.alloc(), reader, setup, nodes) {
+                Ok(nodes) => print_replicas(&mut buffered, &nodes),
+                Err(fault) => Err(fault),
+            },
+            Err(fault) => Err(fault),
+        },
+    };
+    played.map_err(RunFault::Play)
 }
 
 // Plays the file, or standard input where there is none.
-fn run_play(
+fn run_play<T: Threads + Wait + Sync>(
     rt: &HostRuntime,
+    threads: &T,
     file: Option<PathText>,
     setup: Setup,
     specs: &[DeviceSpec],
 ) -> Result<(), RunFault> {
     let Some(path) = file else {
-        return play_over(rt, &mut rt.stdin(), setup, specs);
+        return play_over(rt, threads, Player::Lines, &mut rt.stdin(), setup, specs);
     };
+    play_file(rt, threads, Player::Lines, path, setup, specs)
+}
+
+fn play_file<T: Threads + Wait + Sync>(
+    rt: &HostRuntime,
+    threads: &T,
+    player: Player,
+    path: PathText,
+    setup: Setup,
+    specs: &[DeviceSpec],
+) -> Result<(), RunFault> {
     let Ok(mut schedule) = File::open(rt, path.as_str()) else {
         return Err(RunFault::CannotOpen(path));
     };
-    play_over(rt, &mut schedule, setup, specs)
+    play_over(rt, threads, player, &mut schedule, setup, specs)
 }
 
 // Writes a schedule drawn at random through a buffer, which `random_schedule` flushes at the end.
@@ -172,11 +206,11 @@ fn run_random(rt: &HostRuntime, seed: u64, events: u32, setup: Setup) -> Result<
 }
 
 // Faults are found in this order: the command line, the setup file, its text, the schedule's file, the devices, the play.
-fn run(rt: &HostRuntime) -> Result<(), RunFault> {
+fn run<T: Threads + Wait + Sync>(rt: &HostRuntime, threads: &T) -> Result<(), RunFault> {
     match asked(rt)? {
         Cmd::Play { file, setup } => {
             let (setup, specs) = setup_in(rt, setup)?;
-            run_play(rt, file, setup, specs.as_slice())
+            run_play(rt, threads, file, setup, specs.as_slice())
         }
         Cmd::Random {
             seed,
@@ -185,6 +219,10 @@ fn run(rt: &HostRuntime) -> Result<(), RunFault> {
         } => {
             let (setup, _devices) = setup_in(rt, setup)?;
             run_random(rt, seed, events, setup)
+        }
+        Cmd::Threads { file, setup } => {
+            let (setup, specs) = setup_in(rt, setup)?;
+            play_file(rt, threads, Player::Threads, file, setup, specs.as_slice())
         }
     }
 }
@@ -200,7 +238,7 @@ fn is_help_lost(rt: &HostRuntime, ended: &Result<(), RunFault>) -> bool {
 }
 
 fn main(rt: HostRuntime) -> ExitCode {
-    let mut ended = run(&rt);
+    let mut ended = run(&rt, &rt);
     if is_help_lost(&rt, &ended) {
         ended = Err(RunFault::Play(PlayFault::WriteFault));
     }

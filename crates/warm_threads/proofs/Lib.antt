@@ -1,0 +1,4 @@
+mod Pairings
+mod Runnings
+mod Askings
+mod Showings

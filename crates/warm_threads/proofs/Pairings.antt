@@ -1,0 +1,55 @@
+-- Lists that agree place by place.
+use Rattle.std.proofs.Common.{◌≡◌, ℕ, zero, suc, ◌<◌, List, [], ◌∷◌, length, map, Result, Ok, refl, sym, ap, subst, arith}
+use Rattle.std.specs.Prelude.{slice_index_or, IfOk}
+use Rattle.std.specs.List.{All}
+use Rattle.warm_replica.specs.Pairs.{Pairs}
+
+module _ {A B : Type 0} where
+  -- what a list of results says of the place of each
+  pub pairs_by_place : (P : A → B → Type 0) (xs : List A) (ys : List B) → length ys ≡ length xs
+      → ((k : ℕ) (d : B) → k < length xs → (x : A) × ((e : A) → slice_index_or xs k e ≡ x) × P x (slice_index_or ys k d)) → Pairs P xs ys
+  pairs_by_place P [] [] same f = tt
+  pairs_by_place P (a ∷ xs) (b ∷ ys) same f =
+      let here = f 0 b (omega arith) in
+      (subst (λ z. P z b) (sym (here.1 a)) here.2, pairs_by_place P xs ys (omega (arith, same)) (λ k d low. f (suc k) d (omega (arith, low))))
+  pairs_by_place P [] (b ∷ ys) same f = absurd (omega (arith, same))
+  pairs_by_place P (a ∷ xs) [] same f = absurd (omega (arith, same))
+
+  -- what follows from the pairs
+  pub pairs_map : (P Q : A → B → Type 0) → ((x : A) (y : B) → P x y → Q x y) → (xs : List A) (ys : List B) → Pairs P xs ys → Pairs Q xs ys
+  pairs_map P Q f [] [] h = tt
+  pairs_map P Q f (a ∷ xs) (b ∷ ys) h = (f a b h.0, pairs_map P Q f xs ys h.1)
+  pairs_map P Q f [] (b ∷ ys) h = absurd h
+  pairs_map P Q f (a ∷ xs) [] h = absurd h
+
+  -- what each pair says of its second
+  pub all_second : (P : A → B → Type 0) (Q : B → Type 0) → ((x : A) (y : B) → P x y → Q y) → (xs : List A) (ys : List B) → Pairs P xs ys → All Q ys
+  all_second P Q f [] [] h k d low = absurd (omega (arith, low))
+  all_second P Q f (a ∷ xs) (b ∷ ys) h zero d low = f a b h.0
+  all_second P Q f (a ∷ xs) (b ∷ ys) h (suc k) d low = all_second P Q f xs ys h.1 k d (omega (arith, low))
+  all_second P Q f [] (b ∷ ys) h k d low = absurd h
+  all_second P Q f (a ∷ xs) [] h k d low = absurd h
+
+-- pairs of pairs
+pub pairs_then : {A B D : Type 0} (P : A → B → Type 0) (Q : B → D → Type 0) (S : A → D → Type 0) → ((a : A) (b : B) (d : D) → P a b → Q b d → S a d)
+    → (xs : List A) (ys : List B) (zs : List D) → Pairs P xs ys → Pairs Q ys zs → Pairs S xs zs
+pairs_then P Q S f [] [] [] h g = tt
+pairs_then P Q S f (a ∷ xs) (b ∷ ys) (d ∷ zs) h g = (f a b d h.0 g.0, pairs_then P Q S f xs ys zs h.1 g.1)
+pairs_then P Q S f [] [] (d ∷ zs) h g = absurd g
+pairs_then P Q S f [] (b ∷ ys) zs h g = absurd h
+pairs_then P Q S f (a ∷ xs) [] zs h g = absurd h
+pairs_then P Q S f (a ∷ xs) (b ∷ ys) [] h g = absurd g
+
+-- the values of results that are all Ok
+pub gathered_pairs : {A T E : Type 0} (P : A → T → Type 0) (xs : List A) (results : List (Result T E)) (ys : List T)
+    → Pairs (λ x r. IfOk r (P x)) xs results → Pairs (λ r t. r ≡ Ok t) results ys → Pairs P xs ys
+gathered_pairs P xs results ys = pairs_then (λ x r. IfOk r (P x)) (λ r t. r ≡ Ok t) P (λ x r t h is. subst (λ q. IfOk q (P x)) is h) xs results ys
+
+-- of a list read off another
+pub all_mapped : {A B : Type 0} (f : A → B) (Q : B → Type 0) (xs : List A) (ys : List B) → map f xs ≡ ys → All Q ys → All (λ x. Q (f x)) xs
+all_mapped f Q xs ys is h = at xs (subst (λ zs. All Q zs) (sym is) h)
+  where
+    at : (xs : List _) → All Q (map f xs) → All (λ x. Q (f x)) xs
+    at [] h k d low = absurd (omega (arith, low))
+    at (x ∷ xs) h zero d low = h 0 (f x) (omega arith)
+    at (x ∷ xs) h (suc k) d low = at xs (λ j e less. h (suc j) e (omega (arith, less))) k d (omega (arith, low))

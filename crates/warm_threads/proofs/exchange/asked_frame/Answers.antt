@@ -1,0 +1,5 @@
+use Rattle.warm_threads.proofs.Runnings.{leads_call}
+use Rattle.warm_threads.proofs.exchange.asked_frame.Goals as goal
+
+pub returns-in-Sent-clause-leads : goal.returns-in-Sent-clause-leads
+returns-in-Sent-clause-leads g c = leads_call g.M.Machine.goes _ _ _ _ c.call-reply.ensures.goes

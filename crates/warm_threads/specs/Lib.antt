@@ -1,0 +1,5 @@
+pub mod Asks
+pub mod Steps
+pub mod Plans
+pub mod Works
+pub mod Shown

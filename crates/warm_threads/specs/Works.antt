@@ -1,0 +1,51 @@
+-- What a machine has gone through while its workers ran, and while mail was exchanged.
+use Rattle.std.specs.Prelude.{◌≡◌, ℕ, List}
+use Rattle.std.specs.Global.{Vec}
+use Rattle.std.specs.List.{All}
+use mathlib.Core.Option.{some}
+use lib.ListN.{get_elem?}
+use Rattle.warm_turn.specs.declared.board.Ended.{Ended}
+use Rattle.warm_turn.specs.Turns.{Runs, NoRepeat, calls_by}
+use Rattle.warm_gossip.specs.declared.call.Call.{Call}
+use Rattle.warm_gossip.specs.declared.call.Reply.{Reply}
+use Rattle.warm_replica.specs.declared.job.Job.{Job}
+use Rattle.warm_replica.specs.declared.job.StepReply.{StepReply}
+use Rattle.warm_replica.specs.declared.job.StepReply.TheVariants.{Touched, Flushed}
+use Rattle.warm_replica.specs.Jobs.{Calls, JobWentAs}
+use Rattle.warm_replica.specs.Pairs.{Triples}
+
+-- a step was done: a reference is in the buffer, or the replica has absorbed what was in it
+abbrev pub IsDone : StepReply → Type 0
+IsDone Touched = Unit {0}
+IsDone Flushed = Unit {0}
+IsDone reply = ⊥
+
+abbrev pub AreDone : Vec StepReply → Type 0
+AreDone replies = All IsDone replies.items
+
+module _ {X : Type 0} (goes : X → Call → Reply → X → Type 0) where
+  -- some legal list of calls leads from one state to the other
+  abbrev pub Leads : X → X → Type 0
+  Leads x z = (calls : Calls) × Runs goes x calls z
+
+  -- A legal list of calls leads from one state to the other in which the calls of each job's own number are just the flushes of that job's
+  -- steps, all of them done; no two jobs have one number
+  pub record Works (jobs : List Job) (x z : X) : Type 0 where
+    pub calls : Calls
+    pub runs : Runs goes x calls z
+    pub replies : List (Vec StepReply)
+    pub done : All AreDone replies
+    pub workers : List (Ended Call Reply)
+    pub each : Triples JobWentAs jobs replies workers
+    pub stand : (k : ℕ) (e : Ended Call Reply) → get_elem? workers k ≡ some e → calls_by e.number calls ≡ e.calls
+    pub apart : NoRepeat workers
+
+  -- The workers of a machine have ended, and then it has sent what it knows and heard of others
+  pub record WentOn (jobs : List Job) (x z : X) : Type 0 where
+    pub worked : X
+    pub works : Works jobs x worked
+    pub leads : Leads worked z
+
+  -- the same of machines place by place: where they were, the jobs of their workers, and where they are
+  abbrev pub Went : List X → List (Vec Job) → List X → Type 0
+  Went = Triples (λ x list z. WentOn list.items x z)

@@ -1,0 +1,282 @@
+//! All replicas, each in a thread of its own.
+ghost use Rattle.std.specs.Prelude.{◌≡◌, ◌≤◌, length, map, IfOk, Ok};
+ghost use Rattle.std.specs.List.{All};
+ghost use Rattle.warm_replica.specs.declared.fan.TheConstants.{MAX_JOBS};
+ghost use Rattle.warm_replica.specs.Pairs.{Pairs};
+ghost use Rattle.warm_threads.specs.Works.{Leads, Went, Works};
+
+use crate::exchange::{hear_all, send_all};
+use crate::work::work;
+use crossbeam_channel::{Receiver, Sender, unbounded};
+use std::alloc::{AllocError, Global};
+use std::sync::Wait;
+use std::thread;
+use std::thread::Threads;
+use warm_play_fault::PlayFault;
+use warm_replica::{Absorbing, Job, Mail};
+
+// A machine, the jobs of its workers, where it sends what it knows, and where it hears of others.
+#[derive(Drop)]
+struct Crew<M> {
+    machine: M,
+    jobs: Vec<Job>,
+    boxes: Vec<Sender<Mail>>,
+    receiver: Receiver<Mail>,
+}
+
+// The same, when the workers have ended.
+#[derive(Drop)]
+struct Knowing<M> {
+    machine: M,
+    boxes: Vec<Sender<Mail>>,
+    receiver: Receiver<Mail>,
+}
+
+// The same, when all was sent: so many Stops are to come.
+#[derive(Drop)]
+struct Hearing<M> {
+    machine: M,
+    receiver: Receiver<Mail>,
+    stops: u64,
+}
+
+fn work_one<M: Absorbing + Send + Drop, R: Threads + Wait + Sync>(
+    rt: &R,
+    alloc: Global,
+    crew: Crew<M>,
+) -> Result<Knowing<M>, PlayFault>
+    requires fit { M.is_fit crew.machine }
+    requires few { length crew.jobs.items ≤ MAX_JOBS }
+    ensures fit { IfOk result (λ k. M.is_fit k.machine) }
+    ensures works { IfOk result
+        (λ k. Works M.goes crew.jobs.items (M.meaning crew.machine) (M.meaning k.machine)) }
+{
+    let Crew {
+        machine,
+        jobs,
+        boxes,
+        receiver,
+    } = crew;
+    let machine = work(rt, alloc, machine, jobs)?;
+    Ok(Knowing {
+        machine,
+        boxes,
+        receiver,
+    })
+}
+
+fn send_one<M: Absorbing + Drop, R: Wait>(
+    rt: &R,
+    alloc: Global,
+    one: Knowing<M>,
+) -> Result<Hearing<M>, PlayFault>
+    requires fit { M.is_fit one.machine }
+    ensures fit { IfOk result (λ h. M.is_fit h.machine) }
+    ensures leads { IfOk result
+        (λ h. Leads M.goes (M.meaning one.machine) (M.meaning h.machine)) }
+{
+    let Knowing {
+        machine,
+        boxes,
+        receiver,
+    } = one;
+    let machine = send_all(rt, alloc, machine, &boxes)?;
+    Ok(Hearing {
+        machine,
+        receiver,
+        stops: boxes.len() as u64,
+    })
+}
+
+fn hear_one<M: Absorbing + Drop, R: Wait>(
+    rt: &R,
+    alloc: Global,
+    one: Hearing<M>,
+) -> Result<M, PlayFault>
+    requires fit { M.is_fit one.machine }
+    ensures fit { IfOk result M.is_fit }
+    ensures leads { IfOk result (λ m. Leads M.goes (M.meaning one.machine) (M.meaning m)) }
+{
+    let Hearing {
+        machine,
+        receiver,
+        stops,
+    } = one;
+    hear_all(rt, alloc, machine, receiver, stops)
+}
+
+// What was made, where all of it was.
+fn gathered<T: Drop>(
+    alloc: Global,
+    results: Vec<Result<T, PlayFault>>,
+) -> Result<Vec<T>, PlayFault>
+    ensures { IfOk result (λ v. Pairs (λ r t. r ≡ Ok t) results.items v.items) }
+{
+    let Ok(mut all) = Vec::with_capacity(alloc, results.len()) else {
+        return Err(PlayFault::Memory);
+    };
+    for result in results {
+        let Ok(()) = all.push(result?) else {
+            return Err(PlayFault::Memory);
+        };
+    }
+    Ok(all)
+}
+
+// All workers of all replicas do their jobs at the same time.
+fn all_work<M: Absorbing + Send + Drop, R: Threads + Wait + Sync>(
+    rt: &R,
+    alloc: Global,
+    crews: Vec<Crew<M>>,
+) -> Result<Vec<Knowing<M>>, PlayFault>
+    requires fit { All (λ c. M.is_fit c.machine) crews.items }
+    requires few { All (λ c. length c.jobs.items ≤ MAX_JOBS) crews.items }
+    ensures fit { IfOk result (λ v. All (λ k. M.is_fit k.machine) v.items) }
+    ensures works { IfOk result (λ v. Pairs (λ c k. Works M.goes c.jobs.items
+        (M.meaning c.machine) (M.meaning k.machine)) crews.items v.items) }
+{
+    let run = move |crew: Crew<M>| -> Result<Knowing<M>, PlayFault>
+        requires { M.is_fit crew.machine × (length crew.jobs.items ≤ MAX_JOBS) }
+        ensures { IfOk result (λ k. M.is_fit k.machine × Works M.goes crew.jobs.items
+            (M.meaning crew.machine) (M.meaning k.machine)) }
+    { work_one(rt, alloc, crew) };
+    let Ok(done) = thread::map_vec(rt, crews, &run) else {
+        return Err(PlayFault::Memory);
+    };
+    gathered(alloc, done)
+}
+
+// Each sends all that it knows.
+fn all_send<M: Absorbing + Send + Drop, R: Threads + Wait + Sync>(
+    rt: &R,
+    alloc: Global,
+    knowing: Vec<Knowing<M>>,
+) -> Result<Vec<Hearing<M>>, PlayFault>
+    requires fit { All (λ k. M.is_fit k.machine) knowing.items }
+    ensures fit { IfOk result (λ v. All (λ h. M.is_fit h.machine) v.items) }
+    ensures leads { IfOk result (λ v. Pairs (λ k h. Leads M.goes
+        (M.meaning k.machine) (M.meaning h.machine)) knowing.items v.items) }
+{
+    let run = move |one: Knowing<M>| -> Result<Hearing<M>, PlayFault>
+        requires { M.is_fit one.machine }
+        ensures { IfOk result (λ h. M.is_fit h.machine
+            × Leads M.goes (M.meaning one.machine) (M.meaning h.machine)) }
+    { send_one(rt, alloc, one) };
+    let Ok(done) = thread::map_vec(rt, knowing, &run) else {
+        return Err(PlayFault::Memory);
+    };
+    gathered(alloc, done)
+}
+
+// Each hears all that the others have sent.
+fn all_hear<M: Absorbing + Send + Drop, R: Threads + Wait + Sync>(
+    rt: &R,
+    alloc: Global,
+    hearing: Vec<Hearing<M>>,
+) -> Result<Vec<M>, PlayFault>
+    requires fit { All (λ h. M.is_fit h.machine) hearing.items }
+    ensures fit { IfOk result (λ v. All M.is_fit v.items) }
+    ensures leads { IfOk result (λ v. Pairs (λ h m. Leads M.goes
+        (M.meaning h.machine) (M.meaning m)) hearing.items v.items) }
+{
+    let run = move |one: Hearing<M>| -> Result<M, PlayFault>
+        requires { M.is_fit one.machine }
+        ensures { IfOk result (λ m. M.is_fit m
+            × Leads M.goes (M.meaning one.machine) (M.meaning m)) }
+    { hear_one(rt, alloc, one) };
+    let Ok(done) = thread::map_vec(rt, hearing, &run) else {
+        return Err(PlayFault::Memory);
+    };
+    gathered(alloc, done)
+}
+
+// Both ends of so many channels.
+fn channels(
+    alloc: Global,
+    count: usize,
+) -> Result<(Vec<Sender<Mail>>, Vec<Receiver<Mail>>), AllocError>
+    ensures { IfOk result (λ ends. length ends.1.items ≡ count) }
+{
+    let mut senders = Vec::with_capacity(alloc, count)?;
+    let mut receivers = Vec::with_capacity(alloc, count)?;
+    for _ in 0..count {
+        let (sender, receiver) = unbounded(alloc)?;
+        senders.push(sender)?;
+        receivers.push(receiver)?;
+    }
+    Ok((senders, receivers))
+}
+
+// The channels of all but one.
+fn others(
+    alloc: Global,
+    senders: &[Sender<Mail>],
+    but: usize,
+) -> Result<Vec<Sender<Mail>>, AllocError> {
+    let mut boxes = Vec::with_capacity(alloc, senders.len())?;
+    for at in 0..senders.len() {
+        if at != but {
+            boxes.push(senders[at].clone()?)?;
+        }
+    }
+    Ok(boxes)
+}
+
+// Each machine with its jobs and its channels.
+fn crews_of<M: Drop>(
+    alloc: Global,
+    machines: Vec<M>,
+    jobs: Vec<Vec<Job>>,
+) -> Result<Vec<Crew<M>>, AllocError>
+    requires { length jobs.items ≡ length machines.items }
+    ensures machines { IfOk result (λ v. map (λ c. c.machine) v.items ≡ machines.items) }
+    ensures jobs { IfOk result (λ v. map (λ c. c.jobs) v.items ≡ jobs.items) }
+{
+    let (senders, receivers) = channels(alloc, machines.len())?;
+    let mut lists = jobs.into_iter();
+    let mut ends = receivers.into_iter();
+    let mut crews = Vec::with_capacity(alloc, machines.len())?;
+    for machine in machines {
+        let boxes = others(alloc, &senders, crews.len())?;
+        let Some(jobs) = lists.next() else {
+            unreachable!()
+        };
+        let Some(receiver) = ends.next() else {
+            unreachable!()
+        };
+        crews.push(Crew {
+            machine,
+            jobs,
+            boxes,
+            receiver,
+        })?;
+    }
+    Ok(crews)
+}
+
+/// Has each machine's workers do their jobs, in threads of their own, and then has each machine tell each other all that it
+/// knows.
+///
+/// # Errors
+/// `Memory`: room was refused, to a worker, to a machine or to a channel too. `NoThread`: a worker had no thread, or left a call
+/// behind. All machines are dropped.
+pub(crate) fn run_all<M: Absorbing + Send + Drop, R: Threads + Wait + Sync>(
+    rt: &R,
+    alloc: Global,
+    machines: Vec<M>,
+    jobs: Vec<Vec<Job>>,
+) -> Result<Vec<M>, PlayFault>
+    requires fit { All M.is_fit machines.items }
+    requires each { length jobs.items ≡ length machines.items }
+    requires few { All (λ list. length list.items ≤ MAX_JOBS) jobs.items }
+    ensures fit { IfOk result (λ v. All M.is_fit v.items) }
+    ensures went { IfOk result (λ v. Went M.goes (map M.meaning machines.items) jobs.items
+        (map M.meaning v.items)) }
+{
+    let Ok(crews) = crews_of(alloc, machines, jobs) else {
+        return Err(PlayFault::Memory);
+    };
+    let knowing = all_work(rt, alloc, crews)?;
+    let hearing = all_send(rt, alloc, knowing)?;
+    all_hear(rt, alloc, hearing)
+}

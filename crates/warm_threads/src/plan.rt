@@ -1,0 +1,225 @@
+//! The steps of each worker.
+ghost use Rattle.std.specs.Prelude.{◌≡◌, ◌+◌, ◌<◌, ◌^◌, ◌++◌, ◌∷◌, [], length, replicate, true};
+ghost use Rattle.std.specs.Prelude.{IfOk, IfErr, OnOk, None, ◌⊎◌, slice_set, slice_index_or};
+ghost use Rattle.warm_refbuffer.specs.Buffered.{IsCapacity};
+ghost use Rattle.warm_play_fault.specs.declared.PlayFault.TheVariants.{Memory, BadLine};
+ghost use Rattle.warm_schedule.specs.Text.{lines};
+ghost use Rattle.warm_threads.specs.Steps.{nothing_planned};
+ghost use Rattle.warm_replica.specs.declared.job.Step.TheVariants.{Flush};
+ghost use Rattle.warm_threads.specs.Plans.{plan_ask, IsShaped, AreJobs};
+ghost use Rattle.warm_threads.specs.Asks.{asked, first_bad, has_worker, IsBadLine, IsPlayable};
+
+use crate::ask::{Ask, asked};
+use std::alloc::{AllocError, Global};
+use std::marker::Model;
+use warm_play_fault::PlayFault;
+use warm_replica::{Job, Step};
+use warm_schedule::first_line;
+use warm_stamps::Reference;
+use warm_world::Setup;
+
+/// The steps planned for a worker, and how many references its buffer holds after them.
+#[derive(Drop)]
+pub(crate) struct Plan {
+    steps: Vec<Step>,
+    held: usize,
+}
+
+impl Model for Plan {
+    ghost use Rattle.warm_threads.specs.Steps.{Planned};
+
+    ghost Value = { Planned };
+
+    ghost view = { λ p. record { steps = p.steps.items; held = p.held } };
+}
+
+impl Plan {
+    fn new(alloc: Global) -> Plan
+        ensures { result ≡ nothing_planned }
+    {
+        Plan {
+            steps: Vec::new(alloc),
+            held: 0,
+        }
+    }
+
+    // Plans one more reference, or a flush where there is none. The buffer holds `cap` references.
+    fn add(&mut self, cap: usize, asked: Option<Reference>) -> Result<(), AllocError>
+        requires { IsCapacity cap }
+        ensures { OnOk result (self.new ≡ plan_ask cap self.old asked) }
+    {
+        let Some(reference) = asked else {
+            self.steps.push(Step::Flush)?;
+            self.held = 0;
+            return Ok(());
+        };
+        if self.held < cap {
+            self.steps.push(Step::Touch(reference))?;
+            self.held += 1;
+            return Ok(());
+        }
+        self.steps.push(Step::Flush)?;
+        self.steps.push(Step::Touch(reference))?;
+        self.held = 1;
+        Ok(())
+    }
+}
+
+// Plans more for the worker at a place.
+fn add_to(
+    list: &mut Vec<Plan>,
+    at: usize,
+    cap: usize,
+    asked: Option<Reference>,
+) -> Result<(), AllocError>
+    requires there { at < length list.old.items }
+    requires cap { IsCapacity cap }
+    ensures adds { OnOk result (list.new.items ≡ slice_set list.old.items at
+        (plan_ask cap (slice_index_or list.old.items at nothing_planned) asked)) }
+{
+    list[at].add(cap, asked)?;
+    Ok(())
+}
+
+// Plans what is asked of a worker that the setup has.
+fn add_ask(plans: &mut Vec<Vec<Plan>>, setup: Setup, ask: Ask) -> Result<(), AllocError>
+    requires there { has_worker setup ask.replica ask.worker ≡ true }
+    requires shape { IsShaped setup plans.old.items }
+    ensures shape { OnOk result (IsShaped setup plans.new.items) }
+{
+    let replica = ask.replica as usize - 1;
+    let worker = ask.worker as usize - 1;
+    let cap = setup.buffer() as usize;
+    add_to(&mut plans[replica], worker, cap, ask.reference)?;
+    Ok(())
+}
+
+// Plans of so many workers, of whom nothing is asked.
+fn plans_for(alloc: Global, workers: u16) -> Result<Vec<Plan>, AllocError>
+    ensures { IfOk result (λ v. v.items ≡ replicate workers nothing_planned) }
+{
+    let mut list = Vec::with_capacity(alloc, workers as usize)?;
+    for _worker in 0..workers {
+        list.push(Plan::new(alloc))?;
+    }
+    Ok(list)
+}
+
+// The same for each replica.
+fn empty_plans(alloc: Global, setup: Setup) -> Result<Vec<Vec<Plan>>, AllocError>
+    ensures { IfOk result (λ v. IsShaped setup v.items) }
+{
+    let mut plans = Vec::with_capacity(alloc, setup.replicas() as usize)?;
+    for _replica in 0..setup.replicas() {
+        plans.push(plans_for(alloc, setup.workers())?)?;
+    }
+    Ok(plans)
+}
+
+// Plans what the line of this number asks.
+fn take_line(
+    alloc: Global,
+    setup: Setup,
+    line: &[u8],
+    number: u64,
+    plans: &mut Vec<Vec<Plan>>,
+) -> Result<(), PlayFault>
+    requires shape { IsShaped setup plans.old.items }
+    ensures shape { OnOk result (IsShaped setup plans.new.items) }
+    ensures good { OnOk result (IsPlayable (asked setup line.now)) }
+    ensures bad { IfErr result (λ why. (why ≡ Memory)
+        ⊎ ((why ≡ BadLine number) × (asked setup line.now ≡ None))) }
+{
+    let Some(said) = asked(alloc, setup, line) else {
+        return Err(PlayFault::BadLine(number));
+    };
+    let Some(ask) = said else {
+        return Ok(());
+    };
+    match add_ask(plans, setup, ask) {
+        Ok(()) => Ok(()),
+        Err(_) => Err(PlayFault::Memory),
+    }
+}
+
+// Plans what the lines of a text ask.
+fn plan_text(alloc: Global, setup: Setup, text: &[u8]) -> Result<Vec<Vec<Plan>>, PlayFault>
+    requires room { length text.now + 1 < 2 ^ 64 }
+    ensures shape { IfOk result (λ v. IsShaped setup v.items) }
+    ensures good { OnOk result (first_bad setup (lines text.now) ≡ None) }
+    ensures bad { IfErr result (λ why. (why ≡ Memory)
+        ⊎ IsBadLine (first_bad setup (lines text.now)) why) }
+{
+    let Ok(mut plans) = empty_plans(alloc, setup) else {
+        return Err(PlayFault::Memory);
+    };
+    let mut number = 1;
+    let mut rest = text;
+    while let Some((line, after)) = first_line(rest) {
+        take_line(alloc, setup, line, number, &mut plans)?;
+        number += 1;
+        rest = after;
+    }
+    take_line(alloc, setup, rest, number, &mut plans)?;
+    Ok(plans)
+}
+
+// The job of a worker, which flushes last.
+fn job_of(plan: Plan, cap: usize) -> Result<Job, AllocError>
+    ensures { IfOk result (λ job. (job.cap ≡ cap)
+        × (job.steps.items ≡ plan.steps ++ Flush ∷ [])) }
+{
+    let Plan { mut steps, held: _ } = plan;
+    steps.push(Step::Flush)?;
+    Ok(Job { cap, steps })
+}
+
+// The jobs of a replica.
+fn jobs_of(alloc: Global, plans: Vec<Plan>, cap: usize) -> Result<Vec<Job>, AllocError>
+    ensures { IfOk result (λ jobs. length jobs.items ≡ length plans.items) }
+{
+    let mut jobs = Vec::with_capacity(alloc, plans.len())?;
+    for plan in plans {
+        jobs.push(job_of(plan, cap)?)?;
+    }
+    Ok(jobs)
+}
+
+// The jobs of each replica.
+fn jobs_of_all(
+    alloc: Global,
+    setup: Setup,
+    plans: Vec<Vec<Plan>>,
+) -> Result<Vec<Vec<Job>>, AllocError>
+    requires shape { IsShaped setup plans.items }
+    ensures shape { IfOk result (λ jobs. AreJobs setup jobs.items) }
+{
+    let mut all = Vec::with_capacity(alloc, plans.len())?;
+    for list in plans {
+        all.push(jobs_of(alloc, list, setup.buffer() as usize)?)?;
+    }
+    Ok(all)
+}
+
+/// The jobs of the workers of each replica, by replica and then by worker, that do what the text's lines ask: each worker's
+/// lines in their order, each full buffer flushed before a further reference, and each flushed last.
+///
+/// # Errors
+/// `BadLine` with the number of the first line that threads cannot play. `Memory`.
+pub(crate) fn jobs_in(
+    alloc: Global,
+    setup: Setup,
+    text: &[u8],
+) -> Result<Vec<Vec<Job>>, PlayFault>
+    requires room { length text.now + 1 < 2 ^ 64 }
+    ensures shape { IfOk result (λ jobs. AreJobs setup jobs.items) }
+    ensures good { OnOk result (first_bad setup (lines text.now) ≡ None) }
+    ensures bad { IfErr result (λ why. (why ≡ Memory)
+        ⊎ IsBadLine (first_bad setup (lines text.now)) why) }
+{
+    let plans = plan_text(alloc, setup, text)?;
+    match jobs_of_all(alloc, setup, plans) {
+        Ok(all) => Ok(all),
+        Err(_) => Err(PlayFault::Memory),
+    }
+}

@@ -1,0 +1,79 @@
+//! The workers of a replica, each in a thread of its own.
+ghost use Rattle.std.specs.Prelude.{◌≡◌, ◌↔◌, ◌≤◌, length, IsTrue, IfOk};
+ghost use Rattle.std.specs.List.{All};
+ghost use Rattle.warm_replica.specs.declared.fan.TheConstants.{MAX_JOBS};
+ghost use Rattle.warm_threads.specs.Works.{IsDone, AreDone, Works};
+
+use std::alloc::Global;
+use std::sync::Wait;
+use std::thread::Threads;
+use warm_play_fault::PlayFault;
+use warm_replica::{Absorbing, Gate, Job, RunFault, StepReply, run_workers};
+use warm_turn::Turn;
+
+// Nobody is held back.
+#[derive(Clone, Copy)]
+struct Open;
+
+impl Gate for Open {
+    fn before(&self, _job: usize, _step: usize) {}
+
+    fn after(&self, _job: usize, _step: usize) {}
+}
+
+// Whether a step was done.
+fn is_done(reply: &StepReply) -> bool
+    ensures { IsTrue result ↔ IsDone reply.now }
+{
+    matches!(reply, StepReply::Touched | StepReply::Flushed)
+}
+
+// Whether all steps of a job were done.
+fn are_done(replies: &Vec<StepReply>) -> bool
+    ensures { IsTrue result ↔ AreDone replies.now }
+{
+    replies.iter().all(|reply| is_done(reply))
+}
+
+// Whether all steps of all jobs were done.
+fn all_done(replies: &[Vec<StepReply>]) -> bool
+    ensures { IsTrue result ↔ All AreDone replies.now }
+{
+    replies.iter().all(|list| are_done(list))
+}
+
+/// Has the machine's workers do their jobs, each in a thread of its own, and gives the machine back when all have ended.
+///
+/// # Errors
+/// `Memory`: room was refused, to a worker or to the machine too. `NoThread`: a thread could not be started, or left a call behind.
+pub(crate) fn work<M: Absorbing + Send + Drop, R: Threads + Wait + Sync>(
+    rt: &R,
+    alloc: Global,
+    machine: M,
+    jobs: Vec<Job>,
+) -> Result<M, PlayFault>
+    requires fit { M.is_fit machine }
+    requires few { length jobs.items ≤ MAX_JOBS }
+    ensures fit { IfOk result M.is_fit }
+    ensures works { IfOk result
+        (λ m. Works M.goes jobs.items (M.meaning machine) (M.meaning m)) }
+{
+    let Ok((replica, mut pass)) = Turn::new(alloc, machine) else {
+        return Err(PlayFault::Memory);
+    };
+    let gate = Open;
+    let ran = run_workers(rt, alloc, &replica, &mut pass, jobs, &gate);
+    let closed = replica.close(pass);
+    let all = match ran {
+        Ok(all) => all,
+        Err(RunFault::NoThread) => return Err(PlayFault::NoThread),
+        Err(_) => return Err(PlayFault::Memory),
+    };
+    if !all_done(&all) {
+        return Err(PlayFault::Memory);
+    }
+    match closed {
+        Ok(machine) => Ok(machine),
+        Err(_) => Err(PlayFault::NoThread),
+    }
+}
