@@ -1,6 +1,7 @@
 -- Lists that agree place by place.
-use Rattle.std.proofs.Common.{◌≡◌, ℕ, zero, suc, ◌<◌, List, [], ◌∷◌, length, map, Result, Ok, refl, sym, ap, subst, arith}
+use Rattle.std.proofs.Common.{◌≡◌, ℕ, zero, suc, ◌<◌, List, [], ◌∷◌, length, map, Result, Ok, Err, refl, sym, ap, subst, arith}
 use Rattle.std.specs.Prelude.{slice_index_or, IfOk}
+use Rattle.std.specs.Global.{Vec}
 use Rattle.std.specs.List.{All}
 use Rattle.warm_replica.specs.Pairs.{Pairs}
 
@@ -40,10 +41,20 @@ pairs_then P Q S f [] (b ∷ ys) zs h g = absurd h
 pairs_then P Q S f (a ∷ xs) [] zs h g = absurd h
 pairs_then P Q S f (a ∷ xs) (b ∷ ys) [] h g = absurd g
 
+-- what follows of a value that there is
+pub if_ok_then : {A E : Type 0} (P Q : A → Type 0) (r : Result A E) → ((x : A) → P x → Q x) → IfOk r P → IfOk r Q
+if_ok_then P Q (Ok x) f h = f x h
+if_ok_then P Q (Err e) f h = h
+
 -- the values of results that are all Ok
-pub gathered_pairs : {A T E : Type 0} (P : A → T → Type 0) (xs : List A) (results : List (Result T E)) (ys : List T)
+gathered_pairs : {A T E : Type 0} (P : A → T → Type 0) (xs : List A) (results : List (Result T E)) (ys : List T)
     → Pairs (λ x r. IfOk r (P x)) xs results → Pairs (λ r t. r ≡ Ok t) results ys → Pairs P xs ys
 gathered_pairs P xs results ys = pairs_then (λ x r. IfOk r (P x)) (λ r t. r ≡ Ok t) P (λ x r t h is. subst (λ q. IfOk q (P x)) is h) xs results ys
+
+-- the same of values that are gathered, where they are
+pub gathered_all : {A T E : Type 0} (P : A → T → Type 0) (xs : List A) (results : List (Result T E)) (r : Result (Vec T) E)
+    → Pairs (λ x r. IfOk r (P x)) xs results → IfOk r (λ v. Pairs (λ r t. r ≡ Ok t) results v.items) → IfOk r (λ v. Pairs P xs v.items)
+gathered_all P xs results r h = if_ok_then (λ v. Pairs (λ r t. r ≡ Ok t) results v.items) (λ v. Pairs P xs v.items) r (λ v. gathered_pairs P xs results v.items h)
 
 -- of a list read off another
 pub all_mapped : {A B : Type 0} (f : A → B) (Q : B → Type 0) (xs : List A) (ys : List B) → map f xs ≡ ys → All Q ys → All (λ x. Q (f x)) xs
