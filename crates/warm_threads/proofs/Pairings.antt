@@ -3,7 +3,7 @@ use Rattle.std.proofs.Common.{◌≡◌, ℕ, zero, suc, ◌<◌, List, [], ◌�
 use Rattle.std.specs.Prelude.{slice_index_or, IfOk}
 use Rattle.std.specs.Global.{Vec}
 use Rattle.std.specs.List.{All}
-use Rattle.warm_replica.specs.Pairs.{Pairs}
+use Rattle.warm_replica.specs.Pairs.{Pairs, Triples}
 
 module _ {A B : Type 0} where
   -- what a list of results says of the place of each
@@ -40,6 +40,14 @@ pairs_then P Q S f [] [] (d ∷ zs) h g = absurd g
 pairs_then P Q S f [] (b ∷ ys) zs h g = absurd h
 pairs_then P Q S f (a ∷ xs) [] zs h g = absurd h
 pairs_then P Q S f (a ∷ xs) (b ∷ ys) [] h g = absurd g
+
+-- what pairs say of three lists that are read off them
+pub triples_of : {A B M X Y Z : Type 0} (T : X → Y → Z → Type 0) (p : M → X) (f : A → M) (g : A → Y) (h : B → Z)
+    → (xs : List A) (ys : List B) → Pairs (λ x y. T (p (f x)) (g x) (h y)) xs ys → Triples T (map p (map f xs)) (map g xs) (map h ys)
+triples_of T p f g h [] [] all = tt
+triples_of T p f g h (a ∷ xs) (b ∷ ys) all = (all.0, triples_of T p f g h xs ys all.1)
+triples_of T p f g h [] (b ∷ ys) all = absurd all
+triples_of T p f g h (a ∷ xs) [] all = absurd all
 
 -- what follows of a value that there is
 pub if_ok_then : {A E : Type 0} (P Q : A → Type 0) (r : Result A E) → ((x : A) → P x → Q x) → IfOk r P → IfOk r Q

@@ -1,5 +1,5 @@
 -- Runs one after the other, and what a fan-out of jobs and a closed turn say together.
-use Rattle.std.proofs.Common.{◌≡◌, ℕ, suc, List, [], ◌∷◌, ◌++◌, refl, sym, ap, subst, ◌∙◌, arith}
+use Rattle.std.proofs.Common.{◌≡◌, ℕ, suc, List, [], ◌∷◌, ◌++◌, map, refl, sym, ap, subst, ◌∙◌, arith}
 use Rattle.std.specs.Global.{Vec}
 use Rattle.std.specs.List.{All}
 use mathlib.Core.Option.{some}
@@ -13,7 +13,9 @@ use Rattle.warm_gossip.specs.declared.call.Reply.{Reply}
 use Rattle.warm_replica.specs.declared.job.Job.{Job}
 use Rattle.warm_replica.specs.declared.job.StepReply.{StepReply}
 use Rattle.warm_replica.specs.Jobs.{Calls, JobsWent}
-use Rattle.warm_threads.specs.Works.{AreDone, Leads, Works, WentOn}
+use Rattle.warm_replica.specs.Pairs.{Pairs, Triples}
+use Rattle.warm_threads.specs.Works.{AreDone, Leads, Works, WentOn, Went}
+use Rattle.warm_threads.proofs.Pairings.{pairs_then, triples_of}
 
 module _ {X : Type 0} (goes : X → Call → Reply → X → Type 0) where
   runs_then : (x y z : X) (first second : Calls) → Runs goes x first y → Runs goes y second z → Runs goes x (first ++ second) z
@@ -45,3 +47,19 @@ module _ {X : Type 0} (goes : X → Call → Reply → X → Type 0) where
         stand = λ k e at. last.others (suc k) e (subst (λ es. get_elem? es (suc k) ≡ some e) (sym held) at);
         apart = λ a b e f at bt same. omega (arith, last.legal.apart (suc a) (suc b) e f (subst (λ es. get_elem? es (suc a) ≡ some e) (sym held) at) (subst (λ es. get_elem? es (suc b) ≡ some f) (sym held) bt) same);
       }
+
+  -- crews of these machines and jobs that have worked, and machines that have sent and heard since
+  pub went_all : {C K H M : Type 0} (meaning : M → X) (first : List M) (lists : List (Vec Job)) (cs : List C) (ks : List K) (hs : List H) (ms : List M)
+      → (machine : C → M) (jobs : C → Vec Job) (known : K → M) (heard : H → M) → map machine cs ≡ first → map jobs cs ≡ lists
+      → Pairs (λ r k. Works goes (jobs r).items (meaning (machine r)) (meaning (known k))) cs ks
+      → Pairs (λ k h. Leads goes (meaning (known k)) (meaning (heard h))) ks hs
+      → Pairs (λ h m. Leads goes (meaning (heard h)) (meaning m)) hs ms
+      → Went goes (map meaning first) lists (map meaning ms)
+  went_all {C} {K} {H} {M} meaning first lists cs ks hs ms machine jobs known heard are have worked sent told =
+      let led : Pairs (λ (k : K) (m : M). Leads goes (meaning (known k)) (meaning m)) ks ms =
+          pairs_then _ _ _ (λ k h m a b. leads_then (meaning (known k)) (meaning (heard h)) (meaning m) a b) ks hs ms sent told in
+      let went : Pairs (λ (r : C) (m : M). WentOn goes (jobs r).items (meaning (machine r)) (meaning m)) cs ms =
+          pairs_then _ _ _ (λ r k m a b. record { worked = meaning (known k); works = a; leads = b }) cs ks ms worked led in
+      subst (λ (zs : List M). Went goes (map meaning zs) lists (map meaning ms)) are
+      (subst (λ (ls : List (Vec Job)). Went goes (map meaning (map machine cs)) ls (map meaning ms)) have
+      (triples_of (λ x list z. WentOn goes list.items x z) meaning machine jobs meaning cs ms went))
