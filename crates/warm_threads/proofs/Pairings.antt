@@ -1,5 +1,5 @@
 -- Lists that agree place by place.
-use Rattle.std.proofs.Common.{◌≡◌, ℕ, zero, suc, ◌<◌, List, [], ◌∷◌, length, map, Result, Ok, Err, refl, sym, ap, subst, arith}
+use Rattle.std.proofs.Common.{◌≡◌, ℕ, zero, suc, ◌<◌, List, [], ◌∷◌, length, map, Result, Ok, Err, sym, subst, arith}
 use Rattle.std.specs.Prelude.{slice_index_or, IfOk}
 use Rattle.std.specs.Global.{Vec}
 use Rattle.std.specs.List.{All}

@@ -1,19 +1,17 @@
 -- Runs one after the other, and what a fan-out of jobs and a closed turn say together.
-use Rattle.std.proofs.Common.{◌≡◌, ℕ, suc, List, [], ◌∷◌, ◌++◌, map, refl, sym, ap, subst, ◌∙◌, arith}
+use Rattle.std.proofs.Common.{◌≡◌, suc, List, [], ◌∷◌, ◌++◌, map, refl, sym, subst, arith}
 use Rattle.std.specs.Global.{Vec}
 use Rattle.std.specs.List.{All}
 use mathlib.Core.Option.{some}
 use lib.ListN.{get_elem?}
-use Rattle.warm_turn.specs.declared.board.Entry.{Entry}
-use Rattle.warm_turn.specs.declared.board.Ended.{Ended}
 use Rattle.warm_turn.specs.declared.board.View.{View}
-use Rattle.warm_turn.specs.Turns.{Runs, NoRepeat, IsLast, calls_by, entry, first_pass}
+use Rattle.warm_turn.specs.Turns.{Runs, IsLast, entry, first_pass}
 use Rattle.warm_gossip.specs.declared.call.Call.{Call}
 use Rattle.warm_gossip.specs.declared.call.Reply.{Reply}
 use Rattle.warm_replica.specs.declared.job.Job.{Job}
 use Rattle.warm_replica.specs.declared.job.StepReply.{StepReply}
 use Rattle.warm_replica.specs.Jobs.{Calls, JobsWent}
-use Rattle.warm_replica.specs.Pairs.{Pairs, Triples}
+use Rattle.warm_replica.specs.Pairs.{Pairs}
 use Rattle.warm_threads.specs.Works.{AreDone, Leads, Works, WentOn, Went}
 use Rattle.warm_threads.proofs.Pairings.{pairs_then, triples_of}
 
@@ -57,9 +55,9 @@ module _ {X : Type 0} (goes : X → Call → Reply → X → Type 0) where
       → Went goes (map meaning first) lists (map meaning ms)
   went_all {C} {K} {H} {M} meaning first lists cs ks hs ms machine jobs known heard are have worked sent told =
       let led : Pairs (λ (k : K) (m : M). Leads goes (meaning (known k)) (meaning m)) ks ms =
-          pairs_then _ _ _ (λ k h m a b. leads_then (meaning (known k)) (meaning (heard h)) (meaning m) a b) ks hs ms sent told in
+      pairs_then _ _ _ (λ k h m a b. leads_then (meaning (known k)) (meaning (heard h)) (meaning m) a b) ks hs ms sent told in
       let went : Pairs (λ (r : C) (m : M). WentOn goes (jobs r).items (meaning (machine r)) (meaning m)) cs ms =
-          pairs_then _ _ _ (λ r k m a b. record { worked = meaning (known k); works = a; leads = b }) cs ks ms worked led in
+      pairs_then _ _ _ (λ r k m a b. record { worked = meaning (known k); works = a; leads = b }) cs ks ms worked led in
       subst (λ (zs : List M). Went goes (map meaning zs) lists (map meaning ms)) are
       (subst (λ (ls : List (Vec Job)). Went goes (map meaning (map machine cs)) ls (map meaning ms)) have
       (triples_of (λ x list z. WentOn goes list.items x z) meaning machine jobs meaning cs ms went))

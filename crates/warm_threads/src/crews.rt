@@ -106,10 +106,7 @@ fn hear_one<M: Absorbing + Drop, R: Wait>(
 }
 
 // What was made, where all of it was.
-fn gathered<T: Drop>(
-    alloc: Global,
-    results: Vec<Result<T, PlayFault>>,
-) -> Result<Vec<T>, PlayFault>
+fn gathered<T: Drop>(alloc: Global, results: Vec<Result<T, PlayFault>>) -> Result<Vec<T>, PlayFault>
     ensures { IfOk result (λ v. Pairs (λ r t. r ≡ Ok t) results.items v.items) }
 {
     let Ok(mut all) = Vec::with_capacity(alloc, results.len()) else {

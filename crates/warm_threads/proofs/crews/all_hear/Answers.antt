@@ -1,6 +1,5 @@
 use Rattle.std.proofs.Common.{◌≡◌, length, arith}
 use Rattle.std.specs.Prelude.{IfOk}
-use Rattle.std.specs.List.{All}
 use Rattle.warm_replica.specs.Pairs.{Pairs}
 use Rattle.warm_threads.specs.Works.{Leads}
 use Rattle.warm_threads.proofs.Pairings.{if_ok_then, pairs_by_place, pairs_map, all_second, gathered_all}
