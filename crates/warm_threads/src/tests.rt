@@ -71,8 +71,14 @@ fn is_printed(got: &(Result<(), PlayFault>, String), want: &str) -> bool {
 
 #[test]
 fn three_references_reach_all_replicas(rt: HostRuntime) -> Result<(), Fail> {
-    let got = played_by(&rt, rt.alloc(), DEFAULT, b"ref 1 1 0:1 10\nref 1 2 0:1 20\nref 2 1 0:1 30")?;
-    let want = "replica 1\n0:1 last 30@2 prev 20@1\nend 1\nreplica 2\n0:1 last 30@2 prev 20@1\nend 1\n\
+    let got = played_by(
+        &rt,
+        rt.alloc(),
+        DEFAULT,
+        b"ref 1 1 0:1 10\nref 1 2 0:1 20\nref 2 1 0:1 30",
+    )?;
+    let want =
+        "replica 1\n0:1 last 30@2 prev 20@1\nend 1\nreplica 2\n0:1 last 30@2 prev 20@1\nend 1\n\
         replica 3\n0:1 last 30@2 prev 20@1\nend 1\n";
     assert!(rt; is_printed(&got, want));
     Ok(())
@@ -100,7 +106,8 @@ fn full_buffers_are_flushed(rt: HostRuntime) -> Result<(), Fail> {
         workers: 2,
         buffer: 1,
     };
-    let text = b"ref 1 1 0:1 1\nref 1 1 0:2 2\nref 1 2 0:1 3\nref 1 1 0:1 4\nflush 1 1\nref 1 2 3:4 5\n";
+    let text =
+        b"ref 1 1 0:1 1\nref 1 1 0:2 2\nref 1 2 0:1 3\nref 1 1 0:1 4\nflush 1 1\nref 1 2 3:4 5\n";
     let got = played_by(&rt, rt.alloc(), one, text)?;
     let want = "replica 1\n0:1 last 4@1 prev 3@1\n0:2 last 2@1\n3:4 last 5@1\nend 3\n";
     assert!(rt; is_printed(&got, want));
@@ -135,14 +142,37 @@ fn a_bucket_is_sent_whole(rt: HostRuntime) -> Result<(), Fail> {
 #[test]
 fn bad_lines_are_named(rt: HostRuntime) -> Result<(), Fail> {
     for line in [
-        "show 1", "send 1 0", "send 1 0 0:1", "offer 1", "deliver 1 1", "pin 1 0:1", "unpin 1 0.1",
-        "put 1 0.1 0 AA", "get 1 0.1 0 1", "victim 1", "warm 1 1", "warmstep 1", "restart 1",
-        "ref 0 1 0:1 1", "ref 4 1 0:1 1", "ref 1 0 0:1 1", "ref 1 3 0:1 1", "ref 1 1 0:1",
-        "flush 4 1", "flush 1 3", "flush 0 1", "flush 1 0", "flush 1 1 1", "word",
+        "show 1",
+        "send 1 0",
+        "send 1 0 0:1",
+        "offer 1",
+        "deliver 1 1",
+        "pin 1 0:1",
+        "unpin 1 0.1",
+        "put 1 0.1 0 AA",
+        "get 1 0.1 0 1",
+        "victim 1",
+        "warm 1 1",
+        "warmstep 1",
+        "restart 1",
+        "ref 0 1 0:1 1",
+        "ref 4 1 0:1 1",
+        "ref 1 0 0:1 1",
+        "ref 1 3 0:1 1",
+        "ref 1 1 0:1",
+        "flush 4 1",
+        "flush 1 3",
+        "flush 0 1",
+        "flush 1 0",
+        "flush 1 1 1",
+        "word",
     ] {
         let text = format!(in rt.alloc(); "ref 1 1 0:1 1\n\n{line}\nshow 1\n")?;
         let (ended, shown) = played_by(&rt, rt.alloc(), DEFAULT, text.as_bytes())?;
-        assert!(rt; ended == Err(PlayFault::BadLine(3)) && shown.as_str() == "", "{line}");
+        assert!(rt;
+            ended == Err(PlayFault::BadLine(3)) && shown.as_str() == "",
+            "{line}"
+        );
     }
     Ok(())
 }
@@ -179,7 +209,11 @@ fn a_refused_growth(rt: HostRuntime) -> Result<(), Fail> {
     let text = b"ref 1 1 0:1 10\nref 1 2 0:1 20\nref 2 1 0:1 30\n";
     let (ended, shown) = played_by(&rt, rt.alloc(), DEFAULT, text)?;
     match ended {
-        Ok(()) => assert!(rt; shown.as_str().starts_with("replica 1\n0:1 last 30@2 prev 20@1\nend 1\n")),
+        Ok(()) => assert!(rt;
+            shown
+                .as_str()
+                .starts_with("replica 1\n0:1 last 30@2 prev 20@1\nend 1\n")
+        ),
         Err(fault) => assert!(rt; fault == PlayFault::Memory || fault == PlayFault::NoThread),
     }
     Ok(())
