@@ -1,10 +1,10 @@
 -- The first line that threads cannot play.
-use Rattle.std.proofs.Common.{◌≡◌, ℕ, ◌+◌, List, ◌∷◌, Option, Some, None, refl, ap, sym, ◌∙◌}
+use Rattle.std.proofs.Common.{◌≡◌, ◌⊎◌, inl, inr, ℕ, ◌+◌, List, [], ◌∷◌, ◌++◌, Option, Some, None, refl, ap, sym, ◌∙◌, append_assoc}
 use Rattle.warm_play_fault.specs.declared.PlayFault.{PlayFault}
-use Rattle.warm_play_fault.specs.declared.PlayFault.TheVariants.{BadLine}
+use Rattle.warm_play_fault.specs.declared.PlayFault.TheVariants.{BadLine, Memory}
 use Rattle.warm_world.specs.Sizes.{Sizes}
 use Rattle.warm_threads.specs.declared.ask.Ask.{Ask}
-use Rattle.warm_threads.specs.Asks.{asked, bad_from, bad_or, IsBadLine, IsPlayable}
+use Rattle.warm_threads.specs.Asks.{asked, asks, bad_from, bad_or, with_ask, IsBadLine, IsPlayable}
 
 good_or : (said : Option (Option Ask)) (number : ℕ) (later : Option ℕ) → IsPlayable said → bad_or said number later ≡ later
 good_or None number later h = absurd h
@@ -20,3 +20,18 @@ bad_here s number line rest h = ap (λ (said : Option (Option Ask)). bad_or said
 
 pub is_bad_line : (found : Option ℕ) (number : ℕ) (why : PlayFault) → found ≡ Some number → why ≡ BadLine number → IsBadLine found why
 is_bad_line found number why is named = rw is named
+
+with_here : (said : Option (Option Ask)) (rest : List Ask) → with_ask said rest ≡ with_ask said [] ++ rest
+with_here None rest = refl
+with_here (Some None) rest = refl
+with_here (Some (Some a)) rest = refl
+
+-- a line and what follows it, after what was asked before
+pub asks_then : (s : Sizes) (before all : List Ask) (line : List ℕ) (rest : List (List ℕ)) → all ≡ before ++ asks s (line ∷ rest) → all ≡ (before ++ with_ask (asked s line) []) ++ asks s rest
+asks_then s before all line rest is = is ∙ ap (λ (more : List Ask). before ++ more) (with_here (asked s line) (asks s rest)) ∙ sym (append_assoc before (with_ask (asked s line) []) (asks s rest))
+
+-- the line of this number cannot be played, or there was no room
+pub line_fault : (s : Sizes) (found : Option ℕ) (number : ℕ) (line : List ℕ) (rest : List (List ℕ)) (why : PlayFault) → found ≡ bad_from s number (line ∷ rest)
+    → (why ≡ Memory) ⊎ ((why ≡ BadLine number) × (asked s line ≡ None)) → (why ≡ Memory) ⊎ IsBadLine found why
+line_fault s found number line rest why is (inl memory) = inl memory
+line_fault s found number line rest why is (inr bad) = inr (is_bad_line found number why (is ∙ bad_here s number line rest bad.1) bad.0)

@@ -1,4 +1,7 @@
 mod Pairings
 mod Runnings
+mod Numberings
+mod Plannings
 mod Askings
+mod Openings
 mod Showings

@@ -1,5 +1,7 @@
 pub mod Asks
+pub mod Numbers
 pub mod Steps
 pub mod Plans
 pub mod Works
+pub mod Opened
 pub mod Shown

@@ -1,13 +1,16 @@
 -- The steps by which a worker does what is asked of it.
-use Rattle.std.specs.Prelude.{◌≡◌, ℕ, ◌+◌, List, [], ◌∷◌, ◌++◌, Bool, true, false, length, nat_lt, Option, Some, None}
+use Rattle.std.specs.Prelude.{◌≡◌, ℕ, ◌+◌, List, [], ◌∷◌, ◌++◌, Bool, true, false, ◌&&◌, ◌==◌, filter, length, map, nat_lt, Option, Some, None}
 use Rattle.std.specs.Global.{Vec}
 use Rattle.std.specs.List.{All}
 use Rattle.warm_stamps.specs.declared.Reference.{Reference}
 use Rattle.warm_replica.specs.declared.job.Job.{Job}
 use Rattle.warm_replica.specs.declared.job.Step.{Step}
 use Rattle.warm_replica.specs.declared.job.Step.TheVariants.{Touch, Flush}
+use Rattle.warm_replica.specs.Pairs.{Pairs}
 use Rattle.warm_world.specs.Sizes.{Sizes}
-use Rattle.warm_threads.specs.Steps.{Planned}
+use Rattle.warm_threads.specs.declared.ask.Ask.{Ask}
+use Rattle.warm_threads.specs.Numbers.{Numbered}
+use Rattle.warm_threads.specs.Steps.{Planned, nothing_planned}
 
 -- a full buffer is flushed first
 abbrev pub plan_reference : Planned → Bool → Reference → Planned
@@ -23,12 +26,44 @@ abbrev pub plan_asks : ℕ → Planned → List (Option Reference) → Planned
 plan_asks cap p [] = p
 plan_asks cap p (a ∷ rest) = plan_asks cap (plan_ask cap p a) rest
 
+-- something is asked of this worker of this replica
+abbrev pub is_of : ℕ → ℕ → Ask → Bool
+is_of i w a = (a.replica == i) && (a.worker == w)
+
+-- what is asked of the worker of the replica, in its order
+abbrev pub asked_of : ℕ → ℕ → List Ask → List (Option Reference)
+asked_of i w asks = map (λ a. a.reference) (filter (is_of i w) asks)
+
+-- what the worker is to do by then
+abbrev pub plan_of : Sizes → List Ask → ℕ → ℕ → Planned
+plan_of s asks i w = plan_asks s.buffer nothing_planned (asked_of i w asks)
+
 -- a list of plans for each replica, in each a plan for each worker
 pub record IsShaped (s : Sizes) (plans : List (Vec Planned)) : Type 0 where
   pub replicas : length plans ≡ s.replicas
   pub workers : All (λ list. length list.items ≡ s.workers) plans
 
--- a list of jobs for each replica, in each a job for each worker
-pub record AreJobs (s : Sizes) (jobs : List (Vec Job)) : Type 0 where
+-- they are what was asked of each worker of each replica
+abbrev pub ArePlansOf : Sizes → List Ask → List (Vec Planned) → Type 0
+ArePlansOf s asks plans = Numbered (λ i list. Numbered (λ w plan. plan ≡ plan_of s asks i w) list.items) plans
+
+-- a job that does what is planned, and flushes last
+pub record DoesPlan (cap : ℕ) (plan : Planned) (job : Job) : Type 0 where
+  pub cap_is : job.cap ≡ cap
+  pub steps : job.steps.items ≡ plan.steps ++ Flush ∷ []
+
+-- jobs that do so, worker by worker and replica by replica
+abbrev pub DoPlans : ℕ → List (Vec Planned) → List (Vec Job) → Type 0
+DoPlans cap plans jobs = Pairs (λ ps js. Pairs (DoesPlan cap) ps.items js.items) plans jobs
+
+-- The job of a worker of a replica: its buffer is as large as the setup says. It does what is asked of the worker, in its order, where a
+-- full buffer is flushed before a further reference, and it flushes last.
+pub record IsJobOf (s : Sizes) (asks : List Ask) (i w : ℕ) (job : Job) : Type 0 where
+  pub cap : job.cap ≡ s.buffer
+  pub steps : job.steps.items ≡ (plan_of s asks i w).steps ++ Flush ∷ []
+
+-- a list of jobs for each replica, in each the job of each worker; replicas and workers are counted from 1
+pub record AreJobsOf (s : Sizes) (asks : List Ask) (jobs : List (Vec Job)) : Type 0 where
   pub replicas : length jobs ≡ s.replicas
   pub workers : All (λ list. length list.items ≡ s.workers) jobs
+  pub each : Numbered (λ i list. Numbered (IsJobOf s asks i) list.items) jobs

@@ -1,13 +1,15 @@
 //! The steps of each worker.
-ghost use Rattle.std.specs.Prelude.{◌≡◌, ◌+◌, ◌<◌, ◌^◌, ◌++◌, ◌∷◌, [], length, replicate, true};
+ghost use Rattle.std.specs.Prelude.{◌≡◌, ◌+◌, ◌<◌, ◌^◌, ◌++◌, ◌∷◌, [], List, length, replicate, true};
 ghost use Rattle.std.specs.Prelude.{IfOk, IfErr, OnOk, None, ◌⊎◌, slice_set, slice_index_or};
 ghost use Rattle.warm_refbuffer.specs.Buffered.{IsCapacity};
 ghost use Rattle.warm_play_fault.specs.declared.PlayFault.TheVariants.{Memory, BadLine};
 ghost use Rattle.warm_schedule.specs.Text.{lines};
+ghost use Rattle.warm_replica.specs.Pairs.{Pairs};
+ghost use Rattle.warm_threads.specs.declared.ask.Ask.{Ask};
 ghost use Rattle.warm_threads.specs.Steps.{nothing_planned};
-ghost use Rattle.warm_replica.specs.declared.job.Step.TheVariants.{Flush};
-ghost use Rattle.warm_threads.specs.Plans.{plan_ask, IsShaped, AreJobs};
-ghost use Rattle.warm_threads.specs.Asks.{asked, first_bad, has_worker, IsBadLine, IsPlayable};
+ghost use Rattle.warm_threads.specs.Plans.{plan_ask, IsShaped, ArePlansOf, DoesPlan, DoPlans, AreJobsOf};
+ghost use Rattle.warm_threads.specs.Asks.{asked, asks, first_bad, has_worker, with_ask};
+ghost use Rattle.warm_threads.specs.Asks.{IsBadLine, IsPlayable};
 
 use crate::ask::{Ask, asked};
 use std::alloc::{AllocError, Global};
@@ -86,6 +88,8 @@ fn add_ask(plans: &mut Vec<Vec<Plan>>, setup: Setup, ask: Ask) -> Result<(), All
     requires there { has_worker setup ask.replica ask.worker ≡ true }
     requires shape { IsShaped setup plans.old.items }
     ensures shape { OnOk result (IsShaped setup plans.new.items) }
+    ensures adds { (before : List Ask) → ArePlansOf setup before plans.old.items
+        → OnOk result (ArePlansOf setup (before ++ ask ∷ []) plans.new.items) }
 {
     let replica = ask.replica as usize - 1;
     let worker = ask.worker as usize - 1;
@@ -107,7 +111,8 @@ fn plans_for(alloc: Global, workers: u16) -> Result<Vec<Plan>, AllocError>
 
 // The same for each replica.
 fn empty_plans(alloc: Global, setup: Setup) -> Result<Vec<Vec<Plan>>, AllocError>
-    ensures { IfOk result (λ v. IsShaped setup v.items) }
+    ensures shape { IfOk result (λ v. IsShaped setup v.items) }
+    ensures empty { IfOk result (λ v. ArePlansOf setup [] v.items) }
 {
     let mut plans = Vec::with_capacity(alloc, setup.replicas() as usize)?;
     for _replica in 0..setup.replicas() {
@@ -126,6 +131,9 @@ fn take_line(
 ) -> Result<(), PlayFault>
     requires shape { IsShaped setup plans.old.items }
     ensures shape { OnOk result (IsShaped setup plans.new.items) }
+    ensures adds { (before : List Ask) → ArePlansOf setup before plans.old.items
+        → OnOk result (ArePlansOf setup (before ++ with_ask (asked setup line.now) [])
+            plans.new.items) }
     ensures good { OnOk result (IsPlayable (asked setup line.now)) }
     ensures bad { IfErr result (λ why. (why ≡ Memory)
         ⊎ ((why ≡ BadLine number) × (asked setup line.now ≡ None))) }
@@ -146,6 +154,7 @@ fn take_line(
 fn plan_text(alloc: Global, setup: Setup, text: &[u8]) -> Result<Vec<Vec<Plan>>, PlayFault>
     requires room { length text.now + 1 < 2 ^ 64 }
     ensures shape { IfOk result (λ v. IsShaped setup v.items) }
+    ensures plans { IfOk result (λ v. ArePlansOf setup (asks setup (lines text.now)) v.items) }
     ensures good { OnOk result (first_bad setup (lines text.now) ≡ None) }
     ensures bad { IfErr result (λ why. (why ≡ Memory)
         ⊎ IsBadLine (first_bad setup (lines text.now)) why) }
@@ -156,18 +165,21 @@ fn plan_text(alloc: Global, setup: Setup, text: &[u8]) -> Result<Vec<Vec<Plan>>,
     let mut number = 1;
     let mut rest = text;
     while let Some((line, after)) = first_line(rest) {
-        take_line(alloc, setup, line, number, &mut plans)?;
+        if let Err(why) = take_line(alloc, setup, line, number, &mut plans) {
+            return Err(why);
+        }
         number += 1;
         rest = after;
     }
-    take_line(alloc, setup, rest, number, &mut plans)?;
-    Ok(plans)
+    match take_line(alloc, setup, rest, number, &mut plans) {
+        Ok(()) => Ok(plans),
+        Err(why) => Err(why),
+    }
 }
 
 // The job of a worker, which flushes last.
 fn job_of(plan: Plan, cap: usize) -> Result<Job, AllocError>
-    ensures { IfOk result (λ job. (job.cap ≡ cap)
-        × (job.steps.items ≡ plan.steps ++ Flush ∷ [])) }
+    ensures { IfOk result (λ job. DoesPlan cap plan job) }
 {
     let Plan { mut steps, held: _ } = plan;
     steps.push(Step::Flush)?;
@@ -176,7 +188,7 @@ fn job_of(plan: Plan, cap: usize) -> Result<Job, AllocError>
 
 // The jobs of a replica.
 fn jobs_of(alloc: Global, plans: Vec<Plan>, cap: usize) -> Result<Vec<Job>, AllocError>
-    ensures { IfOk result (λ jobs. length jobs.items ≡ length plans.items) }
+    ensures { IfOk result (λ jobs. Pairs (DoesPlan cap) plans.items jobs.items) }
 {
     let mut jobs = Vec::with_capacity(alloc, plans.len())?;
     for plan in plans {
@@ -191,8 +203,7 @@ fn jobs_of_all(
     setup: Setup,
     plans: Vec<Vec<Plan>>,
 ) -> Result<Vec<Vec<Job>>, AllocError>
-    requires shape { IsShaped setup plans.items }
-    ensures shape { IfOk result (λ jobs. AreJobs setup jobs.items) }
+    ensures { IfOk result (λ jobs. DoPlans setup.buffer plans.items jobs.items) }
 {
     let mut all = Vec::with_capacity(alloc, plans.len())?;
     for list in plans {
@@ -212,7 +223,8 @@ pub(crate) fn jobs_in(
     text: &[u8],
 ) -> Result<Vec<Vec<Job>>, PlayFault>
     requires room { length text.now + 1 < 2 ^ 64 }
-    ensures shape { IfOk result (λ jobs. AreJobs setup jobs.items) }
+    ensures jobs { IfOk result (λ jobs.
+        AreJobsOf setup (asks setup (lines text.now)) jobs.items) }
     ensures good { OnOk result (first_bad setup (lines text.now) ≡ None) }
     ensures bad { IfErr result (λ why. (why ≡ Memory)
         ⊎ IsBadLine (first_bad setup (lines text.now)) why) }

@@ -1,19 +1,21 @@
 //! A schedule played by threads, over nodes.
-ghost use Rattle.std.specs.Prelude.{◌≡◌, ◌≤◌, List, ℕ, length, map, Some, None};
-ghost use Rattle.std.specs.Prelude.{OnOk, IfOk, IfErr, IfSome, Err};
+ghost use Rattle.std.specs.Prelude.{◌≡◌, ◌≤◌, ◌↔◌, ◌⊎◌, List, ℕ, length, map, Some, None};
+ghost use Rattle.std.specs.Prelude.{OnOk, IfOk, IfErr, IfSome, Err, IsTrue};
 ghost use Rattle.std.specs.Global.{Vec};
 ghost use Rattle.std.specs.List.{All};
 ghost use Rattle.std.specs.Io.KnownBytes.{Appends, IsAtEnd};
 ghost use Rattle.warm_stamps.specs.declared.TheConstants.{MAX_REPLICAS};
-ghost use Rattle.warm_gossip.specs.Clauses.{IsFit};
-ghost use Rattle.warm_world.specs.Opening.{AreFitting};
+ghost use Rattle.warm_pool.specs.declared.TheConstants.{MAX_DEVICES};
+ghost use Rattle.warm_gossip.specs.Clauses.{IsFit, node_state};
+ghost use Rattle.warm_world.specs.Opening.{AreFew};
 ghost use Rattle.warm_world.specs.Seen.{listed};
 ghost use Rattle.warm_schedule.specs.Answers.{Prints};
 ghost use Rattle.warm_schedule.specs.Text.{lines};
-ghost use Rattle.warm_play_fault.specs.declared.PlayFault.TheVariants.{BadDevices, BadLine};
-ghost use Rattle.warm_threads.specs.Asks.{first_bad};
-ghost use Rattle.warm_pool.specs.declared.TheConstants.{MAX_DEVICES};
 ghost use Rattle.warm_replica.specs.declared.job.Job.{Job};
+ghost use Rattle.warm_play_fault.specs.declared.PlayFault.TheVariants.{BadDevices, BadLine, Memory};
+ghost use Rattle.warm_threads.specs.Asks.{asks, first_bad};
+ghost use Rattle.warm_threads.specs.Opened.{opened_node, opened_nodes, AreUsable};
+ghost use Rattle.warm_threads.specs.Plans.{AreJobsOf};
 ghost use Rattle.warm_threads.specs.Shown.{replica_text, replicas_text};
 ghost use Rattle.warm_threads.specs.Works.{Went};
 
@@ -44,6 +46,31 @@ fn print_replica<W: Write>(writer: &mut W, number: u16, history: &History) -> io
     print_history(writer, history)
 }
 
+// Whether no list is longer than a page can name.
+fn are_few(devices: &[Vec<Box<dyn PageDevice + Send>>]) -> bool
+    ensures { IsTrue result ↔ AreFew (listed state devices.now) }
+{
+    for list in devices {
+        if list.len() > MAX_DEVICES {
+            return false;
+        }
+    }
+    true
+}
+
+// Whether nodes of this setup can be made over these lists.
+fn are_usable(setup: Setup, devices: &[Vec<Box<dyn PageDevice + Send>>]) -> bool
+    ensures { IsTrue result ↔ AreUsable setup (listed state devices.now) }
+{
+    if devices.len() != setup.replicas() as usize {
+        return false;
+    }
+    if !are_sized(devices, setup.page_size() as usize) {
+        return false;
+    }
+    are_few(devices)
+}
+
 // A node over a replica's devices, whose pages have the setup's size.
 fn node_over(
     alloc: Global,
@@ -53,6 +80,9 @@ fn node_over(
 ) -> Result<Node, PlayFault>
     requires few { length devices.items ≤ MAX_DEVICES }
     ensures fit { IfOk result (λ node. IsFit state node) }
+    ensures opened { IfOk result (λ node. node_state state node
+        ≡ opened_node setup id (map state devices.items)) }
+    ensures why { IfErr result (λ why. why ≡ Memory) }
 {
     let frames = setup.frames() as usize;
     let page_size = setup.page_size() as usize;
@@ -60,6 +90,33 @@ fn node_over(
         return Err(PlayFault::Memory);
     };
     Ok(Node::new(alloc, id, pool))
+}
+
+// A node over each list of devices, numbered from 1.
+fn nodes_of(
+    alloc: Global,
+    setup: Setup,
+    devices: Vec<Vec<Box<dyn PageDevice + Send>>>,
+) -> Result<Vec<Node>, PlayFault>
+    requires few { AreFew (listed state devices.items) }
+    requires many { length devices.items ≤ MAX_REPLICAS }
+    ensures fit { IfOk result (λ nodes. All (IsFit state) nodes.items) }
+    ensures opened { IfOk result (λ nodes. map (node_state state) nodes.items
+        ≡ opened_nodes setup 1 (listed state devices.items)) }
+    ensures why { IfErr result (λ why. why ≡ Memory) }
+{
+    let Ok(mut nodes) = Vec::with_capacity(alloc, devices.len()) else {
+        return Err(PlayFault::Memory);
+    };
+    for list in devices {
+        let Ok(id) = ReplicaId::new(nodes.len() as u16 + 1) else {
+            unreachable!()
+        };
+        let Ok(()) = nodes.push(node_over(alloc, id, setup, list)?) else {
+            return Err(PlayFault::Memory);
+        };
+    }
+    Ok(nodes)
 }
 
 /// A node over each list of devices, numbered from 1: the replicas of a setup, which were told nothing.
@@ -73,30 +130,18 @@ pub fn nodes_over(
     devices: Vec<Vec<Box<dyn PageDevice + Send>>>,
 ) -> Result<Vec<Node>, PlayFault>
     ensures fit { IfOk result (λ nodes. All (IsFit state) nodes.items) }
+    ensures opened { IfOk result (λ nodes. map (node_state state) nodes.items
+        ≡ opened_nodes setup 1 (listed state devices.items)) }
     ensures count { IfOk result (λ nodes. length nodes.items ≡ setup.replicas) }
-    ensures misfit { (AreFitting setup (listed state devices.items) → ⊥)
+    ensures misfit { (AreUsable setup (listed state devices.items) → ⊥)
         → result ≡ Err BadDevices }
+    ensures usable { AreUsable setup (listed state devices.items)
+        → IfErr result (λ why. why ≡ Memory) }
 {
-    if devices.len() != setup.replicas() as usize
-        || !are_sized(&devices, setup.page_size() as usize)
-    {
+    if !are_usable(setup, &devices) {
         return Err(PlayFault::BadDevices);
     }
-    let Ok(mut nodes) = Vec::with_capacity(alloc, devices.len()) else {
-        return Err(PlayFault::Memory);
-    };
-    for list in devices {
-        if list.len() > MAX_DEVICES {
-            return Err(PlayFault::BadDevices);
-        }
-        let Ok(id) = ReplicaId::new(nodes.len() as u16 + 1) else {
-            unreachable!()
-        };
-        let Ok(()) = nodes.push(node_over(alloc, id, setup, list)?) else {
-            return Err(PlayFault::Memory);
-        };
-    }
-    Ok(nodes)
+    nodes_of(alloc, setup, devices)
 }
 
 /// Prints `replica I` and what `show I` prints for each replica in turn, counted from 1, and flushes the writer.
@@ -145,6 +190,7 @@ pub fn play_threads<M: Absorbing + Send + Drop, T: Threads + Wait + Sync, R: Rea
         → IfSome (R.remaining reader.old) (λ text. first_bad setup (lines text) ≡ Some number) }
     ensures fit { IfOk result (λ v. All M.is_fit v.items) }
     ensures went { IfOk result (λ v. (jobs : List (Vec Job))
+        × IfSome (R.remaining reader.old) (λ text. AreJobsOf setup (asks setup (lines text)) jobs)
         × Went M.goes (map M.meaning machines.items) jobs (map M.meaning v.items)) }
 {
     let text = read_whole(alloc, reader)?;
