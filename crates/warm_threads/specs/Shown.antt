@@ -1,6 +1,7 @@
 -- What is printed of replicas whose workers have ended and which have told each other what they know.
 use Rattle.std.specs.Prelude.{ℕ, ◌+◌, List, [], ◌∷◌, ◌++◌, codes, decimal}
 use Rattle.warm_history.specs.Histories.{HistoryView, entries_of}
+use Rattle.warm_gossip.specs.State.{NodeView}
 use Rattle.warm_schedule.specs.Answers.{shown_text}
 
 -- the replica of this number, and what `show` prints of its history
@@ -8,6 +9,6 @@ abbrev pub replica_text : ℕ → HistoryView → List ℕ
 replica_text i history = codes "replica " ++ decimal i ++ codes "\n" ++ shown_text (entries_of history)
 
 -- the same of replicas one after the other, of which the first has this number
-abbrev pub replicas_text : ℕ → List HistoryView → List ℕ
+abbrev pub replicas_text : ℕ → List NodeView → List ℕ
 replicas_text i [] = []
-replicas_text i (history ∷ rest) = replica_text i history ++ replicas_text (i + 1) rest
+replicas_text i (node ∷ rest) = replica_text i node.history ++ replicas_text (i + 1) rest

@@ -150,15 +150,19 @@ pub fn nodes_over(
 pub fn print_replicas<W: Write>(writer: &mut W, nodes: &[Node]) -> Result<(), PlayFault>
     requires few { length nodes.now ≤ MAX_REPLICAS }
     ensures { Prints result (W.contents writer.old) (W.contents writer.new)
-        (replicas_text 1 (map (λ node. (⟦<Node as Machine>⟧.meaning node).history) nodes.now)) }
+        (replicas_text 1 (map ⟦<Node as Machine>⟧.meaning nodes.now)) }
 {
     let mut number = 1;
     for node in nodes {
-        print_replica(writer, number, node.history()).map_err(|_| PlayFault::WriteFault)?;
+        let Ok(()) = print_replica(writer, number, node.history()) else {
+            return Err(PlayFault::WriteFault);
+        };
         number += 1;
     }
-    writer.flush().map_err(|_| PlayFault::WriteFault)?;
-    Ok(())
+    match writer.flush() {
+        Ok(()) => Ok(()),
+        Err(_) => Err(PlayFault::WriteFault),
+    }
 }
 
 /// Plays a schedule by threads, over these machines, one for each replica of the setup, and gives them back. What each then knows
