@@ -7,7 +7,6 @@ ghost use Rattle.std.specs.Io.KnownBytes.{Appends, IsAtEnd};
 ghost use Rattle.warm_stamps.specs.declared.TheConstants.{MAX_REPLICAS};
 ghost use Rattle.warm_pool.specs.declared.TheConstants.{MAX_DEVICES};
 ghost use Rattle.warm_gossip.specs.Clauses.{IsFit, node_state};
-ghost use Rattle.warm_world.specs.Opening.{AreFew};
 ghost use Rattle.warm_world.specs.Seen.{listed};
 ghost use Rattle.warm_schedule.specs.Answers.{Prints};
 ghost use Rattle.warm_schedule.specs.Text.{lines};
@@ -48,7 +47,8 @@ fn print_replica<W: Write>(writer: &mut W, number: u16, history: &History) -> io
 
 // Whether no list is longer than a page can name.
 fn are_few(devices: &[Vec<Box<dyn PageDevice + Send>>]) -> bool
-    ensures { IsTrue result ↔ AreFew (listed state devices.now) }
+    ensures { IsTrue result
+        ↔ All (λ list. length list.items ≤ MAX_DEVICES) devices.now }
 {
     for list in devices {
         if list.len() > MAX_DEVICES {
@@ -98,11 +98,12 @@ fn nodes_of(
     setup: Setup,
     devices: Vec<Vec<Box<dyn PageDevice + Send>>>,
 ) -> Result<Vec<Node>, PlayFault>
-    requires few { AreFew (listed state devices.items) }
+    requires few { All (λ list. length list.items ≤ MAX_DEVICES) devices.items }
     requires many { length devices.items ≤ MAX_REPLICAS }
     ensures fit { IfOk result (λ nodes. All (IsFit state) nodes.items) }
     ensures opened { IfOk result (λ nodes. map (node_state state) nodes.items
         ≡ opened_nodes setup 1 (listed state devices.items)) }
+    ensures count { IfOk result (λ nodes. length nodes.items ≡ length devices.items) }
     ensures why { IfErr result (λ why. why ≡ Memory) }
 {
     let Ok(mut nodes) = Vec::with_capacity(alloc, devices.len()) else {
