@@ -58,7 +58,7 @@ module _ {B : Type 0} (f : B → DeviceState) where
   node_more g s m nodes nodes' node so_far v more number here before =
       let many : m ≡ 1 + length (shown so_far) = omega (arith, number, length-map so_far (λ (ds : Vec B). map f ds.items)) in
       let all : opened_nodes s 1 (shown (so_far ++ v ∷ [])) ≡ opened_nodes s 1 (shown so_far) ++ opened_node s m (map f v.items) ∷ [] =
-          ap (λ (lists : List (List DeviceState)). opened_nodes s 1 lists) (map-append (λ (ds : Vec B). map f ds.items) so_far (v ∷ [])) ∙ opened_more s 1 m (shown so_far) (map f v.items) many in
+      ap (λ (lists : List (List DeviceState)). opened_nodes s 1 lists) (map-append (λ (ds : Vec B). map f ds.items) so_far (v ∷ [])) ∙ opened_more s 1 m (shown so_far) (map f v.items) many in
       rw (more, map-append g nodes (node ∷ []), all, before, here) refl
 
 -- the list after those so far

@@ -71,10 +71,13 @@ plans_more s before a plans r w old new replica worker low is there goes h =
     list_is : Numbered (λ v plan. plan ≡ plan_of s before a.replica v) old.items
     list_is = subst (λ (list : Vec Planned). Numbered (λ v plan. plan ≡ plan_of s before a.replica v) list.items) (sym is)
         (numbered_at 1 r a.replica (λ i list. Numbered (λ v plan. plan ≡ plan_of s before i v) list.items) plans old low replica h)
+
     plan_is : slice_index_or old.items w nothing_planned ≡ plan_of s before a.replica a.worker
     plan_is = numbered_at 1 w a.worker (λ v plan. plan ≡ plan_of s before a.replica v) old.items nothing_planned there worker list_is
+
     goes_on : plan_ask s.buffer (slice_index_or old.items w nothing_planned) a.reference ≡ plan_of s (before ++ a ∷ []) a.replica a.worker
     goes_on = ap (λ (p : Planned). plan_ask s.buffer p a.reference) plan_is ∙ sym (plan_here s before a a.replica a.worker (is_self a.replica a.worker a refl refl))
+
     here : Numbered (λ v plan. plan ≡ plan_of s (before ++ a ∷ []) a.replica v) new.items
     here = subst (λ (items : List Planned). Numbered (λ v plan. plan ≡ plan_of s (before ++ a ∷ []) a.replica v) items) (sym goes)
         (numbered_set 1 w a.worker (λ v plan. plan ≡ plan_of s before a.replica v) (λ v plan. plan ≡ plan_of s (before ++ a ∷ []) a.replica v) old.items _ there worker

@@ -133,7 +133,7 @@ fn take_line(
     ensures shape { OnOk result (IsShaped setup plans.new.items) }
     ensures adds { (before : List Ask) → ArePlansOf setup before plans.old.items
         → OnOk result (ArePlansOf setup (before ++ with_ask (asked setup line.now) [])
-            plans.new.items) }
+        plans.new.items) }
     ensures good { OnOk result (IsPlayable (asked setup line.now)) }
     ensures bad { IfErr result (λ why. (why ≡ Memory)
         ⊎ ((why ≡ BadLine number) × (asked setup line.now ≡ None))) }
@@ -217,11 +217,7 @@ fn jobs_of_all(
 ///
 /// # Errors
 /// `BadLine` with the number of the first line that threads cannot play. `Memory`.
-pub(crate) fn jobs_in(
-    alloc: Global,
-    setup: Setup,
-    text: &[u8],
-) -> Result<Vec<Vec<Job>>, PlayFault>
+pub(crate) fn jobs_in(alloc: Global, setup: Setup, text: &[u8]) -> Result<Vec<Vec<Job>>, PlayFault>
     requires room { length text.now + 1 < 2 ^ 64 }
     ensures jobs { IfOk result (λ jobs.
         AreJobsOf setup (asks setup (lines text.now)) jobs.items) }

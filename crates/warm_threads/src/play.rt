@@ -200,5 +200,9 @@ pub fn play_threads<M: Absorbing + Send + Drop, T: Threads + Wait + Sync, R: Rea
 {
     let text = read_whole(alloc, reader)?;
     let jobs = jobs_in(alloc, setup, &text)?;
-    run_all(rt, alloc, machines, jobs)
+    match run_all(rt, alloc, machines, jobs) {
+        Ok(machines) => Ok(machines),
+        Err(PlayFault::NoThread) => Err(PlayFault::NoThread),
+        Err(_) => Err(PlayFault::Memory),
+    }
 }
