@@ -72,3 +72,6 @@ reads_argument E G k most (Some t) r only is few none value = reads_number E G k
 pub mapped_twice : {A B C : Type 0} (f : A → B) (g : B → C) (o : Option A) → option_map (λ a. g (f a)) o ≡ option_map g (option_map f o)
 mapped_twice f g None = refl
 mapped_twice f g (Some a) = refl
+
+pub threads_none : (rows : List Row) → None ≡ first_of (codes "file") rows → None ≡ threads_by rows
+threads_none rows none = rw (← none) refl

@@ -55,10 +55,14 @@ threads = with_rule (with_rule (new_app (codes "threads")) (record file { requir
 abbrev pub wants_command : Shape → Shape
 wants_command top = record top { subcommand_required = true }
 
-abbrev pub warmplay : App
-warmplay =
+-- the program with the commands that start no thread
+abbrev pub line_by_line : App
+line_by_line =
     let top = on_top wants_command (new_app (codes "warmplay")) in
-    with_subcommand (with_subcommand (with_subcommand top play.top) random.top) threads.top
+    with_subcommand (with_subcommand top play.top) random.top
+
+abbrev pub warmplay : App
+warmplay = with_subcommand line_by_line threads.top
 
 -- ---- what words ask for
 

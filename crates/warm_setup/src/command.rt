@@ -6,7 +6,7 @@ ghost use Rattle.clap.specs.Words.{app_of, found_of, rows_of, rule_of, subcomman
 ghost use Rattle.clap.specs.Faults.{fault_of};
 ghost use Rattle.clap.specs.declared.builder.Command.TheViews.{out-Command};
 ghost use Rattle.warm_setup.specs.Endings.{command_fault_code, command_fault_name};
-ghost use Rattle.warm_setup.specs.Words.{setup, number, number_of, play, random, random_by, threads, threads_by, warmplay, command_by, Answers, IsRefusal};
+ghost use Rattle.warm_setup.specs.Words.{line_by_line, setup, number, number_of, play, random, random_by, threads, threads_by, warmplay, command_by, Answers, IsRefusal};
 ghost use Rattle.warm_setup.specs.WordsSeen.{command_for, IsFaultOf};
 
 use crate::path::PathText;
@@ -145,8 +145,8 @@ fn threads_command<'a>(alloc: Global) -> Result<Command<'a>, AllocError>
     threads.arg(file)?.arg(setup_argument(alloc))
 }
 
-fn whole_command<'a>(alloc: Global) -> Result<Command<'a>, AllocError>
-    ensures app { IfOk result (λ c. app_of c ≡ warmplay) }
+fn line_by_line_commands<'a>(alloc: Global) -> Result<Command<'a>, AllocError>
+    ensures app { IfOk result (λ c. app_of c ≡ line_by_line) }
     ensures local { IfOk result (λ c. (out-Command c).has_globals ≡ false) }
 {
     let play = play_command(alloc)?;
@@ -154,8 +154,17 @@ fn whole_command<'a>(alloc: Global) -> Result<Command<'a>, AllocError>
         .about("Warm-standby buffer pools that merge LRU-2 histories")
         .subcommand_required(true);
     let random = random_command(alloc)?;
+    let both = top.subcommand(play)?.subcommand(random)?;
+    Ok(both)
+}
+
+fn whole_command<'a>(alloc: Global) -> Result<Command<'a>, AllocError>
+    ensures app { IfOk result (λ c. app_of c ≡ warmplay) }
+    ensures local { IfOk result (λ c. (out-Command c).has_globals ≡ false) }
+{
+    let both = line_by_line_commands(alloc)?;
     let threads = threads_command(alloc)?;
-    let whole = top.subcommand(play)?.subcommand(random)?.subcommand(threads)?;
+    let whole = both.subcommand(threads)?;
     Ok(whole)
 }
 
