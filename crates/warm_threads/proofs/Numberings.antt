@@ -2,7 +2,7 @@
 use Rattle.std.proofs.Common.{◌≡◌, ◌≢◌, ℕ, zero, suc, ◌+◌, ◌<◌, List, [], ◌∷◌, ◌++◌, length, refl, subst, ap, arith}
 use Rattle.std.specs.Prelude.{slice_index_or, slice_set, replicate}
 use Rattle.std.specs.List.{All}
-use Rattle.warm_replica.specs.Pairs.{Pairs}
+use Rattle.warm_replica.specs.Pairs.{Pairs, Triples}
 use Rattle.warm_threads.specs.Numbers.{NumberedFrom}
 
 module _ {A : Type 0} where
@@ -74,3 +74,13 @@ module _ {A B : Type 0} where
   all_pairs P Q R (a ∷ xs) (b ∷ ys) f pairs h (suc k) d low = all_pairs P Q R xs ys f pairs.1 (λ j e less. h (suc j) e (omega (arith, less))) k d (omega (arith, low))
   all_pairs P Q R [] (b ∷ ys) f pairs h k d low = absurd pairs
   all_pairs P Q R (a ∷ xs) [] f pairs h k d low = absurd pairs
+
+module _ {A B D : Type 0} where
+  -- the last list of three that agree is as long as the first
+  pub triples_length : (P : A → B → D → Type 0) (xs : List A) (ys : List B) (zs : List D) → Triples P xs ys zs → length zs ≡ length xs
+  triples_length P [] [] [] h = refl
+  triples_length P (a ∷ xs) (b ∷ ys) (d ∷ zs) h = ap (λ (n : ℕ). suc n) (triples_length P xs ys zs h.1)
+  triples_length P [] [] (d ∷ zs) h = absurd h
+  triples_length P [] (b ∷ ys) zs h = absurd h
+  triples_length P (a ∷ xs) [] zs h = absurd h
+  triples_length P (a ∷ xs) (b ∷ ys) [] h = absurd h

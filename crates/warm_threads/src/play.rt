@@ -37,7 +37,7 @@ use warm_turn::Machine;
 use warm_world::{Setup, are_sized};
 
 // Prints what the replica of a number has heard of.
-fn print_replica<W: Write>(writer: &mut W, number: u16, history: &History) -> io::Result<()>
+fn print_replica<W: Write>(writer: &mut W, number: u64, history: &History) -> io::Result<()>
     ensures { Prints result (W.contents writer.old) (W.contents writer.new)
         (replica_text number history.now) }
 {
@@ -149,7 +149,6 @@ pub fn nodes_over(
 ///
 /// The error is `WriteFault` alone. Nothing is said of how much was written by then.
 pub fn print_replicas<W: Write>(writer: &mut W, nodes: &[Node]) -> Result<(), PlayFault>
-    requires few { length nodes.now ≤ MAX_REPLICAS }
     ensures { Prints result (W.contents writer.old) (W.contents writer.new)
         (replicas_text 1 (map ⟦<Node as Machine>⟧.meaning nodes.now)) }
 {
@@ -194,6 +193,7 @@ pub fn play_threads<M: Absorbing + Send + Drop, T: Threads + Wait + Sync, R: Rea
     ensures bad { (number : ℕ) → result ≡ Err (BadLine number)
         → IfSome (R.remaining reader.old) (λ text. first_bad setup (lines text) ≡ Some number) }
     ensures fit { IfOk result (λ v. All M.is_fit v.items) }
+    ensures each { IfOk result (λ v. length v.items ≡ setup.replicas) }
     ensures went { IfOk result (λ v. (jobs : List (Vec Job))
         × IfSome (R.remaining reader.old) (λ text. AreJobsOf setup (asks setup (lines text)) jobs)
         × Went M.goes (map M.meaning machines.items) jobs (map M.meaning v.items)) }
