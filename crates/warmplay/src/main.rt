@@ -3,6 +3,10 @@
 //! `warmplay threads FILE [--setup FILE]` plays a schedule of references and flushes by threads.
 #![tactic(auto)]
 
+ghost use Rattle.std.specs.Prelude.{IfOk};
+ghost use Rattle.warm_world.specs.Opening.{AreFew};
+ghost use Rattle.warm_world.specs.Seen.{listed};
+
 use std::alloc::Global;
 use std::env;
 use std::fs::{self, File};
@@ -124,15 +128,14 @@ enum Player {
     Threads,
 }
 
-// Makes the devices, by replica and then by device, and plays to standard output through a buffer, which is flushed at the end.
-fn play_over<T: Threads + Wait + Sync, R: Read>(
+// Makes the devices, by replica and then by device.
+fn devices_for(
     rt: &HostRuntime,
-    threads: &T,
-    player: Player,
-    reader: &mut R,
     setup: Setup,
     specs: &[DeviceSpec],
-) -> Result<(), RunFault> {
+) -> Result<Vec<Vec<Box<dyn PageDevice + Send>>>, RunFault>
+    ensures few { IfOk result (λ devices. AreFew (listed state devices.items)) }
+{
     if specs.len() > MAX_DEVICES {
         return Err(RunFault::Play(PlayFault::BadDevices));
     }
@@ -153,6 +156,19 @@ fn play_over<T: Threads + Wait + Sync, R: Read>(
             return Err(no_memory());
         }
     }
+    Ok(devices)
+}
+
+// Plays to standard output through a buffer, which is flushed at the end.
+fn play_over<T: Threads + Wait + Sync, R: Read>(
+    rt: &HostRuntime,
+    threads: &T,
+    player: Player,
+    reader: &mut R,
+    setup: Setup,
+    specs: &[DeviceSpec],
+) -> Result<(), RunFault> {
+    let devices = devices_for(rt, setup, specs)?;
     let Ok(mut buffered) = BufWriter::with_capacity(rt.alloc(), GATHERED, rt.stdout()) else {
         return Err(no_memory());
     };
