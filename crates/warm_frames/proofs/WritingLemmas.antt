@@ -32,16 +32,16 @@ length_and_one es i len more e lt is one so_far =
     omega (arith, own, whole)
 
 -- a tag and a stamp
-pub put_once : (old mid new text : List ℕ) (last : Stamp) (h : PageHist) → mid ≡ old ++ 1 ∷ [] → text ≡ bytes_of_stamp last → new ≡ mid ++ text → h ≡ Once last → new ≡ old ++ hist_bytes h
-put_once old mid new text last h tag stamp put is =
-    put ∙ (λ i. tag i ++ stamp i) ∙ append_assoc old (1 ∷ []) (bytes_of_stamp last) ∙ ap (λ (k : PageHist). old ++ hist_bytes k) (sym is)
+pub put_once : (old mid new : List ℕ) (last : Stamp) (h : PageHist) → mid ≡ old ++ 1 ∷ [] → new ≡ mid ++ bytes_of_stamp last → h ≡ Once last → new ≡ old ++ hist_bytes h
+put_once old mid new last h tag put is =
+    put ∙ ap (λ (w : List ℕ). w ++ bytes_of_stamp last) tag ∙ append_assoc old (1 ∷ []) (bytes_of_stamp last) ∙ ap (λ (k : PageHist). old ++ hist_bytes k) (sym is)
 
 -- a tag and two stamps
-pub put_twice : (old tagged mid new first second : List ℕ) (last prev : Stamp) (two : LatestTwo) (h : PageHist) → tagged ≡ old ++ 2 ∷ [] → first ≡ bytes_of_stamp last → mid ≡ tagged ++ first → second ≡ bytes_of_stamp prev → new ≡ mid ++ second
+pub put_twice : (old tagged mid new : List ℕ) (last prev : Stamp) (two : LatestTwo) (h : PageHist) → tagged ≡ old ++ 2 ∷ [] → mid ≡ tagged ++ bytes_of_stamp last → new ≡ mid ++ bytes_of_stamp prev
     → last ≡ two.last → prev ≡ two.prev → h ≡ Twice two → new ≡ old ++ hist_bytes h
-put_twice old tagged mid new first second last prev two h tag later put_later earlier put_earlier is_last is_prev is =
-    let stamps : first ++ second ≡ bytes_of_stamp two.last ++ bytes_of_stamp two.prev = (λ i. later i ++ earlier i) ∙ (λ i. bytes_of_stamp (is_last i) ++ bytes_of_stamp (is_prev i)) in
-    put_earlier ∙ ap (λ (w : List ℕ). w ++ second) (put_later ∙ ap (λ (w : List ℕ). w ++ first) tag) ∙ append_assoc (old ++ 2 ∷ []) first second ∙ ap (λ (w : List ℕ). (old ++ 2 ∷ []) ++ w) stamps
+put_twice old tagged mid new last prev two h tag later earlier is_last is_prev is =
+    earlier ∙ ap (λ (w : List ℕ). w ++ bytes_of_stamp prev) (later ∙ ap (λ (w : List ℕ). w ++ bytes_of_stamp last) tag) ∙ append_assoc (old ++ 2 ∷ []) (bytes_of_stamp last) (bytes_of_stamp prev)
+    ∙ (λ i. (old ++ 2 ∷ []) ++ (bytes_of_stamp (is_last i) ++ bytes_of_stamp (is_prev i)))
     ∙ append_assoc old (2 ∷ []) (bytes_of_stamp two.last ++ bytes_of_stamp two.prev) ∙ ap (λ (k : PageHist). old ++ hist_bytes k) (sym is)
 
 -- what was written comes first, and the bytes of one entry more come last

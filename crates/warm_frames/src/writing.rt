@@ -1,6 +1,6 @@
 //! Writing frames. The room for all bytes is taken first.
 ghost use Rattle.std.specs.Prelude.{◌≡◌, ◌≤◌, ◌*◌, ◌++◌, length, IfOk, OnOk};
-ghost use Rattle.warm_stamps.specs.Bytes.{IsReplica};
+ghost use Rattle.warm_stamps.specs.Bytes.{IsReplica, bytes_of_stamp};
 ghost use Rattle.warm_frames.specs.declared.entries.TheConstants.{MAX_ENTRIES};
 ghost use Rattle.warm_frames.specs.declared.frame.Frame.TheVariants as frames;
 ghost use Rattle.warm_frames.specs.Entries.{longest_entry, hist_bytes, entry_bytes, entries_bytes};
@@ -11,7 +11,7 @@ use crate::reading::{HEADER_SIZE, MAGIC};
 use crate::sums::{SumTable, TABLE_SIZE};
 use std::alloc::{AllocError, Global};
 use warm_history::{Entry, PageHist};
-use warm_stamps::{ReplicaId, page_bytes, stamp_bytes};
+use warm_stamps::{ReplicaId, Stamp, page_bytes};
 
 // The header of a frame, with room for a body of this length.
 fn header(alloc: Global, kind: u8, sender: ReplicaId, len: u32) -> Result<Vec<u8>, AllocError>
@@ -26,20 +26,29 @@ fn header(alloc: Global, kind: u8, sender: ReplicaId, len: u32) -> Result<Vec<u8
     Ok(text)
 }
 
+// The bytes of a stamp. Each of its two numbers is put by itself: an array of both would be put together byte by byte.
+fn put_stamp(text: &mut Vec<u8>, stamp: Stamp) -> Result<(), AllocError>
+    ensures { OnOk result (text.new.items ≡ text.old.items ++ bytes_of_stamp stamp) }
+{
+    text.extend_from_slice(&stamp.time.to_be_bytes())?;
+    text.extend_from_slice(&stamp.replica.get().to_be_bytes())?;
+    Ok(())
+}
+
 fn put_hist(text: &mut Vec<u8>, hist: PageHist) -> Result<(), AllocError>
     ensures { OnOk result (text.new.items ≡ text.old.items ++ hist_bytes hist) }
 {
     match hist {
         PageHist::Once(last) => {
             text.push(1)?;
-            text.extend_from_slice(&stamp_bytes(last))?;
+            put_stamp(text, last)?;
         }
         PageHist::Twice(two) => {
             let last = two.last();
             let prev = two.prev();
             text.push(2)?;
-            text.extend_from_slice(&stamp_bytes(last))?;
-            text.extend_from_slice(&stamp_bytes(prev))?;
+            put_stamp(text, last)?;
+            put_stamp(text, prev)?;
         }
     }
     Ok(())
