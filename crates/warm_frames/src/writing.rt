@@ -26,7 +26,8 @@ fn header(alloc: Global, kind: u8, sender: ReplicaId, len: u32) -> Result<Vec<u8
     Ok(text)
 }
 
-// The bytes of a stamp. Each of its two numbers is put by itself: an array of both would be put together byte by byte.
+// The bytes of a stamp. Each of its two numbers is put by itself: an array of both would be stored
+// byte by byte.
 fn put_stamp(text: &mut Vec<u8>, stamp: Stamp) -> Result<(), AllocError>
     ensures { OnOk result (text.new.items ≡ text.old.items ++ bytes_of_stamp stamp) }
 {
