@@ -1,6 +1,7 @@
 //! Rows of schedules played by threads, worked out by hand.
 use crate::play::{nodes_over, play_threads, print_replicas};
-use std::alloc::Global;
+use std::alloc::{AllocError, Global};
+use std::io::Write;
 use std::sync::Wait;
 use std::test::Fail;
 use std::thread::Threads;
@@ -22,7 +23,41 @@ const DEFAULT: Size = Size {
     buffer: 64,
 };
 
-// What is played, over as many lists of devices with pages of this size as are asked for.
+fn setup_of(size: Size) -> Result<Setup, Fail> {
+    match Setup::new(size.replicas, size.workers, size.buffer, 4, 16) {
+        Ok(setup) => Ok(setup),
+        Err(_) => Err("a setup".into()),
+    }
+}
+
+// Plays the text over as many lists of devices with pages of this size as are asked for, and prints. It fails where no room is
+// left for the devices themselves.
+fn ended<R: Threads + Wait + Sync, W: Write>(
+    rt: &R,
+    alloc: Global,
+    setup: Setup,
+    lists: u16,
+    page_size: usize,
+    text: &[u8],
+    out: &mut W,
+) -> Result<Result<(), PlayFault>, AllocError> {
+    let mut devices = Vec::new(alloc);
+    for _ in 0..lists {
+        let mut list: Vec<Box<dyn PageDevice + Send>> = Vec::new(alloc);
+        list.push(Box::new(alloc, MemDevice::new(alloc, 256, page_size)?)?)?;
+        devices.push(list)?;
+    }
+    let mut reader = text;
+    match nodes_over(alloc, setup, devices) {
+        Ok(nodes) => match play_threads(rt, alloc, &mut reader, setup, nodes) {
+            Ok(nodes) => Ok(print_replicas(out, &nodes)),
+            Err(fault) => Ok(Err(fault)),
+        },
+        Err(fault) => Ok(Err(fault)),
+    }
+}
+
+// What is played, and what is printed.
 fn played<R: Threads + Wait + Sync>(
     rt: &R,
     alloc: Global,
@@ -31,24 +66,8 @@ fn played<R: Threads + Wait + Sync>(
     page_size: usize,
     text: &[u8],
 ) -> Result<(Result<(), PlayFault>, String), Fail> {
-    let Ok(setup) = Setup::new(size.replicas, size.workers, size.buffer, 4, 16) else {
-        return Err("a setup".into());
-    };
-    let mut devices = Vec::new(alloc);
-    for _ in 0..lists {
-        let mut list: Vec<Box<dyn PageDevice + Send>> = Vec::new(alloc);
-        list.push(Box::new(alloc, MemDevice::new(alloc, 256, page_size)?)?)?;
-        devices.push(list)?;
-    }
-    let mut reader = text;
     let mut out: Vec<u8> = Vec::new(alloc);
-    let ended = match nodes_over(alloc, setup, devices) {
-        Ok(nodes) => match play_threads(rt, alloc, &mut reader, setup, nodes) {
-            Ok(nodes) => print_replicas(&mut out, &nodes),
-            Err(fault) => Err(fault),
-        },
-        Err(fault) => Err(fault),
-    };
+    let ended = ended(rt, alloc, setup_of(size)?, lists, page_size, text, &mut out)?;
     match String::from_utf8(out) {
         Ok(text) => Ok((ended, text)),
         Err(_) => Err("text".into()),
@@ -203,16 +222,20 @@ fn devices_have_to_fit(rt: HostRuntime) -> Result<(), Fail> {
     Ok(())
 }
 
-// Run again with each growth refused in turn: `rt try --test --fail-alloc N -- a_refused_growth`.
+// Run again with each growth refused in turn: `rt try --test --fail-alloc N -- a_refused_growth`. The first are for the devices.
 #[test]
 fn a_refused_growth(rt: HostRuntime) -> Result<(), Fail> {
     let text = b"ref 1 1 0:1 10\nref 1 2 0:1 20\nref 2 1 0:1 30\n";
-    let (ended, shown) = played_by(&rt, rt.alloc(), DEFAULT, text)?;
+    let mut shown = [b' '; 256];
+    let mut out = shown.as_mut_slice();
+    let Ok(ended) = ended(&rt, rt.alloc(), setup_of(DEFAULT)?, 3, 16, text, &mut out) else {
+        return Ok(());
+    };
     match ended {
         Ok(()) => assert!(rt;
-            shown
-                .as_str()
-                .starts_with("replica 1\n0:1 last 30@2 prev 20@1\nend 1\n")
+            str::from_utf8(&shown)?.starts_with(
+                "replica 1\n0:1 last 30@2 prev 20@1\nend 1\nreplica 2\n"
+            )
         ),
         Err(fault) => assert!(rt; fault == PlayFault::Memory || fault == PlayFault::NoThread),
     }
