@@ -80,6 +80,14 @@ fn over(
     }
 }
 
+// How a world answers an event. What is known of its answers is left here, so that it is read once and not by each caller.
+fn asked(world: &mut Lived, event: Event) -> Answer
+    requires { IsWorld state world.old.world }
+    ensures { IsWorld state world.new.world }
+{
+    world.world.step(event)
+}
+
 // What a world shows without a change.
 fn look_at(place: usize) -> Event {
     match place {
@@ -100,8 +108,8 @@ fn look_same(world: &mut Lived, other: &mut Lived) -> bool
 {
     let mut same = true;
     for place in 0..5usize {
-        let seen = world.world.step(look_at(place));
-        let others = other.world.step(look_at(place));
+        let seen = asked(world, look_at(place));
+        let others = asked(other, look_at(place));
         same = same && is_same(&seen, &others);
     }
     same
@@ -118,7 +126,7 @@ fn step_up_to(
     ensures { IsWorld state world.new.world }
 {
     for place in 0..end {
-        let answer = world.world.step(event_at(alloc, place)?);
+        let answer = asked(world, event_at(alloc, place)?);
         if is_memory(&answer) {
             met.holds(!is_free(place), "an event that takes no memory is refused")?;
             return Ok(Some(place));
@@ -140,9 +148,9 @@ fn step_both(
     ensures first { IsWorld state world.new.world }
     ensures second { IsWorld state twin.new.world }
 {
-    let answer = world.world.step(event_at(alloc, place)?);
+    let answer = asked(world, event_at(alloc, place)?);
     met.holds(!is_memory(&answer), "an event is refused again")?;
-    let others = twin.world.step(event_at(alloc, place)?);
+    let others = asked(twin, event_at(alloc, place)?);
     met.holds(is_same(&answer, &others), "an event is answered otherwise")
 }
 
@@ -182,7 +190,7 @@ fn step_as(
     if is_memory(answer) {
         return met.refuse(!is_free(place), "an event that takes no memory is refused");
     }
-    let other = twin.world.step(event_at(alloc, place)?);
+    let other = asked(twin, event_at(alloc, place)?);
     met.holds(is_same(answer, &other), "a run answers otherwise")
 }
 
