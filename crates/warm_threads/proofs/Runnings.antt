@@ -20,9 +20,6 @@ module _ {X : Type 0} (goes : X → Call → Reply → X → Type 0) where
   runs_then x y z [] second h g = subst (λ w. Runs goes w second z) (sym h) g
   runs_then x y z (e ∷ es) second h g = (h.0, h.1, runs_then h.0 y z es second h.2 g)
 
-  pub leads_none : (x : X) → Leads goes x x
-  leads_none x = ([], refl)
-
   pub leads_call : (x y : X) (call : Call) (reply : Reply) → goes x call reply y → Leads goes x y
   leads_call x y call reply step = (entry 0 call reply ∷ [], (y, step, refl))
 
