@@ -4,7 +4,6 @@ use Rattle.std.specs.Global.{Vec}
 use Rattle.std.specs.List.{All}
 use Rattle.warm_stamps.specs.declared.Reference.{Reference}
 use Rattle.warm_replica.specs.declared.job.Job.{Job}
-use Rattle.warm_replica.specs.declared.job.Step.{Step}
 use Rattle.warm_replica.specs.declared.job.Step.TheVariants.{Touch, Flush}
 use Rattle.warm_replica.specs.Pairs.{Pairs}
 use Rattle.warm_world.specs.Sizes.{Sizes}

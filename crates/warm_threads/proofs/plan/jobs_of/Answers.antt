@@ -1,5 +1,4 @@
-use Rattle.std.proofs.Common.{◌++◌, ◌∷◌, [], append_assoc, ap, sym, subst, ◌∙◌}
-use Rattle.warm_replica.specs.Pairs.{Pairs}
+use Rattle.std.proofs.Common.{◌++◌, ◌∷◌, [], append_assoc, ap, sym, ◌∙◌}
 use Rattle.warm_threads.specs.Plans.{DoesPlan}
 use Rattle.warm_threads.proofs.Numberings.{pairs_more}
 use Rattle.warm_threads.proofs.plan.jobs_of.Goals as goal

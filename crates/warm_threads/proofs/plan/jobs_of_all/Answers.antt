@@ -1,4 +1,4 @@
-use Rattle.std.proofs.Common.{◌++◌, ◌∷◌, [], append_assoc, ap, sym, subst, ◌∙◌}
+use Rattle.std.proofs.Common.{◌++◌, ◌∷◌, [], append_assoc, ap, sym, ◌∙◌}
 use Rattle.warm_replica.specs.Pairs.{Pairs}
 use Rattle.warm_threads.specs.Plans.{DoesPlan}
 use Rattle.warm_threads.proofs.Numberings.{pairs_more}
