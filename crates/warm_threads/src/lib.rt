@@ -7,9 +7,9 @@
 //! They are three calls, and the second is generic in the machine, because a function that takes boxed devices or nodes and has a
 //! turn made over nodes is refused by the toolchain today.
 //!
-//! - `ask` reads a line, and `plan` makes the jobs of the workers.
-//! - `work` runs the workers' jobs, and `exchange` has the replicas send and hear; both are generic in the machine behind a turn.
-//! - `play` puts them together over nodes.
+//! - `reading` reads a schedule whole, `ask` a line of it, and `plan` makes the jobs of the workers.
+//! - `work` runs the workers' jobs, and `exchange` has a replica send and hear; both are generic in the machine behind a turn.
+//! - `crews` does both for all replicas at once, and `play` puts all together.
 #![tactic(auto)]
 
 mod ask;
