@@ -3,10 +3,6 @@
 //! `warmplay threads FILE [--setup FILE]` plays a schedule of references and flushes by threads.
 #![tactic(auto)]
 
-ghost use Rattle.std.specs.Prelude.{IfOk};
-ghost use Rattle.warm_world.specs.Opening.{AreFew};
-ghost use Rattle.warm_world.specs.Seen.{listed};
-
 use std::alloc::Global;
 use std::env;
 use std::fs::{self, File};
@@ -128,14 +124,15 @@ enum Player {
     Threads,
 }
 
-// Makes the devices, by replica and then by device.
-fn devices_for(
+// Makes the devices, by replica and then by device, and plays to standard output through a buffer, which is flushed at the end.
+fn play_over<T: Threads + Wait + Sync, R: Read>(
     rt: &HostRuntime,
+    threads: &T,
+    player: Player,
+    reader: &mut R,
     setup: Setup,
     specs: &[DeviceSpec],
-) -> Result<Vec<Vec<Box<dyn PageDevice + Send>>>, RunFault>
-    ensures few { IfOk result (λ devices. AreFew (listed state devices.items)) }
-{
+) -> Result<(), RunFault> {
     if specs.len() > MAX_DEVICES {
         return Err(RunFault::Play(PlayFault::BadDevices));
     }
@@ -148,27 +145,10 @@ fn devices_for(
                 Made::Memory(device) => list.push(device),
                 Made::File(device) => list.push(device),
             };
-            if pushed.is_err() {
-                return Err(no_memory());
-            }
+            pushed.map_err(|_| no_memory())?;
         }
-        if devices.push(list).is_err() {
-            return Err(no_memory());
-        }
+        devices.push(list).map_err(|_| no_memory())?;
     }
-    Ok(devices)
-}
-
-// Plays to standard output through a buffer, which is flushed at the end.
-fn play_over<T: Threads + Wait + Sync, R: Read>(
-    rt: &HostRuntime,
-    threads: &T,
-    player: Player,
-    reader: &mut R,
-    setup: Setup,
-    specs: &[DeviceSpec],
-) -> Result<(), RunFault> {
-    let devices = devices_for(rt, setup, specs)?;
     let Ok(mut buffered) = BufWriter::with_capacity(rt.alloc(), GATHERED, rt.stdout()) else {
         return Err(no_memory());
     };

@@ -1,6 +1,6 @@
 use Rattle.std.proofs.Common.{◌≤◌, length, map}
 use Rattle.warmplay.proofs.Few.{EachFew}
-use Rattle.warmplay.proofs.devices_for.Given as goal
+use Rattle.warmplay.proofs.play_over.Given as goal
 
 abbrev pub invariant-loop-place : goal.invariant-loop-place
 invariant-loop-place g l = EachFew (map (λ list. list.items) l.devices.items)
