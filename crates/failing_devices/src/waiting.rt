@@ -11,7 +11,7 @@ use std::time::{Clock, Duration};
 use warm_devices::{DeviceFault, MemDevice, PageDevice};
 use warm_gossip::{Call, Node, Reply};
 use warm_pool::{Pool, Slot};
-use warm_replica::{Absorbing, Gate, Job, Step, StepReply, run_workers};
+use warm_replica::{Absorbing, BoxedCall, Gate, Job, Step, StepReply, run_workers};
 use warm_stamps::{PageId, Reference, ReplicaId, Stamp};
 use warm_turn::{Machine, Turn};
 
@@ -167,7 +167,7 @@ fn pins_and_touches<M: Absorbing + Drop + Send, R: Threads + Wait + Sync, G: Gat
         time: 1,
         replica: ReplicaId::new(1)?,
     };
-    let pins = job_of(alloc, Step::Make(Call::Pin(PAGE)))?;
+    let pins = job_of(alloc, Step::Make(BoxedCall::new(alloc, Call::Pin(PAGE))?))?;
     let touches = job_of(alloc, Step::Touch(Reference { page: PAGE, stamp }))?;
     let mut jobs = Vec::with_capacity(alloc, 2)?;
     jobs.push_reserved(pins);
@@ -202,7 +202,10 @@ fn a_touch_waits_for_no_device(rt: HostRuntime) -> Result<(), Fail> {
     let (Some(pinned), Some(touched)) = (replies.get(PINS), replies.get(TOUCHES)) else {
         return Err("each job is answered".into());
     };
-    let [StepReply::Answered(Reply::Pinned(slot))] = pinned.as_slice() else {
+    let [StepReply::Answered(reply)] = pinned.as_slice() else {
+        return Err("the pin is answered".into());
+    };
+    let Reply::Pinned(slot) = reply.as_reply() else {
         return Err("the page is pinned".into());
     };
     let first = Slot {

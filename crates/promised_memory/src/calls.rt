@@ -1,7 +1,7 @@
 //! A node's calls that take no memory, and those of a buffer and a contest.
 ghost use Rattle.std.specs.Prelude.{IfOk};
 
-use crate::{Ended, Met};
+use refused_rows::{Ended, Met};
 use std::alloc::Global;
 use warm_devices::PageDevice;
 use warm_gossip::{Call, Node, Reply, Shown};

@@ -1,5 +1,5 @@
 //! Frames whose reading takes no memory.
-use crate::{Ended, Met};
+use refused_rows::{Ended, Met};
 use std::alloc::Global;
 use warm_frames::{Frame, decode};
 

@@ -1,5 +1,5 @@
 //! Lines of a schedule whose parsing takes no memory: all but `put`.
-use crate::{Ended, Met};
+use refused_rows::{Ended, Met};
 use std::alloc::Global;
 use warm_schedule::{LineFault, parse_line};
 

@@ -1,5 +1,5 @@
 //! A frame of one entry, written and read, whole and in pieces.
-use crate::met::{Ended, Met};
+use refused_rows::{Ended, Met};
 use std::alloc::Global;
 use warm_frames::{BoxedFrame, Decoder, Fed, Frame, FrameFault, decode, encode};
 

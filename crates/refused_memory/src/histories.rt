@@ -1,5 +1,6 @@
 //! Histories of 100 pages that take in 100 new pages and 20 old ones.
-use crate::met::{Ended, Met, reference, references};
+use crate::references::{reference, references};
+use refused_rows::{Ended, Met};
 use std::alloc::Global;
 use warm_history::{Entry, History, PageHist};
 use warm_stamps::Bucket;

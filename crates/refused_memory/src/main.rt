@@ -7,15 +7,14 @@
 
 mod frames;
 mod histories;
-mod met;
 mod nodes;
+mod references;
 mod sizes;
 mod summed;
 mod turns;
 
-use crate::met::{Ended, Met};
+use refused_rows::{Ended, Met, report};
 use std::alloc::Global;
-use std::io::{self, Print};
 use std::process::ExitCode;
 use std::sync::Wait;
 use std::thread::Threads;
@@ -50,26 +49,8 @@ fn play<R: Threads + Wait + Sync>(met: &mut Met, rt: &R, alloc: Global) -> Resul
     play_turns(met, rt, alloc)
 }
 
-// Says how the rows ended.
-fn tell(rt: &impl Print, ended: &Result<(), Ended>, met: &Met) -> io::Result<()> {
-    match ended {
-        Ok(()) => println!(rt; "all rows hold, {} calls refused", met.refused),
-        Err(Ended::NoRoom) => println!(rt; "no room for a row"),
-        Err(Ended::Broken) => println!(rt; "broken: {}", met.broken),
-    }
-}
-
 fn main(rt: HostRuntime) -> ExitCode {
-    let mut met = Met {
-        refused: 0,
-        broken: "a number",
-    };
+    let mut met = Met::new();
     let ended = play(&mut met, &rt, rt.alloc());
-    if tell(&rt, &ended, &met).is_err() {
-        return ExitCode::FAILURE;
-    }
-    match ended {
-        Err(Ended::Broken) => ExitCode::FAILURE,
-        _ => ExitCode::SUCCESS,
-    }
+    report(&rt, &met, ended)
 }

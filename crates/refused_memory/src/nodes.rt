@@ -1,7 +1,8 @@
 //! A pool over a device that is handed in, and a node over that pool, which is asked for each kind of call.
 ghost use Rattle.std.specs.Prelude.{IfOk};
 
-use crate::met::{Ended, Met, reference, references, replica};
+use crate::references::{reference, references, replica};
+use refused_rows::{Ended, Met};
 use std::alloc::Global;
 use warm_devices::PageDevice;
 use warm_frames::{Frame, SUM_SIZE, SumTable};

@@ -1,6 +1,6 @@
 //! What is made once, in its whole size: buffers, contests, devices; and the warm-up list.
 use crate::histories::told;
-use crate::met::{Ended, Met};
+use refused_rows::{Ended, Met};
 use std::alloc::Global;
 use warm_devices::MemDevice;
 use warm_rank::{Contest, warm_list};

@@ -1,6 +1,7 @@
 //! Sums of buckets, taken anew and kept.
 use crate::histories::{entries_of, told};
-use crate::met::{Ended, Met, references};
+use crate::references::references;
+use refused_rows::{Ended, Met};
 use std::alloc::Global;
 use warm_digest::{SummedHistory, Sums, sums};
 use warm_frames::SumTable;

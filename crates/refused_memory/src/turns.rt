@@ -1,7 +1,8 @@
 //! A machine that is shared by turns, a worker of it, jobs in threads of their own, and mail.
 ghost use Rattle.std.specs.Prelude.{◌≡◌, IfOk};
 
-use crate::met::{Ended, Met, reference};
+use crate::references::reference;
+use refused_rows::{Ended, Met};
 use std::alloc::Global;
 use std::sync::Wait;
 use std::thread::Threads;
@@ -9,8 +10,8 @@ use warm_frames::{Frame, SUM_SIZE, SumTable, encode};
 use warm_gossip::{Call, NodeFault, Reply};
 use warm_refbuffer::RefBuffer;
 use warm_replica::{
-    Absorbing, FlushFault, Gate, Job, MAX_JOBS, Mail, MemPost, Post, RunFault, Step, StepReply,
-    Worker, mail_loop, run_workers,
+    Absorbing, BoxedCall, FlushFault, Gate, Job, MAX_JOBS, Mail, MemPost, Post, RunFault, Step,
+    StepReply, Worker, mail_loop, run_workers,
 };
 use warm_stamps::{BUCKETS, ByteList, PageId, ReplicaId};
 use warm_turn::{Machine, Memory, Pass, Turn};
@@ -106,7 +107,8 @@ fn jobs(alloc: Global) -> Result<Vec<Job>, Ended> {
         let mut steps = Vec::with_capacity(alloc, 3)?;
         steps.push_reserved(Step::Touch(reference(no, 30)?));
         steps.push_reserved(Step::Flush);
-        steps.push_reserved(Step::Make(Call::WarmList(1)));
+        let list = BoxedCall::new(alloc, Call::WarmList(1))?;
+        steps.push_reserved(Step::Make(list));
         if all.push(Job { cap: 1, steps }).is_err() {
             return Err(Ended::NoRoom);
         }
@@ -139,11 +141,12 @@ fn refused_in(met: &mut Met, replies: &[Vec<StepReply>]) -> Result<usize, Ended>
         for reply in job {
             match reply {
                 StepReply::Touched | StepReply::Flushed => {}
-                StepReply::Answered(Reply::Pages(_)) => {}
                 StepReply::Failed(FlushFault::Memory) => refused = refused.wrapping_add(1),
-                StepReply::Answered(Reply::Refused(NodeFault::Memory)) => {
-                    refused = refused.wrapping_add(1);
-                }
+                StepReply::Answered(reply) => match reply.as_reply() {
+                    Reply::Pages(_) => {}
+                    Reply::Refused(NodeFault::Memory) => refused = refused.wrapping_add(1),
+                    _ => return Err(met.broken("a call is answered otherwise")),
+                },
                 _ => return Err(met.broken("a step is answered otherwise")),
             }
         }

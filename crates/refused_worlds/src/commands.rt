@@ -1,5 +1,5 @@
 //! Words of the command line.
-use crate::met::{Ended, Met};
+use refused_rows::{Ended, Met};
 use std::alloc::Global;
 use warm_setup::{Cmd, CmdFault, PathText, command_of, not_text};
 

@@ -1,5 +1,5 @@
 //! Events of each kind, that none refuses but for memory.
-use crate::met::Ended;
+use refused_rows::Ended;
 use std::alloc::Global;
 use warm_pool::Slot;
 use warm_stamps::{Bucket, ByteList, PageId};

@@ -1,5 +1,5 @@
 //! A device over a file.
-use crate::met::{Ended, Met};
+use refused_rows::{Ended, Met};
 use std::fs::{self, File, Files};
 use warm_devices::{FileDevice, OpenFault, PageDevice};
 

@@ -10,12 +10,10 @@ mod answers;
 mod commands;
 mod events;
 mod files;
-mod met;
 mod setups;
 mod worlds;
 
-use crate::met::{Ended, Met};
-use std::io::{self, Print};
+use refused_rows::{Ended, Met, report};
 use std::process::ExitCode;
 
 // All rows, one after the other, up to one that ends early.
@@ -26,26 +24,8 @@ fn play(met: &mut Met, rt: &HostRuntime) -> Result<(), Ended> {
     worlds::rows(met, rt.alloc())
 }
 
-// Says how the rows ended.
-fn tell(rt: &impl Print, ended: &Result<(), Ended>, met: &Met) -> io::Result<()> {
-    match ended {
-        Ok(()) => println!(rt; "all rows hold, {} calls refused", met.refused),
-        Err(Ended::NoRoom) => println!(rt; "no room for a row"),
-        Err(Ended::Broken) => println!(rt; "broken: {}", met.broken),
-    }
-}
-
 fn main(rt: HostRuntime) -> ExitCode {
-    let mut met = Met {
-        refused: 0,
-        broken: "a number",
-    };
+    let mut met = Met::new();
     let ended = play(&mut met, &rt);
-    if tell(&rt, &ended, &met).is_err() {
-        return ExitCode::FAILURE;
-    }
-    match ended {
-        Err(Ended::Broken) => ExitCode::FAILURE,
-        _ => ExitCode::SUCCESS,
-    }
+    report(&rt, &met, ended)
 }

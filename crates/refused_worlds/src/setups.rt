@@ -1,5 +1,5 @@
 //! Texts of setup files, and paths.
-use crate::met::{Ended, Met};
+use refused_rows::{Ended, Met};
 use std::alloc::Global;
 use warm_setup::{DeviceSpec, PathText, SetupFault, read_setup, read_setup_file};
 use warm_world::Setup;
@@ -48,7 +48,7 @@ fn is_meant(setup: Setup, devices: &[DeviceSpec]) -> bool {
 fn read(met: &mut Met, alloc: Global, text: &str) -> Result<(Setup, Vec<DeviceSpec>), SetupFault> {
     let read = read_setup(alloc, text);
     if let Err(SetupFault::Memory) = &read {
-        met.refused = met.refused.wrapping_add(1);
+        met.count();
         return read_setup(alloc, text);
     }
     read

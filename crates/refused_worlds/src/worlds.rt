@@ -6,7 +6,7 @@ ghost use Rattle.warm_world.specs.Seen.{IsWorld, listed};
 
 use crate::answers::{is_memory, is_same};
 use crate::events::{EVENTS, all_events, event_at, is_free};
-use crate::met::{Ended, Met};
+use refused_rows::{Ended, Met};
 use std::alloc::Global;
 use std::marker::PhantomData;
 use warm_devices::{MemDevice, PageDevice};

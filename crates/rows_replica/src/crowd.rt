@@ -11,7 +11,7 @@ use std::thread::Threads;
 use warm_frames::Frame;
 use warm_gossip::{Call, Reply};
 use warm_history::{Entry, PageHist};
-use warm_replica::{Absorbing, Job, MAX_JOBS, Step, StepReply, run_workers};
+use warm_replica::{Absorbing, BoxedCall, Job, MAX_JOBS, Step, StepReply, run_workers};
 use warm_stamps::{Bucket, PageId};
 use warm_turn::Machine;
 
@@ -91,7 +91,7 @@ fn calling(alloc: Global) -> Result<Vec<Job>, Fail> {
     for _ in 0..JOBS {
         let mut steps = Vec::new(alloc);
         for _ in 0..ROUNDS {
-            steps.push(Step::Make(Call::Victim))?;
+            steps.push(Step::Make(BoxedCall::new(alloc, Call::Victim)?))?;
         }
         jobs.push(Job { cap: 1, steps })?;
     }
@@ -102,7 +102,10 @@ fn calling(alloc: Global) -> Result<Vec<Job>, Fail> {
 fn are_new(told: &mut Vec<bool>, replies: &[StepReply]) -> bool {
     let mut last = 0;
     for reply in replies {
-        let StepReply::Answered(Reply::Page(Some(page))) = reply else {
+        let StepReply::Answered(reply) = reply else {
+            return false;
+        };
+        let Reply::Page(Some(page)) = reply.as_reply() else {
             return false;
         };
         if page.no <= last {
@@ -151,7 +154,8 @@ fn flushing(alloc: Global, job: u32) -> Result<Job, Fail> {
         steps.push(Step::Touch(reference(no, time)?))?;
         steps.push(Step::Flush)?;
         let after = None;
-        steps.push(Step::Make(Call::Send { bucket, after }))?;
+        let call = BoxedCall::new(alloc, Call::Send { bucket, after })?;
+        steps.push(Step::Make(call))?;
     }
     Ok(Job { cap: 1, steps })
 }
@@ -171,10 +175,11 @@ fn rounds_of(entries: &[Entry]) -> Option<Rounds> {
 }
 
 fn told_of(reply: &StepReply) -> Option<Rounds> {
-    match reply {
-        StepReply::Answered(Reply::Sent(Frame::Entries { entries, .. })) => {
-            rounds_of(entries.as_slice())
-        }
+    let StepReply::Answered(reply) = reply else {
+        return None;
+    };
+    match reply.as_reply() {
+        Reply::Sent(Frame::Entries { entries, .. }) => rounds_of(entries.as_slice()),
         _ => None,
     }
 }

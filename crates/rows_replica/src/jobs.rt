@@ -8,7 +8,9 @@ use std::thread;
 use std::thread::Threads;
 use std::time::{Clock, Duration};
 use warm_gossip::{Call, Reply};
-use warm_replica::{Absorbing, Gate, Job, MAX_JOBS, RunFault, Step, StepReply, run_workers};
+use warm_replica::{
+    Absorbing, BoxedCall, Gate, Job, MAX_JOBS, RunFault, Step, StepReply, run_workers,
+};
 use warm_stamps::PageList;
 
 // A gate that holds nobody back.
@@ -117,7 +119,7 @@ fn job_of(alloc: Global, no: u32) -> Result<Job, Fail> {
         Step::Touch(second),
         Step::Touch(third),
         Step::Flush,
-        Step::Make(Call::Victim),
+        Step::Make(BoxedCall::new(alloc, Call::Victim)?),
     ]?;
     Ok(Job { cap: 2, steps })
 }
@@ -129,9 +131,12 @@ fn is_answered(replies: &[StepReply], no: u32) -> bool {
         StepReply::Touched,
         StepReply::Full(back),
         StepReply::Flushed,
-        StepReply::Answered(Reply::Page(None)),
+        StepReply::Answered(reply),
     ] = replies
     else {
+        return false;
+    };
+    let Reply::Page(None) = reply.as_reply() else {
         return false;
     };
     back.page.no == no && back.stamp.time == 30

@@ -1,11 +1,10 @@
 -- An exchange of the buckets that differ, page by page.
-use Rattle.std.proofs.Common.{◌≡◌, ◌≢◌, ◌⊎◌, inl, inr, ◌↔◌, ℕ, zero, suc, ◌<◌, ◌≤◌, ◌%◌, Bool, true, false, cond, List, [], ◌∷◌, ◌++◌, map, filter, Option, Some, None, Result, Ok, Err, refl, sym, ap, subst, ◌∙◌, arith, Decides}
+use Rattle.std.proofs.Common.{◌≡◌, ◌≢◌, ◌⊎◌, inl, inr, ℕ, zero, suc, ◌<◌, ◌≤◌, Bool, true, false, cond, List, [], ◌∷◌, ◌++◌, map, filter, Some, None, Result, Ok, Err, refl, sym, ap, subst, ◌∙◌, arith, Decides}
 use Rattle.std.specs.Prelude.{◌==◌}
 use Rattle.std.specs.List.{AllByRecursion}
 use Rattle.std.specs.Int.{bit_at}
 use Rattle.std.specs.Ordering.{is_eq, flip_args}
-use Rattle.std.specs.declared.cmp.Ordering.TheVariants.{Less, Equal, Greater}
-use Rattle.std.proofs.lemmas.Bool.{cases_eq, eq-eqb, ne_eqb}
+use Rattle.std.proofs.lemmas.Bool.{cases_eq, eq-eqb}
 use Rattle.std.proofs.lemmas.List.{append-nil}
 use Rattle.std.proofs.lemmas.Slice.Eq.{bytes_eq-Decides}
 use Rattle.sha2.specs.Sha256.{sha256}
@@ -17,17 +16,16 @@ use Rattle.warm_stamps.specs.Stamps.{stamp_cmp, page_cmp}
 use Rattle.warm_stamps.specs.Distinct.{distinct}
 use Rattle.warm_stamps.proofs.DistinctLemmas.{is_equal, distinct_absorbs, all_filter}
 use Rattle.warm_stamps.proofs.StampLemmas.{stamp_order, page_order, IsStrictOrder-flip}
-use Rattle.warm_history.specs.declared.hist.PageHist.{PageHist}
 use Rattle.warm_history.specs.declared.hist.Entry.{Entry}
+use Rattle.warm_history.specs.Carried.{bucket_entries}
 use Rattle.warm_history.specs.ReferenceSets.{ReferenceSet, ◌∪◌}
 use Rattle.warm_history.specs.Histories.{HistoryView, entries_of, references_to, first_two, hist, history}
 use Rattle.warm_history.proofs.HistoryLemmas.{get, told, told-append, joined, hist-append, get-history, same_hists}
 use Rattle.warm_frames.specs.declared.fault.FrameFault.{FrameFault}
 use Rattle.warm_frames.specs.declared.fault.FrameFault.TheVariants.{BadLength}
-use Rattle.warm_frames.specs.Entries.{IsEntry, entry_bytes, entries_bytes}
+use Rattle.warm_frames.specs.Entries.{IsEntry, entries_bytes}
 use Rattle.warm_frames.specs.Reading.{entry_at}
 use Rattle.warm_frames.proofs.FieldLemmas.{entry_again}
-use Rattle.warm_digest.specs.BucketSums.{bucket_entries}
 use Rattle.warm_digest.specs.Exchange.{bucket_text, IsCollision, IsDifferenceOf, in_buckets, Fits, ExchangeJoins}
 
 -- ---- a text is of one list of entries

@@ -1,12 +1,12 @@
 -- Buckets that a history's growth does not touch, and sums that are renewed bucket by bucket.
-use Rattle.std.proofs.Common.{◌≡◌, ◌≢◌, ◌⊎◌, inl, inr, ℕ, zero, suc, ◌<◌, ◌≤◌, ◌*◌, ◌%◌, ◌^◌, Bool, true, false, cond, List, [], ◌∷◌, ◌++◌, length, filter, map, Option, Some, None, refl, sym, ap, subst, ◌∙◌, arith, if◌then◌else◌}
+use Rattle.std.proofs.Common.{◌≡◌, ◌≢◌, inl, inr, ℕ, suc, ◌<◌, ◌*◌, ◌%◌, ◌^◌, Bool, true, false, cond, List, [], ◌∷◌, ◌++◌, length, None, refl, sym, ap, subst, ◌∙◌, arith}
 use Rattle.std.specs.Prelude.{◌==◌, bit_or}
 use Rattle.std.specs.Int.{bit_at, w64}
 use Rattle.std.specs.List.{All}
 use Rattle.std.specs.Ordering.{is_eq, on, flip_args}
-use Rattle.std.proofs.lemmas.Bool.{cases_eq, eq-eqb, eqb-true, ne_eqb}
+use Rattle.std.proofs.lemmas.Bool.{cases_eq, eqb-true}
 use Rattle.std.proofs.lemmas.List.{append-nil}
-use Rattle.std.proofs.lemmas.List.FromFn.{get_or-map-range_with_len}
+use Rattle.std.proofs.lemmas.List.FromFn.{fill_by_all, get_or-map-range_with_len}
 use Rattle.std.proofs.lemmas.Nat.Bits.{bit_at-lt, bit_at_ones, bit_at_set_same, bit_at_set_other}
 use Rattle.warm_stamps.specs.declared.PageId.{PageId}
 use Rattle.warm_stamps.specs.declared.Reference.{Reference}
@@ -17,54 +17,16 @@ use Rattle.warm_stamps.specs.Stamps.{page_cmp, stamp_cmp}
 use Rattle.warm_stamps.proofs.DistinctLemmas.{is_equal, rising_filter}
 use Rattle.warm_stamps.proofs.StampLemmas.{page_order}
 use Rattle.warm_history.specs.declared.hist.Entry.{Entry}
+use Rattle.warm_history.specs.Carried.{bucket_entries}
 use Rattle.warm_history.specs.ReferenceSets.{these, ◌∪◌}
-use Rattle.warm_history.specs.Histories.{HistoryView, IsHistory, entries_of, first_two, hist, history, holding, entry_refs, refs}
+use Rattle.warm_history.specs.Histories.{HistoryView, IsHistory, entries_of, first_two, history, holding, entry_refs, refs}
 use Rattle.warm_history.proofs.HistoryLemmas.{IsHistory-history, get, get-history, hist-refs, same_gets, told, told-append, told_entry}
 use Rattle.warm_frames.specs.Entries.{entries_bytes}
 use Rattle.warm_frames.specs.Sums.{sum_at}
 use Rattle.sha2.specs.Sha256.{sha256}
-use Rattle.warm_digest.specs.BucketSums.{bucket_entries, bucket_sum, sums_of}
-use Rattle.warm_digest.specs.KeptSums.{entries_in, HasSumsOf, SameSumsOutside, IsKept, Marks}
+use Rattle.warm_digest.specs.BucketSums.{bucket_sum, sums_of}
+use Rattle.warm_digest.specs.KeptSums.{HasSumsOf, SameSumsOutside, IsKept, Marks}
 use Rattle.warm_digest.proofs.ExchangeLemmas.{get-bucket}
-use Rattle.warm_digest.proofs.Hashers.{all_done}
-
--- ---- wanted buckets
-
--- a wanted bucket has the same entries among the wanted ones
-pub wanted_whole : (mask bucket : ℕ) (es : List Entry) → bit_at mask bucket ≡ 1 → bucket_entries bucket (entries_in mask es) ≡ bucket_entries bucket es
-wanted_whole mask bucket [] set = refl
-wanted_whole mask bucket (e ∷ es) set = cases (bit_at mask (page_bucket e.page) == 1) refl (page_bucket e.page == bucket) refl (wanted_whole mask bucket es set)
-  where
-    cases : (t : Bool) → (bit_at mask (page_bucket e.page) == 1) ≡ t → (b : Bool) → (page_bucket e.page == bucket) ≡ b
-        → bucket_entries bucket (entries_in mask es) ≡ bucket_entries bucket es
-        → bucket_entries bucket (cond t (e ∷ entries_in mask es) (entries_in mask es)) ≡ cond b (e ∷ bucket_entries bucket es) (bucket_entries bucket es)
-    cases true inside b here rest = rw (here, rest) refl
-    cases false out false here rest = rest
-    cases false out true here rest =
-        let same : page_bucket e.page ≡ bucket = eqb-true (page_bucket e.page) bucket here in
-        let never : true ≡ false = sym (eq-eqb (bit_at mask (page_bucket e.page)) 1 (ap (bit_at mask) same ∙ set)) ∙ out in
-        absurd (cc)
-
--- one that is not wanted has none among them
-wanted_none : (mask bucket : ℕ) (es : List Entry) → (bit_at mask bucket == 1) ≡ false → bucket_entries bucket (entries_in mask es) ≡ []
-wanted_none mask bucket [] clear = refl
-wanted_none mask bucket (e ∷ es) clear = cases (bit_at mask (page_bucket e.page) == 1) refl (page_bucket e.page == bucket) refl (wanted_none mask bucket es clear)
-  where
-    cases : (t : Bool) → (bit_at mask (page_bucket e.page) == 1) ≡ t → (b : Bool) → (page_bucket e.page == bucket) ≡ b
-        → bucket_entries bucket (entries_in mask es) ≡ [] → bucket_entries bucket (cond t (e ∷ entries_in mask es) (entries_in mask es)) ≡ []
-    cases false out b here rest = rest
-    cases true inside false here rest = rw here rest
-    cases true inside true here rest =
-        let same : page_bucket e.page ≡ bucket = eqb-true (page_bucket e.page) bucket here in
-        let never : true ≡ false = sym inside ∙ ap (λ k. bit_at mask k == 1) same ∙ clear in
-        absurd (cc)
-
-pub wanted_part : (mask bucket : ℕ) (es : List Entry) → bucket_entries bucket (entries_in mask es) ≡ if bit_at mask bucket == 1 then bucket_entries bucket es else []
-wanted_part mask bucket es = cases (bit_at mask bucket == 1) refl
-  where
-    cases : (t : Bool) → (bit_at mask bucket == 1) ≡ t → bucket_entries bucket (entries_in mask es) ≡ if t then bucket_entries bucket es else []
-    cases true set = wanted_whole mask bucket es (eqb-true (bit_at mask bucket) 1 set)
-    cases false clear = wanted_none mask bucket es clear
 
 -- ---- buckets that are not touched
 
@@ -149,9 +111,9 @@ sum_is es bucket low = get_or-map-range_with_len (bucket_sum es) 0 BUCKETS bucke
 pub nothing_kept : (changed : ℕ) (h : HistoryView) (sums : List (List ℕ)) → sums ≡ sums_of [] → h ≡ holding [] → IsKept changed (entries_of h) sums
 nothing_kept changed h sums are none bucket low clear = ap (λ (s : List (List ℕ)). sum_at s bucket) are ∙ sum_is [] bucket low ∙ sym (ap (λ (g : HistoryView). bucket_sum (entries_of g) bucket) none)
 
--- the sums of what hashers took of the wanted buckets are those of the whole
-pub sums_of_whole : (mask : ℕ) (h : List Entry) (sums : List (List ℕ)) → HasSumsOf mask (entries_in mask h) sums → HasSumsOf mask h sums
-sums_of_whole mask h sums has bucket low set = has bucket low set ∙ ap sum_from (wanted_whole mask bucket h set)
+-- a table that has the sum of each bucket is the table of sums
+all_done : (sums : List (List ℕ)) (h : List Entry) → length sums ≡ BUCKETS → ((b : ℕ) → b < BUCKETS → sum_at sums b ≡ bucket_sum h b) → sums ≡ sums_of h
+all_done sums h all each = fill_by_all (bucket_sum h) sums BUCKETS [] all each
 
 -- sums that were right but for the marked ones, and these renewed, are all right
 pub all_right : (changed : ℕ) (h : List Entry) (old new : List (List ℕ)) → length new ≡ BUCKETS → IsKept changed h old → HasSumsOf changed h new → SameSumsOutside changed old new → new ≡ sums_of h

@@ -1,5 +1,4 @@
 mod Examples
 pub mod ExchangeLemmas
-mod Hashers
 pub mod KeptLemmas
 mod Masks

@@ -1,17 +1,13 @@
 -- The sums by which replicas compare histories bucket by bucket.
-use Rattle.std.specs.Prelude.{◌≡◌, ◌≢◌, ◌↔◌, ◌<◌, ℕ, ◌==◌, List, map, filter}
+use Rattle.std.specs.Prelude.{◌≡◌, ◌≢◌, ◌↔◌, ◌<◌, ℕ, List, map}
 use Rattle.std.specs.Int.{bit_at}
 use Rattle.std.specs.List.{range_with_len}
 use Rattle.sha2.specs.Sha256.{sha256}
 use Rattle.warm_stamps.specs.declared.TheConstants.{BUCKETS}
-use Rattle.warm_stamps.specs.Buckets.{page_bucket}
 use Rattle.warm_history.specs.declared.hist.Entry.{Entry}
+use Rattle.warm_history.specs.Carried.{bucket_entries}
 use Rattle.warm_frames.specs.Entries.{entries_bytes}
 use Rattle.warm_frames.specs.Sums.{sum_at}
-
--- the entries of a bucket, in the order in which they are given
-abbrev pub bucket_entries : ℕ → List Entry → List Entry
-bucket_entries bucket = filter (λ e. page_bucket e.page == bucket)
 
 -- the SHA-256 digest of a bucket's entries, one after the other
 abbrev pub bucket_sum : List Entry → ℕ → List ℕ

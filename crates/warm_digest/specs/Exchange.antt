@@ -7,8 +7,8 @@ use Rattle.warm_stamps.specs.declared.TheConstants.{BUCKETS}
 use Rattle.warm_stamps.specs.Buckets.{page_bucket}
 use Rattle.warm_history.specs.ReferenceSets.{ReferenceSet, ◌∪◌, those}
 use Rattle.warm_history.specs.Histories.{HistoryView, entries_of, history}
+use Rattle.warm_history.specs.Carried.{bucket_entries}
 use Rattle.warm_frames.specs.Entries.{IsEntry, entries_bytes}
-use Rattle.warm_digest.specs.BucketSums.{bucket_entries}
 
 -- the text of a bucket, of which its sum is taken
 abbrev pub bucket_text : HistoryView → ℕ → List ℕ

@@ -1,5 +1,5 @@
 -- Sums that are kept while a history grows, and renewed bucket by bucket.
-use Rattle.std.specs.Prelude.{◌≡◌, ◌≢◌, ℕ, ◌==◌, ◌<◌, List, filter}
+use Rattle.std.specs.Prelude.{◌≡◌, ◌≢◌, ℕ, ◌<◌, List}
 use Rattle.std.specs.Int.{bit_at}
 use Rattle.std.specs.List.{All}
 use Rattle.warm_stamps.specs.declared.PageId.{PageId}
@@ -8,10 +8,6 @@ use Rattle.warm_stamps.specs.Buckets.{page_bucket}
 use Rattle.warm_history.specs.declared.hist.Entry.{Entry}
 use Rattle.warm_frames.specs.Sums.{sum_at}
 use Rattle.warm_digest.specs.BucketSums.{bucket_sum}
-
--- the entries of the buckets whose bit is set in the mask
-abbrev pub entries_in : ℕ → List Entry → List Entry
-entries_in mask = filter (λ e. bit_at mask (page_bucket e.page) == 1)
 
 -- each bucket whose bit is set has its sum of the entries
 abbrev pub HasSumsOf : ℕ → List Entry → List (List ℕ) → Type 0

@@ -1,20 +1,19 @@
 //! Sums that are kept, and taken anew only of the buckets that changed.
-ghost use Rattle.std.specs.Prelude.{◌≡◌, List, [], length, IfOk, OnOk, OnErr};
+ghost use Rattle.std.specs.Prelude.{◌≡◌, [], length, IfOk, OnOk, OnErr};
+ghost use Rattle.sha2.specs.Sha256.{sha256};
 ghost use Rattle.warm_stamps.specs.declared.TheConstants.{BUCKETS};
-ghost use Rattle.warm_history.specs.declared.hist.Entry.{Entry};
 ghost use Rattle.warm_history.specs.Histories.{entries_of};
-ghost use Rattle.warm_frames.specs.Entries.{entry_bytes};
+ghost use Rattle.warm_frames.specs.Entries.{entry_bytes, entries_bytes};
 ghost use Rattle.warm_digest.specs.BucketSums.{sums_of};
-ghost use Rattle.warm_digest.specs.Hashing.{TakesBytes, HaveTaken, TakeEntry};
-ghost use Rattle.warm_digest.specs.KeptSums.{entries_in, HasSumsOf, SameSumsOutside};
+ghost use Rattle.warm_digest.specs.Hashing.{TakesBytes};
+ghost use Rattle.warm_digest.specs.KeptSums.{HasSumsOf, SameSumsOutside};
 
-use crate::wanted::wanted_entries;
 use sha2::{Digest, Sha256};
 use std::alloc::{AllocError, Global};
 use std::marker::Model;
 use warm_frames::{MAX_ENTRY_SIZE, SUM_SIZE, SumTable, put_entry};
-use warm_history::{Entry, History};
-use warm_stamps::{BUCKETS, bucket_of};
+use warm_history::{BucketEntries, Entry, History};
+use warm_stamps::{BUCKETS, Bucket};
 
 /// The sums of a history's buckets as they were when each was last taken.
 ///
@@ -58,9 +57,9 @@ impl Sums {
     /// Takes the sums of the buckets whose bit is set in the mask anew, from this history; each other sum
     /// stays as it is. Bit b, of value 2^b, stands for bucket b.
     ///
-    /// A mask of 0 costs nothing. Any other costs one pass over the history, and the hashing of the wanted
-    /// buckets' bytes: by far the greater part where many are wanted. `AllocError` comes only where room
-    /// for a hasher of each bucket, or for the bytes of one entry, was refused, and changes nothing.
+    /// Costs what going over the wanted buckets' entries and the hashing of their bytes cost; a mask of 0
+    /// costs nothing. `AllocError` comes only where room for the bytes of one entry was refused, and
+    /// changes nothing.
     pub fn renew(&mut self, history: &History, mask: u64) -> Result<(), AllocError>
         ensures wanted { OnOk result (HasSumsOf mask (entries_of history.now) self.new) }
         ensures others { OnOk result (SameSumsOutside mask self.old self.new) }
@@ -69,8 +68,7 @@ impl Sums {
         if mask == 0 {
             return Ok(());
         }
-        let hashers = hashed(self.alloc, history, mask)?;
-        self.sums = renewed(self.sums, mask, hashers);
+        self.sums = renewed(self.alloc, self.sums, history, mask)?;
         Ok(())
     }
 }
@@ -85,59 +83,35 @@ fn take_entry(hasher: &mut Sha256, text: &mut Vec<u8>, entry: Entry) -> Result<(
     Ok(())
 }
 
-// A hasher for each bucket, none of which has taken anything.
-fn new_hashers(alloc: Global) -> Result<Vec<Sha256>, AllocError>
-    ensures all { IfOk result (λ hashers. length hashers.items ≡ BUCKETS) }
-    ensures fresh { IfOk result (λ hashers. HaveTaken hashers.items []) }
+// The sum of entries. The text is room for the bytes of one of them, and is written over.
+fn sum_of(entries: BucketEntries<'_>, text: &mut Vec<u8>) -> Result<[u8; SUM_SIZE], AllocError>
+    ensures { IfOk result (λ sum. sum ≡ sha256 (entries_bytes entries.entry)) }
 {
-    let mut hashers = Vec::with_capacity(alloc, usize::from(BUCKETS))?;
-    for _bucket in 0..BUCKETS {
-        hashers.push_reserved(Sha256::new());
+    let mut hasher = Sha256::new();
+    for entry in entries {
+        take_entry(&mut hasher, text, entry)?;
     }
-    Ok(hashers)
+    Ok(hasher.finalize())
 }
 
-// Feeds an entry to the hasher of its bucket.
-fn take_into(hashers: &mut Vec<Sha256>, text: &mut Vec<u8>, entry: Entry) -> Result<(), AllocError>
-    requires { length hashers.old.items ≡ BUCKETS }
-    ensures all { length hashers.new.items ≡ BUCKETS }
-    ensures taken { OnOk result (TakeEntry hashers.old.items hashers.new.items entry) }
-{
-    let bucket = usize::from(bucket_of(entry.page).get());
-    take_entry(&mut hashers[bucket], text, entry)?;
-    Ok(())
-}
-
-// Hashers that have taken the entries of the wanted buckets.
-fn hashed(alloc: Global, history: &History, mask: u64) -> Result<Vec<Sha256>, AllocError>
-    ensures all { IfOk result (λ hashers. length hashers.items ≡ BUCKETS) }
-    ensures taken { IfOk result (λ hashers.
-        HaveTaken hashers.items (entries_in mask (entries_of history.now))) }
-{
-    let mut hashers = new_hashers(alloc)?;
-    let mut text = Vec::with_capacity(alloc, MAX_ENTRY_SIZE)?;
-    for entry in wanted_entries(history, mask) {
-        take_into(&mut hashers, &mut text, entry)?;
-    }
-    Ok(hashers)
-}
-
-// The sums, in which those of the wanted buckets are what their hashers have come to.
+// The sums, of which those of the wanted buckets are taken anew from the history.
 fn renewed(
+    alloc: Global,
     mut sums: [[u8; SUM_SIZE]; BUCKETS as usize],
+    history: &History,
     mask: u64,
-    mut hashers: Vec<Sha256>,
-) -> [[u8; SUM_SIZE]; BUCKETS as usize]
-    requires { length hashers.items ≡ BUCKETS }
-    ensures wanted { (taken : List Entry) → HaveTaken hashers.items taken
-        → HasSumsOf mask taken result }
-    ensures others { SameSumsOutside mask sums result }
+) -> Result<[[u8; SUM_SIZE]; BUCKETS as usize], AllocError>
+    ensures wanted { IfOk result (HasSumsOf mask (entries_of history.now)) }
+    ensures others { IfOk result (SameSumsOutside mask sums) }
 {
-    while let Some(hasher) = hashers.pop() {
-        let bucket = hashers.len();
-        if (mask >> bucket) % 2 == 1 {
-            sums[bucket] = hasher.finalize();
+    let mut text = Vec::with_capacity(alloc, MAX_ENTRY_SIZE)?;
+    for index in 0..BUCKETS {
+        if (mask >> index) % 2 == 1 {
+            let Some(bucket) = Bucket::new(index) else {
+                unreachable!()
+            };
+            sums[usize::from(index)] = sum_of(history.bucket(bucket), &mut text)?;
         }
     }
-    sums
+    Ok(sums)
 }

@@ -12,20 +12,17 @@ ghost use Rattle.warm_digest.specs.BucketSums.{sums_of, MarksDiffering};
 mod kept;
 pub mod laws;
 mod summed;
-mod wanted;
 
 pub use kept::Sums;
 use std::alloc::{AllocError, Global};
 pub use summed::SummedHistory;
-pub use wanted::{Wanted, wanted_entries};
 use warm_frames::SumTable;
 use warm_history::History;
 use warm_stamps::{BUCKETS, Bucket};
 
-/// The sums of a history's buckets, all taken anew. It goes over the history once.
+/// The sums of a history's buckets, all taken anew. It goes over the history once, bucket by bucket.
 ///
-/// `AllocError` comes only where room for a hasher of each bucket, or for the bytes of one entry, was
-/// refused.
+/// `AllocError` comes only where room for the bytes of one entry was refused.
 pub fn sums(alloc: Global, history: &History) -> Result<SumTable, AllocError>
     ensures { IfOk result (λ table. table ≡ sums_of (entries_of history.now)) }
 {

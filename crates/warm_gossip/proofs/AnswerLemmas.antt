@@ -1,31 +1,28 @@
--- Pieces of lists, gathered buckets, and the frames that are made of them.
-use Rattle.std.proofs.Common.{◌≡◌, ◌≢◌, ◌↔◌, ℕ, zero, suc, ◌-◌, ◌<◌, ◌≤◌, min, Bool, true, false, cond, List, [], ◌∷◌, ◌++◌, length, take, drop, map, filter, refl, sym, ap, subst, ◌∙◌, append_assoc, arith, All, flat_map, Result, Ok, Err, IfOk, if◌then◌else◌}
-use Rattle.std.specs.Prelude.{◌==◌, slice_index_or}
-use Rattle.std.specs.Global.{Vec}
+-- Pieces of lists, wanted buckets, and the frames that are made of them.
+use Rattle.std.proofs.Common.{◌≡◌, ◌≢◌, ◌↔◌, ℕ, zero, suc, ◌+◌, ◌-◌, ◌<◌, ◌≤◌, min, Bool, true, false, cond, List, [], ◌∷◌, ◌++◌, length, take, drop, map, filter, refl, sym, ap, subst, ◌∙◌, append_assoc, append-nil, map-id, arith, flat_map, if◌then◌else◌}
+use Rattle.std.specs.Prelude.{◌==◌}
 use Rattle.std.specs.Int.{bit_at}
 use Rattle.std.specs.List.{range_with_len}
 use Rattle.std.specs.Ordering.{on}
 use Rattle.std.specs.declared.cmp.Ordering.{Ordering}
 use Rattle.std.proofs.lemmas.Bool.{eq-eqb, ne_eqb, true≢false}
-use Rattle.std.proofs.lemmas.List.{length-drop, length-map, get_or-map, take_min, drop_min}
-use Rattle.std.proofs.lemmas.List.Elements.{All-push}
-use Rattle.std.proofs.lemmas.List.FromFn.{fill_by_all}
+use Rattle.std.proofs.lemmas.List.Concat.{flat_map-append}
+use Rattle.std.proofs.lemmas.List.{length-drop, take_min, drop_min}
+use Rattle.std.proofs.lemmas.List.FromFn.{filter_of_map_range_with_len_more}
 use Rattle.warm_stamps.specs.declared.TheConstants.{BUCKETS}
 use Rattle.warm_stamps.specs.Buckets.{page_bucket}
 use Rattle.warm_stamps.specs.Distinct.{IsRising}
 use Rattle.warm_stamps.specs.Stamps.{page_cmp}
 use Rattle.warm_stamps.proofs.DistinctLemmas.{rising_filter, rising_take}
 use Rattle.warm_history.specs.declared.hist.Entry.{Entry}
+use Rattle.warm_history.specs.Carried.{bucket_entries}
 use Rattle.warm_history.specs.Histories.{HistoryView, entries_of, PagesRise, IsHistory}
 use Rattle.warm_frames.specs.declared.entries.TheConstants.{MAX_ENTRIES}
 use Rattle.warm_frames.specs.declared.frame.Frame.{Frame}
 use Rattle.warm_frames.specs.declared.frame.Frame.TheVariants.{Entries, Want}
 use Rattle.warm_frames.specs.Sums.{sum_at}
-use Rattle.warm_digest.specs.BucketSums.{bucket_entries, sums_of}
-use Rattle.warm_digest.specs.KeptSums.{entries_in}
-use Rattle.warm_digest.proofs.KeptLemmas.{wanted_part}
+use Rattle.warm_digest.specs.BucketSums.{sums_of}
 use Rattle.warm_gossip.specs.Answers.{pieces_of, pieces, entry_frames, bucket_frames, buckets_in, wanted_frames, IsDiffering, AnswersSums}
-use Rattle.warm_gossip.specs.Gathering.{HaveGathered, list_frames}
 
 -- ---- pieces
 
@@ -75,65 +72,47 @@ pages_rise_take n es part is rise = subst PagesRise (sym is) (rising_take (on (�
 pub pages_rise_drop : (n : ℕ) (es later : List Entry) → later ≡ drop n es → PagesRise es → PagesRise later
 pages_rise_drop n es later is rise = subst PagesRise (sym is) (rising_drop (on (λ e. e.page) page_cmp) n es rise)
 
-wanted_rise : (mask : ℕ) (h : List Entry) (bucket : ℕ) → PagesRise h → PagesRise (bucket_entries bucket (entries_in mask h))
-wanted_rise mask h bucket rise =
-    let by_page = on (λ (e : Entry). e.page) page_cmp in
-    rising_filter by_page (λ e. page_bucket e.page == bucket) (entries_in mask h) (rising_filter by_page (λ e. bit_at mask (page_bucket e.page) == 1) h rise)
+-- and in a bucket
+pub bucket_rises : (bucket : ℕ) (h : HistoryView) (es : List Entry) → es ≡ bucket_entries bucket (entries_of h) → IsHistory h → PagesRise es
+bucket_rises bucket h es is whole = subst PagesRise (sym is) (rising_filter (on (λ e. e.page) page_cmp) (λ e. page_bucket e.page == bucket) (entries_of h) whole.pages_rise)
 
--- one empty list more
-pub empty_more : (lists all : List (Vec Entry)) (next : Vec Entry) → all ≡ lists ++ next ∷ [] → next.items ≡ [] → All (λ list. list.items ≡ []) lists → All (λ list. list.items ≡ []) all
-empty_more lists all next is empty each = subst (All (λ (list : Vec Entry). list.items ≡ [])) (sym is) (All-push (λ list. list.items ≡ []) lists next each empty)
+-- ---- frames of wanted buckets
 
--- ---- frames of gathered lists
+-- one number more is chosen or not
+chosen_more : (p : ℕ → Bool) (n : ℕ) → filter p (range_with_len 0 (n + 1)) ≡ filter p (range_with_len 0 n) ++ cond (p n) (n ∷ []) []
+chosen_more p n =
+    ap (filter p) (sym (map-id (range_with_len 0 (n + 1))))
+    ∙ filter_of_map_range_with_len_more p (λ k. k) 0 n n (omega arith)
+    ∙ ap (λ ks. filter p ks ++ cond (p n) (n ∷ []) []) (map-id (range_with_len 0 n))
 
-pub all_rise : (mask : ℕ) (lists : List (Vec Entry)) (h : HistoryView) → HaveGathered lists (entries_in mask (entries_of h)) → IsHistory h → All (λ list. PagesRise list.items) lists
-all_rise mask lists h have whole = λ k d low. subst PagesRise (sym (have.each k d (omega (arith, have.count)))) (wanted_rise mask (entries_of h) k whole.pages_rise)
+-- the wanted buckets below n
+abbrev buckets_below : ℕ → ℕ → List ℕ
+buckets_below mask n = filter (λ bucket. bit_at mask bucket == 1) (range_with_len 0 n)
 
-flat_map-map : {X Y A : Type 0} (f : Y → List A) (g : X → Y) (xs : List X) → flat_map f (map g xs) ≡ flat_map (λ x. f (g x)) xs
-flat_map-map f g [] = refl
-flat_map-map f g (x ∷ xs) = ap (λ t. f (g x) ++ t) (flat_map-map f g xs)
+-- in frames
+abbrev pub frames_below : ℕ → HistoryView → ℕ → ℕ → List Frame
+frames_below id h mask n = flat_map (bucket_frames id h) (buckets_below mask n)
 
--- the entries of a bucket where its bit is set, and none where it is clear
-abbrev wanted : ℕ → List Entry → ℕ → List Entry
-wanted mask h bucket = if bit_at mask bucket == 1 then bucket_entries bucket h else []
+-- a bucket adds its frames where it is wanted
+pub wanted_more : (id mask bucket : ℕ) (h : HistoryView) → (bit_at mask bucket == 1) ≡ true → frames_below id h mask bucket ++ bucket_frames id h bucket ≡ frames_below id h mask (bucket + 1)
+wanted_more id mask bucket h set =
+    let more : buckets_below mask (bucket + 1) ≡ buckets_below mask bucket ++ bucket ∷ [] =
+    chosen_more (λ b. bit_at mask b == 1) bucket ∙ ap (λ (t : Bool). buckets_below mask bucket ++ cond t (bucket ∷ []) []) set in
+    sym (ap (flat_map (bucket_frames id h)) more
+    ∙ flat_map-append (bucket_frames id h) (buckets_below mask bucket) (bucket ∷ [])
+    ∙ ap (λ fs. frames_below id h mask bucket ++ fs) (append-nil (bucket_frames id h bucket)))
 
--- a bucket whose bit is clear gives no frame
-set_alone : (id mask : ℕ) (h : HistoryView) (ks : List ℕ) → flat_map (λ k. entry_frames id (wanted mask (entries_of h) k)) ks ≡ flat_map (bucket_frames id h) (filter (λ k. bit_at mask k == 1) ks)
-set_alone id mask h [] = refl
-set_alone id mask h (k ∷ ks) = cases (bit_at mask k == 1) (set_alone id mask h ks)
-  where
-    chosen : List ℕ
-    chosen = filter (λ k. bit_at mask k == 1) ks
+-- and none where it is not
+pub unwanted_more : (id mask bucket : ℕ) (h : HistoryView) → (bit_at mask bucket == 1) ≡ false → frames_below id h mask bucket ≡ frames_below id h mask (bucket + 1)
+unwanted_more id mask bucket h clear =
+    let same : buckets_below mask (bucket + 1) ≡ buckets_below mask bucket ++ [] =
+    chosen_more (λ b. bit_at mask b == 1) bucket ∙ ap (λ (t : Bool). buckets_below mask bucket ++ cond t (bucket ∷ []) []) clear in
+    sym (ap (flat_map (bucket_frames id h)) (same ∙ append-nil (buckets_below mask bucket)))
 
-    others : List Frame
-    others = flat_map (λ k. entry_frames id (wanted mask (entries_of h) k)) ks
-
-    cases : (t : Bool) → others ≡ flat_map (bucket_frames id h) chosen → entry_frames id (cond t (bucket_entries k (entries_of h)) []) ++ others ≡ flat_map (bucket_frames id h) (cond t (k ∷ chosen) chosen)
-    cases true later = ap (λ fs. bucket_frames id h k ++ fs) later
-    cases false later = later
-
-frames_below : (id mask n : ℕ) (lists : List (Vec Entry)) (h : HistoryView) → length lists ≡ n → ((k : ℕ) (other : Vec Entry) → k < n → (slice_index_or lists k other).items ≡ wanted mask (entries_of h) k)
-    → flat_map (λ list. entry_frames id list.items) lists ≡ flat_map (bucket_frames id h) (filter (λ k. bit_at mask k == 1) (range_with_len 0 n))
-frames_below id mask zero [] h count each = refl
-frames_below id mask (suc n) [] h count each = absurd (omega (arith, count))
-frames_below id mask n (v ∷ vs) h count each =
-    let items : Vec Entry → List Entry = λ list. list.items in
-    let lists : List (Vec Entry) = v ∷ vs in
-    let all : map items lists ≡ map (wanted mask (entries_of h)) (range_with_len 0 n) =
-    fill_by_all (wanted mask (entries_of h)) (map items lists) n [] (length-map lists items ∙ count) (λ k low. get_or-map items lists k v [] (omega (arith, count)) ∙ each k v low) in
-    sym (flat_map-map (entry_frames id) items lists)
-    ∙ ap (flat_map (entry_frames id)) all
-    ∙ flat_map-map (entry_frames id) (wanted mask (entries_of h)) (range_with_len 0 n)
-    ∙ set_alone id mask h (range_with_len 0 n)
-
-pub all_frames : (id mask : ℕ) (lists : List (Vec Entry)) (h : HistoryView) → HaveGathered lists (entries_in mask (entries_of h)) → list_frames id lists ≡ wanted_frames id h mask
+-- below the number of buckets are all
+pub all_below : (id mask : ℕ) (h : HistoryView) → frames_below id h mask BUCKETS ≡ wanted_frames id h mask
 unfolding buckets_in
-all_frames id mask lists h have = frames_below id mask BUCKETS lists h have.count (λ k other low. have.each k other low ∙ wanted_part mask k (entries_of h))
-
-pub all_framed : {E : Type 0} (id mask : ℕ) (lists : List (Vec Entry)) (h : HistoryView) (result : Result (Vec Frame) E) → HaveGathered lists (entries_in mask (entries_of h))
-    → IfOk result (λ frames. frames.items ≡ list_frames id lists) → IfOk result (λ frames. frames.items ≡ wanted_frames id h mask)
-all_framed id mask lists h (Ok frames) have is = is ∙ all_frames id mask lists h have
-all_framed id mask lists h (Err e) have is = tt
+all_below id mask h = refl
 
 -- ---- answers to sums
 

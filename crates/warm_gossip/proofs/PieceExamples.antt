@@ -7,7 +7,7 @@ use Rattle.warm_history.specs.declared.hist.Entry.{Entry}
 use Rattle.warm_history.specs.declared.hist.PageHist.TheVariants.{Once, Twice}
 use Rattle.warm_history.specs.ReferenceSets.{ReferenceSet, these}
 use Rattle.warm_history.specs.Histories.{entries_of, history}
-use Rattle.warm_digest.specs.BucketSums.{bucket_entries}
+use Rattle.warm_history.specs.Carried.{bucket_entries}
 use Rattle.warm_gossip.specs.Answers.{pieces}
 use Rattle.warm_gossip.specs.Pieces.{piece_after, last_page}
 

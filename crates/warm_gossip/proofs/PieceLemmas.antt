@@ -16,10 +16,9 @@ use Rattle.warm_stamps.proofs.StampLemmas.{page_order}
 use Rattle.warm_history.specs.declared.hist.Entry.{Entry}
 use Rattle.warm_history.specs.ReferenceSets.{ReferenceSet}
 use Rattle.warm_history.specs.Histories.{entries_of, history, PagesRise}
-use Rattle.warm_history.specs.Carried.{comes_after, is_chosen}
+use Rattle.warm_history.specs.Carried.{bucket_entries, comes_after, is_chosen}
 use Rattle.warm_history.proofs.HistoryLemmas.{IsHistory-history}
 use Rattle.warm_history.proofs.CarriedLemmas.{history-carried}
-use Rattle.warm_digest.specs.BucketSums.{bucket_entries}
 use Rattle.warm_gossip.specs.Answers.{pieces_of}
 use Rattle.warm_gossip.specs.Pieces.{last_page, piece_after, AreInTurn, PiecesInTurn}
 

@@ -18,13 +18,14 @@ use Rattle.warm_history.specs.declared.hist.PageHist.TheVariants.{Once, Twice}
 use Rattle.warm_history.specs.declared.hist.Entry.{Entry}
 use Rattle.warm_history.specs.ReferenceSets.{ReferenceSet, ◌∪◌}
 use Rattle.warm_history.specs.Histories.{HistoryView, entries_of, entry_refs, held_by, hist, history, refs}
+use Rattle.warm_history.specs.Carried.{bucket_entries}
 use Rattle.warm_history.proofs.HistoryLemmas.{joined, hist-append, hist_swap, hist_refs-history, same_hists}
 use Rattle.warm_history.proofs.JoinLemmas.{histories_tell_both, history_alike, history_first, history_of_own_references, history_swap}
 use Rattle.warm_frames.specs.declared.entries.TheConstants.{MAX_ENTRIES}
 use Rattle.warm_frames.specs.declared.frame.Frame.{Frame}
 use Rattle.warm_frames.specs.declared.frame.Frame.TheVariants.{Entries, Digest, Want}
 use Rattle.warm_frames.specs.Sums.{sum_at}
-use Rattle.warm_digest.specs.BucketSums.{bucket_entries, bucket_sum, sums_of}
+use Rattle.warm_digest.specs.BucketSums.{bucket_sum, sums_of}
 use Rattle.warm_digest.specs.Exchange.{Fits, IsCollision, IsDifferenceOf, in_buckets}
 use Rattle.warm_digest.proofs.ExchangeLemmas.{kept, hist-kept, joined_same, joined_none, exchange_joins}
 use Rattle.warm_gossip.specs.Answers.{pieces_of, pieces, entry_frames, bucket_frames, buckets_in, wanted_frames, IsDiffering, IsAnswer, taught}

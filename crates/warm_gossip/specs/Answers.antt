@@ -7,12 +7,12 @@ use Rattle.warm_stamps.specs.declared.TheConstants.{BUCKETS}
 use Rattle.warm_history.specs.declared.hist.Entry.{Entry}
 use Rattle.warm_history.specs.ReferenceSets.{◌∪◌}
 use Rattle.warm_history.specs.Histories.{HistoryView, entries_of, holding, history, refs}
-use Rattle.warm_history.specs.Carried.{carried}
+use Rattle.warm_history.specs.Carried.{bucket_entries, carried}
 use Rattle.warm_frames.specs.declared.entries.TheConstants.{MAX_ENTRIES}
 use Rattle.warm_frames.specs.declared.frame.Frame.{Frame}
 use Rattle.warm_frames.specs.declared.frame.Frame.TheVariants.{Entries, Digest, Want}
 use Rattle.warm_frames.specs.Sums.{sum_at}
-use Rattle.warm_digest.specs.BucketSums.{bucket_entries, sums_of}
+use Rattle.warm_digest.specs.BucketSums.{sums_of}
 
 -- the list in pieces of so many items, of which the last may be shorter
 abbrev pub pieces_of : {A : Type 0} → ℕ → ℕ → List A → List (List A)

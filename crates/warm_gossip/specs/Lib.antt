@@ -2,7 +2,6 @@ pub mod Faults
 pub mod State
 pub mod Remembered
 pub mod Answers
-pub mod Gathering
 pub mod Pieces
 pub mod Round
 pub mod Step

@@ -4,8 +4,7 @@ use Rattle.warm_stamps.specs.declared.PageId.{PageId}
 use Rattle.warm_history.specs.declared.hist.Entry.{Entry}
 use Rattle.warm_history.specs.ReferenceSets.{ReferenceSet}
 use Rattle.warm_history.specs.Histories.{entries_of, history}
-use Rattle.warm_history.specs.Carried.{carried}
-use Rattle.warm_digest.specs.BucketSums.{bucket_entries}
+use Rattle.warm_history.specs.Carried.{bucket_entries, carried}
 use Rattle.warm_gossip.specs.Answers.{pieces}
 
 -- the page of the last of the entries, where there are any

@@ -1,53 +1,16 @@
 //! What a node answers to sums and to a wish.
-ghost use Rattle.std.specs.Prelude.{◌≡◌, ◌≤◌, ◌++◌, length, IfOk, OnOk};
-ghost use Rattle.std.specs.List.{All};
+ghost use Rattle.std.specs.Prelude.{◌≡◌, ◌==◌, ◌≤◌, ◌++◌, length, IfOk, OnOk};
+ghost use Rattle.std.specs.Int.{bit_at};
+ghost use Rattle.warm_history.specs.Carried.{bucket_entries};
 ghost use Rattle.warm_history.specs.Histories.{PagesRise, entries_of};
-ghost use Rattle.warm_digest.specs.KeptSums.{entries_in};
 ghost use Rattle.warm_gossip.specs.Answers.{AnswersSums, entry_frames, wanted_frames};
-ghost use Rattle.warm_gossip.specs.Gathering.{AreEmpty, HaveGathered, Takes, list_frames};
 
 use crate::remembered::Remembered;
 use std::alloc::{AllocError, Global};
-use warm_digest::{differing, wanted_entries};
+use warm_digest::differing;
 use warm_frames::{EntryList, Frame, MAX_ENTRIES, SumTable};
 use warm_history::{Entry, History};
-use warm_stamps::{BUCKETS, ReplicaId, bucket_of};
-
-// An empty list for each bucket.
-fn new_lists(alloc: Global) -> Result<Vec<Vec<Entry>>, AllocError>
-    ensures { IfOk result (λ lists. AreEmpty lists.items) }
-{
-    let mut lists = Vec::with_capacity(alloc, usize::from(BUCKETS))?;
-    for _bucket in 0..BUCKETS {
-        lists.push_reserved(Vec::new(alloc));
-    }
-    Ok(lists)
-}
-
-// Takes an entry into the list of its bucket.
-fn take_into(lists: &mut Vec<Vec<Entry>>, entry: Entry) -> Result<(), AllocError>
-    requires { length lists.old.items ≡ BUCKETS }
-    ensures { OnOk result (Takes lists.old.items entry lists.new.items) }
-{
-    // Taken apart, since the prover loses a whole entry while a list is lent.
-    let Entry { page, hist } = entry;
-    let list = &mut lists[usize::from(bucket_of(page).get())];
-    list.reserve(1)?;
-    list.push_reserved(Entry { page, hist });
-    Ok(())
-}
-
-// The entries of the wanted buckets, each bucket's in a list of its own.
-fn gathered(alloc: Global, history: &History, mask: u64) -> Result<Vec<Vec<Entry>>, AllocError>
-    ensures { IfOk result (λ lists.
-        HaveGathered lists.items (entries_in mask (entries_of history.now))) }
-{
-    let mut lists = new_lists(alloc)?;
-    for entry in wanted_entries(history, mask) {
-        take_into(&mut lists, entry)?;
-    }
-    Ok(lists)
-}
+use warm_stamps::{BUCKETS, Bucket, ReplicaId};
 
 // A frame of these entries.
 fn frame_of(alloc: Global, id: ReplicaId, part: &[Entry]) -> Result<Frame, AllocError>
@@ -85,20 +48,22 @@ fn push_frames(
     Ok(())
 }
 
-// The entries of each list in frames, one list after the other.
-fn frames_of(alloc: Global, id: ReplicaId, lists: Vec<Vec<Entry>>) -> Result<Vec<Frame>, AllocError>
-    requires { All (λ list. PagesRise list.items) lists.items }
-    ensures { IfOk result (λ frames. frames.items ≡ list_frames id lists.items) }
+// Whether the bit of the bucket is set.
+fn is_wanted(mask: u64, bucket: Bucket) -> bool
+    ensures { result ≡ (bit_at mask bucket == 1) }
 {
-    let mut frames = Vec::new(alloc);
-    for list in lists {
-        push_frames(alloc, &mut frames, id, &list)?;
-    }
-    Ok(frames)
+    (mask >> bucket.get()) % 2 == 1
+}
+
+// The entries of a bucket.
+fn listed(alloc: Global, history: &History, bucket: Bucket) -> Result<Vec<Entry>, AllocError>
+    ensures { IfOk result (λ es. es.items ≡ bucket_entries bucket (entries_of history.now)) }
+{
+    history.bucket(bucket).collect(alloc)
 }
 
 /// The entries of the buckets whose bit is set in the mask, bucket by bucket in rising order and
-/// each in page order, in frames of up to 1000. It goes over the history once.
+/// each in page order, in frames of up to 1000. It costs what the wanted buckets cost.
 ///
 /// `AllocError` comes only where room was refused.
 pub(crate) fn wanted_frames(
@@ -111,8 +76,18 @@ pub(crate) fn wanted_frames(
 {
     // Asked for what holds of every history: its pages rise.
     let _whole = history.len();
-    let lists = gathered(alloc, history, mask)?;
-    frames_of(alloc, id, lists)
+    let mut frames = Vec::new(alloc);
+    for index in 0..BUCKETS {
+        let Some(bucket) = Bucket::new(index) else {
+            unreachable!()
+        };
+        if !is_wanted(mask, bucket) {
+            continue;
+        }
+        let entries = listed(alloc, history, bucket)?;
+        push_frames(alloc, &mut frames, id, &entries)?;
+    }
+    Ok(frames)
 }
 
 /// What a node with this history answers to the sums of another replica: its own entries of the

@@ -47,7 +47,7 @@ get_entries_other f q qs p other = elim (f q) as (λ x. get (cons_option (option
   | Some h ↦ rw other refl
 ]
 
-either_way : {A : Type 0} (b : Bool) (x : A) → cond b x x ≡ x
+pub either_way : {A : Type 0} (b : Bool) (x : A) → cond b x x ≡ x
 either_way true x = refl
 either_way false x = refl
 
@@ -124,7 +124,7 @@ abbrev pub IsFallingIfAny : Option PageHist → Type 0
 IsFallingIfAny None = Unit {0}
 IsFallingIfAny (Some h) = IsFalling h
 
-falling_first_two : (ss : List Stamp) → IsRising (flip_args stamp_cmp) ss → IsFallingIfAny (first_two ss)
+pub falling_first_two : (ss : List Stamp) → IsRising (flip_args stamp_cmp) ss → IsFallingIfAny (first_two ss)
 falling_first_two [] rising = tt
 falling_first_two (a ∷ []) rising = tt
 falling_first_two (a ∷ b ∷ ss) rising = rising.0.0

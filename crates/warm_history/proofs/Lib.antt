@@ -5,5 +5,8 @@ pub mod HistoryLemmas
 pub mod JoinLemmas
 pub mod MergeLemmas
 pub mod PlaceLemmas
+pub mod PlaceOrder
+pub mod OrderLemmas
 pub mod TreeLemmas
+pub mod MergedParts
 pub mod SetLemmas

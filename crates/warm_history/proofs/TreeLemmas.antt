@@ -1,77 +1,88 @@
 -- What is put back after a change gives the pairs from before.
-use Rattle.std.proofs.Common.{◌≡◌, ℕ, Bool, true, false, cond, List, [], ◌∷◌, ◌++◌, sym, ap, refl, ◌∙◌, subst, Option, Some, None, append_assoc, add-one, drop-cons, drop, length, get_or, suc, filter, ◌==◌, ◌+◌, ◌<◌, ◌≤◌}
+use Rattle.std.proofs.Common.{◌≡◌, ℕ, Bool, true, false, cond, List, [], ◌∷◌, ◌++◌, sym, ap, refl, ◌∙◌, subst, Option, Some, None, append_assoc, add-one, drop-cons, drop, length, get_or, suc, filter, ◌+◌, ◌<◌, ◌≤◌}
 use Rattle.std.specs.List.{AllByRecursion}
+use Rattle.std.specs.List.Sorted.{IsPermutation}
 use Rattle.std.specs.Option.{option_map}
 use Rattle.std.specs.Map.{lookup, remove_entry, set_value}
 use Rattle.std.specs.BTreeMap.{is_at, insert_entry}
-use Rattle.std.specs.BTreeMap.Range.{entries_between}
-use Rattle.std.specs.declared.ops.Bound.TheVariants.{Excluded, Unbounded}
+use Rattle.std.specs.BTreeMap.Range.{entries_between, range_contains}
+use Rattle.std.specs.declared.ops.Bound.{Bound}
+use Rattle.std.specs.declared.ops.Bound.TheVariants.{Unbounded}
 use Rattle.warm_stamps.specs.Buckets.{page_bucket}
-use Rattle.warm_history.specs.Carried.{comes_after, is_chosen}
-use Rattle.std.specs.Ordering.{is_eq, is_lt, on}
+use Rattle.std.specs.Ordering.{is_eq, on, flip_args, nat_cmp}
 use Rattle.std.specs.declared.cmp.Ordering.{Ordering}
 use Rattle.std.specs.declared.cmp.Ordering.TheVariants.{Less, Equal, Greater}
 use Rattle.std.proofs.lemmas.Cmp.{tied_itself}
 use Rattle.std.proofs.lemmas.List.{append-nil, drop_all}
+use Rattle.std.proofs.lemmas.List.Sorted.{length_permutation}
+use Rattle.warm_stamps.specs.declared.Stamp.{Stamp}
 use Rattle.warm_stamps.specs.declared.PageId.{PageId}
-use Rattle.warm_stamps.specs.Stamps.{page_cmp}
-use Rattle.warm_stamps.specs.Distinct.{IsRising}
-use Rattle.warm_stamps.proofs.DistinctLemmas.{by_cases, flipped}
-use Rattle.warm_stamps.proofs.StampLemmas.{page_order}
+use Rattle.warm_stamps.specs.Stamps.{stamp_cmp, page_cmp}
+use Rattle.warm_stamps.specs.Distinct.{distinct, IsRising}
+use Rattle.warm_stamps.proofs.DistinctLemmas.{is_equal, by_cases, flipped, distinct_rises, rising_filter}
+use Rattle.warm_stamps.proofs.StampLemmas.{stamp_order, page_order, IsStrictOrder-flip}
 use Rattle.warm_history.specs.declared.hist.PageHist.{PageHist}
 use Rattle.warm_history.specs.declared.hist.Entry.{Entry}
-use Rattle.warm_history.specs.Histories.{latest_of, stamps_held, held, entry_refs, refs, history, IsHistory}
-use Rattle.warm_history.proofs.HistoryLemmas.{get, IsHistory-history}
-use Rattle.warm_history.proofs.JoinLemmas.{history_of_own_references, history_first}
-use Rattle.warm_history.proofs.PlaceLemmas.{TakesIn, takes_in}
+use Rattle.warm_history.specs.Histories.{first_two, hist, latest_of, stamps_held, held, entry_refs, refs, history, IsHistory, IsFalling, PagesRise}
+use Rattle.warm_history.proofs.HistoryLemmas.{get, told, told-append, told_entry, told_refs, same_gets, falling_first_two, IsFallingIfAny}
+use Rattle.warm_history.proofs.JoinLemmas.{history_of_own_references, history_first, history_alike}
+use Rattle.warm_history.proofs.PlaceLemmas.{takes_in}
+use Rattle.warm_history.proofs.PlaceOrder.{nat_order, same_place, rising_pages}
+use Rattle.warm_history.proofs.OrderLemmas.{both_same, either_first, get-in_order, in_order_rises, IsHistory-in_order, PagesDiffer, permuted_in_order, get-filter}
 use Rattle.warm_stamps.specs.declared.Reference.{Reference}
-use Rattle.warm_history.specs.Tree.{Pairs, as_entries}
+use Rattle.warm_history.specs.Places.{page_at, IsPlace}
+use Rattle.warm_history.specs.Tree.{Pairs, as_entries, kept, AreKept}
 use Rattle.warm_history.specs.Undo.{put_back, undone, noted}
 use Rattle.warm_history.specs.declared.tree.Known.{Known}
 
-abbrev pub find : PageId → Pairs → Option PageHist
-find p pairs = lookup (is_at (page_cmp p)) pairs
+abbrev pub find : ℕ → Pairs → Option PageHist
+find p pairs = lookup (is_at (nat_cmp p)) pairs
 
-is_eq_flip : (p q : PageId) → is_eq (page_cmp p q) ≡ is_eq (page_cmp q p)
-is_eq_flip p q = by_cases (page_cmp p q) _
-    (λ e. ap is_eq e ∙ sym (ap is_eq (flipped page_cmp page_order p q Less e)))
-    (λ e. ap is_eq e ∙ sym (ap is_eq (flipped page_cmp page_order p q Equal e)))
-    (λ e. ap is_eq e ∙ sym (ap is_eq (flipped page_cmp page_order p q Greater e)))
+abbrev pub PlacesRise : Pairs → Type 0
+PlacesRise pairs = IsRising (on (λ e. e.0) nat_cmp) pairs
 
--- the map finds what the list of entries holds
-pub get_of : (pairs : Pairs) (q : PageId) → get (as_entries pairs) q ≡ find q pairs
-get_of [] q = refl
-get_of (e ∷ pairs) q = ap (λ t. cond t (Some e.1) (get (as_entries pairs) q)) (is_eq_flip e.0 q) ∙ ap (cond (is_eq (page_cmp q e.0)) (Some e.1)) (get_of pairs q)
+abbrev pub ArePlaces : Pairs → Type 0
+ArePlaces pairs = AllByRecursion (λ e. IsPlace e.0) pairs
+
+abbrev AreAbove : ℕ → Pairs → Type 0
+AreAbove p pairs = AllByRecursion (λ e. nat_cmp p e.0 ≡ Less) pairs
+
+-- what is found at a place is what the entries say of its page
+pub find-get : (place : ℕ) (pairs : Pairs) → IsPlace place → ArePlaces pairs → find place pairs ≡ get (as_entries pairs) (page_at place)
+find-get place [] is all = refl
+find-get place (e ∷ pairs) is all =
+    ap (λ t. cond t (Some e.1) (find place pairs)) (same_place place e.0 is all.0)
+    ∙ ap (cond (is_eq (page_cmp (page_at e.0) (page_at place))) (Some e.1)) (find-get place pairs is all.1)
 
 -- ---- one change undone
 
-removed : (p : PageId) (h : PageHist) (pairs : Pairs) → find p pairs ≡ None → remove_entry (is_at (page_cmp p)) (insert_entry page_cmp pairs p h) ≡ pairs
-removed p h [] none = let own : page_cmp p p ≡ Equal = tied_itself page_order.total p in rw own refl
-removed p h (e ∷ pairs) none = cases (removed p h pairs) (page_cmp p e.0) refl
+removed : (p : ℕ) (h : PageHist) (pairs : Pairs) → find p pairs ≡ None → remove_entry (is_at (nat_cmp p)) (insert_entry nat_cmp pairs p h) ≡ pairs
+removed p h [] none = let own : nat_cmp p p ≡ Equal = tied_itself nat_order.total p in rw own refl
+removed p h (e ∷ pairs) none = cases (removed p h pairs) (nat_cmp p e.0) refl
   where
-    own : page_cmp p p ≡ Equal
-    own = tied_itself page_order.total p
+    own : nat_cmp p p ≡ Equal
+    own = tied_itself nat_order.total p
 
-    cases : (find p pairs ≡ None → remove_entry (is_at (page_cmp p)) (insert_entry page_cmp pairs p h) ≡ pairs) → (o : Ordering) → page_cmp p e.0 ≡ o → remove_entry (is_at (page_cmp p)) (insert_entry page_cmp (e ∷ pairs) p h) ≡ e ∷ pairs
+    cases : (find p pairs ≡ None → remove_entry (is_at (nat_cmp p)) (insert_entry nat_cmp pairs p h) ≡ pairs) → (o : Ordering) → nat_cmp p e.0 ≡ o → remove_entry (is_at (nat_cmp p)) (insert_entry nat_cmp (e ∷ pairs) p h) ≡ e ∷ pairs
     cases later Less pe = rw pe (rw own refl)
     cases later Equal pe = let no : Some e.1 ≡ None = sym (ap (λ o. cond (is_eq o) (Some e.1) (find p pairs)) pe) ∙ none in absurd (cc)
     cases later Greater pe =
         let rest : find p pairs ≡ None = sym (ap (λ o. cond (is_eq o) (Some e.1) (find p pairs)) pe) ∙ none in
         rw pe (rw pe (ap (λ t. e ∷ t) (later rest)))
 
-no_later : (p : PageId) (pairs : Pairs) → AllByRecursion (λ (x : Entry). page_cmp p x.page ≡ Less) (as_entries pairs) → find p pairs ≡ None
+no_later : (p : ℕ) (pairs : Pairs) → AreAbove p pairs → find p pairs ≡ None
 no_later p [] all = refl
-no_later p (e ∷ pairs) all = let less : page_cmp p e.0 ≡ Less = all.0 in rw less (no_later p pairs all.1)
+no_later p (e ∷ pairs) all = let less : nat_cmp p e.0 ≡ Less = all.0 in rw less (no_later p pairs all.1)
 
-below_all : (p q : PageId) (pairs : Pairs) → page_cmp p q ≡ Less → AllByRecursion (λ (x : Entry). page_cmp q x.page ≡ Less) (as_entries pairs) → AllByRecursion (λ (x : Entry). page_cmp p x.page ≡ Less) (as_entries pairs)
+below_all : (p q : ℕ) (pairs : Pairs) → nat_cmp p q ≡ Less → AreAbove q pairs → AreAbove p pairs
 below_all p q [] less all = tt
-below_all p q (e ∷ pairs) less all = (page_order.total.trans p q e.0 less all.0, below_all p q pairs less all.1)
+below_all p q (e ∷ pairs) less all = (nat_order.total.trans p q e.0 less all.0, below_all p q pairs less all.1)
 
-same_value : (p : PageId) (h g : PageHist) (pairs : Pairs) → IsRising (on (λ (x : Entry). x.page) page_cmp) (as_entries pairs) → find p pairs ≡ Some g → set_value (is_at (page_cmp p)) (insert_entry page_cmp pairs p h) g ≡ pairs
+same_value : (p : ℕ) (h g : PageHist) (pairs : Pairs) → PlacesRise pairs → find p pairs ≡ Some g → set_value (is_at (nat_cmp p)) (insert_entry nat_cmp pairs p h) g ≡ pairs
 same_value p h g [] rising is = let no : None ≡ Some g = is in absurd (cc)
-same_value p h g (e ∷ pairs) rising is = cases (same_value p h g pairs rising.1) (page_cmp p e.0) refl
+same_value p h g (e ∷ pairs) rising is = cases (same_value p h g pairs rising.1) (nat_cmp p e.0) refl
   where
-    cases : (find p pairs ≡ Some g → set_value (is_at (page_cmp p)) (insert_entry page_cmp pairs p h) g ≡ pairs) → (o : Ordering) → page_cmp p e.0 ≡ o → set_value (is_at (page_cmp p)) (insert_entry page_cmp (e ∷ pairs) p h) g ≡ e ∷ pairs
+    cases : (find p pairs ≡ Some g → set_value (is_at (nat_cmp p)) (insert_entry nat_cmp pairs p h) g ≡ pairs) → (o : Ordering) → nat_cmp p e.0 ≡ o → set_value (is_at (nat_cmp p)) (insert_entry nat_cmp (e ∷ pairs) p h) g ≡ e ∷ pairs
     cases later Less pe =
         let rest : find p pairs ≡ Some g = sym (ap (λ o. cond (is_eq o) (Some e.1) (find p pairs)) pe) ∙ is in
         let no : None ≡ Some g = sym (no_later p pairs (below_all p e.0 pairs pe rising.0)) ∙ rest in
@@ -84,68 +95,172 @@ same_value p h g (e ∷ pairs) rising is = cases (same_value p h g pairs rising.
         let rest : find p pairs ≡ Some g = sym (ap (λ o. cond (is_eq o) (Some e.1) (find p pairs)) pe) ∙ is in
         rw pe (rw pe (ap (λ t. e ∷ t) (later rest)))
 
-pub put_back-insert : (p : PageId) (h : PageHist) (pairs : Pairs) → IsHistory (as_entries pairs) → (known : Option PageHist) → known ≡ find p pairs → put_back p known (insert_entry page_cmp pairs p h) ≡ pairs
-put_back-insert p h pairs whole None is = removed p h pairs (sym is)
-put_back-insert p h pairs whole (Some g) is = same_value p h g pairs whole.pages_rise (sym is)
+pub put_back-insert : (p : ℕ) (h : PageHist) (pairs : Pairs) → PlacesRise pairs → (known : Option PageHist) → known ≡ find p pairs → put_back p known (insert_entry nat_cmp pairs p h) ≡ pairs
+put_back-insert p h pairs rising None is = removed p h pairs (sym is)
+put_back-insert p h pairs rising (Some g) is = same_value p h g pairs rising (sym is)
 
 -- ---- an entry more
 
-above_insert : (q p : PageId) (h : PageHist) (pairs : Pairs) → page_cmp q p ≡ Less → AllByRecursion (λ (x : Entry). page_cmp q x.page ≡ Less) (as_entries pairs) → AllByRecursion (λ (x : Entry). page_cmp q x.page ≡ Less) (as_entries (insert_entry page_cmp pairs p h))
+above_insert : (q p : ℕ) (h : PageHist) (pairs : Pairs) → nat_cmp q p ≡ Less → AreAbove q pairs → AreAbove q (insert_entry nat_cmp pairs p h)
 above_insert q p h [] less all = (less, tt)
-above_insert q p h (e ∷ pairs) less all = by_cases (page_cmp p e.0) _
+above_insert q p h (e ∷ pairs) less all = by_cases (nat_cmp p e.0) _
     (λ pe. rw pe (less, all))
     (λ pe. rw pe all)
     (λ pe. rw pe (all.0, above_insert q p h pairs less all.1))
 
-rising_insert : (p : PageId) (h : PageHist) (pairs : Pairs) → IsRising (on (λ (x : Entry). x.page) page_cmp) (as_entries pairs) → IsRising (on (λ (x : Entry). x.page) page_cmp) (as_entries (insert_entry page_cmp pairs p h))
+rising_insert : (p : ℕ) (h : PageHist) (pairs : Pairs) → PlacesRise pairs → PlacesRise (insert_entry nat_cmp pairs p h)
 rising_insert p h [] rising = (tt, tt)
-rising_insert p h (e ∷ pairs) rising = by_cases (page_cmp p e.0) _
+rising_insert p h (e ∷ pairs) rising = by_cases (nat_cmp p e.0) _
     (λ pe. rw pe ((pe, below_all p e.0 pairs pe rising.0), rising))
     (λ pe. rw pe rising)
-    (λ pe. rw pe (above_insert e.0 p h pairs (flipped page_cmp page_order p e.0 Greater pe) rising.0, rising_insert p h pairs rising.1))
+    (λ pe. rw pe (above_insert e.0 p h pairs (flipped nat_cmp nat_order p e.0 Greater pe) rising.0, rising_insert p h pairs rising.1))
 
-pub no_pairs : (pairs : Pairs) → pairs ≡ [] → as_entries pairs ≡ []
-no_pairs pairs none = ap as_entries none
+places_insert : (p : ℕ) (h : PageHist) (pairs : Pairs) → IsPlace p → ArePlaces pairs → ArePlaces (insert_entry nat_cmp pairs p h)
+places_insert p h [] is all = (is, tt)
+places_insert p h (e ∷ pairs) is all = by_cases (nat_cmp p e.0) _
+    (λ pe. rw pe (is, all))
+    (λ pe. rw pe all)
+    (λ pe. rw pe (all.0, places_insert p h pairs is all.1))
 
-pub takes_pair : (old new : Pairs) (e : Entry) (h : PageHist) (known : Option PageHist) → IsHistory (as_entries old) → known ≡ find e.page old → Some h ≡ latest_of (stamps_held e.hist ++ held known) → new ≡ insert_entry page_cmp old e.page h → ((q : PageId) → find q new ≡ cond (is_eq (page_cmp e.page q)) (Some h) (find q old)) → TakesIn (as_entries old) e (as_entries new)
-takes_pair old new e h known whole is_known is is_new finds =
-    takes_in (as_entries old) (as_entries new) e whole
-    (subst (λ t. IsRising (on (λ (x : Entry). x.page) page_cmp) (as_entries t)) (sym is_new) (rising_insert e.page h old whole.pages_rise))
+falling_insert : (p : ℕ) (h : PageHist) (pairs : Pairs) → IsFalling h → AllByRecursion (λ (e : ℕ × PageHist). IsFalling e.1) pairs → AllByRecursion (λ (e : ℕ × PageHist). IsFalling e.1) (insert_entry nat_cmp pairs p h)
+falling_insert p h [] fall all = (fall, tt)
+falling_insert p h (e ∷ pairs) fall all = by_cases (nat_cmp p e.0) _
+    (λ pe. rw pe (fall, all))
+    (λ pe. rw pe (fall, all.1))
+    (λ pe. rw pe (all.0, falling_insert p h pairs fall all.1))
+
+-- the two latest of stamps fall
+falling_latest : (h : PageHist) (ss : List Stamp) → Some h ≡ latest_of ss → IsFalling h
+falling_latest h ss is =
+    let falls = flip_args stamp_cmp in
+    subst IsFallingIfAny (sym is) (falling_first_two (distinct falls ss) (distinct_rises falls (IsStrictOrder-flip stamp_cmp stamp_order) ss))
+
+again : {A : Type 0} (b : Bool) (x y z : A) → cond b x (cond b y z) ≡ cond b x z
+again true x y z = refl
+again false x y z = refl
+
+-- what the entries say with one more among them
+get-insert : (p : ℕ) (h : PageHist) (pairs : Pairs) → IsPlace p → ArePlaces pairs → (q : PageId) → get (as_entries (insert_entry nat_cmp pairs p h)) q ≡ cond (is_eq (page_cmp (page_at p) q)) (Some h) (get (as_entries pairs) q)
+get-insert p h [] is all q = refl
+get-insert p h (e ∷ pairs) is all q = by_cases (nat_cmp p e.0) _
+    (λ pe. rw pe refl)
+    (λ pe. let same : p ≡ e.0 = nat_order.same p e.0 pe in
+    rw pe (
+    sym (again (is_eq (page_cmp (page_at e.0) q)) (Some h) (Some e.1) (get (as_entries pairs) q))
+    ∙ ap (λ k. cond (is_eq (page_cmp (page_at k) q)) (Some h) (cond (is_eq (page_cmp (page_at e.0) q)) (Some e.1) (get (as_entries pairs) q))) (sym same)))
+    (λ pe. rw pe (
+    ap (cond (is_eq (page_cmp (page_at e.0) q)) (Some e.1)) (get-insert p h pairs is all.1 q)
+    ∙ either_first (is_eq (page_cmp (page_at e.0) q)) (is_eq (page_cmp (page_at p) q)) (Some e.1) (Some h) (get (as_entries pairs) q)
+    (λ there here.
+    let tied : is_eq (page_cmp (page_at e.0) (page_at p)) ≡ true = ap is_eq (both_same (page_at e.0) (page_at p) q there here) in
+    let equal : is_eq (nat_cmp p e.0) ≡ true = same_place p e.0 is all.0 ∙ tied in
+    let no : false ≡ true = sym (ap is_eq pe) ∙ equal in
+    absurd (cc))))
+
+-- ---- the history that pairs keep
+
+falling_entries : (pairs : Pairs) → AllByRecursion (λ (e : ℕ × PageHist). IsFalling e.1) pairs → AllByRecursion (λ (x : Entry). IsFalling x.hist) (as_entries pairs)
+falling_entries [] all = tt
+falling_entries (e ∷ pairs) all = (all.0, falling_entries pairs all.1)
+
+pub IsHistory-kept : (pairs : Pairs) → AreKept pairs → IsHistory (kept pairs)
+IsHistory-kept pairs are = IsHistory-in_order (as_entries pairs) (falling_entries pairs are.stamps_fall)
+
+pub get-kept : (pairs : Pairs) (q : PageId) → get (kept pairs) q ≡ get (as_entries pairs) q
+get-kept pairs q = get-in_order (as_entries pairs) q
+
+-- what is found at a place is what the history says of its page
+pub find-kept : (place : ℕ) (pairs : Pairs) → IsPlace place → AreKept pairs → find place pairs ≡ get (kept pairs) (page_at place)
+find-kept place pairs is are = find-get place pairs is are.are_places ∙ sym (get-kept pairs (page_at place))
+
+differing : (pairs : Pairs) → PlacesRise pairs → ArePlaces pairs → PagesDiffer (as_entries pairs)
+differing [] rising all = tt
+differing (e ∷ pairs) rising all = (sym (find-get e.0 pairs all.0 all.1) ∙ no_later e.0 pairs rising.0, differing pairs rising.1 all.1)
+
+pub permuted_kept : (pairs : Pairs) → AreKept pairs → IsPermutation (as_entries pairs) (kept pairs)
+permuted_kept pairs are = permuted_in_order (as_entries pairs) (differing pairs are.places_rise are.are_places)
+
+length_entries : (pairs : Pairs) → length (as_entries pairs) ≡ length pairs
+length_entries [] = refl
+length_entries (e ∷ pairs) = ap suc (length_entries pairs)
+
+pub length_kept : (pairs : Pairs) → AreKept pairs → length pairs ≡ length (kept pairs)
+length_kept pairs are = sym (length_permutation (as_entries pairs) (kept pairs) (permuted_kept pairs are) ∙ length_entries pairs)
+
+-- the pairs hold the references of their history
+told_differing : (es : List Entry) → PagesDiffer es → (p : PageId) → told (refs es) p ≡ held (get es p)
+told_differing [] differ p = refl
+told_differing (e ∷ es) differ p =
+    told-append (entry_refs e) (refs es) p
+    ∙ ap (λ ss. ss ++ told (refs es) p) (told_entry e.page e.hist p)
+    ∙ ap (λ ss. cond (is_eq (page_cmp e.page p)) (stamps_held e.hist) [] ++ ss) (told_differing es differ.1 p)
+    ∙ cases (is_eq (page_cmp e.page p)) refl
+  where
+    cases : (b : Bool) → is_eq (page_cmp e.page p) ≡ b → cond (is_eq (page_cmp e.page p)) (stamps_held e.hist) [] ++ held (get es p) ≡ held (cond (is_eq (page_cmp e.page p)) (Some e.hist) (get es p))
+    cases true here =
+        let tied : e.page ≡ p = page_order.same e.page p (is_equal (page_cmp e.page p) here) in
+        rw here (ap (λ x. stamps_held e.hist ++ held x) (ap (get es) (sym tied) ∙ differ.0) ∙ append-nil (stamps_held e.hist))
+    cases false other = rw other refl
+
+hist-pairs : (pairs : Pairs) → AreKept pairs → (p : PageId) → hist (refs (as_entries pairs)) p ≡ hist (refs (kept pairs)) p
+hist-pairs pairs are p =
+    ap (λ ss. first_two (distinct (flip_args stamp_cmp) ss)) (
+    told_differing (as_entries pairs) (differing pairs are.places_rise are.are_places) p
+    ∙ ap held (sym (get-kept pairs p))
+    ∙ sym (told_refs (kept pairs) (in_order_rises (as_entries pairs)) p))
+
+-- so either may be taken in
+pub told_by_pairs : (S : List Reference) (pairs : Pairs) → AreKept pairs → history (S ++ refs (as_entries pairs)) ≡ history (S ++ refs (kept pairs))
+told_by_pairs S pairs are = history_alike S S (refs (as_entries pairs)) (refs (kept pairs)) (λ p. refl) (hist-pairs pairs are)
+
+-- ---- an entry more is kept
+
+-- what is put at a place keeps the pairs as those of a history are
+pub kept_more : (old new : Pairs) (p : ℕ) (h : PageHist) (ss : List Stamp) → IsPlace p → AreKept old → Some h ≡ latest_of ss → new ≡ insert_entry nat_cmp old p h → AreKept new
+kept_more old new p h ss is are latest is_new = subst AreKept (sym is_new) (record {
+  places_rise = rising_insert p h old are.places_rise;
+  are_places = places_insert p h old is are.are_places;
+  stamps_fall = falling_insert p h old (falling_latest h ss latest) are.stamps_fall;
+})
+
+-- new is the history of what old holds, with an entry more
+pub exact_pair : (old new : Pairs) (p : ℕ) (more h : PageHist) (known : Option PageHist) → IsPlace p → AreKept old → known ≡ find p old → Some h ≡ latest_of (stamps_held more ++ held known) → new ≡ insert_entry nat_cmp old p h → kept new ≡ history (refs (kept old) ++ entry_refs (record { page = page_at p; hist = more }))
+exact_pair old new p more h known is are is_known latest is_new =
+    let e : Entry = record { page = page_at p; hist = more } in
+    let whole = IsHistory-kept old are in
+    (takes_in (kept old) (kept new) e whole (in_order_rises (as_entries new))
     (λ q.
-    get_of new q
-    ∙ finds q
-    ∙ ap (λ t. cond (is_eq (page_cmp e.page q)) t (find q old)) (is ∙ ap (λ k. latest_of (stamps_held e.hist ++ held k)) (is_known ∙ sym (get_of old e.page)))
-    ∙ ap (cond (is_eq (page_cmp e.page q)) (latest_of (stamps_held e.hist ++ held (get (as_entries old) e.page)))) (sym (get_of old q)))
+    get-kept new q
+    ∙ ap (λ t. get (as_entries t) q) is_new
+    ∙ get-insert p h old is are.are_places q
+    ∙ ap (λ t. cond (is_eq (page_cmp (page_at p) q)) t (get (as_entries old) q)) (latest ∙ ap (λ k. latest_of (stamps_held more ++ held k)) (is_known ∙ find-kept p old is are))
+    ∙ ap (cond (is_eq (page_cmp (page_at p) q)) (latest_of (stamps_held more ++ held (get (kept old) (page_at p))))) (sym (get-kept old q)))).told
+    (refs (kept old)) (sym (history_of_own_references (kept old) whole))
 
 -- ---- a list of changes undone
 
-pub undone_last : (ks : List Known) (k : Known) (pairs : Pairs) → undone (ks ++ k ∷ []) pairs ≡ undone ks (put_back k.page k.hist pairs)
+pub undone_last : (ks : List Known) (k : Known) (pairs : Pairs) → undone (ks ++ k ∷ []) pairs ≡ undone ks (put_back k.place k.hist pairs)
 undone_last [] k pairs = refl
-undone_last (x ∷ ks) k pairs = ap (put_back x.page x.hist) (undone_last ks k pairs)
+undone_last (x ∷ ks) k pairs = ap (put_back x.place x.hist) (undone_last ks k pairs)
 
 -- a change is undone before those that were noted earlier
 pub undone_more : (ks : List Known) (change : Option Known) (k : Known) (old new : Pairs) → change ≡ Some k → undone (noted change) new ≡ old → undone (ks ++ k ∷ []) new ≡ undone ks old
 undone_more ks change k old new is back = undone_last ks k new ∙ ap (undone ks) (ap (λ x. undone (noted x) new) (sym is) ∙ back)
 
-pub absent_value : (p : PageId) (g : PageHist) (pairs : Pairs) → find p pairs ≡ None → set_value (is_at (page_cmp p)) pairs g ≡ pairs
+pub absent_value : (p : ℕ) (g : PageHist) (pairs : Pairs) → find p pairs ≡ None → set_value (is_at (nat_cmp p)) pairs g ≡ pairs
 absent_value p g [] none = refl
-absent_value p g (e ∷ pairs) none = cases (absent_value p g pairs) (is_eq (page_cmp p e.0)) refl
+absent_value p g (e ∷ pairs) none = cases (absent_value p g pairs) (is_eq (nat_cmp p e.0)) refl
   where
-    cases : (find p pairs ≡ None → set_value (is_at (page_cmp p)) pairs g ≡ pairs) → (b : Bool) → is_eq (page_cmp p e.0) ≡ b → set_value (is_at (page_cmp p)) (e ∷ pairs) g ≡ e ∷ pairs
+    cases : (find p pairs ≡ None → set_value (is_at (nat_cmp p)) pairs g ≡ pairs) → (b : Bool) → is_eq (nat_cmp p e.0) ≡ b → set_value (is_at (nat_cmp p)) (e ∷ pairs) g ≡ e ∷ pairs
     cases later true is = let no : Some e.1 ≡ None = sym (ap (λ b. cond b (Some e.1) (find p pairs)) is) ∙ none in absurd (cc)
     cases later false is =
         let rest : find p pairs ≡ None = sym (ap (λ b. cond b (Some e.1) (find p pairs)) is) ∙ none in
         rw is (ap (λ t. e ∷ t) (later rest))
 
-pub put_back_absent : (p : PageId) (known : Option PageHist) (g : PageHist) (pairs : Pairs) → known ≡ Some g → find p pairs ≡ None → pairs ≡ put_back p known pairs
+pub put_back_absent : (p : ℕ) (known : Option PageHist) (g : PageHist) (pairs : Pairs) → known ≡ Some g → find p pairs ≡ None → pairs ≡ put_back p known pairs
 put_back_absent p known g pairs is none = sym (absent_value p g pairs none) ∙ ap (λ k. put_back p k pairs) (sym is)
 
 -- ---- going on
-
--- new is the history of what old holds, with an entry more
-pub exact_pair : (old new : Pairs) (e : Entry) (h : PageHist) (known : Option PageHist) → IsHistory (as_entries old) → known ≡ find e.page old → Some h ≡ latest_of (stamps_held e.hist ++ held known) → new ≡ insert_entry page_cmp old e.page h → ((q : PageId) → find q new ≡ cond (is_eq (page_cmp e.page q)) (Some h) (find q old)) → as_entries new ≡ history (refs (as_entries old) ++ entry_refs e)
-exact_pair old new e h known whole is_known is is_new finds =
-    (takes_pair old new e h known whole is_known is is_new finds).told (refs (as_entries old)) (sym (history_of_own_references (as_entries old) whole))
 
 -- what is left to take in says beside the new history what it said with the first of it beside the old one
 pub goes_on : (old new : List Entry) (first rest left : List Reference) (all : List Entry) → new ≡ history (refs old ++ first) → left ≡ first ++ rest → history (refs old ++ left) ≡ all → history (refs new ++ rest) ≡ all
@@ -166,11 +281,11 @@ all_taken new all left whole none so =
 
 -- ---- a value written at a page that is there
 
-pub set-insert : (p : PageId) (h g : PageHist) (pairs : Pairs) → IsRising (on (λ (x : Entry). x.page) page_cmp) (as_entries pairs) → find p pairs ≡ Some g → set_value (is_at (page_cmp p)) pairs h ≡ insert_entry page_cmp pairs p h
+pub set-insert : (p : ℕ) (h g : PageHist) (pairs : Pairs) → PlacesRise pairs → find p pairs ≡ Some g → set_value (is_at (nat_cmp p)) pairs h ≡ insert_entry nat_cmp pairs p h
 set-insert p h g [] rising is = let no : None ≡ Some g = is in absurd (cc)
-set-insert p h g (e ∷ pairs) rising is = cases (set-insert p h g pairs rising.1) (page_cmp p e.0) refl
+set-insert p h g (e ∷ pairs) rising is = cases (set-insert p h g pairs rising.1) (nat_cmp p e.0) refl
   where
-    cases : (find p pairs ≡ Some g → set_value (is_at (page_cmp p)) pairs h ≡ insert_entry page_cmp pairs p h) → (o : Ordering) → page_cmp p e.0 ≡ o → set_value (is_at (page_cmp p)) (e ∷ pairs) h ≡ insert_entry page_cmp (e ∷ pairs) p h
+    cases : (find p pairs ≡ Some g → set_value (is_at (nat_cmp p)) pairs h ≡ insert_entry nat_cmp pairs p h) → (o : Ordering) → nat_cmp p e.0 ≡ o → set_value (is_at (nat_cmp p)) (e ∷ pairs) h ≡ insert_entry nat_cmp (e ∷ pairs) p h
     cases later Less pe =
         let rest : find p pairs ≡ Some g = sym (ap (λ o. cond (is_eq o) (Some e.1) (find p pairs)) pe) ∙ is in
         let no : None ≡ Some g = sym (no_later p pairs (below_all p e.0 pairs pe rising.0)) ∙ rest in
@@ -182,9 +297,6 @@ set-insert p h g (e ∷ pairs) rising is = cases (set-insert p h g pairs rising.
 
 -- ---- steps of a loop
 
-pub whole_history : (h : List Entry) (S : List Reference) → h ≡ history S → IsHistory h
-whole_history h S is = subst IsHistory (sym is) (IsHistory-history S)
-
 pub left_more : {A : Type 0} (xs : List A) (i : ℕ) (x : A) → i < length xs → x ≡ get_or xs i x → drop i xs ≡ x ∷ drop (i + 1) xs
 left_more xs i x lt is = rw add-one (drop-cons xs i x lt ∙ ap (λ t. t ∷ drop (suc i) xs) (sym is))
 
@@ -195,31 +307,50 @@ pub as_it_is : {A : Type 0} (r : Option A) → r ≡ option_map (λ x. x) r
 as_it_is None = refl
 as_it_is (Some x) = refl
 
--- ---- entries after a page
+-- ---- the entries of a bucket
 
-pub all_between : (pairs : Pairs) → as_entries (entries_between page_cmp Unbounded Unbounded pairs) ≡ as_entries pairs
+pub all_between : (pairs : Pairs) → as_entries (entries_between nat_cmp Unbounded Unbounded pairs) ≡ as_entries pairs
 all_between [] = refl
-all_between (e ∷ pairs) = ap (λ t. record { page = e.0; hist = e.1 } ∷ t) (all_between pairs)
+all_between (e ∷ pairs) = ap (λ t. record { page = page_at e.0; hist = e.1 } ∷ t) (all_between pairs)
 
-pub later_between : (p : PageId) (pairs : Pairs) → as_entries (entries_between page_cmp (Excluded p) Unbounded pairs) ≡ filter (λ x. comes_after (Some p) x.page) (as_entries pairs)
-later_between p [] = refl
-later_between p (e ∷ pairs) = cases (is_lt (page_cmp p e.0)) refl (later_between p pairs)
+-- pairs of which those between two places are the ones of chosen pages
+pub between : (lo hi : Bound ℕ) (test : PageId → Bool) (pairs : Pairs) → ((k : ℕ) → IsPlace k → range_contains nat_cmp lo hi k ≡ test (page_at k)) → ArePlaces pairs → as_entries (entries_between nat_cmp lo hi pairs) ≡ filter (λ x. test x.page) (as_entries pairs)
+between lo hi test [] alike all = refl
+between lo hi test (e ∷ pairs) alike all = cases (test (page_at e.0)) refl (between lo hi test pairs alike all.1)
   where
-    cases : (b : Bool) → is_lt (page_cmp p e.0) ≡ b → as_entries (entries_between page_cmp (Excluded p) Unbounded pairs) ≡ filter (λ x. comes_after (Some p) x.page) (as_entries pairs) → as_entries (entries_between page_cmp (Excluded p) Unbounded (e ∷ pairs)) ≡ filter (λ x. comes_after (Some p) x.page) (as_entries (e ∷ pairs))
-    cases true is later = rw is (ap (λ t. record { page = e.0; hist = e.1 } ∷ t) later)
-    cases false is later = rw is later
+    cases : (b : Bool) → test (page_at e.0) ≡ b → as_entries (entries_between nat_cmp lo hi pairs) ≡ filter (λ x. test x.page) (as_entries pairs) → as_entries (entries_between nat_cmp lo hi (e ∷ pairs)) ≡ filter (λ x. test x.page) (as_entries (e ∷ pairs))
+    cases true is later =
+        let in_range : range_contains nat_cmp lo hi e.0 ≡ true = alike e.0 all.0 ∙ is in
+        rw (in_range, is) (ap (λ t. record { page = page_at e.0; hist = e.1 } ∷ t) later)
+    cases false is later =
+        let out : range_contains nat_cmp lo hi e.0 ≡ false = alike e.0 all.0 ∙ is in
+        rw (out, is) later
 
-pub all_after : (h : List Entry) → h ≡ filter (λ x. comes_after None x.page) h
-all_after [] = refl
-all_after (e ∷ h) = ap (λ t. e ∷ t) (all_after h)
+-- chosen pages of one bucket rise as their places do
+module _ (bucket : ℕ) (test : PageId → Bool) (of_bucket : (p : PageId) → test p ≡ true → page_bucket p ≡ bucket) where
+  chosen_above : (k : ℕ) (pairs : Pairs) → IsPlace k → page_bucket (page_at k) ≡ bucket → AreAbove k pairs → ArePlaces pairs → AllByRecursion (λ (x : Entry). page_cmp (page_at k) x.page ≡ Less) (filter (λ x. test x.page) (as_entries pairs))
+  chosen_above k [] is here above all = tt
+  chosen_above k (e ∷ pairs) is here above all = cases (test (page_at e.0)) refl (chosen_above k pairs is here above.1 all.1)
+    where
+      cases : (b : Bool) → test (page_at e.0) ≡ b → AllByRecursion (λ (x : Entry). page_cmp (page_at k) x.page ≡ Less) (filter (λ x. test x.page) (as_entries pairs)) → AllByRecursion (λ (x : Entry). page_cmp (page_at k) x.page ≡ Less) (filter (λ x. test x.page) (as_entries (e ∷ pairs)))
+      cases true passed later = rw passed (rising_pages k e.0 is all.0 (here ∙ sym (of_bucket (page_at e.0) passed)) above.0, later)
+      cases false failed later = rw failed later
 
--- of the later ones those in a bucket
-pub chosen_later : (bucket : ℕ) (after : Option PageId) (h : List Entry) → filter (λ x. page_bucket x.page == bucket) (filter (λ x. comes_after after x.page) h) ≡ filter (λ x. is_chosen bucket after x.page) h
-chosen_later bucket after [] = refl
-chosen_later bucket after (e ∷ h) = cases (comes_after after e.page) (page_bucket e.page == bucket) refl refl (chosen_later bucket after h)
-  where
-    cases : (b t : Bool) → comes_after after e.page ≡ b → (page_bucket e.page == bucket) ≡ t → filter (λ x. page_bucket x.page == bucket) (filter (λ x. comes_after after x.page) h) ≡ filter (λ x. is_chosen bucket after x.page) h → filter (λ x. page_bucket x.page == bucket) (filter (λ x. comes_after after x.page) (e ∷ h)) ≡ filter (λ x. is_chosen bucket after x.page) (e ∷ h)
-    cases true true is within later = rw is (rw within (ap (λ t. e ∷ t) later))
-    cases true false is within later = rw is (rw within later)
-    cases false true is within later = rw is (rw within later)
-    cases false false is within later = rw is (rw within later)
+  chosen_rise : (pairs : Pairs) → PlacesRise pairs → ArePlaces pairs → PagesRise (filter (λ x. test x.page) (as_entries pairs))
+  chosen_rise [] rising all = tt
+  chosen_rise (e ∷ pairs) rising all = cases (test (page_at e.0)) refl (chosen_rise pairs rising.1 all.1)
+    where
+      cases : (b : Bool) → test (page_at e.0) ≡ b → PagesRise (filter (λ x. test x.page) (as_entries pairs)) → PagesRise (filter (λ x. test x.page) (as_entries (e ∷ pairs)))
+      cases true passed later = rw passed (chosen_above e.0 pairs all.0 (of_bucket (page_at e.0) passed) rising.0 all.1, later)
+      cases false failed later = rw failed later
+
+  -- so they are in the map as they are in the history
+  pub chosen_kept : (pairs : Pairs) → AreKept pairs → filter (λ x. test x.page) (as_entries pairs) ≡ filter (λ x. test x.page) (kept pairs)
+  chosen_kept pairs are =
+      same_gets (filter (λ (x : Entry). test x.page) (as_entries pairs)) (filter (λ (x : Entry). test x.page) (kept pairs))
+      (chosen_rise pairs are.places_rise are.are_places)
+      (rising_filter (on (λ (x : Entry). x.page) page_cmp) (λ (x : Entry). test x.page) (kept pairs) (in_order_rises (as_entries pairs)))
+      (λ q.
+      get-filter test (as_entries pairs) q
+      ∙ ap (λ x. cond (test q) x None) (sym (get-kept pairs q))
+      ∙ sym (get-filter test (kept pairs) q))

@@ -34,6 +34,6 @@ AreCarried h bucket after limit es = (S : ReferenceSet) → StandsFor h S → es
 abbrev pub entries_after : Option PageId → List Entry → List Entry
 entries_after after es = filter (λ e. comes_after after e.page) es
 
--- the first entries of a list, at most limit, of those in the bucket
-abbrev pub first_of_bucket : ℕ → ℕ → List Entry → List Entry
-first_of_bucket bucket limit es = take limit (filter (λ e. page_bucket e.page == bucket) es)
+-- the entries of a bucket, in the order in which they are given
+abbrev pub bucket_entries : ℕ → List Entry → List Entry
+bucket_entries bucket = filter (λ e. page_bucket e.page == bucket)

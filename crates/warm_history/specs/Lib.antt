@@ -4,5 +4,7 @@ pub mod Carried
 pub mod Laws
 pub mod References
 pub mod LatestTwo
+pub mod Places
 pub mod Tree
+pub mod Merges
 pub mod Undo

@@ -1,22 +1,21 @@
 -- What undoes changes of a map that keeps a history.
-use Rattle.std.specs.Prelude.{◌≡◌, List, [], ◌∷◌, Option, Some, None}
+use Rattle.std.specs.Prelude.{◌≡◌, ℕ, List, [], ◌∷◌, Option, Some, None}
 use Rattle.std.specs.Map.{remove_entry, set_value}
 use Rattle.std.specs.BTreeMap.{is_at}
-use Rattle.warm_stamps.specs.declared.PageId.{PageId}
-use Rattle.warm_stamps.specs.Stamps.{page_cmp}
+use Rattle.std.specs.Ordering.{nat_cmp}
 use Rattle.warm_history.specs.declared.hist.PageHist.{PageHist}
 use Rattle.warm_history.specs.declared.tree.Known.{Known}
 use Rattle.warm_history.specs.Tree.{Pairs}
 
--- the pairs with what was known of the page put back
-abbrev pub put_back : PageId → Option PageHist → Pairs → Pairs
-put_back p None pairs = remove_entry (is_at (page_cmp p)) pairs
-put_back p (Some h) pairs = set_value (is_at (page_cmp p)) pairs h
+-- the pairs with what was known at the place put back
+abbrev pub put_back : ℕ → Option PageHist → Pairs → Pairs
+put_back place None pairs = remove_entry (is_at (nat_cmp place)) pairs
+put_back place (Some h) pairs = set_value (is_at (nat_cmp place)) pairs h
 
 -- and so for a list of notes, the last one first
 abbrev pub undone : List Known → Pairs → Pairs
 undone [] pairs = pairs
-undone (k ∷ ks) pairs = put_back k.page k.hist (undone ks pairs)
+undone (k ∷ ks) pairs = put_back k.place k.hist (undone ks pairs)
 
 -- the notes of a change, if there was one
 abbrev pub noted : Option Known → List Known

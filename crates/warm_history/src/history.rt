@@ -1,39 +1,43 @@
-//! Histories, as maps from pages.
-ghost use Rattle.std.specs.Prelude.{◌≡◌, ◌≤◌, [], length, OnOk, OnErr, IfOk, slice_get};
+//! Histories, as maps from places: the entries of a bucket lie together.
+ghost use Rattle.std.specs.Prelude.{◌≡◌, ◌≤◌, [], length, OnOk, OnErr, IfOk, IsPermutation, slice_get, take};
 ghost use Rattle.warm_history.specs.ReferenceSets.{ReferenceSet, these, ◌∪◌};
 ghost use Rattle.warm_history.specs.Histories.{entries_of, holding, hist, refs, history, join, StandsFor, TakesIn, IsHistory};
-ghost use Rattle.warm_history.specs.Carried.{AreCarried, entries_after, first_of_bucket};
+ghost use Rattle.warm_history.specs.Carried.{AreCarried, bucket_entries};
+ghost use Rattle.warm_history.specs.Merges.{later_of_bucket};
 
 use crate::hist::{Entry, PageHist};
+use crate::merges::{AllParts, Source, all_parts};
+use crate::parts::{later_pairs, next_entry};
 use crate::tree::{known_of, take_entries, take_pairs, take_references};
 use std::alloc::{AllocError, Global};
 use std::collections::BTreeMap;
 use std::collections::btree_map::Range;
 use std::marker::Model;
-use std::ops::Bound;
-use warm_stamps::{Bucket, PageId, Reference, bucket_of};
+use warm_stamps::{Bucket, PageId, Reference};
 
 /// The two latest stamps of every page that was referenced.
 ///
 /// Contracts see a history as the list of its entries, in rising page order. What it is worth is
 /// said over references: it *stands for* each list of references whose history it is.
 ///
+/// The entries of a bucket lie together, so what is asked of a bucket costs that bucket alone.
+///
 /// Growing calls are all or nothing: where memory is refused, the history is as before.
 #[derive(Debug, Drop)]
 pub struct History {
     alloc: Global,
-    pairs: BTreeMap<PageId, PageHist>,
+    pairs: BTreeMap<u64, PageHist>,
 }
 
 impl Model for History {
-    ghost use Rattle.warm_history.specs.Histories.{HistoryView, IsHistory};
-    ghost use Rattle.warm_history.specs.Tree.{kept};
+    ghost use Rattle.warm_history.specs.Histories.{HistoryView};
+    ghost use Rattle.warm_history.specs.Tree.{kept, AreKept};
 
     ghost Value = { HistoryView };
 
     ghost view = { λ h. kept h.pairs.entries };
 
-    ghost invariant = { λ h. IsHistory (kept h.pairs.entries) };
+    ghost invariant = { λ h. AreKept h.pairs.entries };
 }
 
 impl History {
@@ -56,10 +60,9 @@ impl History {
         self.pairs.len()
     }
 
-    /// The entry at place `i` in page order, counted from 0, where there is one. Takes no memory.
+    /// The entry of number `i` in page order, counted from 0, where there is one. Takes no memory.
     ///
-    /// To go over all entries use [`History::iter`]: a look-up by place may cost more than one
-    /// step.
+    /// It goes over the `i` entries before it, as [`History::iter`] does: to go over all use that.
     pub fn at(&self, i: usize) -> Option<Entry>
         ensures { result ≡ slice_get (entries_of self.now) i }
     {
@@ -67,10 +70,35 @@ impl History {
     }
 
     /// The entries, in rising page order. Takes no memory.
+    ///
+    /// To begin costs a look-up for each of the 64 buckets, and each entry then six compares of pages
+    /// and a step within its bucket: where the order doesn't matter, [`History::unordered`] is sooner.
     pub fn iter(&self) -> Entries<'_>
         ensures { result ≡ entries_of self.now }
     {
-        self.later(None)
+        Entries {
+            left: all_parts(&self.pairs),
+        }
+    }
+
+    /// The entries of a bucket, in rising page order. Takes no memory.
+    ///
+    /// To begin costs a look-up, and each entry a step: entries of other buckets cost nothing.
+    pub fn bucket(&self, bucket: Bucket) -> BucketEntries<'_>
+        ensures { result ≡ bucket_entries bucket (entries_of self.now) }
+    {
+        self.later(bucket, None)
+    }
+
+    /// The entries, in no order that is promised: sooner than [`History::iter`]. Takes no memory.
+    ///
+    /// To begin costs a look-up, and each entry a step.
+    pub fn unordered(&self) -> Unordered<'_>
+        ensures { IsPermutation (entries_of self.now) result }
+    {
+        Unordered {
+            left: self.pairs.range(..),
+        }
     }
 
     /// The two latest stamps of a page, where it was referenced. Takes no memory.
@@ -134,9 +162,10 @@ impl History {
 
     /// The first `limit` entries, in page order, of those in the bucket whose page is greater
     /// than `after`; of all in the bucket, where `after` is `None`. They are a history themselves: their
-    /// pages rise, and the stamps of each page fall.
+    /// pages rise, and the stamps of each page fall. The page `after` may be of any bucket.
     ///
-    /// `AllocError` comes only where room for them was refused.
+    /// It costs a look-up, and a step for each entry that is given: no other is read. `AllocError`
+    /// comes only where room for them was refused.
     pub fn entries(
         &self,
         bucket: Bucket,
@@ -147,40 +176,35 @@ impl History {
         ensures whole { IfOk result (λ es. IsHistory (holding es.items)) }
         ensures limited { IfOk result (λ es. length es.items ≤ limit) }
     {
-        chosen(self.alloc, self.later(after), bucket, limit)
+        first_entries(self.alloc, self.later(bucket, after), limit)
     }
 
-    // The entries whose page is greater than the one given, if one is: all where none is.
-    fn later(&self, after: Option<PageId>) -> Entries<'_>
-        ensures { result ≡ entries_after after (entries_of self.now) }
+    // The entries of a bucket whose page is greater than the one given, where one is given.
+    fn later(&self, bucket: Bucket, after: Option<PageId>) -> BucketEntries<'_>
+        ensures { result ≡ later_of_bucket bucket after self.now }
     {
-        match after {
-            None => Entries {
-                left: self.pairs.range(..),
-            },
-            Some(last) => Entries {
-                left: self.pairs.range((Bound::Excluded(last), Bound::Unbounded)),
-            },
+        BucketEntries {
+            left: later_pairs(&self.pairs, bucket.get(), after),
         }
     }
 }
 
-/// Goes over the entries of a history in rising page order.
+/// Goes over the entries of a history in rising page order: its buckets are merged.
 ///
 /// Contracts see it as the list of the entries that are left.
 #[derive(Debug, Drop)]
 pub struct Entries<'a> {
-    left: Range<'a, PageId, PageHist>,
+    left: AllParts<'a>,
 }
 
 impl<'a> Model for Entries<'a> {
     ghost use Rattle.std.specs.Prelude.{List};
     ghost use Rattle.warm_history.specs.declared.hist.Entry.{Entry};
-    ghost use Rattle.warm_history.specs.Tree.{as_entries};
+    ghost use Rattle.warm_history.specs.Merges.{all_left};
 
     ghost Value = { List Entry };
 
-    ghost view = { λ entries. as_entries entries.left };
+    ghost view = { λ entries. all_left entries.left };
 }
 
 impl<'a> Iterator for Entries<'a> {
@@ -193,27 +217,83 @@ impl<'a> Iterator for Entries<'a> {
     ghost remaining = { item_count (λ entries. entries) };
 
     fn next(&mut self) -> Option<Entry> {
-        let (page, hist) = self.left.next()?;
-        Some(Entry {
-            page: *page,
-            hist: *hist,
-        })
+        self.left.take_first()
     }
 }
 
-// The first `limit` of the entries that are in the bucket.
-fn chosen(
+/// Goes over the entries of a bucket in rising page order.
+///
+/// Contracts see it as the list of the entries that are left.
+#[derive(Debug, Drop)]
+pub struct BucketEntries<'a> {
+    left: Range<'a, u64, PageHist>,
+}
+
+impl<'a> Model for BucketEntries<'a> {
+    ghost use Rattle.std.specs.Prelude.{List};
+    ghost use Rattle.warm_history.specs.declared.hist.Entry.{Entry};
+    ghost use Rattle.warm_history.specs.Tree.{as_entries};
+
+    ghost Value = { List Entry };
+
+    ghost view = { λ entries. as_entries entries.left };
+}
+
+impl<'a> Iterator for BucketEntries<'a> {
+    ghost use Rattle.std.specs.Iterator.{YieldsFirst, item_count};
+
+    type Item = Entry;
+
+    ghost next_gives = { YieldsFirst (λ entries. entries) };
+
+    ghost remaining = { item_count (λ entries. entries) };
+
+    fn next(&mut self) -> Option<Entry> {
+        next_entry(&mut self.left)
+    }
+}
+
+/// Goes over the entries of a history in no order that is promised.
+///
+/// Contracts see it as the list of the entries that are left.
+#[derive(Debug, Drop)]
+pub struct Unordered<'a> {
+    left: Range<'a, u64, PageHist>,
+}
+
+impl<'a> Model for Unordered<'a> {
+    ghost use Rattle.std.specs.Prelude.{List};
+    ghost use Rattle.warm_history.specs.declared.hist.Entry.{Entry};
+    ghost use Rattle.warm_history.specs.Tree.{as_entries};
+
+    ghost Value = { List Entry };
+
+    ghost view = { λ entries. as_entries entries.left };
+}
+
+impl<'a> Iterator for Unordered<'a> {
+    ghost use Rattle.std.specs.Iterator.{YieldsFirst, item_count};
+
+    type Item = Entry;
+
+    ghost next_gives = { YieldsFirst (λ entries. entries) };
+
+    ghost remaining = { item_count (λ entries. entries) };
+
+    fn next(&mut self) -> Option<Entry> {
+        next_entry(&mut self.left)
+    }
+}
+
+// The first `limit` of the entries.
+fn first_entries(
     alloc: Global,
-    entries: Entries<'_>,
-    bucket: Bucket,
+    entries: BucketEntries<'_>,
     limit: usize,
 ) -> Result<Vec<Entry>, AllocError>
-    ensures { IfOk result (λ es. es.items ≡ first_of_bucket bucket limit entries.entry) }
+    ensures { IfOk result (λ es. es.items ≡ take limit entries.entry) }
 {
-    entries
-        .filter(|entry| bucket_of(entry.page) == bucket)
-        .take(limit)
-        .collect(alloc)
+    entries.take(limit).collect(alloc)
 }
 
 #[cfg(test)]

@@ -13,9 +13,12 @@
 mod hist;
 mod history;
 pub mod laws;
+mod merges;
 mod order;
+mod parts;
+mod place;
 mod tree;
 
 pub use hist::{Entry, PageHist, Two, join_hist};
-pub use history::{Entries, History};
+pub use history::{BucketEntries, Entries, History, Unordered};
 pub use order::pages_rise;

@@ -8,7 +8,7 @@ use Rattle.std.specs.declared.cmp.Ordering.{Ordering}
 use Rattle.std.specs.declared.cmp.Ordering.TheVariants.{Less, Equal}
 use Rattle.std.proofs.lemmas.Cmp.{tied_itself}
 use Rattle.std.proofs.lemmas.List.{take-map, length-reverse}
-use Rattle.std.proofs.lemmas.List.Sorted.{IsPermutation-refl, length_permutation}
+use Rattle.std.proofs.lemmas.List.Sorted.{IsPermutation-trans, length_permutation}
 use Rattle.warm_stamps.specs.declared.PageId.{PageId}
 use Rattle.warm_stamps.specs.declared.Reference.{Reference}
 use Rattle.warm_stamps.specs.Stamps.{page_cmp}
@@ -106,8 +106,8 @@ no_ties f (p ∷ ps) rising x =
     omega (arith, ties-here packed_cmp packed_order x key keys tied, ap (λ k. ties packed_cmp k keys) same ∙ none_tied f p ps rising.0))
     (λ more. omega (arith, ties-other packed_cmp packed_order x key keys (ap is_eq more), no_ties f ps rising.1 x))
 
-history_has_no_ties : (S : ReferenceSet) (keys : List PackedKey) → keys ≡ packed_keys (history S) → HasNoTies packed_cmp keys
-history_has_no_ties S keys is = subst (HasNoTies packed_cmp) (sym (is ∙ packed_of_pages S)) (no_ties (hist S) (pages S) (distinct_rises page_cmp page_order (map (λ (r : Reference). r.page) (references S))))
+history_has_no_ties : (S : ReferenceSet) → HasNoTies packed_cmp (packed_keys (history S))
+history_has_no_ties S = subst (HasNoTies packed_cmp) (sym (packed_of_pages S)) (no_ties (hist S) (pages S) (distinct_rises page_cmp page_order (map (λ (r : Reference). r.page) (references S))))
 
 -- ---- the warm-up list from a part of the keys, or from all, once it is sorted
 
@@ -124,22 +124,21 @@ all_of [] (suc n) short = refl
 all_of (x ∷ xs) zero short = absurd (omega arith)
 all_of (x ∷ xs) (suc n) short = ap (λ t. x ∷ t) (all_of xs n (omega arith))
 
--- keys of which no item of top is below one of rest
-warm_from_parts : (S : ReferenceSet) (n : ℕ) (keys rest top sorted : List PackedKey) → keys ≡ packed_keys (history S) → IsPermutation keys (rest ++ top) → IsAbove packed_cmp rest top → IsPermutation top sorted → IsSorted packed_cmp sorted
+-- a part of a history's keys of which no item is below one of the rest
+warm_from_parts : (S : ReferenceSet) (n : ℕ) (rest top sorted : List PackedKey) → IsPermutation (packed_keys (history S)) (rest ++ top) → IsAbove packed_cmp rest top → IsPermutation top sorted → IsSorted packed_cmp sorted
     → take n (reverse sorted ++ distinct (flip_args packed_cmp) rest) ≡ reverse sorted → map packed_page (reverse sorted) ≡ warm S n
-warm_from_parts S n keys rest top sorted is parted above moved in_order first =
-    ap (map packed_page) (sym first ∙ ap (take n) (sym (distinct-falling packed_cmp packed_order keys rest top sorted (history_has_no_ties S keys is) parted above moved in_order)))
-    ∙ ap (λ ks. map packed_page (take n (distinct (flip_args packed_cmp) ks))) is
+warm_from_parts S n rest top sorted parted above moved in_order first =
+    ap (map packed_page) (sym first ∙ ap (take n) (sym (distinct-falling packed_cmp packed_order (packed_keys (history S)) rest top sorted (history_has_no_ties S) parted above moved in_order)))
     ∙ warm_from_keys S n
 
--- the n greatest keys
-pub warm_from_greatest : (S : ReferenceSet) (n : ℕ) (keys top sorted : List PackedKey) → keys ≡ packed_keys (history S) → AreGreatest packed_cmp keys n top → IsPermutation top sorted → IsSorted packed_cmp sorted → map packed_page (reverse sorted) ≡ warm S n
-warm_from_greatest S n keys top sorted is great moved in_order =
-    warm_from_parts S n keys (great.others ++ great.next ∷ []) top sorted is (subst (IsPermutation keys) (sym (append_assoc great.others (great.next ∷ []) top)) great.parts) (above_from_split packed_cmp packed_order great.others great.next top great.split) moved in_order
+-- the n greatest of a history's keys in any order
+pub warm_from_greatest : (S : ReferenceSet) (n : ℕ) (keys top sorted : List PackedKey) → IsPermutation (packed_keys (history S)) keys → AreGreatest packed_cmp keys n top → IsPermutation top sorted → IsSorted packed_cmp sorted → map packed_page (reverse sorted) ≡ warm S n
+warm_from_greatest S n keys top sorted given great moved in_order =
+    warm_from_parts S n (great.others ++ great.next ∷ []) top sorted (IsPermutation-trans (packed_keys (history S)) keys ((great.others ++ great.next ∷ []) ++ top) given (subst (IsPermutation keys) (sym (append_assoc great.others (great.next ∷ []) top)) great.parts)) (above_from_split packed_cmp packed_order great.others great.next top great.split) moved in_order
     (first_of (reverse sorted) _ n (length-reverse sorted ∙ length_permutation top sorted moved ∙ great.count))
 
--- all keys
-pub warm_from_all : (S : ReferenceSet) (n : ℕ) (keys sorted : List PackedKey) → keys ≡ packed_keys (history S) → length keys ≤ n → IsPermutation keys sorted → IsSorted packed_cmp sorted → map packed_page (reverse sorted) ≡ warm S n
-warm_from_all S n keys sorted is short moved in_order =
-    warm_from_parts S n keys [] keys sorted is (IsPermutation-refl keys) (λ r t none has. absurd none) moved in_order
+-- all of a history's keys in any order
+pub warm_from_all : (S : ReferenceSet) (n : ℕ) (keys sorted : List PackedKey) → IsPermutation (packed_keys (history S)) keys → length keys ≤ n → IsPermutation keys sorted → IsSorted packed_cmp sorted → map packed_page (reverse sorted) ≡ warm S n
+warm_from_all S n keys sorted given short moved in_order =
+    warm_from_parts S n [] keys sorted given (λ r t none has. absurd none) moved in_order
     (all_of (reverse sorted) n (omega (arith, length-reverse sorted, length_permutation keys sorted moved)))

@@ -1,5 +1,5 @@
 -- Warm-up lists, made from what a history keeps.
-use Rattle.std.specs.Prelude.{◌≡◌, ℕ, List}
+use Rattle.std.specs.Prelude.{◌≡◌, ℕ, List, IsPermutation}
 use Rattle.warm_stamps.specs.declared.PageId.{PageId}
 use Rattle.warm_history.specs.ReferenceSets.{ReferenceSet}
 use Rattle.warm_history.specs.Histories.{HistoryView, history, StandsFor}
@@ -11,6 +11,6 @@ use Rattle.warm_rank.specs.Ranking.{warm}
 abbrev pub IsWarmUp : HistoryView → ℕ → List PageId → Type 0
 IsWarmUp h n ps = (S : ReferenceSet) → StandsFor h S → ps ≡ warm S n
 
--- the n pages that leave last, whichever references have a history with these keys
+-- the n pages that leave last, whichever references have a history with these keys, in any order
 abbrev pub IsWarmUpOfKeys : List PackedKey → ℕ → List PageId → Type 0
-IsWarmUpOfKeys keys n ps = (S : ReferenceSet) → keys ≡ packed_keys (history S) → ps ≡ warm S n
+IsWarmUpOfKeys keys n ps = (S : ReferenceSet) → IsPermutation (packed_keys (history S)) keys → ps ≡ warm S n

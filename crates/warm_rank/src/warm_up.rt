@@ -8,7 +8,7 @@ ghost use Rattle.warm_rank.specs.WarmUp.{IsWarmUp, IsWarmUpOfKeys};
 use crate::key_of;
 use crate::packed::PackedKey;
 use std::alloc::{AllocError, Global};
-use warm_history::{Entry, History};
+use warm_history::{Entry, History, Unordered};
 use warm_stamps::PageId;
 
 /// The warm-up list: the `n` pages of a history that leave last, the hottest first; all pages where it has fewer.
@@ -25,12 +25,25 @@ pub fn warm_list(alloc: Global, history: &History, n: usize) -> Result<Vec<PageI
     Ok(pages)
 }
 
-// The keys of all entries.
+// The keys of all entries, in any order.
 fn keys_of(alloc: Global, history: &History) -> Result<Vec<PackedKey>, AllocError>
-    ensures { IfOk result (λ keys. keys.items ≡ packed_keys history.now) }
+    ensures { IfOk result (λ keys. IsPermutation (packed_keys history.now) keys.items) }
 {
-    let mut keys = Vec::with_capacity(alloc, history.len())?;
-    for entry in history.iter() {
+    let keys = keys_of_entries(alloc, history.len(), history.unordered())?;
+    Ok(keys)
+}
+
+// The keys of entries; room for `count` of them is taken first.
+fn keys_of_entries(
+    alloc: Global,
+    count: usize,
+    entries: Unordered<'_>,
+) -> Result<Vec<PackedKey>, AllocError>
+    ensures { IfOk result (λ keys.
+        keys.items ≡ map (λ e. packed_key (entry_key e)) entries.entry) }
+{
+    let mut keys = Vec::with_capacity(alloc, count)?;
+    for entry in entries {
         keys.push(key_of_entry(entry))?;
     }
     Ok(keys)

@@ -1,15 +1,13 @@
 -- Jobs one after another, each ended into one pass.
-use Rattle.std.proofs.Common.{◌≡◌, ◌≤◌, ℕ, suc, List, [], ◌∷◌, ◌++◌, length, refl, sym, ap, ◌∙◌, subst, append_assoc, append-nil, ◌<◌, ◌+◌, arith}
+use Rattle.std.proofs.Common.{◌≡◌, ◌≤◌, ℕ, suc, List, [], ◌∷◌, ◌++◌, length, refl, sym, ap, subst, ◌<◌, arith}
 use Rattle.std.proofs.lemmas.List.{length-append}
-use mathlib.Core.List.{IsPrefix}
 use Rattle.warm_turn.specs.declared.board.Entry.{Entry}
 use Rattle.warm_turn.specs.declared.board.Ended.{Ended}
 use Rattle.warm_turn.specs.declared.board.View.{View}
-use Rattle.warm_turn.specs.Turns.{Extended, Joined, Widened, as_ended, settled, joined, new_pass}
+use Rattle.warm_turn.specs.Turns.{Joined, Widened, as_ended, new_pass}
 use Rattle.warm_turn.proofs.Passes.{Widened-self, Widened-joined, Widened-trans}
 use Rattle.warm_replica.specs.Jobs.{AllGave, JobWent, WentAs}
 use Rattle.warm_replica.specs.Pairs.{Triples}
-use Rattle.warm_stamps.specs.declared.Reference.{Reference}
 use Rattle.warm_gossip.specs.declared.call.Call.{Call}
 use Rattle.warm_gossip.specs.declared.call.Reply.{Reply}
 use Rattle.warm_replica.specs.declared.job.Step.{Step}

@@ -1,9 +1,5 @@
 -- Steps of a job, one after another.
-use Rattle.std.proofs.Common.{◌≡◌, ◌⊎◌, ℕ, ◌<◌, List, [], ◌∷◌, ◌++◌, refl, sym, ap, ◌∙◌, subst, append_assoc, append-nil}
-use mathlib.Core.List.{IsPrefix}
-use Rattle.warm_turn.specs.declared.board.Entry.{Entry}
-use Rattle.warm_turn.specs.declared.board.View.{View}
-use Rattle.warm_turn.specs.Turns.{Called, entry, Extended, marked}
+use Rattle.std.proofs.Common.{◌≡◌, ℕ, List, [], ◌∷◌, ◌++◌, refl, sym, ap, ◌∙◌, subst, append_assoc, append-nil}
 use Rattle.warm_turn.proofs.Passes.{Extended-self, Extended-trans}
 use Rattle.warm_replica.specs.Working.{Working}
 use Rattle.warm_replica.specs.Jobs.{Calls, Gave, AllGave, StepWent, StepsWent}

@@ -1,5 +1,5 @@
 -- One step of a job, for each way in which it may be answered.
-use Rattle.std.proofs.Common.{◌≡◌, ◌⊎◌, ◌<◌, ◌≤◌, ℕ, [], ◌∷◌, ◌++◌, List, length, true, false, Result, Ok, Err, IsOk, refl, sym, ap, ◌∙◌, subst, inl, inr, ⊎_elim, suc, arith}
+use Rattle.std.proofs.Common.{◌≡◌, ◌<◌, ◌≤◌, [], ◌∷◌, ◌++◌, length, true, false, Result, Ok, Err, IsOk, refl, sym, ap, subst, inl, inr, ⊎_elim, suc, arith}
 use Rattle.std.proofs.Math.Nat.{lt_of_not-le}
 use Rattle.warm_stamps.specs.declared.Reference.{Reference}
 use Rattle.warm_refbuffer.specs.declared.Full.{Full as Back}
@@ -15,9 +15,8 @@ use Rattle.warm_replica.specs.declared.fault.FlushFault.{FlushFault}
 use Rattle.warm_replica.specs.declared.fault.FlushFault.TheVariants.{Memory, TurnsSpent}
 use Rattle.warm_replica.specs.declared.job.Step.{Step}
 use Rattle.warm_replica.specs.declared.job.Step.TheVariants.{Touch, Flush, Make}
-use Rattle.warm_replica.specs.declared.job.StepReply.{StepReply}
 use Rattle.warm_replica.specs.declared.job.StepReply.TheVariants.{Touched, Full, Flushed, Answered, Failed}
-use Rattle.warm_replica.specs.Jobs.{Calls, Gave, StepWent}
+use Rattle.warm_replica.specs.Jobs.{Gave, StepWent}
 use Rattle.warm_replica.specs.Working.{Working, Flushes, KeepsBatch}
 
 -- a result is not both good and bad

@@ -2,16 +2,17 @@
 ghost use Rattle.std.specs.Prelude.{◌≡◌, ◌≤◌, [], length, vec_capacity};
 ghost use Rattle.warm_replica.specs.Jobs.{StepWent, StepsWent};
 
+use crate::boxed::{BoxedCall, BoxedReply};
 use crate::fault::FlushFault;
 use crate::worker::{Absorbing, Worker};
 use std::alloc::Global;
 use std::sync::Wait;
-use warm_gossip::{Call, Reply};
 use warm_refbuffer::Full;
 use warm_stamps::Reference;
 use warm_turn::Turn;
 
-/// A step of a job.
+/// A step of a job. A step and its reply take a few words: calls and replies are in memory of their own, for which the room is
+/// there before the job begins.
 #[derive(Drop)]
 pub enum Step {
     /// Put a reference into the buffer.
@@ -19,7 +20,7 @@ pub enum Step {
     /// Have the replica absorb what the buffer holds.
     Flush,
     /// Make a call.
-    Make(Call),
+    Make(BoxedCall),
 }
 
 /// How a step was answered.
@@ -32,7 +33,7 @@ pub enum StepReply {
     /// The replica has absorbed what the buffer held, which is empty.
     Flushed,
     /// The reply to the call.
-    Answered(Reply),
+    Answered(BoxedReply),
     /// The flush was refused, or no ticket was left for the call.
     Failed(FlushFault),
 }
@@ -76,10 +77,13 @@ fn take_step<M: Absorbing, R: Wait>(
             Ok(()) => StepReply::Flushed,
             Err(fault) => StepReply::Failed(fault),
         },
-        Step::Make(call) => match worker.call(rt, replica, call) {
-            Ok(reply) => StepReply::Answered(reply),
-            Err(_) => StepReply::Failed(FlushFault::TurnsSpent),
-        },
+        Step::Make(boxed) => {
+            let (call, room) = boxed.into_parts();
+            match worker.call(rt, replica, call) {
+                Ok(reply) => StepReply::Answered(room.with(reply)),
+                Err(_) => StepReply::Failed(FlushFault::TurnsSpent),
+            }
+        }
     }
 }
 

@@ -7,7 +7,7 @@ use Rattle.warm_stamps.specs.declared.PageId.{PageId}
 use Rattle.warm_history.specs.declared.hist.Entry.{Entry}
 use Rattle.warm_history.specs.ReferenceSets.{ReferenceSet}
 use Rattle.warm_history.specs.Histories.{HistoryView, entries_of, history, refs}
-use Rattle.warm_history.specs.Carried.{carried}
+use Rattle.warm_history.specs.Carried.{bucket_entries, carried}
 use Rattle.warm_history.proofs.CarriedLemmas.{history-carried}
 use Rattle.warm_history.proofs.HistoryLemmas.{hist_refs-history, same_hists}
 use Rattle.warm_history.proofs.JoinLemmas.{history_first, history_second}
@@ -18,7 +18,7 @@ use Rattle.warm_frames.specs.declared.frame.Frame.{Frame}
 use Rattle.warm_frames.specs.declared.frame.Frame.TheVariants.{Digest, Entries, Want}
 use Rattle.warm_frames.specs.declared.fault.FrameFault.{FrameFault}
 use Rattle.warm_frames.specs.Reading.{Gives}
-use Rattle.warm_digest.specs.BucketSums.{bucket_entries, sums_of}
+use Rattle.warm_digest.specs.BucketSums.{sums_of}
 use Rattle.warm_gossip.specs.Answers.{IsAnswer, bucket_frames, buckets_in, pieces, sent, taught, wanted_frames}
 use Rattle.warm_gossip.specs.Pieces.{AreInTurn, last_page}
 use Rattle.warm_gossip.proofs.PieceLemmas.{pieces_in_turn}

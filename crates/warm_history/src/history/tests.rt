@@ -6,7 +6,7 @@ use super::*;
 use crate::hist::{Two, join_hist};
 use std::process::Abort;
 use std::test::Fail;
-use warm_stamps::{BadReplica, ReplicaId, Stamp};
+use warm_stamps::{BadReplica, ReplicaId, Stamp, bucket_of};
 
 fn page(dev: u16, no: u32) -> PageId {
     PageId { dev, no }
@@ -305,5 +305,108 @@ fn a_refused_batch_leaves_the_hundred_pages(rt: HostRuntime) -> Result<(), Fail>
     assert_eq!(rt; here.get(page(0, 3)), Some(once(20, 1)?));
     let both = twice(&rt, stamp(20, 1)?, stamp(10, 1)?);
     assert_eq!(rt; here.get(page(0, 10)), Some(both));
+    Ok(())
+}
+
+// Pages of several devices and buckets, in page order: each with the number of its bucket.
+const SPREAD: [(u16, u32, u8); 9] = [
+    (0, 0, 0),
+    (0, 1, 1),
+    (0, 63, 63),
+    (0, 64, 0),
+    (0, 4_294_967_295, 63),
+    (1, 0, 1),
+    (1, 63, 0),
+    (65_535, 1, 0),
+    (65_535, 4_294_967_295, 62),
+];
+
+// The history of these pages, the last one first, each referenced at the time of its number in the list.
+fn spread(rt: &impl Abort, alloc: Global) -> Result<History, Fail> {
+    let mut here = History::new(alloc);
+    for time in 0..9usize {
+        let (dev, no, _) = SPREAD[8 - time];
+        absorb_twice(rt, &mut here, &[seen(page(dev, no), 8 - time as u64, 1)?])?;
+    }
+    Ok(here)
+}
+
+#[test]
+fn goes_over_devices_and_buckets_in_page_order(rt: HostRuntime) -> Result<(), Fail> {
+    let here = spread(&rt, rt.alloc())?;
+    assert_eq!(rt; here.len(), 9);
+    let mut entries = here.iter();
+    for time in 0..9usize {
+        let (dev, no, number) = SPREAD[time];
+        let wanted = Entry {
+            page: page(dev, no),
+            hist: once(time as u64, 1)?,
+        };
+        assert_eq!(rt; bucket_of(wanted.page).get(), number);
+        assert_eq!(rt; entries.next(), Some(wanted));
+        assert_eq!(rt; here.at(time), Some(wanted));
+        assert_eq!(rt; here.get(wanted.page), Some(wanted.hist));
+    }
+    assert_eq!(rt; entries.next(), None);
+    assert_eq!(rt; here.at(9), None);
+    assert_eq!(rt; here.get(page(65_535, 0)), None);
+    Ok(())
+}
+
+#[test]
+fn goes_over_all_in_some_order(rt: HostRuntime) -> Result<(), Fail> {
+    let here = spread(&rt, rt.alloc())?;
+    let mut found = [0u8; 9];
+    for entry in here.unordered() {
+        for time in 0..9usize {
+            let (dev, no, _) = SPREAD[time];
+            if entry.page == page(dev, no) {
+                assert_eq!(rt; entry.hist, once(time as u64, 1)?);
+                found[time] = found[time].wrapping_add(1);
+            }
+        }
+    }
+    assert_eq!(rt; found, [1; 9]);
+    Ok(())
+}
+
+#[test]
+fn gives_those_after_a_page_of_any_bucket(rt: HostRuntime) -> Result<(), Fail> {
+    let here = spread(&rt, rt.alloc())?;
+    let rows = [
+        (0, page(0, 0), 9, Some(page(0, 64)), 3),
+        (0, page(0, 1), 9, Some(page(0, 64)), 3),
+        (0, page(0, 63), 2, Some(page(0, 64)), 2),
+        (0, page(0, 4_294_967_295), 9, Some(page(1, 63)), 2),
+        (0, page(1, 64), 9, Some(page(65_535, 1)), 1),
+        (0, page(65_535, 0), 9, Some(page(65_535, 1)), 1),
+        (0, page(65_535, 1), 9, None, 0),
+        (0, page(65_535, 4_294_967_295), 9, None, 0),
+        (0, page(0, 0), 0, None, 0),
+        (1, page(0, 0), 1, Some(page(0, 1)), 1),
+        (
+            62,
+            page(65_535, 4_294_967_294),
+            9,
+            Some(page(65_535, 4_294_967_295)),
+            1,
+        ),
+        (63, page(0, 0), 9, Some(page(0, 63)), 2),
+        (63, page(0, 64), 9, Some(page(0, 4_294_967_295)), 1),
+        (63, page(1, 0), 9, None, 0),
+    ];
+    for (number, after, limit, first, count) in rows {
+        let bucket = Bucket::new(number).ok_or("no bucket")?;
+        let found = match here.entries(bucket, Some(after), limit) {
+            Ok(found) => found,
+            Err(_) => here.entries(bucket, Some(after), limit)?,
+        };
+        assert_eq!(rt; found.len(), count, "bucket {number} after {after:?}");
+        assert_eq!(rt;
+            found.get(0).map(|entry| entry.page),
+            first,
+            "bucket {number} after {after:?}"
+        );
+    }
     Ok(())
 }

@@ -1,6 +1,6 @@
 use Rattle.std.proofs.Common.{ap, ◌∙◌}
 use Rattle.warm_history.specs.Undo.{undone}
-use Rattle.warm_history.proofs.TreeLemmas.{undone_more, whole_history}
+use Rattle.warm_history.proofs.TreeLemmas.{undone_more}
 use Rattle.warm_history.proofs.tree.take.Goals as goal
 
 pub returns-clause-undo : goal.returns-clause-undo
@@ -11,6 +11,3 @@ returns-clause-undo c =
     ap (λ u. undone u new) c.push_reserved.ensures.items
     ∙ undone_more notes _ c.in-Some.known old new c.in-Some.is c.in_ok-known.ensures.undo
     ∙ ap (λ u. undone u old) c.reserve.ensures.items
-
-pub returns-clause-whole : goal.returns-clause-whole
-returns-clause-whole c = whole_history _ _ c.in_ok-known.ensures.exact

@@ -1,8 +1,8 @@
-use Rattle.std.proofs.Common.{◌+◌, List, drop, ap, ◌∙◌}
+use Rattle.std.proofs.Common.{◌+◌, ◌++◌, List, drop, ap, ◌∙◌}
 use Rattle.warm_history.specs.declared.hist.Entry.{Entry}
-use Rattle.warm_history.specs.Histories.{refs, entry_refs}
+use Rattle.warm_history.specs.Histories.{refs, history, entry_refs}
 use Rattle.warm_history.specs.Tree.{kept}
-use Rattle.warm_history.proofs.TreeLemmas.{goes_on, all_taken, left_more, none_left}
+use Rattle.warm_history.proofs.TreeLemmas.{IsHistory-kept, goes_on, all_taken, left_more, none_left}
 use Rattle.warm_history.proofs.tree.take_each_entry.Goals as goal
 
 pub loop-entry-preserved : goal.loop-entry-preserved
@@ -13,9 +13,9 @@ loop-entry-preserved c =
     let e : Entry = c.entry-item.result in
     record {
       whole = c.take.ensures.whole;
-      goes_on = goes_on _ (kept c.take.new.pairs.entries) (entry_refs e) (refs (drop (i + 1) more)) (refs (drop i more)) _ c.in_ok-take.ensures.exact (ap refs (left_more more i e c.loop-entry-test.true c.entry-item.is)) inv.goes_on;
+      goes_on = goes_on _ (kept c.take.new.pairs.entries) (entry_refs e) (refs (drop (i + 1) more)) (refs (drop i more)) _ (c.in_ok-take.ensures.exact ∙ ap (λ p. history (refs (kept c.loop-entry.pairs.entries) ++ entry_refs (record { page = p; hist = e.hist }))) c.place_of-place.ensures.back) (ap refs (left_more more i e c.loop-entry-test.true c.entry-item.is)) inv.goes_on;
       undo = c.take.ensures.undo ∙ inv.undo;
     }
 
 pub returns-clause-exact : goal.returns-clause-exact
-returns-clause-exact c = all_taken _ _ (refs (drop c.loop-entry.entry-index c.args.more.now)) c.loop-entry.invariant.whole (ap refs (none_left c.args.more.now c.loop-entry.entry-index c.loop-entry-test.false)) c.loop-entry.invariant.goes_on
+returns-clause-exact c = all_taken _ _ (refs (drop c.loop-entry.entry-index c.args.more.now)) (IsHistory-kept _ c.loop-entry.invariant.whole) (ap refs (none_left c.args.more.now c.loop-entry.entry-index c.loop-entry-test.false)) c.loop-entry.invariant.goes_on

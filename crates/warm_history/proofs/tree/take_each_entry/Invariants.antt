@@ -1,13 +1,13 @@
 use Rattle.std.proofs.Common.{◌≡◌, drop}
 use Rattle.warm_history.specs.ReferenceSets.{◌∪◌}
-use Rattle.warm_history.specs.Histories.{holding, refs, history, IsHistory}
-use Rattle.warm_history.specs.Tree.{kept}
+use Rattle.warm_history.specs.Histories.{holding, refs, history}
+use Rattle.warm_history.specs.Tree.{kept, AreKept}
 use Rattle.warm_history.specs.Undo.{undone}
 use Rattle.warm_history.proofs.tree.take_each_entry.Given as goal
 
 abbrev pub invariant-loop-entry : goal.invariant-loop-entry
 invariant-loop-entry l = record {
-  whole : IsHistory (kept l.pairs.entries);
+  whole : AreKept l.pairs.entries;
   goes_on : history (refs (kept l.pairs.entries) ∪ refs (holding (drop l.entry-index l.more))) ≡ history (refs (kept l.initial.pairs.entries) ∪ refs (holding l.more));
   undo : undone l.undo.items l.pairs.entries ≡ undone l.initial.undo.items l.initial.pairs.entries;
 }

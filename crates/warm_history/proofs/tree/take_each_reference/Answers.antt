@@ -1,7 +1,8 @@
-use Rattle.std.proofs.Common.{◌+◌, ◌∷◌, [], List, drop, ◌∙◌}
+use Rattle.std.proofs.Common.{◌+◌, ◌∷◌, ◌++◌, [], List, drop, ap, ◌∙◌}
 use Rattle.warm_stamps.specs.declared.Reference.{Reference}
+use Rattle.warm_history.specs.Histories.{refs, history}
 use Rattle.warm_history.specs.Tree.{kept}
-use Rattle.warm_history.proofs.TreeLemmas.{goes_on, all_taken, left_more, none_left}
+use Rattle.warm_history.proofs.TreeLemmas.{IsHistory-kept, goes_on, all_taken, left_more, none_left}
 use Rattle.warm_history.proofs.tree.take_each_reference.Goals as goal
 
 pub loop-reference-preserved : goal.loop-reference-preserved
@@ -12,9 +13,9 @@ loop-reference-preserved c =
     let r : Reference = c.reference-item.result in
     record {
       whole = c.take.ensures.whole;
-      goes_on = goes_on _ (kept c.take.new.pairs.entries) (r ∷ []) (drop (i + 1) batch) (drop i batch) _ c.in_ok-take.ensures.exact (left_more batch i r c.loop-reference-test.true c.reference-item.is) inv.goes_on;
+      goes_on = goes_on _ (kept c.take.new.pairs.entries) (r ∷ []) (drop (i + 1) batch) (drop i batch) _ (c.in_ok-take.ensures.exact ∙ ap (λ p. history (refs (kept c.loop-reference.pairs.entries) ++ record { page = p; stamp = r.stamp } ∷ [])) c.place_of-place.ensures.back) (left_more batch i r c.loop-reference-test.true c.reference-item.is) inv.goes_on;
       undo = c.take.ensures.undo ∙ inv.undo;
     }
 
 pub returns-clause-exact : goal.returns-clause-exact
-returns-clause-exact c = all_taken _ _ (drop c.loop-reference.reference-index c.args.batch.now) c.loop-reference.invariant.whole (none_left c.args.batch.now c.loop-reference.reference-index c.loop-reference-test.false) c.loop-reference.invariant.goes_on
+returns-clause-exact c = all_taken _ _ (drop c.loop-reference.reference-index c.args.batch.now) (IsHistory-kept _ c.loop-reference.invariant.whole) (none_left c.args.batch.now c.loop-reference.reference-index c.loop-reference-test.false) c.loop-reference.invariant.goes_on

@@ -1,13 +1,13 @@
 use Rattle.std.proofs.Common.{◌≡◌, drop}
 use Rattle.warm_history.specs.ReferenceSets.{these, ◌∪◌}
-use Rattle.warm_history.specs.Histories.{refs, history, IsHistory}
-use Rattle.warm_history.specs.Tree.{kept}
+use Rattle.warm_history.specs.Histories.{refs, history}
+use Rattle.warm_history.specs.Tree.{kept, AreKept}
 use Rattle.warm_history.specs.Undo.{undone}
 use Rattle.warm_history.proofs.tree.take_each_reference.Given as goal
 
 abbrev pub invariant-loop-reference : goal.invariant-loop-reference
 invariant-loop-reference l = record {
-  whole : IsHistory (kept l.pairs.entries);
+  whole : AreKept l.pairs.entries;
   goes_on : history (refs (kept l.pairs.entries) ∪ these (drop l.reference-index l.batch)) ≡ history (refs (kept l.initial.pairs.entries) ∪ these l.batch);
   undo : undone l.undo.items l.pairs.entries ≡ undone l.initial.undo.items l.initial.pairs.entries;
 }

@@ -1,10 +1,6 @@
-use Rattle.std.proofs.Common.{rules, ◌≡◌, ◌<◌, ◌≤◌, ◌+◌, ◌++◌, [], ◌∷◌, length, ap, ◌∙◌, sym, arith, append-nil, subst}
-use Rattle.std.proofs.lemmas.List.{length-append}
-use Rattle.warm_turn.specs.Turns.{Widened}
+use Rattle.std.proofs.Common.{rules, ap, ◌∙◌, arith}
 use Rattle.warm_replica.specs.Fanning.{ReadyWentAs}
-use Rattle.warm_replica.specs.Jobs.{JobWent, WentAs}
-use Rattle.warm_replica.specs.Pairs.{Triples}
-use Rattle.warm_replica.proofs.Fans.{widened_none, widened_more, fan_none, fan_stop, fan_err, fan_room, fan_more, triples_length, job_as, ran_as, none_ended}
+use Rattle.warm_replica.proofs.Fans.{fan_none, fan_stop, fan_err, fan_room, fan_more, job_as, ran_as, none_ended}
 use Rattle.warm_turn.specs.Turns.{new_pass}
 use Rattle.warm_replica.proofs.fan.+fan_out.Goals as goal
 

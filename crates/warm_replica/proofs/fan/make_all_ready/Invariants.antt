@@ -1,6 +1,6 @@
-use Rattle.std.proofs.Common.{◌≡◌, ◌≤◌, ◌++◌, ℕ, length, vec_capacity}
+use Rattle.std.proofs.Common.{◌≡◌, ◌≤◌, ◌++◌, length, vec_capacity}
 use Rattle.std.specs.Vec.Iter.{into_iter_items}
-use Rattle.warm_replica.specs.Fanning.{AreReady, IsReady}
+use Rattle.warm_replica.specs.Fanning.{AreReady}
 use Rattle.warm_replica.proofs.fan.make_all_ready.Given as goal
 
 -- the jobs so far have their room, and there is room for all

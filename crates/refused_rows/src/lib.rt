@@ -1,0 +1,95 @@
+//! Rows of calls that may be refused for memory: how a row ends, and what was met on the way.
+//!
+//! The programs of such rows (`refused_memory`, `refused_worlds`, `promised_memory`) are run by `scripts/refuse-growths`, which
+//! refuses each growth of memory in turn, and reads the one line that [`report`] prints.
+#![tactic(auto)]
+
+ghost use Rattle.std.specs.Prelude.{◌≡◌, Ok, Err, if◌then◌else◌};
+ghost use Rattle.refused_rows.specs.declared.Ended.TheVariants.{NoRoom, Broken};
+
+use std::alloc::AllocError;
+use std::io::{self, Print};
+use std::process::ExitCode;
+
+/// Why a row ended early.
+#[derive(Debug, Clone, Copy, PartialEq, Eq)]
+pub enum Ended {
+    /// There was no room for what the row needs before its call.
+    NoRoom,
+    /// Something is as it must not be.
+    Broken,
+}
+
+impl From<AllocError> for Ended {
+    fn from(_: AllocError) -> Ended {
+        Ended::NoRoom
+    }
+}
+
+/// How many calls were refused for memory, and what was found to be as it must not be.
+#[derive(Drop)]
+pub struct Met {
+    refused: u32,
+    broken: &'static str,
+}
+
+impl Met {
+    /// Nothing was met yet.
+    pub fn new() -> Met {
+        Met {
+            refused: 0,
+            broken: "a number",
+        }
+    }
+
+    /// This is as it must not be: the row ends.
+    pub fn broken(&mut self, what: &'static str) -> Ended
+        ensures { result ≡ Broken }
+    {
+        self.broken = what;
+        Ended::Broken
+    }
+
+    /// Ends the row where this isn't so.
+    pub fn holds(&mut self, is: bool, what: &'static str) -> Result<(), Ended>
+        ensures { result ≡ if is then Ok tt else Err Broken }
+    {
+        if is {
+            return Ok(());
+        }
+        Err(self.broken(what))
+    }
+
+    /// Counts a call that was refused for memory, of which nothing can be seen.
+    pub fn count(&mut self) {
+        self.refused = self.refused.wrapping_add(1);
+    }
+
+    /// A call was refused: it has to be for memory, and what can be seen has to be as it was.
+    pub fn refuse(&mut self, is_as_before: bool, what: &'static str) -> Result<(), Ended>
+        ensures { result ≡ if is_as_before then Ok tt else Err Broken }
+    {
+        self.count();
+        self.holds(is_as_before, what)
+    }
+}
+
+// Says how the rows ended.
+fn tell<P: Print>(rt: &P, met: &Met, ended: Result<(), Ended>) -> io::Result<()> {
+    match ended {
+        Ok(()) => println!(rt; "all rows hold, {} calls refused", met.refused),
+        Err(Ended::NoRoom) => println!(rt; "no room for a row"),
+        Err(Ended::Broken) => println!(rt; "broken: {}", met.broken),
+    }
+}
+
+/// Prints how the rows ended. The status is a failure where something was as it must not be, or nothing could be printed.
+pub fn report<P: Print>(rt: &P, met: &Met, ended: Result<(), Ended>) -> ExitCode {
+    if tell(rt, met, ended).is_err() {
+        return ExitCode::FAILURE;
+    }
+    match ended {
+        Err(Ended::Broken) => ExitCode::FAILURE,
+        _ => ExitCode::SUCCESS,
+    }
+}

@@ -1,0 +1,6 @@
+use Rattle.std.proofs.Common.{◌∙◌}
+use Rattle.warm_history.proofs.MergedParts.{bucket_from_start}
+use Rattle.warm_history.proofs.history.History.bucket.Goals as goal
+
+pub returns : goal.returns
+returns c = c.later.ensures ∙ bucket_from_start c.args.bucket c.args.self.now

@@ -1,0 +1,81 @@
+-- The parts of a history, each the entries of some buckets, and how they merge in page order.
+use Rattle.std.specs.Prelude.{◌≡◌, ℕ, ◌&&◌, nat_lt, nat_le, cond, Bool, true, false, List, [], ◌∷◌, filter, Option, Some, None}
+use Rattle.std.specs.Ordering.{is_gt}
+use Rattle.warm_stamps.specs.declared.PageId.{PageId}
+use Rattle.warm_stamps.specs.Stamps.{page_cmp}
+use Rattle.warm_stamps.specs.Buckets.{page_bucket}
+use Rattle.warm_history.specs.declared.hist.Entry.{Entry}
+use Rattle.warm_history.specs.declared.merges.Part.{Part}
+use Rattle.warm_history.specs.declared.merges.Merged.{Merged}
+use Rattle.warm_history.specs.Histories.{HistoryView, entries_of}
+use Rattle.warm_history.specs.Carried.{is_chosen}
+use Rattle.warm_history.specs.Tree.{as_entries}
+
+-- the entries of a bucket whose page is greater than the one given, if one is
+abbrev pub later_of_bucket : ℕ → Option PageId → HistoryView → List Entry
+later_of_bucket bucket after h = filter (λ e. is_chosen bucket after e.page) (entries_of h)
+
+-- the number of the page's bucket is at least from, and less than to
+abbrev pub is_between : ℕ → ℕ → PageId → Bool
+is_between from to p = nat_le from (page_bucket p) && nat_lt (page_bucket p) to
+
+-- the entries of the buckets from one number to before another
+abbrev pub of_buckets : ℕ → ℕ → HistoryView → List Entry
+of_buckets from to h = filter (λ e. is_between from to e.page) (entries_of h)
+
+-- the first of these entries, if there is one
+abbrev pub first_of : List Entry → Option Entry
+first_of [] = None
+first_of (e ∷ es) = Some e
+
+-- these entries without the first
+abbrev pub rest_of : List Entry → List Entry
+rest_of [] = []
+rest_of (e ∷ es) = es
+
+-- a is of a greater page than b, or b is there and a is not
+abbrev pub is_later : Option Entry → Option Entry → Bool
+is_later a None = false
+is_later None (Some y) = true
+is_later (Some x) (Some y) = is_gt (page_cmp x.page y.page)
+
+-- `merge (x ∷ xs)`, where `after` is `merge xs`
+abbrev pub merge_at : Entry → List Entry → (List Entry → List Entry) → List Entry → List Entry
+merge_at x xs after [] = x ∷ xs
+merge_at x xs after (y ∷ ys) = cond (is_gt (page_cmp x.page y.page)) (y ∷ merge_at x xs after ys) (x ∷ after (y ∷ ys))
+
+-- the entries of both lists: of the two first ones that of the second list comes only where its page is smaller
+abbrev pub merge : List Entry → List Entry → List Entry
+merge [] = λ ys. ys
+merge (x ∷ xs) = merge_at x xs (merge xs)
+
+-- the first entry and those that follow it; where there is none, nothing follows
+abbrev pub from_first : Option Entry → List Entry → List Entry
+from_first None later = []
+from_first (Some e) later = e ∷ later
+
+-- what is left of a part, and of two that are merged
+abbrev pub part_left : Part → List Entry
+part_left p = from_first p.first (as_entries p.later)
+
+abbrev pub merged_left : {I : Type 0} → (I → List Entry) → Merged I → List Entry
+merged_left left m = from_first m.first (merge (left m.one) (left m.other))
+
+-- what is left of 2, 4, 8, 16, 32 and all 64 parts
+abbrev pub two_left : Merged Part → List Entry
+two_left = merged_left part_left
+
+abbrev pub four_left : Merged (Merged Part) → List Entry
+four_left = merged_left two_left
+
+abbrev pub eight_left : Merged (Merged (Merged Part)) → List Entry
+eight_left = merged_left four_left
+
+abbrev pub sixteen_left : Merged (Merged (Merged (Merged Part))) → List Entry
+sixteen_left = merged_left eight_left
+
+abbrev pub thirty_two_left : Merged (Merged (Merged (Merged (Merged Part)))) → List Entry
+thirty_two_left = merged_left sixteen_left
+
+abbrev pub all_left : Merged (Merged (Merged (Merged (Merged (Merged Part))))) → List Entry
+all_left = merged_left thirty_two_left

@@ -1,0 +1,198 @@
+//! The parts of a history, each the entries of a bucket, merged in page order.
+ghost use Rattle.std.specs.Prelude.{◌≡◌, ◌+◌, ◌≤◌, ◌<◌};
+ghost use Rattle.warm_stamps.specs.declared.TheConstants.{BUCKETS};
+ghost use Rattle.warm_history.specs.Tree.{kept, AreKept};
+ghost use Rattle.warm_history.specs.Histories.{entries_of};
+ghost use Rattle.warm_history.specs.Merges.{part_left, two_left, four_left, eight_left, sixteen_left, thirty_two_left, all_left};
+ghost use Rattle.warm_history.specs.Merges.{first_of, rest_of, merge, merged_left, of_buckets, is_later};
+
+use crate::hist::{Entry, PageHist};
+use crate::parts::{later_pairs, next_entry};
+use std::collections::BTreeMap;
+use std::collections::btree_map::Range;
+
+// Entries that come one by one, of which the first can be looked at.
+pub(crate) trait Source: Drop {
+    ghost use Rattle.std.specs.Prelude.{List};
+    ghost use Rattle.warm_history.specs.declared.hist.Entry.{Entry};
+
+    ghost left: { Self → List Entry };
+
+    // The first entry that is left.
+    fn first(&self) -> Option<Entry>
+        ensures { result ≡ first_of (left self.now) };
+
+    // Takes the first entry that is left.
+    fn take_first(&mut self) -> Option<Entry>
+        ensures first { result ≡ first_of (left self.old) }
+        ensures rest { left self.new ≡ rest_of (left self.old) };
+}
+
+// The entries of one bucket.
+#[derive(Debug, Drop)]
+pub(crate) struct Part<'a> {
+    first: Option<Entry>,
+    later: Range<'a, u64, PageHist>,
+}
+
+impl<'a> Source for Part<'a> {
+    ghost use Rattle.warm_history.specs.Merges.{part_left};
+
+    ghost left = { part_left };
+
+    fn first(&self) -> Option<Entry> {
+        self.first
+    }
+
+    fn take_first(&mut self) -> Option<Entry> {
+        let first = self.first?;
+        self.first = next_entry(&mut self.later);
+        Some(first)
+    }
+}
+
+// The entries of both, in page order, where each of them gives its own in page order.
+#[derive(Debug, Drop)]
+pub(crate) struct Merged<I> {
+    first: Option<Entry>,
+    one: I,
+    other: I,
+}
+
+impl<I: Source> Source for Merged<I> {
+    ghost use Rattle.warm_history.specs.Merges.{merged_left};
+
+    ghost left = { merged_left I.left };
+
+    fn first(&self) -> Option<Entry> {
+        self.first
+    }
+
+    fn take_first(&mut self) -> Option<Entry> {
+        let first = self.first?;
+        self.first = take_lesser(&mut self.one, &mut self.other);
+        Some(first)
+    }
+}
+
+// Takes the first entry of one, or that of the other where its page is smaller.
+#[tactic(auto, using(crate::proofs::MergedParts::takes_other, crate::proofs::MergedParts::takes_one))]
+fn take_lesser<I: Source>(one: &mut I, other: &mut I) -> Option<Entry>
+    ensures first { result ≡ first_of (merge (I.left one.old) (I.left other.old)) }
+    ensures rest { merge (I.left one.new) (I.left other.new)
+        ≡ rest_of (merge (I.left one.old) (I.left other.old)) }
+{
+    if is_later(one.first(), other.first()) {
+        return other.take_first();
+    }
+    one.take_first()
+}
+
+// Whether one is of a greater page than the other, or is not there where the other is.
+fn is_later(one: Option<Entry>, other: Option<Entry>) -> bool
+    ensures { result ≡ is_later one other }
+{
+    let Some(there) = other else {
+        return false;
+    };
+    let Some(here) = one else {
+        return true;
+    };
+    there.page < here.page
+}
+
+fn merge_both<I: Source>(mut one: I, mut other: I) -> Merged<I>
+    ensures { merged_left I.left result ≡ merge (I.left one) (I.left other) }
+{
+    let first = take_lesser(&mut one, &mut other);
+    Merged { first, one, other }
+}
+
+type Two<'a> = Merged<Part<'a>>;
+
+type Four<'a> = Merged<Two<'a>>;
+
+type Eight<'a> = Merged<Four<'a>>;
+
+type Sixteen<'a> = Merged<Eight<'a>>;
+
+type ThirtyTwo<'a> = Merged<Sixteen<'a>>;
+
+// The parts of all buckets.
+pub(crate) type AllParts<'a> = Merged<ThirtyTwo<'a>>;
+
+// The entries of the bucket of this number.
+fn bucket_part(pairs: &BTreeMap<u64, PageHist>, number: u8) -> Part<'_>
+    requires bucket { number < BUCKETS }
+    requires kept { AreKept pairs.now.entries }
+    ensures { part_left result ≡ of_buckets number (number + 1) (kept pairs.now.entries) }
+{
+    let mut later = later_pairs(pairs, number, None);
+    let first = next_entry(&mut later);
+    Part { first, later }
+}
+
+// The entries of the two buckets from this number on.
+fn two(pairs: &BTreeMap<u64, PageHist>, number: u8) -> Two<'_>
+    requires buckets { number + 2 ≤ BUCKETS }
+    requires kept { AreKept pairs.now.entries }
+    ensures { two_left result ≡ of_buckets number (number + 2) (kept pairs.now.entries) }
+{
+    let one = bucket_part(pairs, number);
+    let other = bucket_part(pairs, number + 1);
+    merge_both(one, other)
+}
+
+// The entries of the four buckets from this number on.
+fn four(pairs: &BTreeMap<u64, PageHist>, number: u8) -> Four<'_>
+    requires buckets { number + 4 ≤ BUCKETS }
+    requires kept { AreKept pairs.now.entries }
+    ensures { four_left result ≡ of_buckets number (number + 4) (kept pairs.now.entries) }
+{
+    let one = two(pairs, number);
+    let other = two(pairs, number + 2);
+    merge_both(one, other)
+}
+
+// The entries of the eight buckets from this number on.
+fn eight(pairs: &BTreeMap<u64, PageHist>, number: u8) -> Eight<'_>
+    requires buckets { number + 8 ≤ BUCKETS }
+    requires kept { AreKept pairs.now.entries }
+    ensures { eight_left result ≡ of_buckets number (number + 8) (kept pairs.now.entries) }
+{
+    let one = four(pairs, number);
+    let other = four(pairs, number + 4);
+    merge_both(one, other)
+}
+
+// The entries of the sixteen buckets from this number on.
+fn sixteen(pairs: &BTreeMap<u64, PageHist>, number: u8) -> Sixteen<'_>
+    requires buckets { number + 16 ≤ BUCKETS }
+    requires kept { AreKept pairs.now.entries }
+    ensures { sixteen_left result ≡ of_buckets number (number + 16) (kept pairs.now.entries) }
+{
+    let one = eight(pairs, number);
+    let other = eight(pairs, number + 8);
+    merge_both(one, other)
+}
+
+// The entries of the thirty-two buckets from this number on.
+fn thirty_two(pairs: &BTreeMap<u64, PageHist>, number: u8) -> ThirtyTwo<'_>
+    requires buckets { number + 32 ≤ BUCKETS }
+    requires kept { AreKept pairs.now.entries }
+    ensures { thirty_two_left result ≡ of_buckets number (number + 32) (kept pairs.now.entries) }
+{
+    let one = sixteen(pairs, number);
+    let other = sixteen(pairs, number + 16);
+    merge_both(one, other)
+}
+
+// The entries of all buckets.
+pub(crate) fn all_parts(pairs: &BTreeMap<u64, PageHist>) -> AllParts<'_>
+    requires { AreKept pairs.now.entries }
+    ensures { all_left result ≡ entries_of (kept pairs.now.entries) }
+{
+    let one = thirty_two(pairs, 0);
+    let other = thirty_two(pairs, 32);
+    merge_both(one, other)
+}

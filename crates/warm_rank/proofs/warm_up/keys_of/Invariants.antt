@@ -1,9 +1,0 @@
-use Rattle.std.proofs.Common.{◌≡◌, ◌++◌, map}
-use Rattle.warm_history.specs.Histories.{entries_of}
-use Rattle.warm_rank.specs.Keys.{entry_key}
-use Rattle.warm_rank.specs.Packed.{packed_key}
-use Rattle.warm_rank.proofs.warm_up.keys_of.Given as goal
-
--- the keys so far and those of the entries that are left
-abbrev pub invariant-loop-entry : goal.invariant-loop-entry
-invariant-loop-entry l = l.keys.items ++ map (λ e. packed_key (entry_key e)) l.entry-iterator ≡ map (λ e. packed_key (entry_key e)) (entries_of l.history)

@@ -1,0 +1,90 @@
+//! Calls and replies in memory of their own.
+ghost use Rattle.std.specs.Prelude.{◌≡◌, IfOk};
+
+use std::alloc::{AllocError, Global};
+use std::marker::Model;
+use warm_gossip::{Call, Reply};
+
+/// A call in memory of its own, beside room for the reply to it: two pointers, where a [`Call`] and a [`Reply`] each have room for
+/// a frame's table of sums, which is some 2,080 bytes. Contracts see the call.
+#[derive(Drop)]
+pub struct BoxedCall {
+    call: Box<Call>,
+    room: Box<Reply>,
+}
+
+impl Model for BoxedCall {
+    ghost use Rattle.warm_gossip.specs.declared.call.Call.{Call};
+
+    ghost Value = { Call };
+
+    ghost view = { λ boxed. boxed.call.value };
+}
+
+impl BoxedCall {
+    /// The call, with room for its reply: neither making it nor keeping what is replied takes further memory.
+    ///
+    /// `AllocError` comes only where room for the call or for the reply was refused. The call is then dropped.
+    pub fn new(alloc: Global, call: Call) -> Result<BoxedCall, AllocError>
+        ensures { IfOk result (λ boxed. boxed ≡ call) }
+    {
+        let call = Box::new(alloc, call)?;
+        let room = Box::new(alloc, Reply::Done)?;
+        Ok(BoxedCall { call, room })
+    }
+
+    /// The call, and the room for its reply. Takes no memory, and gives back that of the call.
+    pub(crate) fn into_parts(self) -> (Call, ReplyRoom)
+        ensures { result.0 ≡ self }
+    {
+        let BoxedCall { call, room } = self;
+        (Box::into_inner(call), ReplyRoom { room })
+    }
+}
+
+// Room for a reply.
+#[derive(Drop)]
+pub(crate) struct ReplyRoom {
+    room: Box<Reply>,
+}
+
+impl ReplyRoom {
+    // The reply in this room. Takes no memory.
+    pub(crate) fn with(self, reply: Reply) -> BoxedReply
+        ensures { result ≡ reply }
+    {
+        let mut room = self.room;
+        *room = reply;
+        BoxedReply { reply: room }
+    }
+}
+
+/// A reply in memory of its own: a pointer, where a [`Reply`] has room for a frame's table of sums. Contracts see the reply.
+#[derive(Drop)]
+pub struct BoxedReply {
+    reply: Box<Reply>,
+}
+
+impl Model for BoxedReply {
+    ghost use Rattle.warm_gossip.specs.declared.call.Reply.{Reply};
+
+    ghost Value = { Reply };
+
+    ghost view = { λ boxed. boxed.reply.value };
+}
+
+impl BoxedReply {
+    /// The reply. Takes no memory.
+    pub fn as_reply(&self) -> &Reply
+        ensures { result.now ≡ self.now }
+    {
+        &self.reply
+    }
+
+    /// The reply. Takes no memory, and gives back that of the box.
+    pub fn into_reply(self) -> Reply
+        ensures { result ≡ self }
+    {
+        Box::into_inner(self.reply)
+    }
+}
