@@ -8,11 +8,11 @@ use Rattle.warm_gossip.specs.declared.call.Call.{Call}
 use Rattle.warm_gossip.specs.declared.call.Reply.{Reply}
 use Rattle.warm_replica.specs.declared.job.Job.{Job}
 use Rattle.warm_replica.specs.declared.job.Step.{Step}
-use Rattle.warm_replica.specs.declared.job.StepReply.{StepReply}
 use Rattle.warm_replica.specs.declared.ready.Ready.{Ready}
 use Rattle.warm_replica.specs.Fanning.{AreReady, IsReady, ReadyWentAs}
 use Rattle.warm_replica.specs.Jobs.{HasSeenMore, JobsWent, JobWentAs, WentAs}
 use Rattle.warm_replica.specs.Pairs.{Pairs, Triples}
+use Rattle.warm_replica.specs.Replied.{Replied}
 use Rattle.warm_replica.proofs.Fans.{fan_ends}
 
 pub pairs_triples : {A B D E : Type 0} (P : A → B → Type 0) (Q : B → D → E → Type 0) (S : A → D → E → Type 0) → ((a : A) (b : B) (d : D) (e : E) → P a b → Q b d e → S a d e)
@@ -33,7 +33,7 @@ module _ {X : Type 0} (goes : X → Call → Reply → X → Type 0) where
   pub has_seen_more : (v own w : View X Call Reply) (n : ℕ) (more : List (Ended Call Reply)) → Widened (new_pass v n) more own → Joined goes v own w → HasSeenMore v w
   has_seen_more v own w n more wide joined = (as_ended own ∷ more, fan_ends goes v own w n more wide joined)
 
-  pub jobs_went : (v own w : View X Call Reply) (n : ℕ) (jobs : List Job) (ready : List Ready) (all : List (Vec StepReply)) (more : List (Ended Call Reply))
+  pub jobs_went : (v own w : View X Call Reply) (n : ℕ) (jobs : List Job) (ready : List Ready) (all : List Replied) (more : List (Ended Call Reply))
       → AreReady jobs ready → Widened (new_pass v n) more own → Joined goes v own w → Triples ReadyWentAs ready all more → JobsWent v jobs all w
   jobs_went v own w n jobs ready all more same wide joined went = (
     as_ended own,

@@ -9,9 +9,9 @@ use Rattle.warm_gossip.specs.declared.call.Reply.{Reply}
 use Rattle.warm_replica.specs.declared.ready.Ready.{Ready}
 use Rattle.warm_replica.specs.declared.fault.NoThread.{NoThread}
 use Rattle.warm_replica.specs.declared.job.Job.{Job}
-use Rattle.warm_replica.specs.declared.job.StepReply.{StepReply}
 use Rattle.warm_replica.specs.Jobs.{JobWent, WentAs}
 use Rattle.warm_replica.specs.Pairs.{Pairs, Triples}
+use Rattle.warm_replica.specs.Replied.{Replied}
 
 -- the job has its room, and its steps are the same
 abbrev pub IsReady : Job → Ready → Type 0
@@ -21,19 +21,19 @@ abbrev pub AreReady : List Job → List Ready → Type 0
 AreReady = Pairs IsReady
 
 -- the calls of an ended pass are those of this job, answered so
-abbrev pub ReadyWentAs : Ready → Vec StepReply → Ended Call Reply → Type 0
+abbrev pub ReadyWentAs : Ready → Replied → Ended Call Reply → Type 0
 ReadyWentAs ready replies e = WentAs ready.buffer.cap ready.steps.items replies.items e
 
 module _ {X : Type 0} where
   -- a job that had its room went, from an empty buffer on
-  abbrev pub ReadyWent : Ready → Vec StepReply → View X Call Reply → View X Call Reply → Type 0
+  abbrev pub ReadyWent : Ready → Replied → View X Call Reply → View X Call Reply → Type 0
   ReadyWent ready replies v w = JobWent ready.buffer.cap ready.steps.items replies.items v w
 
   -- the pass has seen more, and holds one pass for each of the jobs, whose calls are that job's, where all were started
-  abbrev pub HasFanned : View X Call Reply → List Ready → Result (Unit {0}) NoThread → List (Vec StepReply) → View X Call Reply → Type 0
+  abbrev pub HasFanned : View X Call Reply → List Ready → Result (Unit {0}) NoThread → List Replied → View X Call Reply → Type 0
   HasFanned v jobs result replies w =
       (more : List (Ended Call Reply)) × Widened v more w × OnOk result (Triples ReadyWentAs jobs replies more)
 
-  abbrev pub Fanned : View X Call Reply → List Ready → Result (Vec (Vec StepReply)) NoThread → View X Call Reply → Type 0
+  abbrev pub Fanned : View X Call Reply → List Ready → Result (Vec Replied) NoThread → View X Call Reply → Type 0
   Fanned v jobs result w =
       (more : List (Ended Call Reply)) × Widened v more w × IfOk result (λ replies. Triples ReadyWentAs jobs replies.items more)

@@ -1,6 +1,5 @@
 -- What the steps of a job do.
 use Rattle.std.specs.Prelude.{◌≡◌, ◌⊎◌, ℕ, ◌<◌, ◌≤◌, List, [], ◌∷◌, ◌++◌, length}
-use Rattle.std.specs.Global.{Vec}
 use Rattle.std.specs.List.{All}
 use Rattle.warm_stamps.specs.declared.Reference.{Reference}
 use Rattle.warm_refbuffer.specs.Buffered.{IsCapacity}
@@ -20,6 +19,7 @@ use Rattle.warm_replica.specs.declared.job.StepReply.{StepReply}
 use Rattle.warm_replica.specs.declared.job.StepReply.TheVariants.{Touched, Full, Flushed, Answered, Failed}
 use Rattle.warm_gossip.specs.Batches.{no_memory}
 use Rattle.warm_replica.specs.Pairs.{Triples}
+use Rattle.warm_replica.specs.Replied.{Replied}
 use Rattle.warm_replica.specs.Working.{Working}
 
 abbrev pub Calls : Type 0
@@ -66,7 +66,7 @@ module _ {X : Type 0} where
 abbrev pub WentAs : ℕ → List Step → List StepReply → Ended Call Reply → Type 0
 WentAs cap steps replies e = (held : List Reference) × AllGave cap e.number [] steps replies held e.calls
 
-abbrev pub JobWentAs : Job → Vec StepReply → Ended Call Reply → Type 0
+abbrev pub JobWentAs : Job → Replied → Ended Call Reply → Type 0
 JobWentAs job replies e = WentAs job.cap job.steps.items replies.items e
 
 -- every job has a buffer that there can be
@@ -74,7 +74,7 @@ abbrev pub HaveCapacities : List Job → Type 0
 HaveCapacities jobs = All (λ job. IsCapacity job.cap) jobs
 
 -- The jobs were run and answered so: the pass has seen more, and holds beside one pass that made no calls one for each job, whose calls are that job's
-abbrev pub JobsWent : {X : Type 0} → View X Call Reply → List Job → List (Vec StepReply) → View X Call Reply → Type 0
+abbrev pub JobsWent : {X : Type 0} → View X Call Reply → List Job → List Replied → View X Call Reply → Type 0
 JobsWent v jobs replies w =
     (fan : Ended Call Reply) × (more : List (Ended Call Reply)) × Widened v (fan ∷ more) w × (fan.calls ≡ []) × Triples JobWentAs jobs replies more
 

@@ -7,8 +7,9 @@ ghost use Rattle.warm_replica.specs.Jobs.{HasSeenMore, HaveCapacities, JobsWent}
 ghost use Rattle.warm_replica.specs.Fanning.{AreReady, IsReady, ReadyWent, Fanned, HasFanned};
 
 use crate::fault::{NoThread, RunFault};
-use crate::job::{Gate, Job, Step, StepReply, take_steps};
+use crate::job::{Gate, Job, Step, take_steps};
 use crate::ready::Ready;
+use crate::replies::Replies;
 use crate::worker::{Absorbing, Worker};
 use std::alloc::{AllocError, Global};
 use std::snapshot::Snapshot;
@@ -29,7 +30,7 @@ struct Began<M: Machine> {
     pass: Snapshot<Pass<M>>,
 }
 
-impl<M: Absorbing> Promise<(Pass<M>, Vec<StepReply>)> for Began<M> {
+impl<M: Absorbing> Promise<(Pass<M>, Replies)> for Began<M> {
     ghost use Rattle.std.specs.Prelude.{◌≡◌};
     ghost use Rattle.warm_replica.specs.Jobs.{JobWent};
 
@@ -45,7 +46,7 @@ fn run_job<M: Absorbing, R: Wait, G: Gate>(
     gate: &G,
     pass: Pass<M>,
     ready: Ready,
-) -> (Pass<M>, Vec<StepReply>)
+) -> (Pass<M>, Replies)
     requires { pass.table ≡ replica.now.table }
     ensures table { result.0.table ≡ pass.table }
     ensures went { ReadyWent ready result.1 pass.view result.0.view }
@@ -80,7 +81,7 @@ fn start_job<'s, E, M: Absorbing + Send + 's, R: Wait + Sync, G: Gate + Sync>(
     gate: &'s G,
     mine: Pass<M>,
     ready: Ready,
-) -> Result<PromisedHandle<(Pass<M>, Vec<StepReply>), Began<M>>, NoThread>
+) -> Result<PromisedHandle<(Pass<M>, Replies), Began<M>>, NoThread>
     requires send { IsSend M.row × IsSync R.row × IsSync G.row }
     requires table { mine.table ≡ replica.now.table }
     ensures buffer { IfOk result (λ child. child.promise.buffer.value ≡ ready.buffer) }
@@ -94,7 +95,7 @@ fn start_job<'s, E, M: Absorbing + Send + 's, R: Wait + Sync, G: Gate + Sync>(
     };
     match scope.spawn_with(
         began,
-        move || -> (Pass<M>, Vec<StepReply>)
+        move || -> (Pass<M>, Replies)
             requires { mine.table ≡ replica.now.table }
             ensures { (result.0.table ≡ mine.table)
                 × ReadyWent ready result.1 mine.view result.0.view }
@@ -114,7 +115,7 @@ fn fan_out<'s, E, M: Absorbing + Send + 's, R: Threads + Wait + Sync, G: Gate + 
     gate: &'s G,
     pass: &mut Pass<M>,
     mut jobs: Vec<Ready>,
-    all: &mut Vec<Vec<StepReply>>,
+    all: &mut Vec<Replies>,
 ) -> Result<(), NoThread>
     requires send { IsSend M.row × IsSync R.row × IsSync G.row }
     requires table { pass.old.table ≡ replica.now.table }
@@ -149,7 +150,7 @@ fn make_ready(alloc: Global, number: usize, job: Job) -> Result<Ready, AllocErro
     let Ok(buffer) = RefBuffer::new(alloc, cap) else {
         return Err(AllocError);
     };
-    let replies = Vec::with_capacity(alloc, steps.len())?;
+    let replies = Replies::with_capacity(alloc, steps.len())?;
     Ok(Ready {
         job: number,
         buffer,
@@ -187,8 +188,8 @@ fn run_ready<M: Absorbing + Send, R: Threads + Wait + Sync, G: Gate + Sync>(
     gate: &G,
     own: Pass<M>,
     ready: Vec<Ready>,
-    all: Vec<Vec<StepReply>>,
-) -> (Pass<M>, Result<Vec<Vec<StepReply>>, NoThread>)
+    all: Vec<Replies>,
+) -> (Pass<M>, Result<Vec<Replies>, NoThread>)
     requires table { own.table ≡ replica.now.table }
     requires room { (all.items ≡ []) × (length ready.items ≤ vec_capacity all) }
     ensures table { result.0.table ≡ own.table }
@@ -197,7 +198,7 @@ fn run_ready<M: Absorbing + Send, R: Threads + Wait + Sync, G: Gate + Sync>(
     thread::scope(
         thread::scope_env(),
         rt,
-        move |scope| -> (Pass<M>, Result<Vec<Vec<StepReply>>, NoThread>)
+        move |scope| -> (Pass<M>, Result<Vec<Replies>, NoThread>)
             requires { IsSend M.row × IsSync R.row × IsSync G.row
                 × (own.table ≡ replica.now.table)
                 × (all.items ≡ []) × (length ready.items ≤ vec_capacity all) }
@@ -232,7 +233,7 @@ pub fn run_workers<M: Absorbing + Send, R: Threads + Wait + Sync, G: Gate + Sync
     pass: &mut Pass<M>,
     jobs: Vec<Job>,
     gate: &G,
-) -> Result<Vec<Vec<StepReply>>, RunFault>
+) -> Result<Vec<Replies>, RunFault>
     requires table { pass.old.table ≡ replica.now.table }
     requires few { length jobs.items ≤ MAX_JOBS }
     ensures table { pass.new.table ≡ pass.old.table }

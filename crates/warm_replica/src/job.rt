@@ -1,9 +1,10 @@
 //! Jobs: the steps that a thread of its own takes with a worker of its own.
-ghost use Rattle.std.specs.Prelude.{◌≡◌, ◌≤◌, [], length, vec_capacity};
+ghost use Rattle.std.specs.Prelude.{◌≡◌, ◌≤◌, [], length};
 ghost use Rattle.warm_replica.specs.Jobs.{StepWent, StepsWent};
 
 use crate::boxed::{BoxedCall, BoxedReply};
 use crate::fault::FlushFault;
+use crate::replies::Replies;
 use crate::worker::{Absorbing, Worker};
 use std::alloc::Global;
 use std::sync::Wait;
@@ -96,11 +97,10 @@ pub(crate) fn take_steps<M: Absorbing, R: Wait, G: Gate>(
     job: usize,
     worker: &mut Worker<M>,
     steps: Vec<Step>,
-    replies: &mut Vec<StepReply>,
+    replies: &mut Replies,
 )
     requires table { worker.old.pass.table ≡ replica.now.table }
-    requires room { (replies.old.items ≡ [])
-        × (length steps.items ≤ vec_capacity replies.old) }
+    requires room { (replies.old.items ≡ []) × (length steps.items ≤ replies.old.room) }
     ensures table { worker.new.pass.table ≡ worker.old.pass.table }
     ensures went { StepsWent worker.old steps.items replies.new.items worker.new }
 {
@@ -108,7 +108,7 @@ pub(crate) fn take_steps<M: Absorbing, R: Wait, G: Gate>(
         let at = replies.len();
         gate.before(job, at);
         let reply = take_step(rt, alloc, replica, worker, step);
-        replies.push_reserved(reply);
+        replies.push(reply);
         gate.after(job, at);
     }
 }

@@ -1,7 +1,8 @@
 //! A job that has its room.
-ghost use Rattle.std.specs.Prelude.{◌≡◌, ◌≤◌, [], length, vec_capacity};
+ghost use Rattle.std.specs.Prelude.{◌≡◌, ◌≤◌, [], length};
 
-use crate::job::{Step, StepReply};
+use crate::job::Step;
+use crate::replies::Replies;
 use warm_refbuffer::RefBuffer;
 
 // A job with its room.
@@ -10,7 +11,7 @@ pub(crate) struct Ready {
     pub(crate) job: usize,
     pub(crate) buffer: RefBuffer,
     pub(crate) steps: Vec<Step>,
-    pub(crate) replies: Vec<StepReply>,
+    pub(crate) replies: Replies,
     ghost empty: { buffer.refs ≡ [] },
-    ghost room: { (replies.items ≡ []) × (length steps.items ≤ vec_capacity replies) },
+    ghost room: { (replies.items ≡ []) × (length steps.items ≤ replies.room) },
 }

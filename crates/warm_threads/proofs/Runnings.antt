@@ -9,10 +9,10 @@ use Rattle.warm_turn.specs.Turns.{Runs, IsLast, entry, first_pass}
 use Rattle.warm_gossip.specs.declared.call.Call.{Call}
 use Rattle.warm_gossip.specs.declared.call.Reply.{Reply}
 use Rattle.warm_replica.specs.declared.job.Job.{Job}
-use Rattle.warm_replica.specs.declared.job.StepReply.{StepReply}
 use Rattle.warm_replica.specs.Jobs.{Calls, JobsWent}
 use Rattle.warm_replica.specs.Pairs.{Pairs}
-use Rattle.warm_threads.specs.Works.{AreDone, Leads, Works, WentOn, Went}
+use Rattle.warm_replica.specs.Replied.{AreTaken, Replied}
+use Rattle.warm_threads.specs.Works.{Leads, Works, WentOn, Went}
 use Rattle.warm_threads.proofs.Pairings.{pairs_then, triples_of}
 
 module _ {X : Type 0} (goes : X → Call → Reply → X → Type 0) where
@@ -27,8 +27,8 @@ module _ {X : Type 0} (goes : X → Call → Reply → X → Type 0) where
   leads_then x y z h g = (h.0 ++ g.0, runs_then x y z h.0 g.0 h.1 g.1)
 
   -- jobs that were run from the opening of a turn on, and a machine that the turn gave back
-  pub jobs_work : (x z : X) (w : View X Call Reply) (jobs : List Job) (replies : List (Vec StepReply)) → JobsWent (first_pass x) jobs replies w → All AreDone replies → IsLast goes x w z → Works goes jobs x z
-  jobs_work x z w jobs replies went done last =
+  pub jobs_work : (x z : X) (w : View X Call Reply) (jobs : List Job) (replies : List Replied) → JobsWent (first_pass x) jobs replies w → All AreTaken replies → IsLast goes x w z → Works goes jobs x z
+  jobs_work x z w jobs replies went taken last =
       let fan = went.0 in
       let more = went.1 in
       let held : w.ended ≡ fan ∷ more = went.2.ended in
@@ -36,7 +36,7 @@ module _ {X : Type 0} (goes : X → Call → Reply → X → Type 0) where
         calls = last.history;
         runs = last.reaches;
         replies = replies;
-        done = done;
+        taken = taken;
         workers = more;
         each = went.4;
         stand = λ k e at. last.others (suc k) e (subst (λ es. get_elem? es (suc k) ≡ some e) (sym held) at);

@@ -9,19 +9,9 @@ use Rattle.warm_turn.specs.Turns.{Runs, NoRepeat, calls_by}
 use Rattle.warm_gossip.specs.declared.call.Call.{Call}
 use Rattle.warm_gossip.specs.declared.call.Reply.{Reply}
 use Rattle.warm_replica.specs.declared.job.Job.{Job}
-use Rattle.warm_replica.specs.declared.job.StepReply.{StepReply}
-use Rattle.warm_replica.specs.declared.job.StepReply.TheVariants.{Touched, Flushed}
 use Rattle.warm_replica.specs.Jobs.{Calls, JobWentAs}
 use Rattle.warm_replica.specs.Pairs.{Triples}
-
--- a step was done: a reference is in the buffer, or the replica has absorbed what was in it
-abbrev pub IsDone : StepReply → Type 0
-IsDone Touched = Unit {0}
-IsDone Flushed = Unit {0}
-IsDone reply = ⊥
-
-abbrev pub AreDone : Vec StepReply → Type 0
-AreDone replies = All IsDone replies.items
+use Rattle.warm_replica.specs.Replied.{AreTaken, Replied}
 
 module _ {X : Type 0} (goes : X → Call → Reply → X → Type 0) where
   -- some legal list of calls leads from one state to the other
@@ -29,12 +19,12 @@ module _ {X : Type 0} (goes : X → Call → Reply → X → Type 0) where
   Leads x z = (calls : Calls) × Runs goes x calls z
 
   -- A legal list of calls leads from one state to the other in which the calls of each job's own number are just the flushes of that job's
-  -- steps, all of them done; no two jobs have one number
+  -- steps, all of them taken; no two jobs have one number
   pub record Works (jobs : List Job) (x z : X) : Type 0 where
     pub calls : Calls
     pub runs : Runs goes x calls z
-    pub replies : List (Vec StepReply)
-    pub done : All AreDone replies
+    pub replies : List Replied
+    pub taken : All AreTaken replies
     pub workers : List (Ended Call Reply)
     pub each : Triples JobWentAs jobs replies workers
     pub stand : (k : ℕ) (e : Ended Call Reply) → get_elem? workers k ≡ some e → calls_by e.number calls ≡ e.calls

@@ -2,13 +2,14 @@
 ghost use Rattle.std.specs.Prelude.{◌≡◌, ◌↔◌, ◌≤◌, length, IsTrue, IfOk};
 ghost use Rattle.std.specs.List.{All};
 ghost use Rattle.warm_replica.specs.declared.fan.TheConstants.{MAX_JOBS};
-ghost use Rattle.warm_threads.specs.Works.{IsDone, AreDone, Works};
+ghost use Rattle.warm_replica.specs.Replied.{AreTaken};
+ghost use Rattle.warm_threads.specs.Works.{Works};
 
 use std::alloc::Global;
 use std::sync::Wait;
 use std::thread::Threads;
 use warm_play_fault::PlayFault;
-use warm_replica::{Absorbing, Gate, Job, RunFault, StepReply, run_workers};
+use warm_replica::{Absorbing, Gate, Job, Replies, RunFault, run_workers};
 use warm_turn::Turn;
 
 // Nobody is held back.
@@ -21,25 +22,11 @@ impl Gate for Open {
     fn after(&self, _job: usize, _step: usize) {}
 }
 
-// Whether a step was done.
-fn is_done(reply: &StepReply) -> bool
-    ensures { IsTrue result ↔ IsDone reply.now }
+// Whether all steps of all jobs were taken.
+fn all_taken(replies: &[Replies]) -> bool
+    ensures { IsTrue result ↔ All AreTaken replies.now }
 {
-    matches!(reply, StepReply::Touched | StepReply::Flushed)
-}
-
-// Whether all steps of a job were done.
-fn are_done(replies: &Vec<StepReply>) -> bool
-    ensures { IsTrue result ↔ AreDone replies.now }
-{
-    replies.iter().all(|reply| is_done(reply))
-}
-
-// Whether all steps of all jobs were done.
-fn all_done(replies: &[Vec<StepReply>]) -> bool
-    ensures { IsTrue result ↔ All AreDone replies.now }
-{
-    replies.iter().all(|list| are_done(list))
+    replies.iter().all(|list| list.are_taken())
 }
 
 /// Has the machine's workers do their jobs, each in a thread of its own, and gives the machine back when all have ended.
@@ -69,7 +56,7 @@ pub(crate) fn work<M: Absorbing + Send + Drop, R: Threads + Wait + Sync>(
         Err(RunFault::NoThread) => return Err(PlayFault::NoThread),
         Err(_) => return Err(PlayFault::Memory),
     };
-    if !all_done(&all) {
+    if !all_taken(&all) {
         return Err(PlayFault::Memory);
     }
     match closed {

@@ -2,7 +2,7 @@ use Rattle.std.proofs.Common.{rules, subst}
 use Rattle.std.specs.List.{All}
 use Rattle.warm_turn.specs.Turns.{IsLast}
 use Rattle.warm_replica.specs.Jobs.{JobsWent}
-use Rattle.warm_threads.specs.Works.{AreDone}
+use Rattle.warm_replica.specs.Replied.{AreTaken}
 use Rattle.warm_threads.proofs.Runnings.{jobs_work}
 use Rattle.warm_threads.proofs.work.work.Goals as goal
 
@@ -13,8 +13,8 @@ returns-in-Ok-closed-clause-works g c =
     let w = c.run_workers-ran.new.pass.view in
     let jobs = c.args.jobs.items in
     let replies = c.in-Ok-ran.all.items in
-    let done : All AreDone replies = search rules in
+    let taken : All AreTaken replies = search rules in
     jobs_work g.M.Machine.goes x z w jobs replies
     (subst (λ v. JobsWent v jobs replies w) c.in-Ok.ensures.first c.in-Ok-ran.ensures.went)
-    done
+    taken
     (subst (λ o. IsLast g.M.Machine.goes o w z) c.in-Ok.ensures.opening c.in-Ok-closed.ensures.last)

@@ -1,0 +1,29 @@
+-- The replies of a job, of which those to touches that went well are counted.
+use Rattle.std.specs.Prelude.{ℕ, List, [], ◌∷◌, ◌++◌, replicate}
+use Rattle.std.specs.List.{All}
+use Rattle.warm_replica.specs.declared.job.StepReply.{StepReply}
+use Rattle.warm_replica.specs.declared.job.StepReply.TheVariants.{Touched, Flushed}
+use Rattle.warm_replica.specs.declared.replies.Run.{Run}
+
+-- one reply for each step, and for how many there is room
+pub record Replied : Type 0 where
+  pub items : List StepReply
+  pub room : ℕ
+
+-- the replies that runs of touches stand for, each with the reply that ended it
+pub ended : List Run → List StepReply
+ended [] = []
+ended (run ∷ runs) = replicate run.touched Touched ++ run.reply ∷ ended runs
+
+-- the same, and so many touches after the last run
+abbrev pub replies_of : List Run → ℕ → List StepReply
+replies_of runs touched = ended runs ++ replicate touched Touched
+
+-- the step put its reference into the buffer, or had the replica absorb what was there
+abbrev pub IsTaken : StepReply → Type 0
+IsTaken Touched = Unit {0}
+IsTaken Flushed = Unit {0}
+IsTaken reply = ⊥
+
+abbrev pub AreTaken : Replied → Type 0
+AreTaken replies = All IsTaken replies.items

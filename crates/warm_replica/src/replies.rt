@@ -1,0 +1,144 @@
+//! The replies to the steps of a job.
+ghost use Rattle.std.specs.Prelude.{◌≡◌, ◌↔◌, ◌≤◌, ◌<◌, ◌+◌, ◌∷◌, ◌++◌, [], length, replicate, vec_capacity};
+ghost use Rattle.std.specs.Prelude.{IsTrue, IfOk, IfErr};
+ghost use Rattle.std.specs.List.{All};
+ghost use Rattle.warm_replica.specs.declared.job.StepReply.TheVariants.{Touched};
+ghost use Rattle.warm_replica.specs.Replied.{AreTaken, IsTaken, replies_of};
+
+use crate::job::StepReply;
+use std::alloc::{AllocError, Global};
+use std::marker::Model;
+
+// So many steps answered `Touched`, and then another reply.
+#[derive(Drop)]
+pub(crate) struct Run {
+    touched: usize,
+    reply: StepReply,
+}
+
+/// The replies to the steps of a job, one for each step, in order. Those to references that went into the buffer one after another
+/// are counted, since they are most of them and say nothing more. Contracts see `Replied`: the list `items`, and for how many there
+/// is `room`.
+#[derive(Drop)]
+pub struct Replies {
+    runs: Vec<Run>,
+    touched: usize,
+    len: usize,
+}
+
+impl Model for Replies {
+    ghost use Rattle.std.specs.Prelude.{◌≡◌, length, vec_capacity};
+    ghost use Rattle.warm_replica.specs.Replied.{Replied, replies_of};
+
+    ghost Value = { Replied };
+
+    ghost view = { λ r. record {
+        items = replies_of r.runs.items r.touched; room = vec_capacity r.runs } };
+
+    ghost invariant = { λ r. length (replies_of r.runs.items r.touched) ≡ r.len };
+}
+
+impl Replies {
+    // No replies, with room for so many.
+    pub(crate) fn with_capacity(alloc: Global, steps: usize) -> Result<Replies, AllocError>
+        ensures empty { IfOk result (λ r. r.items ≡ []) }
+        ensures room { IfOk result (λ r. steps ≤ r.room) }
+    {
+        let runs = Vec::with_capacity(alloc, steps)?;
+        Ok(Replies {
+            runs,
+            touched: 0,
+            len: 0,
+        })
+    }
+
+    /// How many replies these are: as many as the job took steps.
+    pub fn len(&self) -> usize
+        ensures { result ≡ length self.now.items }
+    {
+        self.len
+    }
+
+    // One reply more, for which there is room. Takes no memory.
+    pub(crate) fn push(&mut self, reply: StepReply)
+        requires room { length self.old.items < self.old.room }
+        ensures items { self.new.items ≡ self.old.items ++ reply ∷ [] }
+        ensures room { self.old.room ≤ self.new.room }
+    {
+        self.len += 1;
+        match reply {
+            StepReply::Touched => self.touched += 1,
+            reply => {
+                let touched = self.touched;
+                self.runs.push_reserved(Run { touched, reply });
+                self.touched = 0;
+            }
+        }
+    }
+
+    /// Whether each step put its reference into the buffer, or had the replica absorb what was there: none was a call, and none was
+    /// refused.
+    pub fn are_taken(&self) -> bool
+        ensures { IsTrue result ↔ AreTaken self.now }
+    {
+        are_ended_taken(&self.runs)
+    }
+
+    /// The replies, one for each step, in order.
+    ///
+    /// # Errors
+    /// Where room for them is refused, the replies come back.
+    pub fn into_vec(self, alloc: Global) -> Result<Vec<StepReply>, Replies>
+        ensures all { IfOk result (λ all. all.items ≡ self.items) }
+        ensures kept { IfErr result (λ back. back ≡ self) }
+    {
+        let Ok(mut all) = Vec::with_capacity(alloc, self.len) else {
+            return Err(self);
+        };
+        let Replies {
+            runs,
+            touched,
+            len: _,
+        } = self;
+        push_runs(&mut all, runs, touched);
+        Ok(all)
+    }
+}
+
+// Whether a step was taken.
+fn is_taken(reply: &StepReply) -> bool
+    ensures { IsTrue result ↔ IsTaken reply.now }
+{
+    matches!(reply, StepReply::Touched | StepReply::Flushed)
+}
+
+// Whether the reply that ended each run is of a step that was taken.
+fn are_ended_taken(runs: &[Run]) -> bool
+    ensures { IsTrue result ↔ All (λ run. IsTaken run.reply) runs.now }
+{
+    runs.iter().all(|run| is_taken(&run.reply))
+}
+
+// So many touches more. There is room for them.
+fn push_touched(all: &mut Vec<StepReply>, count: usize)
+    requires room { length all.old.items + count ≤ vec_capacity all.old }
+    ensures items { all.new.items ≡ all.old.items ++ replicate count Touched }
+    ensures room { vec_capacity all.old ≤ vec_capacity all.new }
+{
+    for _touch in 0..count {
+        all.push_reserved(StepReply::Touched);
+    }
+}
+
+// All replies that runs stand for. There is room for them.
+fn push_runs(all: &mut Vec<StepReply>, runs: Vec<Run>, touched: usize)
+    requires empty { all.old.items ≡ [] }
+    requires room { length (replies_of runs.items touched) ≤ vec_capacity all.old }
+    ensures items { all.new.items ≡ replies_of runs.items touched }
+{
+    for run in runs {
+        push_touched(all, run.touched);
+        all.push_reserved(run.reply);
+    }
+    push_touched(all, touched);
+}
