@@ -11,7 +11,7 @@ use std::time::{Clock, Duration};
 use warm_devices::{DeviceFault, MemDevice, PageDevice};
 use warm_gossip::{Call, Node, Reply};
 use warm_pool::{Pool, Slot};
-use warm_replica::{Absorbing, BoxedCall, Gate, Job, Step, StepReply, run_workers};
+use warm_replica::{Absorbing, BoxedCall, Gate, Job, Replies, Step, StepReply, run_workers};
 use warm_stamps::{PageId, Reference, ReplicaId, Stamp};
 use warm_turn::{Machine, Turn};
 
@@ -107,9 +107,7 @@ impl Drop for Slow {
     }
 }
 
-// The job that pins, and the one that touches.
-const PINS: usize = 0;
-
+// The job that touches, after the one that pins.
 const TOUCHES: usize = 1;
 
 // The job that touches does so while the device is being read.
@@ -160,7 +158,7 @@ fn pins_and_touches<M: Absorbing + Drop + Send, R: Threads + Wait + Sync, G: Gat
     alloc: Global,
     machine: M,
     gate: &G,
-) -> Result<Vec<Vec<StepReply>>, Fail>
+) -> Result<Vec<Replies>, Fail>
     requires { M.is_fit machine }
 {
     let stamp = Stamp {
@@ -199,8 +197,12 @@ fn a_touch_waits_for_no_device(rt: HostRuntime) -> Result<(), Fail> {
         flags: &flags,
     };
     let replies = pins_and_touches(&rt, alloc, node, &gate)?;
-    let (Some(pinned), Some(touched)) = (replies.get(PINS), replies.get(TOUCHES)) else {
+    let mut replies = replies.into_iter();
+    let (Some(pinned), Some(touched)) = (replies.next(), replies.next()) else {
         return Err("each job is answered".into());
+    };
+    let Ok(pinned) = pinned.into_vec(alloc) else {
+        return Err("there is memory".into());
     };
     let [StepReply::Answered(reply)] = pinned.as_slice() else {
         return Err("the pin is answered".into());
@@ -213,7 +215,7 @@ fn a_touch_waits_for_no_device(rt: HostRuntime) -> Result<(), Fail> {
         generation: 1,
     };
     assert_eq!(rt; *slot, first);
-    assert!(rt; matches!(touched.as_slice(), [StepReply::Touched]));
+    assert!(rt; touched.len() == 1 && touched.are_taken());
     assert!(rt; flags.late.load(Ordering::SeqCst) == 0);
     Ok(())
 }

@@ -10,8 +10,8 @@ use warm_frames::{Frame, SUM_SIZE, SumTable, encode};
 use warm_gossip::{Call, NodeFault, Reply};
 use warm_refbuffer::RefBuffer;
 use warm_replica::{
-    Absorbing, BoxedCall, FlushFault, Gate, Job, MAX_JOBS, Mail, MemPost, Post, RunFault, Step,
-    StepReply, Worker, mail_loop, run_workers,
+    Absorbing, BoxedCall, FlushFault, Gate, Job, MAX_JOBS, Mail, MemPost, Post, Replies,
+    RunFault, Step, StepReply, Worker, mail_loop, run_workers,
 };
 use warm_stamps::{BUCKETS, ByteList, PageId, ReplicaId};
 use warm_turn::{Machine, Memory, Pass, Turn};
@@ -122,7 +122,7 @@ fn replies_to<M: Absorbing + Send, R: Threads + Wait + Sync>(
     alloc: Global,
     replica: &Turn<M>,
     pass: &mut Pass<M>,
-) -> Result<Result<Vec<Vec<StepReply>>, RunFault>, Ended>
+) -> Result<Result<Vec<Replies>, RunFault>, Ended>
     requires { pass.old.table ≡ replica.now.table }
     ensures { pass.new.table ≡ replica.now.table }
 {
@@ -133,12 +133,25 @@ fn replies_to<M: Absorbing + Send, R: Threads + Wait + Sync>(
     Ok(run_workers(rt, alloc, replica, pass, all, &Open))
 }
 
+// The replies of a job, one for each step. Where they are refused they come back, and are listed at the second try.
+fn listed(met: &mut Met, alloc: Global, replies: Replies) -> Result<Vec<StepReply>, Ended> {
+    let back = match replies.into_vec(alloc) {
+        Ok(list) => return Ok(list),
+        Err(back) => back,
+    };
+    met.refuse(back.len() == 3, "each step has its reply still")?;
+    match back.into_vec(alloc) {
+        Ok(list) => Ok(list),
+        Err(_) => Err(met.broken("a list of replies is refused again")),
+    }
+}
+
 // How many of the steps were refused for memory; none may be refused otherwise.
-fn refused_in(met: &mut Met, replies: &[Vec<StepReply>]) -> Result<usize, Ended> {
+fn refused_in(met: &mut Met, alloc: Global, replies: Vec<Replies>) -> Result<usize, Ended> {
     let mut refused = 0usize;
     for job in replies {
         met.holds(job.len() == 3, "each step has its reply")?;
-        for reply in job {
+        for reply in &listed(met, alloc, job)? {
             match reply {
                 StepReply::Touched | StepReply::Flushed => {}
                 StepReply::Failed(FlushFault::Memory) => refused = refused.wrapping_add(1),
@@ -167,7 +180,7 @@ fn run<M: Absorbing + Send, R: Threads + Wait + Sync>(
 {
     match replies_to(rt, alloc, replica, pass)? {
         Ok(replies) => {
-            let refused = refused_in(met, &replies)?;
+            let refused = refused_in(met, alloc, replies)?;
             if refused == 0 {
                 return Ok(());
             }
@@ -177,7 +190,7 @@ fn run<M: Absorbing + Send, R: Threads + Wait + Sync>(
     }
     match replies_to(rt, alloc, replica, pass)? {
         Ok(replies) => {
-            let refused = refused_in(met, &replies)?;
+            let refused = refused_in(met, alloc, replies)?;
             met.holds(refused == 0, "a step is refused again")
         }
         Err(_) => Err(met.broken("jobs are refused again")),

@@ -3,7 +3,7 @@
 ghost use Rattle.std.specs.Prelude.{◌≡◌};
 
 use crate::jobs::Open;
-use crate::setup::{fresh, opened, reference};
+use crate::setup::{fresh, listed, opened, reference};
 use std::alloc::Global;
 use std::sync::Wait;
 use std::test::Fail;
@@ -37,7 +37,7 @@ fn answered<M: Absorbing + Drop + Send, R: Threads + Wait + Sync>(
     let (replica, worker) = opened(alloc, machine, 1)?;
     let (mut pass, _buffer) = worker.into_parts();
     match run_workers(rt, alloc, &replica, &mut pass, jobs, &Open) {
-        Ok(all) => Ok(all),
+        Ok(all) => listed(alloc, all),
         Err(_) => Err("the jobs ran".into()),
     }
 }

@@ -1,5 +1,5 @@
 //! Rows of jobs in threads of their own.
-use crate::setup::{fresh, opened, reference};
+use crate::setup::{fresh, listed, opened, reference};
 use std::alloc::Global;
 use std::sync::Wait;
 use std::sync::atomic::{AtomicU64, Ordering};
@@ -98,7 +98,10 @@ fn ran<M: Absorbing + Drop + Send, R: Threads + Wait + Sync, G: Gate + Sync>(
     }
     let (replica, worker) = opened(alloc, machine, 1)?;
     let (mut pass, _buffer) = worker.into_parts();
-    let ran = run_workers(rt, alloc, &replica, &mut pass, jobs, gate);
+    let ran = match run_workers(rt, alloc, &replica, &mut pass, jobs, gate) {
+        Ok(all) => Ok(listed(alloc, all)?),
+        Err(fault) => Err(fault),
+    };
     let Ok(Reply::Pages(pages)) = replica.call(rt, &mut pass, Call::WarmList(100)) else {
         return Err("the pages are listed".into());
     };

@@ -7,7 +7,7 @@ use warm_devices::{MemDevice, PageDevice};
 use warm_gossip::Node;
 use warm_pool::Pool;
 use warm_refbuffer::RefBuffer;
-use warm_replica::{Absorbing, Worker};
+use warm_replica::{Absorbing, Replies, StepReply, Worker};
 use warm_stamps::{PageId, Reference, ReplicaId, Stamp};
 use warm_turn::{Machine, Turn};
 
@@ -58,4 +58,20 @@ pub(crate) fn reference(no: u32, time: u64) -> Result<Reference, Fail> {
             replica: ReplicaId::new(1)?,
         },
     })
+}
+
+// The replies of each job, one for each step.
+pub(crate) fn listed(alloc: Global, all: Vec<Replies>) -> Result<Vec<Vec<StepReply>>, Fail> {
+    let mut lists = Vec::with_capacity(alloc, all.len())?;
+    for replies in all {
+        let steps = replies.len();
+        let Ok(list) = replies.into_vec(alloc) else {
+            return Err("there is memory".into());
+        };
+        if list.len() != steps {
+            return Err("each step has its reply".into());
+        }
+        lists.push(list)?;
+    }
+    Ok(lists)
 }

@@ -11,7 +11,7 @@ pub record Replied : Type 0 where
   pub room : ℕ
 
 -- the replies that runs of touches stand for, each with the reply that ended it
-pub ended : List Run → List StepReply
+abbrev pub ended : List Run → List StepReply
 ended [] = []
 ended (run ∷ runs) = replicate run.touched Touched ++ run.reply ∷ ended runs
 

@@ -33,8 +33,12 @@ hist_text (Twice two) = codes " last " ++ stamp_text two.last ++ codes " prev " 
 abbrev pub entry_text : Entry → List ℕ
 entry_text entry = page_text entry.page ++ hist_text entry.hist ++ codes "\n"
 
+-- the line after so many pages
+abbrev pub end_text : ℕ → List ℕ
+end_text count = codes "end " ++ decimal count ++ codes "\n"
+
 abbrev pub shown_text : List Entry → List ℕ
-shown_text entries = flat_map entry_text entries ++ (codes "end " ++ decimal (length entries) ++ codes "\n")
+shown_text entries = flat_map entry_text entries ++ end_text (length entries)
 
 -- how many frames were answered, and the first one's number where there is one
 abbrev pub took_text : ℕ → ℕ → List ℕ

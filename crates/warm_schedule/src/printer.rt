@@ -1,11 +1,12 @@
 //! What is printed for the answers of a world. Nothing here takes memory.
 ghost use Rattle.std.specs.Prelude.{◌≡◌, ◌<◌, codes, flat_map};
-ghost use Rattle.warm_schedule.specs.Answers.{Prints, page_text, stamp_text, hist_text, entry_text, shown_text, pages_text};
+ghost use Rattle.warm_schedule.specs.Answers.{Prints, page_text, stamp_text, hist_text, entry_text, end_text};
+ghost use Rattle.warm_schedule.specs.Answers.{shown_text, pages_text};
 ghost use Rattle.warm_schedule.specs.Answers.{slot_text, hex_text, byte_text, bytes_text, page_if_any, refused_text};
 ghost use Rattle.warm_schedule.specs.Answers.{answer_text, bad_line, end_refused};
 
 use std::io::{self, Write};
-use warm_history::{Entry, History, PageHist};
+use warm_history::{Entries, Entry, History, PageHist};
 use warm_pool::Slot;
 use warm_stamps::{PageId, Stamp};
 use warm_world::{Answer, WorldFault};
@@ -55,17 +56,32 @@ fn print_entry<W: Write>(writer: &mut W, entry: Entry) -> io::Result<()>
     writer.write_all(b"\n")
 }
 
+// The lines of entries.
+fn print_entries<W: Write>(writer: &mut W, entries: Entries<'_>) -> io::Result<()>
+    ensures { Prints result (W.contents writer.old) (W.contents writer.new)
+        (flat_map entry_text entries.entry) }
+{
+    for entry in entries {
+        print_entry(writer, entry)?;
+    }
+    Ok(())
+}
+
+// The line after the pages, with their number.
+fn print_end<W: Write>(writer: &mut W, count: usize) -> io::Result<()>
+    ensures { Prints result (W.contents writer.old) (W.contents writer.new) (end_text count) }
+{
+    writeln!(writer, "end {count}")
+}
+
 /// Prints a history as `show` does: a line for each page, in page order, and then their number. After an error nothing is said
 /// of how much of it was written.
 pub fn print_history<W: Write>(writer: &mut W, history: &History) -> io::Result<()>
     ensures { Prints result (W.contents writer.old) (W.contents writer.new)
         (shown_text history.now) }
 {
-    for entry in history.iter() {
-        print_entry(writer, entry)?;
-    }
-    let count = history.len();
-    writeln!(writer, "end {count}")
+    print_entries(writer, history.iter())?;
+    print_end(writer, history.len())
 }
 
 // Each page of a list, after a space.
