@@ -10,8 +10,8 @@ use warm_frames::{Frame, SUM_SIZE, SumTable, encode};
 use warm_gossip::{Call, NodeFault, Reply};
 use warm_refbuffer::RefBuffer;
 use warm_replica::{
-    Absorbing, BoxedCall, FlushFault, Gate, Job, MAX_JOBS, Mail, MemPost, Post, Replies,
-    RunFault, Step, StepReply, Worker, mail_loop, run_workers,
+    Absorbing, BoxedCall, FlushFault, Gate, Job, MAX_JOBS, Mail, MemPost, Post, Replies, RunFault,
+    Step, StepReply, Worker, mail_loop, run_workers,
 };
 use warm_stamps::{BUCKETS, ByteList, PageId, ReplicaId};
 use warm_turn::{Machine, Memory, Pass, Turn};

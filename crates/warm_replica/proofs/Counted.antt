@@ -45,14 +45,14 @@ replies_long runs n = omega (arith, ended_long runs, length-append (ended runs) 
 -- where all replies have room, those of the first runs leave room for the next run's
 pub run_fits : (all xs rest : List Run) (run : Run) (n room : ℕ) → xs ++ run ∷ rest ≡ all → length (replies_of all n) ≤ room → length (ended xs) + run.touched + 1 ≤ room
 run_fits all xs rest run n room is fits = omega (
-    arith,
-    ap (λ (l : List Run). length (ended l)) is,
-    ap length (ended_append xs (run ∷ rest)),
-    length-append (ended xs) (ended (run ∷ rest)),
-    length-append (replicate run.touched Touched) (run.reply ∷ ended rest),
-    length-replicate run.touched Touched,
-    length-append (ended all) (replicate n Touched),
-    fits,
+  arith,
+  ap (λ (l : List Run). length (ended l)) is,
+  ap length (ended_append xs (run ∷ rest)),
+  length-append (ended xs) (ended (run ∷ rest)),
+  length-append (replicate run.touched Touched) (run.reply ∷ ended rest),
+  length-replicate run.touched Touched,
+  length-append (ended all) (replicate n Touched),
+  fits,
 )
 
 -- the replies that end runs are of steps that were taken where all replies are

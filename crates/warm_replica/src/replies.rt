@@ -33,7 +33,9 @@ impl Model for Replies {
     ghost Value = { Replied };
 
     ghost view = { λ r. record {
-        items = replies_of r.runs.items r.touched; room = vec_capacity r.runs } };
+      items = replies_of r.runs.items r.touched;
+      room = vec_capacity r.runs;
+    } };
 
     ghost invariant = { λ r. length (replies_of r.runs.items r.touched) ≡ r.len };
 }

@@ -16,7 +16,7 @@ push_touched-requires c =
     let before = c.loop-run.invariant in
     let is = ap (λ r. c.loop-run.yielded ++ r) (sym c.in-Some.ensures.steps.0) ∙ before.rest in
     let fits = run_fits c.args.runs.items c.loop-run.yielded _ c.in-Some.run' c.args.touched (vec_capacity c.loop-run.all) is before.room in
-    record { room = omega (arith, fits, ap length before.items); }
+    record { room = omega (arith, fits, ap length before.items) }
 
 pub push_reserved-requires : goal.push_reserved-requires
 push_reserved-requires c =
@@ -25,14 +25,14 @@ push_reserved-requires c =
     let is = ap (λ r. c.loop-run.yielded ++ r) (sym c.in-Some.ensures.steps.0) ∙ before.rest in
     let fits = run_fits c.args.runs.items c.loop-run.yielded _ c.in-Some.run' c.args.touched (vec_capacity c.loop-run.all) is before.room in
     omega (
-        arith,
-        fits,
-        ap length before.items,
-        ap length more.items,
-        length-append c.loop-run.all.items (replicate c.in-Some.run'.touched Touched),
-        length-replicate c.in-Some.run'.touched Touched,
-        more.room,
-        c.push_touched.new.all.ok.0,
+      arith,
+      fits,
+      ap length before.items,
+      ap length more.items,
+      length-append c.loop-run.all.items (replicate c.in-Some.run'.touched Touched),
+      length-replicate c.in-Some.run'.touched Touched,
+      more.room,
+      c.push_touched.new.all.ok.0,
     )
 
 pub loop-run-preserved : goal.loop-run-preserved

@@ -10,8 +10,7 @@ pub returns : goal.returns
 returns c =
     let s = c.self.inside in
     let shown = ap (λ (v : Replied). v.items) c.self.view_is in
-    let runs = c.deref.ensures.value in
-    (
+    let runs = c.deref.ensures.value in (
       λ t. subst (λ (l : List StepReply). All IsTaken l) shown (taken_if s.runs.items s.touched (subst (λ (l : List Run). All (λ r. IsTaken r.reply) l) runs (c.are_ended_taken.ensures.0 t))),
       λ h. c.are_ended_taken.ensures.1 (subst (λ (l : List Run). All (λ r. IsTaken r.reply) l) (sym runs) (taken_only_if s.runs.items s.touched (subst (λ (l : List StepReply). All IsTaken l) (sym shown) h))),
     )

@@ -1,4 +1,4 @@
-use Rattle.std.proofs.Common.{◌≡◌, ◌∙◌, ap, sym, length, [], ◌∷◌, ◌++◌, arith}
+use Rattle.std.proofs.Common.{◌∙◌, ap, length, [], ◌∷◌, ◌++◌, arith}
 use Rattle.std.proofs.lemmas.List.{length-append}
 use Rattle.warm_replica.specs.Replied.{Replied, replies_of}
 use Rattle.warm_replica.proofs.Counted.{reply_more, replies_long}
