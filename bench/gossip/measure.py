@@ -20,7 +20,7 @@ OURS = HERE.parent.parent / "crates/bench_gossip/out/bench_gossip"
 RUNS = 5
 BUCKETS = [1, 10, 64]
 STEPS = 16
-CHANGED = [0, 1, 10, 64]
+CHANGED = [0, 1, 10, 51, 64]
 LARGE = [500_000, 1_000_000, 2_000_000]
 
 
