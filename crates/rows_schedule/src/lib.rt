@@ -5,6 +5,8 @@
 #![tactic(auto)]
 
 #[cfg(test)]
+mod lines;
+#[cfg(test)]
 mod player;
 #[cfg(test)]
 mod random;

@@ -10,7 +10,7 @@ use std::process::Abort;
 use std::test::Fail;
 use std::{io, str};
 use warm_devices::{Flaky, MemDevice, PageDevice};
-use warm_schedule::{Line, LineFault, PlayFault, parse_line, play};
+use warm_schedule::{PlayFault, play};
 use warm_world::Setup;
 
 fn default_setup() -> Setup {
@@ -709,33 +709,4 @@ fn a_refused_growth_is_as_a_comment(rt: HostRuntime) -> Result<(), Fail> {
     }
     assert_eq!(rt; lines.next(), None);
     Ok(())
-}
-
-// The limit is parse_line's own, whatever a player keeps of a line.
-#[test]
-fn a_line_has_a_greatest_length(rt: HostRuntime) -> Result<(), Fail> {
-    let comment = vec![in rt.alloc(); b'#'; 262145]?;
-    assert!(rt;
-        matches!(
-            parse_line(rt.alloc(), &comment.as_slice()[1..]),
-            Ok(Line::Nothing)
-        )
-    );
-    assert!(rt;
-        matches!(
-            parse_line(rt.alloc(), comment.as_slice()),
-            Err(LineFault::Bad)
-        )
-    );
-    Ok(())
-}
-
-#[test]
-fn a_line_fault_has_its_number_and_name(rt: HostRuntime) {
-    assert!(rt; matches!(parse_line(rt.alloc(), b"foo"), Err(LineFault::Bad)));
-    assert_eq!(rt; (LineFault::Bad.code(), LineFault::Bad.name()), (2, "Bad"));
-    assert_eq!(rt;
-        (LineFault::Memory.code(), LineFault::Memory.name()),
-        (1, "Memory")
-    );
 }

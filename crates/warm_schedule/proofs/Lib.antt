@@ -3,5 +3,6 @@ pub mod Numbers
 pub mod Hexes
 pub mod Stream
 pub mod Few
+mod Workers
 mod Runs
 mod Examples

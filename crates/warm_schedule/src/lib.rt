@@ -1,8 +1,8 @@
 //! Schedules: lines of text that say what happens in a world of warm-standby replicas, and the player that answers them.
 //!
-//! [`parse_line`] reads one line. [`play`] reads a whole schedule from any reader and writes the answers to any writer, each as
-//! [`print_answer`] prints it, and [`random_schedule`] writes a schedule that a seed gives. docs/FORMATS.md has the language, line
-//! by line.
+//! [`parse_line`] reads one line, and [`parse_worker_line`] one that asks something of a worker. [`play`] reads a whole schedule
+//! from any reader and writes the answers to any writer, each as [`print_answer`] prints it, and [`random_schedule`] writes a
+//! schedule that a seed gives. docs/FORMATS.md has the language, line by line.
 #![tactic(auto)]
 
 mod fields;
@@ -12,6 +12,7 @@ mod player;
 mod printer;
 mod random;
 mod text;
+mod worker;
 
 pub use parse::{Line, LineFault, MAX_LINE, parse_line};
 pub use player::play;
@@ -19,3 +20,4 @@ pub use printer::{print_answer, print_bad_line, print_end_refused, print_history
 pub use random::random_schedule;
 pub use text::first_line;
 pub use warm_play_fault::PlayFault;
+pub use worker::{WorkerLine, parse_worker_line};

@@ -1,15 +1,17 @@
 //! The lines of a schedule.
-ghost use Rattle.std.specs.Prelude.{◌≡◌, false, bytes_eq, codes, option_map, option_and_then};
+ghost use Rattle.std.specs.Prelude.{◌≡◌, false, bytes_eq, codes, option_map, option_and_then, MatchOption, Some, None};
 ghost use Rattle.warm_schedule.specs.Text.{words};
-ghost use Rattle.warm_schedule.specs.Grammar.{refer_of, flush_of, send_of, offer_of, deliver_of, pin_of, unpin_of, put_of, get_of};
+ghost use Rattle.warm_schedule.specs.Grammar.{send_of, offer_of, deliver_of, pin_of, unpin_of, put_of, get_of};
 ghost use Rattle.warm_schedule.specs.Grammar.{victim_of, warm_of, warmstep_of, restart_of, show_of};
 ghost use Rattle.warm_schedule.specs.Grammar.{alone_event_of, event_of, meaning};
 ghost use Rattle.warm_world.specs.declared.event.Event.TheVariants.{Put};
 ghost use Rattle.warm_schedule.specs.Fields.{bytes_of};
+ghost use Rattle.warm_schedule.specs.declared.parse.Line.TheVariants.{Nothing, Act};
 ghost use Rattle.warm_schedule.specs.Reading.{Reads, IsPut, PutsBytes, line_fault_code, line_fault_name};
 
 use crate::fields::{after_at, bytes, number_at, page_at, slot_at};
 use crate::text::next_word;
+use crate::worker::{flush, refer};
 use std::alloc::Global;
 use thiserror::Error;
 use warm_pool::Slot;
@@ -61,39 +63,11 @@ impl LineFault {
 /// How many bytes a line may have, its line end not included: a longer one is bad, whatever it begins with.
 pub const MAX_LINE: usize = 262144;
 
-const MOST_REPLICA: u64 = 65535;
-
-const MOST_WORKER: u64 = 65535;
+pub(crate) const MOST_REPLICA: u64 = 65535;
 
 const MOST_COUNT: u64 = 4294967295;
 
 // ---- the commands, by what follows their first word
-
-#[tactic(auto, unfolding(crate::specs::Grammar::refer_of))]
-fn refer(fields: &[u8]) -> Option<Event>
-    ensures { result ≡ refer_of (words fields.now) }
-{
-    let (replica, rest) = number_at(fields, MOST_REPLICA)?;
-    let (worker, rest) = number_at(rest, MOST_WORKER)?;
-    let (page, rest) = page_at(rest)?;
-    let (time, rest) = number_at(rest, u64::MAX)?;
-    if next_word(rest).is_some() {
-        return None;
-    }
-    Some(Event::Refer(replica as u16, worker as u16, page, time))
-}
-
-#[tactic(auto, unfolding(crate::specs::Grammar::flush_of))]
-fn flush(fields: &[u8]) -> Option<Event>
-    ensures { result ≡ flush_of (words fields.now) }
-{
-    let (replica, rest) = number_at(fields, MOST_REPLICA)?;
-    let (worker, rest) = number_at(rest, MOST_WORKER)?;
-    if next_word(rest).is_some() {
-        return None;
-    }
-    Some(Event::Flush(replica as u16, worker as u16))
-}
 
 #[tactic(auto, unfolding(crate::specs::Grammar::send_of))]
 fn send(fields: &[u8]) -> Option<Event>
@@ -291,10 +265,10 @@ fn plain_event(command: &[u8], fields: &[u8]) -> Option<Event>
     ensures { result ≡ event_of command.now (words fields.now) }
 {
     if command == b"ref".as_slice() {
-        return refer(fields);
+        return Some(refer(fields)?.event());
     }
     if command == b"flush".as_slice() {
-        return flush(fields);
+        return Some(flush(fields)?.event());
     }
     if command == b"send".as_slice() {
         return send(fields);
@@ -320,6 +294,25 @@ fn event(alloc: Global, command: &[u8], fields: &[u8]) -> Result<Event, LineFaul
     }
 }
 
+// The command of a line and what follows it, or nothing where the line has no word or is a comment. `None` where it is too long.
+#[tactic(auto, unfolding(crate::specs::Grammar::meaning, crate::specs::Grammar::line_of))]
+pub(crate) fn command_in(line: &[u8]) -> Option<Option<(&[u8], &[u8])>>
+    ensures { MatchOption result (meaning line.now ≡ None)
+        (λ begun. MatchOption begun (meaning line.now ≡ Some Nothing)
+        (λ x. meaning line.now ≡ option_map Act (event_of x.0.now (words x.1.now)))) }
+{
+    if line.len() > MAX_LINE {
+        return None;
+    }
+    let Some((command, fields)) = next_word(line) else {
+        return Some(None);
+    };
+    if let [b'#', ..] = command {
+        return Some(None);
+    }
+    Some(Some((command, fields)))
+}
+
 /// What a line says, its line end not included.
 ///
 /// Words are parted by one or more spaces (byte 20); every other byte, a tab, a NUL and the CR of a foreign line end among
@@ -329,19 +322,15 @@ fn event(alloc: Global, command: &[u8], fields: &[u8]) -> Result<Event, LineFaul
 ///   the language.
 /// - `Memory` comes only where room for the bytes of a `put` was refused, and only for a `put` of the language. No other line
 ///   takes memory.
-#[tactic(auto, unfolding(crate::specs::Grammar::meaning, crate::specs::Grammar::line_of))]
 pub fn parse_line(alloc: Global, line: &[u8]) -> Result<Line, LineFault>
     ensures { Reads PutsBytes (meaning line.now) result }
 {
-    if line.len() > MAX_LINE {
-        return Err(LineFault::Bad);
+    match command_in(line) {
+        Some(Some((command, fields))) => {
+            let event = event(alloc, command, fields)?;
+            Ok(Line::Act(event))
+        }
+        Some(None) => Ok(Line::Nothing),
+        None => Err(LineFault::Bad),
     }
-    let Some((command, fields)) = next_word(line) else {
-        return Ok(Line::Nothing);
-    };
-    if let [b'#', ..] = command {
-        return Ok(Line::Nothing);
-    }
-    let event = event(alloc, command, fields)?;
-    Ok(Line::Act(event))
 }

@@ -1,13 +1,11 @@
 -- What the lines of a schedule ask of workers.
-use Rattle.std.specs.Prelude.{◌≡◌, ℕ, ◌+◌, List, [], ◌∷◌, Bool, ◌&&◌, nat_le, Option, Some, None, if◌then◌else◌}
+use Rattle.std.specs.Prelude.{◌≡◌, ℕ, ◌+◌, List, [], ◌∷◌, Bool, ◌&&◌, nat_le, Option, Some, None, option_map, if◌then◌else◌}
 use Rattle.warm_stamps.specs.declared.PageId.{PageId}
 use Rattle.warm_stamps.specs.declared.Reference.{Reference}
-use Rattle.warm_world.specs.declared.event.Event.{Event}
-use Rattle.warm_world.specs.declared.event.Event.TheVariants.{Refer, Flush}
 use Rattle.warm_world.specs.Sizes.{Sizes}
 use Rattle.warm_schedule.specs.Grammar.{meaning}
-use Rattle.warm_schedule.specs.declared.parse.Line.{Line}
-use Rattle.warm_schedule.specs.declared.parse.Line.TheVariants.{Nothing, Act}
+use Rattle.warm_schedule.specs.Workers.{worker_line_in}
+use Rattle.warm_schedule.specs.declared.worker.WorkerLine.{WorkerLine}
 use Rattle.warm_play_fault.specs.declared.PlayFault.{PlayFault}
 use Rattle.warm_play_fault.specs.declared.PlayFault.TheVariants.{BadLine}
 use Rattle.warm_threads.specs.declared.ask.Ask.{Ask}
@@ -20,30 +18,25 @@ is_number n count = nat_le 1 n && nat_le n count
 abbrev pub has_worker : Sizes → ℕ → ℕ → Bool
 has_worker s i w = is_number i s.replicas && is_number w s.workers
 
--- a reference that the replica of a number makes
-abbrev pub reference : ℕ → PageId → ℕ → Reference
-reference i page time = record { page = page; stamp = record { time = time; replica = i } }
+-- a reference to a page at a time that the replica of a number makes
+abbrev pub reference : ℕ → (PageId × ℕ) → Reference
+reference i made = record { page = made.0; stamp = record { time = made.1; replica = i } }
 
--- to make a reference, or to flush where there is none
-abbrev pub ask : ℕ → ℕ → Option Reference → Ask
-ask i w made = record { replica = i; worker = w; reference = made }
+abbrev pub ask : WorkerLine → Ask
+ask line = record { replica = line.replica; worker = line.worker; reference = option_map (reference line.replica) line.reference }
 
 abbrev pub asked_if : Bool → Ask → Option (Option Ask)
 asked_if there a = if there then Some (Some a) else None
 
-abbrev pub asked_by : Sizes → Event → Option (Option Ask)
-asked_by s (Refer i w page time) = asked_if (has_worker s i w) (ask i w (Some (reference i page time)))
-asked_by s (Flush i w) = asked_if (has_worker s i w) (ask i w None)
-asked_by s event = None
-
--- what a line of this meaning asks, or nothing; None where threads can't play it
-abbrev pub asked_in : Sizes → Option Line → Option (Option Ask)
+-- what is asked of a worker, or nothing; None where it cannot be read so, or the setup has no such worker
+abbrev pub asked_in : Sizes → Option (Option WorkerLine) → Option (Option Ask)
 asked_in s None = None
-asked_in s (Some Nothing) = Some None
-asked_in s (Some (Act event)) = asked_by s event
+asked_in s (Some None) = Some None
+asked_in s (Some (Some line)) = asked_if (has_worker s line.replica line.worker) (ask line)
 
+-- what a line asks, or nothing; None where threads can't play it
 abbrev pub asked : Sizes → List ℕ → Option (Option Ask)
-asked s line = asked_in s (meaning line)
+asked s line = asked_in s (worker_line_in (meaning line))
 
 abbrev pub bad_or : Option (Option Ask) → ℕ → Option ℕ → Option ℕ
 bad_or None number later = Some number

@@ -1,12 +1,11 @@
 //! What a line asks of a worker.
-ghost use Rattle.std.specs.Prelude.{◌≡◌, Some};
+ghost use Rattle.std.specs.Prelude.{◌≡◌, Some, option_map};
 ghost use Rattle.warm_world.specs.Sizes.{IsSetup};
-ghost use Rattle.warm_threads.specs.Asks.{asked, asked_by, has_worker, is_number};
+ghost use Rattle.warm_threads.specs.Asks.{asked, asked_in, has_worker, is_number};
 
-use std::alloc::Global;
-use warm_schedule::{Line, parse_line};
+use warm_schedule::{WorkerLine, parse_worker_line};
 use warm_stamps::{Reference, ReplicaId, Stamp};
-use warm_world::{Event, Setup};
+use warm_world::Setup;
 
 /// What a line asks of a worker of a replica, both numbered from 1: to make a reference, or to flush where there is none.
 #[derive(Clone, Copy)]
@@ -28,47 +27,37 @@ fn has_worker(setup: Setup, replica: u16, worker: u16) -> bool
     is_number(replica, setup.replicas()) && is_number(worker, setup.workers())
 }
 
-// What an event asks, or `None` where threads cannot play it.
-fn asked_by(setup: Setup, event: Event) -> Option<Option<Ask>>
-    ensures { result ≡ asked_by setup event }
+// What a line asks of a worker that the setup has. `None` where it has no such worker.
+fn asked_of(setup: Setup, line: WorkerLine) -> Option<Ask>
+    ensures { option_map Some result ≡ asked_in setup (Some (Some line)) }
 {
-    match event {
-        Event::Refer(replica, worker, page, time) => {
-            if !has_worker(setup, replica, worker) {
-                return None;
-            }
-            let Ok(id) = ReplicaId::new(replica) else {
+    if !has_worker(setup, line.replica, line.worker) {
+        return None;
+    }
+    let reference = match line.reference {
+        Some((page, time)) => {
+            let Ok(replica) = ReplicaId::new(line.replica) else {
                 unreachable!()
             };
-            let stamp = Stamp { time, replica: id };
-            Some(Some(Ask {
-                replica,
-                worker,
-                reference: Some(Reference { page, stamp }),
-            }))
+            let stamp = Stamp { time, replica };
+            Some(Reference { page, stamp })
         }
-        Event::Flush(replica, worker) => {
-            if !has_worker(setup, replica, worker) {
-                return None;
-            }
-            Some(Some(Ask {
-                replica,
-                worker,
-                reference: None,
-            }))
-        }
-        _ => None,
-    }
+        None => None,
+    };
+    Some(Ask {
+        replica: line.replica,
+        worker: line.worker,
+        reference,
+    })
 }
 
 /// What a line asks, or nothing. `None` where threads cannot play it: it is no line of the language, or of another kind, or
 /// the setup has no such worker.
-pub(crate) fn asked(alloc: Global, setup: Setup, line: &[u8]) -> Option<Option<Ask>>
+pub(crate) fn asked(setup: Setup, line: &[u8]) -> Option<Option<Ask>>
     ensures { result ≡ asked setup line.now }
 {
-    match parse_line(alloc, line) {
-        Ok(Line::Nothing) => Some(None),
-        Ok(Line::Act(event)) => asked_by(setup, event),
-        Err(_) => None,
-    }
+    let Some(line) = parse_worker_line(line)? else {
+        return Some(None);
+    };
+    Some(Some(asked_of(setup, line)?))
 }

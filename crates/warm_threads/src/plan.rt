@@ -123,7 +123,6 @@ fn empty_plans(alloc: Global, setup: Setup) -> Result<Vec<Vec<Plan>>, AllocError
 
 // Plans what the line of this number asks.
 fn take_line(
-    alloc: Global,
     setup: Setup,
     line: &[u8],
     number: u64,
@@ -138,7 +137,7 @@ fn take_line(
     ensures bad { IfErr result (λ why. (why ≡ Memory)
         ⊎ ((why ≡ BadLine number) × (asked setup line.now ≡ None))) }
 {
-    let Some(said) = asked(alloc, setup, line) else {
+    let Some(said) = asked(setup, line) else {
         return Err(PlayFault::BadLine(number));
     };
     let Some(ask) = said else {
@@ -165,13 +164,13 @@ fn plan_text(alloc: Global, setup: Setup, text: &[u8]) -> Result<Vec<Vec<Plan>>,
     let mut number = 1;
     let mut rest = text;
     while let Some((line, after)) = first_line(rest) {
-        if let Err(why) = take_line(alloc, setup, line, number, &mut plans) {
+        if let Err(why) = take_line(setup, line, number, &mut plans) {
             return Err(why);
         }
         number += 1;
         rest = after;
     }
-    match take_line(alloc, setup, rest, number, &mut plans) {
+    match take_line(setup, rest, number, &mut plans) {
         Ok(()) => Ok(plans),
         Err(why) => Err(why),
     }

@@ -93,20 +93,35 @@ impl<M: Machine> Model for Note<M> {
 const SPINS: u32 = 100;
 
 // How often a caller looks for a ticket that is served at once. Then it takes one that is not.
-const LOOKS: u32 = 1_000;
+const LOOKS: u32 = 200;
 
-// How long a caller sleeps between two looks, in microseconds, where the serving word stays as it was.
+// How long a caller sleeps between two looks at first, in microseconds, where the serving word stays as it was.
 const NAP: u64 = 50;
 
-// Waits a little between two looks, of which so many were made. The last one found that this ticket is served.
-fn pause<M: Machine, R: Wait>(rt: &R, top: &Top<M>, served: u64, looks: u32)
+// How many times as long a caller that has no ticket sleeps in the end.
+const LONGEST: u32 = 16;
+
+// How long a caller without a ticket sleeps after so many looks, in microseconds: a little longer each time, so that many
+// who wait at once do not wake too often.
+fn longer_nap(looks: u32) -> u64 {
+    let naps = looks.saturating_sub(SPINS);
+    if naps < LONGEST {
+        NAP * u64::from(naps + 1)
+    } else {
+        NAP * u64::from(LONGEST)
+    }
+}
+
+// Waits a little between two looks, of which so many were made, and sleeps no longer than this. The last one found that this
+// ticket is served.
+fn pause<M: Machine, R: Wait>(rt: &R, top: &Top<M>, served: u64, looks: u32, nap: u64)
     requires { IsBoard top.now.table_id }
 {
     if looks < SPINS {
         spin_loop();
     } else {
         let low = (served & 0xFFFF_FFFF) as u32;
-        top.park_timeout(rt, 1, low, Duration::from_micros(NAP));
+        top.park_timeout(rt, 1, low, Duration::from_micros(nap));
     }
 }
 
@@ -134,7 +149,7 @@ fn take_ticket<M: Machine, R: Wait>(rt: &R, top: &Top<M>, place: &mut Place<M>) 
         let next = top.peek(0);
         let served = top.peek(1);
         if looks < LOOKS && next != served {
-            pause(rt, top, served, looks);
+            pause(rt, top, served, looks, longer_nap(looks));
             looks += 1;
         } else {
             let expected = tried_for(next);
@@ -167,7 +182,7 @@ fn wait_turn<M: Machine, R: Wait>(rt: &R, top: &Top<M>, place: &mut Place<M>, ti
         if looks >= SPINS && served.wrapping_add(1) == ticket {
             yield_now();
         } else {
-            pause(rt, top, served, looks);
+            pause(rt, top, served, looks, NAP);
         }
         looks = looks.saturating_add(1);
     }

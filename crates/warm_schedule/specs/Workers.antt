@@ -1,0 +1,32 @@
+-- What a line asks of a worker of a replica: a reference, or a flush.
+use Rattle.std.specs.Prelude.{ℕ, Option, Some, None, option_map}
+use Rattle.warm_stamps.specs.declared.PageId.{PageId}
+use Rattle.warm_world.specs.declared.event.Event.{Event}
+use Rattle.warm_world.specs.declared.event.Event.TheVariants.{Refer, Flush}
+use Rattle.warm_schedule.specs.declared.parse.Line.{Line}
+use Rattle.warm_schedule.specs.declared.parse.Line.TheVariants.{Nothing, Act}
+use Rattle.warm_schedule.specs.declared.worker.WorkerLine.{WorkerLine}
+
+-- to reference a page at a time, or to flush where there is none
+abbrev pub worker_line : ℕ → ℕ → Option (PageId × ℕ) → WorkerLine
+worker_line i w made = record { replica = i; worker = w; reference = made }
+
+-- the event that is asked for
+abbrev pub worker_event : ℕ → ℕ → Option (PageId × ℕ) → Event
+worker_event i w None = Flush i w
+worker_event i w (Some made) = Refer i w made.0 made.1
+
+abbrev pub event_of_worker : WorkerLine → Event
+event_of_worker line = worker_event line.replica line.worker line.reference
+
+-- what an event asks of a worker; the others ask something of none
+abbrev pub asked_of_worker : Event → Option WorkerLine
+asked_of_worker (Refer i w page time) = Some (worker_line i w (Some (page, time)))
+asked_of_worker (Flush i w) = Some (worker_line i w None)
+asked_of_worker event = None
+
+-- what a line of this meaning asks of a worker, or nothing; None where it is bad, or asks something of no worker
+abbrev pub worker_line_in : Option Line → Option (Option WorkerLine)
+worker_line_in None = None
+worker_line_in (Some Nothing) = Some None
+worker_line_in (Some (Act event)) = option_map Some (asked_of_worker event)
