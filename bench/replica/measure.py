@@ -5,11 +5,15 @@ std::sync::Mutex, and prints the table of docs/PERFORMANCE.md.
 usage: measure.py [idle|busy|both] [REFERENCES] [PAGES]      both, 1,000,000 of each worker, 100,000, where nothing is said
 
 For `busy` as many other processes as there are processors each keep one busy meanwhile. It wants the proved program
-(`rt run` in crates/bench_replica leaves it as crates/bench_replica/out/bench_replica) and `rustc`. The programs run in
-turn, seven times, and the fastest run of each counts. All must end with the same hottest pages.
+(`rt run` in crates/bench_replica leaves it as crates/bench_replica/out/bench_replica) and `rustc`. The programs run one
+after another, each time in an order that is drawn, eleven times. Ours is compared with each plain program by the fastest
+run of both, and by the middle of the eleven ratios: a machine whose host takes time shows in how far these differ. All must
+end with the same hottest pages.
 """
 
+import random
 import re
+import statistics
 import subprocess
 import sys
 import tempfile
@@ -20,7 +24,7 @@ sys.path.insert(0, str(HERE.parent))
 from busy import all_processors_busy  # noqa: E402
 
 OURS = HERE.parent.parent / "crates/bench_replica/out/bench_replica"
-RUNS = 7
+RUNS = 11
 CROWDS = [1, 2, 4]
 LINE = re.compile(r"workers (\d): (\d+) in (\d+) ns")
 
@@ -33,16 +37,23 @@ def one_run(command: list, workers: int, references: int, pages: int) -> tuple[i
     return made, workers * references / spent * 1e9
 
 
-def measured(commands: dict[str, list], references: int, pages: int) -> dict[tuple[str, int], float]:
-    best = {}
+def measured(commands: dict[str, list], references: int, pages: int) -> dict[tuple[str, int], list[float]]:
+    """The speeds of the runs, in their order."""
+    speeds = {(name, workers): [] for name in commands for workers in CROWDS}
     for _ in range(RUNS):
         for workers in CROWDS:
             made = {}
-            for name, command in commands.items():
-                made[name], speed = one_run(command, workers, references, pages)
-                best[name, workers] = max(speed, best.get((name, workers), 0))
+            for name in random.sample(list(commands), len(commands)):
+                made[name], speed = one_run(commands[name], workers, references, pages)
+                speeds[name, workers].append(speed)
             assert len(set(made.values())) == 1, made
-    return best
+    return speeds
+
+
+def beside(ours: list[float], plain: list[float]) -> str:
+    """The plain program's fastest run, and ours to it by the fastest and by the middle."""
+    middle = statistics.median(one / other for one, other in zip(ours, plain))
+    return f"{max(plain) / 1e6:.2f} | {max(ours) / max(plain):.2f} | {middle:.2f}"
 
 
 def main() -> None:
@@ -54,17 +65,15 @@ def main() -> None:
         plain = Path(folder) / "plain"
         subprocess.run(["rustc", "-O", "--edition", "2024", "-o", plain, HERE / "plain.rs"], check=True)
         commands = {"ours": [OURS], "map": [plain, "map"], "node": [plain, "node"]}
-        print("| processors | workers | ours, million a second | a plain map | ours to it | a plain node | ours to it |")
-        print("|---|---|---|---|---|---|---|")
+        print("| processors | workers | ours, million a second | a plain map | ours to it | middle | a plain node | ours to it | middle |")
+        print("|---|---|---|---|---|---|---|---|---|")
         for are_busy in {"idle": [False], "busy": [True], "both": [False, True]}[when]:
             with all_processors_busy(are_busy):
-                best = measured(commands, references, pages)
+                speeds = measured(commands, references, pages)
             for workers in CROWDS:
-                ours, bare, node = (best[name, workers] for name in commands)
-                print(
-                    f"| {'busy' if are_busy else 'idle'} | {workers} | {ours / 1e6:.2f} | {bare / 1e6:.2f} | {ours / bare:.2f} "
-                    f"| {node / 1e6:.2f} | {ours / node:.2f} |"
-                )
+                ours, bare, node = (speeds[name, workers] for name in commands)
+                load = "busy" if are_busy else "idle"
+                print(f"| {load} | {workers} | {max(ours) / 1e6:.2f} | {beside(ours, bare)} | {beside(ours, node)} |")
 
 
 if __name__ == "__main__":
