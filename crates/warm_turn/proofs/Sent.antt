@@ -13,6 +13,7 @@ use Rattle.atomic_table.specs.declared.shared.TableRule.{Ghosts}
 use Rattle.atomic_table.proofs.Sent.{seat_keyless, shares_keyless}
 use Rattle.warm_turn.specs.declared.machine.Machine as Machine
 use Rattle.warm_turn.specs.contracts.turn.Pass as Pass
+use Rattle.warm_turn.specs.contracts.board.BoxedMachine as BoxedMachine
 use Rattle.warm_turn.specs.contracts.board.Held as Held
 use Rattle.warm_turn.specs.contracts.board.View as View
 use denote.Struct.Declared as Declared
@@ -34,8 +35,11 @@ shared_sync S V K P g s = let fields : IsSync (Struct (shape (Shared.the_type S 
 made_send : (C R : RattleType) → IsSend (Made.the_row C R)
 made_send C R = search (sendable, crosses) depth 20
 
+machine_send : (M : RattleType) → IsSend M → IsSend (BoxedMachine.the_row M)
+machine_send M s = search (sendable, crosses) depth 20
+
 held_send : (M C R : RattleType) → IsSend M → IsSend (Held.the_row M C R)
-held_send M C R s = search (sendable, crosses, made_send) depth 20
+held_send M C R s = search (sendable, crosses, machine_send, made_send) depth 20
 
 slot_send : (M C R : RattleType) → IsSend M → IsSend (Option.the_row (Held.the_row M C R))
 slot_send M C R s = search (sendable, held_send) depth 20

@@ -1,11 +1,14 @@
 //! The table that the passes share: two words and a slot.
 //!
 //! Word 0 is the next ticket, and word 1 the ticket that is served. The slot holds the machine.
+ghost use Rattle.std.specs.Prelude.{◌≡◌, IfOk, IfErr};
+
+use crate::fault::Memory;
 use crate::machine::Machine;
 use atomic_table::{Seat, Shared, Table, TableRule};
-use std::alloc::Global;
+use std::alloc::{AllocFailed, Global};
 use std::collections::LinkedList;
-use std::marker::PhantomData;
+use std::marker::{Model, PhantomData};
 use std::snapshot::Snapshot;
 
 /// One entry of a history. No value of it is made.
@@ -67,11 +70,55 @@ pub struct Made<C, R> {
     pub reply: Snapshot<R>,
 }
 
+/// A machine in memory of its own: each turn takes it out of the slot and puts it back, and so
+/// moves a pointer. Contracts see the machine.
+#[derive(Drop)]
+pub struct BoxedMachine<M> {
+    machine: Box<M>,
+}
+
+impl<M> Model for BoxedMachine<M> {
+    ghost Value = { M };
+
+    ghost view = { λ boxed. boxed.machine.value };
+}
+
+impl<M> BoxedMachine<M> {
+    // The machine in a box of its own.
+    pub(crate) fn holding(alloc: Global, machine: M) -> Result<BoxedMachine<M>, Memory<M>>
+        ensures ok { IfOk result (λ boxed. boxed ≡ machine) }
+        ensures err { IfErr result (λ e. e.machine ≡ machine) }
+    {
+        match Box::new(alloc, machine) {
+            Ok(machine) => Ok(BoxedMachine { machine }),
+            Err(AllocFailed { value }) => Err(Memory { machine: value }),
+        }
+    }
+
+    // The machine. Takes no memory, and gives back that of the box.
+    pub(crate) fn into_machine(self) -> M
+        ensures { result ≡ self }
+    {
+        Box::into_inner(self.machine)
+    }
+}
+
+impl<M: Machine> BoxedMachine<M> {
+    // Has the machine answer the call.
+    pub(crate) fn call(&mut self, call: M::Call) -> M::Reply
+        requires fit { M.is_fit self.old }
+        ensures fit { M.is_fit self.new }
+        ensures goes { M.goes (M.meaning self.old) call result (M.meaning self.new) }
+    {
+        self.machine.call(call)
+    }
+}
+
 /// What lies in the slot.
 #[derive(Drop)]
 pub struct Held<M, C, R> {
     /// The machine.
-    pub machine: M,
+    pub machine: BoxedMachine<M>,
     /// The last call that it answered.
     pub made: Option<Made<C, R>>,
 }

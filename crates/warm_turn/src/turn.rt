@@ -7,7 +7,7 @@ ghost use Rattle.warm_turn.specs.Turns.{IsPass, IsStep, IsLast, Called, Learned,
 ghost use Rattle.warm_turn.specs.Rule.{IsBoard, AreWords, MarkShows};
 ghost use Rattle.warm_turn.specs.Steps.{HasTicket, HasMachine, IsMade, Served, HasPassedOn};
 
-use crate::board::{Board, Held, Made, Place, Top};
+use crate::board::{Board, BoxedMachine, Held, Made, Place, Top};
 use crate::fault::{Busy, Memory, TurnsSpent};
 use crate::machine::Machine;
 use crate::plays::{Become, CatchUp, Come, End, Learn, Look, PassOn, Take, Tell};
@@ -236,17 +236,17 @@ fn make_call<M: Machine, R: Wait>(
     top: &Top<M>,
     place: &mut Place<M>,
     call: M::Call,
-) -> Result<M::Reply, M::Call>
+) -> Result<M::Reply, TurnsSpent<M::Call>>
     requires table { (place.old.table_id ≡ top.now.table_id) × IsBoard top.now.table_id }
     requires idle { (place.old.me.1 ≡ []) × IsPass M.goes place.old.me.0 }
     ensures table { (place.new.table_id ≡ place.old.table_id) × (place.new.id ≡ place.old.id)
         × (place.new.me.1 ≡ []) }
     ensures ok { IfOk result (λ r. Called M.goes place.old.me.0 call r place.new.me.0) }
     ensures step { IfOk result (λ r. IsStep M.goes call r) }
-    ensures err { IfErr result (λ c. (c ≡ call) × (place.new.me.0 ≡ marked place.old.me.0)) }
+    ensures err { IfErr result (λ e. (e.call ≡ call) × (place.new.me.0 ≡ marked place.old.me.0)) }
 {
     let Some(ticket) = take_ticket(rt, top, place) else {
-        return Err(call);
+        return Err(TurnsSpent { call });
     };
     wait_turn(rt, top, place, ticket);
     let asked = Snapshot::of(&call);
@@ -262,7 +262,7 @@ fn machine_of<M: Machine>(slot: Option<Held<M, M::Call, M::Reply>>) -> M
 {
     let Some(held) = slot else { unreachable!() };
     let Held { machine, made: _ } = held;
-    machine
+    machine.into_machine()
 }
 
 impl<M: Machine> Pass<M> {
@@ -289,6 +289,7 @@ impl<M: Machine> Turn<M> {
         ensures err { IfErr result (λ e. e.machine ≡ machine) }
     {
         let about = Snapshot::of(&machine);
+        let machine = BoxedMachine::holding(alloc, machine)?;
         let mut slots = Vec::new(alloc);
         if let Err(failed) = slots.push(Some(Held {
             machine,
@@ -402,10 +403,7 @@ impl<M: Machine> Turn<M> {
         ensures spent { IfErr result (λ e. pass.new.view ≡ marked pass.old.view) }
         ensures given_back { IfErr result (λ e. e.call ≡ call) }
     {
-        match make_call(rt, &self.table.shared, &mut pass.place, call) {
-            Ok(reply) => Ok(reply),
-            Err(call) => Err(TurnsSpent { call }),
-        }
+        make_call(rt, &self.table.shared, &mut pass.place, call)
     }
 
     /// Gives the machine back. Its state is one that a legal history reaches from the opening

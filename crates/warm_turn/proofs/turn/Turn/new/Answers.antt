@@ -11,10 +11,11 @@ use Rattle.warm_turn.proofs.turn.Turn.new.Goals as goal
 pub new-requires : goal.new-requires
 new-requires g c =
     let H = Held g.row.M.Denot g.row.M-Call.Denot g.row.M-Reply.Denot in
-    let h : H = record { machine = c.args.machine; made = None } in
+    let h : H = record { machine = c.in_ok-machine.machine; made = None } in
     let items = only_one c.push.new.self.items c.new-slots.result.items (Some h) c.in_default.ensures.items c.new-slots.ensures.items in
     let o = g.M.Machine.meaning c.of-about.result.value in
-    subst (λ (l : List (Option H)). Kept g.M.Machine.meaning g.M.Machine.is_fit g.M.Machine.goes o (opening (0 ∷ 0 ∷ []) l (first_pass o))) (sym items) (begins g.M.Machine.meaning g.M.Machine.is_fit g.M.Machine.goes o h (ap g.M.Machine.meaning (sym c.of-about.ensures)) c.requires.fit)
+    let same = c.in_ok-machine.ensures.ok in
+    subst (λ (l : List (Option H)). Kept g.M.Machine.meaning g.M.Machine.is_fit g.M.Machine.goes o (opening (0 ∷ 0 ∷ []) l (first_pass o))) (sym items) (begins g.M.Machine.meaning g.M.Machine.is_fit g.M.Machine.goes o h (ap g.M.Machine.meaning (same ∙ sym c.of-about.ensures)) (subst g.M.Machine.is_fit (sym same) c.requires.fit))
 
 pub invariant_of-result-in-Ok : goal.invariant_of-result-in-Ok
 invariant_of-result-in-Ok g c =
@@ -24,7 +25,7 @@ invariant_of-result-in-Ok g c =
 pub machine_of-requires-in-Err-new : goal.machine_of-requires-in-Err-new
 machine_of-requires-in-Err-new g c =
     let H = Held g.row.M.Denot g.row.M-Call.Denot g.row.M-Reply.Denot in
-    let h : H = record { machine = c.args.machine; made = None } in
+    let h : H = record { machine = c.in_ok-machine.machine; made = None } in
     let items = only_one c.push.new.self.items c.new-slots.result.items (Some h) c.in_default.ensures.items c.new-slots.ensures.items in
     (h, last_one c.pop.new.self.items c.in-Some.slot (Some h) (sym items ∙ (sym c.in-Err-new.ensures.err ∙ c.in-Some.ensures.items)))
 
