@@ -11,12 +11,8 @@ mod entries;
 mod fault;
 mod frame;
 pub mod laws;
-#[cfg(test)]
-mod piece_tests;
 mod reading;
 mod sums;
-#[cfg(test)]
-mod tests;
 mod writing;
 
 pub use decoder::{Decoder, Fed};

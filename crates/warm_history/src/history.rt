@@ -295,6 +295,3 @@ fn first_entries(
 {
     entries.take(limit).collect(alloc)
 }
-
-#[cfg(test)]
-mod tests;

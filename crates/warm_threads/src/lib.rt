@@ -18,8 +18,6 @@ mod exchange;
 mod plan;
 mod play;
 mod reading;
-#[cfg(test)]
-mod tests;
 mod work;
 
 pub use play::{nodes_over, play_threads, print_replicas};

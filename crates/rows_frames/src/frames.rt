@@ -3,13 +3,9 @@
 //!
 //! With `rt try --test --fail-alloc N`, for N from 1 on, each growth is refused in turn: the call is
 //! then made a second time.
-use crate::entries::EntryList;
-use crate::fault::FrameFault;
-use crate::frame::{Frame, decode, encode};
-use crate::sums::SumTable;
-use crate::writing::put_entry;
 use std::alloc::{AllocError, Global};
 use std::test::Fail;
+use warm_frames::{EntryList, Frame, FrameFault, SumTable, decode, encode, put_entry};
 use warm_history::{Entry, PageHist, Two};
 use warm_stamps::{Bucket, PageId, ReplicaId, Stamp};
 

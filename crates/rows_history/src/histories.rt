@@ -2,11 +2,11 @@
 //!
 //! With `rt try --test --fail-alloc N`, for N from 1 on, each growth is refused in turn: the call
 //! is then made a second time, and the test passes only where the refused one changed nothing.
-use super::*;
-use crate::hist::{Two, join_hist};
+use std::alloc::{AllocError, Global};
 use std::process::Abort;
 use std::test::Fail;
-use warm_stamps::{BadReplica, ReplicaId, Stamp, bucket_of};
+use warm_history::{Entry, History, PageHist, Two, join_hist};
+use warm_stamps::{BadReplica, Bucket, PageId, Reference, ReplicaId, Stamp, bucket_of};
 
 fn page(dev: u16, no: u32) -> PageId {
     PageId { dev, no }

@@ -1,5 +1,4 @@
 //! Rows of schedules played by threads, worked out by hand.
-use crate::play::{nodes_over, play_threads, print_replicas};
 use std::alloc::{AllocError, Global};
 use std::io::Write;
 use std::sync::Wait;
@@ -7,6 +6,7 @@ use std::test::Fail;
 use std::thread::Threads;
 use warm_devices::{MemDevice, PageDevice};
 use warm_play_fault::PlayFault;
+use warm_threads::{nodes_over, play_threads, print_replicas};
 use warm_world::Setup;
 
 // How large a world is, but for its pools.

@@ -2,14 +2,10 @@
 //!
 //! With `rt try --test --fail-alloc N`, for N from 1 on, each growth is refused in turn: the same piece
 //! is then fed once more.
-use crate::decoder::{Decoder, Fed};
-use crate::entries::EntryList;
-use crate::fault::FrameFault;
-use crate::frame::{Frame, decode};
-use crate::sums::{SUM_SIZE, SumTable};
-use crate::tests::{TWICE, decoded, encoded};
+use crate::frames::{TWICE, decoded, encoded};
 use std::alloc::Global;
 use std::test::Fail;
+use warm_frames::{Decoder, EntryList, Fed, Frame, FrameFault, SUM_SIZE, SumTable, decode};
 use warm_history::{Entry, PageHist, Two};
 use warm_stamps::{PageId, ReplicaId, Stamp};
 
