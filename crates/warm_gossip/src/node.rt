@@ -106,6 +106,13 @@ impl Node {
         ensures step { Goes state self.old call result self.new }
         ensures settled { call ≡ Restart → result ≡ Done → IsAtRest state self.new }
     {
+        // The call that comes most is answered here: `answer` has room for a reply's frame, 2 KB, to move.
+        if let Call::Absorb(batch) = call {
+            return match self.absorb(batch.as_slice()) {
+                Ok(()) => Reply::Done,
+                Err(refused) => Reply::Refused(refused),
+            };
+        }
         match self.answer(call) {
             Ok(reply) => reply,
             Err(fault) => Reply::Refused(fault),
