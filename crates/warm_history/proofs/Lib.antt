@@ -8,5 +8,9 @@ pub mod PlaceLemmas
 pub mod PlaceOrder
 pub mod OrderLemmas
 pub mod TreeLemmas
+pub mod BucketLemmas
+pub mod BucketSteps
+pub mod BucketCounts
+pub mod BucketParts
 pub mod MergedParts
 pub mod SetLemmas

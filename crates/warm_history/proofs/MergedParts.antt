@@ -1,7 +1,6 @@
 -- Parts of a history, merged in page order, are the entries of their buckets in page order.
-use Rattle.std.proofs.Common.{◌≡◌, ℕ, ◌+◌, ◌<◌, ◌≤◌, ◌==◌, ◌&&◌, Bool, true, false, cond, List, [], ◌∷◌, filter, sym, ap, refl, ◌∙◌, arith, Option, Some, None, inl, inr, ◌⊎◌, nat_lt, nat_le}
+use Rattle.std.proofs.Common.{◌≡◌, ℕ, ◌+◌, ◌<◌, ◌≤◌, ◌==◌, ◌&&◌, Bool, true, false, cond, List, [], ◌∷◌, filter, sym, ap, refl, ◌∙◌, arith, None, inl, inr, ◌⊎◌, nat_lt, nat_le}
 use borrow.Author.Tests.{ltb-true, ltb-false, lt-ltb, le-leb, lt-leb}
-use Rattle.std.specs.List.{AllByRecursion}
 use Rattle.std.specs.Ordering.{is_gt}
 use Rattle.std.specs.declared.cmp.Ordering.TheVariants.{Less}
 use Rattle.warm_stamps.specs.declared.PageId.{PageId}

@@ -156,3 +156,10 @@ of_bucket bucket after p is = by_cases (nat_cmp (page_bucket p) bucket) _
     (λ less. let other : (page_bucket p == bucket) ≡ false = sym (unsigned_tied (page_bucket p) bucket) ∙ ap is_eq less in absurd (let no : false ≡ true = rw other at is in cc))
     (λ tied. ranked (page_bucket p) bucket Equal (sym tied))
     (λ more. let other : (page_bucket p == bucket) ≡ false = sym (unsigned_tied (page_bucket p) bucket) ∙ ap is_eq more in absurd (let no : false ≡ true = rw other at is in cc))
+
+-- a place is one of the 64 buckets
+pub below_all_places : (k : ℕ) → IsPlace k → k / 281474976710656 < 64
+below_all_places k is =
+    let below : k < first_place (page_bucket (page_at k) + 1) = below_next k is in
+    let few : page_bucket (page_at k) < 64 = omega arith in
+    omega arith

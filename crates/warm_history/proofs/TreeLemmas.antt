@@ -3,11 +3,10 @@ use Rattle.std.proofs.Common.{◌≡◌, ℕ, Bool, true, false, cond, List, [],
 use Rattle.std.specs.List.{AllByRecursion}
 use Rattle.std.specs.List.Sorted.{IsPermutation}
 use Rattle.std.specs.Option.{option_map}
-use Rattle.std.specs.Map.{lookup, remove_entry, set_value}
+use Rattle.std.specs.Map.{remove_entry, set_value}
 use Rattle.std.specs.BTreeMap.{is_at, insert_entry}
 use Rattle.std.specs.BTreeMap.Range.{entries_between, range_contains}
 use Rattle.std.specs.declared.ops.Bound.{Bound}
-use Rattle.std.specs.declared.ops.Bound.TheVariants.{Unbounded}
 use Rattle.warm_stamps.specs.Buckets.{page_bucket}
 use Rattle.std.specs.Ordering.{is_eq, on, flip_args, nat_cmp}
 use Rattle.std.specs.declared.cmp.Ordering.{Ordering}
@@ -18,7 +17,7 @@ use Rattle.std.proofs.lemmas.List.Sorted.{length_permutation}
 use Rattle.warm_stamps.specs.declared.Stamp.{Stamp}
 use Rattle.warm_stamps.specs.declared.PageId.{PageId}
 use Rattle.warm_stamps.specs.Stamps.{stamp_cmp, page_cmp}
-use Rattle.warm_stamps.specs.Distinct.{distinct, IsRising}
+use Rattle.warm_stamps.specs.Distinct.{distinct}
 use Rattle.warm_stamps.proofs.DistinctLemmas.{is_equal, by_cases, flipped, distinct_rises, rising_filter}
 use Rattle.warm_stamps.proofs.StampLemmas.{stamp_order, page_order, IsStrictOrder-flip}
 use Rattle.warm_history.specs.declared.hist.PageHist.{PageHist}
@@ -32,14 +31,9 @@ use Rattle.warm_history.proofs.OrderLemmas.{both_same, either_first, get-in_orde
 use Rattle.warm_stamps.specs.declared.Reference.{Reference}
 use Rattle.warm_history.specs.Places.{page_at, IsPlace}
 use Rattle.warm_history.specs.Tree.{Pairs, as_entries, kept, AreKept}
+use Rattle.warm_history.specs.BucketMaps.{PlacesRise, found}
 use Rattle.warm_history.specs.Undo.{put_back, undone, noted}
-use Rattle.warm_history.specs.declared.tree.Known.{Known}
-
-abbrev pub find : ℕ → Pairs → Option PageHist
-find p pairs = lookup (is_at (nat_cmp p)) pairs
-
-abbrev pub PlacesRise : Pairs → Type 0
-PlacesRise pairs = IsRising (on (λ e. e.0) nat_cmp) pairs
+use Rattle.warm_history.specs.declared.bucket_maps.Known.{Known}
 
 abbrev pub ArePlaces : Pairs → Type 0
 ArePlaces pairs = AllByRecursion (λ e. IsPlace e.0) pairs
@@ -48,29 +42,29 @@ abbrev AreAbove : ℕ → Pairs → Type 0
 AreAbove p pairs = AllByRecursion (λ e. nat_cmp p e.0 ≡ Less) pairs
 
 -- what is found at a place is what the entries say of its page
-pub find-get : (place : ℕ) (pairs : Pairs) → IsPlace place → ArePlaces pairs → find place pairs ≡ get (as_entries pairs) (page_at place)
+pub find-get : (place : ℕ) (pairs : Pairs) → IsPlace place → ArePlaces pairs → found place pairs ≡ get (as_entries pairs) (page_at place)
 find-get place [] is all = refl
 find-get place (e ∷ pairs) is all =
-    ap (λ t. cond t (Some e.1) (find place pairs)) (same_place place e.0 is all.0)
+    ap (λ t. cond t (Some e.1) (found place pairs)) (same_place place e.0 is all.0)
     ∙ ap (cond (is_eq (page_cmp (page_at e.0) (page_at place))) (Some e.1)) (find-get place pairs is all.1)
 
 -- ---- one change undone
 
-removed : (p : ℕ) (h : PageHist) (pairs : Pairs) → find p pairs ≡ None → remove_entry (is_at (nat_cmp p)) (insert_entry nat_cmp pairs p h) ≡ pairs
+removed : (p : ℕ) (h : PageHist) (pairs : Pairs) → found p pairs ≡ None → remove_entry (is_at (nat_cmp p)) (insert_entry nat_cmp pairs p h) ≡ pairs
 removed p h [] none = let own : nat_cmp p p ≡ Equal = tied_itself nat_order.total p in rw own refl
 removed p h (e ∷ pairs) none = cases (removed p h pairs) (nat_cmp p e.0) refl
   where
     own : nat_cmp p p ≡ Equal
     own = tied_itself nat_order.total p
 
-    cases : (find p pairs ≡ None → remove_entry (is_at (nat_cmp p)) (insert_entry nat_cmp pairs p h) ≡ pairs) → (o : Ordering) → nat_cmp p e.0 ≡ o → remove_entry (is_at (nat_cmp p)) (insert_entry nat_cmp (e ∷ pairs) p h) ≡ e ∷ pairs
+    cases : (found p pairs ≡ None → remove_entry (is_at (nat_cmp p)) (insert_entry nat_cmp pairs p h) ≡ pairs) → (o : Ordering) → nat_cmp p e.0 ≡ o → remove_entry (is_at (nat_cmp p)) (insert_entry nat_cmp (e ∷ pairs) p h) ≡ e ∷ pairs
     cases later Less pe = rw pe (rw own refl)
-    cases later Equal pe = let no : Some e.1 ≡ None = sym (ap (λ o. cond (is_eq o) (Some e.1) (find p pairs)) pe) ∙ none in absurd (cc)
+    cases later Equal pe = let no : Some e.1 ≡ None = sym (ap (λ o. cond (is_eq o) (Some e.1) (found p pairs)) pe) ∙ none in absurd (cc)
     cases later Greater pe =
-        let rest : find p pairs ≡ None = sym (ap (λ o. cond (is_eq o) (Some e.1) (find p pairs)) pe) ∙ none in
+        let rest : found p pairs ≡ None = sym (ap (λ o. cond (is_eq o) (Some e.1) (found p pairs)) pe) ∙ none in
         rw pe (rw pe (ap (λ t. e ∷ t) (later rest)))
 
-no_later : (p : ℕ) (pairs : Pairs) → AreAbove p pairs → find p pairs ≡ None
+no_later : (p : ℕ) (pairs : Pairs) → AreAbove p pairs → found p pairs ≡ None
 no_later p [] all = refl
 no_later p (e ∷ pairs) all = let less : nat_cmp p e.0 ≡ Less = all.0 in rw less (no_later p pairs all.1)
 
@@ -78,24 +72,24 @@ below_all : (p q : ℕ) (pairs : Pairs) → nat_cmp p q ≡ Less → AreAbove q 
 below_all p q [] less all = tt
 below_all p q (e ∷ pairs) less all = (nat_order.total.trans p q e.0 less all.0, below_all p q pairs less all.1)
 
-same_value : (p : ℕ) (h g : PageHist) (pairs : Pairs) → PlacesRise pairs → find p pairs ≡ Some g → set_value (is_at (nat_cmp p)) (insert_entry nat_cmp pairs p h) g ≡ pairs
+same_value : (p : ℕ) (h g : PageHist) (pairs : Pairs) → PlacesRise pairs → found p pairs ≡ Some g → set_value (is_at (nat_cmp p)) (insert_entry nat_cmp pairs p h) g ≡ pairs
 same_value p h g [] rising is = let no : None ≡ Some g = is in absurd (cc)
 same_value p h g (e ∷ pairs) rising is = cases (same_value p h g pairs rising.1) (nat_cmp p e.0) refl
   where
-    cases : (find p pairs ≡ Some g → set_value (is_at (nat_cmp p)) (insert_entry nat_cmp pairs p h) g ≡ pairs) → (o : Ordering) → nat_cmp p e.0 ≡ o → set_value (is_at (nat_cmp p)) (insert_entry nat_cmp (e ∷ pairs) p h) g ≡ e ∷ pairs
+    cases : (found p pairs ≡ Some g → set_value (is_at (nat_cmp p)) (insert_entry nat_cmp pairs p h) g ≡ pairs) → (o : Ordering) → nat_cmp p e.0 ≡ o → set_value (is_at (nat_cmp p)) (insert_entry nat_cmp (e ∷ pairs) p h) g ≡ e ∷ pairs
     cases later Less pe =
-        let rest : find p pairs ≡ Some g = sym (ap (λ o. cond (is_eq o) (Some e.1) (find p pairs)) pe) ∙ is in
+        let rest : found p pairs ≡ Some g = sym (ap (λ o. cond (is_eq o) (Some e.1) (found p pairs)) pe) ∙ is in
         let no : None ≡ Some g = sym (no_later p pairs (below_all p e.0 pairs pe rising.0)) ∙ rest in
         absurd (cc)
     cases later Equal pe =
-        let value : Some e.1 ≡ Some g = sym (ap (λ o. cond (is_eq o) (Some e.1) (find p pairs)) pe) ∙ is in
+        let value : Some e.1 ≡ Some g = sym (ap (λ o. cond (is_eq o) (Some e.1) (found p pairs)) pe) ∙ is in
         let same : g ≡ e.1 = cc in
         rw pe (rw pe (ap (λ v. (e.0, v) ∷ pairs) same))
     cases later Greater pe =
-        let rest : find p pairs ≡ Some g = sym (ap (λ o. cond (is_eq o) (Some e.1) (find p pairs)) pe) ∙ is in
+        let rest : found p pairs ≡ Some g = sym (ap (λ o. cond (is_eq o) (Some e.1) (found p pairs)) pe) ∙ is in
         rw pe (rw pe (ap (λ t. e ∷ t) (later rest)))
 
-pub put_back-insert : (p : ℕ) (h : PageHist) (pairs : Pairs) → PlacesRise pairs → (known : Option PageHist) → known ≡ find p pairs → put_back p known (insert_entry nat_cmp pairs p h) ≡ pairs
+pub put_back-insert : (p : ℕ) (h : PageHist) (pairs : Pairs) → PlacesRise pairs → (known : Option PageHist) → known ≡ found p pairs → put_back p known (insert_entry nat_cmp pairs p h) ≡ pairs
 put_back-insert p h pairs rising None is = removed p h pairs (sym is)
 put_back-insert p h pairs rising (Some g) is = same_value p h g pairs rising (sym is)
 
@@ -170,7 +164,7 @@ pub get-kept : (pairs : Pairs) (q : PageId) → get (kept pairs) q ≡ get (as_e
 get-kept pairs q = get-in_order (as_entries pairs) q
 
 -- what is found at a place is what the history says of its page
-pub find-kept : (place : ℕ) (pairs : Pairs) → IsPlace place → AreKept pairs → find place pairs ≡ get (kept pairs) (page_at place)
+pub find-kept : (place : ℕ) (pairs : Pairs) → IsPlace place → AreKept pairs → found place pairs ≡ get (kept pairs) (page_at place)
 find-kept place pairs is are = find-get place pairs is are.are_places ∙ sym (get-kept pairs (page_at place))
 
 differing : (pairs : Pairs) → PlacesRise pairs → ArePlaces pairs → PagesDiffer (as_entries pairs)
@@ -224,7 +218,7 @@ kept_more old new p h ss is are latest is_new = subst AreKept (sym is_new) (reco
 })
 
 -- new is the history of what old holds, with an entry more
-pub exact_pair : (old new : Pairs) (p : ℕ) (more h : PageHist) (known : Option PageHist) → IsPlace p → AreKept old → known ≡ find p old → Some h ≡ latest_of (stamps_held more ++ held known) → new ≡ insert_entry nat_cmp old p h → kept new ≡ history (refs (kept old) ++ entry_refs (record { page = page_at p; hist = more }))
+pub exact_pair : (old new : Pairs) (p : ℕ) (more h : PageHist) (known : Option PageHist) → IsPlace p → AreKept old → known ≡ found p old → Some h ≡ latest_of (stamps_held more ++ held known) → new ≡ insert_entry nat_cmp old p h → kept new ≡ history (refs (kept old) ++ entry_refs (record { page = page_at p; hist = more }))
 exact_pair old new p more h known is are is_known latest is_new =
     let e : Entry = record { page = page_at p; hist = more } in
     let whole = IsHistory-kept old are in
@@ -247,17 +241,17 @@ undone_last (x ∷ ks) k pairs = ap (put_back x.place x.hist) (undone_last ks k 
 pub undone_more : (ks : List Known) (change : Option Known) (k : Known) (old new : Pairs) → change ≡ Some k → undone (noted change) new ≡ old → undone (ks ++ k ∷ []) new ≡ undone ks old
 undone_more ks change k old new is back = undone_last ks k new ∙ ap (undone ks) (ap (λ x. undone (noted x) new) (sym is) ∙ back)
 
-pub absent_value : (p : ℕ) (g : PageHist) (pairs : Pairs) → find p pairs ≡ None → set_value (is_at (nat_cmp p)) pairs g ≡ pairs
+pub absent_value : (p : ℕ) (g : PageHist) (pairs : Pairs) → found p pairs ≡ None → set_value (is_at (nat_cmp p)) pairs g ≡ pairs
 absent_value p g [] none = refl
 absent_value p g (e ∷ pairs) none = cases (absent_value p g pairs) (is_eq (nat_cmp p e.0)) refl
   where
-    cases : (find p pairs ≡ None → set_value (is_at (nat_cmp p)) pairs g ≡ pairs) → (b : Bool) → is_eq (nat_cmp p e.0) ≡ b → set_value (is_at (nat_cmp p)) (e ∷ pairs) g ≡ e ∷ pairs
-    cases later true is = let no : Some e.1 ≡ None = sym (ap (λ b. cond b (Some e.1) (find p pairs)) is) ∙ none in absurd (cc)
+    cases : (found p pairs ≡ None → set_value (is_at (nat_cmp p)) pairs g ≡ pairs) → (b : Bool) → is_eq (nat_cmp p e.0) ≡ b → set_value (is_at (nat_cmp p)) (e ∷ pairs) g ≡ e ∷ pairs
+    cases later true is = let no : Some e.1 ≡ None = sym (ap (λ b. cond b (Some e.1) (found p pairs)) is) ∙ none in absurd (cc)
     cases later false is =
-        let rest : find p pairs ≡ None = sym (ap (λ b. cond b (Some e.1) (find p pairs)) is) ∙ none in
+        let rest : found p pairs ≡ None = sym (ap (λ b. cond b (Some e.1) (found p pairs)) is) ∙ none in
         rw is (ap (λ t. e ∷ t) (later rest))
 
-pub put_back_absent : (p : ℕ) (known : Option PageHist) (g : PageHist) (pairs : Pairs) → known ≡ Some g → find p pairs ≡ None → pairs ≡ put_back p known pairs
+pub put_back_absent : (p : ℕ) (known : Option PageHist) (g : PageHist) (pairs : Pairs) → known ≡ Some g → found p pairs ≡ None → pairs ≡ put_back p known pairs
 put_back_absent p known g pairs is none = sym (absent_value p g pairs none) ∙ ap (λ k. put_back p k pairs) (sym is)
 
 -- ---- going on
@@ -281,18 +275,18 @@ all_taken new all left whole none so =
 
 -- ---- a value written at a page that is there
 
-pub set-insert : (p : ℕ) (h g : PageHist) (pairs : Pairs) → PlacesRise pairs → find p pairs ≡ Some g → set_value (is_at (nat_cmp p)) pairs h ≡ insert_entry nat_cmp pairs p h
+pub set-insert : (p : ℕ) (h g : PageHist) (pairs : Pairs) → PlacesRise pairs → found p pairs ≡ Some g → set_value (is_at (nat_cmp p)) pairs h ≡ insert_entry nat_cmp pairs p h
 set-insert p h g [] rising is = let no : None ≡ Some g = is in absurd (cc)
 set-insert p h g (e ∷ pairs) rising is = cases (set-insert p h g pairs rising.1) (nat_cmp p e.0) refl
   where
-    cases : (find p pairs ≡ Some g → set_value (is_at (nat_cmp p)) pairs h ≡ insert_entry nat_cmp pairs p h) → (o : Ordering) → nat_cmp p e.0 ≡ o → set_value (is_at (nat_cmp p)) (e ∷ pairs) h ≡ insert_entry nat_cmp (e ∷ pairs) p h
+    cases : (found p pairs ≡ Some g → set_value (is_at (nat_cmp p)) pairs h ≡ insert_entry nat_cmp pairs p h) → (o : Ordering) → nat_cmp p e.0 ≡ o → set_value (is_at (nat_cmp p)) (e ∷ pairs) h ≡ insert_entry nat_cmp (e ∷ pairs) p h
     cases later Less pe =
-        let rest : find p pairs ≡ Some g = sym (ap (λ o. cond (is_eq o) (Some e.1) (find p pairs)) pe) ∙ is in
+        let rest : found p pairs ≡ Some g = sym (ap (λ o. cond (is_eq o) (Some e.1) (found p pairs)) pe) ∙ is in
         let no : None ≡ Some g = sym (no_later p pairs (below_all p e.0 pairs pe rising.0)) ∙ rest in
         absurd (cc)
     cases later Equal pe = rw pe refl
     cases later Greater pe =
-        let rest : find p pairs ≡ Some g = sym (ap (λ o. cond (is_eq o) (Some e.1) (find p pairs)) pe) ∙ is in
+        let rest : found p pairs ≡ Some g = sym (ap (λ o. cond (is_eq o) (Some e.1) (found p pairs)) pe) ∙ is in
         rw pe (ap (λ t. e ∷ t) (later rest))
 
 -- ---- steps of a loop
@@ -308,10 +302,6 @@ as_it_is None = refl
 as_it_is (Some x) = refl
 
 -- ---- the entries of a bucket
-
-pub all_between : (pairs : Pairs) → as_entries (entries_between nat_cmp Unbounded Unbounded pairs) ≡ as_entries pairs
-all_between [] = refl
-all_between (e ∷ pairs) = ap (λ t. record { page = page_at e.0; hist = e.1 } ∷ t) (all_between pairs)
 
 -- pairs of which those between two places are the ones of chosen pages
 pub between : (lo hi : Bound ℕ) (test : PageId → Bool) (pairs : Pairs) → ((k : ℕ) → IsPlace k → range_contains nat_cmp lo hi k ≡ test (page_at k)) → ArePlaces pairs → as_entries (entries_between nat_cmp lo hi pairs) ≡ filter (λ x. test x.page) (as_entries pairs)

@@ -30,10 +30,6 @@ carried S bucket after limit = those (λ r. list_any (λ p. is_eq (page_cmp p r.
 abbrev pub AreCarried : HistoryView → ℕ → Option PageId → ℕ → List Entry → Type 0
 AreCarried h bucket after limit es = (S : ReferenceSet) → StandsFor h S → es ≡ entries_of (history (carried S bucket after limit))
 
--- the entries of a list whose page comes after the one given
-abbrev pub entries_after : Option PageId → List Entry → List Entry
-entries_after after es = filter (λ e. comes_after after e.page) es
-
 -- the entries of a bucket, in the order in which they are given
 abbrev pub bucket_entries : ℕ → List Entry → List Entry
 bucket_entries bucket = filter (λ e. page_bucket e.page == bucket)

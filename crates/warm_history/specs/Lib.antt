@@ -6,5 +6,6 @@ pub mod References
 pub mod LatestTwo
 pub mod Places
 pub mod Tree
+pub mod BucketMaps
 pub mod Merges
 pub mod Undo

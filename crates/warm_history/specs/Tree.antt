@@ -1,4 +1,4 @@
--- A history kept in a map from places.
+-- A history kept in maps from places.
 use Rattle.std.specs.Prelude.{◌≡◌, ℕ, List, [], ◌∷◌, map}
 use Rattle.std.specs.List.{AllByRecursion}
 use Rattle.std.specs.Ordering.{match_ordering, nat_cmp, on}
@@ -11,7 +11,7 @@ use Rattle.warm_history.specs.ReferenceSets.{ReferenceSet, these, ◌∪◌}
 use Rattle.warm_history.specs.Histories.{HistoryView, holding, entry_refs, refs, history, IsFalling}
 use Rattle.warm_history.specs.Places.{page_at, IsPlace}
 
--- what such a map holds, by place
+-- what such maps hold, by place
 abbrev pub Pairs : Type 0
 Pairs = List (ℕ × PageHist)
 

@@ -1,10 +1,10 @@
--- What undoes changes of a map that keeps a history.
+-- What undoes changes of maps that keep a history.
 use Rattle.std.specs.Prelude.{◌≡◌, ℕ, List, [], ◌∷◌, Option, Some, None}
 use Rattle.std.specs.Map.{remove_entry, set_value}
 use Rattle.std.specs.BTreeMap.{is_at}
 use Rattle.std.specs.Ordering.{nat_cmp}
 use Rattle.warm_history.specs.declared.hist.PageHist.{PageHist}
-use Rattle.warm_history.specs.declared.tree.Known.{Known}
+use Rattle.warm_history.specs.declared.bucket_maps.Known.{Known}
 use Rattle.warm_history.specs.Tree.{Pairs}
 
 -- the pairs with what was known at the place put back

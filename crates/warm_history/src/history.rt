@@ -5,12 +5,13 @@ ghost use Rattle.warm_history.specs.Histories.{entries_of, holding, hist, refs, 
 ghost use Rattle.warm_history.specs.Carried.{AreCarried, bucket_entries};
 ghost use Rattle.warm_history.specs.Merges.{later_of_bucket};
 
+use crate::bucket_maps::{BucketMaps, EachPair};
 use crate::hist::{Entry, PageHist};
 use crate::merges::{AllParts, Source, all_parts};
 use crate::parts::{later_pairs, next_entry};
+use crate::place::page_at;
 use crate::tree::{known_of, take_entries, take_pairs, take_references};
 use std::alloc::{AllocError, Global};
-use std::collections::BTreeMap;
 use std::collections::btree_map::Range;
 use std::marker::Model;
 use warm_stamps::{Bucket, PageId, Reference};
@@ -26,7 +27,7 @@ use warm_stamps::{Bucket, PageId, Reference};
 #[derive(Debug, Drop)]
 pub struct History {
     alloc: Global,
-    pairs: BTreeMap<u64, PageHist>,
+    maps: BucketMaps,
 }
 
 impl Model for History {
@@ -35,9 +36,9 @@ impl Model for History {
 
     ghost Value = { HistoryView };
 
-    ghost view = { λ h. kept h.pairs.entries };
+    ghost view = { λ h. kept h.maps };
 
-    ghost invariant = { λ h. AreKept h.pairs.entries };
+    ghost invariant = { λ h. AreKept h.maps };
 }
 
 impl History {
@@ -48,7 +49,7 @@ impl History {
     {
         History {
             alloc,
-            pairs: BTreeMap::new(alloc),
+            maps: BucketMaps::new(alloc),
         }
     }
 
@@ -57,7 +58,7 @@ impl History {
         ensures count { result ≡ length (entries_of self.now) }
         ensures whole { IsHistory self.now }
     {
-        self.pairs.len()
+        self.maps.len()
     }
 
     /// The entry of number `i` in page order, counted from 0, where there is one. Takes no memory.
@@ -77,7 +78,7 @@ impl History {
         ensures { result ≡ entries_of self.now }
     {
         Entries {
-            left: all_parts(&self.pairs),
+            left: all_parts(&self.maps),
         }
     }
 
@@ -92,12 +93,12 @@ impl History {
 
     /// The entries, in no order that is promised: sooner than [`History::iter`]. Takes no memory.
     ///
-    /// To begin costs a look-up, and each entry a step.
+    /// Each of the 64 buckets costs a look-up on the way, and each entry a step.
     pub fn unordered(&self) -> Unordered<'_>
         ensures { IsPermutation (entries_of self.now) result }
     {
         Unordered {
-            left: self.pairs.range(..),
+            left: self.maps.each_pair(),
         }
     }
 
@@ -105,7 +106,7 @@ impl History {
     pub fn get(&self, page: PageId) -> Option<PageHist>
         ensures { (S : ReferenceSet) → StandsFor self.now S → result ≡ hist S page }
     {
-        known_of(&self.pairs, page)
+        known_of(&self.maps, page)
     }
 
     /// Takes in references, in any order, of which any may be known already.
@@ -118,7 +119,7 @@ impl History {
         ensures exact { OnOk result (self.new ≡ history (refs self.old ∪ these batch.now)) }
         ensures err { OnErr result (self.new ≡ self.old) }
     {
-        take_references(self.alloc, &mut self.pairs, batch)?;
+        take_references(self.alloc, &mut self.maps, batch)?;
         Ok(())
     }
 
@@ -132,7 +133,7 @@ impl History {
         ensures exact { OnOk result (self.new ≡ join self.old other.now) }
         ensures err { OnErr result (self.new ≡ self.old) }
     {
-        take_pairs(self.alloc, &mut self.pairs, &other.pairs)?;
+        take_pairs(self.alloc, &mut self.maps, &other.maps)?;
         Ok(())
     }
 
@@ -145,7 +146,7 @@ impl History {
         ensures exact { OnOk result (self.new ≡ join self.old (holding more.now)) }
         ensures err { OnErr result (self.new ≡ self.old) }
     {
-        take_entries(self.alloc, &mut self.pairs, more)?;
+        take_entries(self.alloc, &mut self.maps, more)?;
         Ok(())
     }
 
@@ -153,10 +154,10 @@ impl History {
     pub fn copy(&self) -> Result<History, AllocError>
         ensures { IfOk result (λ copied. copied ≡ self.now) }
     {
-        let pairs = self.pairs.clone()?;
+        let maps = self.maps.copy()?;
         Ok(History {
             alloc: self.alloc,
-            pairs,
+            maps,
         })
     }
 
@@ -184,7 +185,7 @@ impl History {
         ensures { result ≡ later_of_bucket bucket after self.now }
     {
         BucketEntries {
-            left: later_pairs(&self.pairs, bucket.get(), after),
+            left: later_pairs(&self.maps, bucket.get(), after),
         }
     }
 }
@@ -258,7 +259,7 @@ impl<'a> Iterator for BucketEntries<'a> {
 /// Contracts see it as the list of the entries that are left.
 #[derive(Debug, Drop)]
 pub struct Unordered<'a> {
-    left: Range<'a, u64, PageHist>,
+    left: EachPair<'a>,
 }
 
 impl<'a> Model for Unordered<'a> {
@@ -281,7 +282,11 @@ impl<'a> Iterator for Unordered<'a> {
     ghost remaining = { item_count (λ entries. entries) };
 
     fn next(&mut self) -> Option<Entry> {
-        next_entry(&mut self.left)
+        let (place, hist) = self.left.next()?;
+        Some(Entry {
+            page: page_at(place),
+            hist,
+        })
     }
 }
 

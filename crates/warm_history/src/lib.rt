@@ -10,6 +10,7 @@
 //! repeated or came out of order on the way: [`laws`] says so.
 #![tactic(auto)]
 
+mod bucket_maps;
 mod hist;
 mod history;
 pub mod laws;

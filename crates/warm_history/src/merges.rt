@@ -6,9 +6,9 @@ ghost use Rattle.warm_history.specs.Histories.{entries_of};
 ghost use Rattle.warm_history.specs.Merges.{part_left, two_left, four_left, eight_left, sixteen_left, thirty_two_left, all_left};
 ghost use Rattle.warm_history.specs.Merges.{first_of, rest_of, merge, merged_left, of_buckets, is_later};
 
+use crate::bucket_maps::BucketMaps;
 use crate::hist::{Entry, PageHist};
 use crate::parts::{later_pairs, next_entry};
-use std::collections::BTreeMap;
 use std::collections::btree_map::Range;
 
 // Entries that come one by one, of which the first can be looked at.
@@ -122,77 +122,77 @@ type ThirtyTwo<'a> = Merged<Sixteen<'a>>;
 pub(crate) type AllParts<'a> = Merged<ThirtyTwo<'a>>;
 
 // The entries of the bucket of this number.
-fn bucket_part(pairs: &BTreeMap<u64, PageHist>, number: u8) -> Part<'_>
+fn bucket_part(maps: &BucketMaps, number: u8) -> Part<'_>
     requires bucket { number < BUCKETS }
-    requires kept { AreKept pairs.now.entries }
-    ensures { part_left result ≡ of_buckets number (number + 1) (kept pairs.now.entries) }
+    requires kept { AreKept maps.now }
+    ensures { part_left result ≡ of_buckets number (number + 1) (kept maps.now) }
 {
-    let mut later = later_pairs(pairs, number, None);
+    let mut later = later_pairs(maps, number, None);
     let first = next_entry(&mut later);
     Part { first, later }
 }
 
 // The entries of the two buckets from this number on.
-fn two(pairs: &BTreeMap<u64, PageHist>, number: u8) -> Two<'_>
+fn two(maps: &BucketMaps, number: u8) -> Two<'_>
     requires buckets { number + 2 ≤ BUCKETS }
-    requires kept { AreKept pairs.now.entries }
-    ensures { two_left result ≡ of_buckets number (number + 2) (kept pairs.now.entries) }
+    requires kept { AreKept maps.now }
+    ensures { two_left result ≡ of_buckets number (number + 2) (kept maps.now) }
 {
-    let one = bucket_part(pairs, number);
-    let other = bucket_part(pairs, number + 1);
+    let one = bucket_part(maps, number);
+    let other = bucket_part(maps, number + 1);
     merge_both(one, other)
 }
 
 // The entries of the four buckets from this number on.
-fn four(pairs: &BTreeMap<u64, PageHist>, number: u8) -> Four<'_>
+fn four(maps: &BucketMaps, number: u8) -> Four<'_>
     requires buckets { number + 4 ≤ BUCKETS }
-    requires kept { AreKept pairs.now.entries }
-    ensures { four_left result ≡ of_buckets number (number + 4) (kept pairs.now.entries) }
+    requires kept { AreKept maps.now }
+    ensures { four_left result ≡ of_buckets number (number + 4) (kept maps.now) }
 {
-    let one = two(pairs, number);
-    let other = two(pairs, number + 2);
+    let one = two(maps, number);
+    let other = two(maps, number + 2);
     merge_both(one, other)
 }
 
 // The entries of the eight buckets from this number on.
-fn eight(pairs: &BTreeMap<u64, PageHist>, number: u8) -> Eight<'_>
+fn eight(maps: &BucketMaps, number: u8) -> Eight<'_>
     requires buckets { number + 8 ≤ BUCKETS }
-    requires kept { AreKept pairs.now.entries }
-    ensures { eight_left result ≡ of_buckets number (number + 8) (kept pairs.now.entries) }
+    requires kept { AreKept maps.now }
+    ensures { eight_left result ≡ of_buckets number (number + 8) (kept maps.now) }
 {
-    let one = four(pairs, number);
-    let other = four(pairs, number + 4);
+    let one = four(maps, number);
+    let other = four(maps, number + 4);
     merge_both(one, other)
 }
 
 // The entries of the sixteen buckets from this number on.
-fn sixteen(pairs: &BTreeMap<u64, PageHist>, number: u8) -> Sixteen<'_>
+fn sixteen(maps: &BucketMaps, number: u8) -> Sixteen<'_>
     requires buckets { number + 16 ≤ BUCKETS }
-    requires kept { AreKept pairs.now.entries }
-    ensures { sixteen_left result ≡ of_buckets number (number + 16) (kept pairs.now.entries) }
+    requires kept { AreKept maps.now }
+    ensures { sixteen_left result ≡ of_buckets number (number + 16) (kept maps.now) }
 {
-    let one = eight(pairs, number);
-    let other = eight(pairs, number + 8);
+    let one = eight(maps, number);
+    let other = eight(maps, number + 8);
     merge_both(one, other)
 }
 
 // The entries of the thirty-two buckets from this number on.
-fn thirty_two(pairs: &BTreeMap<u64, PageHist>, number: u8) -> ThirtyTwo<'_>
+fn thirty_two(maps: &BucketMaps, number: u8) -> ThirtyTwo<'_>
     requires buckets { number + 32 ≤ BUCKETS }
-    requires kept { AreKept pairs.now.entries }
-    ensures { thirty_two_left result ≡ of_buckets number (number + 32) (kept pairs.now.entries) }
+    requires kept { AreKept maps.now }
+    ensures { thirty_two_left result ≡ of_buckets number (number + 32) (kept maps.now) }
 {
-    let one = sixteen(pairs, number);
-    let other = sixteen(pairs, number + 16);
+    let one = sixteen(maps, number);
+    let other = sixteen(maps, number + 16);
     merge_both(one, other)
 }
 
 // The entries of all buckets.
-pub(crate) fn all_parts(pairs: &BTreeMap<u64, PageHist>) -> AllParts<'_>
-    requires { AreKept pairs.now.entries }
-    ensures { all_left result ≡ entries_of (kept pairs.now.entries) }
+pub(crate) fn all_parts(maps: &BucketMaps) -> AllParts<'_>
+    requires { AreKept maps.now }
+    ensures { all_left result ≡ entries_of (kept maps.now) }
 {
-    let one = thirty_two(pairs, 0);
-    let other = thirty_two(pairs, 32);
+    let one = thirty_two(maps, 0);
+    let other = thirty_two(maps, 32);
     merge_both(one, other)
 }

@@ -1,27 +1,28 @@
-//! The entries of a bucket, which lie together in the map.
+//! The entries of a bucket, which lie in a map of their own.
 ghost use Rattle.std.specs.Prelude.{◌≡◌, ◌<◌};
 ghost use Rattle.std.specs.Iterator.{YieldsFirst};
 ghost use Rattle.warm_stamps.specs.declared.TheConstants.{BUCKETS};
 ghost use Rattle.warm_history.specs.Tree.{as_entries, kept, AreKept};
 ghost use Rattle.warm_history.specs.Merges.{later_of_bucket};
 
+use crate::bucket_maps::BucketMaps;
 use crate::hist::{Entry, PageHist};
 use crate::place::{first_place, page_at, place_in};
-use std::collections::BTreeMap;
 use std::collections::btree_map::Range;
 use std::ops::Bound;
 use warm_stamps::PageId;
 
 // The pairs of the bucket of this number whose page is greater than the one given, if one is.
 pub(crate) fn later_pairs(
-    pairs: &BTreeMap<u64, PageHist>,
+    maps: &BucketMaps,
     number: u8,
     after: Option<PageId>,
 ) -> Range<'_, u64, PageHist>
     requires bucket { number < BUCKETS }
-    requires kept { AreKept pairs.now.entries }
-    ensures { as_entries result ≡ later_of_bucket number after (kept pairs.now.entries) }
+    requires kept { AreKept maps.now }
+    ensures { as_entries result ≡ later_of_bucket number after (kept maps.now) }
 {
+    let pairs = maps.map_of(number);
     let end = first_place(number + 1);
     match after {
         None => pairs.range((Bound::Included(first_place(number)), Bound::Excluded(end))),

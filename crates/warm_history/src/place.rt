@@ -1,14 +1,24 @@
-//! Places: the keys of the map, by which the entries of a bucket lie together, in page order.
+//! Places: the keys of the maps, by which the entries of a bucket lie together, in page order.
 ghost use Rattle.std.specs.Prelude.{◌≡◌};
-ghost use Rattle.warm_history.specs.Places.{first_place, place_in, place_of, page_at, IsPlace};
+ghost use Rattle.warm_history.specs.Places.{first_place, bucket_at, place_in, place_of, page_at, IsPlace};
 
 use warm_stamps::{PageId, bucket_of};
+
+// How many places each bucket has.
+const PLACES: u64 = 281_474_976_710_656;
 
 // The place where a bucket begins; at 64, where the last one ends.
 pub(crate) fn first_place(number: u8) -> u64
     ensures { result ≡ first_place number }
 {
-    u64::from(number) * 281_474_976_710_656
+    u64::from(number) * PLACES
+}
+
+// The number of the bucket that the place is in.
+pub(crate) fn bucket_at(place: u64) -> usize
+    ensures { result ≡ bucket_at place }
+{
+    (place / PLACES) as usize
 }
 
 // The place of a page, were it in the bucket of this number.

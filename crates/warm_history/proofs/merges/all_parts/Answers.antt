@@ -5,7 +5,7 @@ use Rattle.warm_history.proofs.merges.all_parts.Goals as goal
 
 pub returns : goal.returns
 returns c =
-    let pairs = c.args.pairs.now.entries in
+    let pairs = c.args.maps.now in
     c.merge_both.ensures
     ∙ two_halves pairs 0 32 64 _ _ (omega arith) c.thirty_two-one.ensures c.thirty_two-other.ensures
     ∙ of_all_buckets (kept pairs)

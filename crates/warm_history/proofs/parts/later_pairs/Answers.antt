@@ -6,33 +6,38 @@ use Rattle.warm_history.specs.Carried.{is_chosen}
 use Rattle.warm_history.specs.Places.{first_place, place_in}
 use Rattle.warm_history.specs.Tree.{as_entries}
 use Rattle.warm_history.proofs.PlaceOrder.{in_bucket, after_page, of_bucket}
+use Rattle.warm_history.proofs.BucketParts.{from_first_on, from_page_on}
 use Rattle.warm_history.proofs.TreeLemmas.{between, chosen_kept}
 use Rattle.warm_history.proofs.parts.later_pairs.Goals as goal
 
 -- no page is given: all of the bucket
 pub returns-in-None : goal.returns-in-None
 returns-in-None c =
-    let pairs = c.args.pairs.now.entries in
+    let pairs = c.args.maps.now in
+    let here = c.map_of-pairs.result.now.entries in
     let bucket = c.args.number in
     let are = c.requires.kept in
     rw c.in-None.is (
     ap as_entries (c.range.ensures.between tt)
-    ∙ ap (λ k. as_entries (entries_between nat_cmp (Included k) (Excluded c.first_place-end.result) pairs)) c.first_place.ensures
-    ∙ ap (λ k. as_entries (entries_between nat_cmp (Included (first_place bucket)) (Excluded k) pairs)) c.first_place-end.ensures
+    ∙ ap (λ k. as_entries (entries_between nat_cmp (Included k) (Excluded c.first_place-end.result) here)) c.first_place.ensures
+    ∙ ap (λ k. as_entries (entries_between nat_cmp (Included (first_place bucket)) (Excluded k) here)) c.first_place-end.ensures
+    ∙ ap as_entries (c.map_of-pairs.ensures _ (from_first_on bucket))
     ∙ between (Included (first_place bucket)) (Excluded (first_place (bucket + 1))) (is_chosen bucket None) pairs (in_bucket bucket) are.are_places
     ∙ chosen_kept bucket (is_chosen bucket None) (of_bucket bucket None) pairs are)
 
 -- those after the page
 pub returns-in-Some : goal.returns-in-Some
 returns-in-Some c =
-    let pairs = c.args.pairs.now.entries in
+    let pairs = c.args.maps.now in
+    let here = c.map_of-pairs.result.now.entries in
     let bucket = c.args.number in
     let last = c.in-Some.last in
     let are = c.requires.kept in
     let fits : last.no < 4294967296 = omega arith in
     rw c.in-Some.is (
     ap as_entries (c.range-in-Some.ensures.between tt)
-    ∙ ap (λ k. as_entries (entries_between nat_cmp (Excluded k) (Excluded c.first_place-end.result) pairs)) c.place_in.ensures
-    ∙ ap (λ k. as_entries (entries_between nat_cmp (Excluded (place_in bucket last)) (Excluded k) pairs)) c.first_place-end.ensures
+    ∙ ap (λ k. as_entries (entries_between nat_cmp (Excluded k) (Excluded c.first_place-end.result) here)) c.place_in.ensures
+    ∙ ap (λ k. as_entries (entries_between nat_cmp (Excluded (place_in bucket last)) (Excluded k) here)) c.first_place-end.ensures
+    ∙ ap as_entries (c.map_of-pairs.ensures _ (from_page_on bucket last))
     ∙ between (Excluded (place_in bucket last)) (Excluded (first_place (bucket + 1))) (is_chosen bucket (Some last)) pairs (λ k. after_page bucket last k fits) are.are_places
     ∙ chosen_kept bucket (is_chosen bucket (Some last)) (of_bucket bucket (Some last)) pairs are)

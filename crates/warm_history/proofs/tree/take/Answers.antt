@@ -5,8 +5,8 @@ use Rattle.warm_history.proofs.tree.take.Goals as goal
 
 pub returns-clause-undo : goal.returns-clause-undo
 returns-clause-undo c =
-    let old : _ = c.args.pairs.now.entries in
-    let new : _ = c.record.new.pairs.entries in
+    let old : _ = c.args.maps.now in
+    let new : _ = c.record.new.self in
     let notes : _ = c.reserve.new.self.items in
     ap (λ u. undone u new) c.push_reserved.ensures.items
     ∙ undone_more notes _ c.in-Some.known old new c.in-Some.is c.in_ok-known.ensures.undo

@@ -13,7 +13,7 @@ loop-entry-preserved c =
     let e : Entry = c.entry-item.result in
     record {
       whole = c.take.ensures.whole;
-      goes_on = goes_on _ (kept c.take.new.pairs.entries) (entry_refs e) (refs (drop (i + 1) more)) (refs (drop i more)) _ (c.in_ok-take.ensures.exact ∙ ap (λ p. history (refs (kept c.loop-entry.pairs.entries) ++ entry_refs (record { page = p; hist = e.hist }))) c.place_of-place.ensures.back) (ap refs (left_more more i e c.loop-entry-test.true c.entry-item.is)) inv.goes_on;
+      goes_on = goes_on _ (kept c.take.new.maps) (entry_refs e) (refs (drop (i + 1) more)) (refs (drop i more)) _ (c.in_ok-take.ensures.exact ∙ ap (λ p. history (refs (kept c.loop-entry.maps) ++ entry_refs (record { page = p; hist = e.hist }))) c.place_of-place.ensures.back) (ap refs (left_more more i e c.loop-entry-test.true c.entry-item.is)) inv.goes_on;
       undo = c.take.ensures.undo ∙ inv.undo;
     }
 

@@ -7,7 +7,7 @@ use Rattle.warm_history.proofs.tree.take_each_entry.Given as goal
 
 abbrev pub invariant-loop-entry : goal.invariant-loop-entry
 invariant-loop-entry l = record {
-  whole : AreKept l.pairs.entries;
-  goes_on : history (refs (kept l.pairs.entries) ∪ refs (holding (drop l.entry-index l.more))) ≡ history (refs (kept l.initial.pairs.entries) ∪ refs (holding l.more));
-  undo : undone l.undo.items l.pairs.entries ≡ undone l.initial.undo.items l.initial.pairs.entries;
+  whole : AreKept l.maps;
+  goes_on : history (refs (kept l.maps) ∪ refs (holding (drop l.entry-index l.more))) ≡ history (refs (kept l.initial.maps) ∪ refs (holding l.more));
+  undo : undone l.undo.items l.maps ≡ undone l.initial.undo.items l.initial.maps;
 }

@@ -9,7 +9,7 @@ use Rattle.warm_history.proofs.tree.take_each_pair.Given as goal
 abbrev pub invariant-loop-place : goal.invariant-loop-place
 invariant-loop-place l = record {
   places : ArePlaces l.place-iterator;
-  whole : AreKept l.pairs.entries;
-  goes_on : history (refs (kept l.pairs.entries) ∪ refs (as_entries l.place-iterator)) ≡ history (refs (kept l.initial.pairs.entries) ∪ refs (as_entries l.more.entries));
-  undo : undone l.undo.items l.pairs.entries ≡ undone l.initial.undo.items l.initial.pairs.entries;
+  whole : AreKept l.maps;
+  goes_on : history (refs (kept l.maps) ∪ refs (as_entries l.place-iterator)) ≡ history (refs (kept l.initial.maps) ∪ refs (as_entries l.more));
+  undo : undone l.undo.items l.maps ≡ undone l.initial.undo.items l.initial.maps;
 }

@@ -13,7 +13,7 @@ loop-reference-preserved c =
     let r : Reference = c.reference-item.result in
     record {
       whole = c.take.ensures.whole;
-      goes_on = goes_on _ (kept c.take.new.pairs.entries) (r ∷ []) (drop (i + 1) batch) (drop i batch) _ (c.in_ok-take.ensures.exact ∙ ap (λ p. history (refs (kept c.loop-reference.pairs.entries) ++ record { page = p; stamp = r.stamp } ∷ [])) c.place_of-place.ensures.back) (left_more batch i r c.loop-reference-test.true c.reference-item.is) inv.goes_on;
+      goes_on = goes_on _ (kept c.take.new.maps) (r ∷ []) (drop (i + 1) batch) (drop i batch) _ (c.in_ok-take.ensures.exact ∙ ap (λ p. history (refs (kept c.loop-reference.maps) ++ record { page = p; stamp = r.stamp } ∷ [])) c.place_of-place.ensures.back) (left_more batch i r c.loop-reference-test.true c.reference-item.is) inv.goes_on;
       undo = c.take.ensures.undo ∙ inv.undo;
     }
 

@@ -7,7 +7,7 @@ use Rattle.warm_history.proofs.tree.take_each_reference.Given as goal
 
 abbrev pub invariant-loop-reference : goal.invariant-loop-reference
 invariant-loop-reference l = record {
-  whole : AreKept l.pairs.entries;
-  goes_on : history (refs (kept l.pairs.entries) ∪ these (drop l.reference-index l.batch)) ≡ history (refs (kept l.initial.pairs.entries) ∪ these l.batch);
-  undo : undone l.undo.items l.pairs.entries ≡ undone l.initial.undo.items l.initial.pairs.entries;
+  whole : AreKept l.maps;
+  goes_on : history (refs (kept l.maps) ∪ these (drop l.reference-index l.batch)) ≡ history (refs (kept l.initial.maps) ∪ these l.batch);
+  undo : undone l.undo.items l.maps ≡ undone l.initial.undo.items l.initial.maps;
 }

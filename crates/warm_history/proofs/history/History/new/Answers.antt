@@ -5,4 +5,4 @@ use Rattle.warm_history.proofs.history.History.new.Goals as goal
 
 pub returns-clause-stands : goal.returns-clause-stands
 unfolding history
-returns-clause-stands c = ap kept c.new.ensures.empty
+returns-clause-stands c = ap kept c.new.ensures

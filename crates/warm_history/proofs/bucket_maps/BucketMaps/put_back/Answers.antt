@@ -1,0 +1,33 @@
+use Rattle.std.proofs.Common.{◌≡◌, ◌<◌, ◌≤◌, ◌+◌, sym, subst, ◌∙◌, arith, length}
+use Rattle.warm_history.specs.BucketMaps.{pairs_of, map_at, AreBuckets}
+use Rattle.warm_history.proofs.BucketLemmas.{map_at-of, lies_in_own}
+use Rattle.warm_history.proofs.BucketSteps.{AllIn, pairs_of-set, length-set, bucket_in, buckets_with, in_put_back, put_back_with, put_back_past}
+use Rattle.warm_history.proofs.bucket_maps.BucketMaps.put_back.Goals as goal
+
+pub invariant_of-self : goal.invariant_of-self
+invariant_of-self c =
+    let maps = c.self.inside.maps in
+    let i = c.bucket_at-bucket.result in
+    let p = c.args.known.place in
+    let ms = pairs_of maps in
+    let there : i < length maps = omega arith in
+    let own : AllIn (0 + i) (map_at ms i) = bucket_in 0 i ms c.self.invariant.1 in
+    let old : AllIn (0 + i) _ = subst (AllIn (0 + i)) (map_at-of maps i c.index-self-bucket.result there) own in
+    let new : AllIn (0 + i) (c.put_back_in.new.map).entries = subst (AllIn (0 + i)) (sym c.put_back_in.ensures) (in_put_back (0 + i) p c.args.known.hist _ old) in
+    (length-set maps i _ ∙ c.self.invariant.0, subst (AreBuckets 0) (sym (pairs_of-set maps i _)) (buckets_with 0 i _ ms c.self.invariant.1 new))
+
+pub returns-then-bucket-lt64 : goal.returns-then-bucket-lt64
+returns-then-bucket-lt64 c =
+    let maps = c.self.inside.maps in
+    let i = c.bucket_at-bucket.result in
+    let long : length maps ≡ 64 = c.self.invariant.0 in
+    let there : i < length maps = omega arith in
+    put_back_with maps i c.args.known.place c.args.known.hist c.index-self-bucket.result c.put_back_in.new.map c.args.self.now c.self.invariant.1 (lies_in_own i c.args.known.place c.bucket_at-bucket.ensures) there c.self.view_is c.put_back_in.ensures
+
+pub returns-else-bucket-lt64 : goal.returns-else-bucket-lt64
+returns-else-bucket-lt64 c =
+    let maps = c.self.inside.maps in
+    let i = c.bucket_at-bucket.result in
+    let long : length maps ≡ 64 = c.self.invariant.0 in
+    let past : length maps ≤ i = omega arith in
+    put_back_past maps i c.args.known.place c.args.known.hist c.args.self.now c.self.invariant.1 (lies_in_own i c.args.known.place c.bucket_at-bucket.ensures) past c.self.view_is

@@ -1,0 +1,233 @@
+//! A map from places, kept as a map for each bucket: a look-up goes down a small map.
+ghost use Rattle.std.specs.Iterator.{YieldsFirst};
+ghost use Rattle.std.specs.Prelude.{◌≡◌, ◌<◌, ◌≤◌, [], length, OnOk, OnErr, IfOk, IfSome, IfNone, Some, ◌++◌};
+ghost use Rattle.warm_history.specs.Histories.{latest_of, stamps_held};
+ghost use Rattle.warm_history.specs.Places.{IsPlace};
+ghost use Rattle.warm_stamps.specs.declared.TheConstants.{BUCKETS};
+ghost use Rattle.warm_history.specs.Tree.{AreKept, TakesStamps};
+ghost use Rattle.warm_history.specs.BucketMaps.{joined, pairs_of, pairs_left, HoldsBucket, PlacesRise, Records, found};
+ghost use Rattle.warm_history.specs.Undo.{put_back, noted, Undoes};
+
+use crate::hist::{PageHist, join_hist, join_known};
+use crate::place::bucket_at;
+use std::alloc::{AllocError, Global};
+use std::array;
+use std::collections::BTreeMap;
+use std::collections::btree_map::Range;
+use std::marker::Model;
+
+// What was known of the page at a place before it changed.
+#[derive(Debug, Clone, Copy)]
+pub(crate) struct Known {
+    place: u64,
+    hist: Option<PageHist>,
+}
+
+// What is known of places, in the order of their numbers: a map for each bucket.
+#[derive(Debug, Drop)]
+pub(crate) struct BucketMaps {
+    maps: [BTreeMap<u64, PageHist>; 64],
+}
+
+impl Model for BucketMaps {
+    ghost use Rattle.std.specs.Prelude.{◌≡◌, length};
+    ghost use Rattle.warm_history.specs.Tree.{Pairs};
+    ghost use Rattle.warm_history.specs.BucketMaps.{joined, AreBuckets, pairs_of};
+
+    ghost Value = { Pairs };
+
+    ghost view = { λ b. joined (pairs_of b.maps) };
+
+    ghost invariant = { λ b. (length b.maps ≡ 64) × AreBuckets 0 (pairs_of b.maps) };
+}
+
+impl BucketMaps {
+    // Takes no memory.
+    pub(crate) fn new(alloc: Global) -> BucketMaps
+        ensures { result ≡ [] }
+    {
+        BucketMaps {
+            maps: array::from_fn(|_| BTreeMap::new(alloc)),
+        }
+    }
+
+    // How many places have something known.
+    pub(crate) fn len(&self) -> usize
+        requires { AreKept self.now }
+        ensures { result ≡ length self.now }
+    {
+        count_all(&self.maps)
+    }
+
+    // A second map, equal to this one.
+    pub(crate) fn copy(&self) -> Result<BucketMaps, AllocError>
+        ensures { IfOk result (λ copied. copied ≡ self.now) }
+    {
+        let maps = self.maps.clone()?;
+        Ok(BucketMaps { maps })
+    }
+
+    // The map of the bucket of this number.
+    pub(crate) fn map_of(&self, number: u8) -> &BTreeMap<u64, PageHist>
+        requires { number < BUCKETS }
+        ensures { HoldsBucket number result.now.entries self.now }
+    {
+        &self.maps[number as usize]
+    }
+
+    // All pairs, bucket by bucket. Takes no memory.
+    pub(crate) fn each_pair(&self) -> EachPair<'_>
+        ensures { result ≡ self.now }
+    {
+        let Some((first, rest)) = self.maps.split_first() else {
+            unreachable!();
+        };
+        EachPair {
+            here: first.range(..),
+            rest,
+        }
+    }
+
+    // What is known at a place.
+    pub(crate) fn get(&self, place: u64) -> Option<PageHist>
+        requires { IsPlace place }
+        ensures { result ≡ found place self.now }
+    {
+        self.maps[bucket_at(place)].get(&place).copied()
+    }
+
+    // Takes in what is told of the page at a place, and tells what was known of it, where that changes.
+    pub(crate) fn record(&mut self, place: u64, more: PageHist) -> Result<Option<Known>, AllocError>
+        requires place { IsPlace place }
+        requires kept { AreKept self.old }
+        ensures exact { OnOk result (TakesStamps self.old place more self.new) }
+        ensures whole { AreKept self.new }
+        ensures undo { IfOk result (λ note. Undoes (noted note) self.new self.old) }
+        ensures err { OnErr result (self.new ≡ self.old) }
+    {
+        record_in(&mut self.maps[bucket_at(place)], place, more)
+    }
+
+    // Puts back what was known of a page. Takes no memory.
+    pub(crate) fn put_back(&mut self, known: Known)
+        ensures { self.new ≡ put_back known.place known.hist self.old }
+    {
+        let bucket = bucket_at(known.place);
+        if bucket < self.maps.len() {
+            put_back_in(&mut self.maps[bucket], known);
+        }
+    }
+}
+
+// Goes over all pairs: those left of the map at hand, then those of the other maps.
+#[derive(Debug, Drop)]
+pub(crate) struct EachPair<'a> {
+    here: Range<'a, u64, PageHist>,
+    rest: &'a [BTreeMap<u64, PageHist>],
+}
+
+impl<'a> Model for EachPair<'a> {
+    ghost use Rattle.warm_history.specs.Tree.{Pairs};
+    ghost use Rattle.warm_history.specs.BucketMaps.{pairs_left};
+
+    ghost Value = { Pairs };
+
+    ghost view = { λ pairs. pairs_left pairs.here pairs.rest.now };
+}
+
+impl<'a> Iterator for EachPair<'a> {
+    ghost use Rattle.std.specs.Iterator.{YieldsFirst, item_count};
+
+    type Item = (u64, PageHist);
+
+    ghost next_gives = { YieldsFirst (λ pairs. pairs) };
+
+    ghost remaining = { item_count (λ pairs. pairs) };
+
+    fn next(&mut self) -> Option<(u64, PageHist)> {
+        next_pair(&mut self.here, &mut self.rest)
+    }
+}
+
+// The first of the pairs that are left: maps with none are stepped over.
+fn next_pair<'a>(
+    here: &mut Range<'a, u64, PageHist>,
+    rest: &mut &'a [BTreeMap<u64, PageHist>],
+) -> Option<(u64, PageHist)>
+    ensures { YieldsFirst (λ pairs. pairs)
+        (pairs_left here.old rest.old.now) result (pairs_left here.new rest.new.now) }
+{
+    loop {
+        if let Some((place, hist)) = here.next() {
+            return Some((*place, *hist));
+        }
+        let (map, later) = rest.split_first()?;
+        *here = map.range(..);
+        *rest = later;
+    }
+}
+
+// How many pairs the maps hold, where they are no more than there are places.
+fn count_all(maps: &[BTreeMap<u64, PageHist>]) -> usize
+    requires { length (joined (pairs_of maps.now)) ≤ 18014398509481984 }
+    ensures { result ≡ length (joined (pairs_of maps.now)) }
+{
+    let mut count = 0;
+    for map in maps {
+        count += map.len();
+    }
+    count
+}
+
+// Takes in what is told of the page at a place of the map's own bucket.
+fn record_in(
+    map: &mut BTreeMap<u64, PageHist>,
+    place: u64,
+    more: PageHist,
+) -> Result<Option<Known>, AllocError>
+    requires { PlacesRise map.old.entries }
+    ensures ok { IfOk result (λ note. Records map.old.entries place more note map.new.entries) }
+    ensures err { OnErr result (map.new.entries ≡ map.old.entries) }
+{
+    if let Some(known) = map.get_mut(&place) {
+        let Some(before) = raise(known, more) else {
+            return Ok(None);
+        };
+        let hist = Some(before);
+        return Ok(Some(Known { place, hist }));
+    }
+    let hist = join_known(None, more);
+    map.insert(place, hist)?;
+    Ok(Some(Known { place, hist: None }))
+}
+
+// Takes more into what is known of a page, and tells what was known before, where that changes.
+fn raise(known: &mut PageHist, more: PageHist) -> Option<PageHist>
+    ensures now { Some known.new ≡ latest_of (stamps_held more ++ stamps_held known.old) }
+    ensures before { IfSome result (λ h. h ≡ known.old) }
+    ensures same { IfNone result (known.new ≡ known.old) }
+{
+    let before = *known;
+    let now = join_hist(more, before);
+    if now == before {
+        return None;
+    }
+    *known = now;
+    Some(before)
+}
+
+fn put_back_in(map: &mut BTreeMap<u64, PageHist>, known: Known)
+    ensures { map.new.entries ≡ put_back known.place known.hist map.old.entries }
+{
+    let place = known.place;
+    match known.hist {
+        None => {
+            let _ = map.remove(&place);
+        }
+        Some(hist) => {
+            if let Some(now) = map.get_mut(&place) {
+                *now = hist;
+            }
+        }
+    }
+}
