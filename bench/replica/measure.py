@@ -26,6 +26,7 @@ from busy import all_processors_busy  # noqa: E402
 OURS = HERE.parent.parent / "crates/bench_replica/out/bench_replica"
 RUNS = 11
 CROWDS = [1, 2, 4]
+PLAIN = ["map", "node", "buckets"]
 LINE = re.compile(r"workers (\d): (\d+) in (\d+) ns")
 
 
@@ -64,16 +65,18 @@ def main() -> None:
     with tempfile.TemporaryDirectory() as folder:
         plain = Path(folder) / "plain"
         subprocess.run(["rustc", "-O", "--edition", "2024", "-o", plain, HERE / "plain.rs"], check=True)
-        commands = {"ours": [OURS], "map": [plain, "map"], "node": [plain, "node"]}
-        print("| processors | workers | ours, million a second | a plain map | ours to it | middle | a plain node | ours to it | middle |")
-        print("|---|---|---|---|---|---|---|---|---|")
+        commands = {"ours": [OURS]} | {name: [plain, name] for name in PLAIN}
+        heads = [f"a plain {name} | ours to it | middle" for name in ["map", "node", "node of 64 maps"]]
+        print(f"| processors | workers | ours, million a second | {' | '.join(heads)} |")
+        print("|---" * (3 + 3 * len(heads)) + "|")
         for are_busy in {"idle": [False], "busy": [True], "both": [False, True]}[when]:
             with all_processors_busy(are_busy):
                 speeds = measured(commands, references, pages)
             for workers in CROWDS:
-                ours, bare, node = (speeds[name, workers] for name in commands)
+                ours = speeds["ours", workers]
                 load = "busy" if are_busy else "idle"
-                print(f"| {load} | {workers} | {max(ours) / 1e6:.2f} | {beside(ours, bare)} | {beside(ours, node)} |")
+                ratios = " | ".join(beside(ours, speeds[name, workers]) for name in PLAIN)
+                print(f"| {load} | {workers} | {max(ours) / 1e6:.2f} | {ratios} |")
 
 
 if __name__ == "__main__":

@@ -1,9 +1,9 @@
 //! The workers of `crates/bench_replica` in plain Rust, over one replica behind a `std::sync::Mutex`, for the same measurements.
 //!
-//! `plain WORKERS REFERENCES PAGES [map|node]`: so many workers bring so many references each, to so many pages, by buffers of 64. With
-//! `map` the replica is a `BTreeMap` of the two latest stamps of each page. With `node` it also does what a node does beside: it keeps
-//! what was known, to put it back where memory runs out, marks the buckets whose sums are to be taken anew, and looks each page up
-//! among those in frames.
+//! `plain WORKERS REFERENCES PAGES [map|node|buckets]`: so many workers bring so many references each, to so many pages, by buffers of
+//! 64. With `map` the replica is a `BTreeMap` of the two latest stamps of each page. With `node` it also does what a node does beside:
+//! it keeps what was known, to put it back where memory runs out, marks the buckets whose sums are to be taken anew, and looks each page
+//! up among those in frames. With `buckets` it is such a node that keeps a map for each bucket.
 
 #[path = "../parts/mod.rs"]
 mod parts;
@@ -41,19 +41,30 @@ fn reference(load: Load, worker: u64, i: u64, drawn: u64) -> Reference {
 
 trait Replica: Send {
     fn absorb(&mut self, batch: &[Reference]);
-    fn history(&self) -> &BTreeMap<Page, Hist>;
+    fn maps(&self) -> &[BTreeMap<Page, Hist>];
 }
 
-#[derive(Default)]
+const BUCKETS: usize = 64;
+
+fn bucket_of(page: Page) -> usize {
+    (page.dev as usize + page.no as usize) % BUCKETS
+}
+
 struct Map {
-    history: BTreeMap<Page, Hist>,
+    history: [BTreeMap<Page, Hist>; 1],
+}
+
+impl Map {
+    fn new() -> Map {
+        Map { history: [BTreeMap::new()] }
+    }
 }
 
 impl Replica for Map {
     fn absorb(&mut self, batch: &[Reference]) {
         for seen in batch {
             let more = Hist::Once(seen.stamp);
-            match self.history.entry(seen.page) {
+            match self.history[0].entry(seen.page) {
                 Slot::Occupied(mut slot) => {
                     let known = slot.get_mut();
                     *known = join(more, *known);
@@ -65,25 +76,31 @@ impl Replica for Map {
         }
     }
 
-    fn history(&self) -> &BTreeMap<Page, Hist> {
+    fn maps(&self) -> &[BTreeMap<Page, Hist>] {
         &self.history
     }
 }
 
-#[derive(Default)]
-struct Node {
-    history: BTreeMap<Page, Hist>,
+/// A node with one map, or with one for each bucket.
+struct Node<const MAPS: usize> {
+    histories: [BTreeMap<Page, Hist>; MAPS],
     changed: u64,
     frames: HashMap<Page, usize>,
     ranks: Vec<Hist>,
 }
 
-impl Replica for Node {
+impl<const MAPS: usize> Node<MAPS> {
+    fn new() -> Self {
+        Node { histories: [const { BTreeMap::new() }; MAPS], changed: 0, frames: HashMap::new(), ranks: Vec::new() }
+    }
+}
+
+impl<const MAPS: usize> Replica for Node<MAPS> {
     fn absorb(&mut self, batch: &[Reference]) {
         let mut undo: Vec<(Page, Option<Hist>)> = Vec::with_capacity(batch.len());
         for seen in batch {
             let more = Hist::Once(seen.stamp);
-            match self.history.entry(seen.page) {
+            match self.histories[bucket_of(seen.page) % MAPS].entry(seen.page) {
                 Slot::Occupied(mut slot) => {
                     let known = *slot.get();
                     slot.insert(join(more, known));
@@ -97,15 +114,15 @@ impl Replica for Node {
         }
         black_box(&undo);
         for seen in batch {
-            self.changed |= 1 << ((seen.page.dev as usize + seen.page.no as usize) % 64);
+            self.changed |= 1 << bucket_of(seen.page);
             if let Some(at) = self.frames.get(&seen.page) {
-                self.ranks[*at] = self.history[&seen.page];
+                self.ranks[*at] = self.histories[bucket_of(seen.page) % MAPS][&seen.page];
             }
         }
     }
 
-    fn history(&self) -> &BTreeMap<Page, Hist> {
-        &self.history
+    fn maps(&self) -> &[BTreeMap<Page, Hist>] {
+        &self.histories
     }
 }
 
@@ -136,14 +153,14 @@ fn heat(page: Page, hist: Hist) -> (Option<Stamp>, Stamp, Page) {
     }
 }
 
-fn sum_of(history: &BTreeMap<Page, Hist>) -> u64 {
-    let mut ranks: Vec<_> = history.iter().map(|(page, hist)| heat(*page, *hist)).collect();
+fn sum_of(maps: &[BTreeMap<Page, Hist>]) -> u64 {
+    let mut ranks: Vec<_> = maps.iter().flatten().map(|(page, hist)| heat(*page, *hist)).collect();
     ranks.sort_unstable();
     ranks.iter().rev().take(HOTTEST).fold(0u64, |sum, rank| sum.wrapping_mul(31).wrapping_add(u64::from(rank.2.no)))
 }
 
-fn run<R: Replica + Default>(workers: u64, load: Load) {
-    let replica = Mutex::new(R::default());
+fn run(replica: impl Replica, workers: u64, load: Load) {
+    let replica = Mutex::new(replica);
     let start = Instant::now();
     if workers == 1 {
         bring(&replica, 0, load);
@@ -157,7 +174,7 @@ fn run<R: Replica + Default>(workers: u64, load: Load) {
     }
     let spent = start.elapsed();
     let replica = replica.into_inner().expect("no worker panics");
-    println!("workers {workers}: {} in {} ns", sum_of(replica.history()), spent.as_nanos());
+    println!("workers {workers}: {} in {} ns", sum_of(replica.maps()), spent.as_nanos());
 }
 
 fn main() {
@@ -165,8 +182,9 @@ fn main() {
     let number = |i: usize| words[i].parse::<u64>().expect("a number");
     let load = Load { references: number(1), pages: number(2) };
     match words.get(3).map_or("map", String::as_str) {
-        "map" => run::<Map>(number(0), load),
-        "node" => run::<Node>(number(0), load),
-        _ => panic!("map or node"),
+        "map" => run(Map::new(), number(0), load),
+        "node" => run(Node::<1>::new(), number(0), load),
+        "buckets" => run(Node::<BUCKETS>::new(), number(0), load),
+        _ => panic!("map, node or buckets"),
     }
 }
