@@ -16,13 +16,27 @@ use warm_stamps::{PageId, Reference, bucket_of};
 /// [`SummedHistory::sums`] takes anew only the sums of the marked ones.
 ///
 /// Contracts see it as its history.
-#[derive(Debug, Drop)]
+#[derive(Debug)]
 pub struct SummedHistory {
     alloc: Global,
     history: History,
     sums: Sums,
     // The buckets of which a page may have changed since their sum was taken.
     changed: u64,
+}
+
+// By hand, so that an owner makes one call at each way out (see `History`).
+impl Drop for SummedHistory {
+    fn drop(mut self) {
+        let Self {
+            alloc: _,
+            history,
+            sums,
+            changed: _,
+        } = self;
+        drop(history);
+        drop(sums);
+    }
 }
 
 impl Model for SummedHistory {

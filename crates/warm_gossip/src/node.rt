@@ -26,7 +26,6 @@ use warm_stamps::ReplicaId;
 ///
 /// Clauses see [`Shown::shown`] of a node. That it is *fit*, its pool a pool and ranked by its history, is a condition that
 /// `new` gives and each call keeps.
-#[derive(Drop)]
 pub struct Node {
     pub(crate) alloc: Global,
     pub(crate) id: ReplicaId,
@@ -34,6 +33,21 @@ pub struct Node {
     pub(crate) pool: Pool,
     // What holds of every boxed device is known where a type names the box.
     pub(crate) boxes: PhantomData<Box<dyn PageDevice + Send>>,
+}
+
+// By hand, so that an owner makes one call at each way out (see `History`).
+impl Drop for Node {
+    fn drop(mut self) {
+        let Self {
+            alloc: _,
+            id: _,
+            history,
+            pool,
+            boxes: _,
+        } = self;
+        drop(history);
+        drop(pool);
+    }
 }
 
 /// What a node is to a contract. The clauses of this crate write the same by the words of `specs/Clauses.antt`.

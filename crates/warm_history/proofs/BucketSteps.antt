@@ -1,5 +1,5 @@
 -- A change of a bucket's map is one of all maps together, and leaves each map to its own bucket.
-use Rattle.std.proofs.Common.{◌≡◌, ℕ, List, [], ◌∷◌, ◌++◌, sym, ap, subst, refl, ◌∙◌, arith, Option, Some, None, length, zero, suc, ◌+◌, ◌<◌, ◌≤◌, slice_set, get_or, IfOk, OnOk, OnErr}
+use Rattle.std.proofs.Common.{◌≡◌, ℕ, List, [], ◌∷◌, ◌++◌, sym, ap, subst, refl, ◌∙◌, arith, Option, Some, None, length, zero, suc, ◌+◌, ◌/◌, ◌<◌, ◌≤◌, slice_set, get_or, IfOk, OnOk, OnErr}
 use Rattle.std.specs.List.{AllByRecursion}
 use Rattle.std.specs.Map.{remove_entry, set_value}
 use Rattle.std.specs.BTreeMap.{BTreeMap, is_at, insert_entry}
@@ -16,7 +16,8 @@ use Rattle.warm_history.specs.Tree.{Pairs, AreKept, TakesStamps}
 use Rattle.warm_history.specs.Undo.{put_back, noted, Undoes}
 use Rattle.warm_history.specs.BucketMaps.{pairs_of, joined, LiesIn, AreBuckets, map_at, with_map, PlacesRise, found, IsNote, Records}
 use Rattle.warm_history.proofs.TreeLemmas.{exact_pair, kept_more, put_back-insert}
-use Rattle.warm_history.proofs.BucketLemmas.{map_at-of, find_joined, insert_joined, set_joined, remove_joined}
+use Rattle.warm_history.proofs.PlaceOrder.{below_all_places}
+use Rattle.warm_history.proofs.BucketLemmas.{map_at-of, lies_in_own, find_joined, insert_joined, set_joined, remove_joined}
 
 -- ---- the maps with one changed
 
@@ -169,6 +170,16 @@ recorded (Ok note) maps i p more m n old are is there view records =
     (subst (λ ms. Records (joined (pairs_of maps)) p more note (joined ms)) (sym (pairs_of-set maps i n))
     (records_joined 0 i p more note (pairs_of maps) n.entries are is few own))
 recorded (Err e) maps i p more m n old are is there view records = tt
+
+-- the place's own bucket is the number of one of the 64 maps
+pub own_map : {A : Type 0} (maps : List A) (i p : ℕ) → length maps ≡ 64 → i ≡ p / 281474976710656 → IsPlace p → i < length maps
+own_map maps i p long own is =
+    let below : p / 281474976710656 < 64 = below_all_places p is in
+    omega arith
+
+-- what the map of the place's own bucket recorded, all maps recorded
+pub recorded_in_own : {E : Type 0} (r : Result (Option Known) E) (maps : List (BTreeMap ℕ PageHist)) (i p : ℕ) (more : PageHist) (m n : BTreeMap ℕ PageHist) (old : Pairs) → (length maps ≡ 64) × AreBuckets 0 (pairs_of maps) → i ≡ p / 281474976710656 → IsPlace p → joined (pairs_of maps) ≡ old → IfOk r (λ note. Records (get_or maps i m).entries p more note n.entries) → IfOk r (λ note. Records old p more note (all_with maps i n))
+recorded_in_own r maps i p more m n old are own is view records = recorded r maps i p more m n old are.1 (lies_in_own i p own) (own_map maps i p are.0 own is) view records
 
 pub unchanged : {A E : Type 0} (r : Result A E) (maps : List (BTreeMap ℕ PageHist)) (i : ℕ) (m n : BTreeMap ℕ PageHist) (old : Pairs) → i < length maps → joined (pairs_of maps) ≡ old → OnErr r (n.entries ≡ (get_or maps i m).entries) → OnErr r (all_with maps i n ≡ old)
 unchanged (Ok a) maps i m n old there view same = tt

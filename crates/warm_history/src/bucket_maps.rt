@@ -2,7 +2,7 @@
 ghost use Rattle.std.specs.Iterator.{YieldsFirst};
 ghost use Rattle.std.specs.Prelude.{◌≡◌, ◌<◌, ◌≤◌, [], length, OnOk, OnErr, IfOk, IfSome, IfNone, Some, ◌++◌};
 ghost use Rattle.warm_history.specs.Histories.{latest_of, stamps_held};
-ghost use Rattle.warm_history.specs.Places.{IsPlace};
+ghost use Rattle.warm_history.specs.Places.{IsPlace, first_place};
 ghost use Rattle.warm_stamps.specs.declared.TheConstants.{BUCKETS};
 ghost use Rattle.warm_history.specs.Tree.{AreKept, TakesStamps};
 ghost use Rattle.warm_history.specs.BucketMaps.{joined, pairs_of, pairs_left, HoldsBucket, PlacesRise, Records, found};
@@ -169,7 +169,7 @@ fn next_pair<'a>(
 
 // How many pairs the maps hold, where they are no more than there are places.
 fn count_all(maps: &[BTreeMap<u64, PageHist>]) -> usize
-    requires { length (joined (pairs_of maps.now)) ≤ 18014398509481984 }
+    requires { length (joined (pairs_of maps.now)) ≤ first_place BUCKETS }
     ensures { result ≡ length (joined (pairs_of maps.now)) }
 {
     let mut count = 0;

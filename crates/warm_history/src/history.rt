@@ -24,10 +24,19 @@ use warm_stamps::{Bucket, PageId, Reference};
 /// The entries of a bucket lie together, so what is asked of a bucket costs that bucket alone.
 ///
 /// Growing calls are all or nothing: where memory is refused, the history is as before.
-#[derive(Debug, Drop)]
+#[derive(Debug)]
 pub struct History {
     alloc: Global,
     maps: BucketMaps,
+}
+
+// By hand, so that one who owns a history makes this one call at each way out: a derived drop is read field by
+// field, and here down to each of 64 maps.
+impl Drop for History {
+    fn drop(mut self) {
+        let Self { alloc: _, maps } = self;
+        drop(maps);
+    }
 }
 
 impl Model for History {

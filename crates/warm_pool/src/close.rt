@@ -84,14 +84,7 @@ impl Pool {
     {
         match self.put_down() {
             Ok(()) => {
-                let Pool {
-                    frames,
-                    devices,
-                    spare,
-                } = self;
-                drop(frames);
-                drop(spare);
-                let_all_go(devices);
+                let_all_go(self.into_devices());
                 Ok(())
             }
             Err(fault) => Err(Unclosed { fault, pool: self }),

@@ -33,12 +33,25 @@ use warm_stamps::PageId;
 /// rank of each resident page is the one that the history gives it. A pool without a page is ranked by every history.
 ///
 /// A pool that is dropped settles its devices by their own drops, but loses what only its dirty frames hold: close it instead.
-#[derive(Drop)]
 pub struct Pool {
     pub(crate) frames: Frames,
     pub(crate) devices: Vec<Box<dyn PageDevice + Send>>,
     // A page is first read into this buffer, so that a failed read changes no frame.
     pub(crate) spare: Vec<u8>,
+}
+
+// By hand, so that an owner makes one call at each way out (see `History`).
+impl Drop for Pool {
+    fn drop(mut self) {
+        let Self {
+            frames,
+            devices,
+            spare,
+        } = self;
+        drop(frames);
+        drop(devices);
+        drop(spare);
+    }
 }
 
 /// What a pool is to a contract.
@@ -63,6 +76,20 @@ impl Pooled for Pool {
 }
 
 impl Pool {
+    // Its devices, and no pool any more: a pool is taken apart beside its drop alone.
+    pub(crate) fn into_devices(self) -> Vec<Box<dyn PageDevice + Send>>
+        ensures { result.items ≡ self.devices.items }
+    {
+        let Self {
+            frames,
+            devices,
+            spare,
+        } = self;
+        drop(frames);
+        drop(spare);
+        devices
+    }
+
     /// A pool of this many frames, none with a page, over these devices. All room that it needs is taken here.
     ///
     /// There may be [`MAX_DEVICES`] devices at most.

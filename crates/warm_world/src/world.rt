@@ -29,13 +29,26 @@ use warm_stamps::{PageId, ReplicaId};
 /// condition that `new` gives and each call keeps.
 ///
 /// A kept frame stays for as long as the world does, so memory grows with what is sent.
-#[derive(Drop)]
 pub struct World {
     pub(crate) alloc: Global,
     pub(crate) replicas: Vec<Replica>,
     pub(crate) frames: Vec<Vec<u8>>,
     // What holds of every boxed device is known where a type names the box.
     pub(crate) boxes: PhantomData<Box<dyn PageDevice + Send>>,
+}
+
+// By hand, so that an owner makes one call at each way out (see `History`).
+impl Drop for World {
+    fn drop(mut self) {
+        let Self {
+            alloc: _,
+            replicas,
+            frames,
+            boxes: _,
+        } = self;
+        drop(replicas);
+        drop(frames);
+    }
 }
 
 fn is_number(number: u64, count: usize) -> bool
