@@ -163,9 +163,6 @@ get_first e h p here = let own : is_eq (page_cmp e.page p) ≡ true = ap (λ q. 
 some_same : {A : Type 0} (x y : A) → Some x ≡ Some y → x ≡ y
 some_same x y e = cc
 
-IsRisingByPage : List Entry → Type 0
-IsRisingByPage h = IsRising (on (λ e. e.page) page_cmp) h
-
 -- without the first entry, the later ones say the same of each page
 get_later : (d e : Entry) (h g : List Entry) → d.page ≡ e.page → AllAbove d.page h → AllAbove e.page g → ((p : PageId) → get (d ∷ h) p ≡ get (e ∷ g) p) → (p : PageId) → get h p ≡ get g p
 get_later d e h g same above_d above_e alike p = cases (is_eq (page_cmp d.page p)) refl

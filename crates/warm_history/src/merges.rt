@@ -108,9 +108,9 @@ fn merge_both<I: Source>(mut one: I, mut other: I) -> Merged<I>
     Merged { first, one, other }
 }
 
-type Two<'a> = Merged<Part<'a>>;
+type TwoParts<'a> = Merged<Part<'a>>;
 
-type Four<'a> = Merged<Two<'a>>;
+type Four<'a> = Merged<TwoParts<'a>>;
 
 type Eight<'a> = Merged<Four<'a>>;
 
@@ -133,7 +133,7 @@ fn bucket_part(maps: &BucketMaps, number: u8) -> Part<'_>
 }
 
 // The entries of the two buckets from this number on.
-fn two(maps: &BucketMaps, number: u8) -> Two<'_>
+fn two(maps: &BucketMaps, number: u8) -> TwoParts<'_>
     requires buckets { number + 2 ≤ BUCKETS }
     requires kept { AreKept maps.now }
     ensures { two_left result ≡ of_buckets number (number + 2) (kept maps.now) }
