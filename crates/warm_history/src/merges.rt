@@ -29,7 +29,7 @@ pub(crate) trait Source: Drop {
 }
 
 // The entries of one bucket.
-#[derive(Debug, Drop)]
+#[derive(Drop)]
 pub(crate) struct Part<'a> {
     first: Option<Entry>,
     later: Range<'a, u64, PageHist>,
@@ -52,7 +52,7 @@ impl<'a> Source for Part<'a> {
 }
 
 // The entries of both, in page order, where each of them gives its own in page order.
-#[derive(Debug, Drop)]
+#[derive(Drop)]
 pub(crate) struct Merged<I> {
     first: Option<Entry>,
     one: I,
