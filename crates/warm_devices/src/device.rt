@@ -10,6 +10,7 @@ use crate::DeviceFault;
 /// No call changes how many pages there are, their size, or what the device says of itself. No call lowers `failures`. A device
 /// takes no memory in these calls. Its drop settles first.
 pub trait PageDevice: Drop {
+    /// What the device is, as plain data.
     ghost state: { Self → DeviceState };
 
     /// How many pages there are. They are numbered from 0.

@@ -103,7 +103,8 @@ impl PageDevice for MemDevice {
     }
 
     fn failures(&self) -> u64 {
-        let _state = &self.waiting;
+        // Only once a field is read does the proof know the model, by which nothing has failed.
+        let _waiting = &self.waiting;
         0
     }
 

@@ -14,13 +14,14 @@ use Rattle.warm_stamps.specs.declared.TheConstants.{BUCKETS}
 use Rattle.warm_stamps.specs.Buckets.{page_bucket}
 use Rattle.warm_stamps.specs.Stamps.{stamp_cmp, page_cmp}
 use Rattle.warm_stamps.specs.Distinct.{distinct}
-use Rattle.warm_stamps.proofs.DistinctLemmas.{is_equal, distinct_absorbs, all_filter}
-use Rattle.warm_stamps.proofs.StampLemmas.{stamp_order, page_order, IsStrictOrder-flip}
+use Rattle.warm_stamps.proofs.DistinctLemmas.{is_equal, all_filter}
+use Rattle.warm_stamps.proofs.StampLemmas.{page_order}
 use Rattle.warm_history.specs.declared.hist.Entry.{Entry}
 use Rattle.warm_history.specs.Carried.{bucket_entries}
 use Rattle.warm_history.specs.ReferenceSets.{ReferenceSet, ◌∪◌}
 use Rattle.warm_history.specs.Histories.{HistoryView, entries_of, references_to, first_two, hist, history}
-use Rattle.warm_history.proofs.HistoryLemmas.{get, told, told-append, joined, hist-append, get-history, same_hists}
+use Rattle.warm_history.proofs.JoinLemmas.{hist_repeat}
+use Rattle.warm_history.proofs.HistoryLemmas.{get, joined, hist-append, get-history, same_hists}
 use Rattle.warm_frames.specs.declared.fault.FrameFault.{FrameFault}
 use Rattle.warm_frames.specs.declared.fault.FrameFault.TheVariants.{BadLength}
 use Rattle.warm_frames.specs.Entries.{IsEntry, entries_bytes}
@@ -123,12 +124,6 @@ hist-kept test S p =
     ∙ elim (test p) as (λ b. first_two (distinct (flip_args stamp_cmp) (map (λ (r : Reference). r.stamp) (cond b (references_to S p) []))) ≡ cond b (hist S p) None) [ true ↦ refl | false ↦ refl ]
 
 -- ---- what is known twice, and what is not known
-
-hist_repeat : (S : List Reference) (p : PageId) → hist (S ++ S) p ≡ hist S p
-hist_repeat S p =
-    let falls = flip_args stamp_cmp in
-    ap (λ ss. first_two (distinct falls ss)) (told-append S S p)
-    ∙ ap first_two (distinct_absorbs falls (IsStrictOrder-flip stamp_cmp stamp_order) (told S p) (told S p) (λ s has. has))
 
 pub joined_same : (S : List Reference) (p : PageId) → joined (hist S p) (hist S p) ≡ hist S p
 joined_same S p = sym (hist-append S S p) ∙ hist_repeat S p

@@ -17,10 +17,11 @@ use Rattle.warm_history.specs.declared.hist.Entry.{Entry}
 use Rattle.warm_history.specs.Carried.{comes_after}
 use Rattle.warm_history.specs.Histories.{PagesRise}
 use Rattle.warm_history.proofs.MergeLemmas.{rises_on}
+use Rattle.warm_frames.specs.declared.writing.TheConstants.{MAX_ENTRY_SIZE}
 use Rattle.warm_frames.specs.declared.entries.TheConstants.{MAX_ENTRIES}
 use Rattle.warm_frames.specs.declared.fault.FrameFault.TheVariants.{BadLength, BadCount}
 use Rattle.warm_frames.specs.declared.sums.TheConstants.{SUM_SIZE}
-use Rattle.warm_frames.specs.Entries.{hist_bytes, entry_bytes, longest_entry, entries_bytes, IsEntry, IsEntryList}
+use Rattle.warm_frames.specs.Entries.{hist_bytes, entry_bytes, entries_bytes, IsEntry, IsEntryList}
 use Rattle.warm_frames.specs.Sums.{IsSumTable, table_size}
 use Rattle.warm_frames.specs.Reading.{◌>>=◌, number_at, want, entry_at, entries_at, count_at, all_entries, entries_of, sums_of}
 use Rattle.warm_frames.proofs.FieldLemmas.{bind_ok, want_ok, chosen_ok, ok_is, Takes, Takes-then, wide32, number_takes, number_again, entry_takes, entry_again, less_is, less_true}
@@ -146,7 +147,7 @@ short_hist : (h : PageHist) → length (hist_bytes h) ≤ 21
 short_hist (Once last) = omega arith
 short_hist (Twice two) = omega arith
 
-pub short_entries : (es : List Entry) → length (entries_bytes es) ≤ longest_entry * length es
+pub short_entries : (es : List Entry) → length (entries_bytes es) ≤ MAX_ENTRY_SIZE * length es
 short_entries [] = omega arith
 short_entries (e ∷ es) =
     let whole : length (entries_bytes (e ∷ es)) ≡ length (entry_bytes e) + length (entries_bytes es) = ap length (flat_map-cons entry_bytes e es) ∙ length-append (entry_bytes e) (entries_bytes es) in

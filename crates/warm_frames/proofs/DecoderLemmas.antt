@@ -145,10 +145,3 @@ unknown_yet begun (Some size) none knows = absurd (none size refl)
 -- what is said of the bytes held
 pub said : (bytes held piece : List ℕ) (r s : Result (Option ℕ) FrameFault) → bytes ≡ held → r ≡ s → SaysSize bytes piece r → SaysSize held piece s
 said bytes held piece r s same is says = subst (λ (h : List ℕ). SaysSize h piece s) same (subst (SaysSize bytes piece) is says)
-
-pub said_ok : (bytes held piece : List ℕ) (r : Result (Option ℕ) FrameFault) (k s : Option ℕ) → bytes ≡ held → r ≡ Ok k → k ≡ s → SaysSize bytes piece r → SaysSize held piece (Ok s)
-said_ok bytes held piece r k s same is chosen says = said bytes held piece r (Ok s) same (is ∙ ap (λ (x : Option ℕ). Ok x) chosen) says
-
--- with the piece it isn't whole yet
-pub sized : (begun held piece : List ℕ) (size : ℕ) → SaysSize begun piece (Ok (Some size)) → length (begun ++ piece) < size → held ≡ begun ++ piece → KnowsSize held (Some size)
-sized begun held piece size says less is = subst (λ (h : List ℕ). KnowsSize h (Some size)) (sym is) (says.0, less)

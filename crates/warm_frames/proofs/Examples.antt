@@ -3,10 +3,10 @@ use Rattle.std.proofs.Common.{◌≡◌, ℕ, ◌+◌, ◌*◌, List, [], ◌∷
 use Rattle.warm_stamps.specs.declared.Stamp.{Stamp}
 use Rattle.warm_history.specs.declared.hist.PageHist.TheVariants.{Once, Twice}
 use Rattle.warm_history.specs.declared.hist.Entry.{Entry}
+use Rattle.warm_frames.specs.declared.writing.TheConstants.{MAX_ENTRY_SIZE}
 use Rattle.warm_frames.specs.declared.entries.TheConstants.{MAX_ENTRIES}
 use Rattle.warm_frames.specs.declared.fault.FrameFault.TheVariants.{Truncated, BadMagic, BadKind, BadSender, BadLength, BadCount, BadTag, BadStamp, BadOrder}
 use Rattle.warm_frames.specs.declared.frame.Frame.TheVariants.{Entries, Want}
-use Rattle.warm_frames.specs.Entries.{longest_entry}
 use Rattle.warm_frames.specs.Spelling.{spelling}
 use Rattle.warm_frames.specs.Sums.{table_size}
 use Rattle.warm_frames.specs.Reading.{start_at, length_at, body_at, two_in, hist_at, entry_at, entries_at, count_at, all_entries, entries_of, frame_of, read_frame}
@@ -24,10 +24,10 @@ twice n last prev = record { page = record { dev = 0; no = n }; hist = Twice (re
 -- ---- sizes
 
 -- what the limits come to: the most bytes of an entry and of a body of entries, and those of sums
-longest_entry_is : longest_entry ≡ 27
+longest_entry_is : MAX_ENTRY_SIZE ≡ 27
 longest_entry_is = refl
 
-longest_body_is : 4 + longest_entry * MAX_ENTRIES ≡ 27004
+longest_body_is : 4 + MAX_ENTRY_SIZE * MAX_ENTRIES ≡ 27004
 longest_body_is = refl
 
 table_size_is : table_size ≡ 2048

@@ -11,6 +11,7 @@ use Rattle.warm_stamps.specs.declared.PageId.{PageId}
 use Rattle.warm_stamps.specs.Bytes.{page_of, stamp_of}
 use Rattle.warm_stamps.specs.Stamps.{stamp_cmp}
 use Rattle.warm_history.specs.Carried.{comes_after}
+use Rattle.warm_frames.specs.declared.reading.TheConstants.{MAGIC}
 use Rattle.warm_frames.specs.declared.entries.TheConstants.{MAX_ENTRIES}
 use Rattle.warm_frames.specs.declared.fault.FrameFault.{FrameFault}
 use Rattle.warm_frames.specs.declared.fault.FrameFault.TheVariants.{Truncated, BadMagic, BadKind, BadSender, BadLength, BadCount, BadStamp, BadOrder}
@@ -19,7 +20,6 @@ use Rattle.warm_frames.specs.declared.reading.Kind.TheVariants as kinds
 use Rattle.warm_frames.specs.declared.sums.TheConstants.{SUM_SIZE}
 use Rattle.warm_frames.specs.Pieces.{IsLasting}
 use Rattle.warm_frames.specs.Reading.{◌>>=◌, front_at, number_at, byte_at, want, is_replica, kind_of, start_at, stamp_in, two_in, hist_at, entry_at, entries_at, count_at, all_entries, entries_of, sums_of, frame_of}
-use Rattle.warm_frames.specs.Spelling.{magic}
 use Rattle.warm_frames.specs.Sums.{table_size}
 use Rattle.warm_frames.proofs.FieldLemmas.{guard_ok, ok_is}
 
@@ -154,7 +154,7 @@ unfolding start_at
 start_short bytes =
     let P = ShortOrLasting (length bytes) in
     only_then P (number_at w32 Truncated bytes) _ (number_short P w32 bytes (λ few. inl (refl, omega (arith, few)))) (λ letters is_letters.
-    only_then P (want (eqb letters.0 magic) BadMagic) _ (only_want P (eqb letters.0 magic) BadMagic (inr (omega arith, omega arith))) (λ known is_known.
+    only_then P (want (eqb letters.0 MAGIC) BadMagic) _ (only_want P (eqb letters.0 MAGIC) BadMagic (inr (omega arith, omega arith))) (λ known is_known.
     only_then P (byte_at Truncated letters.1) _ (byte_short P letters.1 (λ few. inl (refl, omega (arith, few, number_long w32 Truncated bytes letters is_letters)))) (λ number is_number.
     only_then P (kind_of number.0) _ (kind_short P number.0 (inr (omega arith, omega arith))) (λ kind is_kind.
     only_then P (number_at w16 Truncated number.1) _ (number_short P w16 number.1 (λ few. inl (refl, omega (arith, few, number_long w32 Truncated bytes letters is_letters, byte_long Truncated letters.1 number is_number)))) (λ sender is_sender.

@@ -7,6 +7,8 @@ use Rattle.std.proofs.lemmas.Bool.Decides.{nat_tests}
 use Rattle.std.proofs.lemmas.List.{append-nil, nil_from_length, length-append}
 use Rattle.warm_stamps.specs.Bytes.{IsReplica}
 use Rattle.warm_stamps.proofs.ByteLemmas.{IsBytes}
+use Rattle.warm_frames.specs.declared.reading.TheConstants.{MAGIC}
+use Rattle.warm_frames.specs.declared.writing.TheConstants.{MAX_ENTRY_SIZE}
 use Rattle.warm_frames.specs.declared.entries.TheConstants.{MAX_ENTRIES}
 use Rattle.warm_frames.specs.declared.fault.FrameFault.{FrameFault}
 use Rattle.warm_frames.specs.declared.fault.FrameFault.TheVariants.{Truncated, BadMagic, BadSender, BadLength}
@@ -14,8 +16,8 @@ use Rattle.warm_frames.specs.declared.frame.Frame.{Frame}
 use Rattle.warm_frames.specs.declared.frame.Frame.TheVariants as frames
 use Rattle.warm_frames.specs.declared.reading.Kind.{Kind}
 use Rattle.warm_frames.specs.declared.reading.Kind.TheVariants as kinds
-use Rattle.warm_frames.specs.Entries.{longest_entry, entries_bytes}
-use Rattle.warm_frames.specs.Spelling.{IsFrame, magic, spelling, Spells}
+use Rattle.warm_frames.specs.Entries.{entries_bytes}
+use Rattle.warm_frames.specs.Spelling.{IsFrame, spelling, Spells}
 use Rattle.warm_frames.specs.Reading.{◌>>=◌, number_at, byte_at, want, is_replica, kind_of, may_have, start_at, length_at, whole_body, body_at, entries_of, sums_of, frame_of, read_frame}
 use Rattle.warm_frames.proofs.FieldLemmas.{bind_ok, want_ok, ok_is, Takes, Takes-then, byte_takes, wide16, wide32, wide64, number_takes, number_again, replica_is, replica_true}
 use Rattle.warm_frames.proofs.BodyLemmas.{entries_body, body_again, short_entries, sums_body, sums_again, length-sums}
@@ -41,7 +43,7 @@ kind_again kinds.Want = refl
 
 -- the magic number, the kind and the sender
 abbrev pub start_bytes : Kind → ℕ → List ℕ
-start_bytes kind sender = to_be_bytes w32 magic ++ (kind_number kind ∷ to_be_bytes w16 sender)
+start_bytes kind sender = to_be_bytes w32 MAGIC ++ (kind_number kind ∷ to_be_bytes w16 sender)
 
 pub record TakesStart (bytes : List ℕ) (x : Kind × ℕ × List ℕ) : Type 0 where
   pub taken : Takes bytes (start_bytes x.0 x.1) x.2
@@ -50,8 +52,8 @@ pub record TakesStart (bytes : List ℕ) (x : Kind × ℕ × List ℕ) : Type 0 
 pub start_takes : (bytes : List ℕ) (x : Kind × ℕ × List ℕ) → IsBytes bytes → start_at bytes ≡ Ok x → TakesStart bytes x
 unfolding start_at
 start_takes bytes x fits e =
-    let a = bind_ok (number_at w32 Truncated bytes) (λ letters. want (eqb letters.0 magic) BadMagic >>= λ known. byte_at Truncated letters.1 >>= λ number. kind_of number.0 >>= λ kind. number_at w16 Truncated number.1 >>= λ sender. want (is_replica sender.0) BadSender >>= λ good. Ok (kind, sender.0, sender.1)) x e in
-    let g = want_ok (eqb a.0.0 magic) BadMagic (λ known. byte_at Truncated a.0.1 >>= λ number. kind_of number.0 >>= λ kind. number_at w16 Truncated number.1 >>= λ sender. want (is_replica sender.0) BadSender >>= λ good. Ok (kind, sender.0, sender.1)) x a.2 in
+    let a = bind_ok (number_at w32 Truncated bytes) (λ letters. want (eqb letters.0 MAGIC) BadMagic >>= λ known. byte_at Truncated letters.1 >>= λ number. kind_of number.0 >>= λ kind. number_at w16 Truncated number.1 >>= λ sender. want (is_replica sender.0) BadSender >>= λ good. Ok (kind, sender.0, sender.1)) x e in
+    let g = want_ok (eqb a.0.0 MAGIC) BadMagic (λ known. byte_at Truncated a.0.1 >>= λ number. kind_of number.0 >>= λ kind. number_at w16 Truncated number.1 >>= λ sender. want (is_replica sender.0) BadSender >>= λ good. Ok (kind, sender.0, sender.1)) x a.2 in
     let b = bind_ok (byte_at Truncated a.0.1) (λ number. kind_of number.0 >>= λ kind. number_at w16 Truncated number.1 >>= λ sender. want (is_replica sender.0) BadSender >>= λ good. Ok (kind, sender.0, sender.1)) x g.1 in
     let d = bind_ok (kind_of b.0.0) (λ kind. number_at w16 Truncated b.0.1 >>= λ sender. want (is_replica sender.0) BadSender >>= λ good. Ok (kind, sender.0, sender.1)) x b.2 in
     let f = bind_ok (number_at w16 Truncated b.0.1) (λ sender. want (is_replica sender.0) BadSender >>= λ good. Ok (d.0, sender.0, sender.1)) x d.2 in
@@ -59,17 +61,17 @@ start_takes bytes x fits e =
     let t1 = number_takes w32 (2 ^ 32) Truncated wide32 bytes a.0 fits a.1 in
     let t2 = byte_takes Truncated a.0.1 b.0 t1.0.rest_fits b.1 in
     let t3 = number_takes w16 (2 ^ 16) Truncated wide16 b.0.1 f.0 t2.rest_fits f.1 in
-    let letters : Takes bytes (to_be_bytes w32 magic) a.0.1 = subst (λ (n : ℕ). Takes bytes (to_be_bytes w32 n) a.0.1) (eqb-true _ _ g.0) t1.0 in
+    let letters : Takes bytes (to_be_bytes w32 MAGIC) a.0.1 = subst (λ (n : ℕ). Takes bytes (to_be_bytes w32 n) a.0.1) (eqb-true _ _ g.0) t1.0 in
     let number : Takes a.0.1 (kind_number d.0 ∷ []) b.0.1 = subst (λ (n : ℕ). Takes a.0.1 (n ∷ []) b.0.1) (kind_takes b.0.0 d.0 d.1) t2 in
     let later : Takes a.0.1 (kind_number d.0 ∷ to_be_bytes w16 f.0.0) f.0.1 = Takes-then a.0.1 (kind_number d.0 ∷ []) b.0.1 (to_be_bytes w16 f.0.0) f.0.1 number t3.0 in
-    let whole : Takes bytes (start_bytes d.0 f.0.0) f.0.1 = Takes-then bytes (to_be_bytes w32 magic) a.0.1 (kind_number d.0 ∷ to_be_bytes w16 f.0.0) f.0.1 letters later in
+    let whole : Takes bytes (start_bytes d.0 f.0.0) f.0.1 = Takes-then bytes (to_be_bytes w32 MAGIC) a.0.1 (kind_number d.0 ∷ to_be_bytes w16 f.0.0) f.0.1 letters later in
     let made : Kind × ℕ × List ℕ = (d.0, f.0.0, f.0.1) in
     subst (TakesStart bytes) (ok_is made x good.1) (record { taken = whole; sender = replica_is f.0.0 good.0 })
 
 pub start_again : (kind : Kind) (sender : ℕ) (rest : List ℕ) → IsReplica sender → start_at (start_bytes kind sender ++ rest) ≡ Ok (kind, sender, rest)
 unfolding start_at
 start_again kind sender rest good =
-    let letters = number_again w32 (2 ^ 32) Truncated wide32 magic (kind_number kind ∷ (to_be_bytes w16 sender ++ rest)) (omega arith) in
+    let letters = number_again w32 (2 ^ 32) Truncated wide32 MAGIC (kind_number kind ∷ (to_be_bytes w16 sender ++ rest)) (omega arith) in
     rw (letters, kind_again kind, number_again w16 (2 ^ 16) Truncated wide16 sender rest (omega (arith, good)), replica_true sender good) refl
 
 -- ---- the length and the body
@@ -196,7 +198,7 @@ body_length (frames.Entries sender entries) fits =
     let whole : length (to_be_bytes w32 (length entries) ++ entries_bytes entries) ≡ 4 + length (entries_bytes entries) = length-append (to_be_bytes w32 (length entries)) (entries_bytes entries) in
     let short = short_entries entries in
     let least : 4 ≤ length (to_be_bytes w32 (length entries) ++ entries_bytes entries) = omega arith in
-    let most : length (to_be_bytes w32 (length entries) ++ entries_bytes entries) ≤ 4 + longest_entry * MAX_ENTRIES = omega arith in
+    let most : length (to_be_bytes w32 (length entries) ++ entries_bytes entries) ≤ 4 + MAX_ENTRY_SIZE * MAX_ENTRIES = omega arith in
     record { few = omega arith; allowed = grind (arith, nat_tests, least, most) }
 body_length (frames.Digest sender sums) fits =
     let len = length-sums sums fits.1 in

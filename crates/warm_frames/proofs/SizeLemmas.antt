@@ -4,18 +4,18 @@ use Rattle.std.specs.Int.{Width, w16, w32, byte_len}
 use Rattle.std.proofs.lemmas.Bool.{ltb-false, le-ltb}
 use Rattle.std.proofs.lemmas.Bool.Decides.{nat_tests}
 use Rattle.std.proofs.lemmas.List.{append-nil, take_all, take-append-drop, take-append-le, drop-append-le, length-append, length-take, nil_from_length}
+use Rattle.warm_frames.specs.declared.writing.TheConstants.{MAX_ENTRY_SIZE}
 use Rattle.warm_frames.specs.declared.entries.TheConstants.{MAX_ENTRIES}
 use Rattle.warm_frames.specs.declared.fault.FrameFault.{FrameFault}
 use Rattle.warm_frames.specs.declared.fault.FrameFault.TheVariants.{Truncated, BadMagic, BadSender, BadLength}
 use Rattle.warm_frames.specs.declared.frame.Frame.{Frame}
 use Rattle.warm_frames.specs.declared.reading.Kind.{Kind}
 use Rattle.warm_frames.specs.declared.reading.Kind.TheVariants as kinds
-use Rattle.warm_frames.specs.declared.reading.TheConstants.{HEADER_SIZE}
-use Rattle.warm_frames.specs.Entries.{longest_entry}
+use Rattle.warm_frames.specs.declared.reading.TheConstants.{HEADER_SIZE, MAGIC}
 use Rattle.warm_frames.specs.Pieces.{IsLasting, IsPart, ShowsFault}
 use Rattle.warm_frames.specs.Reading.{◌>>=◌, number_at, byte_at, want, is_replica, kind_of, may_have, start_at, length_at, whole_body, body_at, frame_of, read_frame}
 use Rattle.warm_frames.specs.Sizes.{frame_size}
-use Rattle.warm_frames.specs.Spelling.{magic, Spells}
+use Rattle.warm_frames.specs.Spelling.{Spells}
 use Rattle.warm_frames.proofs.FieldLemmas.{bind_ok, want_ok, ok_is}
 use Rattle.warm_frames.proofs.FaultLemmas.{Only, only_then, only_fault, only_want, frame_lasts, ShortOrLasting, number_short, start_short, number_long, byte_long}
 use Rattle.warm_frames.proofs.FrameLemmas.{length_ok, frame_read}
@@ -64,7 +64,7 @@ start_goes : (bytes more : List ℕ) → Goes (kind_behind more) (start_at bytes
 unfolding start_at
 start_goes bytes more =
     goes_on (behind more) (kind_behind more) _ _ _ _ (number_goes w32 bytes more) (λ letters.
-    goes_on (λ b. b) (kind_behind more) _ _ _ _ (stays (want (eqb letters.0 magic) BadMagic)) (λ known.
+    goes_on (λ b. b) (kind_behind more) _ _ _ _ (stays (want (eqb letters.0 MAGIC) BadMagic)) (λ known.
     goes_on (behind more) (kind_behind more) _ _ _ _ (byte_goes letters.1 more) (λ number.
     goes_on (λ k. k) (kind_behind more) _ _ _ _ (stays (kind_of number.0)) (λ kind.
     goes_on (behind more) (kind_behind more) _ _ _ _ (number_goes w16 number.1 more) (λ sender.
@@ -111,7 +111,7 @@ start_long : (bytes : List ℕ) (x : Kind × ℕ × List ℕ) → start_at bytes
 unfolding start_at
 start_long bytes x e =
     let a = bind_ok (number_at w32 Truncated bytes) _ x e in
-    let g = want_ok (eqb a.0.0 magic) BadMagic _ x a.2 in
+    let g = want_ok (eqb a.0.0 MAGIC) BadMagic _ x a.2 in
     let b = bind_ok (byte_at Truncated a.0.1) _ x g.1 in
     let d = bind_ok (kind_of b.0.0) _ x b.2 in
     let f = bind_ok (number_at w16 Truncated b.0.1) _ x d.2 in
@@ -176,7 +176,7 @@ size_whole bytes e size is =
     let reads : read_frame bytes ≡ frame_of h.kind h.sender h.rest = h.reads ∙ rw (test, back) refl in
     only_fault IsLasting (frame_of h.kind h.sender h.rest) e (frame_lasts h.kind h.sender h.rest) (sym reads ∙ is)
 
-most_bytes : (kind : Kind) (len : ℕ) → may_have kind len ≡ true → len ≤ 4 + longest_entry * MAX_ENTRIES
+most_bytes : (kind : Kind) (len : ℕ) → may_have kind len ≡ true → len ≤ 4 + MAX_ENTRY_SIZE * MAX_ENTRIES
 most_bytes kinds.Entries len e = grind (arith, nat_tests, e)
 most_bytes kinds.Digest len e = grind (arith, nat_tests, e)
 most_bytes kinds.Want len e = grind (arith, nat_tests, e)
@@ -301,7 +301,7 @@ below bytes size is short =
     (λ same. absurd (truncated_mends (size_whole bytes Truncated (is ∙ ap (λ (n : ℕ). Ok n) same) short))) (lt_or_is size (length bytes) le))
     (lt_or_le (length bytes) size)
 
-by_size : (bytes : List ℕ) → read_frame bytes ≡ Err Truncated → (r : Result ℕ FrameFault) → frame_size bytes ≡ r → length bytes < HEADER_SIZE + 4 + longest_entry * MAX_ENTRIES
+by_size : (bytes : List ℕ) → read_frame bytes ≡ Err Truncated → (r : Result ℕ FrameFault) → frame_size bytes ≡ r → length bytes < HEADER_SIZE + 4 + MAX_ENTRY_SIZE * MAX_ENTRIES
 by_size bytes short (Err e) is =
     let truncated : e ≡ Truncated = err_is {A = Frame} e Truncated (sym (size_fault bytes e is) ∙ short) in
     let few = header_short bytes (is ∙ ap (λ (x : FrameFault). Err x) truncated) in
@@ -313,7 +313,7 @@ by_size bytes short (Ok size) is =
     omega (arith, less, most, h.size_is)
 
 -- a part of a frame has fewer bytes than the longest frame
-pub part_is_short : (bytes : List ℕ) → IsPart bytes → length bytes < HEADER_SIZE + 4 + longest_entry * MAX_ENTRIES
+pub part_is_short : (bytes : List ℕ) → IsPart bytes → length bytes < HEADER_SIZE + 4 + MAX_ENTRY_SIZE * MAX_ENTRIES
 part_is_short bytes part =
     let short : read_frame bytes ≡ Err Truncated = ap read_frame (sym (take_all (length bytes) bytes (omega arith))) ∙ part (length bytes) in
     by_size bytes short (frame_size bytes) refl

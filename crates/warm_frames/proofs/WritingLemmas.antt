@@ -1,8 +1,7 @@
 -- What is written, piece by piece.
-use Rattle.std.proofs.Common.{◌≡◌, ℕ, ◌+◌, ◌<◌, ◌≤◌, List, [], ◌∷◌, ◌++◌, length, take, get_or, sym, ap, ◌∙◌, append_assoc, arith}
-use Rattle.std.specs.Int.{w32, to_be_bytes}
+use Rattle.std.proofs.Common.{◌≡◌, ℕ, ◌+◌, ◌<◌, List, [], ◌∷◌, ◌++◌, length, take, get_or, sym, ap, ◌∙◌, append_assoc, arith}
 use Rattle.std.specs.List.{flat_map}
-use Rattle.std.proofs.lemmas.List.{append-nil, take_more, take_all, length-append}
+use Rattle.std.proofs.lemmas.List.{append-nil, take_more, length-append}
 use Rattle.std.proofs.lemmas.List.Concat.{flat_map-append}
 use Rattle.warm_stamps.specs.declared.Stamp.{Stamp}
 use Rattle.warm_stamps.specs.Bytes.{bytes_of_stamp, bytes_of_page, IsReplica}
@@ -11,7 +10,7 @@ use Rattle.warm_history.specs.declared.hist.PageHist.{PageHist}
 use Rattle.warm_history.specs.declared.hist.PageHist.TheVariants.{Once, Twice}
 use Rattle.warm_history.specs.LatestTwo.{LatestTwo}
 use Rattle.warm_frames.specs.declared.frame.Frame.TheVariants as frames
-use Rattle.warm_frames.specs.Entries.{hist_bytes, entry_bytes, entries_bytes, IsEntryList}
+use Rattle.warm_frames.specs.Entries.{hist_bytes, entry_bytes, entries_bytes}
 use Rattle.warm_frames.specs.Sums.{IsSumTable, table_size}
 use Rattle.warm_frames.specs.Spelling.{header_bytes, Spells}
 use Rattle.warm_frames.proofs.BodyLemmas.{length-sums}
@@ -43,21 +42,6 @@ put_twice old tagged mid new last prev two h tag later earlier is_last is_prev i
     earlier ∙ ap (λ (w : List ℕ). w ++ bytes_of_stamp prev) (later ∙ ap (λ (w : List ℕ). w ++ bytes_of_stamp last) tag) ∙ append_assoc (old ++ 2 ∷ []) (bytes_of_stamp last) (bytes_of_stamp prev)
     ∙ (λ i. (old ++ 2 ∷ []) ++ (bytes_of_stamp (is_last i) ++ bytes_of_stamp (is_prev i)))
     ∙ append_assoc old (2 ∷ []) (bytes_of_stamp two.last ++ bytes_of_stamp two.prev) ∙ ap (λ (k : PageHist). old ++ hist_bytes k) (sym is)
-
--- what was written comes first, and the bytes of one entry more come last
-pub put_next : (head old new : List ℕ) (es : List Entry) (i : ℕ) (e : Entry) → i < length es → e ≡ get_or es i e → new ≡ old ++ entry_bytes e → old ≡ head ++ entries_bytes (take i es) → new ≡ head ++ entries_bytes (take (i + 1) es)
-put_next head old new es i e lt is put so_far =
-    put ∙ ap (λ (w : List ℕ). w ++ entry_bytes e) so_far ∙ append_assoc head (entries_bytes (take i es)) (entry_bytes e) ∙ ap (λ (w : List ℕ). head ++ w) (sym (entries_and_one es i e lt is))
-
-pub entries_spelled : (text : List ℕ) (sender len i : ℕ) (es : List Entry) → IsReplica sender → IsEntryList es → len ≡ 4 + length (entries_bytes es) → length es ≤ i
-    → text ≡ (header_bytes 1 sender len ++ to_be_bytes w32 (length es)) ++ entries_bytes (take i es) → Spells text (frames.Entries sender es)
-entries_spelled text sender len i es good listed e le is =
-    let whole : len ≡ length (to_be_bytes w32 (length es) ++ entries_bytes es) = e ∙ sym (length-append (to_be_bytes w32 (length es)) (entries_bytes es)) in
-    record {
-      fits = (good, listed);
-      text = is ∙ ap (λ (xs : List Entry). (header_bytes 1 sender len ++ to_be_bytes w32 (length es)) ++ entries_bytes xs) (take_all i es le)
-          ∙ ap (λ (n : ℕ). (header_bytes 1 sender n ++ to_be_bytes w32 (length es)) ++ entries_bytes es) whole;
-    }
 
 pub digest_spelled : (text : List ℕ) (sender : ℕ) (sums : List (List ℕ)) → IsReplica sender → IsSumTable sums → text ≡ header_bytes 2 sender table_size ++ flat_map (λ sum. sum) sums → Spells text (frames.Digest sender sums)
 digest_spelled text sender sums good table is = record {

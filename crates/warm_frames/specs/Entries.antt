@@ -1,5 +1,5 @@
 -- Lists of entries, and entries as bytes.
-use Rattle.std.specs.Prelude.{◌≡◌, ℕ, ◌≤◌, ◌+◌, ◌*◌, List, ◌∷◌, ◌++◌, length}
+use Rattle.std.specs.Prelude.{◌≡◌, ℕ, ◌≤◌, List, ◌∷◌, ◌++◌, length}
 use Rattle.std.specs.List.{AllByRecursion, flat_map}
 use Rattle.std.specs.declared.cmp.Ordering.TheVariants.{Less}
 use Rattle.warm_stamps.specs.Bytes.{bytes_of_stamp, bytes_of_page, IsStamp, IsPage}
@@ -38,10 +38,6 @@ hist_bytes (Twice two) = 2 ∷ (bytes_of_stamp two.last ++ bytes_of_stamp two.pr
 -- the page, and what is kept of it
 abbrev pub entry_bytes : Entry → List ℕ
 entry_bytes e = bytes_of_page e.page ++ hist_bytes e.hist
-
--- the most bytes that an entry has: a page, a tag and two stamps
-abbrev pub longest_entry : ℕ
-longest_entry = 6 + 1 + 2 * 10
 
 -- entries one after the other, without a count
 abbrev pub entries_bytes : List Entry → List ℕ

@@ -1,13 +1,13 @@
 -- Frames in a stream of bytes that comes in pieces.
 use Rattle.std.specs.Prelude.{◌≡◌, ◌⊎◌, ℕ, ◌+◌, ◌*◌, ◌<◌, ◌≤◌, Bool, true, false, List, [], ◌∷◌, ◌++◌, length, take, Option, Some, None, option_to_list, Result, Ok, Err}
 use Rattle.std.specs.List.{AllByRecursion, flat_map}
+use Rattle.warm_frames.specs.declared.writing.TheConstants.{MAX_ENTRY_SIZE}
 use Rattle.warm_frames.specs.declared.decoder.Fed.{Fed}
 use Rattle.warm_frames.specs.declared.entries.TheConstants.{MAX_ENTRIES}
 use Rattle.warm_frames.specs.declared.fault.FrameFault.{FrameFault}
 use Rattle.warm_frames.specs.declared.fault.FrameFault.TheVariants.{Memory, Truncated, Failed}
 use Rattle.warm_frames.specs.declared.frame.Frame.{Frame}
 use Rattle.warm_frames.specs.declared.reading.TheConstants.{HEADER_SIZE}
-use Rattle.warm_frames.specs.Entries.{longest_entry}
 use Rattle.warm_frames.specs.Faults.{fault_code}
 use Rattle.warm_frames.specs.Reading.{read_frame}
 use Rattle.warm_frames.specs.Sizes.{SaysSize}
@@ -29,7 +29,7 @@ IsPart bytes = (n : ℕ) → read_frame (take n bytes) ≡ Err Truncated
 
 -- the bytes of the longest frame: a header, a count, and the longest entries
 abbrev pub longest_frame : ℕ
-longest_frame = HEADER_SIZE + 4 + longest_entry * MAX_ENTRIES
+longest_frame = HEADER_SIZE + 4 + MAX_ENTRY_SIZE * MAX_ENTRIES
 
 -- the faults that no byte more mends, BadMagic to BadOrder
 abbrev pub IsLasting : FrameFault → Type 0

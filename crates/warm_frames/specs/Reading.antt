@@ -12,6 +12,8 @@ use Rattle.warm_history.specs.declared.hist.PageHist.{PageHist}
 use Rattle.warm_history.specs.declared.hist.PageHist.TheVariants.{Once, Twice}
 use Rattle.warm_history.specs.declared.hist.Entry.{Entry}
 use Rattle.warm_history.specs.Carried.{comes_after}
+use Rattle.warm_frames.specs.declared.reading.TheConstants.{MAGIC}
+use Rattle.warm_frames.specs.declared.writing.TheConstants.{MAX_ENTRY_SIZE}
 use Rattle.warm_frames.specs.declared.entries.TheConstants.{MAX_ENTRIES}
 use Rattle.warm_frames.specs.declared.fault.FrameFault.{FrameFault}
 use Rattle.warm_frames.specs.declared.fault.FrameFault.TheVariants.{Memory, Truncated, BadMagic, BadKind, BadSender, BadLength, BadCount, BadTag, BadStamp, BadOrder}
@@ -20,8 +22,7 @@ use Rattle.warm_frames.specs.declared.frame.Frame.TheVariants as frames
 use Rattle.warm_frames.specs.declared.reading.Kind.{Kind}
 use Rattle.warm_frames.specs.declared.reading.Kind.TheVariants as kinds
 use Rattle.warm_frames.specs.declared.sums.TheConstants.{SUM_SIZE}
-use Rattle.warm_frames.specs.Entries.{longest_entry}
-use Rattle.warm_frames.specs.Spelling.{magic, Spells}
+use Rattle.warm_frames.specs.Spelling.{Spells}
 use Rattle.warm_frames.specs.Sums.{table_size}
 
 infixl 10 ◌>>=◌
@@ -64,7 +65,7 @@ kind_of (suc (suc (suc (suc n)))) = Err BadKind
 
 -- the lengths that the body of a frame of this kind can have
 abbrev pub may_have : Kind → ℕ → Bool
-may_have kinds.Entries len = nat_le 4 len && nat_le len (4 + longest_entry * MAX_ENTRIES)
+may_have kinds.Entries len = nat_le 4 len && nat_le len (4 + MAX_ENTRY_SIZE * MAX_ENTRIES)
 may_have kinds.Digest len = len == table_size
 may_have kinds.Want len = len == 8
 
@@ -72,7 +73,7 @@ may_have kinds.Want len = len == 8
 unfoldable pub start_at : List ℕ → Result (Kind × ℕ × List ℕ) FrameFault
 start_at bytes = do
   letters ← number_at w32 Truncated bytes
-  known ← want (letters.0 == magic) BadMagic
+  known ← want (letters.0 == MAGIC) BadMagic
   number ← byte_at Truncated letters.1
   kind ← kind_of number.0
   sender ← number_at w16 Truncated number.1

@@ -3,6 +3,7 @@ use Rattle.std.specs.Prelude.{◌≡◌, ℕ, ◌<◌, ◌^◌, List, ◌∷◌,
 use Rattle.std.specs.List.{flat_map}
 use Rattle.std.specs.Int.{w16, w32, w64, to_be_bytes}
 use Rattle.warm_stamps.specs.Bytes.{IsReplica}
+use Rattle.warm_frames.specs.declared.reading.TheConstants.{MAGIC}
 use Rattle.warm_frames.specs.declared.frame.Frame.{Frame}
 use Rattle.warm_frames.specs.declared.frame.Frame.TheVariants.{Entries, Digest, Want}
 use Rattle.warm_frames.specs.Entries.{IsEntryList, entries_bytes}
@@ -14,13 +15,9 @@ IsFrame (Entries sender entries) = IsReplica sender × IsEntryList entries
 IsFrame (Digest sender sums) = IsReplica sender × IsSumTable sums
 IsFrame (Want sender mask) = IsReplica sender × (mask < 2 ^ 64)
 
--- the letters L2G1
-abbrev pub magic : ℕ
-magic = 0x4C324731
-
 -- the magic number, the kind, the sender and the length of the body
 abbrev pub header_bytes : ℕ → ℕ → ℕ → List ℕ
-header_bytes kind sender len = to_be_bytes w32 magic ++ (kind ∷ (to_be_bytes w16 sender ++ to_be_bytes w32 len))
+header_bytes kind sender len = to_be_bytes w32 MAGIC ++ (kind ∷ (to_be_bytes w16 sender ++ to_be_bytes w32 len))
 
 -- a header and the body
 abbrev pub framed : ℕ → ℕ → List ℕ → List ℕ

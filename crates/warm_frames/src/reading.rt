@@ -15,6 +15,7 @@ use std::alloc::Global;
 use warm_history::{Entry, PageHist, Two};
 use warm_stamps::{PageId, ReplicaId, Stamp, page_from, stamp_from};
 
+// The letters L2G1, with which each frame begins.
 pub(crate) const MAGIC: u32 = 0x4C32_4731;
 
 // How many bytes a header has: the magic number, the kind, the sender and the length.

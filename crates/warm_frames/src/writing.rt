@@ -1,9 +1,10 @@
 //! Writing frames. The room for all bytes is taken first.
 ghost use Rattle.std.specs.Prelude.{◌≡◌, ◌≤◌, ◌*◌, ◌++◌, length, IfOk, OnOk};
 ghost use Rattle.warm_stamps.specs.Bytes.{IsReplica, bytes_of_stamp};
+ghost use Rattle.warm_frames.specs.declared.writing.TheConstants.{MAX_ENTRY_SIZE};
 ghost use Rattle.warm_frames.specs.declared.entries.TheConstants.{MAX_ENTRIES};
 ghost use Rattle.warm_frames.specs.declared.frame.Frame.TheVariants as frames;
-ghost use Rattle.warm_frames.specs.Entries.{longest_entry, hist_bytes, entry_bytes, entries_bytes};
+ghost use Rattle.warm_frames.specs.Entries.{hist_bytes, entry_bytes, entries_bytes};
 ghost use Rattle.warm_frames.specs.Spelling.{header_bytes, Spells};
 
 use crate::entries::EntryList;
@@ -84,7 +85,7 @@ fn hist_len(hist: PageHist) -> u32
 fn entries_len(entries: &[Entry]) -> u32
     requires { length entries.now ≤ MAX_ENTRIES }
     ensures value { result ≡ length (entries_bytes entries.now) }
-    ensures most { result ≤ longest_entry * MAX_ENTRIES }
+    ensures most { result ≤ MAX_ENTRY_SIZE * MAX_ENTRIES }
 {
     let mut len = 0;
     for entry in entries {

@@ -8,6 +8,7 @@ use Rattle.std.specs.declared.cmp.Ordering.TheVariants.{Less, Equal, Greater}
 use Rattle.std.proofs.lemmas.Cmp.{tied_itself}
 use Rattle.std.proofs.lemmas.List.{append-nil, map-append}
 use Rattle.std.proofs.lemmas.List.Elements.{filter-append}
+use Rattle.std.proofs.lemmas.Option.{same_Some}
 use Rattle.warm_stamps.specs.declared.Stamp.{Stamp}
 use Rattle.warm_stamps.specs.declared.PageId.{PageId}
 use Rattle.warm_stamps.specs.declared.Reference.{Reference}
@@ -160,12 +161,6 @@ above_less p q (e ∷ h) less above = (page_order.total.trans p q e.page less ab
 pub get_first : (e : Entry) (h : List Entry) (p : PageId) → e.page ≡ p → get (e ∷ h) p ≡ Some e.hist
 get_first e h p here = let own : is_eq (page_cmp e.page p) ≡ true = ap (λ q. is_eq (page_cmp e.page q)) (sym here) ∙ ap is_eq (tied_itself page_order.total e.page) in rw own refl
 
-some_same : {A : Type 0} (x y : A) → Some x ≡ Some y → x ≡ y
-some_same x y e = cc
-
-IsRisingByPage : List Entry → Type 0
-IsRisingByPage h = IsRising (on (λ e. e.page) page_cmp) h
-
 -- without the first entry, the later ones say the same of each page
 get_later : (d e : Entry) (h g : List Entry) → d.page ≡ e.page → AllAbove d.page h → AllAbove e.page g → ((p : PageId) → get (d ∷ h) p ≡ get (e ∷ g) p) → (p : PageId) → get h p ≡ get g p
 get_later d e h g same above_d above_e alike p = cases (is_eq (page_cmp d.page p)) refl
@@ -187,7 +182,7 @@ same_gets (d ∷ h) (e ∷ g) rise_h rise_g alike = by_cases (page_cmp d.page e.
     (λ less. let no : Some d.hist ≡ None = sym (get_first d h d.page refl) ∙ alike d.page ∙ get_above d.page (e ∷ g) (less, above_less d.page e.page g less rise_g.0) in absurd (cc))
     (λ tied.
     let same : d.page ≡ e.page = page_order.same d.page e.page tied in
-    let hists : d.hist ≡ e.hist = some_same _ _ (sym (get_first d h d.page refl) ∙ alike d.page ∙ get_first e g d.page (sym same)) in
+    let hists : d.hist ≡ e.hist = same_Some _ _ (sym (get_first d h d.page refl) ∙ alike d.page ∙ get_first e g d.page (sym same)) in
     let later : h ≡ g = same_gets h g rise_h.1 rise_g.1 (get_later d e h g same rise_h.0 rise_g.0 alike) in
     let first : d ≡ e = λ i. record { page = same i; hist = hists i } in
     cc)

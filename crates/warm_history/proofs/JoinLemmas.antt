@@ -44,7 +44,7 @@ join_associates h g k =
     ∙ sym (history_second (refs h) (refs g ++ refs k))
 
 -- a list said twice says what it says once
-hist_repeat : (S : List Reference) (p : PageId) → hist (S ++ S) p ≡ hist S p
+pub hist_repeat : (S : List Reference) (p : PageId) → hist (S ++ S) p ≡ hist S p
 hist_repeat S p =
     let falls = flip_args stamp_cmp in
     ap (λ ss. first_two (distinct falls ss)) (told-append S S p)

@@ -1,5 +1,5 @@
 -- What an entry more does to a history.
-use Rattle.std.proofs.Common.{◌≡◌, Bool, true, false, cond, List, [], ◌∷◌, ◌++◌, sym, ap, refl, ◌∙◌, subst, Some, append_assoc}
+use Rattle.std.proofs.Common.{◌≡◌, Bool, true, false, cond, List, [], ◌∷◌, ◌++◌, sym, ap, refl, ◌∙◌, subst, Some}
 use Rattle.std.specs.Ordering.{is_eq, on, flip_args}
 use Rattle.std.proofs.lemmas.List.{append-nil}
 use Rattle.warm_stamps.specs.declared.Stamp.{Stamp}
@@ -82,11 +82,3 @@ takes_in old new e whole rising more =
     record { told = stands; whole = subst IsHistory (sym is) (IsHistory-history (refs old ++ entry_refs e)) }
 
 -- ---- the references of entries
-
-pub refs-append : (h g : List Entry) → refs (h ++ g) ≡ refs h ++ refs g
-refs-append [] g = refl
-refs-append (e ∷ h) g = ap (λ t. entry_refs e ++ t) (refs-append h g) ∙ sym (append_assoc (entry_refs e) (refs h) (refs g))
-
--- the references of one entry more
-pub refs_more : (h : List Entry) (e : Entry) → refs (h ++ e ∷ []) ≡ refs h ++ entry_refs e
-refs_more h e = refs-append h (e ∷ []) ∙ ap (λ t. refs h ++ t) (append-nil (entry_refs e))

@@ -1,5 +1,5 @@
 -- Places are pages, in the order of buckets first.
-use Rattle.std.proofs.Common.{◌≡◌, ℕ, ◌+◌, ◌*◌, ◌/◌, ◌%◌, ◌<◌, ◌≤◌, ◌==◌, ◌&&◌, Bool, true, false, not, sym, ap, refl, ◌∙◌, arith, Option, Some, None}
+use Rattle.std.proofs.Common.{◌≡◌, ℕ, ◌+◌, ◌/◌, ◌<◌, ◌≤◌, ◌==◌, ◌&&◌, Bool, true, false, not, sym, ap, refl, ◌∙◌, arith, Option, Some, None}
 use Rattle.std.specs.Ordering.{is_eq, is_lt, is_le, nat_cmp}
 use Rattle.std.specs.BTreeMap.Range.{range_contains}
 use Rattle.std.specs.declared.ops.Bound.TheVariants.{Included, Excluded}
@@ -16,13 +16,6 @@ use Rattle.warm_history.specs.Places.{first_place, place_in, place_of, page_at, 
 
 pub nat_order : IsStrictOrder nat_cmp
 nat_order = record { total = nat_cmp_total; same = λ x y e. ranked x y Equal (sym e) }
-
--- the page of a page's place is the page
-pub page_again : (bucket : ℕ) (p : PageId) → p.dev < 65536 → p.no < 4294967296 → page_at (place_in bucket p) ≡ p
-page_again bucket p dev_fits no_fits =
-    let devs : (bucket * 281474976710656 + (p.dev * 4294967296 + p.no)) / 4294967296 % 65536 ≡ p.dev = omega arith in
-    let nos : (bucket * 281474976710656 + (p.dev * 4294967296 + p.no)) % 4294967296 ≡ p.no = omega arith in
-    λ i. record { dev = devs i; no = nos i }
 
 -- in one bucket places rise as pages do
 pub same_order : (bucket : ℕ) (p q : PageId) → p.no < 4294967296 → q.no < 4294967296 → nat_cmp (place_in bucket p) (place_in bucket q) ≡ page_cmp p q

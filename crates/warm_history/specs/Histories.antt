@@ -105,17 +105,9 @@ StandsFor h S = h ≡ history S
 abbrev pub TakesIn : HistoryView → ReferenceSet → HistoryView → Type 0
 TakesIn old rs new = (S : ReferenceSet) → StandsFor old S → StandsFor new (S ∪ rs)
 
--- the same of lists of entries
-abbrev pub EntriesTakeIn : List Entry → ReferenceSet → List Entry → Type 0
-EntriesTakeIn old rs new = TakesIn (holding old) rs (holding new)
-
 -- the join of two histories, and the order whose least upper bound it is
 abbrev pub join : HistoryView → HistoryView → HistoryView
 join h g = history (refs h ∪ refs g)
-
--- the entries of the join of two lists of entries
-abbrev pub entries_joined : List Entry → List Entry → List Entry
-entries_joined es more = entries_of (join (holding es) (holding more))
 
 abbrev pub IsBelow : HistoryView → HistoryView → Type 0
 IsBelow h g = join h g ≡ g

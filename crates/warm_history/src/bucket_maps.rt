@@ -15,6 +15,10 @@ use std::array;
 use std::collections::BTreeMap;
 use std::collections::btree_map::Range;
 use std::marker::Model;
+use warm_stamps::BUCKETS;
+
+// How many maps there are.
+const MAPS: usize = BUCKETS as usize;
 
 // What was known of the page at a place before it changed.
 #[derive(Debug, Clone, Copy)]
@@ -26,11 +30,12 @@ pub(crate) struct Known {
 // What is known of places, in the order of their numbers: a map for each bucket.
 #[derive(Debug, Drop)]
 pub(crate) struct BucketMaps {
-    maps: [BTreeMap<u64, PageHist>; 64],
+    maps: [BTreeMap<u64, PageHist>; MAPS],
 }
 
 impl Model for BucketMaps {
     ghost use Rattle.std.specs.Prelude.{◌≡◌, length};
+    ghost use Rattle.warm_stamps.specs.declared.TheConstants.{BUCKETS};
     ghost use Rattle.warm_history.specs.Tree.{Pairs};
     ghost use Rattle.warm_history.specs.BucketMaps.{joined, AreBuckets, pairs_of};
 
@@ -38,7 +43,7 @@ impl Model for BucketMaps {
 
     ghost view = { λ b. joined (pairs_of b.maps) };
 
-    ghost invariant = { λ b. (length b.maps ≡ 64) × AreBuckets 0 (pairs_of b.maps) };
+    ghost invariant = { λ b. (length b.maps ≡ BUCKETS) × AreBuckets 0 (pairs_of b.maps) };
 }
 
 impl BucketMaps {

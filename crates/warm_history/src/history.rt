@@ -13,6 +13,7 @@ use crate::place::page_at;
 use crate::tree::{known_of, take_entries, take_pairs, take_references};
 use std::alloc::{AllocError, Global};
 use std::collections::btree_map::Range;
+use std::fmt;
 use std::marker::Model;
 use warm_stamps::{Bucket, PageId, Reference};
 
@@ -202,9 +203,16 @@ impl History {
 /// Goes over the entries of a history in rising page order: its buckets are merged.
 ///
 /// Contracts see it as the list of the entries that are left.
-#[derive(Debug, Drop)]
+#[derive(Drop)]
 pub struct Entries<'a> {
     left: AllParts<'a>,
+}
+
+// It shows the name alone: the parts of all buckets would tell a reader little.
+impl fmt::Debug for Entries<'_> {
+    fn fmt<W: fmt::Write>(&self, f: &mut fmt::Formatter<W>) -> fmt::Result {
+        f.write_str("Entries")
+    }
 }
 
 impl<'a> Model for Entries<'a> {

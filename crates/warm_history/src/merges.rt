@@ -29,7 +29,7 @@ pub(crate) trait Source: Drop {
 }
 
 // The entries of one bucket.
-#[derive(Debug, Drop)]
+#[derive(Drop)]
 pub(crate) struct Part<'a> {
     first: Option<Entry>,
     later: Range<'a, u64, PageHist>,
@@ -52,7 +52,7 @@ impl<'a> Source for Part<'a> {
 }
 
 // The entries of both, in page order, where each of them gives its own in page order.
-#[derive(Debug, Drop)]
+#[derive(Drop)]
 pub(crate) struct Merged<I> {
     first: Option<Entry>,
     one: I,
@@ -108,9 +108,9 @@ fn merge_both<I: Source>(mut one: I, mut other: I) -> Merged<I>
     Merged { first, one, other }
 }
 
-type Two<'a> = Merged<Part<'a>>;
+type TwoParts<'a> = Merged<Part<'a>>;
 
-type Four<'a> = Merged<Two<'a>>;
+type Four<'a> = Merged<TwoParts<'a>>;
 
 type Eight<'a> = Merged<Four<'a>>;
 
@@ -133,7 +133,7 @@ fn bucket_part(maps: &BucketMaps, number: u8) -> Part<'_>
 }
 
 // The entries of the two buckets from this number on.
-fn two(maps: &BucketMaps, number: u8) -> Two<'_>
+fn two(maps: &BucketMaps, number: u8) -> TwoParts<'_>
     requires buckets { number + 2 ≤ BUCKETS }
     requires kept { AreKept maps.now }
     ensures { two_left result ≡ of_buckets number (number + 2) (kept maps.now) }

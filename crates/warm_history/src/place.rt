@@ -4,8 +4,8 @@ ghost use Rattle.warm_history.specs.Places.{first_place, bucket_at, place_in, pl
 
 use warm_stamps::{PageId, bucket_of};
 
-// How many places each bucket has.
-const PLACES: u64 = 281_474_976_710_656;
+// How many places each bucket has: 2^48, one for each page.
+pub(crate) const PLACES: u64 = 281_474_976_710_656;
 
 // The place where a bucket begins; at 64, where the last one ends.
 pub(crate) fn first_place(number: u8) -> u64

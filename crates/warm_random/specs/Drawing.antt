@@ -2,6 +2,7 @@
 use Rattle.std.specs.Prelude.{ℕ, zero, suc, ◌+◌, ◌%◌, ◌==◌, List, [], ◌∷◌, ◌++◌, Bool, true, false, nat_le, count_by, flat_map, codes, decimal, if◌then◌else◌}
 use Rattle.rand_pcg.specs.Lcg.{Lcg, started, increment_of}
 use Rattle.rand_pcg.specs.Pcg.{multiplier_64, pcg32}
+use Rattle.warm_stamps.specs.declared.TheConstants.{BUCKETS}
 use Rattle.warm_random.specs.declared.Line.{Line}
 use Rattle.warm_random.specs.declared.Line.TheVariants.{Ref, Flush, Send, Deliver, Show}
 
@@ -42,7 +43,7 @@ abbrev pub fields : ℕ → ℕ → ℕ → ℕ → ℕ → Draw Line
 fields replicas workers time sends kind =
     if nat_le kind 3 then (up_to replicas >>= λ i. up_to workers >>= λ w. below 256 >>= λ p. always (Ref i w p time))
     else (if kind == 4 then (up_to replicas >>= λ i. up_to workers >>= λ w. always (Flush i w))
-    else (if kind == 5 then (up_to replicas >>= λ i. below 64 >>= λ b. always (Send i b))
+    else (if kind == 5 then (up_to replicas >>= λ i. below BUCKETS >>= λ b. always (Send i b))
     else (if kind == 6 then (up_to replicas >>= λ i. up_to (sends + 1) >>= λ k. always (Deliver i k))
     else (up_to replicas >>= λ i. always (Show i)))))
 

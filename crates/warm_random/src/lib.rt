@@ -11,6 +11,7 @@ ghost use Rattle.warm_random.specs.Drawing.{below, up_to, line, is_send, line_te
 use rand_core::utils::NextWord;
 use rand_pcg::Lcg64Xsh32;
 use std::io::{self, Write};
+use warm_stamps::BUCKETS;
 
 /// A line of a schedule. Its fields are the numbers that it shows.
 #[derive(Clone, Copy, Debug, PartialEq, Eq)]
@@ -108,7 +109,7 @@ fn draw_line(words: &mut Lcg64Xsh32, replicas: u64, workers: u64, time: u64, sen
         },
         5 => Line::Send {
             replica: up_to(words, replicas),
-            bucket: below(words, 64),
+            bucket: below(words, u64::from(BUCKETS)),
         },
         6 => Line::Deliver {
             replica: up_to(words, replicas),

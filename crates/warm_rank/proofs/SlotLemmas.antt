@@ -4,6 +4,7 @@ use Rattle.std.specs.List.{Contains}
 use Rattle.std.specs.Option.{option_map}
 use Rattle.std.specs.Ordering.{nat_cmp, ordering_then}
 use Rattle.std.specs.declared.cmp.Ordering.TheVariants.{Less, Greater}
+use Rattle.std.proofs.lemmas.Option.{same_Some}
 use Rattle.warm_stamps.specs.declared.PageId.{PageId}
 use Rattle.warm_stamps.proofs.DistinctLemmas.{by_cases}
 use Rattle.warm_history.specs.ReferenceSets.{ReferenceSet}
@@ -15,9 +16,6 @@ use Rattle.warm_rank.specs.Slots.{key_at, set_first_cmp, slot_cmp, ComesFirst}
 use Rattle.warm_rank.specs.Laws.{keys_over, pages_in, LeastKeyIsVictim}
 use Rattle.warm_rank.proofs.KeyLemmas.{keys_rank}
 use Rattle.warm_rank.proofs.LeavingLemmas.{leaving_order}
-
-some_same : {A : Type 0} (x y : A) → Some x ≡ Some y → x ≡ y
-some_same x y e = cc
 
 -- the key over S of the page p
 abbrev key_over : ReferenceSet → PageId → RankKey
@@ -47,14 +45,14 @@ contains_page : (slots : List (Option PageId)) (slot : ℕ) (p : PageId) → slo
 contains_page [] slot p lt is = absurd (omega arith)
 contains_page (None ∷ slots) zero p lt is = absurd (cc)
 contains_page (None ∷ slots) (suc slot) p lt is = contains_page slots slot p (omega arith) is
-contains_page (Some q ∷ slots) zero p lt is = (0, omega arith, some_same q p is)
+contains_page (Some q ∷ slots) zero p lt is = (0, omega arith, same_Some q p is)
 contains_page (Some q ∷ slots) (suc slot) p lt is = contains_later q p (pages_in slots) (contains_page slots slot p (omega arith) is)
 
 -- and each of these pages has a slot
-abbrev HasSlot : List (Option PageId) → PageId → Type 0
+abbrev pub HasSlot : List (Option PageId) → PageId → Type 0
 HasSlot slots p = (slot : ℕ) × (slot < length slots) × (key_at slots slot ≡ Some p)
 
-slot_later : (page : Option PageId) (slots : List (Option PageId)) (p : PageId) → HasSlot slots p → HasSlot (page ∷ slots) p
+pub slot_later : (page : Option PageId) (slots : List (Option PageId)) (p : PageId) → HasSlot slots p → HasSlot (page ∷ slots) p
 slot_later page slots p (slot, lt, is) = (suc slot, omega arith, is)
 
 slot_of : (slots : List (Option PageId)) (p : PageId) → Contains (pages_in slots) p → HasSlot slots p
@@ -86,7 +84,7 @@ victim_at S slots s comes (Some p) is =
     other : (q : PageId) → q ≢ p → HasSlot slots q → IsBefore S p q
     other q differ (t, lt, is_q) =
         let same_length = length-keys_over S slots in
-        let apart : t ≢ s = λ e. differ (some_same q p (sym is_q ∙ ap (key_at slots) e ∙ is)) in
+        let apart : t ≢ s = λ e. differ (same_Some q p (sym is_q ∙ ap (key_at slots) e ∙ is)) in
         before S slots s t p q is is_q differ (comes.first t (omega arith) apart)
 
 pub least_key_is_victim : LeastKeyIsVictim

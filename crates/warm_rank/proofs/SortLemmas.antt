@@ -10,14 +10,10 @@ use Rattle.std.proofs.lemmas.List.{reverse-append}
 use Rattle.std.proofs.lemmas.List.Sorted.{sum_by-IsPermutation, IsPermutation-reverse, ranks_by, sorted_far}
 use Rattle.std.proofs.lemmas.List.Sums.{sum_by-cons, sum_by-append}
 use Rattle.warm_stamps.specs.Distinct.{insert_distinct, distinct, IsRising}
-use Rattle.warm_stamps.proofs.DistinctLemmas.{IsStrictOrder, Has, by_cases, flipped, distinct_same, below_distinct, all_of_has}
+use Rattle.warm_stamps.proofs.DistinctLemmas.{IsStrictOrder, Has, by_cases, flipped, distinct_same, insert_below, below_distinct, all_of_has, all_append}
 use Rattle.warm_stamps.proofs.StampLemmas.{IsStrictOrder-flip}
 
 -- ---- facts of each item
-
-all_append : {A : Type 0} (P : A → Type 0) (xs ys : List A) → AllByRecursion P xs → AllByRecursion P ys → AllByRecursion P (xs ++ ys)
-all_append P [] ys all more = more
-all_append P (x ∷ xs) ys all more = (all.0, all_append P xs ys all.1 more)
 
 all_reverse : {A : Type 0} (P : A → Type 0) (xs : List A) → AllByRecursion P xs → AllByRecursion P (reverse xs)
 all_reverse P [] all = tt
@@ -99,16 +95,12 @@ module _ {A : Type 0} (cmp : A → A → Ordering) (order : IsStrictOrder cmp) w
 
   -- ---- the distinct items of lesser and of greater ones
 
-  insert_below : (x : A) (ys : List A) → AllByRecursion (λ y. cmp x y ≡ Less) ys → insert_distinct cmp x ys ≡ x ∷ ys
-  insert_below x [] all = refl
-  insert_below x (y ∷ ys) all = let less : cmp x y ≡ Less = all.0 in rw less refl
-
   -- rising items that are all below the others come first
   pub distinct-append : (xs ys : List A) → IsRising cmp xs → AllByRecursion (λ x. AllByRecursion (λ y. cmp x y ≡ Less) ys) xs → distinct cmp (xs ++ ys) ≡ xs ++ distinct cmp ys
   distinct-append [] ys rising below = refl
   distinct-append (x ∷ xs) ys rising below =
       ap (insert_distinct cmp x) (distinct-append xs ys rising.1 below.1)
-      ∙ insert_below x (xs ++ distinct cmp ys) (all_append (λ z. cmp x z ≡ Less) xs (distinct cmp ys) rising.0 (below_distinct cmp order x ys below.0))
+      ∙ insert_below cmp order x (xs ++ distinct cmp ys) (all_append (λ z. cmp x z ≡ Less) xs (distinct cmp ys) rising.0 (below_distinct cmp order x ys below.0))
 
 module _ {A : Type 0} (cmp : A → A → Ordering) (order : IsStrictOrder cmp) where
   rising_reverse : (xs : List A) → IsRising cmp xs → IsRising (flip_args cmp) (reverse xs)

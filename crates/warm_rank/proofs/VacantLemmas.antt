@@ -18,12 +18,6 @@ pub some_there : {T : Type 0} → (x : Option T) → is_some x ≡ true → x �
 some_there x is none = let no : true ≡ false = sym is ∙ ap is_some none in absurd (cc)
 
 module _ {T : Type 0} {K : Type 0} where
-  pub length-keys_so_far : (n : ℕ) (held : List (Option T)) (keys : List (Option K)) → length (keys_so_far n held keys) ≡ length keys
-  length-keys_so_far zero held keys = refl
-  length-keys_so_far (suc n) [] keys = refl
-  length-keys_so_far (suc n) (one ∷ held) [] = refl
-  length-keys_so_far (suc n) (one ∷ held) (key ∷ keys) = ap suc (length-keys_so_far n held keys)
-
   pub length-keys_while : (held : List (Option T)) (keys : List (Option K)) → length (keys_while held keys) ≡ length keys
   length-keys_while [] keys = refl
   length-keys_while (one ∷ held) [] = refl

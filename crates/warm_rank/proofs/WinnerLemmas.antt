@@ -1,5 +1,5 @@
 -- A winner tree keeps its matches played, and its root comes first.
-use Rattle.std.proofs.Common.{replicate, is_some, ◌-◌, ◌≡◌, ◌≢◌, ℕ, zero, suc, ◌+◌, ◌*◌, ◌/◌, ◌<◌, ◌≤◌, true, false, cond, List, [], ◌∷◌, length, get_or, set, sym, ap, refl, ◌∙◌, subst, Option, Some, None, inl, inr, ◌⊎◌, arith, get_or-set_same, get_or-set_other}
+use Rattle.std.proofs.Common.{is_some, ◌-◌, ◌≡◌, ◌≢◌, ℕ, zero, suc, ◌+◌, ◌*◌, ◌/◌, ◌<◌, ◌≤◌, true, false, cond, List, [], ◌∷◌, length, get_or, set, sym, ap, refl, ◌∙◌, subst, Option, Some, None, inl, inr, ◌⊎◌, arith, get_or-set_same, get_or-set_other}
 use Rattle.std.specs.Option.{IsSome}
 use Rattle.std.specs.Cmp.{IsTotalOrder}
 use Rattle.std.specs.Cmp.Lexicographic.{options_total}
@@ -7,7 +7,7 @@ use Rattle.std.specs.Ordering.{is_gt, nat_cmp, ordering_then, ordering_reverse}
 use Rattle.std.specs.declared.cmp.Ordering.{Ordering}
 use Rattle.std.specs.declared.cmp.Ordering.TheVariants.{Less, Equal, Greater}
 use Rattle.std.proofs.lemmas.Cmp.{tied_itself, then_total, on_total, back_total, nat_cmp_total, ranked}
-use Rattle.std.proofs.lemmas.List.{length-set, length-replicate, get_or-replicate}
+use Rattle.std.proofs.lemmas.List.{length-set}
 use Rattle.std.proofs.lemmas.Bool.{cases_eq, cases_lt}
 use Rattle.warm_stamps.proofs.DistinctLemmas.{by_cases}
 use Rattle.warm_stamps.proofs.StampLemmas.{both_tie}
@@ -92,28 +92,6 @@ pub record HasLeavesBelow (n : ℕ) (nodes : List ℕ) (next : ℕ) : Type 0 whe
   pub leaves : (s : ℕ) → s < next → get_or nodes (n + s) 0 ≡ s
   pub in_range : (j : ℕ) → j < 2 * n → get_or nodes j 0 < n
 
-pub no_leaves : (n : ℕ) (nodes : List ℕ) → 0 < n → nodes ≡ replicate (2 * n) 0 → HasLeavesBelow n nodes 0
-no_leaves n nodes some zeros = record {
-  room = ap length zeros ∙ length-replicate (2 * n) 0;
-  leaves = λ s lt. absurd (omega arith);
-  in_range = λ j lt. subst (λ t. t < n) (sym (ap (λ xs. get_or xs j 0) zeros ∙ get_or-replicate (2 * n) j 0 0 lt)) some;
-}
-
-pub one_leaf : (n : ℕ) (nodes : List ℕ) (next : ℕ) → next < n → HasLeavesBelow n nodes next → HasLeavesBelow n (set nodes (n + next) next) (next + 1)
-one_leaf n nodes next below leaves =
-    let room : n + next < length nodes = omega (arith, leaves.room) in
-    record {
-      room = length-set nodes (n + next) next ∙ leaves.room;
-      leaves = λ s lt. elim (cases_eq s next) [
-        | inl e ↦ ap (λ t. get_or (set nodes (n + next) next) (n + t) 0) e ∙ get_or-set_same nodes (n + next) next 0 room ∙ sym e
-        | inr ne ↦ let apart : n + s ≢ n + next = omega arith in get_or-set_other nodes (n + next) (n + s) next 0 apart ∙ leaves.leaves s (omega arith)
-      ];
-      in_range = λ j lt. elim (cases_eq j (n + next)) [
-        | inl e ↦ subst (λ t. t < n) (sym (ap (λ t. get_or (set nodes (n + next) next) t 0) e ∙ get_or-set_same nodes (n + next) next 0 room)) below
-        | inr ne ↦ subst (λ t. t < n) (sym (get_or-set_other nodes (n + next) j next 0 ne)) (leaves.in_range j lt)
-      ];
-    }
-
 pub read_at : (nodes : List ℕ) (i x : ℕ) → x ≡ get_or nodes i x → i < length nodes → x ≡ get_or nodes i 0
 read_at nodes i x is lt = is ∙ any_default nodes i x 0 lt
   where
@@ -175,9 +153,6 @@ module _ {K : Type 0} (cmp : K → K → Ordering) where
           | inr nb ↦ inl (tree.played j low inner ∙ sym (winner_apart keys slot key _ _ na nb))
         ]
       ]
-
-  pub changed_shape : (keys : List (Option K)) (nodes : List ℕ) (slot : ℕ) (key : Option K) → HasLeaves (length keys) nodes → HasLeaves (length (set keys slot key)) nodes
-  changed_shape keys nodes slot key shape = subst (λ n. HasLeaves n nodes) (sym (length-set keys slot key)) shape
 
   -- ---- a match played
 
@@ -439,14 +414,6 @@ module _ {K : Type 0} (cmp : K → K → Ordering) (total : IsTotalOrder cmp) wh
   -- the root, as it is read
   pub root_read : (keys : List (Option K)) (nodes : List ℕ) → IsTree cmp keys nodes → (root : ℕ) → root ≡ get_or nodes 1 root → root ≡ get_or nodes 1 0
   root_read keys nodes tree root is = let some : 0 < length keys = tree.shape.some in let lt : 1 < length nodes = omega (arith, tree.shape.room) in read_at nodes 1 root is lt
-
-  pub key_read : (keys : List (Option K)) (s : ℕ) (k : Option K) → k ≡ get_or keys s k → s < length keys → key_at keys s ≡ k
-  key_read keys s k is lt = any_default keys s None k lt ∙ sym is
-    where
-      any_default : (xs : List (Option K)) (i : ℕ) (d e : Option K) → i < length xs → get_or xs i d ≡ get_or xs i e
-      any_default [] i d e lt = absurd (omega arith)
-      any_default (x ∷ xs) zero d e lt = refl
-      any_default (x ∷ xs) (suc i) d e lt = any_default xs i d e (omega arith)
 
   -- the least slot, from the root and its key as they are read
   pub least_read : (keys : List (Option K)) (nodes : List ℕ) → IsTree cmp keys nodes → (root : ℕ) → root ≡ get_or nodes 1 root → record { within : root < length keys; none : is_some (key_at keys root) ≡ false → IsLeast cmp keys None; some : is_some (key_at keys root) ≡ true → IsLeast cmp keys (Some root) }

@@ -6,6 +6,7 @@ use mathlib.Core.List.{IsPrefix}
 use lib.ListN.{get_elem?}
 use prog.Atomic.{either}
 use Rattle.atomic_table.proofs.Lists.{at_longer, set_else, set_here}
+use Rattle.std.proofs.lemmas.Option.{same_Some}
 use Rattle.warm_turn.specs.declared.board.Entry.{Entry}
 use Rattle.warm_turn.specs.declared.board.Ended.{Ended}
 use Rattle.warm_turn.specs.declared.board.View.{View}
@@ -13,7 +14,7 @@ use Rattle.warm_turn.specs.declared.board.Held.{Held}
 use Rattle.warm_turn.specs.Turns.{nobody, calls_by, NoRepeat, Runs, IsNote, IsPass, first_pass, note_of, new_pass, learned, as_ended, joined, settled}
 use Rattle.warm_turn.specs.Steps.{server, after_call}
 use Rattle.warm_turn.specs.Rule.{IsGone, IsRecorded, OneHistory}
-use Rattle.warm_turn.proofs.Lists.{off, Some_same, inside, same_at, now_at, at_end, at_either, one_member, each_set, IsPrefix-self, IsPrefix-append, calls_by-mine, calls_by-other, calls_by-prefix, NoRepeat-join, NoRepeat-one, Runs-push, Runs-front}
+use Rattle.warm_turn.proofs.Lists.{off, inside, same_at, now_at, at_end, at_either, one_member, each_set, IsPrefix-self, IsPrefix-append, calls_by-mine, calls_by-other, calls_by-prefix, NoRepeat-join, NoRepeat-one, Runs-push, Runs-front}
 
 module _ {X C R : Type 0} where
   -- a seat that sees is not spent
@@ -181,7 +182,7 @@ module _ {M X C R : Type 0} (meaning : M → X) (goes : X → C → R → X → 
       let log : List (Entry C R) = r.log ++ e ∷ [] in
       let y : X = meaning h.machine in
       let ws : List V = set vs me w in
-      let same : x ≡ r.state = Some_same x r.state (sym state ∙ a.1) in
+      let same : x ≡ r.state = same_Some x r.state (sym state ∙ a.1) in
       let legal : Runs goes o log y = Runs-push goes o r.state y r.log e r.legal (subst (λ z. goes z e.call e.reply y) same did) in
       let grown : v.seen ++ e ∷ [] ≡ log = ap (λ l. l ++ e ∷ []) a.0 in
       let elsewhere : (j : ℕ) → j ≢ me → e.by ≢ j = λ j other here. other (sym here ∙ number) in
@@ -195,7 +196,7 @@ module _ {M X C R : Type 0} (meaning : M → X) (goes : X → C → R → X → 
           owner = r.owner;
           legal = legal;
           count = length-append r.log (e ∷ []) ∙ ap (λ k. k + 1) r.count;
-          home = λ k there. ap (λ (z : H). meaning z.machine) (sym (Some_same h k (some-injective (Some h) (Some k) (some-injective (some (Some h)) (some (Some k)) (sym (set_here homes 0 (some (Some h)) (omega arith)) ∙ there)))));
+          home = λ k there. ap (λ (z : H). meaning z.machine) (sym (same_Some h k (some-injective (Some h) (Some k) (some-injective (some (Some h)) (some (Some k)) (sym (set_here homes 0 (some (Some h)) (omega arith)) ∙ there)))));
           each = each_set (IsRecorded o log y r.owner ws) vs me w
               record {
                 sight = λ _. (sight'.0, ([], append-nil (v.seen ++ e ∷ []) ∙ grown), IsPrefix-append v.also r.log (e ∷ []) sight'.2, sight'.3);
@@ -363,7 +364,7 @@ module _ {M X C R : Type 0} (meaning : M → X) (goes : X → C → R → X → 
     owner = λ _. 0;
     legal = refl;
     count = refl;
-    home = λ k there. ap (λ (z : H). meaning z.machine) (sym (Some_same h k (some-injective (Some h) (Some k) (some-injective (some (Some h)) (some (Some k)) there)))) ∙ is;
+    home = λ k there. ap (λ (z : H). meaning z.machine) (sym (same_Some h k (some-injective (Some h) (Some k) (some-injective (some (Some h)) (some (Some k)) there)))) ∙ is;
     each = λ j u e. subst (λ (z : V). IsRecorded o [] o (λ _. 0) (first_pass o ∷ []) j z) (one_member (first_pass o) u j e) record {
       sight = λ _. (refl, ([], refl), ([], refl), refl);
       unused = λ _ no. off refl no;

@@ -8,6 +8,7 @@ use native.Mathlib.Decide.{ℕ_discrete}
 use lib.ListN.{get_elem?}
 use lib.Seq.{set-get_or}
 use Rattle.atomic_table.proofs.Lists.{set_again}
+use Rattle.std.proofs.lemmas.Option.{same_Some}
 use Rattle.warm_turn.specs.declared.fault.Busy.{Busy}
 use prog.Atomic.{either}
 use Rattle.atomic_table.specs.Table.{State, Me, step, keeps, takes, gives, stepped, Allows, Enters, Splits, Joins, Final, Seen, opening}
@@ -18,7 +19,7 @@ use Rattle.warm_turn.specs.declared.board.Held.{Held}
 use Rattle.warm_turn.specs.Turns.{nobody, entry, calls_by, Runs, IsLast, IsNote, IsPass, first_pass, note_of, new_pass, marked, learned, joined, settled}
 use Rattle.warm_turn.specs.Rule.{ticket_word, serving_word, IsQueued, IsRecorded, OneHistory, Kept, AreWords}
 use Rattle.warm_turn.specs.Steps.{waiting, server, after_call, took, looked, passed, caught_up, came, became_pass}
-use Rattle.warm_turn.proofs.Lists.{off, never, Some_same, same_at, same_carried}
+use Rattle.warm_turn.proofs.Lists.{off, never, same_at, same_carried}
 use Rattle.warm_turn.proofs.Tickets as tickets
 use Rattle.warm_turn.proofs.Histories as histories
 
@@ -178,7 +179,7 @@ module _ {M X C R : Type 0} (meaning : M → X) (fit : M → Type 0) (goes : X �
         },
         λ h' d' took' made'.
             let one_slot : h ≡ h' = same_carried h h' 0 took' in
-            let one_call : d ≡ d' = Some_same d d' (sym made ∙ (ap (λ (z : H). z.made) one_slot ∙ made')) in (
+            let one_call : d ≡ d' = same_Some d d' (sym made ∙ (ap (λ (z : H). z.made) one_slot ∙ made')) in (
               subst (λ (z : Made C R). let u : Me (Option H) V = (w, []) in u ≡ (after_call v (entry v.number z.call.value z.reply.value), [])) one_call refl,
               t.1,
             ),

@@ -17,9 +17,6 @@ pub never : (b : Bool) → (b ≡ true → ⊥) → b ≡ false
 never true not = absurd (not refl)
 never false not = refl
 
-pub Some_same : {A : Type 0} (a b : A) → Some a ≡ Some b → a ≡ b
-Some_same a b e = cc e
-
 module _ {A : Type 0} where
   pub inside : (l : List A) (i : ℕ) (a : A) → get_elem? l i ≡ some a → i < length l
   inside [] i a e = absurd (some-ne-none a (sym e))

@@ -1,11 +1,11 @@
 -- What calls, notes and ends say of a pass, for the crates above.
-use Rattle.std.proofs.Common.{◌≡◌, List, [], ◌∷◌, ◌++◌, Some, true, refl, sym, ap, ◌∙◌, subst, append_assoc, append-nil}
+use Rattle.std.proofs.Common.{◌≡◌, List, [], ◌∷◌, ◌++◌, true, refl, sym, ap, ◌∙◌, subst, append_assoc, append-nil}
 use mathlib.Core.Option.{some-ne-none}
 use mathlib.Core.List.{IsPrefix}
 use Rattle.warm_turn.specs.declared.board.Entry.{Entry}
 use Rattle.warm_turn.specs.declared.board.Ended.{Ended}
 use Rattle.warm_turn.specs.declared.board.View.{View}
-use Rattle.warm_turn.specs.Turns.{entry, Called, Extended, IsPass, IsStep, Joined, Learned, Runs, Widened, as_ended, first_pass, marked, note_of}
+use Rattle.warm_turn.specs.Turns.{entry, Called, Extended, IsPass, IsStep, Joined, Runs, Widened, as_ended, first_pass, marked}
 use Rattle.warm_turn.proofs.Lists.{off, IsPrefix-self, IsPrefix-trans}
 
 module _ {X C R : Type 0} where
@@ -66,17 +66,6 @@ module _ {X C R : Type 0} (goes : X → C → R → X → Type 0) where
     mark = λ marked_once. off marked_once h.unmarked.0;
   }
 
-  -- learning adds no call
-  pub Extended-learned : (v u w : View X C R) → Learned goes v u w → Extended v [] w
-  Extended-learned v u w h = record {
-    seen = subst (λ l. IsPrefix v.seen l) (sym (ap (λ (z : View X C R). z.seen) h.1)) h.2;
-    mine = ap (λ (z : View X C R). z.mine) h.1 ∙ sym (append-nil v.mine);
-    number = ap (λ (z : View X C R). z.number) h.1;
-    ended = ap (λ (z : View X C R). z.ended) h.1;
-    opening = ap (λ (z : View X C R). z.opening) h.1;
-    mark = λ marked_once. ap (λ (z : View X C R). z.found_last) h.1 ∙ marked_once;
-  }
-
   -- a pass holds the one that is ended into it, and those that this one held
   pub Widened-joined : (v u w : View X C R) → Joined goes v u w → Widened v (as_ended u ∷ u.ended) w
   Widened-joined v u w h = record {
@@ -87,10 +76,6 @@ module _ {X C R : Type 0} (goes : X → C → R → X → Type 0) where
     opening = ap (λ (z : View X C R). z.opening) h.1;
     mark = ap (λ (z : View X C R). z.found_last) h.1;
   }
-
-  -- a pass that learns the note of a turn's opening opened with that state
-  pub opens_as_learned : (o : X) (v w : View X C R) → Learned goes v (note_of (first_pass o)) w → (v.opening ≡ Some o) × (w.opening ≡ Some o)
-  opens_as_learned o v w h = (h.5, ap (λ (z : View X C R). z.opening) h.1 ∙ h.5)
 
   -- the last entry of a run is a step
   last_step : (x z : X) (xs : List (Entry C R)) (e : Entry C R) → Runs goes x (xs ++ e ∷ []) z → IsStep goes e.call e.reply

@@ -20,8 +20,6 @@ use denote.Struct.Declared as Declared
 use Rattle.warm_turn.specs.contracts.board.Made as Made
 use Rattle.std.specs.contracts.option.Option as Option
 use Rattle.warm_turn.specs.contracts.turn.Pass.TheInside as PassInside
-use Rattle.warm_turn.specs.contracts.turn.Note as Note
-use Rattle.warm_turn.specs.contracts.turn.Note.TheInside as NoteInside
 use Rattle.warm_turn.specs.contracts.turn.Turn.TheInside as TurnInside
 use Rattle.warm_turn.specs.contracts.turn.Turn as Turn
 
@@ -52,15 +50,6 @@ inside_send M C R X g s =
 
 pub pass_send : (M C R X : RattleType) (g : Machine.Ghosts M.Denot C.Denot R.Denot X.Denot) → IsSend M → IsSend (Pass.the_row M C R X g)
 pass_send M C R X g s = let inner = inside_send M C R X g s in search (sendable, inner) depth 20
-
-note_inside_send : (M C R X : RattleType) (g : Machine.Ghosts M.Denot C.Denot R.Denot X.Denot) → IsSend M → IsSend (NoteInside.the_row M C R X g)
-note_inside_send M C R X g s =
-    let place : IsSend (Seat.the_row (Option.the_row (Held.the_row M C R)) (View.the_row X C R)) = seat_send _ _ (slot_send M C R s) in
-    let fields : IsSend (Struct (Declared.shape (NoteInside.the_type M C R X g))) = search (sendable, place) depth 20 in
-    search (sendable, fields) depth 20
-
-pub note_send : (M C R X : RattleType) (g : Machine.Ghosts M.Denot C.Denot R.Denot X.Denot) → IsSend M → IsSend (Note.the_row M C R X g)
-note_send M C R X g s = let inner = note_inside_send M C R X g s in search (sendable, inner) depth 20
 
 lease_sync : (T A : RattleType) (g : Allocator.Ghosts A.Denot) → Frees g g.dealloc_token → IsSync (Lease.the_row T A g)
 lease_sync T A g f = record { shared = λ d b o ν q. part_keyless (Lease.the_row T A g) (right_send T A g f) q d b o }

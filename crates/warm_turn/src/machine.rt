@@ -16,13 +16,13 @@ pub trait Machine {
     /// The state of a machine, as plain data. No value of it need be made.
     type State;
 
-    // The state that a machine is in.
+    /// The state that a machine is in.
     ghost meaning: { Self → Self.State };
 
-    // The state before, the call, the reply and the state after.
+    /// The state before, the call, the reply and the state after.
     ghost goes: { Self.State → Self.Call → Self.Reply → Self.State → Type 0 };
 
-    // What holds of a machine whenever it is not in the middle of a call.
+    /// What holds of a machine whenever it is not in the middle of a call.
     ghost is_fit: { Self → Type 0 };
 
     /// Answers the call. A refusal is a reply too.

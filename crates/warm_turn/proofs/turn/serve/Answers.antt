@@ -1,8 +1,8 @@
 use Rattle.std.proofs.Common.{◌≡◌, ◌∷◌, Some, refl, sym, ap, ◌∙◌, subst}
 use Rattle.atomic_table.specs.Table.{rest}
+use Rattle.std.proofs.lemmas.Option.{same_Some}
 use Rattle.warm_turn.specs.declared.board.Held.{Held}
 use Rattle.warm_turn.specs.declared.board.Made.{Made}
-use Rattle.warm_turn.proofs.Lists.{Some_same}
 use Rattle.warm_turn.proofs.Seats.{taken_out, put_in}
 use Rattle.warm_turn.proofs.turn.serve.Goals as goal
 
@@ -22,7 +22,7 @@ returns-clause-made g c h at =
     let d : Made C R = record { call = c.of-asked.result; reply = c.of.result } in
     let k : Held g.row.M.Denot C R = record { machine = c.call-reply.new.self; made = Some d } in
     let out : c.exchange-out.result ≡ Some h = taken_out meaning fit goes (meaning h.machine) start h c.exchange-out.result at c.exchange-out.ensures.2 in
-    let same : c.in-Some.held ≡ h = Some_same c.in-Some.held h (sym c.in-Some.is ∙ out) in
+    let same : c.in-Some.held ≡ h = same_Some c.in-Some.held h (sym c.in-Some.is ∙ out) in
     (k, d, put_in meaning fit goes (meaning h.machine) start c.exchange-out.new.seat.me c.exchange-empty.new.seat.me h k at c.exchange-out.ensures.3 c.exchange-empty.ensures.3, refl, c.of-asked.ensures, c.of.ensures, subst (λ (m : Held g.row.M.Denot C R). goes (meaning m.machine) c.args.call c.call-reply.result (meaning c.call-reply.new.self)) same c.call-reply.ensures.goes, c.call-reply.ensures.fit)
 
 pub call-reply-requires : goal.call-reply-requires
@@ -33,5 +33,5 @@ call-reply-requires g c =
     let h = c.requires.has in
     let start = c.args.place.now.me in
     let out : c.exchange-out.result ≡ Some h.0 = taken_out meaning fit goes (meaning h.0.machine) start h.0 c.exchange-out.result h.1 c.exchange-out.ensures.2 in
-    let fits = subst (λ (m : Held g.row.M.Denot g.row.M-Call.Denot g.row.M-Reply.Denot). fit m.machine) (sym (Some_same c.in-Some.held h.0 (sym c.in-Some.is ∙ out))) h.2 in
+    let fits = subst (λ (m : Held g.row.M.Denot g.row.M-Call.Denot g.row.M-Reply.Denot). fit m.machine) (sym (same_Some c.in-Some.held h.0 (sym c.in-Some.is ∙ out))) h.2 in
     record { fit = fits }
