@@ -8,7 +8,8 @@ use Rattle.warm_frames.specs.declared.frame.Frame.TheVariants.{Digest}
 use Rattle.warm_digest.specs.BucketSums.{sums_of}
 use Rattle.warm_pool.specs.declared.fault.PoolFault.TheVariants.{OutOfPage, Fixed, Fault}
 use Rattle.warm_pool.specs.declared.slot.Slot.{Slot}
-use Rattle.warm_pool.specs.View.{PoolView, HasPage, IsAbsent, Holds, unfixed_pages, FailsAt, IsFixed, IsUnfixed}
+use Rattle.warm_pool.specs.View.{PoolView, HasPage, IsAbsent, Holds, unfixed_pages, IsFixed, IsUnfixed}
+use Rattle.warm_pool.specs.Keeping.{FailsAt}
 use Rattle.warm_pool.specs.Pinning.{Pinned as PinnedIn, PinRefused, PutsIn, PutRefused, unpinned}
 use Rattle.warm_pool.specs.PageBytes.{IsRead, Written}
 use Rattle.warm_pool.specs.Retiring.{Emptied}

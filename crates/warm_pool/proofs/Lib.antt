@@ -1,6 +1,5 @@
 pub mod Arrivals
 pub mod Bytes
-pub mod ChainLemmas
 pub mod ClosingLemmas
 pub mod DeviceSteps
 pub mod EmptyLemmas
@@ -10,7 +9,6 @@ pub mod FlushLemmas
 pub mod FrameParts
 pub mod Keeps
 pub mod Loads
-pub mod MoveLemmas
 pub mod Opens
 pub mod Pins
 pub mod PlaceLemmas

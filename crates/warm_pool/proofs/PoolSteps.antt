@@ -19,13 +19,6 @@ use Rattle.warm_pool.specs.View.{frame_view, device_view, view_of, frame_at, Has
 use Rattle.warm_pool.specs.Pinning.{IsFull, IsLeastFree, IsPlace}
 use Rattle.warm_pool.proofs.Bytes.{frame_seen, device_seen}
 
--- what a device has, as a caller sees it
-pub seen_has : {s : PoolState} → IsPool s → (p : PageId) → p.dev < length s.devices → p.no < (nth_device s.devices p.dev).pages → HasPage (view_of s) p
-seen_has {s} w p d n = record {
-  device = subst (λ m. p.dev < m) (sym (length-map s.devices device_view)) d;
-  number = subst (λ x. p.no < x.pages) (sym (device_seen s p.dev)) n;
-}
-
 pub has_device : {s : PoolState} → IsPool s → (p : PageId) → HasPage (view_of s) p → p.dev < length s.devices
 has_device {s} w p h = subst (λ m. p.dev < m) (length-map s.devices device_view) h.device
 

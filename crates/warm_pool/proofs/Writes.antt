@@ -4,15 +4,14 @@ use Rattle.std.proofs.Math.ListN.{get_or-map as mapped}
 use Rattle.std.proofs.lemmas.Option.{same_Some}
 use Rattle.std.proofs.lemmas.List.{length-append, length-take, length-drop, length-map, map-set, set-get_or, get_or-set_same}
 use Rattle.warm_stamps.specs.declared.PageId.{PageId}
-use Rattle.warm_history.specs.Histories.{HistoryView}
 use Rattle.warm_devices.specs.Device.{DeviceState}
 use Rattle.warm_pool.specs.declared.slot.Slot.{Slot}
 use Rattle.warm_pool.specs.Frames.{FrameState, FramesState, nth_frame, fresh_frame}
-use Rattle.warm_pool.specs.State.{PoolState, IsPool, RankedBy, nth_device}
+use Rattle.warm_pool.specs.State.{PoolState, IsPool, nth_device}
 use Rattle.warm_pool.specs.View.{stored, is_page, bytes_in, frame_view, device_view, view_of, PoolView, FrameView, frame_at, contents_at, Holds}
 use Rattle.warm_pool.specs.PageBytes.{patched, Written, IsRead}
 use Rattle.warm_pool.proofs.Bytes.{page_found, bytes_held, contents_seen, frame_seen, device_seen}
-use Rattle.warm_pool.proofs.Keeps.{Fits, pool_from, set_keeps_pool, ranked_set, held_fixed, fixed_some}
+use Rattle.warm_pool.proofs.Keeps.{Fits, pool_from, set_keeps_pool, held_fixed, fixed_some}
 use Rattle.warm_pool.proofs.PoolSteps.{some_page}
 
 pub length-patched : (old : List ℕ) (at : ℕ) (put : List ℕ) → at + length put ≤ length old → length (patched old at put) ≡ length old
@@ -41,9 +40,6 @@ after old i at put = record old { frames = set old.frames i (overwritten (nth_fr
 module _ (old new : FramesState) {spare : ℕ} {devices : List DeviceState} (w : IsPool (pool_from old spare devices)) (i at : ℕ) (put : List ℕ)
     (is : new ≡ record old { frames = set old.frames i (overwritten (nth_frame old.frames i) at put) }) (there : i < length old.frames)
     (some : (nth_frame old.frames i).page ≢ None) (within : at + length put ≤ old.page_size) where
-  frame : FrameState
-  frame = nth_frame old.frames i
-
   sized : length (nth_frame old.frames i).bytes ≡ old.page_size
   sized = w.frame_size i there
 
@@ -63,9 +59,6 @@ module _ (old new : FramesState) {spare : ℕ} {devices : List DeviceState} (w :
 
   pub write_pool : IsPool (pool_from new spare devices)
   write_pool = subst (λ x. IsPool (pool_from x spare devices)) (sym is) written_pool
-
-  pub write_ranked : (h : HistoryView) → RankedBy (pool_from old spare devices) h → RankedBy (pool_from new spare devices) h
-  write_ranked h r = subst (λ x. RankedBy (pool_from x spare devices) h) (sym is) (ranked_set (pool_from old spare devices) i (overwritten (nth_frame old.frames i) at put) h there (r i) r)
 
   same_frames : map frame_view (set old.frames i (overwritten (nth_frame old.frames i) at put)) ≡ map frame_view old.frames
   same_frames = map-set frame_view old.frames i (overwritten (nth_frame old.frames i) at put)
