@@ -1,5 +1,6 @@
 pub mod Arrivals
 pub mod Bytes
+pub mod ChainLemmas
 pub mod ClosingLemmas
 pub mod DeviceSteps
 pub mod EmptyLemmas
@@ -9,6 +10,7 @@ pub mod FlushLemmas
 pub mod FrameParts
 pub mod Keeps
 pub mod Loads
+pub mod MoveLemmas
 pub mod Opens
 pub mod Pins
 pub mod PlaceLemmas

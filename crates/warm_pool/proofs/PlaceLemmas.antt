@@ -4,6 +4,7 @@ use Rattle.std.proofs.lemmas.List.{length-set, length-map, length-replicate, get
 use Rattle.std.proofs.lemmas.Bool.{cases_eq, cases_lt}
 use Rattle.warm_stamps.specs.declared.PageId.{PageId}
 use Rattle.warm_pool.specs.Chains.{IsFirstFrom, AreChains, AreInTurn, AreLinked, chain_of, chains_of, page_in}
+use Rattle.warm_pool.proofs.ChainLemmas.{link_first}
 use Rattle.warm_pool.specs.Residents.{IsFirstFree}
 
 pub count_chains : (pages : List (Option PageId)) → length (chains_of pages) ≡ length pages
@@ -11,13 +12,6 @@ count_chains pages = length-map pages (chain_of (length pages))
 
 pub chain_at : (pages : List (Option PageId)) (frame : ℕ) → frame < length pages → get_or (chains_of pages) frame 0 ≡ chain_of (length pages) (page_in pages frame)
 chain_at pages frame lt = get_or-map (chain_of (length pages)) pages frame None 0 lt
-
--- the link after a frame leads to the first frame after it
-follows : (frames heads next : List ℕ) (b frame : ℕ) → AreChains frames heads next → b < length heads → frame < length frames → get_or frames frame 0 ≡ b
-    → IsFirstFrom frames b (suc frame) (get_or next frame 0)
-follows frames heads next b frame chains lt there is =
-    let in_heads : get_or frames frame 0 < length heads = subst (λ n. n < length heads) (sym is) lt in
-    subst (λ n. IsFirstFrom frames n (suc frame) (get_or next frame 0)) is (chains.next_are frame there in_heads)
 
 -- no frame past the last holds a page
 pub in_range : (pages : List (Option PageId)) (frame : ℕ) (page : PageId) → page_in pages frame ≡ Some page → frame < length pages
@@ -65,7 +59,7 @@ next_in_chain pages heads next page from at linked lt first =
     let b : ℕ = chain_of (length pages) (Some page) in
     let less = chain_of_page (length pages) page (omega arith) in
     let lt_chains : at < length (chains_of pages) = subst (λ n. at < n) (sym (count_chains pages)) lt in
-    follows (chains_of pages) heads next b at linked.chains (omega arith) lt_chains (first.there lt_chains)
+    link_first (chains_of pages) heads next b (Some at) linked.chains (omega arith) (lt_chains, first.there lt_chains)
 
 -- before the first frame of their chain no frame is without a page
 pub none_below : (pages : List (Option PageId)) (at : ℕ) → IsFirstFrom (chains_of pages) (length pages) 0 at → (frame : ℕ) → frame < at → frame < length pages → page_in pages frame ≡ None → ⊥

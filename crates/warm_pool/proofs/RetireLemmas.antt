@@ -11,7 +11,7 @@ use Rattle.warm_pool.specs.State.{PoolState, IsPool, RankedBy, nth_device, no_de
 use Rattle.warm_pool.specs.View.{stored, view_of, frame_view, device_view, is_page, bytes_in, FrameView, HasPage, contents_at}
 use Rattle.warm_pool.specs.Keeping.{FailsAt}
 use Rattle.warm_pool.specs.WritingBack.{is_on, KeptDevices, PutsDown, cleaned_chosen}
-use Rattle.warm_pool.specs.Retiring.{Retired, MayRetire, emptied, AreUnfixed, AreClean, MakesWay, retired, vacate_if, vacated_chosen}
+use Rattle.warm_pool.specs.Retiring.{Retired, MayRetire, IsFixedOn, emptied, IsFixedIn, AreUnfixed, AreClean, MakesWay, retired, vacate_if, vacated_chosen}
 use Rattle.warm_pool.specs.Flushes.{IsFlushed, FlushFails}
 use Rattle.warm_pool.proofs.FlushLemmas.{same_shape}
 use Rattle.warm_pool.proofs.Bytes.{bytes_nowhere, contents_seen, device_seen, frame_seen, page_found}
@@ -196,6 +196,14 @@ may_retire s dev device w there size unfixed = record {
   there = subst (λ n. dev < n) (sym (length-map s.devices _)) there;
   size = size;
   unfixed = λ i on. ap (λ f. f.fixes) (frame_seen s i) ∙ unfixed i (subst (λ f. IsTrue (is_on dev f.page)) (frame_seen s i) on);
+}
+
+pub fixed_on : (s : PoolState) (dev : ℕ) → IsPool s → IsFixedIn (Some dev) s.frames → IsFixedOn (view_of s) dev
+fixed_on s dev w fixed = record {
+  frame = fixed.frame;
+  there = subst (λ n. fixed.frame < n) (sym (length-map s.frames _)) fixed.there;
+  on = subst (λ f. IsTrue (is_on dev f.page)) (sym (frame_seen s fixed.frame)) fixed.chosen;
+  fixed = subst (λ f. 0 < f.fixes) (sym (frame_seen s fixed.frame)) fixed.fixed;
 }
 
 -- What is known once way was made

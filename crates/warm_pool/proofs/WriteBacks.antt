@@ -1,5 +1,5 @@
 -- The page of a frame goes to its device.
-use Rattle.std.proofs.Common.{◌≡◌, ℕ, ◌<◌, true, false, IsTrue, List, [], length, map, set, Some, None, Result, Ok, refl, sym, ◌∙◌, ap, subst}
+use Rattle.std.proofs.Common.{◌≡◌, ℕ, ◌<◌, Bool, true, false, IsTrue, List, [], length, map, set, Some, None, Result, Ok, refl, sym, ◌∙◌, ap, subst}
 use Rattle.std.proofs.lemmas.Option.{same_Some}
 use Rattle.std.proofs.lemmas.List.{set-get_or, get_or-set_same}
 use Rattle.warm_stamps.specs.declared.PageId.{PageId}
@@ -7,12 +7,13 @@ use Rattle.std.proofs.Math.ListN.{get_or-map as mapped}
 use Rattle.warm_devices.specs.Device.{DeviceState, CountsFault, page_at, one_more}
 use Rattle.warm_devices.specs.declared.fault.DeviceFault.TheVariants.{Write}
 use Rattle.warm_devices.specs.declared.fault.DeviceFault.{DeviceFault}
-use Rattle.warm_pool.specs.Frames.{FramesState, nth_frame, fresh_frame, cleaned}
+use Rattle.warm_pool.specs.Frames.{FrameState, FramesState, nth_frame, fresh_frame, cleaned}
 use Rattle.warm_pool.specs.State.{PoolState, IsPool, no_device, nth_device}
 use Rattle.warm_pool.specs.View.{frame_view, view_of, PoolView, FrameView}
 use Rattle.warm_pool.specs.WritingBack.{KeptDevices, Cleans, CleanFails}
 use Rattle.warm_pool.specs.DeviceCalls.{PageWrite}
 use Rattle.warm_pool.proofs.Keeps.{pool_from, set_keeps_pool, view-set, devices_keep_pool, view_of_kept}
+use Rattle.warm_pool.proofs.FlushLemmas.{same_shape}
 use Rattle.warm_pool.proofs.DeviceSteps.{write_keeps, failures_kept, fails_at, may_fail}
 use Rattle.warm_pool.proofs.Loads.{Failed, on_ok}
 
@@ -84,6 +85,19 @@ module _ (s : PoolState) (new : List DeviceState) (i : ℕ) (q : PageId) (bytes 
       where
         same : h.call.after.failures ≡ (nth_device s.devices q.dev).failures
         same = subst (λ r. CountsFault Write r (nth_device s.devices q.dev) h.call.after) ok h.call.faults
+
+-- a frame that isn't dirty is clean already
+pub already_clean : (s : PoolState) (i : ℕ) → (nth_frame s.frames i).dirty ≡ false → Cleans s i s
+already_clean s i e = record {
+  frames = sym (ap (set s.frames i) same ∙ set-get_or s.frames i (fresh_frame []));
+  devices = record { count = refl; shape = λ k. same_shape (nth_device s.devices k); absent = λ p _. refl; clean = λ j p _ _. refl };
+  untouched = λ _. refl;
+  failures = refl;
+  same = (refl, refl);
+}
+  where
+    same : cleaned (nth_frame s.frames i) ≡ nth_frame s.frames i
+    same = ap (λ (t : Bool). let f : FrameState = record (nth_frame s.frames i) { dirty = t } in f) (sym e)
 
 -- what a caller sees stays
 pub cleans_view : (s t : PoolState) (i : ℕ) → Cleans s i t → view_of t ≡ view_of s

@@ -2,16 +2,17 @@
 use Rattle.std.proofs.Common.{◌≡◌, ◌≢◌, ℕ, zero, suc, ◌+◌, ◌<◌, ◌≤◌, cond, Bool, true, false, List, [], ◌∷◌, take, drop, length, map, set, Some, None, refl, sym, ◌∙◌, ap, subst, arith}
 use Rattle.std.proofs.Math.ListN.{get_or-map as mapped}
 use Rattle.std.proofs.lemmas.Option.{same_Some}
-use Rattle.std.proofs.lemmas.List.{length-append, length-take, length-drop, length-map, map-set, set-get_or, get_or-set_same}
+use Rattle.std.proofs.lemmas.List.{length-append, length-take, length-drop, length-map, map-set, set-get_or, get_or-set_same, get_or-set_other}
 use Rattle.warm_stamps.specs.declared.PageId.{PageId}
+use Rattle.warm_history.specs.Histories.{HistoryView}
 use Rattle.warm_devices.specs.Device.{DeviceState}
 use Rattle.warm_pool.specs.declared.slot.Slot.{Slot}
 use Rattle.warm_pool.specs.Frames.{FrameState, FramesState, nth_frame, fresh_frame}
-use Rattle.warm_pool.specs.State.{PoolState, IsPool, nth_device}
+use Rattle.warm_pool.specs.State.{PoolState, IsPool, RankedBy, nth_device}
 use Rattle.warm_pool.specs.View.{stored, is_page, bytes_in, frame_view, device_view, view_of, PoolView, FrameView, frame_at, contents_at, Holds}
-use Rattle.warm_pool.specs.PageBytes.{patched, Written, IsRead}
+use Rattle.warm_pool.specs.PageBytes.{patched, Written, IsRead, MakesDirty}
 use Rattle.warm_pool.proofs.Bytes.{page_found, bytes_held, contents_seen, frame_seen, device_seen}
-use Rattle.warm_pool.proofs.Keeps.{Fits, pool_from, set_keeps_pool, held_fixed, fixed_some}
+use Rattle.warm_pool.proofs.Keeps.{Fits, pool_from, set_keeps_pool, ranked_set, held_fixed, fixed_some}
 use Rattle.warm_pool.proofs.PoolSteps.{some_page}
 
 pub length-patched : (old : List ℕ) (at : ℕ) (put : List ℕ) → at + length put ≤ length old → length (patched old at put) ≡ length old
@@ -59,6 +60,18 @@ module _ (old new : FramesState) {spare : ℕ} {devices : List DeviceState} (w :
 
   pub write_pool : IsPool (pool_from new spare devices)
   write_pool = subst (λ x. IsPool (pool_from x spare devices)) (sym is) written_pool
+
+  pub write_ranked : (h : HistoryView) → RankedBy (pool_from old spare devices) h → RankedBy (pool_from new spare devices) h
+  write_ranked h r = subst (λ x. RankedBy (pool_from x spare devices) h) (sym is) (ranked_set (pool_from old spare devices) i (overwritten (nth_frame old.frames i) at put) h there (r i) r)
+
+  -- and nothing else of the pool has changed
+  pub write_dirty : (slot : Slot) → slot.index ≡ i → MakesDirty (pool_from old spare devices) slot (pool_from new spare devices)
+  write_dirty slot at_slot = record {
+    dirty = ap (λ n. (nth_frame new.frames n).dirty) at_slot ∙ ap (λ f. (nth_frame f.frames i).dirty) is
+        ∙ ap (λ f. f.dirty) (get_or-set_same old.frames i (overwritten (nth_frame old.frames i) at put) (fresh_frame []) there);
+    others = λ j ne. ap (λ f. nth_frame f.frames j) is ∙ get_or-set_other old.frames i j (overwritten (nth_frame old.frames i) at put) (fresh_frame []) (λ e. ne (e ∙ sym at_slot));
+    devices = refl;
+  }
 
   same_frames : map frame_view (set old.frames i (overwritten (nth_frame old.frames i) at put)) ≡ map frame_view old.frames
   same_frames = map-set frame_view old.frames i (overwritten (nth_frame old.frames i) at put)

@@ -47,6 +47,11 @@ pub record IsLastBelow (frames : List ℕ) (chain frame : ℕ) (last : Option �
   pub is_of : IsOf frames chain last
   pub between : (other : ℕ) → after last ≤ other → other < frame → slice_index frames other ≢ chain
 
+-- the link that follows a frame of a chain, or that begins the chain
+abbrev pub link_after : List ℕ → List ℕ → ℕ → Option ℕ → ℕ
+link_after heads next chain None = slice_index heads chain
+link_after heads next chain (Some frame) = slice_index next frame
+
 -- the links once the one after `last` leads to a frame
 abbrev pub heads_led : List ℕ → ℕ → Option ℕ → ℕ → List ℕ
 heads_led heads chain None to = set heads chain to
