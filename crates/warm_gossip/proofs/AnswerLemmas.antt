@@ -1,11 +1,11 @@
 -- Pieces of lists, wanted buckets, and the frames that are made of them.
-use Rattle.std.proofs.Common.{◌≡◌, ◌≢◌, ◌↔◌, ℕ, zero, suc, ◌+◌, ◌-◌, ◌<◌, ◌≤◌, min, Bool, true, false, cond, List, [], ◌∷◌, ◌++◌, length, take, drop, map, filter, refl, sym, ap, subst, ◌∙◌, append_assoc, append-nil, map-id, arith, flat_map, if◌then◌else◌}
+use Rattle.std.proofs.Common.{◌≡◌, ◌^◌, ◌≢◌, ◌↔◌, ℕ, zero, suc, ◌+◌, ◌-◌, ◌<◌, ◌≤◌, min, Bool, true, false, cond, List, [], ◌∷◌, ◌++◌, length, take, drop, map, filter, refl, sym, ap, subst, ◌∙◌, append_assoc, append-nil, map-id, arith, flat_map, if◌then◌else◌}
 use Rattle.std.specs.Prelude.{◌==◌}
 use Rattle.std.specs.Int.{bit_at}
 use Rattle.std.specs.List.{range_with_len}
 use Rattle.std.specs.Ordering.{on}
 use Rattle.std.specs.declared.cmp.Ordering.{Ordering}
-use Rattle.std.proofs.lemmas.Bool.{eq-eqb, ne_eqb, true≢false}
+use Rattle.std.proofs.lemmas.Bool.{ne_eqb, true≢false}
 use Rattle.std.proofs.lemmas.List.Concat.{flat_map-append}
 use Rattle.std.proofs.lemmas.List.{length-drop, take_min, drop_min}
 use Rattle.std.proofs.lemmas.List.FromFn.{filter_of_map_range_with_len_more}
@@ -116,21 +116,13 @@ all_below id mask h = refl
 
 -- ---- answers to sums
 
-zero_chosen : {A : Type 0} (mask : ℕ) (x y : A) → mask ≡ 0 → x ≡ if mask == 0 then x else y
-zero_chosen mask x y none = sym (ap (λ (t : Bool). if t then x else y) (eq-eqb mask 0 none))
-
 other_chosen : {A : Type 0} (mask : ℕ) (x y : A) → (mask ≡ 0 → ⊥) → y ≡ if mask == 0 then x else y
 other_chosen mask x y some = sym (ap (λ (t : Bool). if t then x else y) (ne_eqb mask 0 some))
 
 differing_from : (theirs own : List (List ℕ)) (h : HistoryView) (mask : ℕ) → own ≡ sums_of (entries_of h) → ((bucket : ℕ) → bucket < BUCKETS → (bit_at mask bucket ≡ 1) ↔ (sum_at theirs bucket ≢ sum_at own bucket)) → IsDiffering theirs h mask
 differing_from theirs own h mask is differ = λ bucket low. subst (λ (sums : List (List ℕ)). (bit_at mask bucket ≡ 1) ↔ (sum_at theirs bucket ≢ sum_at sums bucket)) is (differ bucket low)
 
-pub nothing_differs : (id : ℕ) (theirs own : List (List ℕ)) (h : HistoryView) (frames : List Frame) (mask : ℕ) → mask < 18446744073709551616 → own ≡ sums_of (entries_of h)
-    → ((bucket : ℕ) → bucket < BUCKETS → (bit_at mask bucket ≡ 1) ↔ (sum_at theirs bucket ≢ sum_at own bucket)) → mask ≡ 0 → frames ≡ [] → AnswersSums id h theirs frames
-nothing_differs id theirs own h frames mask fits is differ none all =
-    (mask, fits, differing_from theirs own h mask is differ, all ∙ zero_chosen mask [] (wanted_frames id h mask ++ Want id mask ∷ []) none)
-
-pub some_differ : (id : ℕ) (theirs own : List (List ℕ)) (h : HistoryView) (frames : List Frame) (mask : ℕ) → mask < 18446744073709551616 → own ≡ sums_of (entries_of h)
+pub some_differ : (id : ℕ) (theirs own : List (List ℕ)) (h : HistoryView) (frames : List Frame) (mask : ℕ) → mask < 2 ^ 64 → own ≡ sums_of (entries_of h)
     → ((bucket : ℕ) → bucket < BUCKETS → (bit_at mask bucket ≡ 1) ↔ (sum_at theirs bucket ≢ sum_at own bucket)) → (mask ≡ 0 → ⊥) → frames ≡ wanted_frames id h mask ++ Want id mask ∷ [] → AnswersSums id h theirs frames
 some_differ id theirs own h frames mask fits is differ some all =
     (mask, fits, differing_from theirs own h mask is differ, all ∙ other_chosen mask [] (wanted_frames id h mask ++ Want id mask ∷ []) some)

@@ -1,5 +1,5 @@
 -- What frames teach a replica one after the other, and what a round of gossip comes to.
-use Rattle.std.proofs.Common.{◌≡◌, ◌⊎◌, inl, inr, ℕ, zero, suc, ◌+◌, ◌<◌, ◌≤◌, Bool, true, false, ◌&&◌, ◌||◌, cond, List, [], ◌∷◌, ◌++◌, length, take, drop, map, filter, None, refl, sym, ap, subst, ◌∙◌, append_assoc, arith, flat_map, if◌then◌else◌}
+use Rattle.std.proofs.Common.{◌≡◌, ◌^◌, ◌⊎◌, inl, inr, ℕ, zero, suc, ◌+◌, ◌<◌, ◌≤◌, Bool, true, false, ◌&&◌, ◌||◌, cond, List, [], ◌∷◌, ◌++◌, length, take, drop, map, filter, None, refl, sym, ap, subst, ◌∙◌, append_assoc, arith, flat_map, if◌then◌else◌}
 use Rattle.std.specs.Prelude.{◌==◌}
 use Rattle.std.specs.Int.{bit_at}
 use Rattle.std.specs.List.{AllByRecursion, list_any, range_with_len}
@@ -297,7 +297,7 @@ collision_too : (h g : HistoryView) → IsCollision h g → IsCollision g h
 collision_too h g c = record { bucket = c.bucket; low = c.low; differ = (λ same. c.differ (sym same)); same_sum = sym c.same_sum }
 
 -- no bit of a mask is set where no sum differs
-own_mask : (mask : ℕ) (h : HistoryView) → mask < 18446744073709551616 → IsDiffering (sums_of (entries_of h)) h mask → mask ≡ 0
+own_mask : (mask : ℕ) (h : HistoryView) → mask < 2 ^ 64 → IsDiffering (sums_of (entries_of h)) h mask → mask ≡ 0
 own_mask mask h fits differ = same_from_bits_below 64 mask 0 fits (omega arith) (λ bucket low.
     let clear : bit_at mask bucket ≡ 0 = clear_bit (bit_at mask bucket) (bit_at-lt mask bucket) (λ set. (differ bucket low).0 set refl) in
     clear ∙ sym (bit_at-zero bucket))

@@ -12,7 +12,8 @@ use Rattle.warm_rank.proofs.VictimLemmas.{victim_is_farthest}
 use Rattle.warm_pool.specs.declared.slot.Slot.{Slot}
 use Rattle.warm_pool.specs.declared.fault.PoolFault.{PoolFault}
 use Rattle.warm_pool.specs.declared.fault.PoolFault.TheVariants.{NoDevice, NoPage, AllFixed, ReadFault, WriteBack, FixesFull, OutOfPage, Fixed, Fault}
-use Rattle.warm_pool.specs.View.{PoolView, FrameView, frame_at, unfixed_pages, FailsAt}
+use Rattle.warm_pool.specs.View.{PoolView, FrameView, frame_at, unfixed_pages}
+use Rattle.warm_pool.specs.Keeping.{FailsAt}
 use Rattle.warm_pool.specs.Pinning.{AddsFix, PutsIn, PutRefused, LoadRefused, PinRefused}
 use Rattle.warm_pool.proofs.Slots.{at_set}
 use Rattle.warm_gossip.specs.declared.call.Call.{Call}

@@ -6,7 +6,8 @@ use Rattle.warm_stamps.specs.declared.Reference.{Reference}
 use Rattle.warm_history.specs.ReferenceSets.{ReferenceSet, these}
 use Rattle.warm_history.specs.Histories.{history, refs}
 use Rattle.warm_rank.specs.Ranking.{leaving_cmp, IsBefore, IsVictim, warm}
-use Rattle.warm_pool.specs.View.{PoolView, FrameView, DeviceView, device_at, contents_at, frame_at, IsAbsent, KeepsContents}
+use Rattle.warm_pool.specs.View.{PoolView, FrameView, DeviceView, device_at, contents_at, frame_at, IsAbsent}
+use Rattle.warm_pool.specs.Keeping.{KeepsContents}
 use Rattle.warm_pool.specs.Pinning.{IsFull, PutsIn}
 use Rattle.warm_gossip.specs.declared.call.Call.TheVariants.{WarmStep}
 use Rattle.warm_gossip.specs.declared.call.Reply.TheVariants.{Loaded}

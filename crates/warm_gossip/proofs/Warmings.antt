@@ -6,7 +6,7 @@ use Rattle.warm_history.proofs.JoinLemmas.{history_of_own_references}
 use Rattle.warm_rank.specs.Ranking.{warm}
 use Rattle.warm_pool.specs.declared.slot.Slot.{Slot}
 use Rattle.warm_pool.specs.declared.fault.PoolFault.{PoolFault}
-use Rattle.warm_pool.specs.declared.fault.PoolFault.TheVariants.{Memory, BadFrames, SizeDiffers, NoDevice, NoPage, AllFixed, ReadFault, WriteBack, FixesFull, OutOfPage, Fixed, Fault}
+use Rattle.warm_pool.specs.declared.fault.PoolFault.TheVariants.{NoDevice, NoPage}
 use Rattle.warm_pool.specs.State.{PoolState, IsPool}
 use Rattle.warm_pool.specs.View.{view_of, PoolView}
 use Rattle.warm_pool.specs.Pinning.{Loaded, LoadRefused, PutsIn, PutRefused}
@@ -24,16 +24,7 @@ loaded_in {h} {k} {v} {w} {p} {slot} is loadable loaded = subst (λ (l : History
 refused_in : (h : HistoryView) {v : PoolView} {p : PageId} (w : PoolView) (why : PoolFault) → IsLoadable v p → LoadRefused h v p why w → PutRefused h v p why w
 refused_in h w NoDevice loadable refused = let there = loadable.0.device in absurd (omega arith)
 refused_in h w NoPage loadable refused = let there = loadable.0.number in absurd (omega arith)
-refused_in h w Memory loadable refused = refused.2
-refused_in h w BadFrames loadable refused = refused.2
-refused_in h w SizeDiffers loadable refused = refused.2
-refused_in h w AllFixed loadable refused = refused.2
-refused_in h w ReadFault loadable refused = refused.2
-refused_in h w WriteBack loadable refused = refused.2
-refused_in h w FixesFull loadable refused = refused.2
-refused_in h w OutOfPage loadable refused = refused.2
-refused_in h w Fixed loadable refused = refused.2
-refused_in h w Fault loadable refused = refused.2
+refused_in h w why loadable refused = refused.2
 
 -- or it is refused as a page is that has a device
 pub load_refused_in : {h k : HistoryView} {v : PoolView} {p : PageId} (w : PoolView) (why : PoolFault) → k ≡ h → IsLoadable v p → LoadRefused k v p why w → PutRefused h v p why w

@@ -1,5 +1,5 @@
 -- What a node sends, and what it answers to a frame.
-use Rattle.std.specs.Prelude.{◌≡◌, ◌≢◌, ◌↔◌, ℕ, zero, suc, ◌==◌, ◌<◌, List, [], ◌∷◌, ◌++◌, length, take, drop, map, filter, Option, if◌then◌else◌}
+use Rattle.std.specs.Prelude.{◌≡◌, ◌^◌, ◌≢◌, ◌↔◌, ℕ, zero, suc, ◌==◌, ◌<◌, List, [], ◌∷◌, ◌++◌, length, take, drop, map, filter, Option, if◌then◌else◌}
 use Rattle.std.specs.List.{flat_map, range_with_len}
 use Rattle.std.specs.Int.{bit_at}
 use Rattle.warm_stamps.specs.declared.PageId.{PageId}
@@ -45,7 +45,7 @@ IsDiffering sums h mask = (bucket : ℕ) → bucket < BUCKETS → (bit_at mask b
 
 -- The answer to sums: the entries of the buckets that differ, and then a wish for these; nothing where none differs.
 abbrev pub AnswersSums : ℕ → HistoryView → List (List ℕ) → List Frame → Type 0
-AnswersSums id h sums frames = (mask : ℕ) × (mask < 18446744073709551616) × IsDiffering sums h mask
+AnswersSums id h sums frames = (mask : ℕ) × (mask < 2 ^ 64) × IsDiffering sums h mask
     × (frames ≡ if mask == 0 then [] else wanted_frames id h mask ++ Want id mask ∷ [])
 
 -- What a replica of this id and history answers to a frame: nothing to entries; to a wish its entries of these buckets.

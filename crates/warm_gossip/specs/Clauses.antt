@@ -1,6 +1,6 @@
 -- What clauses say of a node. Its devices are boxed: `state`, the ghost member of `PageDevice` that a clause has at hand, reads the
 -- state of each, and comes first.
-use Rattle.std.specs.Prelude.{◌≡◌, ℕ, List, length, None, Result, Ok, Err}
+use Rattle.std.specs.Prelude.{◌≡◌, ℕ, List, None, Result, Ok, Err}
 use Rattle.std.specs.declared.alloc.Global.{Global}
 use Rattle.std.specs.declared.dyn_box.DynBox.{DynBox}
 use Rattle.warm_history.specs.declared.hist.Entry.{Entry}

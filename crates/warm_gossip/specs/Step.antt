@@ -2,13 +2,14 @@
 use Rattle.std.specs.Prelude.{◌≡◌, ℕ, ◌+◌, ◌<◌, ◌≤◌, List, [], length, Option, Some, None, slice_index_or}
 use Rattle.warm_stamps.specs.declared.PageId.{PageId}
 use Rattle.warm_history.specs.ReferenceSets.{these, ◌∪◌}
-use Rattle.warm_history.specs.Histories.{HistoryView, entries_of, holding, history, refs}
+use Rattle.warm_history.specs.Histories.{entries_of, holding, history, refs}
 use Rattle.warm_rank.specs.Ranking.{IsVictim, warm}
 use Rattle.warm_frames.specs.declared.frame.Frame.TheVariants.{Digest}
 use Rattle.warm_digest.specs.BucketSums.{sums_of}
 use Rattle.warm_pool.specs.declared.fault.PoolFault.TheVariants.{OutOfPage, Fixed, Fault}
 use Rattle.warm_pool.specs.declared.slot.Slot.{Slot}
-use Rattle.warm_pool.specs.View.{PoolView, HasPage, IsAbsent, Holds, unfixed_pages, FailsAt, IsFixed, IsUnfixed}
+use Rattle.warm_pool.specs.View.{PoolView, HasPage, IsAbsent, Holds, unfixed_pages, IsFixed, IsUnfixed}
+use Rattle.warm_pool.specs.Keeping.{FailsAt}
 use Rattle.warm_pool.specs.Pinning.{Pinned as PinnedIn, PinRefused, PutsIn, PutRefused, unpinned}
 use Rattle.warm_pool.specs.PageBytes.{IsRead, Written}
 use Rattle.warm_pool.specs.Retiring.{Emptied}

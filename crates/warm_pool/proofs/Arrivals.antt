@@ -9,7 +9,8 @@ use Rattle.warm_devices.specs.declared.fault.DeviceFault.{DeviceFault}
 use Rattle.warm_devices.specs.declared.fault.DeviceFault.TheVariants.{Read}
 use Rattle.warm_pool.specs.Frames.{FrameState, FramesState, nth_frame, fresh_frame, cleaned}
 use Rattle.warm_pool.specs.State.{PoolState, IsPool, IsNowhere, nth_device}
-use Rattle.warm_pool.specs.View.{view_of, PoolView, FailsAt, KeepsContents}
+use Rattle.warm_pool.specs.View.{view_of, PoolView}
+use Rattle.warm_pool.specs.Keeping.{FailsAt, KeepsContents}
 use Rattle.warm_pool.specs.WritingBack.{KeptDevices, Cleans, CleanFails}
 use Rattle.warm_pool.specs.Pinning.{LoadsInto}
 use Rattle.warm_pool.specs.DeviceCalls.{PageRead}

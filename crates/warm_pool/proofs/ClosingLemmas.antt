@@ -1,12 +1,11 @@
 -- Frames whose pages go to their devices one after the other.
-use Rattle.std.proofs.Common.{◌≡◌, ℕ, zero, suc, ◌+◌, ◌<◌, ◌≤◌, cond, true, false, IsTrue, List, [], ◌∷◌, length, map, set, Option, refl, sym, ap, ◌∙◌, subst, arith}
-use Rattle.std.proofs.lemmas.List.{set-get_or}
+use Rattle.std.proofs.Common.{◌≡◌, ℕ, zero, suc, ◌+◌, ◌<◌, ◌≤◌, cond, true, false, IsTrue, List, [], ◌∷◌, length, set, Option, refl, sym, ap, ◌∙◌, subst, arith}
 use Rattle.warm_devices.specs.Device.{DeviceState, SameShape}
-use Rattle.warm_pool.specs.Frames.{FrameState, nth_frame, cleaned, fresh_frame}
+use Rattle.warm_pool.specs.Frames.{FrameState, nth_frame, cleaned}
 use Rattle.warm_pool.specs.State.{PoolState, nth_device}
-use Rattle.warm_pool.specs.View.{view_of, FailsAt}
-use Rattle.warm_pool.specs.WritingBack.{KeptDevices, Cleans, CleanFails, PutsDown, StopsAt, clean_if, cleaned_chosen, is_chosen}
-use Rattle.warm_pool.proofs.FlushLemmas.{same_shape}
+use Rattle.warm_pool.specs.View.{view_of}
+use Rattle.warm_pool.specs.Keeping.{FailsAt}
+use Rattle.warm_pool.specs.WritingBack.{KeptDevices, CleanFails, PutsDown, StopsAt, clean_if, cleaned_chosen, is_chosen}
 
 -- a frame that may have been cleaned has the page that it had, and isn't dirty if it wasn't
 pub clean_page : (which : Option ℕ) (f : FrameState) → (clean_if which f).page ≡ f.page
@@ -20,10 +19,6 @@ pub clean_more : (which : Option ℕ) (n : ℕ) (frames : List FrameState) → n
 clean_more which n [] lt = absurd (omega arith)
 clean_more which zero (f ∷ frames) lt = refl
 clean_more which (suc n) (f ∷ frames) lt = ap (λ rest. clean_if which f ∷ rest) (clean_more which n frames (omega arith))
-
-pub clean_all : (which : Option ℕ) (frames : List FrameState) → cleaned_chosen which (length frames) frames ≡ map (clean_if which) frames
-clean_all which [] = refl
-clean_all which (f ∷ frames) = ap (λ rest. clean_if which f ∷ rest) (clean_all which frames)
 
 -- each frame as it was or clean
 pub nth_page : (which : Option ℕ) (n : ℕ) (frames : List FrameState) (i : ℕ) → (nth_frame (cleaned_chosen which n frames) i).page ≡ (nth_frame frames i).page
@@ -45,9 +40,6 @@ nth_rest which (suc n) [] i le = refl
 nth_rest which (suc n) (f ∷ frames) zero le = absurd (omega arith)
 nth_rest which (suc n) (f ∷ frames) (suc i) le = nth_rest which n frames i (omega arith)
 
-pub kept_same : (frames : List FrameState) (devices : List DeviceState) → KeptDevices frames devices devices
-kept_same frames devices = record { count = refl; shape = λ k. same_shape (nth_device devices k); absent = λ p away. refl; clean = λ i p holds clean. refl }
-
 shape_both : (a b c : DeviceState) → SameShape a b → SameShape b c → SameShape a c
 shape_both a b c ab bc = record { pages = bc.pages ∙ ab.pages; page_size = bc.page_size ∙ ab.page_size; honest = bc.honest ∙ ab.honest; unfailing = bc.unfailing ∙ ab.unfailing }
 
@@ -59,28 +51,6 @@ kept_both frames later a b c pages clean ab bc = record {
   shape = λ k. shape_both (nth_device a k) (nth_device b k) (nth_device c k) (ab.shape k) (bc.shape k);
   absent = λ p away. bc.absent p (λ i is. away i (sym (pages i) ∙ is)) ∙ ab.absent p away;
   clean = λ i p holds is. bc.clean i p (pages i ∙ holds) (clean i is) ∙ ab.clean i p holds is;
-}
-
--- nothing is put down where nothing is done
-pub down_none : (which : Option ℕ) (s : PoolState) → PutsDown (cleaned_chosen which 0 s.frames) s s
-down_none which s = record { becomes = refl; devices = kept_same s.frames s.devices; failures = refl; same = (refl, refl) }
-
--- where a frame isn't concerned
-pub down_other : (which : Option ℕ) (s : PoolState) (i : ℕ) → is_chosen which (nth_frame s.frames i).page ≡ false → PutsDown (set s.frames i (clean_if which (nth_frame s.frames i))) s s
-down_other which s i isnt = record {
-  becomes = sym (ap (λ t. set s.frames i (cond t (cleaned (nth_frame s.frames i)) (nth_frame s.frames i))) isnt ∙ set-get_or s.frames i (fresh_frame []));
-  devices = kept_same s.frames s.devices;
-  failures = refl;
-  same = (refl, refl);
-}
-
--- where it is
-pub down_one : (which : Option ℕ) (s t : PoolState) (i : ℕ) → is_chosen which (nth_frame s.frames i).page ≡ true → Cleans s i t → PutsDown (set s.frames i (clean_if which (nth_frame s.frames i))) s t
-down_one which s t i is cleans = record {
-  becomes = cleans.frames ∙ ap (λ b. set s.frames i (cond b (cleaned (nth_frame s.frames i)) (nth_frame s.frames i))) (sym is);
-  devices = cleans.devices;
-  failures = cleans.failures;
-  same = cleans.same;
 }
 
 pub down_more : (which : Option ℕ) (n : ℕ) (s t u : PoolState) → n < length s.frames → PutsDown (cleaned_chosen which n s.frames) s t → PutsDown (set t.frames n (clean_if which (nth_frame t.frames n))) t u → PutsDown (cleaned_chosen which (n + 1) s.frames) s u

@@ -11,10 +11,12 @@ use Rattle.warm_devices.specs.Device.{DeviceState, SameShape, CountsFault, Chang
 use Rattle.warm_devices.specs.declared.fault.DeviceFault.{DeviceFault}
 use Rattle.warm_pool.specs.Frames.{FrameState, nth_frame}
 use Rattle.warm_pool.specs.State.{PoolState, IsPool, no_device, nth_device}
-use Rattle.warm_pool.specs.View.{stored, view_of, device_view, PoolView, FailsAt}
+use Rattle.warm_pool.specs.View.{stored, view_of, device_view, PoolView}
+use Rattle.warm_pool.specs.Keeping.{FailsAt}
 use Rattle.warm_pool.specs.WritingBack.{KeptDevices}
 use Rattle.warm_pool.specs.DeviceCalls.{PageRead, PageWrite}
 use Rattle.warm_pool.proofs.Slots.{at_set}
+use Rattle.warm_pool.proofs.FlushLemmas.{same_shape}
 use Rattle.warm_pool.proofs.Bytes.{same_page, device_seen}
 use Rattle.warm_pool.proofs.Keeps.{view_of_kept}
 
@@ -31,10 +33,6 @@ lent_whole n new old e h = grind (arith, common_steps)
 pub lent_bytes : {T E : Type 0} (P : Type 0) (result : Result T E) (n : ℕ) (new old there : List ℕ) → n ≡ length old → length new ≡ length old
     → OnOk result (P → new ≡ there) → OnOk result (P → take n (new ++ drop (length new) old) ≡ there)
 lent_bytes {T} {E} P result n new old there e h k = subst (λ l. OnOk result (P → l ≡ there)) (sym (lent_whole n new old e h)) k
-
--- the same device
-pub same_shape : (d : DeviceState) → SameShape d d
-same_shape d = record { pages = refl; page_size = refl; honest = refl; unfailing = refl }
 
 -- one device of a list changed to another of its shape
 pub shapes_set : (old new : List DeviceState) (k : ℕ) (e : DeviceState) → k < length old → new ≡ set old k e → SameShape (nth_device old k) e

@@ -11,12 +11,13 @@ use Rattle.warm_devices.specs.Device.{DeviceState, page_at}
 use Rattle.warm_rank.specs.declared.TheConstants.{MAX_SLOTS}
 use Rattle.warm_pool.specs.Frames.{FrameState, FramesState, nth_frame, fresh_frame, vacated}
 use Rattle.warm_pool.specs.State.{PoolState, IsPool, IsNowhere, IsSettled, nth_device}
-use Rattle.warm_pool.specs.View.{stored, view_of, frame_view, bytes_of, PoolView, HasPage, contents_at, device_at, KeepsContents}
+use Rattle.warm_pool.specs.View.{stored, view_of, frame_view, bytes_of, PoolView, HasPage, contents_at, device_at}
+use Rattle.warm_pool.specs.Keeping.{KeepsContents}
 use Rattle.warm_pool.specs.WritingBack.{PutsDown, is_chosen, clean_if, cleaned_chosen}
 use Rattle.warm_pool.specs.Retiring.{Emptied, emptied, AreUnfixed, vacate_if, vacated_chosen}
 use Rattle.warm_pool.specs.Flushes.{NoneWaits}
 use Rattle.warm_pool.proofs.Bytes.{bytes_nowhere, where_is, contents_seen, contents_beyond, device_seen, device_there, frame_seen}
-use Rattle.warm_pool.proofs.Keeps.{stored_honest}
+use Rattle.warm_pool.proofs.Keeps.{pool_from, stored_honest}
 use Rattle.warm_pool.proofs.ClosingLemmas.{nth_page}
 use Rattle.warm_pool.proofs.SettleLemmas.{down_view, settled}
 use Rattle.warm_pool.proofs.VacateLemmas.{length-vacated}
@@ -171,14 +172,11 @@ module _ (t : PoolState) (w : IsPool t) (clean : (i : ℕ) → (nth_frame t.fram
   empty_settled none = record { clean = λ i. ap (λ f. f.dirty) (nth_vacated None t.frames i) ∙ vacate_dirty None (nth_frame t.frames i) (clean i); flushed = none }
 
 -- the same, where the frames are said by an equation
-abbrev pooled : FramesState → ℕ → List DeviceState → PoolState
-pooled frames spare devices = record { page_size = frames.page_size; spare = spare; frames = frames.frames; devices = devices }
+pub becomes_empty : (P : PoolState → Type 0) (which : Option ℕ) (old new : FramesState) (spare : ℕ) (devices : List DeviceState) → new ≡ record old { frames = vacated_chosen which old.frames } → P (record (pool_from old spare devices) { frames = vacated_chosen which old.frames }) → P (pool_from new spare devices)
+becomes_empty P which old new spare devices is holds = subst (λ frames. P (pool_from frames spare devices)) (sym is) holds
 
-pub becomes_empty : (P : PoolState → Type 0) (which : Option ℕ) (old new : FramesState) (spare : ℕ) (devices : List DeviceState) → new ≡ record old { frames = vacated_chosen which old.frames } → P (record (pooled old spare devices) { frames = vacated_chosen which old.frames }) → P (pooled new spare devices)
-becomes_empty P which old new spare devices is holds = subst (λ frames. P (pooled frames spare devices)) (sym is) holds
-
-pub emptied_pool : (s : PoolState) (old new : FramesState) (spare : ℕ) (devices : List DeviceState) → PutsDown (cleaned_chosen None (length s.frames) s.frames) s (pooled old spare devices) → NoneWaits devices → AreUnfixed None s.frames → IsPool (pooled old spare devices) → new ≡ record old { frames = vacated_chosen None old.frames } → Emptied (view_of s) (view_of (pooled new spare devices))
+pub emptied_pool : (s : PoolState) (old new : FramesState) (spare : ℕ) (devices : List DeviceState) → PutsDown (cleaned_chosen None (length s.frames) s.frames) s (pool_from old spare devices) → NoneWaits devices → AreUnfixed None s.frames → IsPool (pool_from old spare devices) → new ≡ record old { frames = vacated_chosen None old.frames } → Emptied (view_of s) (view_of (pool_from new spare devices))
 emptied_pool s old new spare devices down none unfixed pool is =
-    let t : PoolState = pooled old spare devices in
+    let t : PoolState = pool_from old spare devices in
     becomes_empty (λ u. Emptied (view_of s) (view_of u)) None old new spare devices is
     (empty_view t pool (settled s t down none).clean s (down_view None (length s.frames) s t down) unfixed)

@@ -8,11 +8,9 @@ use Rattle.warm_devices.specs.declared.fault.DeviceFault.TheVariants.{Flush}
 use Rattle.warm_pool.specs.State.{nth_device, no_device}
 use Rattle.warm_pool.specs.Flushes.{IsFlushed, FlushFails, DeviceFlush, FlushedTo, FlushStops, NoneWaits}
 
+-- the same device
 pub same_shape : (d : DeviceState) → SameShape d d
 same_shape d = record { pages = refl; page_size = refl; honest = refl; unfailing = refl }
-
-pub flushed_none : (devices : List DeviceState) → FlushedTo 0 devices devices
-flushed_none devices = record { count = refl; done = λ k lt. absurd (omega arith); rest = λ k le. refl }
 
 nth_other : (devices : List DeviceState) (n k : ℕ) (after : DeviceState) → k ≢ n → nth_device (set devices n after) k ≡ nth_device devices k
 nth_other devices n k after ne = get_or-set_other devices n k after no_device ne

@@ -8,7 +8,8 @@ use Rattle.warm_devices.specs.Device.{page_at}
 use Rattle.warm_devices.specs.declared.fault.DeviceFault.{DeviceFault}
 use Rattle.warm_pool.specs.Frames.{FrameState, nth_frame, fresh_frame}
 use Rattle.warm_pool.specs.State.{PoolState, IsPool, IsNowhere, nth_device}
-use Rattle.warm_pool.specs.View.{stored, bytes_of, device_view, frame_view, view_of, contents_at, IsResident, KeepsContents}
+use Rattle.warm_pool.specs.View.{stored, bytes_of, device_view, frame_view, view_of, contents_at, IsResident}
+use Rattle.warm_pool.specs.Keeping.{KeepsContents}
 use Rattle.warm_pool.proofs.Bytes.{where_is, bytes_held, bytes_nowhere, contents_seen, contents_beyond, device_there, frame_seen, device_seen, nowhere_seen}
 use Rattle.warm_pool.proofs.Keeps.{Fits, set_keeps_pool, stored_honest}
 

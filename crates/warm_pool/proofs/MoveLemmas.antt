@@ -1,6 +1,6 @@
 -- A frame leaves its chain, and comes into another.
 use Rattle.std.proofs.Common.{◌≡◌, ◌≢◌, ℕ, suc, ◌<◌, ◌≤◌, List, length, get_or, set, sym, ap, refl, ◌∙◌, subst, Option, Some, None, inl, inr, ◌⊎◌, arith, get_or-set_same, get_or-set_other}
-use Rattle.std.proofs.lemmas.List.{length-set}
+use Rattle.std.proofs.lemmas.List.{get_or_read, length-set}
 use Rattle.std.proofs.lemmas.Bool.{cases_eq, cases_lt}
 use Rattle.warm_pool.specs.Chains.{IsFirstFrom, AreChains, IsLastBelow, after, link_after, heads_led, next_led, loose}
 use Rattle.warm_pool.proofs.ChainLemmas.{not_after, link_first, outside, of_others, passed_over, comes_first, comes_before, other_than, same_count}
@@ -157,3 +157,19 @@ linked frames heads next b f last lt in_heads is chains is_last =
             (next_after frames heads next b f b f last lt in_heads chains is_last leads others y ne (subst (λ m. y < m) (same_count frames f b) low) (omega (arith, same, in_chain, length-heads_led heads b last f))))
       ];
     }
+
+-- the same, of links that were told so
+pub unlinked_to : (frames heads next heads' next' : List ℕ) (b f to : ℕ) (last : Option ℕ) → f < length frames → b < length heads → get_or frames f 0 ≡ b → AreChains frames heads next → IsLastBelow frames b f last
+    → to ≡ get_or next f to → heads' ≡ heads_led heads b last to → next' ≡ next_led next last to → AreChains (loose frames f heads) heads' next'
+unlinked_to frames heads next heads' next' b f to last lt in_heads is chains is_last read heads_are next_are =
+    let there : to ≡ get_or next f 0 = get_or_read next f to (subst (λ n. f < n) (sym chains.next_room) lt) read 0 in
+    subst (λ hs. AreChains (loose frames f heads) hs next') (sym (heads_are ∙ ap (heads_led heads b last) there))
+    (subst (λ ns. AreChains (loose frames f heads) (heads_led heads b last (get_or next f 0)) ns) (sym (next_are ∙ ap (next_led next last) there))
+    (unlinked frames heads next b f last lt in_heads is chains is_last))
+
+pub linked_to : (frames heads next heads' next' : List ℕ) (b f link : ℕ) (last : Option ℕ) → f < length frames → b < length heads → get_or frames f 0 ≡ length heads → AreChains frames heads next → IsLastBelow frames b f last
+    → link ≡ link_after heads next b last → heads' ≡ heads_led heads b last f → next' ≡ next_led (set next f link) last f → AreChains (set frames f b) heads' next'
+linked_to frames heads next heads' next' b f link last lt in_heads is chains is_last follows heads_are next_are =
+    subst (λ hs. AreChains (set frames f b) hs next') (sym heads_are)
+    (subst (λ ns. AreChains (set frames f b) (heads_led heads b last f) ns) (sym (next_are ∙ ap (λ (to : ℕ). next_led (set next f to) last f) follows))
+    (linked frames heads next b f last lt in_heads is chains is_last))

@@ -13,22 +13,22 @@ use Rattle.warm_pool.specs.State.{IsPool, RankedBy, opened}
 use Rattle.warm_pool.specs.Opening.{IsUpTo, IsSize}
 use Rattle.warm_pool.proofs.Keeps.{pool_from}
 
-record IsBare (f : FrameState) : Type 0 where
+record IsUnused (f : FrameState) : Type 0 where
   pub page : f.page ≡ None
   pub key : f.key ≡ None
   pub fixes : f.fixes ≡ 0
   pub dirty : f.dirty ≡ false
 
-fresh_bare : (bytes : List ℕ) → IsBare (fresh_frame bytes)
-fresh_bare bytes = record { page = refl; key = refl; fixes = refl; dirty = refl }
+fresh_unused : (bytes : List ℕ) → IsUnused (fresh_frame bytes)
+fresh_unused bytes = record { page = refl; key = refl; fixes = refl; dirty = refl }
 
-nth_bare : (n : ℕ) (bytes : List ℕ) (i : ℕ) → IsBare (nth_frame (replicate n (fresh_frame bytes)) i)
-nth_bare zero bytes i = fresh_bare _
-nth_bare (suc n) bytes zero = fresh_bare bytes
-nth_bare (suc n) bytes (suc i) = nth_bare n bytes i
+nth_unused : (n : ℕ) (bytes : List ℕ) (i : ℕ) → IsUnused (nth_frame (replicate n (fresh_frame bytes)) i)
+nth_unused zero bytes i = fresh_unused _
+nth_unused (suc n) bytes zero = fresh_unused bytes
+nth_unused (suc n) bytes (suc i) = nth_unused n bytes i
 
 no_page : (n : ℕ) (bytes : List ℕ) (i : ℕ) (p : PageId) → (nth_frame (replicate n (fresh_frame bytes)) i).page ≡ Some p → ⊥
-no_page n bytes i p e = let none : None ≡ Some p = sym (nth_bare n bytes i).page ∙ e in absurd (cc)
+no_page n bytes i p e = let none : None ≡ Some p = sym (nth_unused n bytes i).page ∙ e in absurd (cc)
 
 opened_is_pool : (n size : ℕ) (ds : List DeviceState) → IsUpTo MAX_SLOTS n → IsSize size ds → length ds ≤ 65536 → IsPool (opened n size ds)
 opened_is_pool n size ds up sized few = record {
@@ -45,7 +45,7 @@ opened_is_pool n size ds up sized few = record {
   has_page = λ i p e. absurd (no_page n (replicate size 0) i p e);
   once = λ i j p e o. absurd (no_page n (replicate size 0) i p e);
   clean = λ i p e z o. absurd (no_page n (replicate size 0) i p e);
-  bare = λ i e. let b = nth_bare n (replicate size 0) i in (b.key, b.fixes, b.dirty);
+  bare = λ i e. let b = nth_unused n (replicate size 0) i in (b.key, b.fixes, b.dirty);
 }
 
 -- the parts of a new pool
@@ -59,4 +59,4 @@ module _ (frames : FramesState) (spare n size : ℕ) (ds : List DeviceState)
 
   pub opened_ranked : (h : HistoryView) → RankedBy (pool_from frames spare ds) h
   opened_ranked h = subst (λ s. RankedBy s h) (sym opened_state)
-      (λ i. let b = nth_bare n (replicate size 0) i in b.key ∙ ap (option_map (λ p. rank_key p (hist (refs h) p))) (sym b.page))
+      (λ i. let b = nth_unused n (replicate size 0) i in b.key ∙ ap (option_map (λ p. rank_key p (hist (refs h) p))) (sym b.page))

@@ -8,10 +8,11 @@ use Rattle.warm_rank.specs.declared.RankKey.{RankKey}
 use Rattle.warm_rank.specs.Keys.{rank_key}
 use Rattle.warm_pool.specs.declared.slot.Slot.{Slot}
 use Rattle.warm_pool.specs.declared.fault.PoolFault.{PoolFault}
-use Rattle.warm_pool.specs.declared.fault.PoolFault.TheVariants.{Memory, BadFrames, SizeDiffers, NoDevice, NoPage, AllFixed, ReadFault, WriteBack, FixesFull, OutOfPage, Fixed, Fault}
+use Rattle.warm_pool.specs.declared.fault.PoolFault.TheVariants.{NoDevice, NoPage, AllFixed, ReadFault, WriteBack, FixesFull}
 use Rattle.warm_pool.specs.Frames.{nth_frame}
 use Rattle.warm_pool.specs.State.{PoolState, IsPool, RankedBy, IsNowhere}
-use Rattle.warm_pool.specs.View.{frame_view, view_of, PoolView, FrameView, frame_at, HasPage, IsAbsent, Holds, SameButFailures}
+use Rattle.warm_pool.specs.View.{frame_view, view_of, PoolView, FrameView, frame_at, HasPage, IsAbsent, Holds}
+use Rattle.warm_pool.specs.Keeping.{SameButFailures}
 use Rattle.warm_pool.specs.Pinning.{IsPlace, AddsFix, PutsIn, Pinned, Loaded, PutRefused, LoadRefused, PinRefused, LoadsInto, LoadFails}
 use Rattle.warm_pool.proofs.Bytes.{frame_seen, absent_seen}
 use Rattle.warm_pool.proofs.Keeps.{ranked_set}
@@ -28,30 +29,12 @@ put_refused {s} {t} w v h i p place room ReadFault l =
     ((i, record { place = place; room = subst (λ f. f.generation < 2 ^ 64 - 1) (sym (frame_seen s i)) room }), l.1)
 put_refused {s} {t} w v h i p place room WriteBack l =
     (i, l.page, record { place = place; room = subst (λ f. f.generation < 2 ^ 64 - 1) (sym (frame_seen s i)) room }, ap (λ f. f.page) (frame_seen s i) ∙ l.holds, l.fails)
-put_refused {s} {t} w v h i p place room Memory l = absurd l
-put_refused {s} {t} w v h i p place room BadFrames l = absurd l
-put_refused {s} {t} w v h i p place room SizeDiffers l = absurd l
-put_refused {s} {t} w v h i p place room NoDevice l = absurd l
-put_refused {s} {t} w v h i p place room NoPage l = absurd l
-put_refused {s} {t} w v h i p place room AllFixed l = absurd l
-put_refused {s} {t} w v h i p place room FixesFull l = absurd l
-put_refused {s} {t} w v h i p place room OutOfPage l = absurd l
-put_refused {s} {t} w v h i p place room Fixed l = absurd l
-put_refused {s} {t} w v h i p place room Fault l = absurd l
+put_refused {s} {t} w v h i p place room why l = absurd l
 
 pub same_frames : (s t : PoolState) (i : ℕ) (p : PageId) (why : PoolFault) → LoadFails s i p why t → t.frames ≡ s.frames
 same_frames s t i p ReadFault l = l.0
 same_frames s t i p WriteBack l = l.frames
-same_frames s t i p Memory l = absurd l
-same_frames s t i p BadFrames l = absurd l
-same_frames s t i p SizeDiffers l = absurd l
-same_frames s t i p NoDevice l = absurd l
-same_frames s t i p NoPage l = absurd l
-same_frames s t i p AllFixed l = absurd l
-same_frames s t i p FixesFull l = absurd l
-same_frames s t i p OutOfPage l = absurd l
-same_frames s t i p Fixed l = absurd l
-same_frames s t i p Fault l = absurd l
+same_frames s t i p why l = absurd l
 
 pub failed_ranked : {s t : PoolState} → IsPool s → IsPool t → (i : ℕ) (p : PageId) (why : PoolFault) → LoadFails s i p why t → (h : HistoryView) → RankedBy s h → RankedBy t h
 failed_ranked {s} {t} w v i p why l h r =
@@ -100,44 +83,18 @@ puts_holds h old p slot new x =
 pub load_refused : (h : HistoryView) (old : PoolView) (p : PageId) (new : PoolView) → HasPage old p → IsAbsent old p → (why : PoolFault) → PutRefused h old p why new → LoadRefused h old p why new
 load_refused h old p new has away NoDevice x = absurd x
 load_refused h old p new has away NoPage x = absurd x
-load_refused h old p new has away Memory x = (has, away, x)
-load_refused h old p new has away BadFrames x = (has, away, x)
-load_refused h old p new has away SizeDiffers x = (has, away, x)
-load_refused h old p new has away AllFixed x = (has, away, x)
-load_refused h old p new has away ReadFault x = (has, away, x)
-load_refused h old p new has away WriteBack x = (has, away, x)
-load_refused h old p new has away FixesFull x = (has, away, x)
-load_refused h old p new has away OutOfPage x = (has, away, x)
-load_refused h old p new has away Fixed x = (has, away, x)
-load_refused h old p new has away Fault x = (has, away, x)
+load_refused h old p new has away why x = (has, away, x)
 
 pub pin_refused : (h : HistoryView) (old : PoolView) (p : PageId) (new : PoolView) (why : PoolFault) → LoadRefused h old p why new → PinRefused h old p why new
 pin_refused h old p new FixesFull x = inr x
-pin_refused h old p new NoDevice x = x
-pin_refused h old p new NoPage x = x
-pin_refused h old p new Memory x = x
-pin_refused h old p new BadFrames x = x
-pin_refused h old p new SizeDiffers x = x
-pin_refused h old p new AllFixed x = x
-pin_refused h old p new ReadFault x = x
-pin_refused h old p new WriteBack x = x
-pin_refused h old p new OutOfPage x = x
-pin_refused h old p new Fixed x = x
-pin_refused h old p new Fault x = x
+pin_refused h old p new why x = x
 
 pub put_stays : (h : HistoryView) (old : PoolView) (p : PageId) (new : PoolView) (why : PoolFault) → PutRefused h old p why new → SameButFailures old new
 put_stays h old p new AllFixed x = stays_by old new old.failures x.1
 put_stays h old p new FixesFull x = stays_by old new old.failures x.1
 put_stays h old p new ReadFault x = stays_by old new _ x.1.becomes
 put_stays h old p new WriteBack x = stays_by old new _ x.4.becomes
-put_stays h old p new NoDevice x = absurd x
-put_stays h old p new NoPage x = absurd x
-put_stays h old p new Memory x = absurd x
-put_stays h old p new BadFrames x = absurd x
-put_stays h old p new SizeDiffers x = absurd x
-put_stays h old p new OutOfPage x = absurd x
-put_stays h old p new Fixed x = absurd x
-put_stays h old p new Fault x = absurd x
+put_stays h old p new why x = absurd x
 
 -- the outcome of a pin, from that of its last step
 module _ {s t : PoolState} (w : IsPool s) (v : IsPool t) (h : HistoryView) (p : PageId) (has : HasPage (view_of s) p) where

@@ -1,5 +1,5 @@
 -- Where a page is, where one that comes in goes, and which page leaves for it.
-use Rattle.std.proofs.Common.{◌≡◌, ◌≢◌, ℕ, ◌<◌, ◌==◌, cond, true, false, List, [], length, map, get_or, Option, Some, None, IsSome, IfSome, refl, sym, ◌∙◌, ap, subst, inl, inr}
+use Rattle.std.proofs.Common.{◌≡◌, ◌≢◌, ℕ, ◌<◌, ◌≤◌, ◌==◌, cond, true, false, List, [], length, map, get_or, Option, Some, None, IsSome, IfSome, refl, sym, ◌∙◌, ap, subst, inl, inr}
 use Rattle.std.specs.Option.{option_map}
 use Rattle.std.proofs.Math.ListN.{get_or-map as mapped}
 use Rattle.std.proofs.lemmas.Bool.{cases_eq, cases_lt, ne_eqb, eq-eqb}
@@ -15,7 +15,7 @@ use Rattle.warm_rank.proofs.SlotLemmas.{least_key_is_victim}
 use Rattle.warm_pool.specs.Frames.{FrameState, nth_frame, fresh_frame, leaving_key}
 use Rattle.warm_pool.specs.Residents.{IsPlaceOf, IsFirstFree}
 use Rattle.warm_pool.specs.State.{PoolState, IsPool, RankedBy, IsNowhere, nth_device}
-use Rattle.warm_pool.specs.View.{frame_view, device_view, view_of, frame_at, HasPage, IsResident, unfixed_page, unfixed_pages}
+use Rattle.warm_pool.specs.View.{frame_view, device_view, view_of, device_at, frame_at, HasPage, IsResident, unfixed_page, unfixed_pages}
 use Rattle.warm_pool.specs.Pinning.{IsFull, IsLeastFree, IsPlace}
 use Rattle.warm_pool.proofs.Bytes.{frame_seen, device_seen}
 
@@ -31,6 +31,10 @@ has_device {s} w p h = subst (λ m. p.dev < m) (length-map s.devices device_view
 
 pub has_number : {s : PoolState} → IsPool s → (p : PageId) → HasPage (view_of s) p → p.no < (nth_device s.devices p.dev).pages
 has_number {s} w p h = subst (λ x. p.no < x.pages) (device_seen s p.dev) h.number
+
+-- and that it hasn't the page, as a caller sees it
+pub seen_pages : {s : PoolState} → IsPool s → (p : PageId) → (nth_device s.devices p.dev).pages ≤ p.no → (device_at (view_of s) p.dev).pages ≤ p.no
+seen_pages {s} w p none = subst (λ d. d.pages ≤ p.no) (sym (device_seen s p.dev)) none
 
 -- the pages of the frames, one by one
 page_of_nth : (frames : List FrameState) (i : ℕ) → get_or (map (λ f. f.page) frames) i None ≡ (nth_frame frames i).page

@@ -3,20 +3,20 @@ use Rattle.std.proofs.Common.{◌≡◌, ◌≢◌, ℕ, ◌<◌, ◌≤◌, con
 use Rattle.std.proofs.Math.Path.{ap₂}
 use Rattle.std.proofs.lemmas.Bool.{cases_eq, cases_Bool, eqb-true, eq-eqb, false≢true}
 use Rattle.std.proofs.lemmas.List.{length-map, length-set, map-set, set-get_or}
-use Rattle.std.proofs.Math.ListN.{get_or-map as mapped}
 use Rattle.warm_stamps.specs.declared.PageId.{PageId}
 use Rattle.warm_history.specs.Histories.{HistoryView}
 use Rattle.warm_devices.specs.Device.{DeviceState, SameShape, one_more, page_at}
-use Rattle.warm_pool.specs.Frames.{FrameState, FramesState, nth_frame, vacated}
+use Rattle.warm_pool.specs.Frames.{FrameState, nth_frame, vacated}
 use Rattle.warm_pool.specs.State.{PoolState, IsPool, RankedBy, nth_device, no_device}
-use Rattle.warm_pool.specs.View.{stored, view_of, frame_view, device_view, is_page, bytes_in, FrameView, HasPage, contents_at, FailsAt}
-use Rattle.warm_pool.specs.WritingBack.{is_on, KeptDevices, PutsDown, StopsAt, cleaned_chosen}
-use Rattle.warm_pool.specs.Retiring.{Retired, MayRetire, IsFixedOn, emptied, AreUnfixed, AreClean, IsFixedIn, MakesWay, retired, vacate_if, vacated_chosen}
+use Rattle.warm_pool.specs.View.{stored, view_of, frame_view, device_view, is_page, bytes_in, FrameView, HasPage, contents_at}
+use Rattle.warm_pool.specs.Keeping.{FailsAt}
+use Rattle.warm_pool.specs.WritingBack.{is_on, KeptDevices, PutsDown, cleaned_chosen}
+use Rattle.warm_pool.specs.Retiring.{Retired, MayRetire, IsFixedOn, emptied, IsFixedIn, AreUnfixed, AreClean, MakesWay, retired, vacate_if, vacated_chosen}
 use Rattle.warm_pool.specs.Flushes.{IsFlushed, FlushFails}
 use Rattle.warm_pool.proofs.FlushLemmas.{same_shape}
 use Rattle.warm_pool.proofs.Bytes.{bytes_nowhere, contents_seen, device_seen, frame_seen, page_found}
 use Rattle.warm_pool.proofs.Keeps.{view_of_kept}
-use Rattle.warm_pool.proofs.SettleLemmas.{AreAlike, alike_kept, down_view, flush_down, flush_fails_at}
+use Rattle.warm_pool.proofs.SettleLemmas.{AreAlike, counts, count_at, alike_kept, down_view, flush_down, flush_fails_at}
 use Rattle.warm_pool.proofs.VacateLemmas.{clean_to}
 use Rattle.warm_pool.proofs.EmptyLemmas.{nth_vacated, vacated_pool, vacated_ranked, unfixed_to}
 
@@ -48,17 +48,8 @@ module _ (devices : List DeviceState) (k : ℕ) (after : DeviceState) (lt : k < 
     ];
   }
 
-  pub one_quiet : after.waiting ≡ false → (nth_device changed k).waiting ≡ false
-  one_quiet quiet = ap (λ d. d.waiting) here ∙ quiet
-
 pub one_kept : (frames : List FrameState) (old new : List DeviceState) (k : ℕ) (after : DeviceState) → k < length old → new ≡ set old k after → SameShape (nth_device old k) after → after.contents ≡ (nth_device old k).contents → KeptDevices frames old new
 one_kept frames old new k after lt is shape contents = alike_kept frames old new (subst (λ ds. AreAlike old ds) (sym is) (one_alike old k after lt shape contents))
-
-abbrev counts : List DeviceState → List ℕ
-counts devices = map (λ d. d.failures) devices
-
-count_at : (devices : List DeviceState) (k : ℕ) → get_or (counts devices) k 0 ≡ (nth_device devices k).failures
-count_at devices k = mapped (λ d. d.failures) devices k no_device
 
 same_counts : (devices : List DeviceState) (k : ℕ) (after : DeviceState) → after.failures ≡ (nth_device devices k).failures → counts (set devices k after) ≡ counts devices
 same_counts devices k after same = map-set (λ d. d.failures) devices k after ∙ ap (λ n. set (counts devices) k n) (same ∙ sym (count_at devices k)) ∙ set-get_or (counts devices) k 0
@@ -79,10 +70,6 @@ flush_one_fails which n s t u k after down lt frames same is fails =
     let moved : view_of u ≡ view_of (record t { devices = u.devices }) = λ i. view_of (record { page_size = same.0 i; spare = same.1 i; frames = frames i; devices = u.devices }) in
     let seen : view_of u ≡ record (view_of t) { failures = counts u.devices } = moved ∙ view_of_kept t u.devices (alike_kept t.frames t.devices u.devices alike) in
     flush_fails_at which n s t u k down (seen ∙ (λ i. record (view_of t) { failures = grown i })) lt fails.may
-
--- the write of a page of the device
-pub write_one_fails : (dev : ℕ) (s t : PoolState) → StopsAt (Some dev) s t → FailsAt (view_of s) dev (view_of t)
-write_one_fails dev s t stops = subst (λ k. FailsAt (view_of s) k (view_of t)) (eqb-true stops.page.dev dev stops.chosen) stops.fails
 
 -- Frames of which those of one device were emptied
 
@@ -202,12 +189,6 @@ module _ (dev : ℕ) (t : PoolState) (device : DeviceState) (w : IsPool t) (ther
   pub retired_view : (s : PoolState) → view_of t ≡ view_of s → Retired (view_of s) dev device (view_of u)
   retired_view s same = subst (λ v. Retired v dev device (view_of u)) same retired_seen
 
--- the frames and the devices each by its own equation
-pub becomes_retired : (old new : FramesState) (spare dev : ℕ) (devices others : List DeviceState) (device : DeviceState) → new ≡ record old { frames = vacated_chosen (Some dev) old.frames } → others ≡ set devices dev device
-    → (let s : PoolState = record { page_size = new.page_size; spare = spare; frames = new.frames; devices = others } in s) ≡ (let s : PoolState = record { page_size = old.page_size; spare = spare; frames = vacated_chosen (Some dev) old.frames; devices = set devices dev device } in s)
-becomes_retired old new spare dev devices others device frames is =
-    ap₂ (λ (f : FramesState) (ds : List DeviceState). let s : PoolState = record { page_size = f.page_size; spare = spare; frames = f.frames; devices = ds } in s) frames is
-
 -- Why a device isn't retired
 
 pub may_retire : (s : PoolState) (dev : ℕ) (device : DeviceState) → IsPool s → dev < length s.devices → device.page_size ≡ s.page_size → AreUnfixed (Some dev) s.frames → MayRetire (view_of s) dev device
@@ -224,12 +205,6 @@ fixed_on s dev w fixed = record {
   on = subst (λ f. IsTrue (is_on dev f.page)) (sym (frame_seen s fixed.frame)) fixed.chosen;
   fixed = subst (λ f. 0 < f.fixes) (sym (frame_seen s fixed.frame)) fixed.fixed;
 }
-
-pub seen_there : (s : PoolState) (dev : ℕ) → IsPool s → dev < length s.devices → dev < length (view_of s).devices
-seen_there s dev w there = subst (λ n. dev < n) (sym (length-map s.devices _)) there
-
-pub seen_beyond : (s : PoolState) (dev : ℕ) → IsPool s → length s.devices ≤ dev → length (view_of s).devices ≤ dev
-seen_beyond s dev w beyond = subst (λ n. n ≤ dev) (sym (length-map s.devices _)) beyond
 
 -- What is known once way was made
 

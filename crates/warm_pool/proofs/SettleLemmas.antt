@@ -11,8 +11,9 @@ use Rattle.warm_rank.specs.Keys.{rank_key}
 use Rattle.warm_devices.specs.Device.{DeviceState, SameShape, one_more, page_at}
 use Rattle.warm_pool.specs.Frames.{FrameState, nth_frame, cleaned}
 use Rattle.warm_pool.specs.State.{PoolState, IsSettled, nth_device, no_device}
-use Rattle.warm_pool.specs.View.{stored, view_of, frame_view, is_page, bytes_in, PoolView, FrameView, FailsAt}
-use Rattle.warm_pool.specs.WritingBack.{WriteBackFails, KeptDevices, PutsDown, StopsAt, clean_if, cleaned_chosen, is_chosen}
+use Rattle.warm_pool.specs.View.{stored, view_of, frame_view, is_page, bytes_in, PoolView, FrameView}
+use Rattle.warm_pool.specs.Keeping.{FailsAt}
+use Rattle.warm_pool.specs.WritingBack.{WriteBackFails, KeptDevices, PutsDown, clean_if, cleaned_chosen, is_chosen}
 use Rattle.warm_pool.specs.Flushes.{FlushedTo, FlushStops, NoneWaits}
 use Rattle.warm_pool.proofs.FlushLemmas.{same_shape}
 use Rattle.warm_pool.proofs.ClosingLemmas.{nth_page, kept_both}
@@ -132,10 +133,10 @@ stopped_alike old new stops = record {
   ];
 }
 
-abbrev counts : List DeviceState → List ℕ
+abbrev pub counts : List DeviceState → List ℕ
 counts devices = map (λ d. d.failures) devices
 
-count_at : (devices : List DeviceState) (k : ℕ) → get_or (counts devices) k 0 ≡ (nth_device devices k).failures
+pub count_at : (devices : List DeviceState) (k : ℕ) → get_or (counts devices) k 0 ≡ (nth_device devices k).failures
 count_at devices k = mapped (λ d. d.failures) devices k no_device
 
 stopped_failures : (old new : List DeviceState) (stops : FlushStops old new) → counts new ≡ set (counts old) stops.device (one_more (get_or (counts old) stops.device 0))
@@ -163,17 +164,6 @@ flush_down which n s t u down frames same alike failures = record {
   devices = kept_both s.frames s.frames s.devices t.devices u.devices (λ i. refl) (λ i is. is) down.devices (alike_kept s.frames t.devices u.devices alike);
   failures = failures ∙ down.failures;
   same = (same.0 ∙ down.same.0, same.1 ∙ down.same.1);
-}
-
--- a write that failed
-pub write_stops : (s t : PoolState) → StopsAt None s t → WriteBackFails s t
-write_stops s t stops = record {
-  written = stops.frame;
-  device = stops.page.dev;
-  frames = stops.frames;
-  first = λ _. (stops.dirty, (stops.page, stops.holds, refl));
-  all = λ le. let lt : stops.frame < length s.frames = stops.there in absurd (omega arith);
-  fails = stops.fails;
 }
 
 -- the flush of one device that failed, once the pages that are concerned were put down

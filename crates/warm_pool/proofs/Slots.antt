@@ -1,17 +1,10 @@
 -- One frame or one device of a list, after one of them changed.
-use Rattle.std.proofs.Common.{◌≡◌, ◌≢◌, ℕ, zero, suc, ◌+◌, ◌<◌, ◌==◌, true, false, List, [], ◌∷◌, length, map, set, get_or, cond, Option, None, refl, sym, ◌∙◌, ap, subst, inl, inr, arith}
-use Rattle.std.proofs.lemmas.Bool.{cases_eq, eq-eqb, ne_eqb}
-use Rattle.std.proofs.lemmas.List.{get_or-set_same, get_or-set_other, get_or_read, length-map}
+use Rattle.std.proofs.Common.{◌≡◌, ◌≢◌, ℕ, ◌+◌, ◌<◌, ◌==◌, true, false, List, length, map, set, get_or, cond, Option, None, refl, sym, ◌∙◌, ap, subst, inl, inr, arith}
+use Rattle.std.proofs.lemmas.Bool.{cases_eq, ne_eqb}
+use Rattle.std.proofs.lemmas.List.{get_or-set_same, get_or-set_other, length-map}
 use Rattle.std.proofs.lemmas.List.{ext_get_or}
 use Rattle.std.proofs.Math.ListN.{get_or-map as mapped}
 use Rattle.warm_rank.specs.declared.RankKey.{RankKey}
-use Rattle.warm_pool.specs.Frames.{FrameState, nth_frame, fresh_frame, leaving_key}
-
--- a list with one item changed to another that a function can't tell from it
-pub map-set_same : {A B : Type 0} (f : A → B) (xs : List A) (i : ℕ) (d x : A) → i < length xs → f x ≡ f (get_or xs i d) → map f (set xs i x) ≡ map f xs
-map-set_same f [] i d x h e = absurd (omega arith)
-map-set_same f (y ∷ ys) zero d x h e = ap (λ z. z ∷ map f ys) e
-map-set_same f (y ∷ ys) (suc i) d x h e = ap (λ zs. f y ∷ zs) (map-set_same f ys i d x (omega arith) e)
 
 -- what holds of the item that changed, and of the others, holds of each
 pub at_set : {A : Type 0} (d : A) (P : ℕ → A → Type 0) (xs : List A) (i : ℕ) (y : A) → i < length xs → P i y
@@ -28,16 +21,9 @@ same_maps f d xs ys count same =
     ext_get_or (f d) (map f xs) (map f ys) (length-map xs f ∙ count ∙ sym (length-map ys f))
     (λ i _. mapped f xs i d ∙ same i ∙ sym (mapped f ys i d))
 
--- the frame that a read gave
-pub frame_is : (frames : List FrameState) (i : ℕ) (f x : FrameState) → i < length frames → f ≡ x → x ≡ get_or frames i x → f ≡ nth_frame frames i
-frame_is frames i f x h e r = e ∙ get_or_read frames i x h r (fresh_frame [])
-
 -- a fixed page doesn't compete, and neither does a frame without a rank
 pub fixed_key : (n : ℕ) (key : Option RankKey) → cond ((n + 1) == 0) key None ≡ None
 fixed_key n key = ap (λ t. cond t key None) (ne_eqb (n + 1) 0 (λ e. absurd (omega arith)))
 
 pub bare_key : (n : ℕ) (none : Option RankKey) → cond (n == 0) none none ≡ none
 bare_key n none = elim (n == 0) as (λ t. cond t none none ≡ none) [ true ↦ refl | false ↦ refl ]
-
-pub unfixed_key : (f : FrameState) → f.fixes ≡ 0 → leaving_key f ≡ f.key
-unfixed_key f e = ap (λ t. cond t f.key None) (eq-eqb f.fixes 0 e)

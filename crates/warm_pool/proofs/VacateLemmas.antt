@@ -25,13 +25,6 @@ length-cleared_to which zero pages = refl
 length-cleared_to which (suc n) [] = refl
 length-cleared_to which (suc n) (page ∷ pages) = ap suc (length-cleared_to which n pages)
 
-clear_whole : (which : Option ℕ) (pages : List (Option PageId)) → cleared_to which (length pages) pages ≡ map (clear_if which) pages
-clear_whole which [] = refl
-clear_whole which (page ∷ pages) = ap (λ rest. clear_if which page ∷ rest) (clear_whole which pages)
-
-pub clear_done : (which : Option ℕ) (at : ℕ) (old new : List (Option PageId)) → at ≡ length old → new ≡ cleared_to which at old → new ≡ map (clear_if which) old
-clear_done which at old new end is = is ∙ ap (λ n. cleared_to which n old) end ∙ clear_whole which old
-
 -- the frame at hand, as its page is concerned or not
 pub one_gone : (which : Option ℕ) (at : ℕ) (pages : List (Option PageId)) → at < length pages → is_chosen which (page_in (cleared_to which at pages) at) ≡ true → set (cleared_to which at pages) at None ≡ cleared_to which (suc at) pages
 one_gone which at [] lt is = absurd (omega arith)

@@ -2,7 +2,7 @@
 use Rattle.std.proofs.Common.{◌≡◌, ◌≢◌, ℕ, zero, suc, ◌+◌, ◌<◌, ◌≤◌, cond, Bool, true, false, List, [], ◌∷◌, take, drop, length, map, set, Some, None, refl, sym, ◌∙◌, ap, subst, arith}
 use Rattle.std.proofs.Math.ListN.{get_or-map as mapped}
 use Rattle.std.proofs.lemmas.Option.{same_Some}
-use Rattle.std.proofs.lemmas.List.{length-append, length-take, length-drop, length-map, map-set, set-get_or, get_or-set_same}
+use Rattle.std.proofs.lemmas.List.{length-append, length-take, length-drop, length-map, map-set, set-get_or, get_or-set_same, get_or-set_other}
 use Rattle.warm_stamps.specs.declared.PageId.{PageId}
 use Rattle.warm_history.specs.Histories.{HistoryView}
 use Rattle.warm_devices.specs.Device.{DeviceState}
@@ -10,7 +10,7 @@ use Rattle.warm_pool.specs.declared.slot.Slot.{Slot}
 use Rattle.warm_pool.specs.Frames.{FrameState, FramesState, nth_frame, fresh_frame}
 use Rattle.warm_pool.specs.State.{PoolState, IsPool, RankedBy, nth_device}
 use Rattle.warm_pool.specs.View.{stored, is_page, bytes_in, frame_view, device_view, view_of, PoolView, FrameView, frame_at, contents_at, Holds}
-use Rattle.warm_pool.specs.PageBytes.{patched, Written, IsRead}
+use Rattle.warm_pool.specs.PageBytes.{patched, Written, IsRead, MakesDirty}
 use Rattle.warm_pool.proofs.Bytes.{page_found, bytes_held, contents_seen, frame_seen, device_seen}
 use Rattle.warm_pool.proofs.Keeps.{Fits, pool_from, set_keeps_pool, ranked_set, held_fixed, fixed_some}
 use Rattle.warm_pool.proofs.PoolSteps.{some_page}
@@ -41,9 +41,6 @@ after old i at put = record old { frames = set old.frames i (overwritten (nth_fr
 module _ (old new : FramesState) {spare : ℕ} {devices : List DeviceState} (w : IsPool (pool_from old spare devices)) (i at : ℕ) (put : List ℕ)
     (is : new ≡ record old { frames = set old.frames i (overwritten (nth_frame old.frames i) at put) }) (there : i < length old.frames)
     (some : (nth_frame old.frames i).page ≢ None) (within : at + length put ≤ old.page_size) where
-  frame : FrameState
-  frame = nth_frame old.frames i
-
   sized : length (nth_frame old.frames i).bytes ≡ old.page_size
   sized = w.frame_size i there
 
@@ -66,6 +63,15 @@ module _ (old new : FramesState) {spare : ℕ} {devices : List DeviceState} (w :
 
   pub write_ranked : (h : HistoryView) → RankedBy (pool_from old spare devices) h → RankedBy (pool_from new spare devices) h
   write_ranked h r = subst (λ x. RankedBy (pool_from x spare devices) h) (sym is) (ranked_set (pool_from old spare devices) i (overwritten (nth_frame old.frames i) at put) h there (r i) r)
+
+  -- and nothing else of the pool has changed
+  pub write_dirty : (slot : Slot) → slot.index ≡ i → MakesDirty (pool_from old spare devices) slot (pool_from new spare devices)
+  write_dirty slot at_slot = record {
+    dirty = ap (λ n. (nth_frame new.frames n).dirty) at_slot ∙ ap (λ f. (nth_frame f.frames i).dirty) is
+        ∙ ap (λ f. f.dirty) (get_or-set_same old.frames i (overwritten (nth_frame old.frames i) at put) (fresh_frame []) there);
+    others = λ j ne. ap (λ f. nth_frame f.frames j) is ∙ get_or-set_other old.frames i j (overwritten (nth_frame old.frames i) at put) (fresh_frame []) (λ e. ne (e ∙ sym at_slot));
+    devices = refl;
+  }
 
   same_frames : map frame_view (set old.frames i (overwritten (nth_frame old.frames i) at put)) ≡ map frame_view old.frames
   same_frames = map-set frame_view old.frames i (overwritten (nth_frame old.frames i) at put)

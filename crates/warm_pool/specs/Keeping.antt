@@ -1,8 +1,33 @@
 -- What a call leaves of a pool as it was.
-use Rattle.std.specs.Prelude.{ℕ, ◌≡◌, ◌≢◌}
+use Rattle.std.specs.Prelude.{ℕ, ◌≡◌, ◌≢◌, ◌<◌, false, IsTrue, [], length, set}
+use Rattle.warm_stamps.specs.declared.PageId.{PageId}
 use Rattle.warm_history.specs.Histories.{HistoryView}
+use Rattle.warm_devices.specs.Device.{one_more}
 use Rattle.warm_pool.specs.Frames.{nth_frame}
 use Rattle.warm_pool.specs.State.{PoolState, RankedBy}
+use Rattle.warm_pool.specs.View.{PoolView, HasPage, IsResident, IsAbsent, device_at, contents_at, failures_at}
+
+-- What a caller sees of it
+
+-- nothing but counts of failures has changed
+abbrev pub SameButFailures : PoolView → PoolView → Type 0
+SameButFailures old new = new ≡ record old { failures = new.failures }
+
+-- a call of device k failed, which may fail: its count of failures has grown, and nothing else has changed
+pub record FailsAt (old : PoolView) (k : ℕ) (new : PoolView) : Type 0 where
+  pub there : k < length old.devices
+  pub may : (device_at old k).unfailing ≡ false
+  pub becomes : new ≡ record old { failures = set old.failures k (one_more (failures_at old k)) }
+
+-- The pages of honest devices, and those resident before and after, have the bytes that they had. A page of another device that
+-- isn't resident has none, and one that is has the size of a page.
+pub record KeepsContents (old new : PoolView) : Type 0 where
+  pub honest : (p : PageId) → HasPage old p → IsTrue (device_at old p.dev).honest → contents_at new p ≡ contents_at old p
+  pub resident : (p : PageId) → IsResident old p → IsResident new p → contents_at new p ≡ contents_at old p
+  pub absent : (p : PageId) → (device_at new p.dev).honest ≡ false → IsAbsent new p → contents_at new p ≡ []
+  pub sized : (p : PageId) → IsResident new p → length (contents_at new p) ≡ new.page_size
+
+-- Its ranks, frames and devices
 
 -- every history that ranked the old pool ranks the new one
 abbrev pub KeepsRanks : PoolState → PoolState → Type 0

@@ -9,8 +9,8 @@ use Rattle.warm_pool.specs.declared.fault.PoolFault.{PoolFault}
 use Rattle.warm_pool.specs.declared.fault.PoolFault.TheVariants.{NoDevice, NoPage, AllFixed, ReadFault, WriteBack, FixesFull}
 use Rattle.warm_rank.specs.declared.RankKey.{RankKey}
 use Rattle.warm_pool.specs.State.{PoolState, RankedBy}
-use Rattle.warm_pool.specs.View.{PoolView, device_at, frame_at, view_of, HasPage, IsResident, IsAbsent, unfixed_pages, FailsAt, KeepsContents}
-use Rattle.warm_pool.specs.Keeping.{KeepsOthers, KeepsBytes}
+use Rattle.warm_pool.specs.View.{PoolView, device_at, frame_at, view_of, HasPage, IsResident, IsAbsent, unfixed_pages}
+use Rattle.warm_pool.specs.Keeping.{FailsAt, KeepsContents, KeepsOthers, KeepsBytes}
 use Rattle.warm_pool.specs.WritingBack.{CleanFails}
 
 -- Where a page goes

@@ -6,7 +6,8 @@ use Rattle.warm_pool.specs.Frames.{FrameState, nth_frame, vacated}
 use Rattle.warm_pool.specs.declared.fault.PoolFault.{PoolFault}
 use Rattle.warm_pool.specs.declared.fault.PoolFault.TheVariants.{SizeDiffers, NoDevice, Fixed, Fault}
 use Rattle.warm_pool.specs.State.{PoolState, nth_device}
-use Rattle.warm_pool.specs.View.{FrameView, PoolView, frame_at, contents_at, device_view, view_of, HasPage, IsFixed, IsUnfixed, FailsAt, KeepsContents}
+use Rattle.warm_pool.specs.View.{FrameView, PoolView, frame_at, contents_at, device_view, view_of, HasPage, IsFixed, IsUnfixed}
+use Rattle.warm_pool.specs.Keeping.{FailsAt, KeepsContents}
 use Rattle.warm_pool.specs.WritingBack.{WriteBackFails, is_on, is_chosen, PutsAllDown}
 
 -- Emptying and closing

@@ -21,10 +21,6 @@ pub record PoolState : Type 0 where
 abbrev pub pool_of : {B : Type 0} → (B → DeviceState) → FramesState → ℕ → List B → PoolState
 pool_of shown frames spare devices = record { page_size = frames.page_size; spare = spare; frames = frames.frames; devices = map shown devices }
 
--- so many frames into which no page was put
-abbrev pub unused_frames : ℕ → ℕ → FramesState
-unused_frames frames size = record { page_size = size; frames = replicate frames (fresh_frame (replicate size 0)) }
-
 -- a pool without a page
 abbrev pub opened : ℕ → ℕ → List DeviceState → PoolState
 opened frames size devices = record { page_size = size; spare = size; frames = replicate frames (fresh_frame (replicate size 0)); devices = devices }

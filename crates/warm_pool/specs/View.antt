@@ -1,8 +1,8 @@
--- What a caller sees of a pool, how it is read off the pool, and what a call leaves of it.
-use Rattle.std.specs.Prelude.{ℕ, ◌≡◌, ◌≢◌, ◌<◌, ◌==◌, ◌&&◌, Bool, false, IsTrue, List, [], ◌∷◌, map, length, Option, Some, None, slice_index_or, if◌then◌else◌, set}
+-- What a caller sees of a pool, and how it is read off the pool.
+use Rattle.std.specs.Prelude.{ℕ, ◌≡◌, ◌≢◌, ◌<◌, ◌==◌, ◌&&◌, Bool, false, List, [], ◌∷◌, map, length, Option, Some, None, slice_index_or, if◌then◌else◌}
 use Rattle.std.specs.List.{range_with_len}
 use Rattle.warm_stamps.specs.declared.PageId.{PageId}
-use Rattle.warm_devices.specs.Device.{DeviceState, page_at, one_more}
+use Rattle.warm_devices.specs.Device.{DeviceState, page_at}
 use Rattle.warm_pool.specs.Frames.{FrameState}
 use Rattle.warm_rank.specs.Laws.{pages_in}
 use Rattle.warm_pool.specs.declared.slot.Slot.{Slot}
@@ -119,23 +119,3 @@ pub record IsFixed (v : PoolView) : Type 0 where
 
 abbrev pub IsUnfixed : PoolView → Type 0
 IsUnfixed v = (i : ℕ) → (frame_at v i).fixes ≡ 0
-
--- What a call leaves of it
-
--- nothing but counts of failures has changed
-abbrev pub SameButFailures : PoolView → PoolView → Type 0
-SameButFailures old new = new ≡ record old { failures = new.failures }
-
--- a call of device k failed, which may fail: its count of failures has grown, and nothing else has changed
-pub record FailsAt (old : PoolView) (k : ℕ) (new : PoolView) : Type 0 where
-  pub there : k < length old.devices
-  pub may : (device_at old k).unfailing ≡ false
-  pub becomes : new ≡ record old { failures = set old.failures k (one_more (failures_at old k)) }
-
--- The pages of honest devices, and those resident before and after, have the bytes that they had. A page of another device that
--- isn't resident has none, and one that is has the size of a page.
-pub record KeepsContents (old new : PoolView) : Type 0 where
-  pub honest : (p : PageId) → HasPage old p → IsTrue (device_at old p.dev).honest → contents_at new p ≡ contents_at old p
-  pub resident : (p : PageId) → IsResident old p → IsResident new p → contents_at new p ≡ contents_at old p
-  pub absent : (p : PageId) → (device_at new p.dev).honest ≡ false → IsAbsent new p → contents_at new p ≡ []
-  pub sized : (p : PageId) → IsResident new p → length (contents_at new p) ≡ new.page_size

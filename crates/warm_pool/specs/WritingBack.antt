@@ -4,7 +4,8 @@ use Rattle.warm_stamps.specs.declared.PageId.{PageId}
 use Rattle.warm_devices.specs.Device.{DeviceState, SameShape}
 use Rattle.warm_pool.specs.Frames.{FrameState, nth_frame, cleaned}
 use Rattle.warm_pool.specs.State.{PoolState, nth_device, IsNowhere}
-use Rattle.warm_pool.specs.View.{stored, view_of, FailsAt}
+use Rattle.warm_pool.specs.View.{stored, view_of}
+use Rattle.warm_pool.specs.Keeping.{FailsAt}
 
 -- All pages
 

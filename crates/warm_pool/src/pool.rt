@@ -5,9 +5,10 @@ ghost use Rattle.warm_history.specs.Histories.{HistoryView, hist, refs};
 ghost use Rattle.warm_rank.specs.Keys.{rank_key};
 ghost use Rattle.warm_rank.specs.Ranking.{IsVictim};
 ghost use Rattle.warm_pool.specs.Frames.{nth_frame};
-ghost use Rattle.warm_pool.specs.State.{PoolState, IsPool, RankedBy, IsRankedByAll, IsNowhere, opened, unused_frames, nth_device};
-ghost use Rattle.warm_pool.specs.View.{PoolView, HasPage, IsResident, Holds, SameButFailures};
-ghost use Rattle.warm_pool.specs.Keeping.{KeepsRanks, KeepsBytes, KeepsFrames, KeepsOthers};
+ghost use Rattle.warm_pool.specs.FrameSteps.{fresh_frames};
+ghost use Rattle.warm_pool.specs.State.{PoolState, IsPool, RankedBy, IsRankedByAll, IsNowhere, opened, nth_device};
+ghost use Rattle.warm_pool.specs.View.{PoolView, HasPage, IsResident, Holds};
+ghost use Rattle.warm_pool.specs.Keeping.{SameButFailures, KeepsRanks, KeepsBytes, KeepsFrames, KeepsOthers};
 ghost use Rattle.warm_pool.specs.Opening.{IsUpTo, IsSize, NewRefused};
 ghost use Rattle.warm_pool.specs.WritingBack.{Cleans, CleanFails};
 ghost use Rattle.warm_pool.specs.Pinning.{Pinned, PinRefused, Loaded, LoadRefused, PutsIn, PutRefused, unpinned, IsNextVictim, LoadsInto, LoadFails, FixesPage, FixRefused, IsNextPlace, TakesFrame, WritesDirty};
@@ -529,7 +530,7 @@ fn shape_fault(
 fn parts(alloc: Global, frames: usize, page_size: usize) -> Result<(Frames, Vec<u8>), AllocError>
     requires some { 0 < frames }
     requires few { frames ≤ MAX_SLOTS }
-    ensures { IfOk result (λ made. (made.0 ≡ unused_frames frames page_size)
+    ensures { IfOk result (λ made. (made.0 ≡ fresh_frames frames page_size)
         × (length made.1.items ≡ page_size)) }
 {
     let spare = Vec::from_elem(alloc, 0, page_size)?;
@@ -541,6 +542,7 @@ fn parts(alloc: Global, frames: usize, page_size: usize) -> Result<(Frames, Vec<
 fn known_key(history: &History, page: PageId) -> RankKey
     ensures { result ≡ rank_key page (hist (refs history.now) page) }
 {
+    // For the proof: the clause of `len` tells that the history is whole, and so what its own references give, as the rank is said.
     let _whole = history.len();
     key_of(page, history.get(page))
 }

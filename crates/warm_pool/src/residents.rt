@@ -4,7 +4,7 @@
 //! without a page stand in one of their own. A link is the number of the next frame, and the number of frames ends a chain. All room
 //! is taken when the frames are made.
 ghost use Rattle.std.specs.Prelude.{◌≡◌, ℕ, List, ◌+◌, ◌<◌, ◌≤◌, length, map, replicate, set, slice_index, IfOk, IsTrue, None, Some, ◌↔◌};
-ghost use Rattle.warm_pool.specs.Chains.{AreChains, AreInTurn, AreLinked, IsLastBelow, after, chain_of, chains_of, heads_led, next_led, loose, page_in};
+ghost use Rattle.warm_pool.specs.Chains.{AreChains, AreInTurn, AreLinked, IsLastBelow, after, chain_of, chains_of, heads_led, link_after, next_led, loose, page_in};
 ghost use Rattle.warm_pool.specs.Residents.{IsFirstFree, IsPlaceOf};
 ghost use Rattle.warm_pool.specs.WritingBack.{is_chosen};
 ghost use Rattle.warm_pool.specs.Retiring.{clear_if};
@@ -234,6 +234,18 @@ fn unlink(heads: &mut Vec<u32>, next: &mut Vec<u32>, frame: usize, chain: usize)
     lead(heads, next, chain, last, to);
 }
 
+// The link after a frame, or the head of its chain.
+fn link_after(heads: &[u32], next: &[u32], chain: usize, last: Option<usize>) -> u32
+    requires chain { chain < length heads.now }
+    requires last { after last ≤ length next.now }
+    ensures { result ≡ link_after heads.now next.now chain last }
+{
+    match last {
+        None => heads[chain],
+        Some(frame) => next[frame],
+    }
+}
+
 // Puts a frame that is in no chain into one, after the last frame of the chain below it.
 fn link(heads: &mut Vec<u32>, next: &mut Vec<u32>, frame: usize, chain: usize, last: Option<usize>)
     ghost frames: { List ℕ }
@@ -245,10 +257,7 @@ fn link(heads: &mut Vec<u32>, next: &mut Vec<u32>, frame: usize, chain: usize, l
     ensures room { length heads.new.items ≡ length heads.old.items }
     ensures chains { AreChains (set frames frame chain) heads.new.items next.new.items }
 {
-    next[frame] = match last {
-        None => heads[chain],
-        Some(before) => next[before],
-    };
+    next[frame] = link_after(heads, next, chain, last);
     lead(heads, next, chain, last, frame as u32);
 }
 

@@ -14,6 +14,10 @@ pub record Buffered : Type 0 where
 abbrev pub with_last : Buffered → Reference → Buffered
 with_last buffer r = record buffer { refs = buffer.refs ++ r ∷ [] }
 
+-- the buffer with nothing in it
+abbrev pub cleared : Buffered → Buffered
+cleared buffer = record buffer { refs = [] }
+
 -- a capacity that a buffer can have
 pub record IsCapacity (cap : ℕ) : Type 0 where
   pub from_one : 1 ≤ cap

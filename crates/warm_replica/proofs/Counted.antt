@@ -1,17 +1,12 @@
 -- Replies of which touches are counted.
 use Rattle.std.proofs.Common.{◌≡◌, ◌≤◌, ◌+◌, ℕ, zero, suc, List, [], ◌∷◌, ◌++◌, length, replicate, refl, sym, ap, subst, ◌∙◌, append_assoc, append-nil, arith}
-use Rattle.std.proofs.lemmas.List.{length-append, length-replicate, replicate_more}
+use Rattle.std.proofs.lemmas.List.{length-append, length-replicate}
 use Rattle.std.proofs.lemmas.List.Elements.{All-append, All-cons, All-head, All-nil, All-replicate, All-tail}
 use Rattle.std.specs.List.{All}
 use Rattle.warm_replica.specs.declared.job.StepReply.{StepReply}
 use Rattle.warm_replica.specs.declared.job.StepReply.TheVariants.{Touched}
 use Rattle.warm_replica.specs.declared.replies.Run.{Run}
 use Rattle.warm_replica.specs.Replied.{IsTaken, ended, replies_of}
-
--- one touch more
-pub touched_more : (runs : List Run) (n : ℕ) → replies_of runs (n + 1) ≡ replies_of runs n ++ Touched ∷ []
-touched_more runs n =
-    ap (λ (l : List StepReply). ended runs ++ l) (sym (replicate_more n Touched)) ∙ sym (append_assoc (ended runs) (replicate n Touched) (Touched ∷ []))
 
 -- one run more
 pub ended_more : (runs : List Run) (run : Run) → ended (runs ++ run ∷ []) ≡ replies_of runs run.touched ++ run.reply ∷ []

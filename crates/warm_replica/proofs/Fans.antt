@@ -16,22 +16,12 @@ use Rattle.warm_replica.specs.declared.job.StepReply.{StepReply}
 pub triples_more : {A B D : Type 0} (P : A → B → D → Type 0) (xs : List A) (ys : List B) (zs : List D) (x : A) (y : B) (z : D) → Triples P xs ys zs → P x y z → Triples P (xs ++ x ∷ []) (ys ++ y ∷ []) (zs ++ z ∷ [])
 triples_more P [] [] [] x y z h p = (p, tt)
 triples_more P (a ∷ xs) (b ∷ ys) (d ∷ zs) x y z h p = (h.0, triples_more P xs ys zs x y z h.1 p)
-triples_more P [] [] (d ∷ zs) x y z h p = absurd h
-triples_more P [] (b ∷ ys) [] x y z h p = absurd h
-triples_more P [] (b ∷ ys) (d ∷ zs) x y z h p = absurd h
-triples_more P (a ∷ xs) [] [] x y z h p = absurd h
-triples_more P (a ∷ xs) [] (d ∷ zs) x y z h p = absurd h
-triples_more P (a ∷ xs) (b ∷ ys) [] x y z h p = absurd h
+triples_more P xs ys zs x y z h p = absurd h
 
 pub triples_length : {A B D : Type 0} (P : A → B → D → Type 0) (xs : List A) (ys : List B) (zs : List D) → Triples P xs ys zs → length ys ≡ length xs
 triples_length P [] [] [] h = refl
 triples_length P (a ∷ xs) (b ∷ ys) (d ∷ zs) h = ap suc (triples_length P xs ys zs h.1)
-triples_length P [] [] (d ∷ zs) h = absurd h
-triples_length P [] (b ∷ ys) [] h = absurd h
-triples_length P [] (b ∷ ys) (d ∷ zs) h = absurd h
-triples_length P (a ∷ xs) [] [] h = absurd h
-triples_length P (a ∷ xs) [] (d ∷ zs) h = absurd h
-triples_length P (a ∷ xs) (b ∷ ys) [] h = absurd h
+triples_length P xs ys zs h = absurd h
 
 module _ {X C R : Type 0} where
   pub widened_none : (v : View X C R) → Widened v [] v

@@ -4,7 +4,7 @@ use Rattle.std.proofs.Math.Nat.{lt_of_not-le}
 use Rattle.warm_stamps.specs.declared.Reference.{Reference}
 use Rattle.warm_refbuffer.specs.declared.Full.{Full as Back}
 use Rattle.warm_refbuffer.specs.Buffered.{Buffered}
-use Rattle.warm_turn.specs.Turns.{Called, Extended, Sight, entry, marked}
+use Rattle.warm_turn.specs.Turns.{Extended, Sight, entry, marked}
 use Rattle.warm_turn.proofs.Passes.{Extended-self, Extended-marked, Extended-called}
 use Rattle.warm_gossip.specs.declared.call.Call.{Call}
 use Rattle.warm_gossip.specs.declared.call.Call.TheVariants.{Absorb}
@@ -15,7 +15,7 @@ use Rattle.warm_replica.specs.declared.fault.FlushFault.{FlushFault}
 use Rattle.warm_replica.specs.declared.fault.FlushFault.TheVariants.{Memory, TurnsSpent}
 use Rattle.warm_replica.specs.declared.job.Step.{Step}
 use Rattle.warm_replica.specs.declared.job.Step.TheVariants.{Touch, Flush, Make}
-use Rattle.warm_replica.specs.declared.job.StepReply.TheVariants.{Touched, Full, Flushed, Answered, Failed}
+use Rattle.warm_replica.specs.declared.job.StepReply.TheVariants.{Touched, Full, Flushed, Failed}
 use Rattle.warm_replica.specs.Jobs.{Gave, StepWent}
 use Rattle.warm_replica.specs.Working.{Working, Flushes, KeepsBatch}
 
@@ -95,16 +95,6 @@ module _ {X : Type 0} (v w : Working X Call Reply) (step : Step) where
         Extended-called goes v.pass.view w.pass.view (Absorb v.buffer.refs) no_memory called,
       ))
       kept.1
-
-  pub was_answered : (goes : X → Call → Reply → X → Type 0) (call : Call) (reply : Reply) → step ≡ Make call → w.buffer ≡ v.buffer → Called goes v.pass.view call reply w.pass.view
-      → StepWent v step (Answered reply) w
-  was_answered goes call reply is same called = (
-    entry v.pass.view.number call reply ∷ [],
-    subst (λ (s : Step). Gave v.buffer.cap v.pass.view.number v.buffer.refs s (Answered reply) w.buffer.refs (entry v.pass.view.number call reply ∷ [])) (sym is)
-        (ap (λ (b : Buffered). b.refs) same, refl),
-    ap (λ (b : Buffered). b.cap) same,
-    Extended-called goes v.pass.view w.pass.view call reply called,
-  )
 
   pub was_spent : (call : Call) → step ≡ Make call → w.buffer ≡ v.buffer → w.pass.view ≡ marked v.pass.view → StepWent v step (Failed TurnsSpent) w
   was_spent call is same spent = (

@@ -1,7 +1,8 @@
 //! A worker of a replica: a pass of its own, and a buffer of references.
 ghost use Rattle.std.specs.Prelude.{◌≡◌, ◌≤◌, ◌<◌, length, Err, IsOk, IfOk, IfErr, OnOk};
 ghost use Rattle.warm_turn.specs.Turns.{Called, marked};
-ghost use Rattle.warm_replica.specs.Working.{Flushes, KeepsBatch, touched};
+ghost use Rattle.warm_refbuffer.specs.Buffered.{with_last};
+ghost use Rattle.warm_replica.specs.Working.{Flushes, KeepsBatch};
 
 use crate::fault::FlushFault;
 use std::alloc::{AllocError, Global};
@@ -79,7 +80,7 @@ impl<M: Machine<Call = Call, Reply = Reply>> Worker<M> {
         ensures pass { self.new.pass ≡ self.old.pass }
         ensures taken { length self.old.buffer.refs < self.old.buffer.cap
             → IsOk result
-            × (self.new.buffer ≡ touched self.old.buffer reference) }
+            × (self.new.buffer ≡ with_last self.old.buffer reference) }
         ensures full { self.old.buffer.cap ≤ length self.old.buffer.refs
             → (result ≡ Err (record { 0 = reference }))
             × (self.new.buffer ≡ self.old.buffer) }

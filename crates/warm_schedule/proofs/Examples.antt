@@ -1,5 +1,5 @@
 -- The language and the answers, computed on lines and answers worked out by hand.
-use Rattle.std.proofs.Common.{◌≡◌, inl, inr, ◌<◌, List, ℕ, [], ◌∷◌, Some, None, refl, arith}
+use Rattle.std.proofs.Common.{◌≡◌, inl, ◌<◌, List, ℕ, [], ◌∷◌, Some, None, refl, arith}
 use Rattle.std.specs.Fmt.{digits}
 use Rattle.std.specs.Prelude.{codes}
 use Rattle.warm_stamps.specs.declared.PageId.{PageId}

@@ -3,9 +3,7 @@ use Rattle.std.proofs.Common.{◌≡◌, ℕ, ◌<◌, List, [], ◌∷◌, ◌+
 use Rattle.std.proofs.lemmas.Bool.{ne_eqb}
 use Rattle.std.proofs.lemmas.List.{append-nil}
 use Rattle.std.specs.Option.{is_some, option_map}
-use Rattle.std.specs.Prelude.{MatchOption}
 use Rattle.warm_schedule.specs.Fields.{pairs_of, bytes_of}
-use Rattle.warm_schedule.specs.Reading.{TakesRoom}
 
 -- a word that isn't empty spells what its pairs spell
 pub whole : (word : List ℕ) → 0 < length word → bytes_of word ≡ pairs_of word
@@ -17,11 +15,6 @@ pub nothing : (word : List ℕ) → length word ≡ 0 → bytes_of word ≡ None
 unfolding bytes_of
 nothing [] e = refl
 nothing (c ∷ cs) e = absurd (omega arith)
-
--- nothing is left to read
-pub is_end : (rest : List ℕ) → length rest ≡ 0 → pairs_of rest ≡ Some []
-is_end [] e = refl
-is_end (c ∷ cs) e = absurd (omega arith)
 
 -- one more byte is read, or none
 pub is_some-map : {A B : Type 0} (f : A → B) (o : Option A) → is_some (option_map f o) ≡ is_some o
@@ -35,10 +28,6 @@ with_read done o = option_map (λ (more : List ℕ). done ++ more) o
 pub one_more : (done : List ℕ) (byte : ℕ) (o : Option (List ℕ)) → with_read done (option_map (λ (more : List ℕ). byte ∷ more) o) ≡ with_read (done ++ byte ∷ []) o
 one_more done byte None = refl
 one_more done byte (Some more) = ap (λ (xs : List ℕ). Some xs) (sym (append_assoc done (byte ∷ []) more))
-
-pub none_read : (o : Option (List ℕ)) → with_read [] o ≡ o
-none_read None = refl
-none_read (Some more) = refl
 
 -- nothing more can be read: either the word has ended, or what is left spells no bytes
 pub tells : (b : Bool) (word rest : List ℕ) → 0 < length word → b ≡ eqb (length rest) 0 → (0 < length rest → pairs_of rest ≡ None) → is_some (pairs_of rest) ≡ is_some (pairs_of word)
@@ -60,7 +49,3 @@ pub some_digits : (word : List ℕ) → is_some (bytes_of word) ≡ true → 0 <
 unfolding bytes_of
 some_digits [] spells = absurd (cc)
 some_digits (c ∷ cs) spells = omega arith
-
-pub takes_room : (o : Option (List ℕ)) → is_some o ≡ true → MatchOption o ⊥ TakesRoom
-takes_room None spells = absurd (cc)
-takes_room (Some bytes) spells = tt

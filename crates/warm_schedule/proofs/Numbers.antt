@@ -4,10 +4,6 @@ use Rattle.std.proofs.Math.ListN.{drop_of_length-le}
 use Rattle.std.proofs.lemmas.Bool.{lt-leb, le-leb}
 use Rattle.warm_schedule.specs.Fields.{◌>>=◌, digit_of, digits_after, number_of, up_to, number_up_to}
 
-pub begins : (word : List ℕ) → 0 < length word → digits_after 0 (drop 0 word) ≡ number_of word
-begins [] lt = absurd (omega arith)
-begins (c ∷ cs) lt = refl
-
 step : (n x d : ℕ) (rest : List ℕ) → digit_of x ≡ Some d → digits_after n (x ∷ rest) ≡ digits_after (10 * n + d) rest
 step n x d rest h = ap (λ (o : Option ℕ). o >>= λ e. digits_after (10 * n + e) rest) h
 

@@ -1,5 +1,5 @@
 -- A schedule that is read piece by piece.
-use Rattle.std.proofs.Common.{◌≡◌, ◌≢◌, inl, inr, ℕ, zero, suc, ◌+◌, ◌-◌, ◌<◌, ◌≤◌, Bool, true, false, List, [], ◌∷◌, ◌++◌, length, get_or, take, Option, Some, None, Result, Ok, Err, refl, sym, ap, subst, ◌∙◌, append_assoc, length-append, arith}
+use Rattle.std.proofs.Common.{◌≡◌, inl, inr, ℕ, zero, suc, ◌+◌, ◌-◌, ◌<◌, ◌≤◌, Bool, true, false, List, [], ◌∷◌, ◌++◌, length, get_or, take, Option, Some, None, Result, Ok, Err, refl, sym, ap, subst, ◌∙◌, append_assoc, arith}
 use Rattle.std.specs.Option.{ok_or, MatchOption}
 use Rattle.std.specs.Prelude.{min, IfSome, OnOk, is_ok, nat_lt}
 use Rattle.std.specs.Result.{result_ok}
@@ -10,7 +10,7 @@ use Rattle.std.proofs.lemmas.Bool.{cases_lt, ne_eqb, lt-ltb, ltb-true, ltb-false
 use Rattle.std.proofs.lemmas.List.{append-nil, take_all, take-append-le, length-take, length-take-le}
 use Rattle.warm_schedule.specs.Text.{IsLine, split, lines}
 use Rattle.warm_schedule.specs.Grammar.{meaning}
-use Rattle.warm_schedule.specs.Printed.{Answered, PrintedFrom, Played, EndsIn, MayFail}
+use Rattle.warm_schedule.specs.Printed.{Answered, PrintedFrom, Played, EndsIn}
 use Rattle.warm_schedule.specs.Reading.{Reads, PutsBytes, IsPut}
 use Rattle.warm_schedule.specs.Stream.{SessionSeen, HoldsLine, Holds, AddsBytes, AnswersLine, Goes, Settles, PrintsLast, Ends}
 use Rattle.warm_schedule.specs.declared.parse.TheConstants.{MAX_LINE}
@@ -277,10 +277,6 @@ Ends-answer a out more w answered settles = λ state begun h.
     let printed : PrintedFrom state a.number (lines begun) out next.0 = rw (line_last begun h.begun.is_line) (out, [], next.0, said, (refl, refl), sym (append-nil out)) in
     (out, next.0, printed, settles next.0 out next.1)
 
--- the devices took what waited for them
-pub settles_well : (w : WorldSeen) → Settles w []
-settles_well w = λ m answers stands. inl (append-nil answers)
-
 -- the devices did not take what waited for them
 pub settles_ill : (old new : WorldSeen) (why : NodeFault) → FinishFails old why new → Settles old end_refused
 settles_ill old new why fails = λ m answers stands.
@@ -336,12 +332,6 @@ Consumes-then None b c x y h k = tt
 Consumes-then (Some xs) None c x y h k = absurd h
 Consumes-then (Some xs) (Some ys) None x y h k = absurd k
 Consumes-then (Some xs) (Some ys) (Some zs) x y h k = h ∙ ap (λ (t : List ℕ). x ++ t) k ∙ sym (append_assoc x y zs)
-
-pub Consumes-same : (a b c : Option (List ℕ)) (x : List ℕ) → Consumes a b x → Keeps b c → Consumes a c x
-Consumes-same None b c x h k = tt
-Consumes-same (Some xs) None c x h k = absurd h
-Consumes-same (Some xs) (Some ys) None x h k = absurd k
-Consumes-same (Some xs) (Some ys) (Some zs) x h k = h ∙ ap (λ (t : List ℕ). x ++ t) (sym k)
 
 -- all was read
 pub Consumes-all : (old new : Option (List ℕ)) (seen : List ℕ) → Consumes old new seen → IsAtEnd new → IfSome old (λ text. text ≡ seen)

@@ -4,6 +4,7 @@ use Rattle.std.specs.Io.KnownBytes.{Appends}
 use Rattle.warm_stamps.specs.declared.PageId.{PageId}
 use Rattle.warm_stamps.specs.declared.Stamp.{Stamp}
 use Rattle.warm_pool.specs.declared.slot.Slot.{Slot}
+use Rattle.warm_history.specs.Histories.{entries_of}
 use Rattle.warm_history.specs.declared.hist.Entry.{Entry}
 use Rattle.warm_history.specs.declared.hist.PageHist.{PageHist}
 use Rattle.warm_history.specs.declared.hist.PageHist.TheVariants.{Once, Twice}
@@ -80,7 +81,7 @@ refused_text fault =
 
 abbrev pub answer_text : Answer → List ℕ
 answer_text Done = codes "ok\n"
-answer_text (Shown entries) = shown_text entries
+answer_text (Shown history) = shown_text (entries_of history)
 answer_text (FrameNo k) = codes "frame " ++ decimal k ++ codes "\n"
 answer_text (Took count first) = took_text count first
 answer_text (Pinned slot) = codes "slot " ++ slot_text slot ++ codes "\n"

@@ -15,7 +15,7 @@ mod text;
 mod worker;
 
 pub use parse::{Line, LineFault, MAX_LINE, parse_line};
-pub use player::play;
+pub use player::{MAX_READS, READ_SIZE, play};
 pub use printer::{print_answer, print_bad_line, print_end_refused, print_history};
 pub use random::random_schedule;
 pub use text::first_line;

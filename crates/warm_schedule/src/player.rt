@@ -246,9 +246,11 @@ fn hand_on<W: Write>(writer: &mut W) -> Result<(), PlayFault>
     Ok(())
 }
 
-const READS: u64 = 1 << 40;
+/// How often input is read at most before its end: whatever reads that often without an end is refused.
+pub const MAX_READS: u64 = 1 << 40;
 
-const BUFFER: usize = 65536;
+/// How many bytes are read at a time.
+pub const READ_SIZE: usize = 65_536;
 
 /// Reads a schedule to its end, and answers it line by line in a new world of this setup, whose replicas have these devices, a
 /// list for each. Then the devices get what waits for them ([`World::finish`]); where that is refused, the last line is
@@ -282,10 +284,10 @@ pub fn play<R: Read, W: Write>(
         × Played (opening setup (listed state devices.items)) text out)) }
 {
     let mut session = Session::new(alloc, setup, devices)?;
-    let Ok(mut buffer) = vec![in alloc; 0u8; BUFFER] else {
+    let Ok(mut buffer) = vec![in alloc; 0u8; READ_SIZE] else {
         return Err(PlayFault::Memory);
     };
-    for _ in 0..READS {
+    for _ in 0..MAX_READS {
         if !session.read_some(reader, buffer.as_mut_slice(), writer)? {
             session.finish(writer)?;
             return Ok(());

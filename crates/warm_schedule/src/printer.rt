@@ -1,5 +1,6 @@
 //! What is printed for the answers of a world. Nothing here takes memory.
 ghost use Rattle.std.specs.Prelude.{◌≡◌, ◌<◌, codes, flat_map};
+ghost use Rattle.warm_history.specs.Histories.{entries_of};
 ghost use Rattle.warm_schedule.specs.Answers.{Prints, page_text, stamp_text, hist_text, entry_text, end_text};
 ghost use Rattle.warm_schedule.specs.Answers.{shown_text, pages_text};
 ghost use Rattle.warm_schedule.specs.Answers.{slot_text, hex_text, byte_text, bytes_text, page_if_any, refused_text};
@@ -78,7 +79,7 @@ fn print_end<W: Write>(writer: &mut W, count: usize) -> io::Result<()>
 /// of how much of it was written.
 pub fn print_history<W: Write>(writer: &mut W, history: &History) -> io::Result<()>
     ensures { Prints result (W.contents writer.old) (W.contents writer.new)
-        (shown_text history.now) }
+        (shown_text (entries_of history.now)) }
 {
     print_entries(writer, history.iter())?;
     print_end(writer, history.len())

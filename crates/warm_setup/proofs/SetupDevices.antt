@@ -7,14 +7,14 @@ use Rattle.std.specs.List.{list_all}
 use Rattle.toml.specs.Data.{Data, as_array}
 use Rattle.toml.specs.View.{view, items_of, items_view}
 use Rattle.toml.specs.declared.value.Value.{Value}
-use Rattle.warm_setup.specs.declared.setup.TheConstants.{MAX_DEVICES}
+use Rattle.warm_setup.specs.declared.setup.TheConstants.{MAX_LISTED_DEVICES}
 use Rattle.warm_setup.specs.declared.setup.SetupFault.TheVariants.{BadKey, BadValue}
 use Rattle.warm_setup.specs.Setups.{devices_of, device_in, each, is_table, list_of, devices_in}
 
-in_range : (n : ℕ) → 1 ≤ n → n ≤ MAX_DEVICES → (nat_le 1 n && nat_le n MAX_DEVICES) ≡ true
-in_range n least most = rw (le-leb 1 n least, le-leb n MAX_DEVICES most) refl
+in_range : (n : ℕ) → 1 ≤ n → n ≤ MAX_LISTED_DEVICES → (nat_le 1 n && nat_le n MAX_LISTED_DEVICES) ≡ true
+in_range n least most = rw (le-leb 1 n least, le-leb n MAX_LISTED_DEVICES most) refl
 
-above_range : (n : ℕ) → MAX_DEVICES < n → (nat_le 1 n && nat_le n MAX_DEVICES) ≡ false
+above_range : (n : ℕ) → MAX_LISTED_DEVICES < n → (nat_le 1 n && nat_le n MAX_LISTED_DEVICES) ≡ false
 above_range n more = grind arith
 
 module _ (values : List Value) where
@@ -30,11 +30,11 @@ module _ (values : List Value) where
     unfolding devices_of
     no_devices none = rw (types true tables, length-map values view, none) refl
 
-    pub many_devices : MAX_DEVICES < length values → devices_of (map view values) ≡ Err BadValue
+    pub many_devices : MAX_LISTED_DEVICES < length values → devices_of (map view values) ≡ Err BadValue
     unfolding devices_of
     many_devices more = rw (types true tables, length-map values view, above_range (length values) more) refl
 
-    pub some_devices : 1 ≤ length values → length values ≤ MAX_DEVICES → devices_of (map view values) ≡ each device_in (map view values)
+    pub some_devices : 1 ≤ length values → length values ≤ MAX_LISTED_DEVICES → devices_of (map view values) ≡ each device_in (map view values)
     unfolding devices_of
     some_devices least most = rw (types true tables, length-map values view, in_range (length values) least most) refl
 

@@ -9,7 +9,7 @@ use Rattle.warm_refbuffer.specs.declared.TheConstants.{MAX_CAPACITY}
 use Rattle.warm_devices.specs.declared.TheConstants.{MAX_PAGE_SIZE}
 use Rattle.warm_world.specs.declared.TheConstants.{MAX_WORKERS}
 use Rattle.warm_world.specs.Sizes.{Sizes}
-use Rattle.warm_setup.specs.declared.setup.TheConstants.{MAX_DEVICES, MAX_PAGES}
+use Rattle.warm_setup.specs.declared.setup.TheConstants.{MAX_LISTED_DEVICES, MAX_PAGES}
 use Rattle.warm_setup.specs.declared.setup.DeviceSpec.{DeviceSpec}
 use Rattle.warm_setup.specs.declared.setup.SetupFault.{SetupFault}
 use Rattle.warm_setup.specs.declared.setup.SetupFault.TheVariants.{NotToml, BadKey, BadValue}
@@ -89,7 +89,7 @@ is_table found = is_some (as_table found)
 unfoldable pub devices_of : List Data → Result (List DeviceSpec) SetupFault
 devices_of found =
     if list_all is_table found
-    then (if nat_le 1 (length found) && nat_le (length found) MAX_DEVICES
+    then (if nat_le 1 (length found) && nat_le (length found) MAX_LISTED_DEVICES
     then each device_in found
     else Err BadValue)
     else Err BadKey

@@ -76,7 +76,7 @@ impl SetupFault {
 }
 
 /// How many devices a replica may have.
-pub const MAX_DEVICES: usize = 16;
+pub const MAX_LISTED_DEVICES: usize = 16;
 
 /// How many pages a device may have.
 pub const MAX_PAGES: u32 = 1_048_576;
@@ -214,7 +214,7 @@ fn devices_of(alloc: Global, values: &[Value]) -> Result<Vec<DeviceSpec>, SetupF
     if values.is_empty() {
         return Err(SetupFault::BadValue);
     }
-    if values.len() > MAX_DEVICES {
+    if values.len() > MAX_LISTED_DEVICES {
         return Err(SetupFault::BadValue);
     }
     each_device(alloc, values)

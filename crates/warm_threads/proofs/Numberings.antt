@@ -49,38 +49,31 @@ module _ {A B : Type 0} where
   pub pairs_length : (P : A → B → Type 0) (xs : List A) (ys : List B) → Pairs P xs ys → length ys ≡ length xs
   pairs_length P [] [] h = refl
   pairs_length P (a ∷ xs) (b ∷ ys) h = ap (λ (n : ℕ). suc n) (pairs_length P xs ys h.1)
-  pairs_length P [] (b ∷ ys) h = absurd h
-  pairs_length P (a ∷ xs) [] h = absurd h
+  pairs_length P xs ys h = absurd h
 
   -- one more of each
   pub pairs_more : (P : A → B → Type 0) (xs : List A) (ys : List B) (x : A) (y : B) → Pairs P xs ys → P x y → Pairs P (xs ++ x ∷ []) (ys ++ y ∷ [])
   pairs_more P [] [] x y h here = (here, tt)
   pairs_more P (a ∷ xs) (b ∷ ys) x y h here = (h.0, pairs_more P xs ys x y h.1 here)
-  pairs_more P [] (b ∷ ys) x y h here = absurd h
-  pairs_more P (a ∷ xs) [] x y h here = absurd h
+  pairs_more P xs ys x y h here = absurd h
 
   -- what follows of the second of each pair by its number
   pub numbered_pairs : (n : ℕ) (P : A → B → Type 0) (Q : ℕ → A → Type 0) (R : ℕ → B → Type 0) (xs : List A) (ys : List B) → ((j : ℕ) (x : A) (y : B) → P x y → Q j x → R j y)
       → Pairs P xs ys → NumberedFrom n Q xs → NumberedFrom n R ys
   numbered_pairs n P Q R [] [] f pairs h = tt
   numbered_pairs n P Q R (a ∷ xs) (b ∷ ys) f pairs h = (f n a b pairs.0 h.0, numbered_pairs (n + 1) P Q R xs ys f pairs.1 h.1)
-  numbered_pairs n P Q R [] (b ∷ ys) f pairs h = absurd pairs
-  numbered_pairs n P Q R (a ∷ xs) [] f pairs h = absurd pairs
+  numbered_pairs n P Q R xs ys f pairs h = absurd pairs
 
   -- what follows of the second of each pair
   pub all_pairs : (P : A → B → Type 0) (Q : A → Type 0) (R : B → Type 0) (xs : List A) (ys : List B) → ((x : A) (y : B) → P x y → Q x → R y) → Pairs P xs ys → All Q xs → All R ys
   all_pairs P Q R [] [] f pairs h k d low = absurd (omega (arith, low))
   all_pairs P Q R (a ∷ xs) (b ∷ ys) f pairs h zero d low = f a b pairs.0 (h 0 a (omega arith))
   all_pairs P Q R (a ∷ xs) (b ∷ ys) f pairs h (suc k) d low = all_pairs P Q R xs ys f pairs.1 (λ j e less. h (suc j) e (omega (arith, less))) k d (omega (arith, low))
-  all_pairs P Q R [] (b ∷ ys) f pairs h k d low = absurd pairs
-  all_pairs P Q R (a ∷ xs) [] f pairs h k d low = absurd pairs
+  all_pairs P Q R xs ys f pairs h k d low = absurd pairs
 
 module _ {A B D : Type 0} where
   -- the last list of three that agree is as long as the first
   pub triples_length : (P : A → B → D → Type 0) (xs : List A) (ys : List B) (zs : List D) → Triples P xs ys zs → length zs ≡ length xs
   triples_length P [] [] [] h = refl
   triples_length P (a ∷ xs) (b ∷ ys) (d ∷ zs) h = ap (λ (n : ℕ). suc n) (triples_length P xs ys zs h.1)
-  triples_length P [] [] (d ∷ zs) h = absurd h
-  triples_length P [] (b ∷ ys) zs h = absurd h
-  triples_length P (a ∷ xs) [] zs h = absurd h
-  triples_length P (a ∷ xs) (b ∷ ys) [] h = absurd h
+  triples_length P xs ys zs h = absurd h

@@ -61,15 +61,6 @@ module _ {B : Type 0} (f : B → DeviceState) where
       ap (λ (lists : List (List DeviceState)). opened_nodes s 1 lists) (map-append (λ (ds : Vec B). map f ds.items) so_far (v ∷ [])) ∙ opened_more s 1 m (shown so_far) (map f v.items) many in
       rw (more, map-append g nodes (node ∷ []), all, before, here) refl
 
--- the list after those so far
-pub at_seam : {A : Type 0} (so_far rest : List A) (x : A) (xs : List A) → so_far ++ x ∷ rest ≡ xs → (length so_far < length xs) × (get_or xs (length so_far) x ≡ x)
-at_seam so_far rest x xs all = (omega (arith, ap length all, length-append so_far (x ∷ rest)), subst (λ ys. get_or ys (length so_far) x ≡ x) all (get_or-append_seam so_far x rest x))
-
-pub few_here : {B : Type 0} (so_far rest : List (Vec B)) (v : Vec B) (lists : List (Vec B)) → so_far ++ v ∷ rest ≡ lists → All (λ v. length v.items ≤ MAX_DEVICES) lists → length v.items ≤ MAX_DEVICES
-few_here so_far rest v lists all few =
-    let there = at_seam so_far rest v lists all in
-    rw there.1 at (few (length so_far) v there.0)
-
 -- what holds of each, and of one more
 pub all_more : {A : Type 0} (P : A → Type 0) (xs ys : List A) (x : A) → ys ≡ xs ++ x ∷ [] → All P xs → P x → All P ys
 all_more P xs ys x more all here = subst (λ (zs : List _). All P zs) (sym more) (All-append P xs (x ∷ []) all (All-cons P x [] here (All-nil P)))

@@ -6,10 +6,7 @@ ghost use Rattle.warm_play_fault.specs.declared.PlayFault.TheVariants.{Memory, R
 use std::alloc::Global;
 use std::io::{ErrorKind, Read};
 use warm_play_fault::PlayFault;
-
-const READS: u64 = 1 << 40;
-
-const BUFFER: usize = 65536;
+use warm_schedule::{MAX_READS, READ_SIZE};
 
 // Reads once, and puts what was read after the text. `false` at the end of the input. A read that was interrupted has read nothing.
 fn read_some<R: Read>(
@@ -48,11 +45,11 @@ pub(crate) fn read_whole<R: Read>(alloc: Global, reader: &mut R) -> Result<Vec<u
         IfSome (R.remaining reader.old) (λ all. all ≡ text.items)) }
     ensures why { IfErr result (λ why. (why ≡ Memory) ⊎ (why ≡ ReadFault)) }
 {
-    let Ok(mut buffer) = vec![in alloc; 0u8; BUFFER] else {
+    let Ok(mut buffer) = vec![in alloc; 0u8; READ_SIZE] else {
         return Err(PlayFault::Memory);
     };
     let mut text = Vec::new(alloc);
-    for _ in 0..READS {
+    for _ in 0..MAX_READS {
         if !read_some(reader, buffer.as_mut_slice(), &mut text)? {
             return Ok(text);
         }

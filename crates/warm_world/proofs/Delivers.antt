@@ -1,5 +1,5 @@
 -- A frame comes to a replica.
-use Rattle.std.proofs.Common.{◌≡◌, ℕ, ◌+◌, ◌-◌, ◌<◌, ◌++◌, List, [], ◌∷◌, length, map, get_or, set, refl, sym, ◌∙◌, ap, subst, arith}
+use Rattle.std.proofs.Common.{◌≡◌, ℕ, ◌+◌, ◌-◌, List, [], length, get_or, set, refl, ◌∙◌, ap, subst, arith}
 use Rattle.std.specs.Prelude.{◌==◌, if◌then◌else◌}
 use Rattle.std.proofs.lemmas.List.{length-append, length-map}
 use Rattle.warm_history.specs.Histories.{HistoryView, history}
@@ -9,13 +9,13 @@ use Rattle.warm_gossip.specs.Answers.{IsAnswer, taught}
 use Rattle.warm_gossip.specs.State.{NodeView}
 use Rattle.warm_world.specs.declared.event.Event.TheVariants.{Deliver}
 use Rattle.warm_world.specs.declared.event.Answer.{Answer}
-use Rattle.warm_world.specs.declared.event.Answer.TheVariants.{Done, Shown, FrameNo, Took, Pinned, Bytes, Page, Pages, Loaded, Refused}
-use Rattle.warm_world.specs.declared.event.WorldFault.TheVariants.{Node, NoSuchReplica, NoSuchWorker, NoSuchFrame}
-use Rattle.warm_gossip.specs.declared.fault.NodeFault.TheVariants.{Memory, Pool, StaleSlot}
+use Rattle.warm_world.specs.declared.event.Answer.TheVariants.{Took, Refused}
+use Rattle.warm_world.specs.declared.event.WorldFault.TheVariants.{Node}
+use Rattle.warm_gossip.specs.declared.fault.NodeFault.TheVariants.{Memory}
 use Rattle.warm_world.specs.Lists.{Pairwise, place}
 use Rattle.warm_world.specs.Replicas.{Encodes, KeepsAll, Takes}
-use Rattle.warm_world.specs.Seen.{ReplicaSeen, WorldSeen}
-use Rattle.warm_world.specs.States.{ModelState, ReplicaState, FrameRecord, add_records, reach_of, record_at, replica, set_replica}
+use Rattle.warm_world.specs.Seen.{ReplicaSeen}
+use Rattle.warm_world.specs.States.{ModelState, ReplicaState, add_records, reach_of, record_at, replica, set_replica}
 use Rattle.warm_world.specs.Answered.{heard}
 use Rattle.warm_world.specs.Next.{IsNamed}
 use Rattle.warm_world.specs.Stands.{ReplicaStands, SpellsRecord, StandsFor, Stepped, frame_kept, seen_shape}
@@ -94,16 +94,4 @@ module _ {A : Type 0} (f : A → ReplicaSeen) (xs : List A) (frames : List (List
         next = (named_too (world f xs frames xs) m (Deliver j k) st named, refl);
         stands = rw takes.1 (replica_stays f xs frames m (place j) x y st (place_in f xs frames (Deliver j k) named) is same);
       }
-  taken m j k x y frame answers n frames' (Refused (Node (Pool why))) st named is spelled answered learns becomes takes = absurd takes
-  taken m j k x y frame answers n frames' (Refused (Node StaleSlot)) st named is spelled answered learns becomes takes = absurd takes
-  taken m j k x y frame answers n frames' (Refused NoSuchReplica) st named is spelled answered learns becomes takes = absurd takes
-  taken m j k x y frame answers n frames' (Refused NoSuchWorker) st named is spelled answered learns becomes takes = absurd takes
-  taken m j k x y frame answers n frames' (Refused NoSuchFrame) st named is spelled answered learns becomes takes = absurd takes
-  taken m j k x y frame answers n frames' (Done) st named is spelled answered learns becomes takes = absurd takes
-  taken m j k x y frame answers n frames' (Shown h) st named is spelled answered learns becomes takes = absurd takes
-  taken m j k x y frame answers n frames' (FrameNo i) st named is spelled answered learns becomes takes = absurd takes
-  taken m j k x y frame answers n frames' (Pinned slot) st named is spelled answered learns becomes takes = absurd takes
-  taken m j k x y frame answers n frames' (Bytes bs) st named is spelled answered learns becomes takes = absurd takes
-  taken m j k x y frame answers n frames' (Page p) st named is spelled answered learns becomes takes = absurd takes
-  taken m j k x y frame answers n frames' (Pages ps) st named is spelled answered learns becomes takes = absurd takes
-  taken m j k x y frame answers n frames' (Loaded p) st named is spelled answered learns becomes takes = absurd takes
+  taken m j k x y frame answers n frames' answer st named is spelled answered learns becomes takes = absurd takes

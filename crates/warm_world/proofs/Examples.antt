@@ -6,7 +6,7 @@ use Rattle.warm_history.specs.declared.hist.PageHist.TheVariants.{Once, Twice}
 use Rattle.warm_history.specs.ReferenceSets.{these}
 use Rattle.warm_history.specs.Histories.{holding, history}
 use Rattle.warm_history.specs.Carried.{carried}
-use Rattle.warm_world.specs.States.{ReplicaState, no_pool, referred, flushed, received, restarted}
+use Rattle.warm_world.specs.States.{ReplicaState, no_pool, referred, flushed, restarted}
 use Rattle.warm_world.specs.States.{References, Mask}
 use Rattle.warm_world.specs.Answered.{bucket_records, heard}
 use Rattle.warm_world.specs.Next.{stamped}
@@ -43,16 +43,16 @@ all_are_carried : carried (these (at 10 1 ∷ at 20 1 ∷ at 30 1 ∷ [])) 1 Non
 all_are_carried = refl
 
 -- one replica has the page at 10 and 20, the other at 15 and 30: each delivered to the other, both know 30@2 and 20@1
-first_hears : history (received (these (at 15 2 ∷ at 30 2 ∷ [])) (told (at 10 1 ∷ at 20 1 ∷ []) [])).reach ≡ holding (known (at 30 2) (at 20 1) ∷ [])
+first_hears : history (heard (told (at 10 1 ∷ at 20 1 ∷ []) []).reach (References 2 (these (at 15 2 ∷ at 30 2 ∷ [])))) ≡ holding (known (at 30 2) (at 20 1) ∷ [])
 unfolding history
 first_hears = refl
 
-second_hears : history (received (these (at 10 1 ∷ at 20 1 ∷ [])) (told (at 15 2 ∷ at 30 2 ∷ []) [])).reach ≡ holding (known (at 30 2) (at 20 1) ∷ [])
+second_hears : history (heard (told (at 15 2 ∷ at 30 2 ∷ []) []).reach (References 1 (these (at 10 1 ∷ at 20 1 ∷ [])))) ≡ holding (known (at 30 2) (at 20 1) ∷ [])
 unfolding history
 second_hears = refl
 
 -- after a restart a replica hears again what it had sent
-hears_again : history (received (these (at 10 1 ∷ [])) (restarted no_pool (told (at 10 1 ∷ []) (at 20 1 ∷ [])))).reach ≡ holding ((let e : Entry = record { page = record { dev = 0; no = 1 }; hist = Once (at 10 1).stamp } in e) ∷ [])
+hears_again : history (heard (restarted no_pool (told (at 10 1 ∷ []) (at 20 1 ∷ []))).reach (References 2 (these (at 10 1 ∷ [])))) ≡ holding ((let e : Entry = record { page = record { dev = 0; no = 1 }; hist = Once (at 10 1).stamp } in e) ∷ [])
 unfolding history
 hears_again = refl
 

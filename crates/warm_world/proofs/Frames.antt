@@ -1,14 +1,14 @@
 -- Frames that are kept, and the records that they spell.
-use Rattle.std.proofs.Common.{◌≡◌, ℕ, ◌+◌, ◌<◌, ◌-◌, ◌++◌, List, [], ◌∷◌, length, map, take, get_or, refl, sym, ◌∙◌, ap, subst, arith}
+use Rattle.std.proofs.Common.{◌≡◌, ℕ, ◌+◌, ◌<◌, ◌++◌, List, [], ◌∷◌, length, map, take, get_or, refl, sym, ◌∙◌, ap, subst, arith}
 use Rattle.std.proofs.lemmas.List.{get_or-map, length-append, map-append, take_more, length-map}
 use Rattle.std.specs.Global.{Vec}
 use Rattle.warm_frames.specs.declared.frame.Frame.{Frame}
 use Rattle.warm_frames.specs.Spelling.{spelling, Spells}
-use Rattle.warm_gossip.specs.declared.fault.NodeFault.TheVariants.{Memory, Pool, StaleSlot}
+use Rattle.warm_gossip.specs.declared.fault.NodeFault.TheVariants.{Memory}
 use Rattle.warm_world.specs.declared.event.Event.{Event}
 use Rattle.warm_world.specs.declared.event.Answer.{Answer}
-use Rattle.warm_world.specs.declared.event.Answer.TheVariants.{Done, Shown, FrameNo, Took, Pinned, Bytes, Page, Pages, Loaded, Refused}
-use Rattle.warm_world.specs.declared.event.WorldFault.TheVariants.{Node, NoSuchReplica, NoSuchWorker, NoSuchFrame}
+use Rattle.warm_world.specs.declared.event.Answer.TheVariants.{FrameNo, Refused}
+use Rattle.warm_world.specs.declared.event.WorldFault.TheVariants.{Node}
 use Rattle.warm_world.specs.Lists.{IsNumber, Pairwise, place}
 use Rattle.warm_world.specs.Replicas.{Encodes, Keeps}
 use Rattle.warm_world.specs.Seen.{WorldSeen}
@@ -64,16 +64,4 @@ kept_one w w' m event frame (FrameNo k) kept st is keeps next none =
       stands = subst (λ v. StandsFor v (add_records m (kept ∷ []))) (sym keeps.3) (frames_join w m (keeps.0 ∷ []) (kept ∷ []) st (one_spelled keeps.0 kept spells));
     }
 kept_one w w' m event frame (Refused (Node Memory)) kept st is keeps next none = record { new = m; next = none; stands = subst (λ v. StandsFor v m) (sym keeps) st }
-kept_one w w' m event frame (Refused (Node (Pool why))) kept st is keeps next none = absurd keeps
-kept_one w w' m event frame (Refused (Node StaleSlot)) kept st is keeps next none = absurd keeps
-kept_one w w' m event frame (Refused NoSuchReplica) kept st is keeps next none = absurd keeps
-kept_one w w' m event frame (Refused NoSuchWorker) kept st is keeps next none = absurd keeps
-kept_one w w' m event frame (Refused NoSuchFrame) kept st is keeps next none = absurd keeps
-kept_one w w' m event frame Done kept st is keeps next none = absurd keeps
-kept_one w w' m event frame (Shown h) kept st is keeps next none = absurd keeps
-kept_one w w' m event frame (Took count first) kept st is keeps next none = absurd keeps
-kept_one w w' m event frame (Pinned slot) kept st is keeps next none = absurd keeps
-kept_one w w' m event frame (Bytes bytes) kept st is keeps next none = absurd keeps
-kept_one w w' m event frame (Page p) kept st is keeps next none = absurd keeps
-kept_one w w' m event frame (Pages ps) kept st is keeps next none = absurd keeps
-kept_one w w' m event frame (Loaded p) kept st is keeps next none = absurd keeps
+kept_one w w' m event frame answer kept st is keeps next none = absurd keeps

@@ -1,5 +1,5 @@
 -- Lists of devices, and a replica over each.
-use Rattle.std.proofs.Common.{◌≡◌, ℕ, ◌+◌, ◌<◌, ◌≤◌, ◌++◌, List, [], ◌∷◌, length, map, get_or, refl, sym, ◌∙◌, ap, subst, inl, inr, arith}
+use Rattle.std.proofs.Common.{◌≡◌, ℕ, ◌+◌, ◌<◌, ◌≤◌, ◌++◌, List, [], ◌∷◌, length, map, get_or, sym, ◌∙◌, ap, subst, inl, inr, arith}
 use Rattle.std.specs.Global.{Vec}
 use Rattle.std.proofs.Math.Seq.{get_or-append_seam}
 use Rattle.std.proofs.lemmas.Bool.{cases_lt}
@@ -12,7 +12,7 @@ use Rattle.warm_world.specs.Lists.{Pairwise}
 use Rattle.warm_world.specs.Opening.{AreFew, AreSized, devices_at}
 use Rattle.warm_world.specs.Seen.{AreNodes, ReplicaSeen}
 use Rattle.warm_world.specs.Sizes.{Sizes}
-use Rattle.warm_world.specs.States.{ReplicaState, opened_over}
+use Rattle.warm_world.specs.States.{opened_over}
 use Rattle.warm_world.specs.Stands.{ReplicaStands}
 use Rattle.warm_world.proofs.Pairs.{Pairwise-push}
 
@@ -72,12 +72,6 @@ module _ {B : Type 0} (f : B → DeviceState) where
       let there = at_seam so_far rest v lists all in
       subst (λ n. n ≤ MAX_DEVICES) (ap length (listed_at lists (length so_far) v there.0 there.1) ∙ length-map v.items f) (few (length so_far) (subst (λ n. length so_far < n) (sym (count lists)) there.0))
 
-  -- there are as many replicas as lists so far, so few that one more has a number
-  pub numbered : {A : Type 0} (g : A → ReplicaSeen) (s : Sizes) (room : ℕ) (rs : List A) (so_far rest : List (Vec B)) (v : Vec B) (lists : List (Vec B)) → so_far ++ v ∷ rest ≡ lists
-      → Pairwise (ReplicaStands room) (map g rs) (map (opened_over s) (shown so_far)) → length rs < length lists
-  numbered g s room rs so_far rest v lists all stand =
-      omega (arith, (at_seam so_far rest v lists all).0, stand.same_length, length-map rs g, length-map (shown so_far) (opened_over s), count so_far)
-
   -- a replica over one list more
   pub one_more : {A : Type 0} (g : A → ReplicaSeen) (s : Sizes) (rs rs' : List A) (r : A) (so_far : List (Vec B)) (v : Vec B) → rs' ≡ rs ++ r ∷ []
       → Pairwise (ReplicaStands s.buffer) (map g rs) (map (opened_over s) (shown so_far)) → ReplicaStands s.buffer (length rs) (g r) (opened_over s (map f v.items))
@@ -88,9 +82,6 @@ module _ {B : Type 0} (f : B → DeviceState) where
       (subst (λ n. ReplicaStands s.buffer n (g r) (opened_over s (map f v.items))) (sym (length-map rs g)) here))
 
 -- ---- nodes
-
-pub no_nodes : AreNodes []
-no_nodes = record { each = λ k other low. absurd (omega (arith, low)) }
 
 pub node_more : {A : Type 0} (g : A → NodeState) (rs rs' : List A) (r : A) → rs' ≡ rs ++ r ∷ [] → AreNodes (map g rs) → IsNode (g r) → AreNodes (map g rs')
 node_more g rs rs' r more fit here = record {

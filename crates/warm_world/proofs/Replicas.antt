@@ -17,7 +17,7 @@ use Rattle.warm_pool.specs.View.{PoolView, view_of}
 use Rattle.warm_gossip.specs.State.{NodeState, NodeView, node_view, opened}
 use Rattle.warm_world.specs.Sizes.{Sizes}
 use Rattle.warm_world.specs.Seen.{ReplicaSeen}
-use Rattle.warm_world.specs.Replicas.{cleared}
+use Rattle.warm_refbuffer.specs.Buffered.{cleared}
 use Rattle.warm_world.specs.Stands.{ReplicaStands, buffered}
 
 pub buffer_at : (room : ℕ) (bs : List Buffered) (ps : List (List Reference)) (w : ℕ) (d : Buffered) → bs ≡ map (buffered room) ps → w < length bs → get_or bs w d ≡ buffered room (get_or ps w [])

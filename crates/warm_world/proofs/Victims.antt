@@ -1,5 +1,5 @@
 -- The page that leaves is one of greatest backward 2-distance.
-use Rattle.std.proofs.Common.{◌≡◌, ℕ, ◌+◌, ◌-◌, ◌<◌, List, [], ◌∷◌, ◌++◌, length, map, set, get_or, Option, Some, None, refl, sym, ◌∙◌, ap, subst, inl, inr, arith}
+use Rattle.std.proofs.Common.{◌≡◌, ℕ, ◌+◌, ◌<◌, List, length, set, get_or, Option, Some, None, refl, sym, ◌∙◌, ap, subst, inl, inr, arith}
 use Rattle.std.proofs.lemmas.Bool.{cases_eq}
 use Rattle.std.proofs.lemmas.List.{get_or-set_same, get_or-set_other, length-map}
 use Rattle.warm_stamps.specs.declared.PageId.{PageId}
@@ -12,18 +12,15 @@ use Rattle.warm_pool.specs.declared.fault.PoolFault.TheVariants as fault
 use Rattle.warm_pool.specs.declared.slot.Slot.{Slot}
 use Rattle.warm_pool.specs.Pinning.{AddsFix, LoadRefused, PinRefused, PutRefused, PutsIn}
 use Rattle.warm_pool.specs.View.{FrameView, PoolView, IsAbsent, IsResident, frame_at, unfixed_pages}
-use Rattle.warm_gossip.specs.declared.fault.NodeFault.{NodeFault}
 use Rattle.warm_gossip.specs.declared.fault.NodeFault.TheVariants as node
-use Rattle.warm_gossip.specs.declared.call.Call.{Call}
-use Rattle.warm_gossip.specs.declared.call.Reply.{Reply}
 use Rattle.warm_world.specs.declared.event.Event.{Event}
-use Rattle.warm_world.specs.declared.event.Event.TheVariants.{Refer, Flush, Send, Offer, Deliver, Pin, Unpin, Put, Get, Victim, Warm, WarmStep, Restart, Show}
+use Rattle.warm_world.specs.declared.event.Event.TheVariants.{Pin, Victim, WarmStep}
 use Rattle.warm_world.specs.declared.event.Answer.{Answer}
-use Rattle.warm_world.specs.declared.event.Answer.TheVariants.{Done, Shown, FrameNo, Took, Pinned, Bytes, Page, Pages, Loaded, Refused}
-use Rattle.warm_world.specs.declared.event.WorldFault.TheVariants.{Node, NoSuchReplica, NoSuchWorker, NoSuchFrame}
+use Rattle.warm_world.specs.declared.event.Answer.TheVariants.{Pinned, Page, Loaded, Refused}
+use Rattle.warm_world.specs.declared.event.WorldFault.TheVariants.{Node}
 use Rattle.warm_world.specs.Lists.{place}
-use Rattle.warm_world.specs.States.{ModelState, ReplicaState, nobody, node_of, pool_of, reach_of, replica, set_pool}
-use Rattle.warm_world.specs.Next.{Asked, IsNamed, Next, replica_of, shape}
+use Rattle.warm_world.specs.States.{ModelState, ReplicaState, nobody, pool_of, reach_of, replica, set_pool}
+use Rattle.warm_world.specs.Next.{IsNamed, Next, replica_of, shape}
 use Rattle.warm_world.specs.Stands.{IsRightVictim, Leaves, MayLoad, VictimsAreFarthest}
 
 abbrev fr : PoolView → List FrameView
@@ -68,47 +65,21 @@ victim_left S v w p n slot page puts there gone =
 -- ---- a refused call leaves every page where it is
 
 put_refused : (h : HistoryView) (v : PoolView) (p : PageId) (why : PoolFault) (w : PoolView) → PutRefused h v p why w → w.frames ≡ v.frames
-put_refused h v p fault.Memory w r = absurd r
-put_refused h v p fault.BadFrames w r = absurd r
-put_refused h v p fault.SizeDiffers w r = absurd r
-put_refused h v p fault.NoDevice w r = absurd r
-put_refused h v p fault.NoPage w r = absurd r
 put_refused h v p fault.AllFixed w r = ap fr r.1
 put_refused h v p fault.ReadFault w r = ap fr r.1.becomes
 put_refused h v p fault.WriteBack w r = ap fr r.4.becomes
 put_refused h v p fault.FixesFull w r = ap fr r.1
-put_refused h v p fault.OutOfPage w r = absurd r
-put_refused h v p fault.Fixed w r = absurd r
-put_refused h v p fault.Fault w r = absurd r
+put_refused h v p why w r = absurd r
 
 load_refused : (h : HistoryView) (v : PoolView) (p : PageId) (why : PoolFault) (w : PoolView) → LoadRefused h v p why w → w.frames ≡ v.frames
-load_refused h v p fault.Memory w r = put_refused h v p fault.Memory w r.2
-load_refused h v p fault.BadFrames w r = put_refused h v p fault.BadFrames w r.2
-load_refused h v p fault.SizeDiffers w r = put_refused h v p fault.SizeDiffers w r.2
 load_refused h v p fault.NoDevice w r = ap fr r.1
 load_refused h v p fault.NoPage w r = ap fr r.2
-load_refused h v p fault.AllFixed w r = put_refused h v p fault.AllFixed w r.2
-load_refused h v p fault.ReadFault w r = put_refused h v p fault.ReadFault w r.2
-load_refused h v p fault.WriteBack w r = put_refused h v p fault.WriteBack w r.2
-load_refused h v p fault.FixesFull w r = put_refused h v p fault.FixesFull w r.2
-load_refused h v p fault.OutOfPage w r = put_refused h v p fault.OutOfPage w r.2
-load_refused h v p fault.Fixed w r = put_refused h v p fault.Fixed w r.2
-load_refused h v p fault.Fault w r = put_refused h v p fault.Fault w r.2
+load_refused h v p why w r = put_refused h v p why w r.2
 
 pin_refused : (h : HistoryView) (v : PoolView) (p : PageId) (why : PoolFault) (w : PoolView) → PinRefused h v p why w → w.frames ≡ v.frames
-pin_refused h v p fault.Memory w r = load_refused h v p fault.Memory w r
-pin_refused h v p fault.BadFrames w r = load_refused h v p fault.BadFrames w r
-pin_refused h v p fault.SizeDiffers w r = load_refused h v p fault.SizeDiffers w r
-pin_refused h v p fault.NoDevice w r = load_refused h v p fault.NoDevice w r
-pin_refused h v p fault.NoPage w r = load_refused h v p fault.NoPage w r
-pin_refused h v p fault.AllFixed w r = load_refused h v p fault.AllFixed w r
-pin_refused h v p fault.ReadFault w r = load_refused h v p fault.ReadFault w r
-pin_refused h v p fault.WriteBack w r = load_refused h v p fault.WriteBack w r
 pin_refused h v p fault.FixesFull w (inl full) = ap fr full.2
 pin_refused h v p fault.FixesFull w (inr r) = load_refused h v p fault.FixesFull w r
-pin_refused h v p fault.OutOfPage w r = load_refused h v p fault.OutOfPage w r
-pin_refused h v p fault.Fixed w r = load_refused h v p fault.Fixed w r
-pin_refused h v p fault.Fault w r = load_refused h v p fault.Fault w r
+pin_refused h v p why w r = load_refused h v p why w r
 
 -- ---- events
 
@@ -123,14 +94,6 @@ gone_by : (old new : ModelState) (i : ℕ) (pool : PoolView) (event : Event) (pa
 gone_by old new i pool event page of named is leaves = subst (λ v. IsAbsent v page) (pool_after old new i pool event of named is) leaves.after
 
 pinned_left : (old : ModelState) (i : ℕ) (p : PageId) (answer : Answer) (new : ModelState) → Next old (Pin i p) answer new → (page : PageId) → Leaves i old new page → IsRightVictim i old page
-pinned_left old i p (Done) new next page leaves = absurd next.1
-pinned_left old i p (Shown h) new next page leaves = absurd next.1
-pinned_left old i p (FrameNo k) new next page leaves = absurd next.1
-pinned_left old i p (Took count first) new next page leaves = absurd next.1
-pinned_left old i p (Bytes bs) new next page leaves = absurd next.1
-pinned_left old i p (Page q) new next page leaves = absurd next.1
-pinned_left old i p (Pages ps) new next page leaves = absurd next.1
-pinned_left old i p (Loaded q) new next page leaves = absurd next.1
 pinned_left old i p (Pinned slot) new next page leaves =
     let gone = gone_by old new i next.1.0 (Pin i p) page refl next.0 next.1.2 leaves in
     elim next.1.1.1.1 [
@@ -141,19 +104,10 @@ pinned_left old i p (Refused (Node (node.Pool why))) new next page leaves =
     absurd (same_stays (pool_of old i) next.1.0 page (pin_refused (history (reach_of old i)) (pool_of old i) p why next.1.0 next.1.1.1) leaves.before (gone_by old new i next.1.0 (Pin i p) page refl next.0 next.1.2 leaves))
 pinned_left old i p (Refused (Node node.Memory)) new next page leaves = absurd next.1.1
 pinned_left old i p (Refused (Node node.StaleSlot)) new next page leaves = absurd next.1.1
-pinned_left old i p (Refused NoSuchReplica) new next page leaves = absurd (same_stays (pool_of old i) (pool_of new i) page (ap (λ (m : ModelState). (pool_of m i).frames) next.1) leaves.before leaves.after)
-pinned_left old i p (Refused NoSuchWorker) new next page leaves = absurd (same_stays (pool_of old i) (pool_of new i) page (ap (λ (m : ModelState). (pool_of m i).frames) next.1) leaves.before leaves.after)
-pinned_left old i p (Refused NoSuchFrame) new next page leaves = absurd (same_stays (pool_of old i) (pool_of new i) page (ap (λ (m : ModelState). (pool_of m i).frames) next.1) leaves.before leaves.after)
+pinned_left old i p (Refused why) new next page leaves = absurd (same_stays (pool_of old i) (pool_of new i) page (ap (λ (m : ModelState). (pool_of m i).frames) next.1) leaves.before leaves.after)
+pinned_left old i p answer new next page leaves = absurd next.1
 
 warmed_left : (old : ModelState) (i : ℕ) (answer : Answer) (new : ModelState) → Next old (WarmStep i) answer new → (page : PageId) → Leaves i old new page → IsRightVictim i old page
-warmed_left old i (Done) new next page leaves = absurd next.1
-warmed_left old i (Shown h) new next page leaves = absurd next.1
-warmed_left old i (FrameNo k) new next page leaves = absurd next.1
-warmed_left old i (Took count first) new next page leaves = absurd next.1
-warmed_left old i (Bytes bs) new next page leaves = absurd next.1
-warmed_left old i (Page q) new next page leaves = absurd next.1
-warmed_left old i (Pages ps) new next page leaves = absurd next.1
-warmed_left old i (Pinned slot) new next page leaves = absurd next.1
 warmed_left old i (Loaded None) new next page leaves =
     absurd (same_stays (pool_of old i) next.1.0 page (ap (λ n. fr n.pool) next.1.1.1) leaves.before (gone_by old new i next.1.0 (WarmStep i) page refl next.0 next.1.2 leaves))
 warmed_left old i (Loaded (Some p)) new next page leaves =
@@ -163,25 +117,13 @@ warmed_left old i (Refused (Node (node.Pool why))) new next page leaves =
 warmed_left old i (Refused (Node node.Memory)) new next page leaves =
     absurd (same_stays (pool_of old i) next.1.0 page (ap (λ n. fr n.pool) next.1.1) leaves.before (gone_by old new i next.1.0 (WarmStep i) page refl next.0 next.1.2 leaves))
 warmed_left old i (Refused (Node node.StaleSlot)) new next page leaves = absurd next.1.1
-warmed_left old i (Refused NoSuchReplica) new next page leaves = absurd (same_stays (pool_of old i) (pool_of new i) page (ap (λ (m : ModelState). (pool_of m i).frames) next.1) leaves.before leaves.after)
-warmed_left old i (Refused NoSuchWorker) new next page leaves = absurd (same_stays (pool_of old i) (pool_of new i) page (ap (λ (m : ModelState). (pool_of m i).frames) next.1) leaves.before leaves.after)
-warmed_left old i (Refused NoSuchFrame) new next page leaves = absurd (same_stays (pool_of old i) (pool_of new i) page (ap (λ (m : ModelState). (pool_of m i).frames) next.1) leaves.before leaves.after)
+warmed_left old i (Refused why) new next page leaves = absurd (same_stays (pool_of old i) (pool_of new i) page (ap (λ (m : ModelState). (pool_of m i).frames) next.1) leaves.before leaves.after)
+warmed_left old i answer new next page leaves = absurd next.1
 
 left_of : (old : ModelState) (event : Event) (answer : Answer) (new : ModelState) → Next old event answer new → (i : ℕ) (page : PageId) → MayLoad i event → Leaves i old new page → IsRightVictim i old page
 left_of old (Pin j p) answer new next i page is leaves = subst (λ n. Leaves n old new page → IsRightVictim n old page) is (pinned_left old j p answer new next page) leaves
 left_of old (WarmStep j) answer new next i page is leaves = subst (λ n. Leaves n old new page → IsRightVictim n old page) is (warmed_left old j answer new next page) leaves
-left_of old (Refer j w p t) answer new next i page is leaves = absurd is
-left_of old (Flush j w) answer new next i page is leaves = absurd is
-left_of old (Send j b a) answer new next i page is leaves = absurd is
-left_of old (Offer j) answer new next i page is leaves = absurd is
-left_of old (Deliver j k) answer new next i page is leaves = absurd is
-left_of old (Unpin j s) answer new next i page is leaves = absurd is
-left_of old (Put j s at bs) answer new next i page is leaves = absurd is
-left_of old (Get j s at len) answer new next i page is leaves = absurd is
-left_of old (Victim j) answer new next i page is leaves = absurd is
-left_of old (Warm j n) answer new next i page is leaves = absurd is
-left_of old (Restart j) answer new next i page is leaves = absurd is
-left_of old (Show j) answer new next i page is leaves = absurd is
+left_of old event answer new next i page is leaves = absurd is
 
 named_of : (old : ModelState) (i : ℕ) (page : PageId) (new : ModelState) → Next old (Victim i) (Page (Some page)) new → IsRightVictim i old page
 named_of old i page new next = victim_is_farthest (history (reach_of old i)) (reach_of old i) refl (unfixed_pages (pool_of old i)) page next.1.1.0

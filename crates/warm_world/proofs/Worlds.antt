@@ -1,10 +1,9 @@
 -- One replica of a world changes, or nothing does.
-use Rattle.std.proofs.Common.{◌≡◌, ℕ, ◌+◌, ◌-◌, ◌<◌, List, [], ◌∷◌, ◌++◌, length, map, get_or, refl, sym, ◌∙◌, ap, subst, arith}
+use Rattle.std.proofs.Common.{◌≡◌, ℕ, ◌+◌, ◌<◌, List, length, map, get_or, refl, sym, ◌∙◌, ap, subst, arith}
 use Rattle.std.proofs.Math.ListN.{set}
 use Rattle.std.proofs.lemmas.List.{get_or-map, set-get_or, length-map, length-set, map-set}
 use Rattle.warm_refbuffer.specs.Buffered.{Buffered}
 use Rattle.warm_pool.proofs.Slots.{at_set}
-use Rattle.warm_pool.specs.View.{PoolView}
 use Rattle.warm_history.specs.Histories.{history}
 use Rattle.warm_gossip.specs.declared.call.Call.{Call}
 use Rattle.warm_gossip.specs.declared.call.Reply.{Reply}
@@ -19,8 +18,8 @@ use Rattle.warm_world.specs.declared.event.WorldFault.{WorldFault}
 use Rattle.warm_world.specs.declared.event.WorldFault.TheVariants.{Node, NoSuchReplica, NoSuchWorker, NoSuchFrame}
 use Rattle.warm_world.specs.Lists.{IsNumber, Pairwise, place}
 use Rattle.warm_world.specs.Seen.{AreNodes, ReplicaSeen, WorldSeen}
-use Rattle.warm_world.specs.States.{ModelState, ReplicaState, FrameRecord, node_of, nobody, pool_of, replica, set_pool, set_replica}
-use Rattle.warm_world.specs.Next.{Asked, IsMissing, IsNamed, IsRefused, Next, Shape, replica_of, shape}
+use Rattle.warm_world.specs.States.{ModelState, ReplicaState, node_of, nobody, pool_of, replica, set_pool, set_replica}
+use Rattle.warm_world.specs.Next.{Asked, IsMissing, IsNamed, Next, Shape, replica_of, shape}
 use Rattle.warm_world.specs.Stands.{ReplicaStands, StandsFor, Stepped, buffered, seen_shape}
 use Rattle.warm_world.proofs.Alone.{IsAlone}
 use Rattle.warm_world.proofs.Pairs.{Pairwise-set, Pairwise-map}

@@ -1,5 +1,5 @@
 -- What a replica answers to a frame, as the references that the answered frames bring.
-use Rattle.std.specs.Prelude.{◌≡◌, ℕ, ◌<◌, ◌==◌, List, [], ◌∷◌, ◌++◌, Option, None, if◌then◌else◌}
+use Rattle.std.specs.Prelude.{◌≡◌, ◌^◌, ℕ, ◌<◌, ◌==◌, List, [], ◌∷◌, ◌++◌, Option, None, if◌then◌else◌}
 use Rattle.std.specs.List.{flat_map}
 use Rattle.warm_stamps.specs.declared.PageId.{PageId}
 use Rattle.warm_history.specs.declared.hist.Entry.{Entry}
@@ -31,7 +31,7 @@ wanted_records i S mask = flat_map (bucket_records i S) (buckets_in mask)
 abbrev pub AreAnswers : ℕ → ReferenceSet → FrameRecord → List FrameRecord → Type 0
 AreAnswers i S (References sender refs) added = added ≡ []
 AreAnswers i S (Mask sender mask) added = added ≡ wanted_records i S mask
-AreAnswers i S (Sums sender sums) added = (mask : ℕ) × (mask < 18446744073709551616) × IsDiffering sums (history S) mask
+AreAnswers i S (Sums sender sums) added = (mask : ℕ) × (mask < 2 ^ 64) × IsDiffering sums (history S) mask
     × (added ≡ if mask == 0 then [] else wanted_records i S mask ++ Mask i mask ∷ [])
 
 -- what has reached a replica once a frame came

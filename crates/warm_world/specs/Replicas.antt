@@ -1,7 +1,7 @@
 -- What becomes of a replica, and of the frames that are kept.
 use Rattle.std.specs.Prelude.{◌≡◌, ◌≢◌, ◌==◌, ◌+◌, ◌-◌, if◌then◌else◌, ℕ, List, [], ◌∷◌, ◌++◌, length, map, Result, Ok, Err}
 use Rattle.warm_history.specs.Histories.{holding}
-use Rattle.warm_refbuffer.specs.Buffered.{Buffered}
+use Rattle.warm_refbuffer.specs.Buffered.{cleared}
 use Rattle.warm_frames.specs.declared.frame.Frame.{Frame}
 use Rattle.warm_frames.specs.Spelling.{spelling, Spells}
 use Rattle.warm_pool.specs.View.{PoolView}
@@ -10,17 +10,12 @@ use Rattle.warm_gossip.specs.declared.call.Call.TheVariants as call
 use Rattle.warm_gossip.specs.declared.call.Reply.TheVariants as reply
 use Rattle.warm_gossip.specs.declared.fault.NodeFault.{NodeFault}
 use Rattle.warm_gossip.specs.declared.fault.NodeFault.TheVariants.{Memory}
-use Rattle.warm_gossip.specs.State.{NodeView}
 use Rattle.warm_gossip.specs.Step.{Step}
 use Rattle.warm_world.specs.declared.event.Answer.{Answer}
 use Rattle.warm_world.specs.declared.event.Answer.TheVariants.{FrameNo, Took, Refused}
 use Rattle.warm_world.specs.declared.event.WorldFault.TheVariants.{Node}
 use Rattle.warm_world.specs.Lists.{Pairwise}
 use Rattle.warm_world.specs.Seen.{ReplicaSeen, WorldSeen}
-
--- the buffer with nothing in it
-abbrev pub cleared : Buffered → Buffered
-cleared b = record b { refs = [] }
 
 -- the replica has restarted, or its node has refused to
 abbrev pub Restarts : ReplicaSeen → Result Unit NodeFault → ReplicaSeen → Type 0

@@ -83,10 +83,6 @@ put_last k x r = record r { pending = slice_set r.pending k (pending r k ++ x �
 abbrev pub referred : ℕ → ℕ → Reference → ReplicaState → ReplicaState
 referred room k x r = put_last k x (if nat_le room (length (pending r k)) then flushed k r else r)
 
--- references come from another replica
-abbrev pub received : ReferenceSet → ReplicaState → ReplicaState
-received refs r = record r { reach = r.reach ∪ refs }
-
 -- nothing reached it since, and nothing waits; its pool is left so
 abbrev pub restarted : PoolView → ReplicaState → ReplicaState
 restarted pool r = record { reach = these []; pending = map (λ _. []) r.pending; pool = pool }

@@ -14,7 +14,7 @@
 mod event;
 mod gossip;
 pub mod laws;
-mod pages;
+mod pool_events;
 mod replica;
 mod setup;
 mod world;

@@ -11,7 +11,8 @@ ghost use Rattle.warm_world.specs.States.{flushed, put_last, referred};
 ghost use Rattle.warm_world.specs.Next.{stamped};
 ghost use Rattle.warm_world.specs.Seen.{seen_replica};
 ghost use Rattle.warm_world.specs.Stands.{buffered, ReplicaStands, Becomes, IsFull};
-ghost use Rattle.warm_world.specs.Replicas.{Restarts, cleared};
+ghost use Rattle.warm_refbuffer.specs.Buffered.{cleared};
+ghost use Rattle.warm_world.specs.Replicas.{Restarts};
 
 use crate::setup::Setup;
 use std::alloc::{AllocError, Global};

@@ -87,7 +87,8 @@ fn replicas_over(
         let Ok(id) = ReplicaId::new(replicas.len() as u16 + 1) else {
             unreachable!()
         };
-        replicas.push(Replica::new(alloc, id, setup, list)?)?;
+        let replica = Replica::new(alloc, id, setup, list)?;
+        replicas.push_reserved(replica);
     }
     Ok(replicas)
 }

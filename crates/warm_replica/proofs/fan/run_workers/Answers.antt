@@ -3,7 +3,7 @@ use Rattle.std.proofs.lemmas.Result.{IfOk-at_ok}
 use Rattle.warm_turn.specs.Turns.{Joined, Widened}
 use Rattle.warm_replica.specs.Fanning.{ReadyWentAs}
 use Rattle.warm_replica.specs.Pairs.{Triples}
-use Rattle.warm_replica.proofs.Readies.{jobs_went}
+use Rattle.warm_replica.proofs.Readies.{has_seen_more, jobs_went}
 use Rattle.warm_replica.proofs.fan.run_workers.Goals as goal
 
 pub returns-in-Ok-ran-clause-went : goal.returns-in-Ok-ran-clause-went
@@ -17,3 +17,12 @@ returns-in-Ok-ran-clause-went g c =
     (subst (λ u. Widened u fanned.0 own) given.1 fanned.1)
     (subst (λ u. Joined g.M.Machine.goes u own c.end.new.pass.view) (ap (λ p. p.view) c.pass-own.ensures.same) c.end.ensures.seen)
     (IfOk-at_ok (λ w. Triples ReadyWentAs c.in-Ok.ready.items w.items fanned.0) c.in-Ok-ran.is fanned.2)
+
+pub returns-in-Err-clause-started : goal.returns-in-Err-clause-started
+returns-in-Err-clause-started g c = λ _.
+    let given = c.pass-own.ensures.given in
+    let own = c.run_ready-own.result.0.view in
+    let fanned = c.run_ready-own.ensures.fanned in
+    has_seen_more g.M.Machine.goes c.args.pass.now.view own c.end.new.pass.view given.0 fanned.0
+    (subst (λ u. Widened u fanned.0 own) given.1 fanned.1)
+    (subst (λ u. Joined g.M.Machine.goes u own c.end.new.pass.view) (ap (λ p. p.view) c.pass-own.ensures.same) c.end.ensures.seen)

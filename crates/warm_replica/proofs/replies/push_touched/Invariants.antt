@@ -1,4 +1,4 @@
-use Rattle.std.proofs.Common.{◌≡◌, ◌≤◌, ◌+◌, ◌++◌, length, replicate, vec_capacity}
+use Rattle.std.proofs.Common.{◌≡◌, ◌≤◌, ◌++◌, replicate, vec_capacity}
 use Rattle.warm_replica.specs.declared.job.StepReply.TheVariants.{Touched}
 use Rattle.warm_replica.proofs.replies.push_touched.Given as goal
 

@@ -1,4 +1,4 @@
-use Rattle.std.proofs.Common.{◌≡◌, List, ℕ, [], ◌++◌, subst, sym, arith}
+use Rattle.std.proofs.Common.{◌≡◌, [], ◌++◌, sym, arith}
 use Rattle.warm_random.proofs.Written.{Appends-none, Appends-then}
 use Rattle.warm_schedule.proofs.Stream.{Consumes-none, Consumes-then, Consumes-all, if_some_map, Goes-none, Goes-then, Goes-whole, Played-text}
 use Rattle.warm_schedule.proofs.player.play.Goals as goal

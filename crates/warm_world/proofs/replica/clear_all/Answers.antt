@@ -1,7 +1,7 @@
 use Rattle.std.proofs.Common.{◌≡◌, ◌<◌, ◌≤◌, length, map, sym, ◌∙◌, ap, arith}
 use Rattle.std.proofs.lemmas.List.{append-nil, with_items_is, take_all, drop_all}
 use Rattle.std.proofs.lemmas.List.Edits.{map_over_more}
-use Rattle.warm_world.specs.Replicas.{cleared}
+use Rattle.warm_refbuffer.specs.Buffered.{cleared}
 use Rattle.warm_world.proofs.replica.clear_all.Goals as goal
 
 pub loop-buffer-preserved : goal.loop-buffer-preserved

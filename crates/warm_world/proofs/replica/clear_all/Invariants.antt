@@ -1,5 +1,5 @@
 use Rattle.std.proofs.Common.{◌≡◌, map, take, drop, ◌++◌}
-use Rattle.warm_world.specs.Replicas.{cleared}
+use Rattle.warm_refbuffer.specs.Buffered.{cleared}
 use Rattle.warm_world.proofs.replica.clear_all.Given as goal
 
 -- the buffers so far are empty, and the others as they were

@@ -1,4 +1,4 @@
-use Rattle.std.proofs.Common.{◌≡◌, ◌++◌, length, map}
+use Rattle.std.proofs.Common.{◌≡◌, ◌≤◌, ◌++◌, length, map, vec_capacity}
 use Rattle.std.specs.Vec.Iter.{into_iter_items}
 use Rattle.warm_gossip.specs.Clauses.{node_state}
 use Rattle.warm_world.specs.Lists.{Pairwise}
@@ -7,11 +7,13 @@ use Rattle.warm_world.specs.States.{opened_over}
 use Rattle.warm_world.specs.Stands.{ReplicaStands}
 use Rattle.warm_world.proofs.world.replicas_over.Given as goal
 
--- a replica over each list so far
+-- a replica over each list so far, and room for one over each
 abbrev pub invariant-loop-list : goal.invariant-loop-list
 invariant-loop-list g l = record {
   rest : l.yielded ++ into_iter_items l.list-iterator ≡ l.fn.devices.items;
   fit : AreNodes (map (λ r. node_state (λ b. (goal.PageDevice-dyn g (b.vtable, b.value)).state b.value) r.node) l.replicas.items);
   stand : Pairwise (ReplicaStands l.fn.setup.buffer) (map (seen_replica (λ b. (goal.PageDevice-dyn g (b.vtable, b.value)).state b.value)) l.replicas.items)
       (map (opened_over l.fn.setup) (listed (λ b. (goal.PageDevice-dyn g (b.vtable, b.value)).state b.value) l.yielded));
+  count : length l.replicas.items ≡ length l.yielded;
+  room : length l.fn.devices.items ≤ vec_capacity l.replicas;
 }

@@ -1,4 +1,4 @@
-use Rattle.std.proofs.Common.{◌≡◌, ap, ◌∙◌, List, ℕ}
+use Rattle.std.proofs.Common.{◌≡◌, ap, ◌∙◌}
 use Rattle.warm_schedule.proofs.Stream.{answers_same}
 use Rattle.warm_schedule.proofs.player.Session.answer_held.Goals as goal
 

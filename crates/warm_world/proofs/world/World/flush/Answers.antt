@@ -1,9 +1,7 @@
-use Rattle.std.proofs.Common.{◌≡◌, ℕ, [], ◌+◌, ◌-◌, refl, sym, ap, ◌∙◌, arith}
-use Rattle.warm_gossip.specs.State.{NodeView}
+use Rattle.std.proofs.Common.{[], ◌-◌, refl}
 use Rattle.warm_world.specs.declared.event.Event.TheVariants.{Flush}
 use Rattle.warm_world.specs.declared.event.Answer.TheVariants.{Done}
 use Rattle.warm_world.specs.States.{replica, flushed}
-use Rattle.warm_world.specs.Next.{stamped}
 use Rattle.warm_world.proofs.Worlds.{changes, named_too, node_at, no_memory, place_in, stands_at, still_nodes, worker_in}
 use Rattle.warm_world.proofs.world.World.flush.Goals as goal
 

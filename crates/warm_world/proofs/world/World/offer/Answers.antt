@@ -1,5 +1,5 @@
 use Rattle.std.proofs.Common.{◌≡◌, ◌+◌, ◌-◌, ap, arith, refl, ◌∙◌}
-use Rattle.warm_history.specs.Histories.{HistoryView, entries_of, history}
+use Rattle.warm_history.specs.Histories.{entries_of, history}
 use Rattle.warm_digest.specs.BucketSums.{sums_of}
 use Rattle.warm_gossip.specs.State.{NodeView}
 use Rattle.warm_world.specs.declared.event.Event.TheVariants.{Offer}

@@ -4,7 +4,7 @@ use Rattle.warm_gossip.specs.declared.call.Call.TheVariants as call
 use Rattle.warm_gossip.specs.declared.call.Reply.TheVariants as reply
 use Rattle.warm_world.specs.declared.event.Answer.TheVariants as answer
 use Rattle.warm_world.specs.declared.event.WorldFault.TheVariants.{Node}
-use Rattle.warm_world.proofs.Alone.{write_refused_alone}
+use Rattle.warm_world.proofs.Alone.{refused_alone}
 use Rattle.warm_world.proofs.Worlds.{asked, node_at, place_in, still_nodes}
 use Rattle.warm_world.proofs.world.World.put.Goals as goal
 
@@ -25,4 +25,4 @@ returns-in-Ok-clause-step g c = λ m st.
 pub returns-in-Err-clause-step : goal.returns-in-Err-clause-step
 returns-in-Err-clause-step g c = λ m st.
     asked _ _ _ m (Put c.args.i c.args.slot c.args.at c.args.bytes.now) (call.Write c.args.slot c.args.at c.args.bytes.now) (reply.Refused c.in-Err.why) (answer.Refused (Node c.in-Err.why)) _ _ _ st c.requires.named c.index_mut.ensures.value refl
-    (write_refused_alone _ _ _ _ _ c.in-Err.why c.in-Err.ensures.step) c.in-Err.ensures.step (λ new named asks. (named, asks))
+    (refused_alone _ _ (call.Write c.args.slot c.args.at c.args.bytes.now) c.in-Err.why c.in-Err.ensures.step) c.in-Err.ensures.step (λ new named asks. (named, asks))

@@ -7,9 +7,9 @@ use Rattle.warm_world.specs.declared.event.Event.TheVariants.{Restart}
 use Rattle.warm_world.specs.declared.event.Answer.TheVariants as answer
 use Rattle.warm_world.specs.declared.event.WorldFault.TheVariants.{Node}
 use Rattle.warm_world.specs.States.{replica, restarted}
-use Rattle.warm_world.proofs.Alone.{restart_refused_alone}
+use Rattle.warm_world.proofs.Alone.{refused_alone}
 use Rattle.warm_world.proofs.Replicas.{restarts}
-use Rattle.warm_world.proofs.Worlds.{asked, asked_as, changes, named_too, node_at, place_in, stands_at, still_nodes}
+use Rattle.warm_world.proofs.Worlds.{asked_as, changes, named_too, node_at, place_in, stands_at, still_nodes}
 use Rattle.warm_world.proofs.world.World.restart.Goals as goal
 
 pub restart-requires : goal.restart-requires
@@ -35,4 +35,4 @@ returns-in-Ok-clause-step g c = λ m st.
 pub returns-in-Err-clause-step : goal.returns-in-Err-clause-step
 returns-in-Err-clause-step g c = λ m st.
     asked_as _ _ _ m (Restart c.args.i) call.Restart (reply.Refused c.in-Err.why) (answer.Refused (Node c.in-Err.why)) _ _ st c.requires.named c.index_mut.ensures.value
-    c.in-Err.ensures.restarts.1 (restart_refused_alone _ _ c.in-Err.why c.in-Err.ensures.restarts.0) c.in-Err.ensures.restarts.0 (λ new named asks. (named, asks))
+    c.in-Err.ensures.restarts.1 (refused_alone _ _ call.Restart c.in-Err.why c.in-Err.ensures.restarts.0) c.in-Err.ensures.restarts.0 (λ new named asks. (named, asks))

@@ -4,7 +4,7 @@ use Rattle.warm_gossip.specs.declared.call.Call.TheVariants as call
 use Rattle.warm_gossip.specs.declared.call.Reply.TheVariants as reply
 use Rattle.warm_world.specs.declared.event.Answer.TheVariants as answer
 use Rattle.warm_world.specs.declared.event.WorldFault.TheVariants.{Node}
-use Rattle.warm_world.proofs.Alone.{unpin_alone, unpin_refused_alone}
+use Rattle.warm_world.proofs.Alone.{refused_alone, unpin_alone}
 use Rattle.warm_world.proofs.Worlds.{asked, node_at, place_in, still_nodes}
 use Rattle.warm_world.proofs.world.World.unpin.Goals as goal
 
@@ -25,4 +25,4 @@ returns-in-Ok-clause-step g c = λ m st.
 pub returns-in-Err-clause-step : goal.returns-in-Err-clause-step
 returns-in-Err-clause-step g c = λ m st.
     asked _ _ _ m (Unpin c.args.i c.args.slot) (call.Unpin c.args.slot) (reply.Refused c.in-Err.why) (answer.Refused (Node c.in-Err.why)) _ _ _ st c.requires.named c.index_mut.ensures.value refl
-    (unpin_refused_alone _ _ _ c.in-Err.why c.in-Err.ensures.step) c.in-Err.ensures.step (λ new named asks. (named, asks))
+    (refused_alone _ _ (call.Unpin c.args.slot) c.in-Err.why c.in-Err.ensures.step) c.in-Err.ensures.step (λ new named asks. (named, asks))

@@ -1,7 +1,6 @@
 use Rattle.std.proofs.Common.{◌-◌, ap, refl}
 use Rattle.warm_gossip.specs.State.{NodeView}
 use Rattle.warm_world.specs.declared.event.Event.TheVariants.{Warm}
-use Rattle.warm_world.specs.States.{replica}
 use Rattle.warm_world.proofs.Alone.{warm_list_refused}
 use Rattle.warm_world.proofs.Histories.{warm_alike}
 use Rattle.warm_world.proofs.Worlds.{named_too, no_memory_still, place_in, stands_at}
