@@ -80,5 +80,3 @@ takes_in old new e whole rising more =
     let stands = stands_for_more old new e rising more in
     let is = stands (refs old) (sym (history_of_own_references old whole)) in
     record { told = stands; whole = subst IsHistory (sym is) (IsHistory-history (refs old ++ entry_refs e)) }
-
--- ---- the references of entries
