@@ -8,6 +8,3 @@ mod noting;
 
 pub use note::{Found, Note};
 pub use noting::Noting;
-
-#[cfg(test)]
-mod tests;

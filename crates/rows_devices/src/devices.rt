@@ -1,66 +1,81 @@
 //! Devices in memory, in files, and that fail when they are told to.
 
 use std::fs;
-use std::test::Fail;
 use warm_devices::{DeviceFault, FileDevice, Flaky, MemDevice, OpenFault, PageDevice, let_go};
 
 #[test]
-fn a_device_in_memory_keeps_its_pages(rt: HostRuntime) -> Result<(), Fail> {
+fn a_device_in_memory_keeps_its_pages(rt: HostRuntime) {
     let alloc = rt.alloc();
-    let mut device: Box<dyn PageDevice + Send> = Box::new(alloc, MemDevice::new(alloc, 4, 2)?)?;
+    let inner = MemDevice::new(alloc, 4, 2).expect(&rt, "room for pages");
+    let mut device: Box<dyn PageDevice + Send> = Box::new(alloc, inner).expect(
+        &rt,
+        "room for a box",
+    );
+    let mut page = [9; 2];
     assert_eq!(rt;
         (device.pages(), device.page_size(), device.failures()),
         (4, 2, 0)
     );
-    let mut page = [9; 2];
-    assert_eq!(rt; device.read(1, &mut page), Ok(()));
-    assert_eq!(rt; page, [0; 2]);
+    assert_eq!(rt; (device.read(1, &mut page), page), (Ok(()), [0; 2]));
     assert_eq!(rt; device.waiting(), false);
-    assert_eq!(rt; device.write(1, &[7, 8]), Ok(()));
-    assert_eq!(rt; device.waiting(), true);
-    assert_eq!(rt; device.read(1, &mut page), Ok(()));
-    assert_eq!(rt; page, [7, 8]);
+    assert_eq!(rt;
+        (device.write(1, &[7, 8]), device.waiting()),
+        (Ok(()), true)
+    );
+    assert_eq!(rt; (device.read(1, &mut page), page), (Ok(()), [7, 8]));
     assert_eq!(rt; device.flush(), Ok(()));
     assert_eq!(rt; device.waiting(), false);
     let_go(device);
-    Ok(())
 }
 
 #[test]
-fn the_chosen_write_tears_its_page(rt: HostRuntime) -> Result<(), Fail> {
-    let alloc = rt.alloc();
-    let mut device = Flaky::new(MemDevice::new(alloc, 4, 2)?, 2);
+fn the_chosen_write_tears_its_page(rt: HostRuntime) {
+    let inner = MemDevice::new(rt.alloc(), 4, 2).expect(&rt, "room for pages");
+    let mut device = Flaky::new(inner, 2);
     let mut page = [0; 2];
     assert_eq!(rt; device.write(1, &[7, 8]), Ok(()));
-    assert_eq!(rt; device.write(1, &[9, 9]), Err(DeviceFault::Write));
-    assert_eq!(rt; device.failures(), 1);
-    assert_eq!(rt; device.read(1, &mut page), Ok(()));
-    assert_eq!(rt; page, [0xEE; 2]);
-    assert_eq!(rt; device.write(1, &[9, 9]), Ok(()));
-    assert_eq!(rt; device.flush(), Ok(()));
-    Ok(())
+    assert_eq!(rt;
+        (device.write(1, &[9, 9]), device.failures()),
+        (Err(DeviceFault::Write), 1)
+    );
+    assert_eq!(rt; (device.read(1, &mut page), page), (Ok(()), [0xEE; 2]));
+    assert_eq!(rt;
+        (device.write(1, &[9, 9]), device.flush()),
+        (Ok(()), Ok(()))
+    );
 }
 
 #[test]
-fn the_chosen_call_may_be_a_read_or_a_flush(rt: HostRuntime) -> Result<(), Fail> {
-    let alloc = rt.alloc();
-    let mut first = Flaky::new(MemDevice::new(alloc, 1, 1)?, 1);
+fn the_chosen_call_may_be_a_read(rt: HostRuntime) {
+    let inner = MemDevice::new(rt.alloc(), 1, 1).expect(&rt, "room for a page");
+    let mut device = Flaky::new(inner, 1);
     let mut page = [3; 1];
-    assert_eq!(rt; first.read(0, &mut page), Err(DeviceFault::Read));
-    assert_eq!(rt; first.read(0, &mut page), Ok(()));
-    let mut second = Flaky::new(MemDevice::new(alloc, 1, 1)?, 2);
-    assert_eq!(rt; second.write(0, &[5]), Ok(()));
-    assert_eq!(rt; second.flush(), Err(DeviceFault::Flush));
-    assert_eq!(rt; second.waiting(), true);
-    let mut none = Flaky::new(MemDevice::new(alloc, 1, 1)?, 0);
-    assert_eq!(rt; none.write(0, &[5]), Ok(()));
-    none.settle();
-    assert_eq!(rt; (none.waiting(), none.failures()), (false, 0));
-    Ok(())
+    assert_eq!(rt; device.read(0, &mut page), Err(DeviceFault::Read));
+    assert_eq!(rt; device.read(0, &mut page), Ok(()));
 }
 
 #[test]
-fn a_file_keeps_a_dropped_devices_bytes(rt: HostRuntime) -> Result<(), Fail> {
+fn the_chosen_call_may_be_a_flush(rt: HostRuntime) {
+    let inner = MemDevice::new(rt.alloc(), 1, 1).expect(&rt, "room for a page");
+    let mut device = Flaky::new(inner, 2);
+    assert_eq!(rt; device.write(0, &[5]), Ok(()));
+    assert_eq!(rt;
+        (device.flush(), device.waiting()),
+        (Err(DeviceFault::Flush), true)
+    );
+}
+
+#[test]
+fn no_call_may_be_chosen(rt: HostRuntime) {
+    let inner = MemDevice::new(rt.alloc(), 1, 1).expect(&rt, "room for a page");
+    let mut device = Flaky::new(inner, 0);
+    assert_eq!(rt; device.write(0, &[5]), Ok(()));
+    device.settle();
+    assert_eq!(rt; (device.waiting(), device.failures()), (false, 0));
+}
+
+#[test]
+fn a_file_keeps_a_dropped_devices_bytes(rt: HostRuntime) {
     let path = "kept.pages";
     let mut device = FileDevice::open(&rt, path, 8, 16).expect(&rt, "opened");
     let bytes = [0x5A; 16];
@@ -74,9 +89,9 @@ fn a_file_keeps_a_dropped_devices_bytes(rt: HostRuntime) -> Result<(), Fail> {
     assert_eq!(rt; page, [0; 16]);
     assert_eq!(rt; (device.waiting(), device.failures()), (false, 0));
     drop(device);
-    assert_eq!(rt; fs::metadata(&rt, path)?.len(), 128);
-    fs::remove_file(&rt, path)?;
-    Ok(())
+    let file = fs::metadata(&rt, path).expect(&rt, "the file stands");
+    assert_eq!(rt; file.len(), 128);
+    fs::remove_file(&rt, path).expect(&rt, "the file goes");
 }
 
 #[test]
@@ -89,24 +104,17 @@ fn a_file_that_cannot_be_opened(rt: HostRuntime) {
 
 #[test]
 fn faults_have_their_numbers_and_names(rt: HostRuntime) {
-    assert_eq!(rt;
-        (DeviceFault::Read.code(), DeviceFault::Read.name()),
-        (1, "Read")
-    );
-    assert_eq!(rt;
-        (DeviceFault::Write.code(), DeviceFault::Write.name()),
-        (2, "Write")
-    );
-    assert_eq!(rt;
-        (DeviceFault::Flush.code(), DeviceFault::Flush.name()),
-        (3, "Flush")
-    );
-    assert_eq!(rt;
-        (OpenFault::Memory.code(), OpenFault::Memory.name()),
-        (1, "Memory")
-    );
-    assert_eq!(rt;
-        (OpenFault::Open.code(), OpenFault::Open.name()),
-        (2, "Open")
-    );
+    for (fault, code, name) in [
+        (DeviceFault::Read, 1, "Read"),
+        (DeviceFault::Write, 2, "Write"),
+        (DeviceFault::Flush, 3, "Flush"),
+    ] {
+        assert_eq!(rt; (fault.code(), fault.name()), (code, name));
+    }
+    for (fault, code, name) in [
+        (OpenFault::Memory, 1, "Memory"),
+        (OpenFault::Open, 2, "Open"),
+    ] {
+        assert_eq!(rt; (fault.code(), fault.name()), (code, name));
+    }
 }

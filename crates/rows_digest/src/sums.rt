@@ -1,8 +1,7 @@
 //! Sums of buckets, taken anew and kept.
 
-use std::alloc::{AllocError, Global};
+use std::alloc::Global;
 use std::process::Abort;
-use std::test::Fail;
 use warm_digest::{SummedHistory, Sums, differing, sums};
 use warm_frames::SumTable;
 use warm_history::{Entry, History};
@@ -27,26 +26,37 @@ const OF_THREE_PAGES: [u8; 32] = [
     0x42, 0x29, 0x30, 0x2f, 0x8a, 0x48, 0x38, 0xda, 0xfe, 0xed, 0xc7, 0x59, 0x21, 0x5b, 0xa2, 0x03,
 ];
 
-fn reference(dev: u16, no: u32, time: u64) -> Result<Reference, Fail> {
-    let page = PageId { dev, no };
-    let replica = ReplicaId::new(1)?;
-    Ok(Reference {
-        page,
+fn reference(rt: &impl Abort, dev: u16, no: u32, time: u64) -> Reference {
+    let replica = ReplicaId::new(1).expect(rt, "a replica");
+    Reference {
+        page: PageId { dev, no },
         stamp: Stamp { time, replica },
-    })
+    }
 }
 
 // References of which bucket 1 has three pages, bucket 7 one, and no other any.
-fn four_pages() -> Result<[Reference; 7], Fail> {
-    Ok([
-        reference(1, 0, 7)?,
-        reference(0, 65, 20)?,
-        reference(0, 7, 10)?,
-        reference(0, 1, 5)?,
-        reference(0, 65, 10)?,
-        reference(0, 7, 20)?,
-        reference(0, 65, 30)?,
-    ])
+fn four_pages(rt: &impl Abort) -> [Reference; 7] {
+    [
+        reference(rt, 1, 0, 7),
+        reference(rt, 0, 65, 20),
+        reference(rt, 0, 7, 10),
+        reference(rt, 0, 1, 5),
+        reference(rt, 0, 65, 10),
+        reference(rt, 0, 7, 20),
+        reference(rt, 0, 65, 30),
+    ]
+}
+
+// The history of these references.
+fn history_of(rt: &impl Abort, alloc: Global, batch: &[Reference]) -> History {
+    let mut history = History::new(alloc);
+    history.absorb(batch).expect(rt, "room for a batch");
+    history
+}
+
+// The sums of a history, taken anew.
+fn taken_anew(rt: &impl Abort, alloc: Global, history: &History) -> SumTable {
+    sums(alloc, history).expect(rt, "room for the sums")
 }
 
 // Buckets 1 and 7 have these sums, and each other has that of nothing.
@@ -63,19 +73,19 @@ fn has_sums(rt: &impl Abort, table: &SumTable, bucket_1: [u8; 32], bucket_7: [u8
 }
 
 #[test]
-fn each_bucket_of_nothing_has_the_sum_of_no_bytes(rt: HostRuntime) -> Result<(), Fail> {
+fn each_bucket_of_nothing_has_the_sum_of_no_bytes(rt: HostRuntime) {
     let history = History::new(rt.alloc());
-    has_sums(&rt, &sums(rt.alloc(), &history)?, OF_NOTHING, OF_NOTHING);
-    has_sums(&rt, &Sums::new(rt.alloc()).table(), OF_NOTHING, OF_NOTHING);
-    Ok(())
+    let table = taken_anew(&rt, rt.alloc(), &history);
+    has_sums(&rt, &table, OF_NOTHING, OF_NOTHING);
+    let table = Sums::new(rt.alloc()).table();
+    has_sums(&rt, &table, OF_NOTHING, OF_NOTHING);
 }
 
 #[test]
-fn a_bucket_has_the_sum_of_its_entries(rt: HostRuntime) -> Result<(), Fail> {
-    let mut history = History::new(rt.alloc());
-    history.absorb(four_pages()?.as_slice())?;
-    has_sums(&rt, &sums(rt.alloc(), &history)?, OF_THREE_PAGES, OF_0_7);
-    Ok(())
+fn a_bucket_has_the_sum_of_its_entries(rt: HostRuntime) {
+    let history = history_of(&rt, rt.alloc(), &four_pages(&rt));
+    let table = taken_anew(&rt, rt.alloc(), &history);
+    has_sums(&rt, &table, OF_THREE_PAGES, OF_0_7);
 }
 
 // What renewing the sums of the buckets of a mask gives, where they were those of nothing, and where
@@ -115,167 +125,143 @@ const RENEWALS: [Renewal; 5] = [
     },
 ];
 
+// Renews sums of the buckets of a mask.
+fn renew(rt: &impl Abort, kept: &mut Sums, history: &History, mask: u64) {
+    kept.renew(history, mask).expect(rt, "room for the sums");
+}
+
 // Sums of nothing are renewed as the row says.
-fn renews(
-    rt: &impl Abort,
-    kept: &mut Sums,
-    history: &History,
-    nothing: &History,
-    row: Renewal,
-) -> Result<(), AllocError> {
-    kept.renew(history, row.mask)?;
+fn renews(rt: &impl Abort, alloc: Global, history: &History, nothing: &History, row: Renewal) {
+    let mut kept = Sums::new(alloc);
+    renew(rt, &mut kept, history, row.mask);
     has_sums(rt, &kept.table(), row.grown.0, row.grown.1);
-    kept.renew(history, u64::MAX)?;
-    kept.renew(nothing, row.mask)?;
+    renew(rt, &mut kept, history, u64::MAX);
+    renew(rt, &mut kept, nothing, row.mask);
     has_sums(rt, &kept.table(), row.forgotten.0, row.forgotten.1);
-    Ok(())
 }
 
 #[test]
-fn the_buckets_of_the_mask_are_renewed(rt: HostRuntime) -> Result<(), Fail> {
+fn the_buckets_of_the_mask_are_renewed(rt: HostRuntime) {
     let nothing = History::new(rt.alloc());
-    let mut history = History::new(rt.alloc());
-    history.absorb(four_pages()?.as_slice())?;
+    let history = history_of(&rt, rt.alloc(), &four_pages(&rt));
     for row in RENEWALS {
-        let mut kept = Sums::new(rt.alloc());
-        renews(&rt, &mut kept, &history, &nothing, row)?;
+        renews(&rt, rt.alloc(), &history, &nothing, row);
     }
-    Ok(())
 }
 
 // So many references to pages of device 0, each to its own.
-fn new_pages(alloc: Global, first: u32, count: u32) -> Result<Vec<Reference>, Fail> {
+fn new_pages(rt: &impl Abort, alloc: Global, first: u32, count: u32) -> Vec<Reference> {
     let mut batch = Vec::new(alloc);
     for i in 0..count {
-        batch.push(reference(0, first.wrapping_add(i.wrapping_mul(7)), u64::from(i))?)?;
+        let no = first.wrapping_add(i.wrapping_mul(7));
+        let reference = reference(rt, 0, no, u64::from(i));
+        batch.push(reference).expect(rt, "room for a reference");
     }
-    Ok(batch)
+    batch
 }
 
-// The entries that one reference makes.
-fn entries_of(alloc: Global, batch: &[Reference]) -> Result<Vec<Entry>, Fail> {
-    let mut history = History::new(alloc);
-    history.absorb(batch)?;
-    Ok(history.iter().collect(alloc)?)
+// The entries that these references make.
+fn entries_of(rt: &impl Abort, alloc: Global, batch: &[Reference]) -> Vec<Entry> {
+    let history = history_of(rt, alloc, batch);
+    history.iter().collect(alloc).expect(rt, "room for entries")
 }
 
 // Buckets 1 and 7 have these sums as they are kept, and each other has that of nothing.
-fn keeps(
-    rt: &impl Abort,
-    summed: &mut SummedHistory,
-    bucket_1: [u8; 32],
-    bucket_7: [u8; 32],
-) -> Result<(), AllocError> {
-    has_sums(rt, &summed.sums()?, bucket_1, bucket_7);
-    Ok(())
+fn keeps(rt: &impl Abort, summed: &mut SummedHistory, bucket_1: [u8; 32], bucket_7: [u8; 32]) {
+    let table = summed.sums().expect(rt, "room for the sums");
+    has_sums(rt, &table, bucket_1, bucket_7);
 }
 
 // The sums that are kept are those that are taken anew.
-fn keeps_those_taken_anew(
-    rt: &impl Abort,
-    alloc: Global,
-    summed: &mut SummedHistory,
-) -> Result<(), AllocError> {
-    let anew = sums(alloc, summed.history())?;
-    assert_eq!(rt; summed.sums()?, anew);
-    Ok(())
+fn keeps_those_taken_anew(rt: &impl Abort, alloc: Global, summed: &mut SummedHistory) {
+    let anew = taken_anew(rt, alloc, summed.history());
+    let kept = summed.sums().expect(rt, "room for the sums");
+    assert_eq!(rt; kept, anew);
 }
 
 // So many pages come as references.
-fn is_told(
-    rt: &impl Abort,
-    alloc: Global,
-    summed: &mut SummedHistory,
-    first: u32,
-    count: u32,
-) -> Result<(), Fail> {
-    let batch = new_pages(alloc, first, count)?;
-    summed.absorb(&batch)?;
-    Ok(keeps_those_taken_anew(rt, alloc, summed)?)
+fn is_told(rt: &impl Abort, alloc: Global, summed: &mut SummedHistory, first: u32, count: u32) {
+    let batch = new_pages(rt, alloc, first, count);
+    summed.absorb(&batch).expect(rt, "room for a batch");
+    keeps_those_taken_anew(rt, alloc, summed);
 }
 
 // So many pages come as entries.
-fn hears(
-    rt: &impl Abort,
-    alloc: Global,
-    summed: &mut SummedHistory,
-    first: u32,
-    count: u32,
-) -> Result<(), Fail> {
-    let batch = new_pages(alloc, first, count)?;
-    let entries = entries_of(alloc, &batch)?;
-    summed.join_entries(&entries)?;
-    Ok(keeps_those_taken_anew(rt, alloc, summed)?)
+fn hears(rt: &impl Abort, alloc: Global, summed: &mut SummedHistory, first: u32, count: u32) {
+    let batch = new_pages(rt, alloc, first, count);
+    let entries = entries_of(rt, alloc, &batch);
+    summed.join_entries(&entries).expect(rt, "room for entries");
+    keeps_those_taken_anew(rt, alloc, summed);
 }
 
-fn follows(rt: &impl Abort, alloc: Global, summed: &mut SummedHistory) -> Result<(), Fail> {
-    keeps(rt, summed, OF_NOTHING, OF_NOTHING)?;
-    summed.absorb(four_pages()?.as_slice())?;
-    keeps(rt, summed, OF_THREE_PAGES, OF_0_7)?;
-    keeps(rt, summed, OF_THREE_PAGES, OF_0_7)?;
-    is_told(rt, alloc, summed, 3, 1)?;
-    is_told(rt, alloc, summed, 1000, 100)?;
-    hears(rt, alloc, summed, 2000, 100)?;
+#[test]
+fn kept_sums_are_those_of_the_history(rt: HostRuntime) {
+    let mut summed = SummedHistory::new(rt.alloc());
+    keeps(&rt, &mut summed, OF_NOTHING, OF_NOTHING);
+    summed
+        .absorb(&four_pages(&rt))
+        .expect(&rt, "room for a batch");
+    keeps(&rt, &mut summed, OF_THREE_PAGES, OF_0_7);
+    keeps(&rt, &mut summed, OF_THREE_PAGES, OF_0_7);
+    is_told(&rt, rt.alloc(), &mut summed, 3, 1);
+    is_told(&rt, rt.alloc(), &mut summed, 1000, 100);
+    hears(&rt, rt.alloc(), &mut summed, 2000, 100);
     assert_eq!(rt; summed.history().len(), 205);
     summed.clear();
     assert_eq!(rt; summed.history().len(), 0);
-    Ok(keeps(rt, summed, OF_NOTHING, OF_NOTHING)?)
+    keeps(&rt, &mut summed, OF_NOTHING, OF_NOTHING);
+}
+
+// The sums of the history of these references.
+fn sums_of(rt: &impl Abort, alloc: Global, batch: &[Reference]) -> SumTable {
+    let history = history_of(rt, alloc, batch);
+    taken_anew(rt, alloc, &history)
 }
 
 #[test]
-fn kept_sums_are_those_of_the_history(rt: HostRuntime) -> Result<(), Fail> {
-    let mut summed = SummedHistory::new(rt.alloc());
-    follows(&rt, rt.alloc(), &mut summed)
-}
-
-#[test]
-fn differing_buckets_are_set_bits(rt: HostRuntime) -> Result<(), Fail> {
-    let empty = sums(rt.alloc(), &History::new(rt.alloc()))?;
-    let mut history = History::new(rt.alloc());
-    history.absorb([reference(0, 1, 10)?].as_slice())?;
-    let one_page = sums(rt.alloc(), &history)?;
+fn differing_buckets_are_set_bits(rt: HostRuntime) {
+    let empty = sums_of(&rt, rt.alloc(), &[]);
+    let one_page = sums_of(&rt, rt.alloc(), &[reference(&rt, 0, 1, 10)]);
     assert_eq!(rt; differing(&one_page, &empty), 2);
     assert_eq!(rt; differing(&empty, &one_page), 2);
     assert_eq!(rt; differing(&one_page, &one_page), 0);
-    history.absorb([reference(0, 63, 10)?, reference(64, 0, 10)?].as_slice())?;
-    let more = sums(rt.alloc(), &history)?;
+    let more = [
+        reference(&rt, 0, 1, 10),
+        reference(&rt, 0, 63, 10),
+        reference(&rt, 64, 0, 10),
+    ];
+    let more = sums_of(&rt, rt.alloc(), &more);
     assert_eq!(rt; differing(&more, &one_page), 0x8000_0000_0000_0001);
-    Ok(())
-}
-
-// Takes the four pages in, where a growth may be refused, and the sums of them.
-fn takes_again(rt: &impl Abort, summed: &mut SummedHistory) -> Result<(), Fail> {
-    let batch = four_pages()?;
-    if summed.absorb(batch.as_slice()).is_err() {
-        assert_eq!(rt; summed.history().len(), 0);
-        keeps(rt, summed, OF_NOTHING, OF_NOTHING)?;
-        summed.absorb(batch.as_slice())?;
-    }
-    if summed.sums().is_err() {
-        assert_eq!(rt; summed.history().len(), 4);
-    }
-    Ok(keeps(rt, summed, OF_THREE_PAGES, OF_0_7)?)
 }
 
 // Run again with each growth refused in turn: `rt try --test --fail-alloc N -- a_refused_growth`.
 // A refusal leaves the sums that were kept, and what is asked for again is right.
 #[test]
-fn a_refused_growth_changes_no_sum(rt: HostRuntime) -> Result<(), Fail> {
+fn a_refused_growth_changes_no_sum(rt: HostRuntime) {
+    let batch = four_pages(&rt);
     let mut summed = SummedHistory::new(rt.alloc());
-    takes_again(&rt, &mut summed)
+    if summed.absorb(&batch).is_err() {
+        assert_eq!(rt; summed.history().len(), 0);
+        keeps(&rt, &mut summed, OF_NOTHING, OF_NOTHING);
+        summed.absorb(&batch).expect(&rt, "room for a batch");
+    }
+    if summed.sums().is_err() {
+        assert_eq!(rt; summed.history().len(), 4);
+    }
+    keeps(&rt, &mut summed, OF_THREE_PAGES, OF_0_7);
 }
 
 #[test]
-fn a_refused_renewal_changes_no_sum(rt: HostRuntime) -> Result<(), Fail> {
+fn a_refused_renewal_changes_no_sum(rt: HostRuntime) {
+    let batch = four_pages(&rt);
     let mut history = History::new(rt.alloc());
-    let Ok(()) = history.absorb(four_pages()?.as_slice()) else {
-        return Ok(());
-    };
+    if history.absorb(&batch).is_err() {
+        return;
+    }
     let mut kept = Sums::new(rt.alloc());
     if kept.renew(&history, 2).is_err() {
         has_sums(&rt, &kept.table(), OF_NOTHING, OF_NOTHING);
-        kept.renew(&history, 2)?;
+        renew(&rt, &mut kept, &history, 2);
     }
     has_sums(&rt, &kept.table(), OF_THREE_PAGES, OF_NOTHING);
-    Ok(())
 }

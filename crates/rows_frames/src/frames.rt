@@ -3,8 +3,8 @@
 //!
 //! With `rt try --test --fail-alloc N`, for N from 1 on, each growth is refused in turn: the call is
 //! then made a second time.
-use std::alloc::{AllocError, Global};
-use std::test::Fail;
+use std::alloc::Global;
+use std::process::Abort;
 use warm_frames::{EntryList, Frame, FrameFault, SumTable, decode, encode, put_entry};
 use warm_history::{Entry, PageHist, Two};
 use warm_stamps::{Bucket, PageId, ReplicaId, Stamp};
@@ -29,16 +29,21 @@ const WISH: [u8; 19] = [
     0x4C, 0x32, 0x47, 0x31, 3, 0, 2, 0, 0, 0, 8, 0, 0, 0, 0, 0, 0, 0, 6,
 ];
 
-fn stamp(time: u64, replica: u16) -> Result<Stamp, Fail> {
-    let replica = ReplicaId::new(replica)?;
-    Ok(Stamp { time, replica })
+fn stamp(rt: &impl Abort, time: u64, replica: u16) -> Stamp {
+    let replica = ReplicaId::new(replica).expect(rt, "a replica");
+    Stamp { time, replica }
 }
 
-fn once(no: u32) -> Result<Entry, Fail> {
-    Ok(Entry {
+fn once(rt: &impl Abort, no: u32) -> Entry {
+    Entry {
         page: PageId { dev: 0, no },
-        hist: PageHist::Once(stamp(20, 1)?),
-    })
+        hist: PageHist::Once(stamp(rt, 20, 1)),
+    }
+}
+
+fn twice(rt: &impl Abort, last: Stamp, prev: Stamp) -> PageHist {
+    assert!(rt; prev < last);
+    PageHist::Twice(Two::new(last, prev))
 }
 
 // Decodes; where memory is refused, once more.
@@ -49,10 +54,11 @@ pub(crate) fn decoded(alloc: Global, bytes: &[u8]) -> Result<Frame, FrameFault> 
     }
 }
 
-pub(crate) fn encoded(alloc: Global, frame: &Frame) -> Result<Vec<u8>, AllocError> {
+// Encodes; where memory is refused, once more.
+pub(crate) fn encoded(rt: &impl Abort, alloc: Global, frame: &Frame) -> Vec<u8> {
     match encode(alloc, frame) {
-        Ok(bytes) => Ok(bytes),
-        Err(_) => encode(alloc, frame),
+        Ok(bytes) => bytes,
+        Err(_) => encode(alloc, frame).expect(rt, "room for the bytes"),
     }
 }
 
@@ -60,72 +66,79 @@ fn fault(alloc: Global, bytes: &[u8]) -> Option<FrameFault> {
     decoded(alloc, bytes).err()
 }
 
-#[test]
-fn entries_have_one_spelling(rt: HostRuntime) -> Result<(), Fail> {
-    let frame = decoded(rt.alloc(), &TWICE)?;
-    assert_eq!(rt; encoded(rt.alloc(), &frame)?.as_slice(), TWICE.as_slice());
+// The frame has this spelling.
+fn is_spelled(rt: &impl Abort, alloc: Global, frame: &Frame, bytes: &[u8]) {
+    assert_eq!(rt; encoded(rt, alloc, frame).as_slice(), bytes);
+}
+
+// What a frame of entries says.
+fn said_in(rt: &impl Abort, frame: Frame) -> (ReplicaId, EntryList) {
     let Frame::Entries { sender, entries } = frame else {
-        return Err("another kind".into());
+        panic!(rt; "another kind");
     };
-    assert_eq!(rt; sender.get(), 1);
-    let entries = entries.into_entries();
-    assert_eq!(rt; entries.len(), 1);
-    assert_eq!(rt; entries[0].page, PageId { dev: 0, no: 7 });
-    let PageHist::Twice(two) = entries[0].hist else {
-        return Err("one stamp".into());
-    };
-    assert_eq!(rt; (two.last(), two.prev()), (stamp(20, 1)?, stamp(10, 1)?));
-    Ok(())
+    (sender, entries)
 }
 
 #[test]
-fn nothing_and_wishes_take_no_memory(rt: HostRuntime) -> Result<(), Fail> {
-    let nothing = decode(rt.alloc(), &NOTHING)?;
+fn entries_have_one_spelling(rt: HostRuntime) {
+    let page = PageId { dev: 0, no: 7 };
+    let hist = twice(&rt, stamp(&rt, 20, 1), stamp(&rt, 10, 1));
+    let frame = decoded(rt.alloc(), &TWICE).expect(&rt, "a frame");
+    is_spelled(&rt, rt.alloc(), &frame, &TWICE);
+    let (sender, entries) = said_in(&rt, frame);
+    assert_eq!(rt; sender.get(), 1);
     assert_eq!(rt;
-        encoded(rt.alloc(), &nothing)?.as_slice(),
-        NOTHING.as_slice()
+        entries.into_entries().as_slice(),
+        [Entry { page, hist }].as_slice()
     );
-    let Frame::Entries { sender, entries } = nothing else {
-        return Err("another kind".into());
-    };
-    assert_eq!(rt; sender.get(), 3);
-    assert_eq!(rt; entries.as_slice().len(), 0);
+}
 
-    let wish = decode(rt.alloc(), &WISH)?;
-    assert_eq!(rt; encoded(rt.alloc(), &wish)?.as_slice(), WISH.as_slice());
-    let Frame::Want { sender, mask } = wish else {
-        return Err("another kind".into());
+#[test]
+fn nothing_takes_no_memory(rt: HostRuntime) {
+    let frame = decode(rt.alloc(), &NOTHING).expect(&rt, "a frame");
+    is_spelled(&rt, rt.alloc(), &frame, &NOTHING);
+    let (sender, entries) = said_in(&rt, frame);
+    assert_eq!(rt; (sender.get(), entries.as_slice().len()), (3, 0));
+}
+
+#[test]
+fn a_wish_takes_no_memory(rt: HostRuntime) {
+    let frame = decode(rt.alloc(), &WISH).expect(&rt, "a frame");
+    is_spelled(&rt, rt.alloc(), &frame, &WISH);
+    let Frame::Want { sender, mask } = frame else {
+        panic!(rt; "another kind");
     };
     assert_eq!(rt; (sender.get(), mask), (2, 6));
-    Ok(())
+}
+
+// The bytes of sender 64's table of sums.
+fn table_bytes(rt: &impl Abort, alloc: Global, sums: [[u8; 32]; 64]) -> Vec<u8> {
+    let sender = ReplicaId::new(64).expect(rt, "a replica");
+    let sums = SumTable::of(sums);
+    encoded(rt, alloc, &Frame::Digest { sender, sums })
 }
 
 #[test]
-fn sums_stand_bucket_0_first(rt: HostRuntime) -> Result<(), Fail> {
+fn sums_stand_bucket_0_first(rt: HostRuntime) {
+    let header = [0x4C, 0x32, 0x47, 0x31, 2, 0, 64, 0, 0, 8, 0];
+    let first = Bucket::new(0).expect(&rt, "a bucket");
     let mut sums = [[0; 32]; 64];
     sums[0] = [7; 32];
     sums[63][31] = 9;
-    let frame = Frame::Digest {
-        sender: ReplicaId::new(64)?,
-        sums: SumTable::of(sums),
-    };
-    let bytes = encoded(rt.alloc(), &frame)?;
-    let header = [0x4C, 0x32, 0x47, 0x31, 2, 0, 64, 0, 0, 8, 0];
+    let bytes = table_bytes(&rt, rt.alloc(), sums);
     assert_eq!(rt; bytes.len(), 2059);
     assert!(rt; bytes.as_slice().starts_with(&header));
     assert_eq!(rt;
         (bytes[11], bytes[42], bytes[43], bytes[2058]),
         (7, 7, 0, 9)
     );
-
-    let Frame::Digest { sender, sums: read } = decode(rt.alloc(), &bytes)? else {
-        return Err("another kind".into());
+    let Frame::Digest { sender, sums: read } = decode(rt.alloc(), &bytes).expect(&rt, "a frame")
+    else {
+        panic!(rt; "another kind");
     };
     assert_eq!(rt; sender.get(), 64);
-    assert_eq!(rt; read, SumTable::of(sums));
-    let first = Bucket::new(0).ok_or("no bucket")?;
     assert_eq!(rt; read.sum(first), [7; 32]);
-    Ok(())
+    assert_eq!(rt; read, SumTable::of(sums));
 }
 
 #[test]
@@ -164,9 +177,9 @@ fn a_part_is_truncated_and_a_byte_more_is_refused(rt: HostRuntime) {
 }
 
 #[test]
-fn pages_have_to_rise(rt: HostRuntime) -> Result<(), Fail> {
-    let frame = decoded(rt.alloc(), &RISING)?;
-    assert_eq!(rt; encoded(rt.alloc(), &frame)?.as_slice(), RISING.as_slice());
+fn pages_have_to_rise(rt: HostRuntime) {
+    let frame = decoded(rt.alloc(), &RISING).expect(&rt, "a frame");
+    is_spelled(&rt, rt.alloc(), &frame, &RISING);
     for no in [6, 7] {
         let mut bytes = RISING;
         bytes[37] = no;
@@ -176,109 +189,110 @@ fn pages_have_to_rise(rt: HostRuntime) -> Result<(), Fail> {
             "0:{no}"
         );
     }
-    Ok(())
 }
 
 // Room for entries; where it is refused, asked for once more.
-fn room(alloc: Global, count: usize) -> Result<Vec<Entry>, AllocError> {
+fn room(rt: &impl Abort, alloc: Global, count: usize) -> Vec<Entry> {
     match Vec::with_capacity(alloc, count) {
-        Ok(entries) => Ok(entries),
-        Err(_) => Vec::with_capacity(alloc, count),
+        Ok(entries) => entries,
+        Err(_) => Vec::with_capacity(alloc, count).expect(rt, "room for entries"),
     }
-}
-
-fn put_once(entries: &mut Vec<Entry>, no: u32) -> Result<(), Fail> {
-    let last = stamp(20, 1)?;
-    let page = PageId { dev: 0, no };
-    let hist = PageHist::Once(last);
-    entries.push(Entry { page, hist })?;
-    Ok(())
 }
 
 // Entries of rising pages, each referenced once.
-fn rising(alloc: Global, count: u32) -> Result<Vec<Entry>, Fail> {
-    let mut entries = room(alloc, count as usize)?;
+fn rising(rt: &impl Abort, alloc: Global, count: u32) -> Vec<Entry> {
+    let mut entries = room(rt, alloc, count as usize);
     for no in 0..count {
-        put_once(&mut entries, no)?;
+        entries.push(once(rt, no)).expect(rt, "room for an entry");
     }
-    Ok(entries)
+    entries
+}
+
+fn list_of_1000(rt: &impl Abort, alloc: Global) -> EntryList {
+    let entries = EntryList::of(rising(rt, alloc, 1000)).ok();
+    entries.expect(rt, "1000 entries were refused")
 }
 
 #[test]
-fn a_list_has_at_most_1000_entries(rt: HostRuntime) -> Result<(), Fail> {
-    let back = EntryList::of(rising(rt.alloc(), 1001)?).err();
+fn a_list_has_at_most_1000_entries(rt: HostRuntime) {
+    let back = EntryList::of(rising(&rt, rt.alloc(), 1001)).err();
     assert_eq!(rt; back.map(|entries| entries.len()), Some(1001));
+    assert_eq!(rt; list_of_1000(&rt, rt.alloc()).as_slice().len(), 1000);
+}
 
-    let entries = EntryList::of(rising(rt.alloc(), 1000)?).map_err(|_| "refused")?;
-    assert_eq!(rt; entries.as_slice().len(), 1000);
-    Ok(())
+// The bytes of a frame in which sender 1 has 1000 entries.
+fn bytes_of_1000(rt: &impl Abort, alloc: Global) -> Vec<u8> {
+    let sender = ReplicaId::new(1).expect(rt, "a replica");
+    let entries = list_of_1000(rt, alloc);
+    encoded(rt, alloc, &Frame::Entries { sender, entries })
 }
 
 #[test]
-fn a_frame_of_1000_entries_both_ways(rt: HostRuntime) -> Result<(), Fail> {
-    let entries = EntryList::of(rising(rt.alloc(), 1000)?).map_err(|_| "refused")?;
-    let sender = ReplicaId::new(1)?;
-    let bytes = encoded(rt.alloc(), &Frame::Entries { sender, entries })?;
-    assert_eq!(rt; bytes.len(), 11 + 4 + 1000 * 17);
-
+fn a_frame_of_1000_entries_both_ways(rt: HostRuntime) {
     // The header says 17,004 bytes and then 1000 entries, of which the last is that of 0:999.
     let header = [
         0x4C, 0x32, 0x47, 0x31, 1, 0, 1, 0, 0, 0x42, 0x6C, 0, 0, 3, 0xE8,
     ];
-    assert!(rt; bytes.as_slice().starts_with(&header));
     let last = [0, 0, 0, 0, 3, 0xE7, 1, 0, 0, 0, 0, 0, 0, 0, 20, 0, 1];
+    let bytes = bytes_of_1000(&rt, rt.alloc());
+    assert_eq!(rt; bytes.len(), 11 + 4 + 1000 * 17);
+    assert!(rt; bytes.as_slice().starts_with(&header));
     assert!(rt; bytes.as_slice().ends_with(&last));
 
-    let Frame::Entries {
-        sender: from,
-        entries,
-    } = decoded(rt.alloc(), &bytes)?
-    else {
-        return Err("another kind".into());
-    };
-    assert_eq!(rt; from, sender);
-    assert_eq!(rt; entries.as_slice(), rising(rt.alloc(), 1000)?.as_slice());
-    Ok(())
+    let frame = decoded(rt.alloc(), &bytes).expect(&rt, "a frame");
+    let (sender, entries) = said_in(&rt, frame);
+    assert_eq!(rt; sender.get(), 1);
+    assert_eq!(rt;
+        entries.as_slice(),
+        rising(&rt, rt.alloc(), 1000).as_slice()
+    );
+}
+
+// Room for bytes; where it is refused, asked for once more.
+fn byte_room(rt: &impl Abort, alloc: Global, count: usize) -> Vec<u8> {
+    match Vec::with_capacity(alloc, count) {
+        Ok(text) => text,
+        Err(_) => Vec::with_capacity(alloc, count).expect(rt, "room for bytes"),
+    }
 }
 
 #[test]
-fn an_entry_has_17_or_27_bytes(rt: HostRuntime) -> Result<(), Fail> {
+fn an_entry_has_17_or_27_bytes(rt: HostRuntime) {
     let page = PageId { dev: 258, no: 3 };
-    let (last, prev) = (stamp(20, 1)?, stamp(10, 2)?);
-    let mut text = match Vec::with_capacity(rt.alloc(), 44) {
-        Ok(text) => text,
-        Err(_) => Vec::with_capacity(rt.alloc(), 44)?,
+    let first = Entry {
+        page,
+        hist: PageHist::Once(stamp(&rt, 20, 1)),
     };
-    let hist = PageHist::Once(last);
-    put_entry(&mut text, &Entry { page, hist })?;
+    let second = Entry {
+        page,
+        hist: twice(&rt, stamp(&rt, 20, 1), stamp(&rt, 10, 2)),
+    };
     let once = [1, 2, 0, 0, 0, 3, 1, 0, 0, 0, 0, 0, 0, 0, 20, 0, 1];
-    assert_eq!(rt; text.as_slice(), once.as_slice());
-
-    if prev >= last {
-        return Err("the second is no older".into());
-    }
-    let hist = PageHist::Twice(Two::new(last, prev));
-    put_entry(&mut text, &Entry { page, hist })?;
     let twice = [
         1, 2, 0, 0, 0, 3, 2, 0, 0, 0, 0, 0, 0, 0, 20, 0, 1, 0, 0, 0, 0, 0, 0, 0, 10, 0, 2,
     ];
+    let mut text = byte_room(&rt, rt.alloc(), 44);
+    put_entry(&mut text, &first).expect(&rt, "room for an entry");
+    assert_eq!(rt; text.as_slice(), once.as_slice());
+    put_entry(&mut text, &second).expect(&rt, "room for an entry");
     assert_eq!(rt; text.len(), 44);
     assert!(rt; text.as_slice().ends_with(&twice));
-    Ok(())
 }
 
 #[test]
-fn a_list_has_rising_pages(rt: HostRuntime) -> Result<(), Fail> {
+fn a_list_has_rising_pages(rt: HostRuntime) {
     for second in [6, 7] {
-        let mut entries = room(rt.alloc(), 2)?;
-        entries.push(once(7)?)?;
-        entries.push(once(second)?)?;
-        let Err(back) = EntryList::of(entries) else {
-            return Err("taken".into());
-        };
-        assert_eq!(rt; back.as_slice(), [once(7)?, once(second)?].as_slice());
+        let mut entries = room(&rt, rt.alloc(), 2);
+        entries.push(once(&rt, 7)).expect(&rt, "room for an entry");
+        entries
+            .push(once(&rt, second))
+            .expect(&rt, "room for an entry");
+        let back = EntryList::of(entries).err().expect(&rt, "taken");
+        assert_eq!(rt;
+            back.as_slice(),
+            [once(&rt, 7), once(&rt, second)].as_slice()
+        );
     }
-    Ok(())
 }
 
 #[test]
@@ -297,7 +311,6 @@ fn refusals_have_numbers_and_names(rt: HostRuntime) {
         (FrameFault::Failed, 11, "Failed"),
     ];
     for (fault, code, name) in rows {
-        assert_eq!(rt; fault.code(), code);
-        assert_eq!(rt; fault.name(), name);
+        assert_eq!(rt; (fault.code(), fault.name()), (code, name));
     }
 }

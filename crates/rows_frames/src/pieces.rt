@@ -4,8 +4,8 @@
 //! is then fed once more.
 use crate::frames::{TWICE, decoded, encoded};
 use std::alloc::Global;
-use std::test::Fail;
-use warm_frames::{Decoder, EntryList, Fed, Frame, FrameFault, SUM_SIZE, SumTable, decode};
+use std::process::Abort;
+use warm_frames::{Decoder, EntryList, Fed, Frame, FrameFault, SUM_SIZE, SumTable};
 use warm_history::{Entry, PageHist, Two};
 use warm_stamps::{PageId, ReplicaId, Stamp};
 
@@ -18,11 +18,10 @@ fn fed(decoder: &mut Decoder, piece: &[u8]) -> Result<Fed, FrameFault> {
 }
 
 // Puts bytes behind a text; where memory is refused, once more.
-fn put(text: &mut Vec<u8>, bytes: &[u8]) -> Result<(), Fail> {
+fn put(rt: &impl Abort, text: &mut Vec<u8>, bytes: &[u8]) {
     if text.extend_from_slice(bytes).is_err() {
-        text.extend_from_slice(bytes)?;
+        text.extend_from_slice(bytes).expect(rt, "room for bytes");
     }
-    Ok(())
 }
 
 // Whether two frames have the same fields.
@@ -54,64 +53,62 @@ fn same(left: &Frame, right: &Frame) -> bool {
 }
 
 // Puts the spelling of a frame, which `decode` has to give of it, behind the text.
-fn put_frame(alloc: Global, frame: &Frame, text: &mut Vec<u8>) -> Result<(), Fail> {
-    let bytes = encoded(alloc, frame)?;
-    if !same(frame, &decoded(alloc, &bytes)?) {
-        return Err("decode gives another frame".into());
-    }
-    put(text, &bytes)
+fn put_frame(rt: &impl Abort, alloc: Global, frame: &Frame, text: &mut Vec<u8>) {
+    let bytes = encoded(rt, alloc, frame);
+    let again = decoded(alloc, &bytes).expect(rt, "a frame");
+    assert!(rt; same(frame, &again), "decode gives another frame");
+    put(rt, text, &bytes);
 }
 
 // Feeds all of a piece, and puts the spellings of the frames that it gives behind the text.
 fn feed_all(
+    rt: &impl Abort,
     alloc: Global,
     decoder: &mut Decoder,
     piece: &[u8],
     text: &mut Vec<u8>,
-) -> Result<(), Fail> {
+) {
     let mut rest = piece;
     for _ in 0..=piece.len() {
         if rest.is_empty() {
-            break;
+            return;
         }
-        let fed = fed(decoder, rest)?;
-        rest = rest.get(fed.taken..).ok_or("took too much")?;
+        let fed = fed(decoder, rest).expect(rt, "no fault");
+        rest = rest.get(fed.taken..).expect(rt, "took too much");
         if let Some(frame) = fed.frame {
-            put_frame(alloc, frame.as_frame(), text)?;
+            put_frame(rt, alloc, frame.as_frame(), text);
         }
     }
-    Ok(())
 }
 
 // The spellings of the frames in these pieces, which have to end between two frames.
-fn frames_in(alloc: Global, pieces: &[&[u8]]) -> Result<Vec<u8>, Fail> {
+fn frames_in(rt: &impl Abort, alloc: Global, pieces: &[&[u8]]) -> Vec<u8> {
     let mut decoder = Decoder::new(alloc);
     let mut text = Vec::new(alloc);
     for piece in pieces {
-        feed_all(alloc, &mut decoder, piece, &mut text)?;
+        feed_all(rt, alloc, &mut decoder, piece, &mut text);
     }
-    decoder.finish()?;
-    Ok(text)
+    assert_eq!(rt; decoder.finish(), Ok(()));
+    text
 }
 
 #[test]
-fn a_frame_cut_in_two_and_in_three(rt: HostRuntime) -> Result<(), Fail> {
+fn a_frame_cut_in_two_and_in_three(rt: HostRuntime) {
     for first in 0..43 {
         for second in first..43 {
             let (front, end) = TWICE.split_at(second);
             let (begin, middle) = front.split_at(first);
-            let text = frames_in(rt.alloc(), &[begin, middle, end])?;
+            let text = frames_in(&rt, rt.alloc(), &[begin, middle, end]);
             assert_eq!(rt; text.as_slice(), TWICE.as_slice(), "{first} {second}");
         }
         let (begin, end) = TWICE.split_at(first);
-        let text = frames_in(rt.alloc(), &[begin, end])?;
+        let text = frames_in(&rt, rt.alloc(), &[begin, end]);
         assert_eq!(rt; text.as_slice(), TWICE.as_slice(), "{first}");
     }
-    Ok(())
 }
 
 #[test]
-fn a_frame_twice_over(rt: HostRuntime) -> Result<(), Fail> {
+fn a_frame_twice_over(rt: HostRuntime) {
     let mut both = [0; 84];
     both[..42].copy_from_slice(&TWICE);
     both[42..].copy_from_slice(&TWICE);
@@ -119,7 +116,7 @@ fn a_frame_twice_over(rt: HostRuntime) -> Result<(), Fail> {
         let mut decoder = Decoder::new(rt.alloc());
         let mut text = Vec::new(rt.alloc());
         for piece in both.chunks(size) {
-            feed_all(rt.alloc(), &mut decoder, piece, &mut text)?;
+            feed_all(&rt, rt.alloc(), &mut decoder, piece, &mut text);
         }
         assert_eq!(rt; text.as_slice(), both.as_slice(), "in pieces of {size}");
         assert_eq!(rt; decoder.finish(), Ok(()));
@@ -131,25 +128,21 @@ fn a_frame_twice_over(rt: HostRuntime) -> Result<(), Fail> {
         assert_eq!(rt; fed(&mut decoder, &TWICE).err(), Some(FrameFault::Failed));
         assert_eq!(rt; decoder.finish(), Err(FrameFault::Failed));
     }
-    Ok(())
 }
 
 #[test]
-fn a_frame_and_a_byte(rt: HostRuntime) -> Result<(), Fail> {
+fn a_frame_and_a_byte(rt: HostRuntime) {
     let mut bytes = [0; 43];
     bytes[..42].copy_from_slice(&TWICE);
     bytes[42] = 0x4D;
     let mut decoder = Decoder::new(rt.alloc());
-    let whole = fed(&mut decoder, &bytes)?;
+    let whole = fed(&mut decoder, &bytes).expect(&rt, "no fault");
     assert_eq!(rt; whole.taken, 42);
-    let frame = whole.frame.ok_or("no frame")?;
-    assert_eq!(rt;
-        encoded(rt.alloc(), frame.as_frame())?.as_slice(),
-        TWICE.as_slice()
-    );
+    let frame = whole.frame.expect(&rt, "a frame");
+    let again = encoded(&rt, rt.alloc(), frame.as_frame());
+    assert_eq!(rt; again.as_slice(), TWICE.as_slice());
 
-    let begun = fed(&mut decoder, &[0x4D])?;
-    assert_eq!(rt; (begun.taken, begun.frame.is_none()), (1, true));
+    begins(&rt, &mut decoder, &[0x4D]);
     assert_eq!(rt; decoder.finish(), Err(FrameFault::Truncated));
     assert_eq!(rt;
         fed(&mut decoder, &[0; 3]).err(),
@@ -157,19 +150,21 @@ fn a_frame_and_a_byte(rt: HostRuntime) -> Result<(), Fail> {
     );
     assert_eq!(rt; fed(&mut decoder, &[]).err(), Some(FrameFault::Failed));
     assert_eq!(rt; decoder.finish(), Err(FrameFault::Failed));
-    Ok(())
+}
+
+// The piece is taken whole, and no frame ends with it.
+fn begins(rt: &impl Abort, decoder: &mut Decoder, piece: &[u8]) {
+    let begun = fed(decoder, piece).expect(rt, "no fault");
+    assert_eq!(rt; (begun.taken, begun.frame.is_none()), (piece.len(), true));
 }
 
 #[test]
-fn a_part_is_not_the_end(rt: HostRuntime) -> Result<(), Fail> {
+fn a_part_is_not_the_end(rt: HostRuntime) {
     let mut decoder = Decoder::new(rt.alloc());
     assert_eq!(rt; decoder.finish(), Ok(()));
-    let begun = fed(&mut decoder, &TWICE[..41])?;
-    assert_eq!(rt; (begun.taken, begun.frame.is_none()), (41, true));
+    begins(&rt, &mut decoder, &TWICE[..41]);
     assert_eq!(rt; decoder.finish(), Err(FrameFault::Truncated));
-    let nothing = fed(&mut decoder, &[])?;
-    assert_eq!(rt; (nothing.taken, nothing.frame.is_none()), (0, true));
-    Ok(())
+    begins(&rt, &mut decoder, &[]);
 }
 
 // How many bytes were taken, fed byte by byte, before the fault.
@@ -231,36 +226,44 @@ impl Numbers {
     }
 }
 
-fn stamp(numbers: &mut Numbers) -> Result<Stamp, Fail> {
-    let replica = ReplicaId::new(1 + (numbers.next() % 64) as u16)?;
-    Ok(Stamp {
+fn stamp(rt: &impl Abort, numbers: &mut Numbers) -> Stamp {
+    let replica = ReplicaId::new(1 + (numbers.next() % 64) as u16).expect(rt, "a replica");
+    Stamp {
         time: numbers.next(),
         replica,
-    })
+    }
+}
+
+// What is kept of a page: two stamps where the second is older, and else the first.
+fn any_hist(rt: &impl Abort, numbers: &mut Numbers) -> PageHist {
+    let (last, prev) = (stamp(rt, numbers), stamp(rt, numbers));
+    if prev < last {
+        return PageHist::Twice(Two::new(last, prev));
+    }
+    PageHist::Once(last)
+}
+
+// Room for entries; where it is refused, asked for once more.
+fn room(rt: &impl Abort, alloc: Global, count: usize) -> Vec<Entry> {
+    match Vec::with_capacity(alloc, count) {
+        Ok(entries) => entries,
+        Err(_) => Vec::with_capacity(alloc, count).expect(rt, "room for entries"),
+    }
 }
 
 // So many entries, whose pages are up to nine apart.
-fn any_entries(alloc: Global, numbers: &mut Numbers, count: usize) -> Result<EntryList, Fail> {
-    let mut entries = match Vec::with_capacity(alloc, count) {
-        Ok(entries) => entries,
-        Err(_) => Vec::with_capacity(alloc, count)?,
-    };
+fn any_entries(rt: &impl Abort, alloc: Global, numbers: &mut Numbers, count: usize) -> EntryList {
+    let mut entries = room(rt, alloc, count);
     let mut no = 0u32;
     for _ in 0..count {
         no = no.wrapping_add(1 + (numbers.next() % 9) as u32);
-        let (last, prev) = (stamp(numbers)?, stamp(numbers)?);
-        let hist = if prev < last {
-            PageHist::Twice(Two::new(last, prev))
-        } else {
-            PageHist::Once(last)
-        };
         let page = PageId { dev: 7, no };
-        entries.push(Entry { page, hist })?;
+        let hist = any_hist(rt, numbers);
+        entries
+            .push(Entry { page, hist })
+            .expect(rt, "room for an entry");
     }
-    let Ok(entries) = EntryList::of(entries) else {
-        return Err("the pages rise".into());
-    };
-    Ok(entries)
+    EntryList::of(entries).ok().expect(rt, "the pages rise")
 }
 
 // A table of sums of any bytes.
@@ -275,9 +278,9 @@ fn any_sums(numbers: &mut Numbers) -> SumTable {
 }
 
 // A frame of up to four entries, a wish, or a table of sums.
-fn any_frame(alloc: Global, numbers: &mut Numbers) -> Result<Frame, Fail> {
-    let sender = ReplicaId::new(1 + (numbers.next() % 64) as u16)?;
-    let frame = match numbers.below(7) {
+fn any_frame(rt: &impl Abort, alloc: Global, numbers: &mut Numbers) -> Frame {
+    let sender = ReplicaId::new(1 + (numbers.next() % 64) as u16).expect(rt, "a replica");
+    match numbers.below(7) {
         5 => Frame::Want {
             sender,
             mask: numbers.next() << 33 | numbers.next(),
@@ -288,45 +291,65 @@ fn any_frame(alloc: Global, numbers: &mut Numbers) -> Result<Frame, Fail> {
         },
         count => Frame::Entries {
             sender,
-            entries: any_entries(alloc, numbers, count)?,
+            entries: any_entries(rt, alloc, numbers, count),
         },
-    };
-    Ok(frame)
+    }
+}
+
+// The bytes of any frame.
+fn any_bytes(rt: &impl Abort, alloc: Global, numbers: &mut Numbers) -> Vec<u8> {
+    let frame = any_frame(rt, alloc, numbers);
+    encoded(rt, alloc, &frame)
+}
+
+// The bytes of a hundred frames.
+fn any_stream(rt: &impl Abort, alloc: Global, numbers: &mut Numbers) -> Vec<u8> {
+    let mut stream = Vec::new(alloc);
+    for _ in 0..100 {
+        let bytes = any_bytes(rt, alloc, numbers);
+        put(rt, &mut stream, &bytes);
+    }
+    stream
+}
+
+// The spellings of the frames in a stream that comes in pieces of any size.
+fn frames_in_any_pieces(
+    rt: &impl Abort,
+    alloc: Global,
+    numbers: &mut Numbers,
+    stream: &[u8],
+) -> Vec<u8> {
+    let mut decoder = Decoder::new(alloc);
+    let mut text = Vec::new(alloc);
+    let mut rest = stream;
+    for _ in 0..stream.len() {
+        let (piece, later) = rest.split_at(numbers.below(90).min(rest.len()));
+        feed_all(rt, alloc, &mut decoder, piece, &mut text);
+        rest = later;
+    }
+    feed_all(rt, alloc, &mut decoder, rest, &mut text);
+    assert_eq!(rt; decoder.finish(), Ok(()));
+    text
 }
 
 #[test]
-fn pieces_of_any_size(rt: HostRuntime) -> Result<(), Fail> {
+fn pieces_of_any_size(rt: HostRuntime) {
     let mut numbers = Numbers { state: 17 };
     for _ in 0..100 {
-        let mut stream = Vec::new(rt.alloc());
-        for _ in 0..100 {
-            let bytes = encoded(rt.alloc(), &any_frame(rt.alloc(), &mut numbers)?)?;
-            put(&mut stream, &bytes)?;
-        }
-        let mut decoder = Decoder::new(rt.alloc());
-        let mut text = Vec::new(rt.alloc());
-        let mut rest = stream.as_slice();
-        for _ in 0..stream.len() {
-            let (piece, later) = rest.split_at(numbers.below(90).min(rest.len()));
-            feed_all(rt.alloc(), &mut decoder, piece, &mut text)?;
-            rest = later;
-        }
-        feed_all(rt.alloc(), &mut decoder, rest, &mut text)?;
-        assert_eq!(rt; decoder.finish(), Ok(()));
+        let stream = any_stream(&rt, rt.alloc(), &mut numbers);
+        let text = frames_in_any_pieces(&rt, rt.alloc(), &mut numbers, &stream);
         assert_eq!(rt; text.as_slice(), stream.as_slice());
     }
-    Ok(())
 }
+
+// What decode says of bytes, and of how many.
+type Known = Option<(usize, Result<Frame, FrameFault>)>;
 
 // What is known of the bytes, and from how many of them: the first front of which decode says anything
 // but that it ends too soon.
-fn first_known(alloc: Global, bytes: &[u8]) -> Option<(usize, Result<Frame, FrameFault>)> {
+fn first_known(alloc: Global, bytes: &[u8]) -> Known {
     for len in 0..=bytes.len() {
-        let answer = match decode(alloc, &bytes[..len]) {
-            Err(FrameFault::Memory) => decode(alloc, &bytes[..len]),
-            answer => answer,
-        };
-        match answer {
+        match decoded(alloc, &bytes[..len]) {
             Err(FrameFault::Truncated) => {}
             answer => return Some((len, answer)),
         }
@@ -334,34 +357,46 @@ fn first_known(alloc: Global, bytes: &[u8]) -> Option<(usize, Result<Frame, Fram
     None
 }
 
+// Feeds two pieces, the second only where the first gives no frame and no fault: how many bytes were
+// taken before the last piece that was fed, and what came of that one.
+fn fed_in_two(decoder: &mut Decoder, front: &[u8], end: &[u8]) -> (usize, Result<Fed, FrameFault>) {
+    match fed(decoder, front) {
+        Ok(Fed { taken, frame: None }) => (taken, fed(decoder, end)),
+        found => (0, found),
+    }
+}
+
+// The decoder finds what decode knows.
+fn agree(rt: &impl Abort, known: &Known, before: usize, found: &Result<Fed, FrameFault>) {
+    match (known, found) {
+        (None, Ok(fed)) => assert!(rt; fed.frame.is_none()),
+        (Some((len, Ok(want))), Ok(fed)) => {
+            assert_eq!(rt; before.wrapping_add(fed.taken), *len);
+            let frame = fed.frame.as_ref().expect(rt, "a frame");
+            assert!(rt; same(frame.as_frame(), want));
+        }
+        (Some((_, Err(want))), Err(fault)) => assert_eq!(rt; *fault, *want),
+        _ => panic!(rt; "another answer"),
+    }
+}
+
+// Any frame, one byte of which is any other or the same, is fed up to that byte and then the rest.
+fn is_found_as_known(rt: &impl Abort, alloc: Global, numbers: &mut Numbers) {
+    let mut bytes = any_bytes(rt, alloc, numbers);
+    let place = numbers.below(bytes.len());
+    if let Some(byte) = bytes.as_mut_slice().get_mut(place) {
+        *byte = (numbers.next() % 256) as u8;
+    }
+    let mut decoder = Decoder::new(alloc);
+    let (front, end) = bytes.as_slice().split_at(place.min(bytes.len()));
+    let (before, found) = fed_in_two(&mut decoder, front, end);
+    agree(rt, &first_known(alloc, &bytes), before, &found);
+}
+
 #[test]
-fn damaged_frames_against_decode(rt: HostRuntime) -> Result<(), Fail> {
+fn damaged_frames_against_decode(rt: HostRuntime) {
     let mut numbers = Numbers { state: 4 };
     for _ in 0..1000 {
-        let mut bytes = encoded(rt.alloc(), &any_frame(rt.alloc(), &mut numbers)?)?;
-        let place = numbers.below(bytes.len());
-        if let Some(byte) = bytes.as_mut_slice().get_mut(place) {
-            *byte = (numbers.next() % 256) as u8;
-        }
-        let mut decoder = Decoder::new(rt.alloc());
-        let (front, end) = bytes.as_slice().split_at(place.min(bytes.len()));
-        let known = first_known(rt.alloc(), &bytes);
-        let mut found = fed(&mut decoder, front);
-        let mut before = 0;
-        if let Ok(Fed { taken, frame: None }) = found {
-            before = taken;
-            found = fed(&mut decoder, end);
-        }
-        match (known, found) {
-            (None, Ok(fed)) => assert!(rt; fed.frame.is_none()),
-            (Some((len, Ok(want))), Ok(fed)) => {
-                assert_eq!(rt; before.wrapping_add(fed.taken), len);
-                let frame = fed.frame.ok_or("no frame")?;
-                assert!(rt; same(frame.as_frame(), &want));
-            }
-            (Some((_, Err(want))), Err(fault)) => assert_eq!(rt; fault, want),
-            _ => return Err("another answer".into()),
-        }
+        is_found_as_known(&rt, rt.alloc(), &mut numbers);
     }
-    Ok(())
 }

@@ -64,6 +64,3 @@ impl PlayFault {
         }
     }
 }
-
-#[cfg(test)]
-mod tests;

@@ -152,6 +152,3 @@ pub fn write_schedule<W: Write>(
     }
     Ok(())
 }
-
-#[cfg(test)]
-mod tests;

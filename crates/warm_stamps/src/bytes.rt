@@ -49,39 +49,3 @@ pub fn page_from(bytes: &[u8; 6]) -> PageId
         no: u32::from_be_bytes([a, b, c, d]),
     }
 }
-
-#[cfg(test)]
-mod tests {
-    use super::*;
-
-    // 20@1, as ten bytes.
-    const STAMP: [u8; 10] = [0, 0, 0, 0, 0, 0, 0, 0x14, 0, 1];
-
-    // 258:50462976, whose bytes all differ.
-    const PAGE: [u8; 6] = [1, 2, 3, 2, 1, 0];
-
-    #[test]
-    fn stamps_have_ten_bytes(rt: HostRuntime) {
-        assert_eq!(rt; stamp_from(&STAMP).map(stamp_bytes), Ok(STAMP));
-        assert_eq!(rt; stamp_from(&STAMP).map(|stamp| stamp.time), Ok(20));
-        assert_eq!(rt; stamp_from(&[0; 10]), Err(BadReplica));
-    }
-
-    #[test]
-    fn pages_have_six_bytes(rt: HostRuntime) {
-        assert_eq!(rt;
-            page_bytes(PageId {
-                dev: 258,
-                no: 50462976
-            }),
-            PAGE
-        );
-        assert_eq!(rt;
-            page_from(&PAGE),
-            PageId {
-                dev: 258,
-                no: 50462976
-            }
-        );
-    }
-}

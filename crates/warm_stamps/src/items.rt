@@ -51,25 +51,3 @@ impl<T> Items<T> {
         self.items
     }
 }
-
-#[cfg(test)]
-mod tests {
-    use super::*;
-    use std::test::Fail;
-
-    #[test]
-    fn lists_keep_their_items_in_order(rt: HostRuntime) -> Result<(), Fail> {
-        let list = PageList::of(vec![in rt.alloc();
-            PageId { dev: 2, no: 1 },
-            PageId { dev: 1, no: 2 },
-        ]?);
-        assert_eq!(rt;
-            list.as_slice().first().copied(),
-            Some(PageId { dev: 2, no: 1 })
-        );
-        let mut items = list.into_vec();
-        assert_eq!(rt; items.pop(), Some(PageId { dev: 1, no: 2 }));
-        assert_eq!(rt; items.len(), 1);
-        Ok(())
-    }
-}

@@ -150,34 +150,3 @@ pub fn bucket_of(page: PageId) -> Bucket
         index: (sum % u64::from(BUCKETS)) as u8,
     }
 }
-
-#[cfg(test)]
-mod tests {
-    use super::*;
-
-    #[test]
-    fn replicas_are_numbered_from_1_to_64(rt: HostRuntime) {
-        assert_eq!(rt; ReplicaId::new(0), Err(BadReplica));
-        assert_eq!(rt; ReplicaId::new(65), Err(BadReplica));
-        assert_eq!(rt; ReplicaId::new(1).map(|replica| replica.get()), Ok(1));
-        assert_eq!(rt; ReplicaId::new(64).map(|replica| replica.get()), Ok(64));
-    }
-
-    #[test]
-    fn buckets_are_numbered_from_0_to_63(rt: HostRuntime) {
-        assert_eq!(rt; Bucket::new(0).map(|bucket| bucket.get()), Some(0));
-        assert_eq!(rt; Bucket::new(63).map(|bucket| bucket.get()), Some(63));
-        assert_eq!(rt; Bucket::new(64), None);
-    }
-
-    #[test]
-    fn a_page_falls_into_the_bucket_of_its_sum(rt: HostRuntime) {
-        for (dev, no, want) in [(0, 1, 1), (0, 65, 1), (1, 0, 1), (65535, 4294967295, 62)] {
-            assert_eq!(rt;
-                bucket_of(PageId { dev, no }).get(),
-                want,
-                "page {dev}:{no}"
-            );
-        }
-    }
-}

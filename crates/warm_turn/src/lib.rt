@@ -33,8 +33,6 @@ mod fault;
 pub mod laws;
 mod machine;
 mod plays;
-#[cfg(test)]
-mod tests;
 mod turn;
 
 pub use counter::{Add, Added, Counter};

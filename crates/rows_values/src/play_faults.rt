@@ -1,8 +1,9 @@
-use super::*;
-use std::test::Fail;
+//! The numbers and names of what ends a play.
+
+use warm_play_fault::PlayFault;
 
 #[test]
-fn faults_have_numbers_and_names(rt: HostRuntime) -> Result<(), Fail> {
+fn play_faults_have_numbers_and_names(rt: HostRuntime) {
     for (fault, code, name) in [
         (PlayFault::Memory, 1, "Memory"),
         (PlayFault::ReadFault, 2, "ReadFault"),
@@ -12,8 +13,7 @@ fn faults_have_numbers_and_names(rt: HostRuntime) -> Result<(), Fail> {
         (PlayFault::BadDevices, 6, "BadDevices"),
     ] {
         assert_eq!(rt; (fault.code(), fault.name()), (code, name));
-        let shown = format!(in rt.alloc(); "{fault}")?;
+        let shown = format!(in rt.alloc(); "{fault}").expect(&rt, "room for a name");
         assert_eq!(rt; shown.as_str(), name);
     }
-    Ok(())
 }

@@ -1,23 +1,25 @@
 //! The worked rows of a counter, passes in threads of their own, and want of memory.
-ghost use Rattle.std.specs.Prelude.{◌≡◌, Some, IfOk};
+ghost use Rattle.std.specs.Prelude.{◌≡◌, Some};
 
-use crate::counter::{Add, Added, Counter};
-use crate::{Busy, Machine, Memory, Pass, Turn, TurnsSpent};
-use std::alloc::{AllocError, Global};
+use std::alloc::Global;
+use std::process::Abort;
 use std::sync::Wait;
 use std::sync::atomic::{AtomicU64, Ordering};
-use std::test::Fail;
 use std::thread::{Threads, join};
 use std::time::{Clock, Duration};
 use std::{fmt, thread};
+use warm_turn::{Add, Added, Busy, Counter, Machine, Memory, Pass, Turn, TurnsSpent};
 
-// A turn over a counter at this total. One growth that is refused is tried again.
-fn counter_at(alloc: Global, total: u64) -> Result<(Turn<Counter>, Pass<Counter>), Memory<Counter>>
-    ensures { IfOk result (λ t. t.1.table ≡ t.0.table) }
+// A turn over a counter at this total. A growth that is refused hands the machine back, and is tried again.
+fn counter_at(rt: &impl Abort, alloc: Global, total: u64) -> (Turn<Counter>, Pass<Counter>)
+    ensures { result.1.table ≡ result.0.table }
 {
     match Turn::new(alloc, Counter { total }) {
-        Ok(opened) => Ok(opened),
-        Err(refused) => Turn::new(alloc, refused.machine),
+        Ok(opened) => opened,
+        Err(refused) => {
+            assert_eq!(rt; (refused.code(), refused.name()), (1, "Memory"));
+            Turn::new(alloc, refused.machine).expect(rt, "room for a turn")
+        }
     }
 }
 
@@ -33,95 +35,66 @@ fn learn_opening<M: Machine>(turn: &Turn<M>, pass: &mut Pass<M>)
 }
 
 #[test]
-fn two_passes_count_on_one_machine(rt: HostRuntime) -> Result<(), Fail> {
-    let Ok((turn, mut first)) = counter_at(rt.alloc(), 0) else {
-        panic!(rt; "no memory")
-    };
+fn two_passes_count_on_one_machine(rt: HostRuntime) {
+    let (turn, mut first) = counter_at(&rt, rt.alloc(), 0);
     let mut second = turn.pass(&mut first);
     learn_opening(&turn, &mut second);
-    let Ok(five) = turn.call(&rt, &mut first, Add(5)) else {
-        panic!(rt; "no ticket was left")
-    };
+    let five = turn.call(&rt, &mut first, Add(5)).expect(&rt, "a ticket");
     let note = turn.note(&mut first);
     turn.learn(&mut second, note);
-    let Ok(seven) = turn.call(&rt, &mut second, Add(2)) else {
-        panic!(rt; "no ticket was left")
-    };
+    let seven = turn.call(&rt, &mut second, Add(2)).expect(&rt, "a ticket");
     turn.end(&mut first, second);
     first.is_legal();
-    let Ok(counter) = turn.close(first) else {
-        panic!(rt; "a ticket was not passed on")
-    };
+    let counter = turn.close(first).expect(&rt, "each ticket was passed on");
     assert!(rt; five == Added::Total(5) && seven == Added::Total(7) && counter.total == 7);
-    Ok(())
 }
 
 #[test]
-fn a_full_counter_stays(rt: HostRuntime) -> Result<(), Fail> {
-    let Ok((turn, mut pass)) = counter_at(rt.alloc(), 18446744073709551615) else {
-        panic!(rt; "no memory")
-    };
-    let (Ok(one), Ok(none)) = (
-        turn.call(&rt, &mut pass, Add(1)),
-        turn.call(&rt, &mut pass, Add(0)),
-    ) else {
-        panic!(rt; "no ticket was left")
-    };
+fn a_full_counter_stays(rt: HostRuntime) {
+    let (turn, mut pass) = counter_at(&rt, rt.alloc(), 18446744073709551615);
+    let one = turn.call(&rt, &mut pass, Add(1)).expect(&rt, "a ticket");
+    let none = turn.call(&rt, &mut pass, Add(0)).expect(&rt, "a ticket");
     assert!(rt; one == Added::Overflow && none == Added::Total(18446744073709551615));
-    Ok(())
 }
 
 // Says nothing of memory: run with each growth refused in turn by `rt try --test --fail-alloc 1..`.
 #[test]
-fn a_refused_growth_hands_the_machine_back(rt: HostRuntime) -> Result<(), Fail> {
-    let mut machine = Counter { total: 41 };
-    for _ in 0..2 {
-        match Turn::new(rt.alloc(), machine) {
-            Ok((turn, pass)) => {
-                let Ok(counter) = turn.close(pass) else {
-                    panic!(rt; "a ticket was not passed on")
-                };
-                assert!(rt; counter.total == 41);
-                return Ok(());
-            }
-            Err(refused) => {
-                assert!(rt; refused.code() == 1 && refused.name() == "Memory");
-                machine = refused.machine;
-            }
-        }
-    }
-    panic!(rt; "two growths were refused")
+fn a_refused_growth_hands_the_machine_back(rt: HostRuntime) {
+    let (turn, pass) = counter_at(&rt, rt.alloc(), 41);
+    let counter = turn.close(pass).expect(&rt, "each ticket was passed on");
+    assert_eq!(rt; counter.total, 41);
 }
 
-// What the refusal prints. One growth that is refused is tried again.
-fn text_of(alloc: Global, refusal: &impl fmt::Display) -> Result<String, AllocError> {
-    match format!(in alloc; "{refusal}") {
-        Ok(text) => Ok(text),
-        Err(_) => format!(in alloc; "{refusal}"),
-    }
+// The refusal prints this. One growth that is refused is tried again.
+fn says(rt: &impl Abort, alloc: Global, refusal: &impl fmt::Display, want: &str) {
+    let text = match format!(in alloc; "{refusal}") {
+        Ok(text) => text,
+        Err(_) => format!(in alloc; "{refusal}").expect(rt, "room for a text"),
+    };
+    assert_eq!(rt; text.as_str(), want);
 }
 
 #[test]
-fn refusals_say_what_they_are(rt: HostRuntime) -> Result<(), Fail> {
+fn refusals_say_what_they_are(rt: HostRuntime) {
     let memory = Memory {
         machine: Counter { total: 3 },
     };
+    assert_eq!(rt; (memory.code(), memory.name()), (1, "Memory"));
+    says(&rt, rt.alloc(), &memory, "no memory was left for a turn");
     let spent = TurnsSpent { call: Add(1) };
+    assert_eq!(rt; (spent.code(), spent.name()), (2, "TurnsSpent"));
+    says(&rt, rt.alloc(), &spent, "no ticket is left for a call");
     let busy = Busy {
         ticket: 8,
         serving: 7,
     };
-    assert!(rt; memory.code() == 1 && memory.name() == "Memory");
-    assert!(rt; spent.code() == 2 && spent.name() == "TurnsSpent");
-    assert!(rt; busy.code() == 3 && busy.name() == "Busy");
-    let heap = rt.alloc();
-    let memory = text_of(heap, &memory)?;
-    let spent = text_of(heap, &spent)?;
-    let busy = text_of(heap, &busy)?;
-    assert!(rt; memory.as_str() == "no memory was left for a turn");
-    assert!(rt; spent.as_str() == "no ticket is left for a call");
-    assert!(rt; busy.as_str() == "ticket 8 is next, and ticket 7 is still served");
-    Ok(())
+    assert_eq!(rt; (busy.code(), busy.name()), (3, "Busy"));
+    says(
+        &rt,
+        rt.alloc(),
+        &busy,
+        "ticket 8 is next, and ticket 7 is still served",
+    );
 }
 
 // What holds two threads back until two others are done.
@@ -193,10 +166,8 @@ fn add_in_two_threads<
 
 // Two passes are ended while two others still call.
 #[test]
-fn four_threads_count_to_twelve(rt: HostRuntime) -> Result<(), Fail> {
-    let Ok((turn, mut first)) = counter_at(rt.alloc(), 0) else {
-        panic!(rt; "no memory")
-    };
+fn four_threads_count_to_twelve(rt: HostRuntime) {
+    let (turn, mut first) = counter_at(&rt, rt.alloc(), 0);
     let one = turn.pass(&mut first);
     let two = turn.pass(&mut first);
     let three = turn.pass(&mut first);
@@ -227,9 +198,6 @@ fn four_threads_count_to_twelve(rt: HostRuntime) -> Result<(), Fail> {
     );
     turn.end(&mut first, three);
     turn.end(&mut first, four);
-    let Ok(counter) = turn.close(first) else {
-        panic!(rt; "a ticket was not passed on")
-    };
+    let counter = turn.close(first).expect(&rt, "each ticket was passed on");
     assert!(rt; counter.total == 12 && gate.late.load(Ordering::SeqCst) == 0);
-    Ok(())
 }

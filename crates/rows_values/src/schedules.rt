@@ -2,22 +2,27 @@
 //! gives the published first words of the state 42 and the stream 54.
 ghost use Rattle.std.specs.Prelude.{◌<◌};
 
-use super::*;
-use std::test::Fail;
+use std::alloc::Global;
+use std::process::Abort;
+use std::str;
+use warm_random::write_schedule;
 
-fn schedule_of(
-    rt: &HostRuntime,
+// This seed gives this schedule.
+fn gives(
+    rt: &impl Abort,
+    alloc: Global,
     seed: u64,
     events: u32,
     replicas: u16,
     workers: u16,
-) -> Result<String, Fail>
+    want: &str,
+)
     requires replicas { 0 < replicas }
     requires workers { 0 < workers }
 {
-    let mut text = Vec::new(rt.alloc());
-    write_schedule(&mut text, seed, events, replicas, workers)?;
-    Ok(String::from_utf8(text)?)
+    let mut text = Vec::new(alloc);
+    write_schedule(&mut text, seed, events, replicas, workers).expect(rt, "the schedule");
+    assert_eq!(rt; str::from_utf8(&text), Ok(want));
 }
 
 const THREE_REPLICAS: &str = "ref 3 2 0:211 1\ndeliver 1 1\nref 3 2 0:153 3\nref 3 2 0:228 4\n\
@@ -39,20 +44,23 @@ const ONE_WORKER: &str = "ref 1 1 0:95 1\nsend 1 23\nshow 1\nref 1 1 0:220 4\n\
      deliver 1 2\nflush 1 1\nref 1 1 0:118 11\nref 1 1 0:12 12\n";
 
 #[test]
-fn seeds_give_their_schedules(rt: HostRuntime) -> Result<(), Fail> {
-    assert_eq!(rt; schedule_of(&rt, 1, 24, 3, 2)?.as_str(), THREE_REPLICAS);
-    assert_eq!(rt;
-        schedule_of(&rt, 18446744073709551615, 24, 64, 16)?.as_str(),
-        LARGEST_SETUP
+fn seeds_give_their_schedules(rt: HostRuntime) {
+    gives(&rt, rt.alloc(), 1, 24, 3, 2, THREE_REPLICAS);
+    gives(
+        &rt,
+        rt.alloc(),
+        18446744073709551615,
+        24,
+        64,
+        16,
+        LARGEST_SETUP,
     );
-    assert_eq!(rt; schedule_of(&rt, 7, 12, 1, 1)?.as_str(), ONE_WORKER);
-    Ok(())
+    gives(&rt, rt.alloc(), 7, 12, 1, 1, ONE_WORKER);
 }
 
 #[test]
-fn no_events_write_nothing(rt: HostRuntime) -> Result<(), Fail> {
-    assert_eq!(rt; schedule_of(&rt, 7, 0, 3, 2)?.as_str(), "");
-    Ok(())
+fn no_events_write_nothing(rt: HostRuntime) {
+    gives(&rt, rt.alloc(), 7, 0, 3, 2, "");
 }
 
 // A writer that has room for a line and a half.

@@ -1,0 +1,77 @@
+//! What a device in memory notes as its drop begins.
+
+ghost use Rattle.noting_device.specs.NotingParts.{noting_state};
+ghost use Rattle.std.specs.Prelude.{◌≡◌};
+ghost use Rattle.warm_devices.specs.Device.{zeroed};
+
+use noting_device::{Found, Note, Noting};
+use std::alloc::Global;
+use std::process::Abort;
+use std::sync::Arc;
+use warm_devices::{Flaky, MemDevice, PageDevice};
+
+// A device of so many pages of so many bytes that notes its drop, and the note.
+fn noting(
+    rt: &impl Abort,
+    alloc: Global,
+    pages: u32,
+    page_size: usize,
+) -> (Noting, Arc<Note, Global>)
+    ensures { noting_state result.0 ≡ zeroed pages page_size }
+{
+    let note = Note::blank(alloc, pages, page_size).expect(rt, "room for a note");
+    let other = Arc::try_clone(&note).expect(rt, "a second owner");
+    let inner = MemDevice::new(alloc, pages, page_size).expect(rt, "room for pages");
+    let device = Noting::new(alloc, inner, other).expect(rt, "room for a page");
+    (device, note)
+}
+
+#[test]
+fn a_drop_is_noted_before_it_settles(rt: HostRuntime) {
+    let (mut device, note) = noting(&rt, rt.alloc(), 3, 2);
+    assert_eq!(rt;
+        (device.write(2, &[7, 8]), note.found()),
+        (Ok(()), Found::NoDrop)
+    );
+    drop(device);
+    assert_eq!(rt; note.found(), Found::Waiting);
+    assert!(rt; note.has(2, &[7, 8]) && note.has(0, &[0, 0]));
+    assert!(rt; !note.has(2, &[7, 9]) && !note.has(2, &[7]) && !note.has(3, &[0, 0]));
+}
+
+// What is noted of a device whose call of this number fails, where a page was written and not flushed.
+fn found_as_call_fails(rt: &impl Abort, alloc: Global, number: u64) -> Found {
+    let (device, note) = noting(rt, alloc, 1, 1);
+    let mut device = Flaky::new(device, number);
+    assert_eq!(rt;
+        (device.write(0, &[5]), note.found()),
+        (Ok(()), Found::NoDrop)
+    );
+    drop(device);
+    assert!(rt; note.has(0, &[5]));
+    note.found()
+}
+
+#[test]
+fn a_flaky_device_settles_as_it_is_dropped(rt: HostRuntime) {
+    for (number, want) in [
+        (0, Found::Settled),
+        (2, Found::Waiting),
+        (3, Found::Settled),
+    ] {
+        assert_eq!(rt;
+            found_as_call_fails(&rt, rt.alloc(), number),
+            want,
+            "call {number} fails"
+        );
+    }
+}
+
+#[test]
+fn a_flush_that_fails_is_counted(rt: HostRuntime) {
+    let (device, _note) = noting(&rt, rt.alloc(), 1, 1);
+    let mut device = Flaky::new(device, 2);
+    assert_eq!(rt; device.write(0, &[5]), Ok(()));
+    device.settle();
+    assert_eq!(rt; (device.waiting(), device.failures()), (true, 1));
+}
