@@ -1,6 +1,6 @@
 //! Rows of a node's life, run. Each call stands in a function of its own, which keeps that the node is fit: what is proved of a
-//! test does not grow with its rows.
-ghost use Rattle.std.specs.Prelude.{IfOk};
+//! test does not grow with its rows. What must not fail ends the process where it does: a `?` would be one more way out, on which
+//! the drop of all that is owned is proved.
 
 mod growths;
 mod kept;
@@ -8,7 +8,6 @@ mod kept;
 use kept::{hears, offers};
 use std::alloc::{AllocError, Global};
 use std::process::Abort;
-use std::test::Fail;
 use warm_devices::{Flaky, MemDevice, PageDevice};
 use warm_frames::{Frame, encode};
 use warm_gossip::{Call, Node, NodeFault, Reply, Shown};
@@ -25,36 +24,43 @@ const fn slot(index: u32, generation: u64) -> Slot {
 
 // A node of so many frames over a device whose pages have 16 bytes.
 fn over(
+    rt: &impl Abort,
     alloc: Global,
-    id: u16,
+    id: ReplicaId,
     frames: usize,
     device: Box<dyn PageDevice + Send>,
-) -> Result<Node, Fail>
-    ensures { IfOk result (λ node. ⟦<Node as Shown>⟧.is_fit node) }
+) -> Node
+    ensures { ⟦<Node as Shown>⟧.is_fit result }
 {
-    let mut devices = Vec::with_capacity(alloc, 1)?;
+    let mut devices = Vec::with_capacity(alloc, 1).expect(rt, "room for a device");
     devices.push_reserved(device);
     match Pool::new(alloc, frames, 16, devices) {
-        Ok(pool) => Ok(Node::new(alloc, ReplicaId::new(id)?, pool)),
-        Err(_) => Err("no pool".into()),
+        Ok(pool) => Node::new(alloc, id, pool),
+        Err(_) => panic!(rt; "no pool"),
     }
 }
 
 // A node of so many frames over a device of 256 pages.
-fn fresh(alloc: Global, id: u16, frames: usize) -> Result<Node, Fail>
-    ensures { IfOk result (λ node. ⟦<Node as Shown>⟧.is_fit node) }
+fn fresh(rt: &impl Abort, alloc: Global, id: u16, frames: usize) -> Node
+    ensures { ⟦<Node as Shown>⟧.is_fit result }
 {
-    let device: Box<dyn PageDevice + Send> = Box::new(alloc, MemDevice::new(alloc, 256, 16)?)?;
-    over(alloc, id, frames, device)
+    let id = ReplicaId::new(id).expect(rt, "the number is of a replica");
+    let memory = MemDevice::new(alloc, 256, 16).expect(rt, "room for its pages");
+    let device: Box<dyn PageDevice + Send> = Box::new(alloc, memory).expect(rt, "room for it");
+    over(rt, alloc, id, frames, device)
 }
 
 // A node of one frame over a device of 8 pages, whose first call fails.
-fn flaky(alloc: Global) -> Result<Node, Fail>
-    ensures { IfOk result (λ node. ⟦<Node as Shown>⟧.is_fit node) }
+fn flaky(rt: &impl Abort, alloc: Global) -> Node
+    ensures { ⟦<Node as Shown>⟧.is_fit result }
 {
-    let memory = MemDevice::new(alloc, 8, 16)?;
-    let device: Box<dyn PageDevice + Send> = Box::new(alloc, Flaky::new(memory, 1))?;
-    over(alloc, 1, 1, device)
+    let id = ReplicaId::new(1).expect(rt, "the number is of a replica");
+    let memory = Flaky::new(
+        MemDevice::new(alloc, 8, 16).expect(rt, "room for its pages"),
+        1,
+    );
+    let device: Box<dyn PageDevice + Send> = Box::new(alloc, memory).expect(rt, "room for it");
+    over(rt, alloc, id, 1, device)
 }
 
 // References of a replica to pages of device 0.
@@ -78,146 +84,141 @@ fn batch_of(
 }
 
 // Tells the node of references to pages of device 0 at its own times.
-fn told(
-    rt: &impl Abort,
-    alloc: Global,
-    node: &mut Node,
-    references: &[(u32, u64)],
-) -> Result<(), Fail>
+fn told(rt: &impl Abort, alloc: Global, node: &mut Node, references: &[(u32, u64)])
     requires { ⟦<Node as Shown>⟧.is_fit node.old }
     ensures { ⟦<Node as Shown>⟧.is_fit node.new }
 {
-    let batch = batch_of(alloc, node.id(), references)?;
-    let is_done = match node.call(Call::Absorb(batch)) {
-        Reply::Done => true,
-        _ => false,
-    };
-    assert!(rt; is_done, "the references are absorbed");
-    Ok(())
+    let batch = batch_of(alloc, node.id(), references).expect(rt, "room for the batch");
+    assert_eq!(rt; is_done(node, Call::Absorb(batch)), Ok(()));
 }
 
-fn pinned_at(node: &mut Node, page: PageId) -> Result<Slot, NodeFault>
+// The one place where a node is called: what else is asked of it need not know what a call promises.
+fn answer(node: &mut Node, call: Call) -> Reply
     requires { ⟦<Node as Shown>⟧.is_fit node.old }
     ensures { ⟦<Node as Shown>⟧.is_fit node.new }
 {
-    match node.call(Call::Pin(page)) {
+    node.call(call)
+}
+
+fn slot_in(reply: Reply) -> Result<Slot, NodeFault> {
+    match reply {
         Reply::Pinned(slot) => Ok(slot),
         Reply::Refused(fault) => Err(fault),
         _ => Err(NodeFault::Memory),
     }
 }
 
-fn is_done(node: &mut Node, call: Call) -> Result<(), NodeFault>
-    requires { ⟦<Node as Shown>⟧.is_fit node.old }
-    ensures { ⟦<Node as Shown>⟧.is_fit node.new }
-{
-    match node.call(call) {
+fn done_in(reply: Reply) -> Result<(), NodeFault> {
+    match reply {
         Reply::Done => Ok(()),
         Reply::Refused(fault) => Err(fault),
         _ => Err(NodeFault::Memory),
     }
 }
 
-fn victim(node: &mut Node) -> Result<Option<PageId>, Fail>
-    requires { ⟦<Node as Shown>⟧.is_fit node.old }
-    ensures { ⟦<Node as Shown>⟧.is_fit node.new }
-{
-    match node.call(Call::Victim) {
-        Reply::Page(page) => Ok(page),
-        _ => Err("the victim is named".into()),
-    }
-}
-
-// The frame of the first entries of bucket 1.
-fn sent(node: &mut Node, after: Option<PageId>) -> Result<Frame, Fail>
-    requires { ⟦<Node as Shown>⟧.is_fit node.old }
-    ensures { ⟦<Node as Shown>⟧.is_fit node.new }
-{
-    let bucket = Bucket::new(1).ok_or("a bucket")?;
-    match node.call(Call::Send { bucket, after }) {
-        Reply::Sent(frame) => Ok(frame),
-        _ => Err("the bucket is sent".into()),
-    }
-}
-
-fn loaded(node: &mut Node) -> Result<Option<PageId>, NodeFault>
-    requires { ⟦<Node as Shown>⟧.is_fit node.old }
-    ensures { ⟦<Node as Shown>⟧.is_fit node.new }
-{
-    match node.call(Call::WarmStep) {
+fn loaded_in(reply: Reply) -> Result<Option<PageId>, NodeFault> {
+    match reply {
         Reply::Loaded(page) => Ok(page),
         Reply::Refused(fault) => Err(fault),
         _ => Err(NodeFault::Memory),
     }
 }
 
-fn bytes(node: &mut Node, slot: Slot, at: usize, len: usize) -> Result<ByteList, NodeFault>
-    requires { ⟦<Node as Shown>⟧.is_fit node.old }
-    ensures { ⟦<Node as Shown>⟧.is_fit node.new }
-{
-    match node.call(Call::Read { slot, at, len }) {
+fn bytes_in(reply: Reply) -> Result<ByteList, NodeFault> {
+    match reply {
         Reply::Bytes(bytes) => Ok(bytes),
         Reply::Refused(fault) => Err(fault),
         _ => Err(NodeFault::Memory),
     }
 }
 
-fn put(alloc: Global, node: &mut Node, slot: Slot, at: usize, text: &[u8]) -> Result<(), Fail>
-    requires { ⟦<Node as Shown>⟧.is_fit node.old }
-    ensures { ⟦<Node as Shown>⟧.is_fit node.new }
-{
-    let mut bytes = Vec::new(alloc);
-    bytes.extend_from_slice(text)?;
-    let bytes = ByteList::of(bytes);
-    match node.call(Call::Write { slot, at, bytes }) {
-        Reply::Done => Ok(()),
-        _ => Err("the bytes are written".into()),
+fn page_in(rt: &impl Abort, reply: Reply) -> Option<PageId> {
+    match reply {
+        Reply::Page(page) => page,
+        _ => panic!(rt; "the victim is named"),
     }
 }
 
-fn answers(node: &mut Node, frame: Frame) -> Result<Vec<Frame>, Fail>
-    requires { ⟦<Node as Shown>⟧.is_fit node.old }
-    ensures { ⟦<Node as Shown>⟧.is_fit node.new }
-{
-    match node.call(Call::Receive(frame)) {
-        Reply::Answers(frames) => Ok(frames.into_vec()),
-        _ => Err("the frame is received".into()),
+fn pages_in(rt: &impl Abort, reply: Reply) -> PageList {
+    match reply {
+        Reply::Pages(pages) => pages,
+        _ => panic!(rt; "the hottest pages are listed"),
     }
 }
 
-fn offered(node: &mut Node) -> Result<Frame, Fail>
-    requires { ⟦<Node as Shown>⟧.is_fit node.old }
-    ensures { ⟦<Node as Shown>⟧.is_fit node.new }
-{
-    match node.call(Call::Offer) {
-        Reply::Sent(frame) => Ok(frame),
-        _ => Err("the sums are offered".into()),
+fn frame_in(rt: &impl Abort, reply: Reply) -> Frame {
+    match reply {
+        Reply::Sent(frame) => frame,
+        _ => panic!(rt; "a frame is sent"),
     }
 }
 
-// The hottest pages, so many of them.
-fn hottest(node: &mut Node, pages: usize) -> Result<PageList, Fail>
+fn frames_in(rt: &impl Abort, reply: Reply) -> Vec<Frame> {
+    match reply {
+        Reply::Answers(frames) => frames.into_vec(),
+        _ => panic!(rt; "the frame is received"),
+    }
+}
+
+fn pinned_at(node: &mut Node, page: PageId) -> Result<Slot, NodeFault>
     requires { ⟦<Node as Shown>⟧.is_fit node.old }
     ensures { ⟦<Node as Shown>⟧.is_fit node.new }
 {
-    match node.call(Call::WarmList(pages)) {
-        Reply::Pages(pages) => Ok(pages),
-        _ => Err("the hottest pages are listed".into()),
-    }
+    slot_in(answer(node, Call::Pin(page)))
+}
+
+fn is_done(node: &mut Node, call: Call) -> Result<(), NodeFault>
+    requires { ⟦<Node as Shown>⟧.is_fit node.old }
+    ensures { ⟦<Node as Shown>⟧.is_fit node.new }
+{
+    done_in(answer(node, call))
+}
+
+// The frame of the first entries of bucket 1.
+fn sent(rt: &impl Abort, node: &mut Node, after: Option<PageId>) -> Frame
+    requires { ⟦<Node as Shown>⟧.is_fit node.old }
+    ensures { ⟦<Node as Shown>⟧.is_fit node.new }
+{
+    let bucket = Bucket::new(1).expect(rt, "a bucket");
+    frame_in(rt, answer(node, Call::Send { bucket, after }))
+}
+
+fn bytes(node: &mut Node, slot: Slot, at: usize, len: usize) -> Result<ByteList, NodeFault>
+    requires { ⟦<Node as Shown>⟧.is_fit node.old }
+    ensures { ⟦<Node as Shown>⟧.is_fit node.new }
+{
+    bytes_in(answer(node, Call::Read { slot, at, len }))
+}
+
+fn put(rt: &impl Abort, alloc: Global, node: &mut Node, slot: Slot, at: usize, text: &[u8])
+    requires { ⟦<Node as Shown>⟧.is_fit node.old }
+    ensures { ⟦<Node as Shown>⟧.is_fit node.new }
+{
+    let bytes = ByteList::of(text.to_vec(alloc).expect(rt, "room for the bytes"));
+    assert_eq!(rt; is_done(node, Call::Write { slot, at, bytes }), Ok(()));
+}
+
+fn answers(rt: &impl Abort, node: &mut Node, frame: Frame) -> Vec<Frame>
+    requires { ⟦<Node as Shown>⟧.is_fit node.old }
+    ensures { ⟦<Node as Shown>⟧.is_fit node.new }
+{
+    frames_in(rt, answer(node, Call::Receive(frame)))
+}
+
+fn offered(rt: &impl Abort, node: &mut Node) -> Frame
+    requires { ⟦<Node as Shown>⟧.is_fit node.old }
+    ensures { ⟦<Node as Shown>⟧.is_fit node.new }
+{
+    frame_in(rt, answer(node, Call::Offer))
 }
 
 // Pins a page and takes the fix away again.
-fn visit(node: &mut Node, no: u32) -> Result<(), Fail>
+fn visit(rt: &impl Abort, node: &mut Node, no: u32)
     requires { ⟦<Node as Shown>⟧.is_fit node.old }
     ensures { ⟦<Node as Shown>⟧.is_fit node.new }
 {
-    let Ok(slot) = pinned_at(node, page(no)) else {
-        return Err("the page is pinned".into());
-    };
-    match is_done(node, Call::Unpin(slot)) {
-        Ok(()) => Ok(()),
-        Err(_) => Err("the fix is taken away".into()),
-    }
+    let slot = pinned_at(node, page(no)).expect(rt, "the page is pinned");
+    assert_eq!(rt; is_done(node, Call::Unpin(slot)), Ok(()));
 }
 
 // What is asked of a node, and what is to come of it.
@@ -254,46 +255,36 @@ enum Row<'a> {
 }
 
 // Asks what the row says and changes no frame for. `at` is its number.
-fn shows(rt: &impl Abort, node: &mut Node, row: Row<'_>, at: usize) -> Result<(), Fail>
+fn shows(rt: &impl Abort, node: &mut Node, row: Row<'_>, at: usize)
     requires { ⟦<Node as Shown>⟧.is_fit node.old }
     ensures { ⟦<Node as Shown>⟧.is_fit node.new }
 {
     match row {
-        Row::Knows(pages) => {
-            assert_eq!(rt; node.history().len(), pages, "row {at}");
-            Ok(())
-        }
+        Row::Knows(pages) => assert_eq!(rt; node.history().len(), pages, "row {at}"),
         Row::Reads(slot, from, wanted) => {
-            let Ok(read) = bytes(node, slot, from, wanted.len()) else {
-                return Err("the bytes are read".into());
-            };
-            assert_eq!(rt; read.as_slice(), wanted, "row {at}");
-            Ok(())
+            let read = bytes(node, slot, from, wanted.len()).expect(rt, "the bytes are read");
+            assert_eq!(rt; read.as_slice(), wanted, "row {at}")
         }
-        Row::Unread(slot, from, len, fault) => {
-            assert_eq!(rt; bytes(node, slot, from, len).err(), Some(fault), "row {at}");
-            Ok(())
-        }
-        Row::Victim(wanted) => {
-            assert_eq!(rt; victim(node)?, wanted, "row {at}");
-            Ok(())
-        }
+        Row::Unread(slot, from, len, fault) => assert_eq!(rt;
+            bytes(node, slot, from, len).err(),
+            Some(fault),
+            "row {at}"
+        ),
+        Row::Victim(wanted) => assert_eq!(rt;
+            page_in(rt, answer(node, Call::Victim)),
+            wanted,
+            "row {at}"
+        ),
         Row::Hottest(pages, wanted) => {
-            assert_eq!(rt; hottest(node, pages)?.as_slice(), wanted, "row {at}");
-            Ok(())
+            let hottest = pages_in(rt, answer(node, Call::WarmList(pages)));
+            assert_eq!(rt; hottest.as_slice(), wanted, "row {at}")
         }
-        _ => Err("no such row".into()),
+        _ => panic!(rt; "no such row"),
     }
 }
 
 // Asks what the row says. `at` is its number.
-fn meets(
-    rt: &impl Abort,
-    alloc: Global,
-    node: &mut Node,
-    row: Row<'_>,
-    at: usize,
-) -> Result<(), Fail>
+fn meets(rt: &impl Abort, alloc: Global, node: &mut Node, row: Row<'_>, at: usize)
     requires { ⟦<Node as Shown>⟧.is_fit node.old }
     ensures { ⟦<Node as Shown>⟧.is_fit node.new }
 {
@@ -301,47 +292,38 @@ fn meets(
         Row::Told(references) => told(rt, alloc, node, references),
         Row::Hears(references) => hears(rt, alloc, node, references),
         Row::Offers(references, mask) => offers(rt, alloc, node, references, mask),
-        Row::Visits(no) => visit(node, no),
-        Row::Writes(slot, from, text) => put(alloc, node, slot, from, text),
-        Row::Pins(page, wanted) => {
-            assert_eq!(rt; pinned_at(node, page), wanted, "row {at}");
-            Ok(())
-        }
-        Row::Unpins(slot) => {
-            assert_eq!(rt; is_done(node, Call::Unpin(slot)), Ok(()), "row {at}");
-            Ok(())
-        }
-        Row::Loads(wanted) => {
-            assert_eq!(rt; loaded(node), wanted, "row {at}");
-            Ok(())
-        }
-        Row::Restarts(wanted) => {
-            assert_eq!(rt; is_done(node, Call::Restart), wanted, "row {at}");
-            Ok(())
-        }
+        Row::Visits(no) => visit(rt, node, no),
+        Row::Writes(slot, from, text) => put(rt, alloc, node, slot, from, text),
+        Row::Pins(page, wanted) => assert_eq!(rt; pinned_at(node, page), wanted, "row {at}"),
+        Row::Unpins(slot) => assert_eq!(rt; is_done(node, Call::Unpin(slot)), Ok(()), "row {at}"),
+        Row::Loads(wanted) => assert_eq!(rt;
+            loaded_in(answer(node, Call::WarmStep)),
+            wanted,
+            "row {at}"
+        ),
+        Row::Restarts(wanted) => assert_eq!(rt; is_done(node, Call::Restart), wanted, "row {at}"),
         shown => shows(rt, node, shown, at),
     }
 }
 
 // Asks a node what the rows say, in turn.
-fn runs(rt: &impl Abort, alloc: Global, node: &mut Node, rows: &[Row<'_>]) -> Result<(), Fail>
+fn runs(rt: &impl Abort, alloc: Global, node: &mut Node, rows: &[Row<'_>])
     requires { ⟦<Node as Shown>⟧.is_fit node.old }
     ensures { ⟦<Node as Shown>⟧.is_fit node.new }
 {
     for (at, row) in rows.iter().enumerate() {
-        meets(rt, alloc, node, *row, at)?;
+        meets(rt, alloc, node, *row, at);
     }
-    Ok(())
 }
 
 // A fresh node of so many frames lives through the rows.
-fn lives(rt: &impl Abort, alloc: Global, frames: usize, rows: &[Row<'_>]) -> Result<(), Fail> {
-    let mut node = fresh(alloc, 1, frames)?;
+fn lives(rt: &impl Abort, alloc: Global, frames: usize, rows: &[Row<'_>]) {
+    let mut node = fresh(rt, alloc, 1, frames);
     runs(rt, alloc, &mut node, rows)
 }
 
 #[test]
-fn pages_are_warmed_hottest_first(rt: HostRuntime) -> Result<(), Fail> {
+fn pages_are_warmed_hottest_first(rt: HostRuntime) {
     let rows = [
         Row::Told(&[(5, 1), (2, 2), (2, 3), (9, 4), (9, 5)]),
         Row::Pins(page(5), Ok(slot(0, 1))),
@@ -359,7 +341,7 @@ fn pages_are_warmed_hottest_first(rt: HostRuntime) -> Result<(), Fail> {
 }
 
 #[test]
-fn bytes_stay_with_their_page(rt: HostRuntime) -> Result<(), Fail> {
+fn bytes_stay_with_their_page(rt: HostRuntime) {
     let out_of_page = NodeFault::Pool(PoolFault::OutOfPage);
     let rows = [
         Row::Pins(page(1), Ok(slot(0, 1))),
@@ -377,7 +359,7 @@ fn bytes_stay_with_their_page(rt: HostRuntime) -> Result<(), Fail> {
 }
 
 #[test]
-fn a_restart_waits_for_fixes(rt: HostRuntime) -> Result<(), Fail> {
+fn a_restart_waits_for_fixes(rt: HostRuntime) {
     let rows = [
         Row::Told(&[(1, 10)]),
         Row::Pins(page(1), Ok(slot(0, 1))),
@@ -394,7 +376,7 @@ fn a_restart_waits_for_fixes(rt: HostRuntime) -> Result<(), Fail> {
 }
 
 #[test]
-fn the_greatest_distance_leaves_first(rt: HostRuntime) -> Result<(), Fail> {
+fn the_greatest_distance_leaves_first(rt: HostRuntime) {
     let scanned = [
         Row::Told(&[(1, 1), (1, 2), (5, 10), (6, 11)]),
         Row::Visits(1),
@@ -403,7 +385,7 @@ fn the_greatest_distance_leaves_first(rt: HostRuntime) -> Result<(), Fail> {
         // The scan leaves first.
         Row::Victim(Some(page(5))),
     ];
-    lives(&rt, rt.alloc(), 4, &scanned)?;
+    lives(&rt, rt.alloc(), 4, &scanned);
     let twice = [
         Row::Told(&[(1, 1), (1, 100), (2, 50), (2, 60)]),
         Row::Visits(1),
@@ -415,7 +397,7 @@ fn the_greatest_distance_leaves_first(rt: HostRuntime) -> Result<(), Fail> {
 }
 
 #[test]
-fn pages_with_a_fix_stay(rt: HostRuntime) -> Result<(), Fail> {
+fn pages_with_a_fix_stay(rt: HostRuntime) {
     let all_fixed = NodeFault::Pool(PoolFault::AllFixed);
     assert_eq!(rt; (all_fixed.code(), all_fixed.name()), (6, "AllFixed"));
     let rows = [
@@ -427,13 +409,17 @@ fn pages_with_a_fix_stay(rt: HostRuntime) -> Result<(), Fail> {
         Row::Loads(Err(all_fixed)),
         Row::Unpins(slot(1, 1)),
         Row::Victim(Some(page(4))),
+        // Without its fix page 3 leaves before page 4, as the less of two that nobody referenced.
+        Row::Unpins(slot(0, 1)),
+        Row::Victim(Some(page(3))),
+        Row::Pins(page(3), Ok(slot(0, 1))),
         Row::Loads(Ok(Some(page(9)))),
     ];
     lives(&rt, rt.alloc(), 2, &rows)
 }
 
 #[test]
-fn pages_that_cannot_come_in_are_refused(rt: HostRuntime) -> Result<(), Fail> {
+fn pages_that_cannot_come_in_are_refused(rt: HostRuntime) {
     let elsewhere = PageId { dev: 1, no: 0 };
     let rows = [
         Row::Pins(elsewhere, Err(NodeFault::Pool(PoolFault::NoDevice))),
@@ -443,39 +429,36 @@ fn pages_that_cannot_come_in_are_refused(rt: HostRuntime) -> Result<(), Fail> {
         Row::Loads(Ok(Some(page(1)))),
         Row::Loads(Ok(None)),
     ];
-    let mut node = flaky(rt.alloc())?;
+    let mut node = flaky(&rt, rt.alloc());
     runs(&rt, rt.alloc(), &mut node, &rows)
 }
 
 // The frame of all that the node knows of bucket 1, before it forgets everything.
-fn sent_before_a_restart(rt: &impl Abort, alloc: Global, node: &mut Node) -> Result<Frame, Fail>
+fn sent_before_a_restart(rt: &impl Abort, alloc: Global, node: &mut Node) -> Frame
     requires { ⟦<Node as Shown>⟧.is_fit node.old }
     ensures { ⟦<Node as Shown>⟧.is_fit node.new }
 {
-    let frame = sent(node, None)?;
-    assert_eq!(rt; entries_in(&frame), 1);
-    let rest = sent(node, Some(page(1)))?;
-    assert_eq!(rt; entries_in(&rest), 0);
-    runs(rt, alloc, node, &[Row::Restarts(Ok(())), Row::Knows(0)])?;
-    Ok(frame)
+    let frame = sent(rt, node, None);
+    let rest = sent(rt, node, Some(page(1)));
+    assert_eq!(rt; (entries_in(&frame), entries_in(&rest)), (1, 0));
+    runs(rt, alloc, node, &[Row::Restarts(Ok(())), Row::Knows(0)]);
+    frame
 }
 
-fn comes_back(rt: &impl Abort, alloc: Global, node: &mut Node) -> Result<(), Fail>
+fn comes_back(rt: &impl Abort, alloc: Global, node: &mut Node)
     requires { ⟦<Node as Shown>⟧.is_fit node.old }
     ensures { ⟦<Node as Shown>⟧.is_fit node.new }
 {
-    told(rt, alloc, node, &[(1, 10), (1, 20)])?;
+    told(rt, alloc, node, &[(1, 10), (1, 20)]);
     let known = node.history().at(0);
-    let frame = sent_before_a_restart(rt, alloc, node)?;
-    assert_eq!(rt; answers(node, frame)?.len(), 0);
-    assert_eq!(rt; node.history().at(0), known);
-    assert_eq!(rt; node.history().len(), 1);
-    Ok(())
+    let frame = sent_before_a_restart(rt, alloc, node);
+    takes(rt, node, frame);
+    assert_eq!(rt; (node.history().at(0), node.history().len()), (known, 1));
 }
 
 #[test]
-fn what_was_sent_comes_back_after_a_restart(rt: HostRuntime) -> Result<(), Fail> {
-    let mut node = fresh(rt.alloc(), 1, 4)?;
+fn what_was_sent_comes_back_after_a_restart(rt: HostRuntime) {
+    let mut node = fresh(&rt, rt.alloc(), 1, 4);
     comes_back(&rt, rt.alloc(), &mut node)
 }
 
@@ -484,49 +467,55 @@ const WANT: [u8; 19] = [
     0x4C, 0x32, 0x47, 0x31, 3, 0, 2, 0, 0, 0, 8, 0, 0, 0, 0, 0, 0, 0, 6,
 ];
 
-// What the second answers to the sums of the first: its entries of a bucket that differs, and its wish.
+// Two frames, the later one first.
+fn two_of(rt: &impl Abort, mut frames: Vec<Frame>) -> (Frame, Frame) {
+    assert_eq!(rt; frames.len(), 2);
+    let later = frames.pop().expect(rt, "a later frame");
+    let earlier = frames.pop().expect(rt, "an earlier frame");
+    (later, earlier)
+}
+
+fn is_the_wish(rt: &impl Abort, alloc: Global, frame: &Frame) {
+    let bytes = encode(alloc, frame).expect(rt, "room for a frame");
+    assert_eq!(rt; bytes.as_slice(), WANT.as_slice());
+}
+
+// What the second answers to the sums of the first: its wish, and its entries of a bucket that differs.
 fn answered_to_sums(
     rt: &impl Abort,
     alloc: Global,
     first: &mut Node,
     second: &mut Node,
-) -> Result<(Frame, Frame), Fail>
+) -> (Frame, Frame)
     requires first { ⟦<Node as Shown>⟧.is_fit first.old }
     requires second { ⟦<Node as Shown>⟧.is_fit second.old }
     ensures first { ⟦<Node as Shown>⟧.is_fit first.new }
     ensures second { ⟦<Node as Shown>⟧.is_fit second.new }
 {
-    let sums = offered(first)?;
-    let mut answered = answers(second, sums)?;
-    assert_eq!(rt; answered.len(), 2);
-    let want = answered.pop().ok_or("a wish")?;
-    assert_eq!(rt; encode(alloc, &want)?.as_slice(), WANT.as_slice());
-    let entries = answered.pop().ok_or("entries")?;
-    Ok((entries, want))
+    let sums = offered(rt, first);
+    let (want, entries) = two_of(rt, answers(rt, second, sums));
+    is_the_wish(rt, alloc, &want);
+    (want, entries)
 }
 
 // Takes a frame that nothing answers.
-fn takes(rt: &impl Abort, node: &mut Node, frame: Frame) -> Result<(), Fail>
+fn takes(rt: &impl Abort, node: &mut Node, frame: Frame)
     requires { ⟦<Node as Shown>⟧.is_fit node.old }
     ensures { ⟦<Node as Shown>⟧.is_fit node.new }
 {
-    assert_eq!(rt; answers(node, frame)?.len(), 0);
-    Ok(())
+    assert_eq!(rt; answers(rt, node, frame).len(), 0);
 }
 
 // The first answers the wish with its entries of two buckets, which the second takes, the later ones first.
-fn grants(rt: &impl Abort, first: &mut Node, second: &mut Node, want: Frame) -> Result<(), Fail>
+fn grants(rt: &impl Abort, first: &mut Node, second: &mut Node, want: Frame)
     requires first { ⟦<Node as Shown>⟧.is_fit first.old }
     requires second { ⟦<Node as Shown>⟧.is_fit second.old }
     ensures first { ⟦<Node as Shown>⟧.is_fit first.new }
     ensures second { ⟦<Node as Shown>⟧.is_fit second.new }
 {
-    let mut wanted = answers(first, want)?;
-    assert_eq!(rt; wanted.len(), 2);
-    let later = wanted.pop().ok_or("the entries of bucket 2")?;
-    let earlier = wanted.pop().ok_or("the entries of bucket 1")?;
-    takes(rt, second, later)?;
-    takes(rt, second, earlier)
+    let (later, earlier) = two_of(rt, answers(rt, first, want));
+    takes(rt, second, later);
+    takes(rt, second, earlier);
 }
 
 fn know_the_same(rt: &impl Abort, first: &Node, second: &Node) {
@@ -536,29 +525,24 @@ fn know_the_same(rt: &impl Abort, first: &Node, second: &Node) {
 }
 
 // Each node is told of a page, and then both of what the other knows.
-fn become_equal(
-    rt: &impl Abort,
-    alloc: Global,
-    first: &mut Node,
-    second: &mut Node,
-) -> Result<(), Fail>
+fn become_equal(rt: &impl Abort, alloc: Global, first: &mut Node, second: &mut Node)
     requires first { ⟦<Node as Shown>⟧.is_fit first.old }
     requires second { ⟦<Node as Shown>⟧.is_fit second.old }
 {
-    told(rt, alloc, first, &[(1, 10)])?;
-    told(rt, alloc, second, &[(2, 11)])?;
-    let (entries, want) = answered_to_sums(rt, alloc, first, second)?;
-    takes(rt, first, entries)?;
-    grants(rt, first, second, want)?;
+    told(rt, alloc, first, &[(1, 10)]);
+    told(rt, alloc, second, &[(2, 11)]);
+    let (want, entries) = answered_to_sums(rt, alloc, first, second);
+    takes(rt, first, entries);
+    grants(rt, first, second, want);
     know_the_same(rt, first, second);
-    let sums = offered(first)?;
-    takes(rt, second, sums)
+    let sums = offered(rt, first);
+    takes(rt, second, sums);
 }
 
 #[test]
-fn two_nodes_make_their_histories_equal(rt: HostRuntime) -> Result<(), Fail> {
-    let mut first = fresh(rt.alloc(), 1, 4)?;
-    let mut second = fresh(rt.alloc(), 2, 4)?;
+fn two_nodes_make_their_histories_equal(rt: HostRuntime) {
+    let mut first = fresh(&rt, rt.alloc(), 1, 4);
+    let mut second = fresh(&rt, rt.alloc(), 2, 4);
     become_equal(&rt, rt.alloc(), &mut first, &mut second)
 }
 
@@ -570,45 +554,45 @@ fn entries_in(frame: &Frame) -> usize {
 }
 
 // So many references to pages of bucket 0, each to its own.
-fn of_one_bucket(alloc: Global, replica: ReplicaId, pages: u32) -> Result<RefList, Fail> {
+fn of_one_bucket(rt: &impl Abort, alloc: Global, replica: ReplicaId, pages: u32) -> RefList {
     let mut batch = Vec::new(alloc);
     for i in 0..pages {
         let stamp = Stamp { time: 5, replica };
         let page = page(i.wrapping_mul(64));
-        batch.push(Reference { page, stamp })?;
+        batch.push(Reference { page, stamp }).expect(rt, "room");
     }
-    Ok(RefList::of(batch))
+    RefList::of(batch)
 }
 
 // The frames by which a node answers a wish for the buckets of a mask.
-fn wanted_frames(node: &mut Node, mask: u64) -> Result<Vec<Frame>, Fail>
+fn wanted_frames(rt: &impl Abort, node: &mut Node, mask: u64) -> Vec<Frame>
     requires { ⟦<Node as Shown>⟧.is_fit node.old }
     ensures { ⟦<Node as Shown>⟧.is_fit node.new }
 {
-    let sender = ReplicaId::new(3)?;
-    answers(node, Frame::Want { sender, mask })
+    let sender = ReplicaId::new(3).expect(rt, "the number is of a replica");
+    answers(rt, node, Frame::Want { sender, mask })
 }
 
-fn answers_in_thousands(rt: &impl Abort, alloc: Global, node: &mut Node) -> Result<(), Fail>
+fn are_in_thousands(rt: &impl Abort, frames: &[Frame]) {
+    let lengths = match frames {
+        [first, second, third] => [entries_in(first), entries_in(second), entries_in(third)],
+        _ => panic!(rt; "three frames, and not {}", frames.len()),
+    };
+    assert_eq!(rt; lengths, [1000, 1000, 1]);
+}
+
+fn answers_in_thousands(rt: &impl Abort, alloc: Global, node: &mut Node)
     requires { ⟦<Node as Shown>⟧.is_fit node.old }
     ensures { ⟦<Node as Shown>⟧.is_fit node.new }
 {
-    let batch = of_one_bucket(alloc, node.id(), 2001)?;
+    let batch = of_one_bucket(rt, alloc, node.id(), 2001);
     assert_eq!(rt; is_done(node, Call::Absorb(batch)), Ok(()));
-    let frames = wanted_frames(node, 1)?;
-    assert_eq!(rt; frames.len(), 3);
-    let lengths = [
-        entries_in(&frames[0]),
-        entries_in(&frames[1]),
-        entries_in(&frames[2]),
-    ];
-    assert_eq!(rt; lengths, [1000, 1000, 1]);
-    assert_eq!(rt; wanted_frames(node, 2)?.len(), 0);
-    Ok(())
+    are_in_thousands(rt, wanted_frames(rt, node, 1).as_slice());
+    assert_eq!(rt; wanted_frames(rt, node, 2).len(), 0);
 }
 
 #[test]
-fn a_long_bucket_goes_in_frames_of_a_thousand(rt: HostRuntime) -> Result<(), Fail> {
-    let mut node = fresh(rt.alloc(), 1, 4)?;
+fn a_long_bucket_goes_in_frames_of_a_thousand(rt: HostRuntime) {
+    let mut node = fresh(&rt, rt.alloc(), 1, 4);
     answers_in_thousands(&rt, rt.alloc(), &mut node)
 }

@@ -3,7 +3,10 @@
 //!
 //! With `rt try --test --fail-alloc N`, for N from 1 on, each growth is refused in turn: what takes room is then asked for once
 //! more, with what the refusal handed back.
-ghost use Rattle.std.specs.Prelude.{◌≡◌, ◌≤◌, IfOk, length, vec_capacity};
+//!
+//! What must not fail ends the process where it does: a `?` would be one more way out, on which the drop of all that is owned
+//! is proved.
+ghost use Rattle.std.specs.Prelude.{◌≡◌, ◌≤◌, length, vec_capacity};
 ghost use Rattle.warm_pool.specs.State.{IsPool, IsRankedByAll, RankedBy};
 
 mod let_go;
@@ -11,7 +14,6 @@ mod ranks;
 
 use std::alloc::{AllocError, Global};
 use std::process::Abort;
-use std::test::Fail;
 use warm_devices::{Flaky, MemDevice, PageDevice};
 use warm_history::History;
 use warm_pool::{Pool, PoolFault, Pooled, Slot, Unretired};
@@ -25,14 +27,17 @@ const fn slot(index: u32, generation: u64) -> Slot {
     Slot { index, generation }
 }
 
+// One growth alone is refused, so the next try has the memory.
+const ONE_REFUSED: &str = "one growth alone is refused";
+
 fn new_memory(alloc: Global, pages: u32) -> Result<Box<dyn PageDevice + Send>, AllocError> {
     Ok(Box::new(alloc, MemDevice::new(alloc, pages, 16)?)?)
 }
 
-fn memory(alloc: Global, pages: u32) -> Result<Box<dyn PageDevice + Send>, Fail> {
+fn memory(rt: &impl Abort, alloc: Global, pages: u32) -> Box<dyn PageDevice + Send> {
     match new_memory(alloc, pages) {
-        Ok(device) => Ok(device),
-        Err(_) => Ok(new_memory(alloc, pages)?),
+        Ok(device) => device,
+        Err(_) => new_memory(alloc, pages).expect(rt, ONE_REFUSED),
     }
 }
 
@@ -40,48 +45,50 @@ fn new_flaky(alloc: Global, n: u64) -> Result<Box<dyn PageDevice + Send>, AllocE
     Ok(Box::new(alloc, Flaky::new(MemDevice::new(alloc, 8, 16)?, n))?)
 }
 
-fn flaky(alloc: Global, n: u64) -> Result<Box<dyn PageDevice + Send>, Fail> {
+fn flaky(rt: &impl Abort, alloc: Global, n: u64) -> Box<dyn PageDevice + Send> {
     match new_flaky(alloc, n) {
-        Ok(device) => Ok(device),
-        Err(_) => Ok(new_flaky(alloc, n)?),
+        Ok(device) => device,
+        Err(_) => new_flaky(alloc, n).expect(rt, ONE_REFUSED),
     }
 }
 
 // An empty list with room for so many devices.
-fn room_for(alloc: Global, count: usize) -> Result<Vec<Box<dyn PageDevice + Send>>, Fail>
-    ensures room { IfOk result (λ devices. count ≤ vec_capacity devices) }
-    ensures empty { IfOk result (λ devices. length devices.items ≡ 0) }
+fn room_for(rt: &impl Abort, alloc: Global, count: usize) -> Vec<Box<dyn PageDevice + Send>>
+    ensures room { count ≤ vec_capacity result }
+    ensures empty { length result.items ≡ 0 }
 {
     match Vec::with_capacity(alloc, count) {
-        Ok(devices) => Ok(devices),
-        Err(_) => Ok(Vec::with_capacity(alloc, count)?),
+        Ok(devices) => devices,
+        Err(_) => Vec::with_capacity(alloc, count).expect(rt, ONE_REFUSED),
     }
 }
 
 // A list of one device.
 fn alone(
+    rt: &impl Abort,
     alloc: Global,
     device: Box<dyn PageDevice + Send>,
-) -> Result<Vec<Box<dyn PageDevice + Send>>, Fail>
-    ensures { IfOk result (λ devices. length devices.items ≡ 1) }
+) -> Vec<Box<dyn PageDevice + Send>>
+    ensures { length result.items ≡ 1 }
 {
-    let mut devices = room_for(alloc, 1)?;
+    let mut devices = room_for(rt, alloc, 1);
     devices.push_reserved(device);
-    Ok(devices)
+    devices
 }
 
 // A list of two devices.
 fn both(
+    rt: &impl Abort,
     alloc: Global,
     first: Box<dyn PageDevice + Send>,
     second: Box<dyn PageDevice + Send>,
-) -> Result<Vec<Box<dyn PageDevice + Send>>, Fail>
-    ensures { IfOk result (λ devices. length devices.items ≡ 2) }
+) -> Vec<Box<dyn PageDevice + Send>>
+    ensures { length result.items ≡ 2 }
 {
-    let mut devices = room_for(alloc, 2)?;
+    let mut devices = room_for(rt, alloc, 2);
     devices.push_reserved(first);
     devices.push_reserved(second);
-    Ok(devices)
+    devices
 }
 
 fn pool_of(
@@ -89,20 +96,20 @@ fn pool_of(
     alloc: Global,
     frames: usize,
     devices: Vec<Box<dyn PageDevice + Send>>,
-) -> Result<Pool, Fail>
+) -> Pool
     requires { length devices.items ≤ 2 }
-    ensures pool { IfOk result (λ pool. IsPool (⟦<Pool as Pooled>⟧.state pool)) }
-    ensures ranked { IfOk result (λ pool. IsRankedByAll (⟦<Pool as Pooled>⟧.state pool)) }
+    ensures pool { IsPool (⟦<Pool as Pooled>⟧.state result) }
+    ensures ranked { IsRankedByAll (⟦<Pool as Pooled>⟧.state result) }
 {
     let count = devices.len();
     match Pool::new(alloc, frames, 16, devices) {
-        Ok(pool) => Ok(pool),
+        Ok(pool) => pool,
         Err(unmade) => {
             let given = (unmade.fault, unmade.devices.len());
             assert_eq!(rt; given, (PoolFault::Memory, count));
             match Pool::new(alloc, frames, 16, unmade.devices) {
-                Ok(pool) => Ok(pool),
-                Err(_) => Err("no memory for the pool".into()),
+                Ok(pool) => pool,
+                Err(_) => panic!(rt; "no memory for the pool"),
             }
         }
     }
@@ -113,24 +120,21 @@ fn pool_over(
     alloc: Global,
     frames: usize,
     device: Box<dyn PageDevice + Send>,
-) -> Result<Pool, Fail>
-    ensures pool { IfOk result (λ pool. IsPool (⟦<Pool as Pooled>⟧.state pool)) }
-    ensures ranked { IfOk result (λ pool. IsRankedByAll (⟦<Pool as Pooled>⟧.state pool)) }
+) -> Pool
+    ensures pool { IsPool (⟦<Pool as Pooled>⟧.state result) }
+    ensures ranked { IsRankedByAll (⟦<Pool as Pooled>⟧.state result) }
 {
-    pool_of(rt, alloc, frames, alone(alloc, device)?)
+    pool_of(rt, alloc, frames, alone(rt, alloc, device))
 }
 
 // Pins a page, which no fault hinders.
-fn pinned(pool: &mut Pool, history: &History, no: u32) -> Result<Slot, Fail>
+fn pinned(rt: &impl Abort, pool: &mut Pool, history: &History, no: u32) -> Slot
     requires pool { IsPool (⟦<Pool as Pooled>⟧.state pool.old) }
     requires ranked { RankedBy (⟦<Pool as Pooled>⟧.state pool.old) history.now }
     ensures pool { IsPool (⟦<Pool as Pooled>⟧.state pool.new) }
     ensures ranked { RankedBy (⟦<Pool as Pooled>⟧.state pool.new) history.now }
 {
-    match pool.pin(page(no), history) {
-        Ok(slot) => Ok(slot),
-        Err(_) => Err("the page is pinned".into()),
-    }
+    pool.pin(page(no), history).expect(rt, "the page is pinned")
 }
 
 fn unpin(rt: &impl Abort, pool: &mut Pool, history: &History, slot: Slot)
@@ -161,17 +165,16 @@ fn write(
 }
 
 // Fills a page with AA, which goes to no device yet.
-fn fill(rt: &impl Abort, pool: &mut Pool, history: &History, no: u32) -> Result<(), Fail>
+fn fill(rt: &impl Abort, pool: &mut Pool, history: &History, no: u32)
     requires pool { IsPool (⟦<Pool as Pooled>⟧.state pool.old) }
     requires ranked { RankedBy (⟦<Pool as Pooled>⟧.state pool.old) history.now }
     ensures pool { IsPool (⟦<Pool as Pooled>⟧.state pool.new) }
     ensures ranked { RankedBy (⟦<Pool as Pooled>⟧.state pool.new) history.now }
 {
-    let held = pinned(pool, history, no)?;
+    let held = pinned(rt, pool, history, no);
     let written = write(rt, pool, history, held, 0, &[0xAA; 16]);
     assert_eq!(rt; written, Ok(()));
     unpin(rt, pool, history, held);
-    Ok(())
 }
 
 // The sixteen bytes of the slot's page.
@@ -217,17 +220,17 @@ fn write_back_all(pool: &mut Pool, history: &History) -> Result<(), PoolFault>
 }
 
 // The pool, which a fixed page keeps from being closed.
-fn not_closed(rt: &impl Abort, pool: Pool, history: &History) -> Result<Pool, Fail>
+fn not_closed(rt: &impl Abort, pool: Pool, history: &History) -> Pool
     requires pool { IsPool (⟦<Pool as Pooled>⟧.state pool) }
     requires ranked { RankedBy (⟦<Pool as Pooled>⟧.state pool) history.now }
-    ensures pool { IfOk result (λ pool. IsPool (⟦<Pool as Pooled>⟧.state pool)) }
-    ensures ranked { IfOk result (λ pool. RankedBy (⟦<Pool as Pooled>⟧.state pool) history.now) }
+    ensures pool { IsPool (⟦<Pool as Pooled>⟧.state result) }
+    ensures ranked { RankedBy (⟦<Pool as Pooled>⟧.state result) history.now }
 {
     match pool.close() {
-        Ok(()) => Err("the pool is not closed".into()),
+        Ok(()) => panic!(rt; "the pool is not closed"),
         Err(unclosed) => {
             assert_eq!(rt; unclosed.fault, PoolFault::Fixed);
-            Ok(unclosed.pool)
+            unclosed.pool
         }
     }
 }
@@ -264,34 +267,26 @@ fn exchange(
 }
 
 // Pins a page, and takes the fix away again.
-fn visit(rt: &impl Abort, pool: &mut Pool, history: &History, no: u32) -> Result<(), Fail>
+fn visit(rt: &impl Abort, pool: &mut Pool, history: &History, no: u32)
     requires pool { IsPool (⟦<Pool as Pooled>⟧.state pool.old) }
     requires ranked { RankedBy (⟦<Pool as Pooled>⟧.state pool.old) history.now }
     ensures pool { IsPool (⟦<Pool as Pooled>⟧.state pool.new) }
     ensures ranked { RankedBy (⟦<Pool as Pooled>⟧.state pool.new) history.now }
 {
-    let held = pinned(pool, history, no)?;
+    let held = pinned(rt, pool, history, no);
     unpin(rt, pool, history, held);
-    Ok(())
 }
 
 // Pins a page, which has these bytes, and takes the fix away again.
-fn find(
-    rt: &impl Abort,
-    pool: &mut Pool,
-    history: &History,
-    no: u32,
-    wanted: [u8; 16],
-) -> Result<(), Fail>
+fn find(rt: &impl Abort, pool: &mut Pool, history: &History, no: u32, wanted: [u8; 16])
     requires pool { IsPool (⟦<Pool as Pooled>⟧.state pool.old) }
     requires ranked { RankedBy (⟦<Pool as Pooled>⟧.state pool.old) history.now }
     ensures pool { IsPool (⟦<Pool as Pooled>⟧.state pool.new) }
     ensures ranked { RankedBy (⟦<Pool as Pooled>⟧.state pool.new) history.now }
 {
-    let held = pinned(pool, history, no)?;
+    let held = pinned(rt, pool, history, no);
     assert_eq!(rt; read(rt, pool, held), wanted);
     unpin(rt, pool, history, held);
-    Ok(())
 }
 
 // What is asked of a pool, and what is to come of it.
@@ -328,68 +323,39 @@ enum Row<'a> {
 }
 
 // Asks what the row says and changes nothing for. `at` is its number.
-fn shows(rt: &impl Abort, pool: &Pool, row: Row<'_>, at: usize) -> Result<(), Fail>
+fn shows(rt: &impl Abort, pool: &Pool, row: Row<'_>, at: usize)
     requires { IsPool (⟦<Pool as Pooled>⟧.state pool.now) }
 {
     match row {
-        Row::Victim(wanted) => {
-            assert_eq!(rt; pool.victim(), wanted, "row {at}");
-            Ok(())
-        }
-        Row::Holds(slot, wanted) => {
-            assert_eq!(rt; pool.holds(slot), wanted, "row {at}");
-            Ok(())
-        }
-        Row::Resident(page, wanted) => {
-            assert_eq!(rt; pool.resident(page), wanted, "row {at}");
-            Ok(())
-        }
-        Row::Has(no, wanted) => {
-            assert_eq!(rt; pool.has(page(no)), wanted, "row {at}");
-            Ok(())
-        }
-        Row::Frames(wanted) => {
-            assert_eq!(rt; pool.frames(), wanted, "row {at}");
-            Ok(())
-        }
-        _ => Err("no such row".into()),
+        Row::Victim(wanted) => assert_eq!(rt; pool.victim(), wanted, "row {at}"),
+        Row::Holds(slot, wanted) => assert_eq!(rt; pool.holds(slot), wanted, "row {at}"),
+        Row::Resident(page, wanted) => assert_eq!(rt; pool.resident(page), wanted, "row {at}"),
+        Row::Has(no, wanted) => assert_eq!(rt; pool.has(page(no)), wanted, "row {at}"),
+        Row::Frames(wanted) => assert_eq!(rt; pool.frames(), wanted, "row {at}"),
+        _ => panic!(rt; "no such row"),
     }
 }
 
 // Writes back or empties, if the row says so. `at` is its number.
-fn puts_down(
-    rt: &impl Abort,
-    pool: &mut Pool,
-    history: &History,
-    row: Row<'_>,
-    at: usize,
-) -> Result<(), Fail>
+fn puts_down(rt: &impl Abort, pool: &mut Pool, history: &History, row: Row<'_>, at: usize)
     requires pool { IsPool (⟦<Pool as Pooled>⟧.state pool.old) }
     requires ranked { RankedBy (⟦<Pool as Pooled>⟧.state pool.old) history.now }
     ensures pool { IsPool (⟦<Pool as Pooled>⟧.state pool.new) }
     ensures ranked { RankedBy (⟦<Pool as Pooled>⟧.state pool.new) history.now }
 {
     match row {
-        Row::WritesBack(wanted) => {
-            assert_eq!(rt; write_back_all(pool, history), wanted, "row {at}");
-            Ok(())
-        }
-        Row::Empties(wanted) => {
-            assert_eq!(rt; empty(pool, history), wanted, "row {at}");
-            Ok(())
-        }
+        Row::WritesBack(wanted) => assert_eq!(rt;
+            write_back_all(pool, history),
+            wanted,
+            "row {at}"
+        ),
+        Row::Empties(wanted) => assert_eq!(rt; empty(pool, history), wanted, "row {at}"),
         shown => shows(rt, pool, shown, at),
     }
 }
 
 // Asks what the row says. `at` is its number.
-fn meets(
-    rt: &impl Abort,
-    pool: &mut Pool,
-    history: &History,
-    row: Row<'_>,
-    at: usize,
-) -> Result<(), Fail>
+fn meets(rt: &impl Abort, pool: &mut Pool, history: &History, row: Row<'_>, at: usize)
     requires pool { IsPool (⟦<Pool as Pooled>⟧.state pool.old) }
     requires ranked { RankedBy (⟦<Pool as Pooled>⟧.state pool.old) history.now }
     ensures pool { IsPool (⟦<Pool as Pooled>⟧.state pool.new) }
@@ -399,38 +365,27 @@ fn meets(
         Row::Visits(no) => visit(rt, pool, history, no),
         Row::Fills(no) => fill(rt, pool, history, no),
         Row::Finds(no, wanted) => find(rt, pool, history, no, wanted),
-        Row::Pins(no, wanted) => {
-            assert_eq!(rt; pool.pin(page(no), history), wanted, "row {at}");
-            Ok(())
-        }
-        Row::Loads(page, wanted) => {
-            assert_eq!(rt; pool.load(page, history), wanted, "row {at}");
-            Ok(())
-        }
-        Row::Unpins(slot) => {
-            unpin(rt, pool, history, slot);
-            Ok(())
-        }
+        Row::Pins(no, wanted) => assert_eq!(rt; pool.pin(page(no), history), wanted, "row {at}"),
+        Row::Loads(page, wanted) => assert_eq!(rt; pool.load(page, history), wanted, "row {at}"),
+        Row::Unpins(slot) => unpin(rt, pool, history, slot),
         Row::Writes(slot, from, bytes, wanted) => {
             let written = write(rt, pool, history, slot, from, bytes);
-            assert_eq!(rt; written, wanted, "row {at}");
-            Ok(())
+            assert_eq!(rt; written, wanted, "row {at}")
         }
         other => puts_down(rt, pool, history, other, at),
     }
 }
 
 // Asks a pool what the rows say, in turn.
-fn runs(rt: &impl Abort, pool: &mut Pool, history: &History, rows: &[Row<'_>]) -> Result<(), Fail>
+fn runs(rt: &impl Abort, pool: &mut Pool, history: &History, rows: &[Row<'_>])
     requires pool { IsPool (⟦<Pool as Pooled>⟧.state pool.old) }
     requires ranked { RankedBy (⟦<Pool as Pooled>⟧.state pool.old) history.now }
     ensures pool { IsPool (⟦<Pool as Pooled>⟧.state pool.new) }
     ensures ranked { RankedBy (⟦<Pool as Pooled>⟧.state pool.new) history.now }
 {
     for (at, row) in rows.iter().enumerate() {
-        meets(rt, pool, history, *row, at)?;
+        meets(rt, pool, history, *row, at);
     }
-    Ok(())
 }
 
 // A fresh pool of so many frames over the device lives through the rows, by a history that was told nothing, and is closed.
@@ -440,12 +395,11 @@ fn lives(
     frames: usize,
     device: Box<dyn PageDevice + Send>,
     rows: &[Row<'_>],
-) -> Result<(), Fail> {
+) {
     let history = History::new(alloc);
-    let mut pool = pool_over(rt, alloc, frames, device)?;
-    runs(rt, &mut pool, &history, rows)?;
+    let mut pool = pool_over(rt, alloc, frames, device);
+    runs(rt, &mut pool, &history, rows);
     closes(rt, pool);
-    Ok(())
 }
 
 // The device, which the pool refuses to exchange by this fault.
@@ -456,17 +410,17 @@ fn unretired(
     dev: u16,
     device: Box<dyn PageDevice + Send>,
     fault: PoolFault,
-) -> Result<Box<dyn PageDevice + Send>, Fail>
+) -> Box<dyn PageDevice + Send>
     requires pool { IsPool (⟦<Pool as Pooled>⟧.state pool.old) }
     requires ranked { RankedBy (⟦<Pool as Pooled>⟧.state pool.old) history.now }
     ensures pool { IsPool (⟦<Pool as Pooled>⟧.state pool.new) }
     ensures ranked { RankedBy (⟦<Pool as Pooled>⟧.state pool.new) history.now }
 {
     match retire(pool, history, dev, device) {
-        Ok(()) => Err("the device is not exchanged".into()),
+        Ok(()) => panic!(rt; "the device is not exchanged"),
         Err(unretired) => {
             assert_eq!(rt; unretired.fault, fault);
-            Ok(unretired.device)
+            unretired.device
         }
     }
 }
@@ -476,7 +430,7 @@ const fn on(dev: u16, no: u32) -> PageId {
 }
 
 // Pages that come into four frames are found there, one number on two devices, and one that left is not.
-fn come_in(rt: &impl Abort, pool: &mut Pool, history: &History) -> Result<(), Fail>
+fn come_in(rt: &impl Abort, pool: &mut Pool, history: &History)
     requires pool { IsPool (⟦<Pool as Pooled>⟧.state pool.old) }
     requires ranked { RankedBy (⟦<Pool as Pooled>⟧.state pool.old) history.now }
     ensures pool { IsPool (⟦<Pool as Pooled>⟧.state pool.new) }
@@ -504,7 +458,7 @@ fn come_in(rt: &impl Abort, pool: &mut Pool, history: &History) -> Result<(), Fa
 }
 
 // The frames of the device that was retired are free, and taken in turn.
-fn stay_and_follow(rt: &impl Abort, pool: &mut Pool, history: &History) -> Result<(), Fail>
+fn stay_and_follow(rt: &impl Abort, pool: &mut Pool, history: &History)
     requires pool { IsPool (⟦<Pool as Pooled>⟧.state pool.old) }
     requires ranked { RankedBy (⟦<Pool as Pooled>⟧.state pool.old) history.now }
     ensures pool { IsPool (⟦<Pool as Pooled>⟧.state pool.new) }
@@ -529,26 +483,25 @@ fn stand_and_leave(
     pool: &mut Pool,
     history: &History,
     device: Box<dyn PageDevice + Send>,
-) -> Result<(), Fail>
+)
     requires pool { IsPool (⟦<Pool as Pooled>⟧.state pool.old) }
     requires ranked { RankedBy (⟦<Pool as Pooled>⟧.state pool.old) history.now }
     ensures pool { IsPool (⟦<Pool as Pooled>⟧.state pool.new) }
     ensures ranked { RankedBy (⟦<Pool as Pooled>⟧.state pool.new) history.now }
 {
-    come_in(rt, pool, history)?;
+    come_in(rt, pool, history);
     exchange(rt, pool, history, 1, device);
     stay_and_follow(rt, pool, history)
 }
 
 #[test]
-fn pages_are_found_where_they_stand(rt: HostRuntime) -> Result<(), Fail> {
+fn pages_are_found_where_they_stand(rt: HostRuntime) {
     let alloc = rt.alloc();
     let history = History::new(alloc);
-    let devices = both(alloc, memory(alloc, 16)?, memory(alloc, 128)?)?;
-    let mut pool = pool_of(&rt, alloc, 4, devices)?;
-    stand_and_leave(&rt, &mut pool, &history, memory(alloc, 8)?)?;
+    let devices = both(&rt, alloc, memory(&rt, alloc, 16), memory(&rt, alloc, 128));
+    let mut pool = pool_of(&rt, alloc, 4, devices);
+    stand_and_leave(&rt, &mut pool, &history, memory(&rt, alloc, 8));
     closes(&rt, pool);
-    Ok(())
 }
 
 // Pages with a fix keep their device from being exchanged for another, which is handed back.
@@ -557,7 +510,7 @@ fn kept_by_fixes(
     pool: &mut Pool,
     history: &History,
     device: Box<dyn PageDevice + Send>,
-) -> Result<Box<dyn PageDevice + Send>, Fail>
+) -> Box<dyn PageDevice + Send>
     requires pool { IsPool (⟦<Pool as Pooled>⟧.state pool.old) }
     requires ranked { RankedBy (⟦<Pool as Pooled>⟧.state pool.old) history.now }
     ensures pool { IsPool (⟦<Pool as Pooled>⟧.state pool.new) }
@@ -574,8 +527,8 @@ fn kept_by_fixes(
         Row::Pins(5, Ok(slot(1, 2))),
         Row::Writes(slot(1, 2), 15, &[1, 2], Err(PoolFault::OutOfPage)),
     ];
-    runs(rt, pool, history, &rows)?;
-    let device = unretired(rt, pool, history, 1, device, PoolFault::NoDevice)?;
+    runs(rt, pool, history, &rows);
+    let device = unretired(rt, pool, history, 1, device, PoolFault::NoDevice);
     unretired(rt, pool, history, 0, device, PoolFault::Fixed)
 }
 
@@ -585,7 +538,7 @@ fn let_go_unfixed(
     pool: &mut Pool,
     history: &History,
     device: Box<dyn PageDevice + Send>,
-) -> Result<(), Fail>
+)
     requires pool { IsPool (⟦<Pool as Pooled>⟧.state pool.old) }
     requires ranked { RankedBy (⟦<Pool as Pooled>⟧.state pool.old) history.now }
     ensures pool { IsPool (⟦<Pool as Pooled>⟧.state pool.new) }
@@ -596,7 +549,7 @@ fn let_go_unfixed(
         Row::Unpins(slot(0, 1)),
         Row::Unpins(slot(1, 2)),
     ];
-    runs(rt, pool, history, &rows)?;
+    runs(rt, pool, history, &rows);
     exchange(rt, pool, history, 0, device);
     let rows = [
         Row::Has(5, false),
@@ -607,36 +560,45 @@ fn let_go_unfixed(
 }
 
 #[test]
-fn two_frames_over_eight_pages(rt: HostRuntime) -> Result<(), Fail> {
+fn two_frames_over_eight_pages(rt: HostRuntime) {
     let alloc = rt.alloc();
     let history = History::new(alloc);
-    let mut pool = pool_over(&rt, alloc, 2, memory(alloc, 8)?)?;
-    let device = kept_by_fixes(&rt, &mut pool, &history, memory(alloc, 4)?)?;
-    let mut pool = not_closed(&rt, pool, &history)?;
-    let_go_unfixed(&rt, &mut pool, &history, device)?;
+    let mut pool = pool_over(&rt, alloc, 2, memory(&rt, alloc, 8));
+    let device = kept_by_fixes(&rt, &mut pool, &history, memory(&rt, alloc, 4));
+    let mut pool = not_closed(&rt, pool, &history);
+    let_go_unfixed(&rt, &mut pool, &history, device);
     closes(&rt, pool);
-    Ok(())
+}
+
+// Why no pool is made over the device, and how many devices come back.
+fn unmade(
+    rt: &impl Abort,
+    alloc: Global,
+    frames: usize,
+    page_size: usize,
+    device: Box<dyn PageDevice + Send>,
+) -> (PoolFault, usize) {
+    match Pool::new(alloc, frames, page_size, alone(rt, alloc, device)) {
+        Ok(_) => panic!(rt; "the pool is made"),
+        Err(unmade) => (unmade.fault, unmade.devices.len()),
+    }
 }
 
 #[test]
-fn refused_pools_hand_their_devices_back(rt: HostRuntime) -> Result<(), Fail> {
+fn refused_pools_hand_their_devices_back(rt: HostRuntime) {
     let alloc = rt.alloc();
     for (frames, page_size, fault) in [
         (0, 16, PoolFault::BadFrames),
         (65_537, 16, PoolFault::BadFrames),
         (2, 8, PoolFault::SizeDiffers),
     ] {
-        let devices = alone(alloc, memory(alloc, 8)?)?;
-        let unmade = Pool::new(alloc, frames, page_size, devices)
-            .err()
-            .ok_or("made")?;
-        assert_eq!(rt; (unmade.fault, unmade.devices.len()), (fault, 1));
+        let device = memory(&rt, alloc, 8);
+        assert_eq!(rt; unmade(&rt, alloc, frames, page_size, device), (fault, 1));
     }
-    Ok(())
 }
 
 #[test]
-fn a_dirty_victim_stays_where_its_write_fails(rt: HostRuntime) -> Result<(), Fail> {
+fn a_dirty_victim_stays_where_its_write_fails(rt: HostRuntime) {
     let rows = [
         Row::Fills(1),
         Row::Pins(2, Err(PoolFault::WriteBack)),
@@ -645,7 +607,7 @@ fn a_dirty_victim_stays_where_its_write_fails(rt: HostRuntime) -> Result<(), Fai
         Row::Visits(2),
         Row::Finds(1, [0xAA; 16]),
     ];
-    lives(&rt, rt.alloc(), 1, flaky(rt.alloc(), 3)?, &rows)
+    lives(&rt, rt.alloc(), 1, flaky(&rt, rt.alloc(), 3), &rows)
 }
 
 fn stays_unflushed(
@@ -653,33 +615,31 @@ fn stays_unflushed(
     pool: &mut Pool,
     history: &History,
     device: Box<dyn PageDevice + Send>,
-) -> Result<(), Fail>
+)
     requires pool { IsPool (⟦<Pool as Pooled>⟧.state pool.old) }
     requires ranked { RankedBy (⟦<Pool as Pooled>⟧.state pool.old) history.now }
     ensures pool { IsPool (⟦<Pool as Pooled>⟧.state pool.new) }
     ensures ranked { RankedBy (⟦<Pool as Pooled>⟧.state pool.new) history.now }
 {
-    fill(rt, pool, history, 1)?;
-    let device = unretired(rt, pool, history, 0, device, PoolFault::Fault)?;
+    fill(rt, pool, history, 1);
+    let device = unretired(rt, pool, history, 0, device, PoolFault::Fault);
     let rows = [Row::Resident(page(1), true), Row::Finds(1, [0xAA; 16])];
-    runs(rt, pool, history, &rows)?;
+    runs(rt, pool, history, &rows);
     exchange(rt, pool, history, 0, device);
     assert!(rt; !pool.resident(page(1)));
-    Ok(())
 }
 
 #[test]
-fn a_device_stays_where_its_flush_fails(rt: HostRuntime) -> Result<(), Fail> {
+fn a_device_stays_where_its_flush_fails(rt: HostRuntime) {
     let alloc = rt.alloc();
     let history = History::new(alloc);
-    let mut pool = pool_over(&rt, alloc, 1, flaky(alloc, 3)?)?;
-    stays_unflushed(&rt, &mut pool, &history, memory(alloc, 8)?)?;
+    let mut pool = pool_over(&rt, alloc, 1, flaky(&rt, alloc, 3));
+    stays_unflushed(&rt, &mut pool, &history, memory(&rt, alloc, 8));
     closes(&rt, pool);
-    Ok(())
 }
 
 #[test]
-fn an_emptied_pool_keeps_its_pages(rt: HostRuntime) -> Result<(), Fail> {
+fn an_emptied_pool_keeps_its_pages(rt: HostRuntime) {
     let bytes = [0, 0, 0, 0, 0, 0, 0, 0, 0, 0, 0, 0, 0, 0, 7, 8];
     let rows = [
         Row::Pins(6, Ok(slot(0, 1))),
@@ -694,11 +654,11 @@ fn an_emptied_pool_keeps_its_pages(rt: HostRuntime) -> Result<(), Fail> {
         Row::Finds(6, bytes),
         Row::Unpins(slot(0, 2)),
     ];
-    lives(&rt, rt.alloc(), 2, memory(rt.alloc(), 8)?, &rows)
+    lives(&rt, rt.alloc(), 2, memory(&rt, rt.alloc(), 8), &rows)
 }
 
 #[test]
-fn a_page_stays_out_where_no_frame_or_no_byte_is_to_be_had(rt: HostRuntime) -> Result<(), Fail> {
+fn a_page_stays_out_where_no_frame_or_no_byte_is_to_be_had(rt: HostRuntime) {
     let rows = [
         Row::Pins(1, Err(PoolFault::ReadFault)),
         Row::Resident(page(1), false),
@@ -708,5 +668,5 @@ fn a_page_stays_out_where_no_frame_or_no_byte_is_to_be_had(rt: HostRuntime) -> R
         Row::Victim(None),
         Row::Unpins(slot(0, 1)),
     ];
-    lives(&rt, rt.alloc(), 1, flaky(rt.alloc(), 1)?, &rows)
+    lives(&rt, rt.alloc(), 1, flaky(&rt, rt.alloc(), 1), &rows)
 }

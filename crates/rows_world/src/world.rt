@@ -1,5 +1,6 @@
 //! Rows of a world's life, run. Each event stands in a function of its own, which keeps that the world is one: what is
-//! proved of a test does not grow with its rows.
+//! proved of a test does not grow with its rows. What must not fail ends the process where it does: a `?` would be one
+//! more way out, on which the drop of all that is owned is proved.
 ghost use Rattle.std.specs.Prelude.{◌≡◌, IfOk, OnOk, length};
 ghost use Rattle.warm_world.specs.Opening.{AreFew};
 ghost use Rattle.warm_world.specs.Seen.{IsWorld, listed};
@@ -12,12 +13,11 @@ mod setups;
 use std::alloc::{AllocError, Global};
 use std::marker::PhantomData;
 use std::process::Abort;
-use std::test::Fail;
 use warm_devices::{MemDevice, PageDevice};
 use warm_gossip::NodeFault;
 use warm_history::{History, PageHist};
 use warm_pool::Slot;
-use warm_stamps::{Bucket, ByteList, PageId};
+use warm_stamps::{Bucket, ByteList, PageId, PageList};
 use warm_world::{Answer, Event, Setup, World, WorldFault};
 
 const fn page(no: u32) -> PageId {
@@ -80,31 +80,31 @@ struct Live {
 }
 
 fn made(
+    rt: &impl Abort,
     alloc: Global,
     setup: Setup,
     devices: Vec<Vec<Box<dyn PageDevice + Send>>>,
-) -> Result<Live, Fail>
+) -> Live
     requires { AreFew (listed state devices.items) }
-    ensures { IfOk result (λ live. IsWorld state live.world) }
+    ensures { IsWorld state result.world }
 {
     match World::new(alloc, setup, devices) {
-        Ok(world) => Ok(Live {
+        Ok(world) => Live {
             world,
             boxes: PhantomData,
-        }),
-        Err(_) => Err("no world".into()),
+        },
+        Err(_) => panic!(rt; "no world"),
     }
 }
 
 // Replicas with two workers each, whose buffers hold 64 references, and whose pools have so many frames over a device
 // of 256 pages of 16 bytes.
-fn fresh(alloc: Global, replicas: u16, frames: u32) -> Result<Live, Fail>
-    ensures { IfOk result (λ live. IsWorld state live.world) }
+fn fresh(rt: &impl Abort, alloc: Global, replicas: u16, frames: u32) -> Live
+    ensures { IsWorld state result.world }
 {
-    let Ok(setup) = Setup::new(replicas, 2, 64, frames, 16) else {
-        return Err("the setup is within its limits".into());
-    };
-    made(alloc, setup, devices_for(alloc, replicas, 16)?)
+    let setup = Setup::new(replicas, 2, 64, frames, 16).expect(rt, "it is within its limits");
+    let devices = devices_for(alloc, replicas, 16).expect(rt, "room for the devices");
+    made(rt, alloc, setup, devices)
 }
 
 // A page's times and replicas: of its last stamp, then of the one before.
@@ -210,13 +210,13 @@ fn heard(live: &mut Live, j: u16, k: u64) -> Result<(u64, u64), WorldFault>
     }
 }
 
-fn shown(live: &mut Live, i: u16) -> Result<History, Fail>
+fn shown(rt: &impl Abort, live: &mut Live, i: u16) -> History
     requires { IsWorld state live.old.world }
     ensures { IsWorld state live.new.world }
 {
     match live.world.step(Event::Show(i)) {
-        Answer::Shown(history) => Ok(history),
-        _ => Err("the replica is shown".into()),
+        Answer::Shown(history) => history,
+        _ => panic!(rt; "the replica is shown"),
     }
 }
 
@@ -276,97 +276,76 @@ fn visited(live: &mut Live, i: u16, page: PageId) -> Done
 }
 
 fn put(
+    rt: &impl Abort,
     alloc: Global,
     live: &mut Live,
     i: u16,
     slot: Slot,
     at: u32,
     text: &[u8],
-) -> Result<Done, Fail>
+) -> Done
     requires { IsWorld state live.old.world }
     ensures { IsWorld state live.new.world }
 {
-    let mut bytes = Vec::new(alloc);
-    bytes.extend_from_slice(text)?;
-    Ok(settled(live, Event::Put(i, slot, at, ByteList::of(bytes))))
+    let bytes = ByteList::of(text.to_vec(alloc).expect(rt, "room for the bytes"));
+    settled(live, Event::Put(i, slot, at, bytes))
 }
 
 // A history has just these entries. `at` is the number of the row.
-fn has_entries(
-    rt: &impl Abort,
-    history: &History,
-    wanted: &[(PageId, Seen)],
-    at: usize,
-) -> Result<(), Fail> {
+fn has_entries(rt: &impl Abort, history: &History, wanted: &[(PageId, Seen)], at: usize) {
     assert_eq!(rt; history.len(), wanted.len(), "row {at}");
     for (place, known) in wanted.iter().enumerate() {
-        let entry = history.at(place).ok_or("an entry")?;
+        let entry = history.at(place).expect(rt, "an entry");
         assert_eq!(rt; (entry.page, seen(entry.hist)), *known, "row {at}");
     }
-    Ok(())
 }
 
-fn are_hottest(
-    rt: &impl Abort,
-    live: &mut Live,
-    i: u16,
-    pages: u32,
-    wanted: &[PageId],
-    at: usize,
-) -> Result<(), Fail>
+// So many of the replica's hottest pages.
+fn warm_list(rt: &impl Abort, live: &mut Live, i: u16, pages: u32) -> PageList
     requires { IsWorld state live.old.world }
     ensures { IsWorld state live.new.world }
 {
-    let Answer::Pages(hottest) = live.world.step(Event::Warm(i, pages)) else {
-        return Err("the replica has a warm-up list".into());
-    };
+    match live.world.step(Event::Warm(i, pages)) {
+        Answer::Pages(hottest) => hottest,
+        _ => panic!(rt; "the replica has a warm-up list"),
+    }
+}
+
+fn are_hottest(rt: &impl Abort, live: &mut Live, i: u16, pages: u32, wanted: &[PageId], at: usize)
+    requires { IsWorld state live.old.world }
+    ensures { IsWorld state live.new.world }
+{
+    let hottest = warm_list(rt, live, i, pages);
     assert_eq!(rt; hottest.as_slice(), wanted, "row {at}");
-    Ok(())
 }
 
-fn reads(
-    rt: &impl Abort,
-    live: &mut Live,
-    i: u16,
-    slot: Slot,
-    from: u32,
-    wanted: &[u8],
-    at: usize,
-) -> Result<(), Fail>
+fn reads(rt: &impl Abort, live: &mut Live, i: u16, slot: Slot, from: u32, wanted: &[u8], at: usize)
     requires { IsWorld state live.old.world }
     ensures { IsWorld state live.new.world }
 {
-    let Ok(count) = u32::try_from(wanted.len()) else {
-        return Err("a row wants few bytes".into());
-    };
-    let Ok(read) = bytes(live, i, slot, from, count) else {
-        return Err("the bytes are read".into());
-    };
+    let count = u32::try_from(wanted.len()).expect(rt, "a row wants few bytes");
+    let read = bytes(live, i, slot, from, count).expect(rt, "the bytes are read");
     assert_eq!(rt; read.as_slice(), wanted, "row {at}");
-    Ok(())
 }
 
 // Uses the pool of a replica as the row says. `at` is its number.
-fn uses(
-    rt: &impl Abort,
-    alloc: Global,
-    live: &mut Live,
-    i: u16,
-    row: Use<'_>,
-    at: usize,
-) -> Result<(), Fail>
+fn uses(rt: &impl Abort, alloc: Global, live: &mut Live, i: u16, row: Use<'_>, at: usize)
     requires { IsWorld state live.old.world }
     ensures { IsWorld state live.new.world }
 {
     match row {
-        Use::Has(slot, from, wanted) => return reads(rt, live, i, slot, from, wanted, at),
+        Use::Has(slot, from, wanted) => reads(rt, live, i, slot, from, wanted, at),
         Use::Pins(page, wanted) => assert_eq!(rt; pinned(live, i, page), wanted, "row {at}"),
         Use::Unpins(slot, wanted) => {
             assert_eq!(rt; settled(live, Event::Unpin(i, slot)), wanted, "row {at}")
         }
         Use::Visits(no) => assert_eq!(rt; visited(live, i, page(no)), Ok(()), "row {at}"),
         Use::Puts(slot, from, text, wanted) => {
-            assert_eq!(rt; put(alloc, live, i, slot, from, text)?, wanted, "row {at}")
+            assert_eq!(rt;
+                put(rt, alloc, live, i, slot, from, text),
+                wanted,
+                "row {at}"
+            )
         }
         Use::Lacks(slot, from, len, fault) => {
             assert_eq!(rt;
@@ -378,24 +357,17 @@ fn uses(
         Use::Victim(wanted) => assert_eq!(rt; victim(live, i), Ok(wanted), "row {at}"),
         Use::Loads(wanted) => assert_eq!(rt; loaded(live, i), wanted, "row {at}"),
     }
-    Ok(())
 }
 
 // Asks what the row says. `at` is its number.
-fn meets(
-    rt: &impl Abort,
-    alloc: Global,
-    live: &mut Live,
-    row: Row<'_>,
-    at: usize,
-) -> Result<(), Fail>
+fn meets(rt: &impl Abort, alloc: Global, live: &mut Live, row: Row<'_>, at: usize)
     requires { IsWorld state live.old.world }
     ensures { IsWorld state live.new.world }
 {
     match row {
-        Row::Pool(i, row) => return uses(rt, alloc, live, i, row, at),
-        Row::Hottest(i, pages, wanted) => return are_hottest(rt, live, i, pages, wanted, at),
-        Row::Knows(i, wanted) => return has_entries(rt, &shown(live, i)?, wanted, at),
+        Row::Pool(i, row) => uses(rt, alloc, live, i, row, at),
+        Row::Hottest(i, pages, wanted) => are_hottest(rt, live, i, pages, wanted, at),
+        Row::Knows(i, wanted) => has_entries(rt, &shown(rt, live, i), wanted, at),
         Row::Refers(i, w, page, time, wanted) => {
             let refer = Event::Refer(i, w, page, time);
             assert_eq!(rt; settled(live, refer), wanted, "row {at}")
@@ -404,7 +376,7 @@ fn meets(
             assert_eq!(rt; settled(live, Event::Flush(i, w)), wanted, "row {at}")
         }
         Row::Sends(i, bucket, after, wanted) => {
-            let bucket = Bucket::new(bucket).ok_or("a bucket")?;
+            let bucket = Bucket::new(bucket).expect(rt, "a bucket");
             let send = Event::Send(i, bucket, after);
             assert_eq!(rt; kept(live, send), Ok(wanted), "row {at}")
         }
@@ -417,28 +389,20 @@ fn meets(
         }
         Row::Finishes(wanted) => assert_eq!(rt; live.world.finish(), wanted, "row {at}"),
     }
-    Ok(())
 }
 
 // Asks a world what the rows say, in turn.
-fn runs(rt: &impl Abort, alloc: Global, live: &mut Live, rows: &[Row<'_>]) -> Result<(), Fail>
+fn runs(rt: &impl Abort, alloc: Global, live: &mut Live, rows: &[Row<'_>])
     requires { IsWorld state live.old.world }
     ensures { IsWorld state live.new.world }
 {
     for (at, row) in rows.iter().enumerate() {
-        meets(rt, alloc, live, *row, at)?;
+        meets(rt, alloc, live, *row, at);
     }
-    Ok(())
 }
 
 // A fresh world of so many replicas, with pools of so many frames, lives through the rows.
-fn lives(
-    rt: &impl Abort,
-    alloc: Global,
-    replicas: u16,
-    frames: u32,
-    rows: &[Row<'_>],
-) -> Result<(), Fail> {
-    let mut live = fresh(alloc, replicas, frames)?;
+fn lives(rt: &impl Abort, alloc: Global, replicas: u16, frames: u32, rows: &[Row<'_>]) {
+    let mut live = fresh(rt, alloc, replicas, frames);
     runs(rt, alloc, &mut live, rows)
 }

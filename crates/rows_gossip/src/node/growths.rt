@@ -2,7 +2,7 @@
 //! same call then succeeds.
 ghost use Rattle.std.specs.Prelude.{IfOk};
 
-use super::{batch_of, page, slot};
+use super::{answer, batch_of, page, slot};
 use std::alloc::{AllocError, Global};
 use std::process::Abort;
 use warm_devices::{MemDevice, PageDevice};
@@ -115,12 +115,12 @@ fn ask_again(
     ensures node { ⟦<Node as Shown>⟧.is_fit node.new }
     ensures other { ⟦<Node as Shown>⟧.is_fit other.new }
 {
-    let Reply::Refused(fault) = node.call(call_again(rt, alloc, other, place)) else {
+    let Reply::Refused(fault) = answer(node, call_again(rt, alloc, other, place)) else {
         return;
     };
     assert_eq!(rt; fault, NodeFault::Memory, "at call {place}");
     assert!(rt; is_same(node, twin), "after a refused call {place}");
-    if let Reply::Refused(fault) = node.call(call_again(rt, alloc, other, place)) {
+    if let Reply::Refused(fault) = answer(node, call_again(rt, alloc, other, place)) {
         panic!(rt; "one growth alone is refused, and call {place} met {fault:?}");
     }
 }
@@ -131,8 +131,8 @@ fn ask_twin(rt: &impl Abort, alloc: Global, twin: &mut Node, other: &mut Node, p
     ensures twin { ⟦<Node as Shown>⟧.is_fit twin.new }
     ensures other { ⟦<Node as Shown>⟧.is_fit other.new }
 {
-    if let Reply::Refused(_) = twin.call(call_again(rt, alloc, other, place)) {
-        let _ = twin.call(call_again(rt, alloc, other, place));
+    if let Reply::Refused(_) = answer(twin, call_again(rt, alloc, other, place)) {
+        let _ = answer(twin, call_again(rt, alloc, other, place));
     }
 }
 

@@ -1,10 +1,9 @@
 //! What a node keeps is not stale: its offers are those of a node that was told everything at once, and its warm-up follows what it
 //! was told last.
 
-use super::{Row, answers, batch_of, lives, offered, page};
+use super::{Row, batch_of, lives, offered, page, takes};
 use std::alloc::Global;
 use std::process::Abort;
-use std::test::Fail;
 use warm_digest::{differing, sums};
 use warm_frames::{EntryList, Frame, SumTable};
 use warm_gossip::{Node, Shown};
@@ -13,49 +12,49 @@ use warm_stamps::ReplicaId;
 
 // A history that was told of references to pages of device 0 at once.
 fn history_of(
+    rt: &impl Abort,
     alloc: Global,
     replica: ReplicaId,
     references: &[(u32, u64)],
-) -> Result<History, Fail> {
+) -> History {
+    let batch = batch_of(alloc, replica, references).expect(rt, "room for the batch");
     let mut history = History::new(alloc);
-    let batch = batch_of(alloc, replica, references)?;
-    history.absorb(batch.as_slice())?;
-    Ok(history)
+    history
+        .absorb(batch.as_slice())
+        .expect(rt, "room for its pages");
+    history
 }
 
 // The frame of all that such a history knows.
-fn frame_of(alloc: Global, sender: ReplicaId, references: &[(u32, u64)]) -> Result<Frame, Fail> {
-    let history = history_of(alloc, sender, references)?;
+fn frame_of(rt: &impl Abort, alloc: Global, sender: ReplicaId, references: &[(u32, u64)]) -> Frame {
     let mut entries = Vec::new(alloc);
-    for entry in history.iter() {
-        entries.push(entry)?;
+    for entry in history_of(rt, alloc, sender, references).iter() {
+        entries.push(entry).expect(rt, "room for an entry");
     }
     match EntryList::of(entries) {
-        Ok(entries) => Ok(Frame::Entries { sender, entries }),
-        Err(_) => Err("the pages rise".into()),
+        Ok(entries) => Frame::Entries { sender, entries },
+        Err(_) => panic!(rt; "the pages rise"),
     }
 }
 
 // The node receives all that a history of these references knows, and answers nothing.
-pub fn hears(
-    rt: &impl Abort,
-    alloc: Global,
-    node: &mut Node,
-    references: &[(u32, u64)],
-) -> Result<(), Fail>
+pub fn hears(rt: &impl Abort, alloc: Global, node: &mut Node, references: &[(u32, u64)])
     requires { ⟦<Node as Shown>⟧.is_fit node.old }
     ensures { ⟦<Node as Shown>⟧.is_fit node.new }
 {
-    let frame = frame_of(alloc, node.id(), references)?;
-    assert_eq!(rt; answers(node, frame)?.len(), 0);
-    Ok(())
+    let frame = frame_of(rt, alloc, node.id(), references);
+    takes(rt, node, frame);
 }
 
-fn sums_of(frame: Frame) -> Result<SumTable, Fail> {
+fn sums_of(rt: &impl Abort, frame: Frame) -> SumTable {
     match frame {
-        Frame::Digest { sums, .. } => Ok(sums),
-        Frame::Entries { .. } | Frame::Want { .. } => Err("an offer is of sums".into()),
+        Frame::Digest { sums, .. } => sums,
+        Frame::Entries { .. } | Frame::Want { .. } => panic!(rt; "an offer is of sums"),
     }
+}
+
+fn table_of(rt: &impl Abort, alloc: Global, history: &History) -> SumTable {
+    sums(alloc, history).expect(rt, "room for the sums")
 }
 
 // The sums are those of a history of these references, and differ from those of nothing in the buckets of the mask.
@@ -66,31 +65,24 @@ fn are_of(
     replica: ReplicaId,
     references: &[(u32, u64)],
     mask: u64,
-) -> Result<(), Fail> {
-    let wanted = sums(alloc, &history_of(alloc, replica, references)?)?;
-    let none = sums(alloc, &History::new(alloc))?;
+) {
+    let wanted = table_of(rt, alloc, &history_of(rt, alloc, replica, references));
+    let none = table_of(rt, alloc, &History::new(alloc));
     assert!(rt; *offer == wanted, "the sums of {mask}");
     assert_eq!(rt; differing(offer, &none), mask);
-    Ok(())
 }
 
 // The node offers such sums.
-pub fn offers(
-    rt: &impl Abort,
-    alloc: Global,
-    node: &mut Node,
-    references: &[(u32, u64)],
-    mask: u64,
-) -> Result<(), Fail>
+pub fn offers(rt: &impl Abort, alloc: Global, node: &mut Node, references: &[(u32, u64)], mask: u64)
     requires { ⟦<Node as Shown>⟧.is_fit node.old }
     ensures { ⟦<Node as Shown>⟧.is_fit node.new }
 {
-    let offer = sums_of(offered(node)?)?;
+    let offer = sums_of(rt, offered(rt, node));
     are_of(rt, alloc, &offer, node.id(), references, mask)
 }
 
 #[test]
-fn offers_follow_the_history(rt: HostRuntime) -> Result<(), Fail> {
+fn offers_follow_the_history(rt: HostRuntime) {
     let rows = [
         Row::Offers(&[], 0),
         Row::Told(&[(1, 10)]),
@@ -109,7 +101,7 @@ fn offers_follow_the_history(rt: HostRuntime) -> Result<(), Fail> {
 }
 
 #[test]
-fn the_warm_up_follows_the_history(rt: HostRuntime) -> Result<(), Fail> {
+fn the_warm_up_follows_the_history(rt: HostRuntime) {
     let rows = [
         Row::Told(&[(1, 1), (1, 2), (2, 3), (2, 4)]),
         Row::Loads(Ok(Some(page(2)))),
@@ -130,7 +122,7 @@ fn the_warm_up_follows_the_history(rt: HostRuntime) -> Result<(), Fail> {
 
 // The list that a warm-up keeps is of as many pages as there are frames, whatever other lists are asked for meanwhile.
 #[test]
-fn a_kept_list_is_of_its_number(rt: HostRuntime) -> Result<(), Fail> {
+fn a_kept_list_is_of_its_number(rt: HostRuntime) {
     let told = Row::Told(&[(1, 1), (2, 2), (3, 3)]);
     let two = [
         told,
@@ -142,14 +134,14 @@ fn a_kept_list_is_of_its_number(rt: HostRuntime) -> Result<(), Fail> {
         Row::Loads(Ok(Some(page(2)))),
         Row::Loads(Ok(None)),
     ];
-    lives(&rt, rt.alloc(), 2, &two)?;
+    lives(&rt, rt.alloc(), 2, &two);
     let one = [
         told,
         Row::Hottest(2, &[page(3), page(2)]),
         Row::Loads(Ok(Some(page(3)))),
         Row::Loads(Ok(None)),
     ];
-    lives(&rt, rt.alloc(), 1, &one)?;
+    lives(&rt, rt.alloc(), 1, &one);
     let three = [
         told,
         Row::Hottest(1, &[page(3)]),

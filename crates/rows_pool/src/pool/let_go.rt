@@ -1,13 +1,13 @@
 //! What a device holds as the pool lets it go: all that was written, and nothing waits.
-ghost use Rattle.std.specs.Prelude.{IfOk};
 ghost use Rattle.warm_pool.specs.State.{IsPool, RankedBy};
 
-use super::{closes, exchange, memory, not_closed, pinned, pool_over, unpin, unretired, write};
+use super::{
+    ONE_REFUSED, closes, exchange, memory, not_closed, pinned, pool_over, unpin, unretired, write,
+};
 use noting_device::{Found, Note, Noting};
 use std::alloc::{AllocError, Global};
 use std::process::Abort;
 use std::sync::Arc;
-use std::test::Fail;
 use warm_devices::{MemDevice, PageDevice};
 use warm_history::History;
 use warm_pool::{Pool, PoolFault, Pooled, Slot};
@@ -31,10 +31,10 @@ fn new_witness(
     Ok((Box::new(alloc, device)?, note))
 }
 
-fn witness(alloc: Global) -> Result<(Box<dyn PageDevice + Send>, Arc<Note, Global>), Fail> {
+fn witness(rt: &impl Abort, alloc: Global) -> (Box<dyn PageDevice + Send>, Arc<Note, Global>) {
     match new_witness(alloc) {
-        Ok(made) => Ok(made),
-        Err(_) => Ok(new_witness(alloc)?),
+        Ok(made) => made,
+        Err(_) => new_witness(alloc).expect(rt, ONE_REFUSED),
     }
 }
 
@@ -46,20 +46,16 @@ fn is_kept(note: &Note) -> bool {
 }
 
 // A pool over such a device. Its page 0:0 is filled with AA, and went to no device yet.
-fn noted_pool(
-    rt: &impl Abort,
-    alloc: Global,
-    history: &History,
-) -> Result<(Pool, Slot, Arc<Note, Global>), Fail>
-    ensures pool { IfOk result (λ made. IsPool (⟦<Pool as Pooled>⟧.state made.0)) }
-    ensures ranked { IfOk result (λ made. RankedBy (⟦<Pool as Pooled>⟧.state made.0) history.now) }
+fn noted_pool(rt: &impl Abort, alloc: Global, history: &History) -> (Pool, Slot, Arc<Note, Global>)
+    ensures pool { IsPool (⟦<Pool as Pooled>⟧.state result.0) }
+    ensures ranked { RankedBy (⟦<Pool as Pooled>⟧.state result.0) history.now }
 {
-    let (device, note) = witness(alloc)?;
-    let mut pool = pool_over(rt, alloc, 2, device)?;
-    let held = pinned(&mut pool, history, 0)?;
+    let (device, note) = witness(rt, alloc);
+    let mut pool = pool_over(rt, alloc, 2, device);
+    let held = pinned(rt, &mut pool, history, 0);
     let written = write(rt, &mut pool, history, held, 0, &[0xAA; 16]);
     assert_eq!(rt; written, Ok(()));
-    Ok((pool, held, note))
+    (pool, held, note)
 }
 
 fn exchanged(
@@ -69,39 +65,36 @@ fn exchanged(
     held: Slot,
     device: Box<dyn PageDevice + Send>,
     note: &Note,
-) -> Result<(), Fail>
+)
     requires pool { IsPool (⟦<Pool as Pooled>⟧.state pool.old) }
     requires ranked { RankedBy (⟦<Pool as Pooled>⟧.state pool.old) history.now }
     ensures pool { IsPool (⟦<Pool as Pooled>⟧.state pool.new) }
     ensures ranked { RankedBy (⟦<Pool as Pooled>⟧.state pool.new) history.now }
 {
-    let device = unretired(rt, pool, history, 0, device, PoolFault::Fixed)?;
+    let device = unretired(rt, pool, history, 0, device, PoolFault::Fixed);
     assert_eq!(rt; note.found(), Found::NoDrop);
     unpin(rt, pool, history, held);
     exchange(rt, pool, history, 0, device);
     assert!(rt; is_kept(note));
-    Ok(())
 }
 
 #[test]
-fn a_retired_device_has_what_was_written(rt: HostRuntime) -> Result<(), Fail> {
+fn a_retired_device_has_what_was_written(rt: HostRuntime) {
     let alloc = rt.alloc();
     let history = History::new(alloc);
-    let (mut pool, held, note) = noted_pool(&rt, alloc, &history)?;
-    exchanged(&rt, &mut pool, &history, held, memory(alloc, 8)?, &note)?;
+    let (mut pool, held, note) = noted_pool(&rt, alloc, &history);
+    exchanged(&rt, &mut pool, &history, held, memory(&rt, alloc, 8), &note);
     closes(&rt, pool);
-    Ok(())
 }
 
 #[test]
-fn a_closed_pools_device_has_what_was_written(rt: HostRuntime) -> Result<(), Fail> {
+fn a_closed_pools_device_has_what_was_written(rt: HostRuntime) {
     let alloc = rt.alloc();
     let history = History::new(alloc);
-    let (pool, held, note) = noted_pool(&rt, alloc, &history)?;
-    let mut pool = not_closed(&rt, pool, &history)?;
+    let (pool, held, note) = noted_pool(&rt, alloc, &history);
+    let mut pool = not_closed(&rt, pool, &history);
     assert_eq!(rt; note.found(), Found::NoDrop);
     unpin(&rt, &mut pool, &history, held);
     closes(&rt, pool);
     assert!(rt; is_kept(&note));
-    Ok(())
 }

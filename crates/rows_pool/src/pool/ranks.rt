@@ -1,17 +1,16 @@
 //! Which page leaves, by what a history was told.
 ghost use Rattle.warm_pool.specs.State.{IsPool, RankedBy};
 
-use super::{Row, closes, memory, page, pool_over, runs, slot};
+use super::{ONE_REFUSED, Row, closes, memory, page, pool_over, runs, slot};
 use std::alloc::Global;
 use std::process::Abort;
-use std::test::Fail;
 use warm_history::History;
 use warm_pool::{Pool, Pooled};
 use warm_stamps::{PageId, Reference, ReplicaId, Stamp};
 
 // References to pages at times, all seen at one replica.
-fn history_of(alloc: Global, seen: &[(u32, u64)]) -> Result<History, Fail> {
-    let replica = ReplicaId::new(1)?;
+fn history_of(rt: &impl Abort, alloc: Global, seen: &[(u32, u64)]) -> History {
+    let replica = ReplicaId::new(1).expect(rt, "1 is of a replica");
     let mut history = History::new(alloc);
     for &(no, time) in seen {
         let batch = [Reference {
@@ -19,61 +18,59 @@ fn history_of(alloc: Global, seen: &[(u32, u64)]) -> Result<History, Fail> {
             stamp: Stamp { time, replica },
         }];
         if history.absorb(&batch).is_err() {
-            history.absorb(&batch)?;
+            history.absorb(&batch).expect(rt, ONE_REFUSED);
         }
     }
-    Ok(history)
+    history
 }
 
 // Brings a page in without a fix, which no fault hinders.
-fn load(pool: &mut Pool, history: &History, no: u32) -> Result<(), Fail>
+fn load(rt: &impl Abort, pool: &mut Pool, history: &History, no: u32)
     requires pool { IsPool (⟦<Pool as Pooled>⟧.state pool.old) }
     requires ranked { RankedBy (⟦<Pool as Pooled>⟧.state pool.old) history.now }
     ensures pool { IsPool (⟦<Pool as Pooled>⟧.state pool.new) }
     ensures ranked { RankedBy (⟦<Pool as Pooled>⟧.state pool.new) history.now }
 {
-    match pool.load(page(no), history) {
-        Ok(_) => Ok(()),
-        Err(_) => Err("the page is loaded".into()),
-    }
+    let _slot = pool
+        .load(page(no), history)
+        .expect(rt, "the page is loaded");
 }
 
 // The page that leaves for page 3, of two frames with the pages 1 and 2.
-fn leaving_of(rt: &impl Abort, pool: &mut Pool, history: &History) -> Result<Option<PageId>, Fail>
+fn leaving_of(rt: &impl Abort, pool: &mut Pool, history: &History) -> Option<PageId>
     requires pool { IsPool (⟦<Pool as Pooled>⟧.state pool.old) }
     requires ranked { RankedBy (⟦<Pool as Pooled>⟧.state pool.old) history.now }
     ensures pool { IsPool (⟦<Pool as Pooled>⟧.state pool.new) }
     ensures ranked { RankedBy (⟦<Pool as Pooled>⟧.state pool.new) history.now }
 {
-    load(pool, history, 1)?;
-    load(pool, history, 2)?;
+    load(rt, pool, history, 1);
+    load(rt, pool, history, 2);
     let victim = pool.victim();
-    load(pool, history, 3)?;
+    load(rt, pool, history, 3);
     assert!(rt; pool.resident(page(1)) != (victim == Some(page(1))));
     assert!(rt; pool.resident(page(2)) != (victim == Some(page(2))));
-    Ok(victim)
+    victim
 }
 
 // The page that leaves so, by what was seen.
-fn leaving(rt: &impl Abort, alloc: Global, seen: &[(u32, u64)]) -> Result<Option<PageId>, Fail> {
-    let history = history_of(alloc, seen)?;
-    let mut pool = pool_over(rt, alloc, 2, memory(alloc, 8)?)?;
-    let victim = leaving_of(rt, &mut pool, &history)?;
+fn leaving(rt: &impl Abort, alloc: Global, seen: &[(u32, u64)]) -> Option<PageId> {
+    let history = history_of(rt, alloc, seen);
+    let mut pool = pool_over(rt, alloc, 2, memory(rt, alloc, 8));
+    let victim = leaving_of(rt, &mut pool, &history);
     closes(rt, pool);
-    Ok(victim)
+    victim
 }
 
 #[test]
-fn the_history_says_which_page_leaves(rt: HostRuntime) -> Result<(), Fail> {
+fn the_history_says_which_page_leaves(rt: HostRuntime) {
     let alloc = rt.alloc();
     let farther = [(1, 1), (1, 100), (2, 50), (2, 60)];
-    assert_eq!(rt; leaving(&rt, alloc, &farther)?, Some(page(1)));
+    assert_eq!(rt; leaving(&rt, alloc, &farther), Some(page(1)));
     let once = [(1, 1), (1, 2), (2, 100), (2, 100)];
-    assert_eq!(rt; leaving(&rt, alloc, &once)?, Some(page(2)));
+    assert_eq!(rt; leaving(&rt, alloc, &once), Some(page(2)));
     let older = [(1, 7), (2, 6)];
-    assert_eq!(rt; leaving(&rt, alloc, &older)?, Some(page(2)));
-    assert_eq!(rt; leaving(&rt, alloc, &[])?, Some(page(1)));
-    Ok(())
+    assert_eq!(rt; leaving(&rt, alloc, &older), Some(page(2)));
+    assert_eq!(rt; leaving(&rt, alloc, &[]), Some(page(1)));
 }
 
 fn refresh(pool: &mut Pool, history: &History, no: u32)
@@ -84,19 +81,18 @@ fn refresh(pool: &mut Pool, history: &History, no: u32)
 }
 
 #[test]
-fn a_refreshed_page_has_a_new_rank(rt: HostRuntime) -> Result<(), Fail> {
+fn a_refreshed_page_has_a_new_rank(rt: HostRuntime) {
     let alloc = rt.alloc();
     let history = History::new(alloc);
-    let later = history_of(alloc, &[(1, 5)])?;
-    let mut pool = pool_over(&rt, alloc, 2, memory(alloc, 8)?)?;
+    let later = history_of(&rt, alloc, &[(1, 5)]);
+    let mut pool = pool_over(&rt, alloc, 2, memory(&rt, alloc, 8));
     let rows = [
         Row::Loads(page(1), Ok(slot(0, 1))),
         Row::Loads(page(2), Ok(slot(1, 1))),
         Row::Victim(Some(page(1))),
     ];
-    runs(&rt, &mut pool, &history, &rows)?;
+    runs(&rt, &mut pool, &history, &rows);
     refresh(&mut pool, &later, 1);
     assert_eq!(rt; pool.victim(), Some(page(2)));
     closes(&rt, pool);
-    Ok(())
 }

@@ -1,10 +1,9 @@
 //! References, buffers, frames and rounds of gossip.
 ghost use Rattle.warm_world.specs.Seen.{IsWorld};
 
-use super::{Live, Row, fresh, heard, kept, lives, page, runs, settled, shown};
+use super::{Live, Row, fresh, heard, kept, lives, page, runs, settled, shown, warm_list};
 use std::alloc::Global;
 use std::process::Abort;
-use std::test::Fail;
 use warm_frames::{EntryList, Frame, encode};
 use warm_history::History;
 use warm_stamps::{Bucket, PageId, ReplicaId};
@@ -17,7 +16,7 @@ const DONE: Result<(), WorldFault> = Ok(());
 const NOT_ANSWERED: Result<(u64, u64), WorldFault> = Ok((0, 0));
 
 #[test]
-fn names_what_is_missing(rt: HostRuntime) -> Result<(), Fail> {
+fn names_what_is_missing(rt: HostRuntime) {
     let no_replica = WorldFault::NoSuchReplica;
     let no_worker = WorldFault::NoSuchWorker;
     let rows = [
@@ -33,7 +32,7 @@ fn names_what_is_missing(rt: HostRuntime) -> Result<(), Fail> {
 }
 
 #[test]
-fn two_replicas_merge_both_ways(rt: HostRuntime) -> Result<(), Fail> {
+fn two_replicas_merge_both_ways(rt: HostRuntime) {
     let both = [(PAGE, (30, 2, Some((20, 1))))];
     let rows = [
         Row::Refers(1, 1, PAGE, 10, DONE),
@@ -53,7 +52,7 @@ fn two_replicas_merge_both_ways(rt: HostRuntime) -> Result<(), Fail> {
 }
 
 #[test]
-fn a_replica_hears_its_own_sums(rt: HostRuntime) -> Result<(), Fail> {
+fn a_replica_hears_its_own_sums(rt: HostRuntime) {
     let rows = [
         Row::Offers(1, 1),
         Row::Hears(1, 1, NOT_ANSWERED),
@@ -65,7 +64,7 @@ fn a_replica_hears_its_own_sums(rt: HostRuntime) -> Result<(), Fail> {
 // To the sums the second answers its entries of bucket 2, and a wish for buckets 1 and 2; to the wish the first answers
 // its entries of these.
 #[test]
-fn a_round_makes_histories_equal(rt: HostRuntime) -> Result<(), Fail> {
+fn a_round_makes_histories_equal(rt: HostRuntime) {
     let both = [(page(1), (10, 1, None)), (page(2), (11, 2, None))];
     let rows = [
         Row::Refers(1, 1, page(1), 10, DONE),
@@ -87,7 +86,7 @@ fn a_round_makes_histories_equal(rt: HostRuntime) -> Result<(), Fail> {
 }
 
 #[test]
-fn a_restart_forgets_and_hears_again(rt: HostRuntime) -> Result<(), Fail> {
+fn a_restart_forgets_and_hears_again(rt: HostRuntime) {
     let rows = [
         Row::Refers(1, 1, PAGE, 10, DONE),
         Row::Flushes(1, 1, DONE),
@@ -103,7 +102,7 @@ fn a_restart_forgets_and_hears_again(rt: HostRuntime) -> Result<(), Fail> {
 }
 
 #[test]
-fn warms_the_hottest_first(rt: HostRuntime) -> Result<(), Fail> {
+fn warms_the_hottest_first(rt: HostRuntime) {
     let rows = [
         Row::Refers(1, 1, page(5), 1, DONE),
         Row::Refers(1, 1, page(2), 2, DONE),
@@ -119,7 +118,7 @@ fn warms_the_hottest_first(rt: HostRuntime) -> Result<(), Fail> {
 
 // Worker 1 of replica 1 references pages: so many, each with a number that is so many times its place, at the time of its
 // place.
-fn refers(rt: &impl Abort, live: &mut Live, count: u32, spread: u32, first: u64) -> Result<(), Fail>
+fn refers(rt: &impl Abort, live: &mut Live, count: u32, spread: u32, first: u64)
     requires { IsWorld state live.old.world }
     ensures { IsWorld state live.new.world }
 {
@@ -128,14 +127,13 @@ fn refers(rt: &impl Abort, live: &mut Live, count: u32, spread: u32, first: u64)
         let time = first.wrapping_add(place as u64);
         assert_eq!(rt; settled(live, Event::Refer(1, 1, page, time)), Ok(()));
     }
-    Ok(())
 }
 
-fn full_buffer_moves(rt: &impl Abort, alloc: Global, live: &mut Live) -> Result<(), Fail>
+fn full_buffer_moves(rt: &impl Abort, alloc: Global, live: &mut Live)
     requires { IsWorld state live.old.world }
     ensures { IsWorld state live.new.world }
 {
-    refers(rt, live, 65, 0, 1)?;
+    refers(rt, live, 65, 0, 1);
     let rows = [
         Row::Knows(1, &[(page(0), (64, 1, Some((63, 1))))]),
         Row::Flushes(1, 1, DONE),
@@ -145,8 +143,8 @@ fn full_buffer_moves(rt: &impl Abort, alloc: Global, live: &mut Live) -> Result<
 }
 
 #[test]
-fn a_full_buffer_moves_first(rt: HostRuntime) -> Result<(), Fail> {
-    let mut live = fresh(rt.alloc(), 1, 4)?;
+fn a_full_buffer_moves_first(rt: HostRuntime) {
+    let mut live = fresh(&rt, rt.alloc(), 1, 4);
     full_buffer_moves(&rt, rt.alloc(), &mut live)
 }
 
@@ -156,7 +154,7 @@ const FRAME: [u8; 42] = [
     0, 0, 0x14, 0, 1, 0, 0, 0, 0, 0, 0, 0, 0x0A, 0, 1,
 ];
 
-fn sends_bucket_seven(rt: &impl Abort, alloc: Global, live: &mut Live) -> Result<(), Fail>
+fn sends_bucket_seven(rt: &impl Abort, alloc: Global, live: &mut Live)
     requires { IsWorld state live.old.world }
     ensures { IsWorld state live.new.world }
 {
@@ -169,34 +167,43 @@ fn sends_bucket_seven(rt: &impl Abort, alloc: Global, live: &mut Live) -> Result
     runs(rt, alloc, live, &rows)
 }
 
-// The bytes of a frame of replica 1 that has what a history knows, from its entry at a place on.
-fn spelled(alloc: Global, history: &History, from: usize) -> Result<Vec<u8>, Fail> {
+// What a history knows, from its entry at a place on.
+fn entries_of(rt: &impl Abort, alloc: Global, history: &History, from: usize) -> EntryList {
     let mut entries = Vec::new(alloc);
     for place in from..history.len() {
-        entries.push(history.at(place).ok_or("an entry")?)?;
+        let entry = history.at(place).expect(rt, "an entry");
+        entries.push(entry).expect(rt, "room for an entry");
     }
-    let Ok(entries) = EntryList::of(entries) else {
-        return Err("the pages rise".into());
-    };
-    let sender = ReplicaId::new(1)?;
-    Ok(encode(alloc, &Frame::Entries { sender, entries })?)
+    match EntryList::of(entries) {
+        Ok(entries) => entries,
+        Err(_) => panic!(rt; "the pages rise"),
+    }
 }
 
-// What frame 1 brings to replica 2, who knew nothing, are the entries of these bytes.
-fn brings_what_it_says(rt: &impl Abort, alloc: Global, live: &mut Live) -> Result<(), Fail>
+// The bytes of a frame of replica 1 that has what replica 2 knows, from its entry at a place on.
+fn spelled(rt: &impl Abort, alloc: Global, live: &mut Live, from: usize) -> Vec<u8>
     requires { IsWorld state live.old.world }
     ensures { IsWorld state live.new.world }
 {
-    runs(rt, alloc, live, &[Row::Hears(2, 1, NOT_ANSWERED)])?;
-    let bytes = spelled(alloc, &shown(live, 2)?, 0)?;
+    let sender = ReplicaId::new(1).expect(rt, "1 is of a replica");
+    let entries = entries_of(rt, alloc, &shown(rt, live, 2), from);
+    encode(alloc, &Frame::Entries { sender, entries }).expect(rt, "room for the frame")
+}
+
+// What frame 1 brings to replica 2, who knew nothing, are the entries of these bytes.
+fn brings_what_it_says(rt: &impl Abort, alloc: Global, live: &mut Live)
+    requires { IsWorld state live.old.world }
+    ensures { IsWorld state live.new.world }
+{
+    runs(rt, alloc, live, &[Row::Hears(2, 1, NOT_ANSWERED)]);
+    let bytes = spelled(rt, alloc, live, 0);
     assert_eq!(rt; bytes.as_slice(), FRAME.as_slice());
-    Ok(())
 }
 
 #[test]
-fn a_frame_brings_what_its_bytes_say(rt: HostRuntime) -> Result<(), Fail> {
-    let mut live = fresh(rt.alloc(), 2, 4)?;
-    sends_bucket_seven(&rt, rt.alloc(), &mut live)?;
+fn a_frame_brings_what_its_bytes_say(rt: HostRuntime) {
+    let mut live = fresh(&rt, rt.alloc(), 2, 4);
+    sends_bucket_seven(&rt, rt.alloc(), &mut live);
     brings_what_it_says(&rt, rt.alloc(), &mut live)
 }
 
@@ -209,47 +216,43 @@ fn carries(
     after: Option<PageId>,
     length: usize,
     known: usize,
-) -> Result<(), Fail>
+)
     requires { IsWorld state live.old.world }
     ensures { IsWorld state live.new.world }
 {
-    let bucket = Bucket::new(0).ok_or("a bucket")?;
-    let Ok(number) = kept(live, Event::Send(1, bucket, after)) else {
-        return Err("a frame is sent".into());
-    };
+    let bucket = Bucket::new(0).expect(rt, "a bucket");
+    let number = kept(live, Event::Send(1, bucket, after)).expect(rt, "a frame is sent");
     assert_eq!(rt; heard(live, 2, number), NOT_ANSWERED);
-    let bytes = spelled(alloc, &shown(live, 2)?, known)?;
-    assert_eq!(rt; bytes.len(), length);
-    Ok(())
+    assert_eq!(rt; spelled(rt, alloc, live, known).len(), length);
 }
 
 // 1001 pages of bucket 0 take two frames: 1000 entries of 17 bytes after a header of 11 and a count of 4, and one entry.
-fn goes_in_two_frames(rt: &impl Abort, alloc: Global, live: &mut Live) -> Result<(), Fail>
+fn goes_in_two_frames(rt: &impl Abort, alloc: Global, live: &mut Live)
     requires { IsWorld state live.old.world }
     ensures { IsWorld state live.new.world }
 {
-    refers(rt, live, 1001, 64, 0)?;
+    refers(rt, live, 1001, 64, 0);
     assert_eq!(rt; settled(live, Event::Flush(1, 1)), Ok(()));
-    carries(rt, alloc, live, None, 17_015, 0)?;
-    carries(rt, alloc, live, Some(page(63_936)), 32, 1000)?;
-    assert_eq!(rt; shown(live, 2)?.len(), 1001);
-    Ok(())
+    carries(rt, alloc, live, None, 17_015, 0);
+    carries(rt, alloc, live, Some(page(63_936)), 32, 1000);
+    assert_eq!(rt; shown(rt, live, 2).len(), 1001);
 }
 
 #[test]
-fn a_bucket_of_1001_pages_takes_two_frames(rt: HostRuntime) -> Result<(), Fail> {
-    let mut live = fresh(rt.alloc(), 2, 4)?;
+fn a_bucket_of_1001_pages_takes_two_frames(rt: HostRuntime) {
+    let mut live = fresh(&rt, rt.alloc(), 2, 4);
     goes_in_two_frames(&rt, rt.alloc(), &mut live)
 }
 
 // References to 10,000 pages in turn, one at each time.
-fn references_in_turn(alloc: Global, count: u64) -> Result<Vec<Event>, Fail> {
+fn references_in_turn(rt: &impl Abort, alloc: Global, count: u64) -> Vec<Event> {
     let mut events = Vec::new(alloc);
     for time in 0..count {
         let no = (time % 10_000) as u32;
-        events.push(Event::Refer(1, 1, page(no), time))?;
+        let event = Event::Refer(1, 1, page(no), time);
+        events.push(event).expect(rt, "room for an event");
     }
-    Ok(events)
+    events
 }
 
 fn all_done(rt: &impl Abort, answers: &[Answer]) {
@@ -259,29 +262,35 @@ fn all_done(rt: &impl Abort, answers: &[Answer]) {
     }
 }
 
-fn runs_at_once(rt: &impl Abort, alloc: Global, live: &mut Live) -> Result<(), Fail>
+fn runs_at_once(rt: &impl Abort, alloc: Global, live: &mut Live)
     requires { IsWorld state live.old.world }
     ensures { IsWorld state live.new.world }
 {
-    let Ok(answers) = live.world.run(references_in_turn(alloc, 70_000)?) else {
-        return Err("memory is ample".into());
+    let answers = match live.world.run(references_in_turn(rt, alloc, 70_000)) {
+        Ok(answers) => answers,
+        Err(_) => panic!(rt; "memory is ample"),
     };
     assert_eq!(rt; answers.len(), 70_000);
     all_done(rt, &answers);
+}
+
+// The last page of 10,000 is the hottest.
+fn ends_with_the_hottest(rt: &impl Abort, live: &mut Live)
+    requires { IsWorld state live.old.world }
+    ensures { IsWorld state live.new.world }
+{
     assert_eq!(rt; settled(live, Event::Flush(1, 1)), Ok(()));
-    let Answer::Pages(pages) = live.world.step(Event::Warm(1, 10_000)) else {
-        return Err("the replica has a warm-up list".into());
-    };
-    assert_eq!(rt; pages.as_slice().len(), 10_000);
-    assert_eq!(rt; pages.as_slice().first().copied(), Some(page(9_999)));
-    assert_eq!(rt; shown(live, 1)?.len(), 10_000);
-    Ok(())
+    let pages = warm_list(rt, live, 1, 10_000);
+    let hottest = (pages.as_slice().len(), pages.as_slice().first().copied());
+    assert_eq!(rt; hottest, (10_000, Some(page(9_999))));
+    assert_eq!(rt; shown(rt, live, 1).len(), 10_000);
 }
 
 // No clause forbids that memory is said to be wanting while there is plenty, so a long list is run. Each page
 // is referenced seven times, in turn: the last of them is the hottest.
 #[test]
-fn seventy_thousand_events_run_at_once(rt: HostRuntime) -> Result<(), Fail> {
-    let mut live = fresh(rt.alloc(), 1, 4)?;
-    runs_at_once(&rt, rt.alloc(), &mut live)
+fn seventy_thousand_events_run_at_once(rt: HostRuntime) {
+    let mut live = fresh(&rt, rt.alloc(), 1, 4);
+    runs_at_once(&rt, rt.alloc(), &mut live);
+    ends_with_the_hottest(&rt, &mut live)
 }

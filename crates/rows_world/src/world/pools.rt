@@ -1,10 +1,9 @@
 //! Pages of replicas' pools: fixes, victims, bytes, warming up, and restarts.
-ghost use Rattle.std.specs.Prelude.{IfOk};
 ghost use Rattle.warm_world.specs.Seen.{IsWorld};
 
-use super::{Live, Row, Use, add_list, devices_for, lives, made, page, runs, slot};
+use super::{Live, Row, Use, add_list, lives, made, page, runs, slot};
 use std::alloc::Global;
-use std::test::Fail;
+use std::process::Abort;
 use warm_devices::{Flaky, MemDevice, PageDevice};
 use warm_gossip::NodeFault;
 use warm_pool::PoolFault;
@@ -18,7 +17,7 @@ const fn pool(fault: PoolFault) -> WorldFault {
 }
 
 #[test]
-fn pages_with_a_fix_stay(rt: HostRuntime) -> Result<(), Fail> {
+fn pages_with_a_fix_stay(rt: HostRuntime) {
     let all_fixed = pool(PoolFault::AllFixed);
     let rows = [
         Row::Pool(1, Use::Pins(page(3), Ok(slot(0, 1)))),
@@ -39,7 +38,7 @@ fn pages_with_a_fix_stay(rt: HostRuntime) -> Result<(), Fail> {
 }
 
 #[test]
-fn slots_that_hold_no_page_are_refused(rt: HostRuntime) -> Result<(), Fail> {
+fn slots_that_hold_no_page_are_refused(rt: HostRuntime) {
     let stale = WorldFault::Node(NodeFault::StaleSlot);
     let rows = [
         // Of a page that left.
@@ -58,7 +57,7 @@ fn slots_that_hold_no_page_are_refused(rt: HostRuntime) -> Result<(), Fail> {
 }
 
 #[test]
-fn pages_that_no_device_has_are_refused(rt: HostRuntime) -> Result<(), Fail> {
+fn pages_that_no_device_has_are_refused(rt: HostRuntime) {
     let elsewhere = PageId { dev: 1, no: 0 };
     let rows = [
         Row::Pool(1, Use::Pins(elsewhere, Err(pool(PoolFault::NoDevice)))),
@@ -70,7 +69,7 @@ fn pages_that_no_device_has_are_refused(rt: HostRuntime) -> Result<(), Fail> {
 }
 
 #[test]
-fn bytes_stay_with_their_page(rt: HostRuntime) -> Result<(), Fail> {
+fn bytes_stay_with_their_page(rt: HostRuntime) {
     let out_of_page = pool(PoolFault::OutOfPage);
     let rows = [
         Row::Pool(1, Use::Pins(page(1), Ok(slot(0, 1)))),
@@ -92,7 +91,7 @@ fn bytes_stay_with_their_page(rt: HostRuntime) -> Result<(), Fail> {
 }
 
 #[test]
-fn the_scan_leaves_first(rt: HostRuntime) -> Result<(), Fail> {
+fn the_scan_leaves_first(rt: HostRuntime) {
     let rows = [
         Row::Refers(1, 1, page(1), 1, DONE),
         Row::Refers(1, 1, page(1), 2, DONE),
@@ -109,7 +108,7 @@ fn the_scan_leaves_first(rt: HostRuntime) -> Result<(), Fail> {
 
 // Of 1, 50, 60 and 100 three references came since the next to last of page 1, and two since that of page 2.
 #[test]
-fn the_greatest_distance_leaves_first(rt: HostRuntime) -> Result<(), Fail> {
+fn the_greatest_distance_leaves_first(rt: HostRuntime) {
     let rows = [
         Row::Refers(1, 1, page(1), 1, DONE),
         Row::Refers(1, 1, page(2), 50, DONE),
@@ -127,7 +126,7 @@ fn the_greatest_distance_leaves_first(rt: HostRuntime) -> Result<(), Fail> {
 
 // Replica 2 never references a page itself: it warms up by what it heard.
 #[test]
-fn a_standby_warms_up_by_what_it_heard(rt: HostRuntime) -> Result<(), Fail> {
+fn a_standby_warms_up_by_what_it_heard(rt: HostRuntime) {
     let rows = [
         Row::Refers(1, 1, page(65), 1, DONE),
         Row::Refers(1, 1, page(1), 2, DONE),
@@ -150,7 +149,7 @@ fn a_standby_warms_up_by_what_it_heard(rt: HostRuntime) -> Result<(), Fail> {
 }
 
 #[test]
-fn a_restart_waits_for_fixes(rt: HostRuntime) -> Result<(), Fail> {
+fn a_restart_waits_for_fixes(rt: HostRuntime) {
     let rows = [
         Row::Refers(1, 1, page(1), 10, DONE),
         Row::Flushes(1, 1, DONE),
@@ -172,23 +171,24 @@ fn a_restart_waits_for_fixes(rt: HostRuntime) -> Result<(), Fail> {
 }
 
 // A world of one replica, with one frame over 8 pages; of the calls of its device this one fails.
-fn failing(alloc: Global, call: u64) -> Result<Live, Fail>
-    ensures { IfOk result (λ live. IsWorld state live.world) }
+fn failing(rt: &impl Abort, alloc: Global, call: u64) -> Live
+    ensures { IsWorld state result.world }
 {
-    let Ok(setup) = Setup::new(1, 1, 64, 1, 16) else {
-        return Err("the setup is within its limits".into());
-    };
-    let memory = MemDevice::new(alloc, 8, 16)?;
-    let device: Box<dyn PageDevice + Send> = Box::new(alloc, Flaky::new(memory, call))?;
-    let mut list = Vec::with_capacity(alloc, 1)?;
+    let setup = Setup::new(1, 1, 64, 1, 16).expect(rt, "it is within its limits");
+    let memory = MemDevice::new(alloc, 8, 16).expect(rt, "room for its pages");
+    let device: Box<dyn PageDevice + Send> = Box::new(alloc, Flaky::new(memory, call)).expect(
+        rt,
+        "room for it",
+    );
+    let mut list = Vec::with_capacity(alloc, 1).expect(rt, "room for a device");
     list.push_reserved(device);
-    let mut lists = devices_for(alloc, 0, 16)?;
-    add_list(&mut lists, list)?;
-    made(alloc, setup, lists)
+    let mut lists = Vec::new(alloc);
+    add_list(&mut lists, list).expect(rt, "room for a list");
+    made(rt, alloc, setup, lists)
 }
 
 #[test]
-fn a_page_that_was_not_read_comes_in_later(rt: HostRuntime) -> Result<(), Fail> {
+fn a_page_that_was_not_read_comes_in_later(rt: HostRuntime) {
     let rows = [
         Row::Refers(1, 1, page(1), 1, DONE),
         Row::Flushes(1, 1, DONE),
@@ -196,13 +196,13 @@ fn a_page_that_was_not_read_comes_in_later(rt: HostRuntime) -> Result<(), Fail> 
         Row::Pool(1, Use::Loads(Ok(Some(page(1))))),
         Row::Pool(1, Use::Loads(Ok(None))),
     ];
-    let mut live = failing(rt.alloc(), 1)?;
+    let mut live = failing(&rt, rt.alloc(), 1);
     runs(&rt, rt.alloc(), &mut live, &rows)
 }
 
 // The page is read by the first call, and its write, the second, fails.
 #[test]
-fn a_restart_that_fails_forgets_nothing(rt: HostRuntime) -> Result<(), Fail> {
+fn a_restart_that_fails_forgets_nothing(rt: HostRuntime) {
     let fault = pool(PoolFault::Fault);
     let rows = [
         Row::Refers(1, 1, page(1), 1, DONE),
@@ -218,12 +218,12 @@ fn a_restart_that_fails_forgets_nothing(rt: HostRuntime) -> Result<(), Fail> {
         Row::Pool(1, Use::Pins(page(1), Ok(slot(0, 2)))),
         Row::Pool(1, Use::Has(slot(0, 2), 0, &[7])),
     ];
-    let mut live = failing(rt.alloc(), 2)?;
+    let mut live = failing(&rt, rt.alloc(), 2);
     runs(&rt, rt.alloc(), &mut live, &rows)
 }
 
 #[test]
-fn a_world_that_could_not_be_finished_is_finished_later(rt: HostRuntime) -> Result<(), Fail> {
+fn a_world_that_could_not_be_finished_is_finished_later(rt: HostRuntime) {
     let rows = [
         Row::Pool(1, Use::Pins(page(1), Ok(slot(0, 1)))),
         Row::Pool(1, Use::Puts(slot(0, 1), 3, &[9], DONE)),
@@ -232,6 +232,6 @@ fn a_world_that_could_not_be_finished_is_finished_later(rt: HostRuntime) -> Resu
         Row::Finishes(Ok(())),
         Row::Pool(1, Use::Has(slot(0, 1), 3, &[9])),
     ];
-    let mut live = failing(rt.alloc(), 2)?;
+    let mut live = failing(&rt, rt.alloc(), 2);
     runs(&rt, rt.alloc(), &mut live, &rows)
 }

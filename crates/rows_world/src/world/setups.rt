@@ -4,7 +4,7 @@ ghost use Rattle.warm_world.specs.Seen.{listed};
 
 use super::{add_list, devices_for, one_device};
 use std::alloc::Global;
-use std::test::Fail;
+use std::process::Abort;
 use warm_devices::PageDevice;
 use warm_gossip::NodeFault;
 use warm_pool::PoolFault;
@@ -54,36 +54,46 @@ fn faults_have_numbers_and_names(rt: HostRuntime) {
 
 // Why no world is made: of so many replicas, whose pages have 16 bytes.
 fn refused(
+    rt: &impl Abort,
     alloc: Global,
     replicas: u16,
     devices: Vec<Vec<Box<dyn PageDevice + Send>>>,
-) -> Result<Option<BadWorld>, Fail>
+) -> Option<BadWorld>
     requires { AreFew (listed state devices.items) }
 {
-    let Ok(setup) = Setup::new(replicas, 2, 64, 4, 16) else {
-        return Err("the setup is within its limits".into());
-    };
-    Ok(World::new(alloc, setup, devices).err())
+    let setup = Setup::new(replicas, 2, 64, 4, 16).expect(rt, "it is within its limits");
+    World::new(alloc, setup, devices).err()
+}
+
+// The same over so many lists of one device, whose pages have so many bytes.
+fn refused_over(
+    rt: &impl Abort,
+    alloc: Global,
+    replicas: u16,
+    lists: u16,
+    page_size: usize,
+) -> Option<BadWorld> {
+    let devices = devices_for(alloc, lists, page_size).expect(rt, "room for the devices");
+    refused(rt, alloc, replicas, devices)
 }
 
 #[test]
-fn every_replica_needs_a_list_of_devices(rt: HostRuntime) -> Result<(), Fail> {
+fn every_replica_needs_a_list_of_devices(rt: HostRuntime) {
     let alloc = rt.alloc();
     let differ = Some(BadWorld::DevicesDiffer);
-    assert_eq!(rt; refused(alloc, 3, devices_for(alloc, 2, 16)?)?, differ);
+    assert_eq!(rt; refused_over(&rt, alloc, 3, 2, 16), differ);
     // The number of lists is looked at first.
-    assert_eq!(rt; refused(alloc, 1, devices_for(alloc, 2, 8)?)?, differ);
-    assert_eq!(rt; refused(alloc, 2, devices_for(alloc, 2, 16)?)?, None);
-    Ok(())
+    assert_eq!(rt; refused_over(&rt, alloc, 1, 2, 8), differ);
+    assert_eq!(rt; refused_over(&rt, alloc, 2, 2, 16), None);
 }
 
 #[test]
-fn every_device_has_pages_of_one_size(rt: HostRuntime) -> Result<(), Fail> {
+fn every_device_has_pages_of_one_size(rt: HostRuntime) {
     let alloc = rt.alloc();
     let differ = Some(BadWorld::SizeDiffers);
-    assert_eq!(rt; refused(alloc, 2, devices_for(alloc, 2, 32)?)?, differ);
-    let mut lists = devices_for(alloc, 1, 16)?;
-    add_list(&mut lists, one_device(alloc, 8, 8)?)?;
-    assert_eq!(rt; refused(alloc, 2, lists)?, differ);
-    Ok(())
+    assert_eq!(rt; refused_over(&rt, alloc, 2, 2, 32), differ);
+    let mut lists = devices_for(alloc, 1, 16).expect(&rt, "room for the devices");
+    let list = one_device(alloc, 8, 8).expect(&rt, "room for a device");
+    add_list(&mut lists, list).expect(&rt, "room for a list");
+    assert_eq!(rt; refused(&rt, alloc, 2, lists), differ);
 }
