@@ -30,7 +30,7 @@ const PAGE_SIZE: usize = 64;
 const BESIDE: usize = 32 << 20;
 
 /// Which frames hold a page as a pool is emptied.
-#[derive(Clone, Copy, PartialEq, Eq, Debug)]
+#[derive(Clone, Copy)]
 enum Held {
     None,
     LowerHalf,
@@ -277,7 +277,7 @@ fn missed(clock: &impl Clock, alloc: Global, misses: u32) -> Result<(u64, Durati
 }
 
 /// What is timed.
-#[derive(Clone, Copy, PartialEq, Eq, Debug)]
+#[derive(Clone, Copy)]
 enum Call {
     Empty,
     Retire,
@@ -369,7 +369,7 @@ fn filled_and_timed(
 ) -> Result<Duration>
     requires { IsPool (⟦<Pool as Pooled>⟧.state pool.old) }
 {
-    if held == Held::UpperHalf {
+    if let Held::UpperHalf = held {
         retire(pool, 0, another)?;
     }
     call_timed(clock, alloc, pool, held, call, yet_another)

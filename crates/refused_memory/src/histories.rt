@@ -1,4 +1,6 @@
 //! Histories of 100 pages that take in 100 new pages and 20 old ones.
+ghost use Rattle.std.specs.Iterator.{IsFinite};
+
 use crate::references::{reference, references};
 use refused_rows::{Ended, Met};
 use std::alloc::Global;
@@ -23,25 +25,30 @@ pub(crate) fn told(alloc: Global, first: u32, end: u32, time: u64) -> Result<His
     Ok(history)
 }
 
-// Whether it is what a history of the 100 pages was.
+// Whether it is what a history of the 100 pages was. Here and below entries are asked for by number: a loop over all of them at once
+// takes long to prove, since it holds an iterator of each bucket.
 fn is_told(history: &History) -> Result<bool, Ended> {
-    let mut no = 0u32;
-    for entry in history.iter() {
+    for no in 0..PAGES {
         let first = reference(no, FIRST)?;
-        if entry.page != first.page || entry.hist != PageHist::Once(first.stamp) {
+        let known = Entry {
+            page: first.page,
+            hist: PageHist::Once(first.stamp),
+        };
+        if history.at(no as usize) != Some(known) {
             return Ok(false);
         }
-        no = no.wrapping_add(1);
     }
-    Ok(no == PAGES)
+    Ok(history.len() == PAGES as usize)
 }
 
 // Whether it has taken in the others: 200 pages, of which 20 are known twice.
 fn has_more(history: &History) -> bool {
     let mut twice = 0u32;
-    for entry in history.iter() {
-        if let PageHist::Twice(_) = entry.hist {
-            twice = twice.wrapping_add(1);
+    for place in 0..history.len() {
+        if let Some(entry) = history.at(place) {
+            if let PageHist::Twice(_) = entry.hist {
+                twice = twice.wrapping_add(1);
+            }
         }
     }
     history.len() == MORE as usize && twice == PAGES - OLD
@@ -67,15 +74,23 @@ fn join(met: &mut Met, alloc: Global) -> Result<(), Ended> {
     met.holds(has_more(&history), "join takes the other in")
 }
 
-// The entries of a history, in the order of its pages.
-pub(crate) fn entries_of(alloc: Global, history: &History) -> Result<Vec<Entry>, Ended> {
+// What an iterator gives. It takes any, so that it need not be proved for each of the 64 parts of a history's.
+fn list_of<I: Iterator<Item = Entry> + Drop>(alloc: Global, all: I) -> Result<Vec<Entry>, Ended>
+    requires can { I.can_next all }
+    requires ends { IsFinite (I.remaining all) }
+{
     let mut entries = Vec::new(alloc);
-    for entry in history.iter() {
+    for entry in all {
         let Ok(()) = entries.push(entry) else {
             return Err(Ended::NoRoom);
         };
     }
     Ok(entries)
+}
+
+// The entries of a history, in the order of its pages.
+pub(crate) fn entries_of(alloc: Global, history: &History) -> Result<Vec<Entry>, Ended> {
+    list_of(alloc, history.iter())
 }
 
 fn join_entries(met: &mut Met, alloc: Global) -> Result<(), Ended> {

@@ -13,6 +13,8 @@ mod sizes;
 mod summed;
 mod turns;
 
+use nodes::{list_of, opened};
+use references::replica;
 use refused_rows::{Ended, Met, report};
 use std::alloc::Global;
 use std::process::ExitCode;
@@ -29,13 +31,14 @@ fn device(alloc: Global) -> Result<Box<MemDevice>, Ended> {
 }
 
 fn play_nodes(met: &mut Met, alloc: Global) -> Result<(), Ended> {
-    let mut node = nodes::opened(met, alloc, 1, device(alloc)?)?;
-    let mut other = nodes::opened(met, alloc, 2, device(alloc)?)?;
+    let (first, second) = (replica(1)?, replica(2)?);
+    let mut node = opened(met, alloc, first, list_of(alloc, device(alloc)?)?)?;
+    let mut other = opened(met, alloc, second, list_of(alloc, device(alloc)?)?)?;
     nodes::rows(met, alloc, &mut node, &mut other)
 }
 
 fn play_turns<R: Threads + Wait + Sync>(met: &mut Met, rt: &R, alloc: Global) -> Result<(), Ended> {
-    let node = nodes::opened(met, alloc, 1, device(alloc)?)?;
+    let node = opened(met, alloc, replica(1)?, list_of(alloc, device(alloc)?)?)?;
     turns::rows(met, rt, alloc, node)
 }
 

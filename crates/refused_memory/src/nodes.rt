@@ -1,5 +1,5 @@
 //! A pool over a device that is handed in, and a node over that pool, which is asked for each kind of call.
-ghost use Rattle.std.specs.Prelude.{IfOk};
+ghost use Rattle.std.specs.Prelude.{◌≡◌, IfOk, length};
 
 use crate::references::{reference, references, replica};
 use refused_rows::{Ended, Met};
@@ -9,20 +9,30 @@ use warm_frames::{Frame, SUM_SIZE, SumTable};
 use warm_gossip::{Call, Node, NodeFault, Reply, Shown};
 use warm_history::PageHist;
 use warm_pool::{MAX_DEVICES, Pool, PoolFault, Slot};
-use warm_stamps::{BUCKETS, Bucket, ByteList, PageId, RefList};
+use warm_stamps::{BUCKETS, Bucket, ByteList, PageId, RefList, ReplicaId};
+
+// One device.
+pub(crate) fn list_of(
+    alloc: Global,
+    device: Box<dyn PageDevice + Send>,
+) -> Result<Vec<Box<dyn PageDevice + Send>>, Ended>
+    ensures { IfOk result (λ devices. length devices.items ≡ 1) }
+{
+    let mut devices = Vec::with_capacity(alloc, 1)?;
+    devices.push_reserved(device);
+    Ok(devices)
+}
 
 // A node of two frames over the device. A pool that is refused hands the device back, over which it is asked for once more.
 pub(crate) fn opened(
     met: &mut Met,
     alloc: Global,
-    number: u16,
-    device: Box<dyn PageDevice + Send>,
+    id: ReplicaId,
+    devices: Vec<Box<dyn PageDevice + Send>>,
 ) -> Result<Node, Ended>
+    requires { length devices.items ≡ 1 }
     ensures { IfOk result (λ node. ⟦<Node as Shown>⟧.is_fit node) }
 {
-    let id = replica(number)?;
-    let mut devices = Vec::with_capacity(alloc, 1)?;
-    devices.push_reserved(device);
     let unmade = match Pool::new(alloc, 2, 16, devices) {
         Ok(pool) => return Ok(Node::new(alloc, id, pool)),
         Err(unmade) => unmade,
@@ -56,15 +66,18 @@ fn time_of(hist: PageHist) -> u64 {
 fn face(node: &Node) -> (usize, u64, Option<PageId>)
     requires { ⟦<Node as Shown>⟧.is_fit node.now }
 {
+    let history = node.history();
     let mut sum = 0u64;
-    for entry in node.history().iter() {
-        sum = sum
-            .wrapping_mul(31)
-            .wrapping_add(u64::from(entry.page.no))
-            .wrapping_mul(31)
-            .wrapping_add(time_of(entry.hist));
+    for place in 0..history.len() {
+        if let Some(entry) = history.at(place) {
+            sum = sum
+                .wrapping_mul(31)
+                .wrapping_add(u64::from(entry.page.no))
+                .wrapping_mul(31)
+                .wrapping_add(time_of(entry.hist));
+        }
     }
-    (node.history().len(), sum, node.victim())
+    (history.len(), sum, node.victim())
 }
 
 fn page(no: u32) -> PageId {
@@ -78,6 +91,17 @@ const FIRST: Slot = Slot {
 };
 
 const CALLS: usize = 14;
+
+// A write to the page that is at `FIRST`.
+fn write_call(alloc: Global) -> Result<Call, Ended> {
+    let mut bytes = Vec::new(alloc);
+    bytes.extend_from_slice(b"warm")?;
+    Ok(Call::Write {
+        slot: FIRST,
+        at: 2,
+        bytes: ByteList::of(bytes),
+    })
+}
 
 // Calls of each kind, one after the other, on a node of replica 1.
 fn call_at(alloc: Global, place: usize) -> Result<Call, Ended> {
@@ -106,22 +130,14 @@ fn call_at(alloc: Global, place: usize) -> Result<Call, Ended> {
             at: 0,
             len: 4,
         },
-        10 => {
-            let mut bytes = Vec::new(alloc);
-            bytes.extend_from_slice(b"warm")?;
-            Call::Write {
-                slot: FIRST,
-                at: 2,
-                bytes: ByteList::of(bytes),
-            }
-        }
+        10 => write_call(alloc)?,
         11 => Call::Unpin(FIRST),
         12 => Call::Victim,
         _ => Call::Restart,
     })
 }
 
-// Whether the papers of the calls say that this one takes no memory.
+// Whether this call is documented to take no memory.
 fn is_free(place: usize) -> bool {
     place == 0 || place >= 10
 }
