@@ -17,22 +17,6 @@ use warm_history::History;
 use warm_pool::Pool;
 use warm_stamps::ReplicaId;
 
-// The reply that what a call gave is made into, or why the call is refused: by a match, since each `?` here is two calls to prove.
-macro_rules! answered {
-    ($result:expr) => {
-        match $result {
-            Ok(()) => Ok(Reply::Done),
-            Err(why) => Err(why),
-        }
-    };
-    ($result:expr, $reply:path) => {
-        match $result {
-            Ok(given) => Ok($reply(given)),
-            Err(why) => Err(why),
-        }
-    };
-}
-
 /// One replica: the history of the references that reached it, and its buffer pool, which that history ranks.
 ///
 /// It keeps the sums of its history's buckets, and the list of pages by which it warms up, until it takes something in or restarts:
@@ -157,18 +141,30 @@ impl Node {
         ensures settled { OnOk result (call ≡ Restart → IsAtRest state self.new) }
     {
         match call {
-            Call::Absorb(batch) => answered!(self.absorb(batch.as_slice())),
-            Call::Send { bucket, after } => answered!(self.send(bucket, after), Reply::Sent),
-            Call::Offer => answered!(self.offer(), Reply::Sent),
-            Call::Receive(frame) => answered!(self.receive(frame), Reply::Answers),
-            Call::Pin(page) => answered!(self.pin(page), Reply::Pinned),
-            Call::Unpin(slot) => answered!(self.unpin(slot)),
-            Call::Read { slot, at, len } => answered!(self.read(slot, at, len), Reply::Bytes),
-            Call::Write { slot, at, bytes } => answered!(self.write(slot, at, bytes.as_slice())),
+            Call::Absorb(batch) => {
+                self.absorb(batch.as_slice())?;
+                Ok(Reply::Done)
+            }
+            Call::Send { bucket, after } => Ok(Reply::Sent(self.send(bucket, after)?)),
+            Call::Offer => Ok(Reply::Sent(self.offer()?)),
+            Call::Receive(frame) => Ok(Reply::Answers(self.receive(frame)?)),
+            Call::Pin(page) => Ok(Reply::Pinned(self.pin(page)?)),
+            Call::Unpin(slot) => {
+                self.unpin(slot)?;
+                Ok(Reply::Done)
+            }
+            Call::Read { slot, at, len } => Ok(Reply::Bytes(self.read(slot, at, len)?)),
+            Call::Write { slot, at, bytes } => {
+                self.write(slot, at, bytes.as_slice())?;
+                Ok(Reply::Done)
+            }
             Call::Victim => Ok(Reply::Page(self.victim())),
-            Call::WarmList(n) => answered!(self.warm_list(n), Reply::Pages),
-            Call::WarmStep => answered!(self.warm_step(), Reply::Loaded),
-            Call::Restart => answered!(self.restart()),
+            Call::WarmList(n) => Ok(Reply::Pages(self.warm_list(n)?)),
+            Call::WarmStep => Ok(Reply::Loaded(self.warm_step()?)),
+            Call::Restart => {
+                self.restart()?;
+                Ok(Reply::Done)
+            }
         }
     }
 
