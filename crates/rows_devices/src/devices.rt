@@ -12,19 +12,13 @@ fn a_device_in_memory_keeps_its_pages(rt: HostRuntime) {
         "room for a box",
     );
     let mut page = [9; 2];
-    assert_eq!(rt;
-        (device.pages(), device.page_size(), device.failures()),
-        (4, 2, 0)
-    );
-    assert_eq!(rt; (device.read(1, &mut page), page), (Ok(()), [0; 2]));
-    assert_eq!(rt; device.waiting(), false);
-    assert_eq!(rt;
-        (device.write(1, &[7, 8]), device.waiting()),
-        (Ok(()), true)
-    );
-    assert_eq!(rt; (device.read(1, &mut page), page), (Ok(()), [7, 8]));
-    assert_eq!(rt; device.flush(), Ok(()));
-    assert_eq!(rt; device.waiting(), false);
+    assert!(rt; (device.pages(), device.page_size(), device.failures()) == (4, 2, 0));
+    assert!(rt; (device.read(1, &mut page), page) == (Ok(()), [0; 2]));
+    assert!(rt; device.waiting() == false);
+    assert!(rt; (device.write(1, &[7, 8]), device.waiting()) == (Ok(()), true));
+    assert!(rt; (device.read(1, &mut page), page) == (Ok(()), [7, 8]));
+    assert!(rt; device.flush() == Ok(()));
+    assert!(rt; device.waiting() == false);
     let_go(device);
 }
 
@@ -33,16 +27,10 @@ fn the_chosen_write_tears_its_page(rt: HostRuntime) {
     let inner = MemDevice::new(rt.alloc(), 4, 2).expect(&rt, "room for pages");
     let mut device = Flaky::new(inner, 2);
     let mut page = [0; 2];
-    assert_eq!(rt; device.write(1, &[7, 8]), Ok(()));
-    assert_eq!(rt;
-        (device.write(1, &[9, 9]), device.failures()),
-        (Err(DeviceFault::Write), 1)
-    );
-    assert_eq!(rt; (device.read(1, &mut page), page), (Ok(()), [0xEE; 2]));
-    assert_eq!(rt;
-        (device.write(1, &[9, 9]), device.flush()),
-        (Ok(()), Ok(()))
-    );
+    assert!(rt; device.write(1, &[7, 8]) == Ok(()));
+    assert!(rt; (device.write(1, &[9, 9]), device.failures()) == (Err(DeviceFault::Write), 1));
+    assert!(rt; (device.read(1, &mut page), page) == (Ok(()), [0xEE; 2]));
+    assert!(rt; (device.write(1, &[9, 9]), device.flush()) == (Ok(()), Ok(())));
 }
 
 #[test]
@@ -50,28 +38,25 @@ fn the_chosen_call_may_be_a_read(rt: HostRuntime) {
     let inner = MemDevice::new(rt.alloc(), 1, 1).expect(&rt, "room for a page");
     let mut device = Flaky::new(inner, 1);
     let mut page = [3; 1];
-    assert_eq!(rt; device.read(0, &mut page), Err(DeviceFault::Read));
-    assert_eq!(rt; device.read(0, &mut page), Ok(()));
+    assert!(rt; device.read(0, &mut page) == Err(DeviceFault::Read));
+    assert!(rt; device.read(0, &mut page) == Ok(()));
 }
 
 #[test]
 fn the_chosen_call_may_be_a_flush(rt: HostRuntime) {
     let inner = MemDevice::new(rt.alloc(), 1, 1).expect(&rt, "room for a page");
     let mut device = Flaky::new(inner, 2);
-    assert_eq!(rt; device.write(0, &[5]), Ok(()));
-    assert_eq!(rt;
-        (device.flush(), device.waiting()),
-        (Err(DeviceFault::Flush), true)
-    );
+    assert!(rt; device.write(0, &[5]) == Ok(()));
+    assert!(rt; (device.flush(), device.waiting()) == (Err(DeviceFault::Flush), true));
 }
 
 #[test]
 fn no_call_may_be_chosen(rt: HostRuntime) {
     let inner = MemDevice::new(rt.alloc(), 1, 1).expect(&rt, "room for a page");
     let mut device = Flaky::new(inner, 0);
-    assert_eq!(rt; device.write(0, &[5]), Ok(()));
+    assert!(rt; device.write(0, &[5]) == Ok(()));
     device.settle();
-    assert_eq!(rt; (device.waiting(), device.failures()), (false, 0));
+    assert!(rt; (device.waiting(), device.failures()) == (false, 0));
 }
 
 #[test]
@@ -79,27 +64,27 @@ fn a_file_keeps_a_dropped_devices_bytes(rt: HostRuntime) {
     let path = "kept.pages";
     let mut device = FileDevice::open(&rt, path, 8, 16).expect(&rt, "opened");
     let bytes = [0x5A; 16];
-    assert_eq!(rt; device.write(3, &bytes), Ok(()));
+    assert!(rt; device.write(3, &bytes) == Ok(()));
     drop(device);
     let mut device = FileDevice::open(&rt, path, 8, 16).expect(&rt, "opened again");
     let mut page = [0; 16];
-    assert_eq!(rt; device.read(3, &mut page), Ok(()));
-    assert_eq!(rt; page, bytes);
-    assert_eq!(rt; device.read(7, &mut page), Ok(()));
-    assert_eq!(rt; page, [0; 16]);
-    assert_eq!(rt; (device.waiting(), device.failures()), (false, 0));
+    assert!(rt; device.read(3, &mut page) == Ok(()));
+    assert!(rt; page == bytes);
+    assert!(rt; device.read(7, &mut page) == Ok(()));
+    assert!(rt; page == [0; 16]);
+    assert!(rt; (device.waiting(), device.failures()) == (false, 0));
     drop(device);
     let file = fs::metadata(&rt, path).expect(&rt, "the file stands");
-    assert_eq!(rt; file.len(), 128);
+    assert!(rt; file.len() == 128);
     fs::remove_file(&rt, path).expect(&rt, "the file goes");
 }
 
 #[test]
 fn a_file_that_cannot_be_opened(rt: HostRuntime) {
     let missing = FileDevice::open(&rt, "no-such-folder/pages", 8, 16);
-    assert_eq!(rt; missing.err(), Some(OpenFault::Open));
+    assert!(rt; missing.err() == Some(OpenFault::Open));
     let too_large = FileDevice::open(&rt, "never-made.pages", u32::MAX, 1 << 40);
-    assert_eq!(rt; too_large.err(), Some(OpenFault::Open));
+    assert!(rt; too_large.err() == Some(OpenFault::Open));
 }
 
 #[test]
@@ -109,12 +94,12 @@ fn faults_have_their_numbers_and_names(rt: HostRuntime) {
         (DeviceFault::Write, 2, "Write"),
         (DeviceFault::Flush, 3, "Flush"),
     ] {
-        assert_eq!(rt; (fault.code(), fault.name()), (code, name));
+        assert!(rt; (fault.code(), fault.name()) == (code, name));
     }
     for (fault, code, name) in [
         (OpenFault::Memory, 1, "Memory"),
         (OpenFault::Open, 2, "Open"),
     ] {
-        assert_eq!(rt; (fault.code(), fault.name()), (code, name));
+        assert!(rt; (fault.code(), fault.name()) == (code, name));
     }
 }

@@ -29,12 +29,9 @@ fn noting(
 #[test]
 fn a_drop_is_noted_before_it_settles(rt: HostRuntime) {
     let (mut device, note) = noting(&rt, rt.alloc(), 3, 2);
-    assert_eq!(rt;
-        (device.write(2, &[7, 8]), note.found()),
-        (Ok(()), Found::NoDrop)
-    );
+    assert!(rt; (device.write(2, &[7, 8]), note.found()) == (Ok(()), Found::NoDrop));
     drop(device);
-    assert_eq!(rt; note.found(), Found::Waiting);
+    assert!(rt; note.found() == Found::Waiting);
     assert!(rt; note.has(2, &[7, 8]) && note.has(0, &[0, 0]));
     assert!(rt; !note.has(2, &[7, 9]) && !note.has(2, &[7]) && !note.has(3, &[0, 0]));
 }
@@ -43,10 +40,7 @@ fn a_drop_is_noted_before_it_settles(rt: HostRuntime) {
 fn found_as_call_fails(rt: &impl Abort, alloc: Global, number: u64) -> Found {
     let (device, note) = noting(rt, alloc, 1, 1);
     let mut device = Flaky::new(device, number);
-    assert_eq!(rt;
-        (device.write(0, &[5]), note.found()),
-        (Ok(()), Found::NoDrop)
-    );
+    assert!(rt; (device.write(0, &[5]), note.found()) == (Ok(()), Found::NoDrop));
     drop(device);
     assert!(rt; note.has(0, &[5]));
     note.found()
@@ -59,9 +53,8 @@ fn a_flaky_device_settles_as_it_is_dropped(rt: HostRuntime) {
         (2, Found::Waiting),
         (3, Found::Settled),
     ] {
-        assert_eq!(rt;
-            found_as_call_fails(&rt, rt.alloc(), number),
-            want,
+        assert!(rt;
+            found_as_call_fails(&rt, rt.alloc(), number) == want,
             "call {number} fails"
         );
     }
@@ -71,7 +64,7 @@ fn a_flaky_device_settles_as_it_is_dropped(rt: HostRuntime) {
 fn a_flush_that_fails_is_counted(rt: HostRuntime) {
     let (device, _note) = noting(&rt, rt.alloc(), 1, 1);
     let mut device = Flaky::new(device, 2);
-    assert_eq!(rt; device.write(0, &[5]), Ok(()));
+    assert!(rt; device.write(0, &[5]) == Ok(()));
     device.settle();
-    assert_eq!(rt; (device.waiting(), device.failures()), (true, 1));
+    assert!(rt; (device.waiting(), device.failures()) == (true, 1));
 }

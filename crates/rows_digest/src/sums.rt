@@ -68,7 +68,7 @@ fn has_sums(rt: &impl Abort, table: &SumTable, bucket_1: [u8; 32], bucket_7: [u8
             7 => bucket_7,
             _ => OF_NOTHING,
         };
-        assert_eq!(rt; table.sum(bucket), want);
+        assert!(rt; table.sum(bucket) == want);
     }
 }
 
@@ -176,7 +176,7 @@ fn keeps(rt: &impl Abort, summed: &mut SummedHistory, bucket_1: [u8; 32], bucket
 fn keeps_those_taken_anew(rt: &impl Abort, alloc: Global, summed: &mut SummedHistory) {
     let anew = taken_anew(rt, alloc, summed.history());
     let kept = summed.sums().expect(rt, "room for the sums");
-    assert_eq!(rt; kept, anew);
+    assert!(rt; kept == anew);
 }
 
 // So many pages come as references.
@@ -206,9 +206,9 @@ fn kept_sums_are_those_of_the_history(rt: HostRuntime) {
     is_told(&rt, rt.alloc(), &mut summed, 3, 1);
     is_told(&rt, rt.alloc(), &mut summed, 1000, 100);
     hears(&rt, rt.alloc(), &mut summed, 2000, 100);
-    assert_eq!(rt; summed.history().len(), 205);
+    assert!(rt; summed.history().len() == 205);
     summed.clear();
-    assert_eq!(rt; summed.history().len(), 0);
+    assert!(rt; summed.history().len() == 0);
     keeps(&rt, &mut summed, OF_NOTHING, OF_NOTHING);
 }
 
@@ -222,16 +222,16 @@ fn sums_of(rt: &impl Abort, alloc: Global, batch: &[Reference]) -> SumTable {
 fn differing_buckets_are_set_bits(rt: HostRuntime) {
     let empty = sums_of(&rt, rt.alloc(), &[]);
     let one_page = sums_of(&rt, rt.alloc(), &[reference(&rt, 0, 1, 10)]);
-    assert_eq!(rt; differing(&one_page, &empty), 2);
-    assert_eq!(rt; differing(&empty, &one_page), 2);
-    assert_eq!(rt; differing(&one_page, &one_page), 0);
+    assert!(rt; differing(&one_page, &empty) == 2);
+    assert!(rt; differing(&empty, &one_page) == 2);
+    assert!(rt; differing(&one_page, &one_page) == 0);
     let more = [
         reference(&rt, 0, 1, 10),
         reference(&rt, 0, 63, 10),
         reference(&rt, 64, 0, 10),
     ];
     let more = sums_of(&rt, rt.alloc(), &more);
-    assert_eq!(rt; differing(&more, &one_page), 0x8000_0000_0000_0001);
+    assert!(rt; differing(&more, &one_page) == 0x8000_0000_0000_0001);
 }
 
 // Run again with each growth refused in turn: `rt try --test --fail-alloc N -- a_refused_growth`.
@@ -241,12 +241,12 @@ fn a_refused_growth_changes_no_sum(rt: HostRuntime) {
     let batch = four_pages(&rt);
     let mut summed = SummedHistory::new(rt.alloc());
     if summed.absorb(&batch).is_err() {
-        assert_eq!(rt; summed.history().len(), 0);
+        assert!(rt; summed.history().len() == 0);
         keeps(&rt, &mut summed, OF_NOTHING, OF_NOTHING);
         summed.absorb(&batch).expect(&rt, "room for a batch");
     }
     if summed.sums().is_err() {
-        assert_eq!(rt; summed.history().len(), 4);
+        assert!(rt; summed.history().len() == 4);
     }
     keeps(&rt, &mut summed, OF_THREE_PAGES, OF_0_7);
 }

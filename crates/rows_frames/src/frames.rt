@@ -68,7 +68,7 @@ fn fault(alloc: Global, bytes: &[u8]) -> Option<FrameFault> {
 
 // The frame has this spelling.
 fn is_spelled(rt: &impl Abort, alloc: Global, frame: &Frame, bytes: &[u8]) {
-    assert_eq!(rt; encoded(rt, alloc, frame).as_slice(), bytes);
+    assert!(rt; encoded(rt, alloc, frame).as_slice() == bytes);
 }
 
 // What a frame of entries says.
@@ -86,11 +86,8 @@ fn entries_have_one_spelling(rt: HostRuntime) {
     let frame = decoded(rt.alloc(), &TWICE).expect(&rt, "a frame");
     is_spelled(&rt, rt.alloc(), &frame, &TWICE);
     let (sender, entries) = said_in(&rt, frame);
-    assert_eq!(rt; sender.get(), 1);
-    assert_eq!(rt;
-        entries.into_entries().as_slice(),
-        [Entry { page, hist }].as_slice()
-    );
+    assert!(rt; sender.get() == 1);
+    assert!(rt; entries.into_entries().as_slice() == [Entry { page, hist }].as_slice());
 }
 
 #[test]
@@ -98,7 +95,7 @@ fn nothing_takes_no_memory(rt: HostRuntime) {
     let frame = decode(rt.alloc(), &NOTHING).expect(&rt, "a frame");
     is_spelled(&rt, rt.alloc(), &frame, &NOTHING);
     let (sender, entries) = said_in(&rt, frame);
-    assert_eq!(rt; (sender.get(), entries.as_slice().len()), (3, 0));
+    assert!(rt; (sender.get(), entries.as_slice().len()) == (3, 0));
 }
 
 #[test]
@@ -108,7 +105,7 @@ fn a_wish_takes_no_memory(rt: HostRuntime) {
     let Frame::Want { sender, mask } = frame else {
         panic!(rt; "another kind");
     };
-    assert_eq!(rt; (sender.get(), mask), (2, 6));
+    assert!(rt; (sender.get(), mask) == (2, 6));
 }
 
 // The bytes of sender 64's table of sums.
@@ -126,19 +123,16 @@ fn sums_stand_bucket_0_first(rt: HostRuntime) {
     sums[0] = [7; 32];
     sums[63][31] = 9;
     let bytes = table_bytes(&rt, rt.alloc(), sums);
-    assert_eq!(rt; bytes.len(), 2059);
+    assert!(rt; bytes.len() == 2059);
     assert!(rt; bytes.as_slice().starts_with(&header));
-    assert_eq!(rt;
-        (bytes[11], bytes[42], bytes[43], bytes[2058]),
-        (7, 7, 0, 9)
-    );
+    assert!(rt; (bytes[11], bytes[42], bytes[43], bytes[2058]) == (7, 7, 0, 9));
     let Frame::Digest { sender, sums: read } = decode(rt.alloc(), &bytes).expect(&rt, "a frame")
     else {
         panic!(rt; "another kind");
     };
-    assert_eq!(rt; sender.get(), 64);
-    assert_eq!(rt; read.sum(first), [7; 32]);
-    assert_eq!(rt; read, SumTable::of(sums));
+    assert!(rt; sender.get() == 64);
+    assert!(rt; read.sum(first) == [7; 32]);
+    assert!(rt; read == SumTable::of(sums));
 }
 
 #[test]
@@ -158,22 +152,25 @@ fn a_changed_byte_is_refused(rt: HostRuntime) {
     for (place, value, want) in rows {
         let mut bytes = TWICE;
         bytes[place % 42] = value;
-        assert_eq!(rt; fault(rt.alloc(), &bytes), Some(want), "{value} at {place}");
+        assert!(rt;
+            fault(rt.alloc(), &bytes) == Some(want),
+            "{value} at {place}"
+        );
     }
     let mut bytes = TWICE;
     (bytes[13], bytes[14]) = (3, 0xE9);
-    assert_eq!(rt; fault(rt.alloc(), &bytes), Some(FrameFault::BadCount));
+    assert!(rt; fault(rt.alloc(), &bytes) == Some(FrameFault::BadCount));
 }
 
 #[test]
 fn a_part_is_truncated_and_a_byte_more_is_refused(rt: HostRuntime) {
     for len in 0..TWICE.len() {
         let found = fault(rt.alloc(), &TWICE[..len]);
-        assert_eq!(rt; found, Some(FrameFault::Truncated), "of {len} bytes");
+        assert!(rt; found == Some(FrameFault::Truncated), "of {len} bytes");
     }
     let mut longer = [0; 43];
     longer[..42].copy_from_slice(&TWICE);
-    assert_eq!(rt; fault(rt.alloc(), &longer), Some(FrameFault::BadLength));
+    assert!(rt; fault(rt.alloc(), &longer) == Some(FrameFault::BadLength));
 }
 
 #[test]
@@ -183,9 +180,8 @@ fn pages_have_to_rise(rt: HostRuntime) {
     for no in [6, 7] {
         let mut bytes = RISING;
         bytes[37] = no;
-        assert_eq!(rt;
-            fault(rt.alloc(), &bytes),
-            Some(FrameFault::BadOrder),
+        assert!(rt;
+            fault(rt.alloc(), &bytes) == Some(FrameFault::BadOrder),
             "0:{no}"
         );
     }
@@ -216,8 +212,8 @@ fn list_of_1000(rt: &impl Abort, alloc: Global) -> EntryList {
 #[test]
 fn a_list_has_at_most_1000_entries(rt: HostRuntime) {
     let back = EntryList::of(rising(&rt, rt.alloc(), 1001)).err();
-    assert_eq!(rt; back.map(|entries| entries.len()), Some(1001));
-    assert_eq!(rt; list_of_1000(&rt, rt.alloc()).as_slice().len(), 1000);
+    assert!(rt; back.map(|entries| entries.len()) == Some(1001));
+    assert!(rt; list_of_1000(&rt, rt.alloc()).as_slice().len() == 1000);
 }
 
 // The bytes of a frame in which sender 1 has 1000 entries.
@@ -235,17 +231,14 @@ fn a_frame_of_1000_entries_both_ways(rt: HostRuntime) {
     ];
     let last = [0, 0, 0, 0, 3, 0xE7, 1, 0, 0, 0, 0, 0, 0, 0, 20, 0, 1];
     let bytes = bytes_of_1000(&rt, rt.alloc());
-    assert_eq!(rt; bytes.len(), 11 + 4 + 1000 * 17);
+    assert!(rt; bytes.len() == 11 + 4 + 1000 * 17);
     assert!(rt; bytes.as_slice().starts_with(&header));
     assert!(rt; bytes.as_slice().ends_with(&last));
 
     let frame = decoded(rt.alloc(), &bytes).expect(&rt, "a frame");
     let (sender, entries) = said_in(&rt, frame);
-    assert_eq!(rt; sender.get(), 1);
-    assert_eq!(rt;
-        entries.as_slice(),
-        rising(&rt, rt.alloc(), 1000).as_slice()
-    );
+    assert!(rt; sender.get() == 1);
+    assert!(rt; entries.as_slice() == rising(&rt, rt.alloc(), 1000).as_slice());
 }
 
 // Room for bytes; where it is refused, asked for once more.
@@ -273,9 +266,9 @@ fn an_entry_has_17_or_27_bytes(rt: HostRuntime) {
     ];
     let mut text = byte_room(&rt, rt.alloc(), 44);
     put_entry(&mut text, &first).expect(&rt, "room for an entry");
-    assert_eq!(rt; text.as_slice(), once.as_slice());
+    assert!(rt; text.as_slice() == once.as_slice());
     put_entry(&mut text, &second).expect(&rt, "room for an entry");
-    assert_eq!(rt; text.len(), 44);
+    assert!(rt; text.len() == 44);
     assert!(rt; text.as_slice().ends_with(&twice));
 }
 
@@ -288,10 +281,7 @@ fn a_list_has_rising_pages(rt: HostRuntime) {
             .push(once(&rt, second))
             .expect(&rt, "room for an entry");
         let back = EntryList::of(entries).err().expect(&rt, "taken");
-        assert_eq!(rt;
-            back.as_slice(),
-            [once(&rt, 7), once(&rt, second)].as_slice()
-        );
+        assert!(rt; back.as_slice() == [once(&rt, 7), once(&rt, second)].as_slice());
     }
 }
 
@@ -311,6 +301,6 @@ fn refusals_have_numbers_and_names(rt: HostRuntime) {
         (FrameFault::Failed, 11, "Failed"),
     ];
     for (fault, code, name) in rows {
-        assert_eq!(rt; (fault.code(), fault.name()), (code, name));
+        assert!(rt; (fault.code(), fault.name()) == (code, name));
     }
 }

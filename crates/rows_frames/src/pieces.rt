@@ -88,7 +88,7 @@ fn frames_in(rt: &impl Abort, alloc: Global, pieces: &[&[u8]]) -> Vec<u8> {
     for piece in pieces {
         feed_all(rt, alloc, &mut decoder, piece, &mut text);
     }
-    assert_eq!(rt; decoder.finish(), Ok(()));
+    assert!(rt; decoder.finish() == Ok(()));
     text
 }
 
@@ -99,11 +99,11 @@ fn a_frame_cut_in_two_and_in_three(rt: HostRuntime) {
             let (front, end) = TWICE.split_at(second);
             let (begin, middle) = front.split_at(first);
             let text = frames_in(&rt, rt.alloc(), &[begin, middle, end]);
-            assert_eq!(rt; text.as_slice(), TWICE.as_slice(), "{first} {second}");
+            assert!(rt; text.as_slice() == TWICE.as_slice(), "{first} {second}");
         }
         let (begin, end) = TWICE.split_at(first);
         let text = frames_in(&rt, rt.alloc(), &[begin, end]);
-        assert_eq!(rt; text.as_slice(), TWICE.as_slice(), "{first}");
+        assert!(rt; text.as_slice() == TWICE.as_slice(), "{first}");
     }
 }
 
@@ -118,15 +118,12 @@ fn a_frame_twice_over(rt: HostRuntime) {
         for piece in both.chunks(size) {
             feed_all(&rt, rt.alloc(), &mut decoder, piece, &mut text);
         }
-        assert_eq!(rt; text.as_slice(), both.as_slice(), "in pieces of {size}");
-        assert_eq!(rt; decoder.finish(), Ok(()));
+        assert!(rt; text.as_slice() == both.as_slice(), "in pieces of {size}");
+        assert!(rt; decoder.finish() == Ok(()));
 
-        assert_eq!(rt;
-            fed(&mut decoder, &[0; 4]).err(),
-            Some(FrameFault::BadMagic)
-        );
-        assert_eq!(rt; fed(&mut decoder, &TWICE).err(), Some(FrameFault::Failed));
-        assert_eq!(rt; decoder.finish(), Err(FrameFault::Failed));
+        assert!(rt; fed(&mut decoder, &[0; 4]).err() == Some(FrameFault::BadMagic));
+        assert!(rt; fed(&mut decoder, &TWICE).err() == Some(FrameFault::Failed));
+        assert!(rt; decoder.finish() == Err(FrameFault::Failed));
     }
 }
 
@@ -137,33 +134,30 @@ fn a_frame_and_a_byte(rt: HostRuntime) {
     bytes[42] = 0x4D;
     let mut decoder = Decoder::new(rt.alloc());
     let whole = fed(&mut decoder, &bytes).expect(&rt, "no fault");
-    assert_eq!(rt; whole.taken, 42);
+    assert!(rt; whole.taken == 42);
     let frame = whole.frame.expect(&rt, "a frame");
     let again = encoded(&rt, rt.alloc(), frame.as_frame());
-    assert_eq!(rt; again.as_slice(), TWICE.as_slice());
+    assert!(rt; again.as_slice() == TWICE.as_slice());
 
     begins(&rt, &mut decoder, &[0x4D]);
-    assert_eq!(rt; decoder.finish(), Err(FrameFault::Truncated));
-    assert_eq!(rt;
-        fed(&mut decoder, &[0; 3]).err(),
-        Some(FrameFault::BadMagic)
-    );
-    assert_eq!(rt; fed(&mut decoder, &[]).err(), Some(FrameFault::Failed));
-    assert_eq!(rt; decoder.finish(), Err(FrameFault::Failed));
+    assert!(rt; decoder.finish() == Err(FrameFault::Truncated));
+    assert!(rt; fed(&mut decoder, &[0; 3]).err() == Some(FrameFault::BadMagic));
+    assert!(rt; fed(&mut decoder, &[]).err() == Some(FrameFault::Failed));
+    assert!(rt; decoder.finish() == Err(FrameFault::Failed));
 }
 
 // The piece is taken whole, and no frame ends with it.
 fn begins(rt: &impl Abort, decoder: &mut Decoder, piece: &[u8]) {
     let begun = fed(decoder, piece).expect(rt, "no fault");
-    assert_eq!(rt; (begun.taken, begun.frame.is_none()), (piece.len(), true));
+    assert!(rt; (begun.taken, begun.frame.is_none()) == (piece.len(), true));
 }
 
 #[test]
 fn a_part_is_not_the_end(rt: HostRuntime) {
     let mut decoder = Decoder::new(rt.alloc());
-    assert_eq!(rt; decoder.finish(), Ok(()));
+    assert!(rt; decoder.finish() == Ok(()));
     begins(&rt, &mut decoder, &TWICE[..41]);
-    assert_eq!(rt; decoder.finish(), Err(FrameFault::Truncated));
+    assert!(rt; decoder.finish() == Err(FrameFault::Truncated));
     begins(&rt, &mut decoder, &[]);
 }
 
@@ -196,14 +190,14 @@ fn a_fault_comes_with_its_byte(rt: HostRuntime) {
         let mut bytes = TWICE;
         bytes[place % 42] = value;
         let found = place_of_fault(rt.alloc(), &bytes);
-        assert_eq!(rt; found, Some((at, fault)), "{value} at {place}");
+        assert!(rt; found == Some((at, fault)), "{value} at {place}");
         let whole = fed(&mut Decoder::new(rt.alloc()), &bytes).err();
-        assert_eq!(rt; whole, Some(fault), "{value} at {place}");
+        assert!(rt; whole == Some(fault), "{value} at {place}");
     }
     // A body of 27,005 bytes is longer than any.
     let long = [0x4C, 0x32, 0x47, 0x31, 1, 0, 1, 0, 0, 0x69, 0x7D];
     let found = place_of_fault(rt.alloc(), &long);
-    assert_eq!(rt; found, Some((10, FrameFault::BadLength)));
+    assert!(rt; found == Some((10, FrameFault::BadLength)));
 }
 
 // Numbers by a linear congruence, the same in each run.
@@ -328,7 +322,7 @@ fn frames_in_any_pieces(
         rest = later;
     }
     feed_all(rt, alloc, &mut decoder, rest, &mut text);
-    assert_eq!(rt; decoder.finish(), Ok(()));
+    assert!(rt; decoder.finish() == Ok(()));
     text
 }
 
@@ -338,7 +332,7 @@ fn pieces_of_any_size(rt: HostRuntime) {
     for _ in 0..100 {
         let stream = any_stream(&rt, rt.alloc(), &mut numbers);
         let text = frames_in_any_pieces(&rt, rt.alloc(), &mut numbers, &stream);
-        assert_eq!(rt; text.as_slice(), stream.as_slice());
+        assert!(rt; text.as_slice() == stream.as_slice());
     }
 }
 
@@ -371,11 +365,11 @@ fn agree(rt: &impl Abort, known: &Known, before: usize, found: &Result<Fed, Fram
     match (known, found) {
         (None, Ok(fed)) => assert!(rt; fed.frame.is_none()),
         (Some((len, Ok(want))), Ok(fed)) => {
-            assert_eq!(rt; before.wrapping_add(fed.taken), *len);
+            assert!(rt; before.wrapping_add(fed.taken) == *len);
             let frame = fed.frame.as_ref().expect(rt, "a frame");
             assert!(rt; same(frame.as_frame(), want));
         }
-        (Some((_, Err(want))), Err(fault)) => assert_eq!(rt; *fault, *want),
+        (Some((_, Err(want))), Err(fault)) => assert!(rt; *fault == *want),
         _ => panic!(rt; "another answer"),
     }
 }

@@ -89,7 +89,7 @@ fn told(rt: &impl Abort, alloc: Global, node: &mut Node, references: &[(u32, u64
     ensures { ⟦<Node as Shown>⟧.is_fit node.new }
 {
     let batch = batch_of(alloc, node.id(), references).expect(rt, "room for the batch");
-    assert_eq!(rt; is_done(node, Call::Absorb(batch)), Ok(()));
+    assert!(rt; is_done(node, Call::Absorb(batch)) == Ok(()));
 }
 
 // The one place where a node is called: what else is asked of it need not know what a call promises.
@@ -195,7 +195,7 @@ fn put(rt: &impl Abort, alloc: Global, node: &mut Node, slot: Slot, at: usize, t
     ensures { ⟦<Node as Shown>⟧.is_fit node.new }
 {
     let bytes = ByteList::of(text.to_vec(alloc).expect(rt, "room for the bytes"));
-    assert_eq!(rt; is_done(node, Call::Write { slot, at, bytes }), Ok(()));
+    assert!(rt; is_done(node, Call::Write { slot, at, bytes }) == Ok(()));
 }
 
 fn answers(rt: &impl Abort, node: &mut Node, frame: Frame) -> Vec<Frame>
@@ -218,7 +218,7 @@ fn visit(rt: &impl Abort, node: &mut Node, no: u32)
     ensures { ⟦<Node as Shown>⟧.is_fit node.new }
 {
     let slot = pinned_at(node, page(no)).expect(rt, "the page is pinned");
-    assert_eq!(rt; is_done(node, Call::Unpin(slot)), Ok(()));
+    assert!(rt; is_done(node, Call::Unpin(slot)) == Ok(()));
 }
 
 // What is asked of a node, and what is to come of it.
@@ -260,24 +260,22 @@ fn shows(rt: &impl Abort, node: &mut Node, row: Row<'_>, at: usize)
     ensures { ⟦<Node as Shown>⟧.is_fit node.new }
 {
     match row {
-        Row::Knows(pages) => assert_eq!(rt; node.history().len(), pages, "row {at}"),
+        Row::Knows(pages) => assert!(rt; node.history().len() == pages, "row {at}"),
         Row::Reads(slot, from, wanted) => {
             let read = bytes(node, slot, from, wanted.len()).expect(rt, "the bytes are read");
-            assert_eq!(rt; read.as_slice(), wanted, "row {at}")
+            assert!(rt; read.as_slice() == wanted, "row {at}")
         }
-        Row::Unread(slot, from, len, fault) => assert_eq!(rt;
-            bytes(node, slot, from, len).err(),
-            Some(fault),
+        Row::Unread(slot, from, len, fault) => assert!(rt;
+            bytes(node, slot, from, len).err() == Some(fault),
             "row {at}"
         ),
-        Row::Victim(wanted) => assert_eq!(rt;
-            page_in(rt, answer(node, Call::Victim)),
-            wanted,
+        Row::Victim(wanted) => assert!(rt;
+            page_in(rt, answer(node, Call::Victim)) == wanted,
             "row {at}"
         ),
         Row::Hottest(pages, wanted) => {
             let hottest = pages_in(rt, answer(node, Call::WarmList(pages)));
-            assert_eq!(rt; hottest.as_slice(), wanted, "row {at}")
+            assert!(rt; hottest.as_slice() == wanted, "row {at}")
         }
         _ => panic!(rt; "no such row"),
     }
@@ -294,14 +292,13 @@ fn meets(rt: &impl Abort, alloc: Global, node: &mut Node, row: Row<'_>, at: usiz
         Row::Offers(references, mask) => offers(rt, alloc, node, references, mask),
         Row::Visits(no) => visit(rt, node, no),
         Row::Writes(slot, from, text) => put(rt, alloc, node, slot, from, text),
-        Row::Pins(page, wanted) => assert_eq!(rt; pinned_at(node, page), wanted, "row {at}"),
-        Row::Unpins(slot) => assert_eq!(rt; is_done(node, Call::Unpin(slot)), Ok(()), "row {at}"),
-        Row::Loads(wanted) => assert_eq!(rt;
-            loaded_in(answer(node, Call::WarmStep)),
-            wanted,
+        Row::Pins(page, wanted) => assert!(rt; pinned_at(node, page) == wanted, "row {at}"),
+        Row::Unpins(slot) => assert!(rt; is_done(node, Call::Unpin(slot)) == Ok(()), "row {at}"),
+        Row::Loads(wanted) => assert!(rt;
+            loaded_in(answer(node, Call::WarmStep)) == wanted,
             "row {at}"
         ),
-        Row::Restarts(wanted) => assert_eq!(rt; is_done(node, Call::Restart), wanted, "row {at}"),
+        Row::Restarts(wanted) => assert!(rt; is_done(node, Call::Restart) == wanted, "row {at}"),
         shown => shows(rt, node, shown, at),
     }
 }
@@ -399,7 +396,7 @@ fn the_greatest_distance_leaves_first(rt: HostRuntime) {
 #[test]
 fn pages_with_a_fix_stay(rt: HostRuntime) {
     let all_fixed = NodeFault::Pool(PoolFault::AllFixed);
-    assert_eq!(rt; (all_fixed.code(), all_fixed.name()), (6, "AllFixed"));
+    assert!(rt; (all_fixed.code(), all_fixed.name()) == (6, "AllFixed"));
     let rows = [
         Row::Pins(page(3), Ok(slot(0, 1))),
         Row::Pins(page(4), Ok(slot(1, 1))),
@@ -440,7 +437,7 @@ fn sent_before_a_restart(rt: &impl Abort, alloc: Global, node: &mut Node) -> Fra
 {
     let frame = sent(rt, node, None);
     let rest = sent(rt, node, Some(page(1)));
-    assert_eq!(rt; (entries_in(&frame), entries_in(&rest)), (1, 0));
+    assert!(rt; (entries_in(&frame), entries_in(&rest)) == (1, 0));
     runs(rt, alloc, node, &[Row::Restarts(Ok(())), Row::Knows(0)]);
     frame
 }
@@ -453,7 +450,7 @@ fn comes_back(rt: &impl Abort, alloc: Global, node: &mut Node)
     let known = node.history().at(0);
     let frame = sent_before_a_restart(rt, alloc, node);
     takes(rt, node, frame);
-    assert_eq!(rt; (node.history().at(0), node.history().len()), (known, 1));
+    assert!(rt; (node.history().at(0), node.history().len()) == (known, 1));
 }
 
 #[test]
@@ -469,7 +466,7 @@ const WANT: [u8; 19] = [
 
 // Two frames, the later one first.
 fn two_of(rt: &impl Abort, mut frames: Vec<Frame>) -> (Frame, Frame) {
-    assert_eq!(rt; frames.len(), 2);
+    assert!(rt; frames.len() == 2);
     let later = frames.pop().expect(rt, "a later frame");
     let earlier = frames.pop().expect(rt, "an earlier frame");
     (later, earlier)
@@ -477,7 +474,7 @@ fn two_of(rt: &impl Abort, mut frames: Vec<Frame>) -> (Frame, Frame) {
 
 fn is_the_wish(rt: &impl Abort, alloc: Global, frame: &Frame) {
     let bytes = encode(alloc, frame).expect(rt, "room for a frame");
-    assert_eq!(rt; bytes.as_slice(), WANT.as_slice());
+    assert!(rt; bytes.as_slice() == WANT.as_slice());
 }
 
 // What the second answers to the sums of the first: its wish, and its entries of a bucket that differs.
@@ -503,7 +500,7 @@ fn takes(rt: &impl Abort, node: &mut Node, frame: Frame)
     requires { ⟦<Node as Shown>⟧.is_fit node.old }
     ensures { ⟦<Node as Shown>⟧.is_fit node.new }
 {
-    assert_eq!(rt; answers(rt, node, frame).len(), 0);
+    assert!(rt; answers(rt, node, frame).len() == 0);
 }
 
 // The first answers the wish with its entries of two buckets, which the second takes, the later ones first.
@@ -519,9 +516,9 @@ fn grants(rt: &impl Abort, first: &mut Node, second: &mut Node, want: Frame)
 }
 
 fn know_the_same(rt: &impl Abort, first: &Node, second: &Node) {
-    assert_eq!(rt; first.history().at(0), second.history().at(0));
-    assert_eq!(rt; first.history().at(1), second.history().at(1));
-    assert_eq!(rt; (first.history().len(), second.history().len()), (2, 2));
+    assert!(rt; first.history().at(0) == second.history().at(0));
+    assert!(rt; first.history().at(1) == second.history().at(1));
+    assert!(rt; (first.history().len(), second.history().len()) == (2, 2));
 }
 
 // Each node is told of a page, and then both of what the other knows.
@@ -578,7 +575,7 @@ fn are_in_thousands(rt: &impl Abort, frames: &[Frame]) {
         [first, second, third] => [entries_in(first), entries_in(second), entries_in(third)],
         _ => panic!(rt; "three frames, and not {}", frames.len()),
     };
-    assert_eq!(rt; lengths, [1000, 1000, 1]);
+    assert!(rt; lengths == [1000, 1000, 1]);
 }
 
 fn answers_in_thousands(rt: &impl Abort, alloc: Global, node: &mut Node)
@@ -586,9 +583,9 @@ fn answers_in_thousands(rt: &impl Abort, alloc: Global, node: &mut Node)
     ensures { ⟦<Node as Shown>⟧.is_fit node.new }
 {
     let batch = of_one_bucket(rt, alloc, node.id(), 2001);
-    assert_eq!(rt; is_done(node, Call::Absorb(batch)), Ok(()));
+    assert!(rt; is_done(node, Call::Absorb(batch)) == Ok(()));
     are_in_thousands(rt, wanted_frames(rt, node, 1).as_slice());
-    assert_eq!(rt; wanted_frames(rt, node, 2).len(), 0);
+    assert!(rt; wanted_frames(rt, node, 2).len() == 0);
 }
 
 #[test]

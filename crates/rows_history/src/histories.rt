@@ -88,11 +88,11 @@ fn keeps_the_two_latest_stamps(rt: HostRuntime) {
         seen(&rt, first, 30, 1),
     ];
     let mut here = History::new(rt.alloc());
-    assert_eq!(rt; here.len(), 0);
+    assert!(rt; here.len() == 0);
     absorb_twice(&rt, &mut here, &rising);
     let latest = twice(&rt, stamp(&rt, 30, 1), stamp(&rt, 20, 1));
-    assert_eq!(rt; (here.at(0), here.at(1)), (Some(entry(1, latest)), None));
-    assert_eq!(rt; here.get(first), here.at(0).map(|entry| entry.hist));
+    assert!(rt; (here.at(0), here.at(1)) == (Some(entry(1, latest)), None));
+    assert!(rt; here.get(first) == here.at(0).map(|entry| entry.hist));
 
     let mut late = History::new(rt.alloc());
     absorb_twice(
@@ -109,8 +109,8 @@ fn keeps_the_two_latest_stamps(rt: HostRuntime) {
         &mut repeated,
         &[seen(&rt, first, 10, 1), seen(&rt, first, 10, 1)],
     );
-    assert_eq!(rt; repeated.get(first), Some(once(&rt, 10, 1)));
-    assert_eq!(rt; repeated.get(page(0, 2)), None);
+    assert!(rt; repeated.get(first) == Some(once(&rt, 10, 1)));
+    assert!(rt; repeated.get(page(0, 2)) == None);
 }
 
 // References to the pages 0:0 to 0:49,999 at the times 0 to 49,999, and again at the 50,000 next.
@@ -131,11 +131,11 @@ fn takes_in_100_000_references_at_once_and_none(rt: HostRuntime) {
     let mut here = History::new(rt.alloc());
     let batch = every_page_twice(&rt, rt.alloc());
     absorb_twice(&rt, &mut here, &batch);
-    assert_eq!(rt; here.len(), 50_000);
+    assert!(rt; here.len() == 50_000);
     for no in [0, 24_999, 49_999u32] {
         let first = u64::from(no);
         let latest = twice(&rt, stamp(&rt, 50_000 + first, 1), stamp(&rt, first, 1));
-        assert_eq!(rt; here.get(page(0, no)), Some(latest));
+        assert!(rt; here.get(page(0, no)) == Some(latest));
     }
     let before = copy_twice(&rt, &here);
     absorb_twice(&rt, &mut here, &[]);
@@ -156,9 +156,9 @@ fn a_copy_equals_its_source_and_stays(rt: HostRuntime) {
     let copied = copy_twice(&rt, &here);
     assert!(rt; are_equal(&rt, &copied, &here));
     absorb_twice(&rt, &mut here, &[seen(&rt, page(1, 1), 6, 4)]);
-    assert_eq!(rt; (here.len(), copied.len()), (2, 1));
+    assert!(rt; (here.len(), copied.len()) == (2, 1));
     let latest = twice(&rt, stamp(&rt, 5, 4), stamp(&rt, 3, 4));
-    assert_eq!(rt; copied.get(page(1, 2)), Some(latest));
+    assert!(rt; copied.get(page(1, 2)) == Some(latest));
 }
 
 #[test]
@@ -171,7 +171,7 @@ fn tells_replicas_apart(rt: HostRuntime) {
         ];
         absorb_twice(&rt, &mut here, &batch);
         let latest = twice(&rt, stamp(&rt, time, 2), stamp(&rt, time, 1));
-        assert_eq!(rt; here.get(page(0, 1)), Some(latest));
+        assert!(rt; here.get(page(0, 1)) == Some(latest));
     }
 }
 
@@ -205,18 +205,18 @@ fn joins_the_two_latest_of_both(rt: HostRuntime) {
         there.join(&before).expect(&rt, "room to join");
     }
     assert!(rt; are_equal(&rt, &here, &there), "both ways give one history");
-    assert_eq!(rt; here.len(), 3);
+    assert!(rt; here.len() == 3);
     let latest = twice(&rt, stamp(&rt, 30, 2), stamp(&rt, 20, 1));
-    assert_eq!(rt; here.get(first), Some(latest));
-    assert_eq!(rt; here.get(page(0, 2)), Some(once(&rt, 2, 2)));
-    assert_eq!(rt; here.get(page(0, 3)), Some(once(&rt, 1, 1)));
+    assert!(rt; here.get(first) == Some(latest));
+    assert!(rt; here.get(page(0, 2)) == Some(once(&rt, 2, 2)));
+    assert!(rt; here.get(page(0, 3)) == Some(once(&rt, 1, 1)));
 }
 
 // Joins entries to the empty history; where memory is refused, sees that it is still empty.
 fn joined_to_none(rt: &impl Abort, alloc: Global, more: &[Entry]) -> History {
     let mut here = History::new(alloc);
     if here.join_entries(more).is_err() {
-        assert_eq!(rt; here.len(), 0, "refused entries left something");
+        assert!(rt; here.len() == 0, "refused entries left something");
         here.join_entries(more).expect(rt, "room for entries");
     }
     here
@@ -227,9 +227,9 @@ fn joins_entries_in_any_order(rt: HostRuntime) {
     let rising = [entry(1, once(&rt, 8, 1)), entry(2, once(&rt, 7, 1))];
     let falling = [entry(2, once(&rt, 7, 1)), entry(1, once(&rt, 8, 1))];
     let here = joined_to_none(&rt, rt.alloc(), &rising);
-    assert_eq!(rt; here.len(), 2);
-    assert_eq!(rt; here.at(0), Some(entry(1, once(&rt, 8, 1))));
-    assert_eq!(rt; here.at(1), Some(entry(2, once(&rt, 7, 1))));
+    assert!(rt; here.len() == 2);
+    assert!(rt; here.at(0) == Some(entry(1, once(&rt, 8, 1))));
+    assert!(rt; here.at(1) == Some(entry(2, once(&rt, 7, 1))));
     let there = joined_to_none(&rt, rt.alloc(), &falling);
     assert!(rt; are_equal(&rt, &here, &there));
 }
@@ -268,8 +268,14 @@ fn gives_the_entries_of_a_bucket(rt: HostRuntime) {
     for (number, after, first, second) in rows {
         let bucket = Bucket::new(number).expect(&rt, "a bucket");
         let found = entries_twice(&rt, &here, bucket, after, 2);
-        assert_eq!(rt; found.get(0).map(|entry| entry.page), first, "of {number}");
-        assert_eq!(rt; found.get(1).map(|entry| entry.page), second, "of {number}");
+        assert!(rt;
+            found.get(0).map(|entry| entry.page) == first,
+            "of {number}"
+        );
+        assert!(rt;
+            found.get(1).map(|entry| entry.page) == second,
+            "of {number}"
+        );
         assert!(rt; found.len() <= 2);
     }
 }
@@ -283,11 +289,8 @@ fn goes_over_pages_in_order(rt: HostRuntime) {
         &[seen(&rt, page(0, 9), 4, 1), seen(&rt, page(0, 2), 5, 1)],
     );
     let found = walked(&here);
-    assert_eq!(rt;
-        (found[0], found[1], found[2]),
-        (here.at(0), here.at(1), None)
-    );
-    assert_eq!(rt; here.get(page(0, 2)), Some(once(&rt, 5, 1)));
+    assert!(rt; (found[0], found[1], found[2]) == (here.at(0), here.at(1), None));
+    assert!(rt; here.get(page(0, 2)) == Some(once(&rt, 5, 1)));
 }
 
 #[test]
@@ -297,11 +300,11 @@ fn joins_what_is_kept_of_a_page(rt: HostRuntime) {
     let seven = stamp(&rt, 7, 1);
     assert!(rt; five < six && six < seven);
     let two = Two::new(six, five);
-    assert_eq!(rt; two.with(seven), Two::new(seven, six));
-    assert_eq!(rt; two.with(six), two);
-    assert_eq!(rt; (two.last(), two.prev()), (six, five));
+    assert!(rt; two.with(seven) == Two::new(seven, six));
+    assert!(rt; two.with(six) == two);
+    assert!(rt; (two.last(), two.prev()) == (six, five));
     let joined = join_hist(PageHist::Twice(two), PageHist::Once(seven));
-    assert_eq!(rt; joined, PageHist::Twice(Two::new(seven, six)));
+    assert!(rt; joined == PageHist::Twice(Two::new(seven, six)));
 }
 
 #[test]
@@ -318,11 +321,11 @@ fn a_refused_batch_leaves_the_hundred_pages(rt: HostRuntime) {
     let mut here = History::new(rt.alloc());
     absorb_twice(&rt, &mut here, &first);
     absorb_twice(&rt, &mut here, &batch);
-    assert_eq!(rt; here.len(), 200);
-    assert_eq!(rt; here.get(page(0, 2)), Some(once(&rt, 10, 1)));
-    assert_eq!(rt; here.get(page(0, 3)), Some(once(&rt, 20, 1)));
+    assert!(rt; here.len() == 200);
+    assert!(rt; here.get(page(0, 2)) == Some(once(&rt, 10, 1)));
+    assert!(rt; here.get(page(0, 3)) == Some(once(&rt, 20, 1)));
     let both = twice(&rt, stamp(&rt, 20, 1), stamp(&rt, 10, 1));
-    assert_eq!(rt; here.get(page(0, 10)), Some(both));
+    assert!(rt; here.get(page(0, 10)) == Some(both));
 }
 
 // Pages of several devices and buckets, in page order: each with the number of its bucket.
@@ -352,22 +355,21 @@ fn spread(rt: &impl Abort, alloc: Global) -> History {
 #[test]
 fn goes_over_devices_and_buckets_in_page_order(rt: HostRuntime) {
     let here = spread(&rt, rt.alloc());
-    assert_eq!(rt; here.len(), 9);
+    assert!(rt; here.len() == 9);
     let found = walked(&here);
     for time in 0..9usize {
         let (dev, no, number) = SPREAD[time];
         let page = page(dev, no);
-        assert_eq!(rt; bucket_of(page).get(), number);
-        assert_eq!(rt; here.get(page), Some(once(&rt, time as u64, 1)));
-        assert_eq!(rt;
-            found[time].map(|entry| (entry.page, Some(entry.hist))),
-            Some((page, here.get(page)))
+        assert!(rt; bucket_of(page).get() == number);
+        assert!(rt; here.get(page) == Some(once(&rt, time as u64, 1)));
+        assert!(rt;
+            found[time].map(|entry| (entry.page, Some(entry.hist))) == Some((page, here.get(page)))
         );
-        assert_eq!(rt; here.at(time), found[time]);
+        assert!(rt; here.at(time) == found[time]);
     }
-    assert_eq!(rt; found[9], None);
-    assert_eq!(rt; here.at(9), None);
-    assert_eq!(rt; here.get(page(65_535, 0)), None);
+    assert!(rt; found[9] == None);
+    assert!(rt; here.at(9) == None);
+    assert!(rt; here.get(page(65_535, 0)) == None);
 }
 
 #[test]
@@ -378,12 +380,12 @@ fn goes_over_all_in_some_order(rt: HostRuntime) {
         for time in 0..9usize {
             let (dev, no, _) = SPREAD[time];
             if entry.page == page(dev, no) {
-                assert_eq!(rt; entry.hist, once(&rt, time as u64, 1));
+                assert!(rt; entry.hist == once(&rt, time as u64, 1));
                 found[time] = found[time].wrapping_add(1);
             }
         }
     }
-    assert_eq!(rt; found, [1; 9]);
+    assert!(rt; found == [1; 9]);
 }
 
 #[test]
@@ -414,10 +416,9 @@ fn gives_those_after_a_page_of_any_bucket(rt: HostRuntime) {
     for (number, after, limit, first, count) in rows {
         let bucket = Bucket::new(number).expect(&rt, "a bucket");
         let found = entries_twice(&rt, &here, bucket, Some(after), limit);
-        assert_eq!(rt; found.len(), count, "bucket {number} after {after:?}");
-        assert_eq!(rt;
-            found.get(0).map(|entry| entry.page),
-            first,
+        assert!(rt; found.len() == count, "bucket {number} after {after:?}");
+        assert!(rt;
+            found.get(0).map(|entry| entry.page) == first,
             "bucket {number} after {after:?}"
         );
     }

@@ -106,7 +106,7 @@ fn pool_of(
         Ok(pool) => pool,
         Err(unmade) => {
             let given = (unmade.fault, unmade.devices.len());
-            assert_eq!(rt; given, (PoolFault::Memory, count));
+            assert!(rt; given == (PoolFault::Memory, count));
             match Pool::new(alloc, frames, 16, unmade.devices) {
                 Ok(pool) => pool,
                 Err(_) => panic!(rt; "no memory for the pool"),
@@ -173,7 +173,7 @@ fn fill(rt: &impl Abort, pool: &mut Pool, history: &History, no: u32)
 {
     let held = pinned(rt, pool, history, no);
     let written = write(rt, pool, history, held, 0, &[0xAA; 16]);
-    assert_eq!(rt; written, Ok(()));
+    assert!(rt; written == Ok(()));
     unpin(rt, pool, history, held);
 }
 
@@ -183,7 +183,7 @@ fn read(rt: &impl Abort, pool: &Pool, slot: Slot) -> [u8; 16]
 {
     assert!(rt; pool.holds(slot), "the slot holds its page");
     let mut bytes = [0; 16];
-    assert_eq!(rt; pool.read(slot, 0, &mut bytes), Ok(()));
+    assert!(rt; pool.read(slot, 0, &mut bytes) == Ok(()));
     bytes
 }
 
@@ -229,7 +229,7 @@ fn not_closed(rt: &impl Abort, pool: Pool, history: &History) -> Pool
     match pool.close() {
         Ok(()) => panic!(rt; "the pool is not closed"),
         Err(unclosed) => {
-            assert_eq!(rt; unclosed.fault, PoolFault::Fixed);
+            assert!(rt; unclosed.fault == PoolFault::Fixed);
             unclosed.pool
         }
     }
@@ -285,7 +285,7 @@ fn find(rt: &impl Abort, pool: &mut Pool, history: &History, no: u32, wanted: [u
     ensures ranked { RankedBy (⟦<Pool as Pooled>⟧.state pool.new) history.now }
 {
     let held = pinned(rt, pool, history, no);
-    assert_eq!(rt; read(rt, pool, held), wanted);
+    assert!(rt; read(rt, pool, held) == wanted);
     unpin(rt, pool, history, held);
 }
 
@@ -327,11 +327,11 @@ fn shows(rt: &impl Abort, pool: &Pool, row: Row<'_>, at: usize)
     requires { IsPool (⟦<Pool as Pooled>⟧.state pool.now) }
 {
     match row {
-        Row::Victim(wanted) => assert_eq!(rt; pool.victim(), wanted, "row {at}"),
-        Row::Holds(slot, wanted) => assert_eq!(rt; pool.holds(slot), wanted, "row {at}"),
-        Row::Resident(page, wanted) => assert_eq!(rt; pool.resident(page), wanted, "row {at}"),
-        Row::Has(no, wanted) => assert_eq!(rt; pool.has(page(no)), wanted, "row {at}"),
-        Row::Frames(wanted) => assert_eq!(rt; pool.frames(), wanted, "row {at}"),
+        Row::Victim(wanted) => assert!(rt; pool.victim() == wanted, "row {at}"),
+        Row::Holds(slot, wanted) => assert!(rt; pool.holds(slot) == wanted, "row {at}"),
+        Row::Resident(page, wanted) => assert!(rt; pool.resident(page) == wanted, "row {at}"),
+        Row::Has(no, wanted) => assert!(rt; pool.has(page(no)) == wanted, "row {at}"),
+        Row::Frames(wanted) => assert!(rt; pool.frames() == wanted, "row {at}"),
         _ => panic!(rt; "no such row"),
     }
 }
@@ -344,12 +344,8 @@ fn puts_down(rt: &impl Abort, pool: &mut Pool, history: &History, row: Row<'_>, 
     ensures ranked { RankedBy (⟦<Pool as Pooled>⟧.state pool.new) history.now }
 {
     match row {
-        Row::WritesBack(wanted) => assert_eq!(rt;
-            write_back_all(pool, history),
-            wanted,
-            "row {at}"
-        ),
-        Row::Empties(wanted) => assert_eq!(rt; empty(pool, history), wanted, "row {at}"),
+        Row::WritesBack(wanted) => assert!(rt; write_back_all(pool, history) == wanted, "row {at}"),
+        Row::Empties(wanted) => assert!(rt; empty(pool, history) == wanted, "row {at}"),
         shown => shows(rt, pool, shown, at),
     }
 }
@@ -365,12 +361,12 @@ fn meets(rt: &impl Abort, pool: &mut Pool, history: &History, row: Row<'_>, at: 
         Row::Visits(no) => visit(rt, pool, history, no),
         Row::Fills(no) => fill(rt, pool, history, no),
         Row::Finds(no, wanted) => find(rt, pool, history, no, wanted),
-        Row::Pins(no, wanted) => assert_eq!(rt; pool.pin(page(no), history), wanted, "row {at}"),
-        Row::Loads(page, wanted) => assert_eq!(rt; pool.load(page, history), wanted, "row {at}"),
+        Row::Pins(no, wanted) => assert!(rt; pool.pin(page(no), history) == wanted, "row {at}"),
+        Row::Loads(page, wanted) => assert!(rt; pool.load(page, history) == wanted, "row {at}"),
         Row::Unpins(slot) => unpin(rt, pool, history, slot),
         Row::Writes(slot, from, bytes, wanted) => {
             let written = write(rt, pool, history, slot, from, bytes);
-            assert_eq!(rt; written, wanted, "row {at}")
+            assert!(rt; written == wanted, "row {at}")
         }
         other => puts_down(rt, pool, history, other, at),
     }
@@ -419,7 +415,7 @@ fn unretired(
     match retire(pool, history, dev, device) {
         Ok(()) => panic!(rt; "the device is not exchanged"),
         Err(unretired) => {
-            assert_eq!(rt; unretired.fault, fault);
+            assert!(rt; unretired.fault == fault);
             unretired.device
         }
     }
@@ -593,7 +589,7 @@ fn refused_pools_hand_their_devices_back(rt: HostRuntime) {
         (2, 8, PoolFault::SizeDiffers),
     ] {
         let device = memory(&rt, alloc, 8);
-        assert_eq!(rt; unmade(&rt, alloc, frames, page_size, device), (fault, 1));
+        assert!(rt; unmade(&rt, alloc, frames, page_size, device) == (fault, 1));
     }
 }
 

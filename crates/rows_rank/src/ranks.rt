@@ -39,7 +39,7 @@ fn key_in(history: &History, no: u32) -> Option<RankKey> {
 
 fn assert_leaves_first(rt: &impl Abort, history: &History, first: u32, second: u32) {
     let order = leaving_order(history, page(first), page(second));
-    assert_eq!(rt; order, Ordering::Less);
+    assert!(rt; order == Ordering::Less);
 }
 
 #[test]
@@ -62,20 +62,20 @@ fn farther_page_leaves_though_referenced_last(rt: HostRuntime) -> Result<(), Fai
 fn contest_finds_the_slot_of_the_least_key(rt: HostRuntime) -> Result<(), Fail> {
     let history = history_of(rt.alloc(), &SCAN)?;
     let mut contest = Contest::new(rt.alloc(), 3)?;
-    assert_eq!(rt; contest.least(), None);
+    assert!(rt; contest.least() == None);
     contest.set(0, key_in(&history, 1));
     contest.set(1, key_in(&history, 5));
     contest.set(2, key_in(&history, 6));
-    assert_eq!(rt; contest.least(), Some(1));
+    assert!(rt; contest.least() == Some(1));
     contest.set(1, None);
-    assert_eq!(rt; contest.least(), Some(2));
+    assert!(rt; contest.least() == Some(2));
     contest.set(2, None);
-    assert_eq!(rt; contest.least(), Some(0));
+    assert!(rt; contest.least() == Some(0));
     contest.set(0, None);
-    assert_eq!(rt; contest.least(), None);
+    assert!(rt; contest.least() == None);
     contest.set(2, key_in(&history, 5));
     contest.set(0, key_in(&history, 5));
-    assert_eq!(rt; contest.least(), Some(0));
+    assert!(rt; contest.least() == Some(0));
     Ok(())
 }
 
@@ -95,10 +95,10 @@ fn contest_has_any_number_of_slots(rt: HostRuntime) -> Result<(), Fail> {
     for slots in [1, 2, 3, 65_535, 65_536u32] {
         let mut contest = Contest::new(rt.alloc(), slots as usize)?;
         set_rising(&mut contest, slots);
-        assert_eq!(rt; contest.least(), Some(0), "of {slots}");
+        assert!(rt; contest.least() == Some(0), "of {slots}");
         contest.set(0, None);
         let next = if slots == 1 { None } else { Some(1) };
-        assert_eq!(rt; contest.least(), next, "of {slots}");
+        assert!(rt; contest.least() == next, "of {slots}");
     }
     Ok(())
 }
@@ -108,11 +108,11 @@ fn keys_of_vacant_slots_are_cleared(rt: HostRuntime) -> Result<(), Fail> {
     let mut contest = Contest::new(rt.alloc(), 5)?;
     set_rising(&mut contest, 5);
     contest.clear_vacant(&[None, Some('b'), None, None, Some('e')]);
-    assert_eq!(rt; contest.least(), Some(1));
+    assert!(rt; contest.least() == Some(1));
     contest.set(1, None);
-    assert_eq!(rt; contest.least(), Some(4));
+    assert!(rt; contest.least() == Some(4));
     contest.clear_vacant::<char>(&[None; 5]);
-    assert_eq!(rt; contest.least(), None);
+    assert!(rt; contest.least() == None);
     Ok(())
 }
 
@@ -120,7 +120,7 @@ fn keys_of_vacant_slots_are_cleared(rt: HostRuntime) -> Result<(), Fail> {
 fn key_keeps_its_page(rt: HostRuntime) -> Result<(), Fail> {
     let history = history_of(rt.alloc(), &SCAN)?;
     for no in [1, 5, 7] {
-        assert_eq!(rt; key_of(page(no), history.get(page(no))).page(), page(no));
+        assert!(rt; key_of(page(no), history.get(page(no))).page() == page(no));
     }
     Ok(())
 }
@@ -140,9 +140,9 @@ fn warm_up_lists_10_000_pages(rt: HostRuntime) -> Result<(), Fail> {
     let mut history = History::new(rt.alloc());
     history.absorb(&batch)?;
     let pages = warm_list(rt.alloc(), &history, 10_000)?;
-    assert_eq!(rt; pages.len(), 10_000);
+    assert!(rt; pages.len() == 10_000);
     for (hotter, listed) in pages.iter().enumerate() {
-        assert_eq!(rt; usize::try_from(listed.no), Ok(10_000 - hotter));
+        assert!(rt; usize::try_from(listed.no) == Ok(10_000 - hotter));
     }
     Ok(())
 }
@@ -154,10 +154,10 @@ fn warm_up_lists_the_hottest_first(rt: HostRuntime) -> Result<(), Fail> {
     let hottest = [page(9), page(2), page(5)];
     for n in 0..5usize {
         let pages = PageList::of(warm_list(rt.alloc(), &history, n)?);
-        assert_eq!(rt; pages.as_slice(), &hottest[..n.min(3)], "of {n}");
-        assert_eq!(rt; pages.into_vec().len(), n.min(3));
+        assert!(rt; pages.as_slice() == &hottest[..n.min(3)], "of {n}");
+        assert!(rt; pages.into_vec().len() == n.min(3));
     }
     let none = warm_list(rt.alloc(), &History::new(rt.alloc()), 5)?;
-    assert_eq!(rt; none.len(), 0);
+    assert!(rt; none.len() == 0);
     Ok(())
 }

@@ -25,11 +25,8 @@ fn a_line_has_a_greatest_length(rt: HostRuntime) -> Result<(), Fail> {
 #[test]
 fn a_line_fault_has_its_number_and_name(rt: HostRuntime) {
     assert!(rt; matches!(parse_line(rt.alloc(), b"foo"), Err(LineFault::Bad)));
-    assert_eq!(rt; (LineFault::Bad.code(), LineFault::Bad.name()), (2, "Bad"));
-    assert_eq!(rt;
-        (LineFault::Memory.code(), LineFault::Memory.name()),
-        (1, "Memory")
-    );
+    assert!(rt; (LineFault::Bad.code(), LineFault::Bad.name()) == (2, "Bad"));
+    assert!(rt; (LineFault::Memory.code(), LineFault::Memory.name()) == (1, "Memory"));
 }
 
 #[test]

@@ -67,7 +67,7 @@ fn prints(
     want: &str,
 ) -> Result<(), Fail> {
     let answers = answers_of(alloc, setup, schedule)?;
-    assert_eq!(rt; str::from_utf8(answers.as_slice())?, want);
+    assert!(rt; str::from_utf8(answers.as_slice())? == want);
     Ok(())
 }
 
@@ -314,7 +314,7 @@ fn devices_for_other_replicas_are_refused(rt: HostRuntime) -> Result<(), Fail> {
         default_setup(),
         devices,
     );
-    assert_eq!(rt; played, Err(PlayFault::BadDevices));
+    assert!(rt; played == Err(PlayFault::BadDevices));
     assert!(rt; answers.is_empty());
     Ok(())
 }
@@ -327,7 +327,7 @@ fn devices_of_another_size_are_refused(rt: HostRuntime) -> Result<(), Fail> {
     let devices = in_memory(rt.alloc(), 1)?;
     let setup = Setup::new(1, 2, 64, 4, 17)?;
     let played = play(rt.alloc(), &mut reader, &mut answers, setup, devices);
-    assert_eq!(rt; played, Err(PlayFault::BadDevices));
+    assert!(rt; played == Err(PlayFault::BadDevices));
     assert!(rt; answers.is_empty());
     Ok(())
 }
@@ -346,10 +346,7 @@ fn a_refused_end_is_the_last_line(rt: HostRuntime) -> Result<(), Fail> {
     let mut answers = Vec::new(rt.alloc());
     let setup = Setup::new(1, 1, 1, 1, 16)?;
     play(rt.alloc(), &mut reader, &mut answers, setup, devices)?;
-    assert_eq!(rt;
-        str::from_utf8(answers.as_slice())?,
-        "slot 0.1\nok\nend refused 12 Fault\n"
-    );
+    assert!(rt; str::from_utf8(answers.as_slice())? == "slot 0.1\nok\nend refused 12 Fault\n");
     Ok(())
 }
 
@@ -482,7 +479,7 @@ fn an_over_long_line_is_bad(rt: HostRuntime) -> Result<(), Fail> {
         let mut reader = schedule.as_slice();
         let mut answers = Vec::new(rt.alloc());
         ended(rt.alloc(), &mut reader, &mut answers, default_setup())?;
-        assert_eq!(rt; str::from_utf8(answers.as_slice())?, want);
+        assert!(rt; str::from_utf8(answers.as_slice())? == want);
     }
     Ok(())
 }
@@ -520,7 +517,7 @@ fn trickles(rt: &impl Abort, alloc: Global, schedule: &[u8], want: &str) -> Resu
     };
     let mut answers = Vec::new(alloc);
     ended(alloc, &mut reader, &mut answers, default_setup())?;
-    assert_eq!(rt; str::from_utf8(answers.as_slice())?, want);
+    assert!(rt; str::from_utf8(answers.as_slice())? == want);
     Ok(())
 }
 
@@ -576,9 +573,9 @@ fn answers_are_handed_on_before_the_next_read(rt: HostRuntime) -> Result<(), Fai
         taken: Vec::new(rt.alloc()),
     };
     ended(rt.alloc(), &mut reader, &mut writer, default_setup())?;
-    assert_eq!(rt;
-        str::from_utf8(writer.taken.as_slice())?,
-        "end 0\n|refused 14 NoSuchReplica\n|bad line 3\n|"
+    assert!(rt;
+        str::from_utf8(writer.taken.as_slice())?
+            == "end 0\n|refused 14 NoSuchReplica\n|bad line 3\n|"
     );
     Ok(())
 }
@@ -605,7 +602,7 @@ fn a_failed_read_ends_the_play(rt: HostRuntime) {
     };
     let mut answers = Vec::new(rt.alloc());
     let played = ended(rt.alloc(), &mut reader, &mut answers, default_setup());
-    assert_eq!(rt; played, Err(PlayFault::ReadFault));
+    assert!(rt; played == Err(PlayFault::ReadFault));
     // the line that had come whole was answered, and what had come of the next one was not
     assert!(rt; answers.as_slice() == b"end 0\n".as_slice());
 }
@@ -642,9 +639,9 @@ fn a_failed_write_ends_the_play(rt: HostRuntime) {
         let mut writer = Narrow { room };
         let played = ended(rt.alloc(), &mut reader, &mut writer, default_setup());
         if room <= 12 {
-            assert_eq!(rt; played, Err(PlayFault::WriteFault), "room for {room}");
+            assert!(rt; played == Err(PlayFault::WriteFault), "room for {room}");
         } else {
-            assert_eq!(rt; played, Ok(()));
+            assert!(rt; played == Ok(()));
         }
     }
 }
@@ -684,7 +681,7 @@ fn a_refused_growth_is_as_a_comment(rt: HostRuntime) -> Result<(), Fail> {
     played?;
     let answers = str::from_utf8(&answers)?.trim_end();
     if !answers.contains(WANT_OF_MEMORY) {
-        assert_eq!(rt; answers, GROWN);
+        assert!(rt; answers == GROWN);
         return Ok(());
     }
     let mut without = [b' '; 1024];
@@ -704,9 +701,9 @@ fn a_refused_growth_is_as_a_comment(rt: HostRuntime) -> Result<(), Fail> {
     let mut lines = str::from_utf8(&again)?.trim_end().lines();
     for line in answers.lines() {
         if line != WANT_OF_MEMORY {
-            assert_eq!(rt; lines.next(), Some(line));
+            assert!(rt; lines.next() == Some(line));
         }
     }
-    assert_eq!(rt; lines.next(), None);
+    assert!(rt; lines.next() == None);
     Ok(())
 }

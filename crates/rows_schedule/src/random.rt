@@ -15,14 +15,13 @@ fn schedule_of(rt: &HostRuntime, seed: u64, events: u32, setup: Setup) -> Result
 #[test]
 fn a_setup_gives_its_schedule(rt: HostRuntime) -> Result<(), Fail> {
     let text = schedule_of(&rt, 18446744073709551615, 4, Setup::new(64, 16, 1, 1, 1)?)?;
-    assert_eq!(rt;
-        str::from_utf8(text.as_slice())?,
-        "ref 39 14 0:59 1\nsend 6 9\nshow 56\nref 55 1 0:249 4\n"
+    assert!(rt;
+        str::from_utf8(text.as_slice())?
+            == "ref 39 14 0:59 1\nsend 6 9\nshow 56\nref 55 1 0:249 4\n"
     );
     let text = schedule_of(&rt, 7, 4, Setup::new(1, 1, 1, 1, 1)?)?;
-    assert_eq!(rt;
-        str::from_utf8(text.as_slice())?,
-        "ref 1 1 0:95 1\nsend 1 23\nshow 1\nref 1 1 0:220 4\n"
+    assert!(rt;
+        str::from_utf8(text.as_slice())? == "ref 1 1 0:95 1\nsend 1 23\nshow 1\nref 1 1 0:220 4\n"
     );
     let text = schedule_of(&rt, 7, 0, Setup::new(1, 1, 1, 1, 1)?)?;
     assert!(rt; text.is_empty());

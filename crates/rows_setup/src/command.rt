@@ -49,7 +49,7 @@ const PLAYS: [(Words, (Option<&str>, Option<&str>)); 4] = [
 fn play_takes_a_file_and_a_setup(rt: HostRuntime) {
     for (words, texts) in PLAYS {
         let read = command_of(rt.alloc(), words);
-        assert_eq!(rt; play_texts(&read), Some(texts));
+        assert!(rt; play_texts(&read) == Some(texts));
     }
 }
 
@@ -84,7 +84,7 @@ const RANDOMS: [(Words, (u64, u32, Option<&str>)); 2] = [
 fn random_takes_two_numbers_and_a_setup(rt: HostRuntime) {
     for (words, values) in RANDOMS {
         let read = command_of(rt.alloc(), words);
-        assert_eq!(rt; random_values(&read), Some(values));
+        assert!(rt; random_values(&read) == Some(values));
     }
 }
 
@@ -108,7 +108,7 @@ const THREADS: [(Words, (&str, Option<&str>)); 2] = [
 fn threads_takes_a_file_and_a_setup(rt: HostRuntime) {
     for (words, texts) in THREADS {
         let read = command_of(rt.alloc(), words);
-        assert_eq!(rt; threads_texts(&read), Some(texts));
+        assert!(rt; threads_texts(&read) == Some(texts));
     }
 }
 
@@ -152,7 +152,7 @@ const REFUSED: [(Words, ErrorKind); 13] = [
 #[test]
 fn other_words_are_refused(rt: HostRuntime) {
     for (at, (words, kind)) in REFUSED.iter().enumerate() {
-        assert_eq!(rt; kind_of_words(&rt, words), Some(*kind), "row {at}");
+        assert!(rt; kind_of_words(&rt, words) == Some(*kind), "row {at}");
     }
 }
 
@@ -176,17 +176,14 @@ fn a_refused_growth_of_a_command(rt: HostRuntime) {
     let words = ["warmplay", "play", "a", "--setup", "b"];
     let read = command_of(rt.alloc(), words.as_slice());
     match &read {
-        Ok(_) => assert_eq!(rt; play_texts(&read), Some((Some("a"), Some("b")))),
-        Err(fault) => assert_eq!(rt; fault.code(), 1),
+        Ok(_) => assert!(rt; play_texts(&read) == Some((Some("a"), Some("b")))),
+        Err(fault) => assert!(rt; fault.code() == 1),
     }
 }
 
 #[test]
 fn the_faults_of_a_command_have_their_numbers_and_names(rt: HostRuntime) {
-    assert_eq!(rt;
-        (CmdFault::Memory.code(), CmdFault::Memory.name()),
-        (1, "Memory")
-    );
+    assert!(rt; (CmdFault::Memory.code(), CmdFault::Memory.name()) == (1, "Memory"));
     let fault = not_text(rt.alloc());
-    assert_eq!(rt; (fault.code(), fault.name()), (2, "Refused"));
+    assert!(rt; (fault.code(), fault.name()) == (2, "Refused"));
 }

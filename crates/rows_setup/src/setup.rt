@@ -30,9 +30,9 @@ fn is_whole(setup: &Setup, devices: &[DeviceSpec]) -> bool {
 fn an_empty_text_is_the_defaults(rt: HostRuntime) {
     let (setup, devices) = read_setup(rt.alloc(), "").expect(&rt, "the defaults");
     let numbers = (setup.replicas(), setup.workers(), setup.buffer());
-    assert_eq!(rt; numbers, (3, 2, 64));
-    assert_eq!(rt; (setup.frames(), setup.page_size()), (4, 16));
-    assert_eq!(rt; devices.len(), 1);
+    assert!(rt; numbers == (3, 2, 64));
+    assert!(rt; (setup.frames(), setup.page_size()) == (4, 16));
+    assert!(rt; devices.len() == 1);
     let device = devices.first().expect(&rt, "a device");
     assert!(rt; device.pages == 256 && device.path.is_none());
 }
@@ -40,10 +40,10 @@ fn an_empty_text_is_the_defaults(rt: HostRuntime) {
 #[test]
 fn a_key_is_read_and_the_rest_stays(rt: HostRuntime) {
     let (setup, devices) = read_setup(rt.alloc(), "frames = 2").expect(&rt, "a setup");
-    assert_eq!(rt; (setup.frames(), setup.page_size()), (2, 16));
-    assert_eq!(rt; devices.len(), 1);
+    assert!(rt; (setup.frames(), setup.page_size()) == (2, 16));
+    assert!(rt; devices.len() == 1);
     let (_, devices) = read_setup(rt.alloc(), SIXTEEN).expect(&rt, "16 devices");
-    assert_eq!(rt; devices.len(), 16);
+    assert!(rt; devices.len() == 16);
 }
 
 #[test]
@@ -69,9 +69,8 @@ fn a_number_has_its_type_and_its_range(rt: HostRuntime) {
         "colour = 1",
         "workers = [1]",
     ] {
-        assert_eq!(rt;
-            fault_of_text(&rt, text),
-            Some(SetupFault::BadKey),
+        assert!(rt;
+            fault_of_text(&rt, text) == Some(SetupFault::BadKey),
             "{text}"
         );
     }
@@ -84,16 +83,14 @@ fn a_number_has_its_type_and_its_range(rt: HostRuntime) {
         "replicas = 65",
         "workers = 17",
     ] {
-        assert_eq!(rt;
-            fault_of_text(&rt, text),
-            Some(SetupFault::BadValue),
+        assert!(rt;
+            fault_of_text(&rt, text) == Some(SetupFault::BadValue),
             "{text}"
         );
     }
     for text in ["frames =", "frames = 1\nframes = 2", "frames"] {
-        assert_eq!(rt;
-            fault_of_text(&rt, text),
-            Some(SetupFault::NotToml),
+        assert!(rt;
+            fault_of_text(&rt, text) == Some(SetupFault::NotToml),
             "{text}"
         );
     }
@@ -109,9 +106,8 @@ fn a_device_has_its_keys(rt: HostRuntime) {
         "[[device]]\npages = \"1\"",
         "[[device]]\npages = 1\nsize = 1",
     ] {
-        assert_eq!(rt;
-            fault_of_text(&rt, text),
-            Some(SetupFault::BadKey),
+        assert!(rt;
+            fault_of_text(&rt, text) == Some(SetupFault::BadKey),
             "{text}"
         );
     }
@@ -122,9 +118,8 @@ fn a_device_has_its_keys(rt: HostRuntime) {
         "[[device]]\npages = 1048577",
         "[[device]]\npages = 1\npath = \"\"",
     ] {
-        assert_eq!(rt;
-            fault_of_text(&rt, text),
-            Some(SetupFault::BadValue),
+        assert!(rt;
+            fault_of_text(&rt, text) == Some(SetupFault::BadValue),
             "{text}"
         );
     }
@@ -140,9 +135,8 @@ fn the_first_fault_is_answered(rt: HostRuntime) {
         "device = [{pages = 0}, 1]",
         "[[device]]\npages = \"a\"\npath = \"\"",
     ] {
-        assert_eq!(rt;
-            fault_of_text(&rt, text),
-            Some(SetupFault::BadKey),
+        assert!(rt;
+            fault_of_text(&rt, text) == Some(SetupFault::BadKey),
             "{text}"
         );
     }
@@ -152,9 +146,8 @@ fn the_first_fault_is_answered(rt: HostRuntime) {
         "[[device]]\npath = \"\"",
         "[[device]]\npages = 0\n[[device]]\npath = 1",
     ] {
-        assert_eq!(rt;
-            fault_of_text(&rt, text),
-            Some(SetupFault::BadValue),
+        assert!(rt;
+            fault_of_text(&rt, text) == Some(SetupFault::BadValue),
             "{text}"
         );
     }
@@ -171,7 +164,7 @@ fn bytes_that_are_no_text_are_no_setup(rt: HostRuntime) {
 fn a_refused_growth_of_a_setup(rt: HostRuntime) {
     match read_setup(rt.alloc(), WHOLE) {
         Ok((setup, devices)) => assert!(rt; is_whole(&setup, devices.as_slice())),
-        Err(fault) => assert_eq!(rt; fault, SetupFault::Memory),
+        Err(fault) => assert!(rt; fault == SetupFault::Memory),
     }
 }
 
@@ -179,7 +172,7 @@ fn a_refused_growth_of_a_setup(rt: HostRuntime) {
 fn a_path_comes_back_as_it_was(rt: HostRuntime) {
     let path = PathText::copied_from(rt.alloc(), "a b").expect(&rt, "a path");
     let again = PathText::from_string(path.into_string());
-    assert_eq!(rt; again.as_str(), "a b");
+    assert!(rt; again.as_str() == "a b");
 }
 
 #[test]
@@ -190,8 +183,8 @@ fn the_faults_have_their_numbers_and_names(rt: HostRuntime) {
         (SetupFault::BadKey, 3, "BadKey"),
         (SetupFault::BadValue, 4, "BadValue"),
     ] {
-        assert_eq!(rt; (fault.code(), fault.name()), (code, name));
+        assert!(rt; (fault.code(), fault.name()) == (code, name));
         let shown = format!(in rt.alloc(); "{fault}").expect(&rt, "room");
-        assert_eq!(rt; shown.as_str(), name);
+        assert!(rt; shown.as_str() == name);
     }
 }

@@ -13,9 +13,8 @@ fn replicas_are_numbered_from_1_to_64(rt: HostRuntime) {
         (64, Ok(64)),
         (65, Err(BadReplica)),
     ] {
-        assert_eq!(rt;
-            ReplicaId::new(number).map(ReplicaId::get),
-            want,
+        assert!(rt;
+            ReplicaId::new(number).map(ReplicaId::get) == want,
             "of {number}"
         );
     }
@@ -24,16 +23,15 @@ fn replicas_are_numbered_from_1_to_64(rt: HostRuntime) {
 #[test]
 fn buckets_are_numbered_from_0_to_63(rt: HostRuntime) {
     for (number, want) in [(0, Some(0)), (63, Some(63)), (64, None)] {
-        assert_eq!(rt; Bucket::new(number).map(Bucket::get), want, "of {number}");
+        assert!(rt; Bucket::new(number).map(Bucket::get) == want, "of {number}");
     }
 }
 
 #[test]
 fn a_page_falls_into_the_bucket_of_its_sum(rt: HostRuntime) {
     for (dev, no, want) in [(0, 1, 1), (0, 65, 1), (1, 0, 1), (65535, 4294967295, 62)] {
-        assert_eq!(rt;
-            bucket_of(PageId { dev, no }).get(),
-            want,
+        assert!(rt;
+            bucket_of(PageId { dev, no }).get() == want,
             "page {dev}:{no}"
         );
     }
@@ -45,9 +43,9 @@ fn lists_keep_their_items_in_order(rt: HostRuntime) {
     let second = PageId { dev: 1, no: 2 };
     let items = vec![in rt.alloc(); first, second].expect(&rt, "room for two pages");
     let list = PageList::of(items);
-    assert_eq!(rt; list.as_slice().first().copied(), Some(first));
+    assert!(rt; list.as_slice().first().copied() == Some(first));
     let mut items = list.into_vec();
-    assert_eq!(rt; (items.pop(), items.len()), (Some(second), 1));
+    assert!(rt; (items.pop(), items.len()) == (Some(second), 1));
 }
 
 // 20@1, as ten bytes.
@@ -57,8 +55,8 @@ const STAMP: [u8; 10] = [0, 0, 0, 0, 0, 0, 0, 0x14, 0, 1];
 fn stamps_have_ten_bytes(rt: HostRuntime) {
     let stamp = stamp_from(&STAMP).expect(&rt, "the stamp of ten bytes");
     let time = stamp.time;
-    assert_eq!(rt; (stamp_bytes(stamp), time), (STAMP, 20));
-    assert_eq!(rt; stamp_from(&[0; 10]), Err(BadReplica));
+    assert!(rt; (stamp_bytes(stamp), time) == (STAMP, 20));
+    assert!(rt; stamp_from(&[0; 10]) == Err(BadReplica));
 }
 
 #[test]
@@ -69,5 +67,5 @@ fn pages_have_six_bytes(rt: HostRuntime) {
         no: 50462976,
     };
     let bytes = [1, 2, 3, 2, 1, 0];
-    assert_eq!(rt; (page_bytes(page), page_from(&bytes)), (bytes, page));
+    assert!(rt; (page_bytes(page), page_from(&bytes)) == (bytes, page));
 }

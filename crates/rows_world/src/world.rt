@@ -293,10 +293,10 @@ fn put(
 
 // A history has just these entries. `at` is the number of the row.
 fn has_entries(rt: &impl Abort, history: &History, wanted: &[(PageId, Seen)], at: usize) {
-    assert_eq!(rt; history.len(), wanted.len(), "row {at}");
+    assert!(rt; history.len() == wanted.len(), "row {at}");
     for (place, known) in wanted.iter().enumerate() {
         let entry = history.at(place).expect(rt, "an entry");
-        assert_eq!(rt; (entry.page, seen(entry.hist)), *known, "row {at}");
+        assert!(rt; (entry.page, seen(entry.hist)) == *known, "row {at}");
     }
 }
 
@@ -316,7 +316,7 @@ fn are_hottest(rt: &impl Abort, live: &mut Live, i: u16, pages: u32, wanted: &[P
     ensures { IsWorld state live.new.world }
 {
     let hottest = warm_list(rt, live, i, pages);
-    assert_eq!(rt; hottest.as_slice(), wanted, "row {at}");
+    assert!(rt; hottest.as_slice() == wanted, "row {at}");
 }
 
 fn reads(rt: &impl Abort, live: &mut Live, i: u16, slot: Slot, from: u32, wanted: &[u8], at: usize)
@@ -325,7 +325,7 @@ fn reads(rt: &impl Abort, live: &mut Live, i: u16, slot: Slot, from: u32, wanted
 {
     let count = u32::try_from(wanted.len()).expect(rt, "a row wants few bytes");
     let read = bytes(live, i, slot, from, count).expect(rt, "the bytes are read");
-    assert_eq!(rt; read.as_slice(), wanted, "row {at}");
+    assert!(rt; read.as_slice() == wanted, "row {at}");
 }
 
 // Uses the pool of a replica as the row says. `at` is its number.
@@ -335,27 +335,25 @@ fn uses(rt: &impl Abort, alloc: Global, live: &mut Live, i: u16, row: Use<'_>, a
 {
     match row {
         Use::Has(slot, from, wanted) => reads(rt, live, i, slot, from, wanted, at),
-        Use::Pins(page, wanted) => assert_eq!(rt; pinned(live, i, page), wanted, "row {at}"),
+        Use::Pins(page, wanted) => assert!(rt; pinned(live, i, page) == wanted, "row {at}"),
         Use::Unpins(slot, wanted) => {
-            assert_eq!(rt; settled(live, Event::Unpin(i, slot)), wanted, "row {at}")
+            assert!(rt; settled(live, Event::Unpin(i, slot)) == wanted, "row {at}")
         }
-        Use::Visits(no) => assert_eq!(rt; visited(live, i, page(no)), Ok(()), "row {at}"),
+        Use::Visits(no) => assert!(rt; visited(live, i, page(no)) == Ok(()), "row {at}"),
         Use::Puts(slot, from, text, wanted) => {
-            assert_eq!(rt;
-                put(rt, alloc, live, i, slot, from, text),
-                wanted,
+            assert!(rt;
+                put(rt, alloc, live, i, slot, from, text) == wanted,
                 "row {at}"
             )
         }
         Use::Lacks(slot, from, len, fault) => {
-            assert_eq!(rt;
-                bytes(live, i, slot, from, len).err(),
-                Some(fault),
+            assert!(rt;
+                bytes(live, i, slot, from, len).err() == Some(fault),
                 "row {at}"
             )
         }
-        Use::Victim(wanted) => assert_eq!(rt; victim(live, i), Ok(wanted), "row {at}"),
-        Use::Loads(wanted) => assert_eq!(rt; loaded(live, i), wanted, "row {at}"),
+        Use::Victim(wanted) => assert!(rt; victim(live, i) == Ok(wanted), "row {at}"),
+        Use::Loads(wanted) => assert!(rt; loaded(live, i) == wanted, "row {at}"),
     }
 }
 
@@ -370,24 +368,24 @@ fn meets(rt: &impl Abort, alloc: Global, live: &mut Live, row: Row<'_>, at: usiz
         Row::Knows(i, wanted) => has_entries(rt, &shown(rt, live, i), wanted, at),
         Row::Refers(i, w, page, time, wanted) => {
             let refer = Event::Refer(i, w, page, time);
-            assert_eq!(rt; settled(live, refer), wanted, "row {at}")
+            assert!(rt; settled(live, refer) == wanted, "row {at}")
         }
         Row::Flushes(i, w, wanted) => {
-            assert_eq!(rt; settled(live, Event::Flush(i, w)), wanted, "row {at}")
+            assert!(rt; settled(live, Event::Flush(i, w)) == wanted, "row {at}")
         }
         Row::Sends(i, bucket, after, wanted) => {
             let bucket = Bucket::new(bucket).expect(rt, "a bucket");
             let send = Event::Send(i, bucket, after);
-            assert_eq!(rt; kept(live, send), Ok(wanted), "row {at}")
+            assert!(rt; kept(live, send) == Ok(wanted), "row {at}")
         }
         Row::Offers(i, wanted) => {
-            assert_eq!(rt; kept(live, Event::Offer(i)), Ok(wanted), "row {at}")
+            assert!(rt; kept(live, Event::Offer(i)) == Ok(wanted), "row {at}")
         }
-        Row::Hears(j, k, wanted) => assert_eq!(rt; heard(live, j, k), wanted, "row {at}"),
+        Row::Hears(j, k, wanted) => assert!(rt; heard(live, j, k) == wanted, "row {at}"),
         Row::Restarts(i, wanted) => {
-            assert_eq!(rt; settled(live, Event::Restart(i)), wanted, "row {at}")
+            assert!(rt; settled(live, Event::Restart(i)) == wanted, "row {at}")
         }
-        Row::Finishes(wanted) => assert_eq!(rt; live.world.finish(), wanted, "row {at}"),
+        Row::Finishes(wanted) => assert!(rt; live.world.finish() == wanted, "row {at}"),
     }
 }
 

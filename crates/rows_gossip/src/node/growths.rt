@@ -118,7 +118,7 @@ fn ask_again(
     let Reply::Refused(fault) = answer(node, call_again(rt, alloc, other, place)) else {
         return;
     };
-    assert_eq!(rt; fault, NodeFault::Memory, "at call {place}");
+    assert!(rt; fault == NodeFault::Memory, "at call {place}");
     assert!(rt; is_same(node, twin), "after a refused call {place}");
     if let Reply::Refused(fault) = answer(node, call_again(rt, alloc, other, place)) {
         panic!(rt; "one growth alone is refused, and call {place} met {fault:?}");

@@ -54,7 +54,7 @@ fn noted_pool(rt: &impl Abort, alloc: Global, history: &History) -> (Pool, Slot,
     let mut pool = pool_over(rt, alloc, 2, device);
     let held = pinned(rt, &mut pool, history, 0);
     let written = write(rt, &mut pool, history, held, 0, &[0xAA; 16]);
-    assert_eq!(rt; written, Ok(()));
+    assert!(rt; written == Ok(()));
     (pool, held, note)
 }
 
@@ -72,7 +72,7 @@ fn exchanged(
     ensures ranked { RankedBy (⟦<Pool as Pooled>⟧.state pool.new) history.now }
 {
     let device = unretired(rt, pool, history, 0, device, PoolFault::Fixed);
-    assert_eq!(rt; note.found(), Found::NoDrop);
+    assert!(rt; note.found() == Found::NoDrop);
     unpin(rt, pool, history, held);
     exchange(rt, pool, history, 0, device);
     assert!(rt; is_kept(note));
@@ -93,7 +93,7 @@ fn a_closed_pools_device_has_what_was_written(rt: HostRuntime) {
     let history = History::new(alloc);
     let (pool, held, note) = noted_pool(&rt, alloc, &history);
     let mut pool = not_closed(&rt, pool, &history);
-    assert_eq!(rt; note.found(), Found::NoDrop);
+    assert!(rt; note.found() == Found::NoDrop);
     unpin(&rt, &mut pool, &history, held);
     closes(&rt, pool);
     assert!(rt; is_kept(&note));

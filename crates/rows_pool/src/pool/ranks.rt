@@ -65,12 +65,12 @@ fn leaving(rt: &impl Abort, alloc: Global, seen: &[(u32, u64)]) -> Option<PageId
 fn the_history_says_which_page_leaves(rt: HostRuntime) {
     let alloc = rt.alloc();
     let farther = [(1, 1), (1, 100), (2, 50), (2, 60)];
-    assert_eq!(rt; leaving(&rt, alloc, &farther), Some(page(1)));
+    assert!(rt; leaving(&rt, alloc, &farther) == Some(page(1)));
     let once = [(1, 1), (1, 2), (2, 100), (2, 100)];
-    assert_eq!(rt; leaving(&rt, alloc, &once), Some(page(2)));
+    assert!(rt; leaving(&rt, alloc, &once) == Some(page(2)));
     let older = [(1, 7), (2, 6)];
-    assert_eq!(rt; leaving(&rt, alloc, &older), Some(page(2)));
-    assert_eq!(rt; leaving(&rt, alloc, &[]), Some(page(1)));
+    assert!(rt; leaving(&rt, alloc, &older) == Some(page(2)));
+    assert!(rt; leaving(&rt, alloc, &[]) == Some(page(1)));
 }
 
 fn refresh(pool: &mut Pool, history: &History, no: u32)
@@ -93,6 +93,6 @@ fn a_refreshed_page_has_a_new_rank(rt: HostRuntime) {
     ];
     runs(&rt, &mut pool, &history, &rows);
     refresh(&mut pool, &later, 1);
-    assert_eq!(rt; pool.victim(), Some(page(2)));
+    assert!(rt; pool.victim() == Some(page(2)));
     closes(&rt, pool);
 }

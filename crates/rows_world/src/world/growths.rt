@@ -152,7 +152,7 @@ fn step_again(rt: &impl Abort, live: &mut Live, twin: &mut Live, place: usize) -
         Ok(numbers) => return numbers,
         Err(fault) => fault,
     };
-    assert_eq!(rt; fault, UNEXPECTED, "at event {place}");
+    assert!(rt; fault == UNEXPECTED, "at event {place}");
     know_same(rt, live, twin, place);
     match answered(rt, live, place) {
         Ok(numbers) => numbers,
@@ -178,7 +178,10 @@ fn step_both(rt: &impl Abort, live: &mut Live, twin: &mut Live)
 {
     for place in 0..EVENTS {
         let numbers = step_again(rt, live, twin, place);
-        assert_eq!(rt; step_twin(rt, twin, place), Ok(numbers), "at event {place}");
+        assert!(rt;
+            step_twin(rt, twin, place) == Ok(numbers),
+            "at event {place}"
+        );
         know_same(rt, live, twin, place);
     }
 }
@@ -195,7 +198,7 @@ fn run_again(rt: &impl Abort, alloc: Global, live: &mut Live, twin: &mut Live)
     events.push_reserved(Event::Deliver(1, 1));
     let back = match live.world.run(events) {
         Ok(answers) => {
-            assert_eq!(rt; answers.len(), 1);
+            assert!(rt; answers.len() == 1);
             return;
         }
         Err(back) => back,

@@ -12,20 +12,17 @@ use warm_world::{BadSetup, BadWorld, Setup, World, WorldFault};
 
 #[test]
 fn setups_are_within_limits(rt: HostRuntime) {
-    assert_eq!(rt; Setup::new(65, 2, 64, 4, 16), Err(BadSetup));
-    assert_eq!(rt; Setup::new(1, 0, 64, 4, 16), Err(BadSetup));
-    assert_eq!(rt; Setup::new(1, 17, 64, 4, 16), Err(BadSetup));
-    assert_eq!(rt; Setup::new(1, 2, 1025, 4, 16), Err(BadSetup));
-    assert_eq!(rt; Setup::new(1, 2, 64, 65537, 16), Err(BadSetup));
-    assert_eq!(rt; Setup::new(1, 2, 64, 4, 0), Err(BadSetup));
+    assert!(rt; Setup::new(65, 2, 64, 4, 16) == Err(BadSetup));
+    assert!(rt; Setup::new(1, 0, 64, 4, 16) == Err(BadSetup));
+    assert!(rt; Setup::new(1, 17, 64, 4, 16) == Err(BadSetup));
+    assert!(rt; Setup::new(1, 2, 1025, 4, 16) == Err(BadSetup));
+    assert!(rt; Setup::new(1, 2, 64, 65537, 16) == Err(BadSetup));
+    assert!(rt; Setup::new(1, 2, 64, 4, 0) == Err(BadSetup));
     let Ok(setup) = Setup::new(64, 16, 1024, 65536, 65535) else {
         panic!(rt; "the setup is within its limits");
     };
-    assert_eq!(rt;
-        (setup.replicas(), setup.workers(), setup.buffer()),
-        (64, 16, 1024)
-    );
-    assert_eq!(rt; (setup.frames(), setup.page_size()), (65536, 65535));
+    assert!(rt; (setup.replicas(), setup.workers(), setup.buffer()) == (64, 16, 1024));
+    assert!(rt; (setup.frames(), setup.page_size()) == (65536, 65535));
 }
 
 #[test]
@@ -41,14 +38,14 @@ fn faults_have_numbers_and_names(rt: HostRuntime) {
         (WorldFault::NoSuchWorker, 15, "NoSuchWorker"),
         (WorldFault::NoSuchFrame, 16, "NoSuchFrame"),
     ] {
-        assert_eq!(rt; (fault.code(), fault.name()), (code, name));
+        assert!(rt; (fault.code(), fault.name()) == (code, name));
     }
     for (bad, code, name) in [
         (BadWorld::Memory, 1, "Memory"),
         (BadWorld::SizeDiffers, 3, "SizeDiffers"),
         (BadWorld::DevicesDiffer, 17, "DevicesDiffer"),
     ] {
-        assert_eq!(rt; (bad.code(), bad.name()), (code, name));
+        assert!(rt; (bad.code(), bad.name()) == (code, name));
     }
 }
 
@@ -81,19 +78,19 @@ fn refused_over(
 fn every_replica_needs_a_list_of_devices(rt: HostRuntime) {
     let alloc = rt.alloc();
     let differ = Some(BadWorld::DevicesDiffer);
-    assert_eq!(rt; refused_over(&rt, alloc, 3, 2, 16), differ);
+    assert!(rt; refused_over(&rt, alloc, 3, 2, 16) == differ);
     // The number of lists is looked at first.
-    assert_eq!(rt; refused_over(&rt, alloc, 1, 2, 8), differ);
-    assert_eq!(rt; refused_over(&rt, alloc, 2, 2, 16), None);
+    assert!(rt; refused_over(&rt, alloc, 1, 2, 8) == differ);
+    assert!(rt; refused_over(&rt, alloc, 2, 2, 16) == None);
 }
 
 #[test]
 fn every_device_has_pages_of_one_size(rt: HostRuntime) {
     let alloc = rt.alloc();
     let differ = Some(BadWorld::SizeDiffers);
-    assert_eq!(rt; refused_over(&rt, alloc, 2, 2, 32), differ);
+    assert!(rt; refused_over(&rt, alloc, 2, 2, 32) == differ);
     let mut lists = devices_for(alloc, 1, 16).expect(&rt, "room for the devices");
     let list = one_device(alloc, 8, 8).expect(&rt, "room for a device");
     add_list(&mut lists, list).expect(&rt, "room for a list");
-    assert_eq!(rt; refused(&rt, alloc, 2, lists), differ);
+    assert!(rt; refused(&rt, alloc, 2, lists) == differ);
 }
