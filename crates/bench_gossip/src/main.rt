@@ -11,7 +11,6 @@
 //! - `history PAGES`: a replica is told of so many pages.
 #![tactic(auto)]
 
-ghost use Rattle.std.specs.Iterator.{IsFinite};
 ghost use Rattle.std.specs.Prelude.{IfOk};
 
 use anyhow::{Context, Result, bail};
@@ -218,24 +217,16 @@ fn last_time(hist: PageHist) -> u64 {
     }
 }
 
-// A sum over entries. It takes any iterator: a loop over that of a history, which merges 64 parts, takes far longer to prove.
-fn sum_over<I: Iterator<Item = Entry> + Drop>(entries: I) -> u64
-    requires can { I.can_next entries }
-    requires ends { IsFinite (I.remaining entries) }
-{
+// A sum over all entries, so that what was made is seen.
+fn sum_of(history: &History) -> u64 {
     let mut sum = 0u64;
-    for entry in entries {
+    for entry in history.iter() {
         sum = sum
             .wrapping_mul(31)
             .wrapping_add(u64::from(entry.page.no))
             .wrapping_add(last_time(entry.hist));
     }
     sum
-}
-
-// A sum over all entries, so that what was made is seen.
-fn sum_of(history: &History) -> u64 {
-    sum_over(history.iter())
 }
 
 fn gossiped(

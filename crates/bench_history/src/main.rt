@@ -4,8 +4,6 @@
 //! runs with so many, and prints the nanoseconds too, for `bench/history/measure.py`.
 #![tactic(auto)]
 
-ghost use Rattle.std.specs.Iterator.{IsFinite};
-
 use anyhow::{Context, Result, bail};
 use std::alloc::Global;
 use std::env;
@@ -105,25 +103,16 @@ fn absorb_all(history: &mut History, all: &[Reference]) -> Result<()> {
     Ok(())
 }
 
-// A sum over entries. It takes any iterator: a loop over that of a history, which merges 64
-// parts, takes far longer to prove.
-fn sum_over<I: Iterator<Item = Entry> + Drop>(entries: I) -> u64
-    requires can { I.can_next entries }
-    requires ends { IsFinite (I.remaining entries) }
-{
+// A sum over all entries, so that what was made is seen.
+fn sum_of(history: &History) -> u64 {
     let mut sum = 0u64;
-    for entry in entries {
+    for entry in history.iter() {
         sum = sum.wrapping_mul(31).wrapping_add(u64::from(entry.page.no));
         if let PageHist::Once(stamp) = entry.hist {
             sum = sum.wrapping_add(stamp.time);
         }
     }
     sum
-}
-
-// A sum over all entries, so that what was made is seen.
-fn sum_of(history: &History) -> u64 {
-    sum_over(history.iter())
 }
 
 // How many of the pages drawn are there, of twice as many.

@@ -1,5 +1,4 @@
 //! Histories of 100 pages that take in 100 new pages and 20 old ones.
-ghost use Rattle.std.specs.Iterator.{IsFinite};
 
 use crate::references::{reference, references};
 use refused_rows::{Ended, Met};
@@ -74,23 +73,15 @@ fn join(met: &mut Met, alloc: Global) -> Result<(), Ended> {
     met.holds(has_more(&history), "join takes the other in")
 }
 
-// What an iterator gives. It takes any, so that it need not be proved for each of the 64 parts of a history's.
-fn list_of<I: Iterator<Item = Entry> + Drop>(alloc: Global, all: I) -> Result<Vec<Entry>, Ended>
-    requires can { I.can_next all }
-    requires ends { IsFinite (I.remaining all) }
-{
+// The entries of a history, in the order of its pages.
+pub(crate) fn entries_of(alloc: Global, history: &History) -> Result<Vec<Entry>, Ended> {
     let mut entries = Vec::new(alloc);
-    for entry in all {
+    for entry in history.iter() {
         let Ok(()) = entries.push(entry) else {
             return Err(Ended::NoRoom);
         };
     }
     Ok(entries)
-}
-
-// The entries of a history, in the order of its pages.
-pub(crate) fn entries_of(alloc: Global, history: &History) -> Result<Vec<Entry>, Ended> {
-    list_of(alloc, history.iter())
 }
 
 fn join_entries(met: &mut Met, alloc: Global) -> Result<(), Ended> {

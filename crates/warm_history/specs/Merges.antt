@@ -54,12 +54,18 @@ abbrev pub from_first : Option Entry → List Entry → List Entry
 from_first None later = []
 from_first (Some e) later = e ∷ later
 
--- what is left of a part, and of two that are merged
+-- what is left of a part
 abbrev pub part_left : Part → List Entry
 part_left p = from_first p.first (as_entries p.later)
 
+-- what is left of two together
+abbrev pub both_left : {I : Type 0} → (I → List Entry) → List I → List Entry
+both_left left (one ∷ other ∷ []) = merge (left one) (left other)
+both_left left others = []
+
+-- and of two that are merged
 abbrev pub merged_left : {I : Type 0} → (I → List Entry) → Merged I → List Entry
-merged_left left m = from_first m.first (merge (left m.one) (left m.other))
+merged_left left m = from_first m.first (both_left left m.both)
 
 -- what is left of 2, 4, 8, 16, 32 and all 64 parts
 abbrev pub two_left : Merged Part → List Entry

@@ -4,7 +4,7 @@ ghost use Rattle.warm_stamps.specs.declared.TheConstants.{BUCKETS};
 ghost use Rattle.warm_history.specs.Tree.{kept, AreKept};
 ghost use Rattle.warm_history.specs.Histories.{entries_of};
 ghost use Rattle.warm_history.specs.Merges.{part_left, two_left, four_left, eight_left, sixteen_left, thirty_two_left, all_left};
-ghost use Rattle.warm_history.specs.Merges.{first_of, rest_of, merge, merged_left, of_buckets, is_later};
+ghost use Rattle.warm_history.specs.Merges.{first_of, rest_of, merge, both_left, merged_left, of_buckets, is_later};
 
 use crate::bucket_maps::BucketMaps;
 use crate::hist::{Entry, PageHist};
@@ -55,8 +55,8 @@ impl<'a> Source for Part<'a> {
 #[derive(Drop)]
 pub(crate) struct Merged<I> {
     first: Option<Entry>,
-    one: I,
-    other: I,
+    // An array, since what is proved of a value's fields would double with each level of two.
+    both: [I; 2],
 }
 
 impl<I: Source> Source for Merged<I> {
@@ -70,22 +70,21 @@ impl<I: Source> Source for Merged<I> {
 
     fn take_first(&mut self) -> Option<Entry> {
         let first = self.first?;
-        self.first = take_lesser(&mut self.one, &mut self.other);
+        self.first = take_lesser(&mut self.both);
         Some(first)
     }
 }
 
 // Takes the first entry of one, or that of the other where its page is smaller.
 #[tactic(auto, using(crate::proofs::MergedParts::takes_other, crate::proofs::MergedParts::takes_one))]
-fn take_lesser<I: Source>(one: &mut I, other: &mut I) -> Option<Entry>
-    ensures first { result ≡ first_of (merge (I.left one.old) (I.left other.old)) }
-    ensures rest { merge (I.left one.new) (I.left other.new)
-        ≡ rest_of (merge (I.left one.old) (I.left other.old)) }
+fn take_lesser<I: Source>(both: &mut [I; 2]) -> Option<Entry>
+    ensures first { result ≡ first_of (both_left I.left both.old) }
+    ensures rest { both_left I.left both.new ≡ rest_of (both_left I.left both.old) }
 {
-    if is_later(one.first(), other.first()) {
-        return other.take_first();
+    if is_later(both[0].first(), both[1].first()) {
+        return both[1].take_first();
     }
-    one.take_first()
+    both[0].take_first()
 }
 
 // Whether one is of a greater page than the other, or is not there where the other is.
@@ -101,11 +100,12 @@ fn is_later(one: Option<Entry>, other: Option<Entry>) -> bool
     there.page < here.page
 }
 
-fn merge_both<I: Source>(mut one: I, mut other: I) -> Merged<I>
+fn merge_both<I: Source>(one: I, other: I) -> Merged<I>
     ensures { merged_left I.left result ≡ merge (I.left one) (I.left other) }
 {
-    let first = take_lesser(&mut one, &mut other);
-    Merged { first, one, other }
+    let mut both = [one, other];
+    let first = take_lesser(&mut both);
+    Merged { first, both }
 }
 
 type TwoParts<'a> = Merged<Part<'a>>;
