@@ -55,11 +55,13 @@ threads = with_rule (with_rule (new_app (codes "threads")) (record file { requir
 abbrev pub wants_command : Shape → Shape
 wants_command top = record top { subcommand_required = true }
 
--- the program with the commands that start no thread
+-- the program with the command that plays a schedule line by line
+abbrev pub with_play : App
+with_play = with_subcommand (on_top wants_command (new_app (codes "warmplay"))) play.top
+
+-- and with that which writes one, which starts no thread either
 abbrev pub line_by_line : App
-line_by_line =
-    let top = on_top wants_command (new_app (codes "warmplay")) in
-    with_subcommand (with_subcommand top play.top) random.top
+line_by_line = with_subcommand with_play random.top
 
 abbrev pub warmplay : App
 warmplay = with_subcommand line_by_line threads.top

@@ -6,7 +6,7 @@ ghost use Rattle.clap.specs.Words.{app_of, found_of, rows_of, rule_of, subcomman
 ghost use Rattle.clap.specs.Faults.{fault_of};
 ghost use Rattle.clap.specs.declared.builder.Command.TheViews.{out-Command};
 ghost use Rattle.warm_setup.specs.Endings.{command_fault_code, command_fault_name};
-ghost use Rattle.warm_setup.specs.Words.{line_by_line, setup, number, number_of, play, random, random_by, threads, threads_by, warmplay, command_by, Answers, IsRefusal};
+ghost use Rattle.warm_setup.specs.Words.{with_play, line_by_line, setup, number, number_of, play, random, random_by, threads, threads_by, warmplay, command_by, Answers, IsRefusal};
 ghost use Rattle.warm_setup.specs.WordsSeen.{command_for, IsFaultOf};
 
 use crate::path::PathText;
@@ -123,12 +123,15 @@ fn random_command<'a>(alloc: Global) -> Result<Command<'a>, AllocError>
     ensures app { IfOk result (λ c. app_of c ≡ random) }
     ensures local { IfOk result (λ c. (out-Command c).has_globals ≡ false) }
 {
-    let seed = number_argument(alloc, "seed", "What the schedule is drawn from", u64::MAX);
-    let events = number_argument(alloc, "events", "How many lines it has", MAX_EVENTS);
     let random = Command::new(alloc, "random").about(
         "Write a schedule drawn at random, the same for the same seed",
     );
-    random.arg(seed)?.arg(events)?.arg(setup_argument(alloc))
+    // Each argument is made where it goes in: nothing else is dropped where room is refused.
+    let seed = number_argument(alloc, "seed", "What the schedule is drawn from", u64::MAX);
+    let seeded = random.arg(seed)?;
+    let events = number_argument(alloc, "events", "How many lines it has", MAX_EVENTS);
+    let counted = seeded.arg(events)?;
+    counted.arg(setup_argument(alloc))
 }
 
 fn threads_command<'a>(alloc: Global) -> Result<Command<'a>, AllocError>
@@ -145,16 +148,25 @@ fn threads_command<'a>(alloc: Global) -> Result<Command<'a>, AllocError>
     threads.arg(file)?.arg(setup_argument(alloc))
 }
 
-fn line_by_line_commands<'a>(alloc: Global) -> Result<Command<'a>, AllocError>
-    ensures app { IfOk result (λ c. app_of c ≡ line_by_line) }
+fn play_alone<'a>(alloc: Global) -> Result<Command<'a>, AllocError>
+    ensures app { IfOk result (λ c. app_of c ≡ with_play) }
     ensures local { IfOk result (λ c. (out-Command c).has_globals ≡ false) }
 {
     let play = play_command(alloc)?;
     let top = Command::new(alloc, "warmplay")
         .about("Warm-standby buffer pools that merge LRU-2 histories")
         .subcommand_required(true);
+    let played = top.subcommand(play)?;
+    Ok(played)
+}
+
+fn line_by_line_commands<'a>(alloc: Global) -> Result<Command<'a>, AllocError>
+    ensures app { IfOk result (λ c. app_of c ≡ line_by_line) }
+    ensures local { IfOk result (λ c. (out-Command c).has_globals ≡ false) }
+{
+    let played = play_alone(alloc)?;
     let random = random_command(alloc)?;
-    let both = top.subcommand(play)?.subcommand(random)?;
+    let both = played.subcommand(random)?;
     Ok(both)
 }
 
