@@ -10,7 +10,7 @@ ghost use Rattle.std.specs.Prelude.{◌<◌};
 use anyhow::{Context, Result, bail};
 use std::alloc::Global;
 use std::env;
-use std::time::Instant;
+use std::time::{Duration, Instant};
 use warm_digest::sums;
 use warm_frames::{BoxedFrame, Decoder, EntryList, Fed, Frame, decode, encode};
 use warm_history::History;
@@ -168,25 +168,40 @@ fn feed_in_pieces(alloc: Global, stream: &[u8], size: usize) -> Option<u64>
     Some(count)
 }
 
+// The bytes of a full frame, encoded so often, and how long that took.
+fn time_encoding(rt: &HostRuntime, sender: ReplicaId, often: u64) -> Result<(Vec<u8>, Duration)> {
+    let frame = full_frame(rt.alloc(), sender)?;
+    let start = Instant::now(rt)?;
+    let bytes = encode_often(rt.alloc(), &frame, often)?;
+    let spent = start.elapsed(rt)?;
+    Ok((bytes, spent))
+}
+
+// How many entries bytes have, decoded so often, and how long that took.
+fn time_decoding(rt: &HostRuntime, bytes: &[u8], often: u64) -> Result<(u64, Duration)> {
+    let start = Instant::now(rt)?;
+    let count = decode_often(rt.alloc(), bytes, often)?;
+    Ok((count, start.elapsed(rt)?))
+}
+
+// The first sum of a history, taken so often, and how long that took.
+fn time_summing(rt: &HostRuntime, sender: ReplicaId, often: u64) -> Result<([u8; 32], Duration)> {
+    let history = history_of(rt.alloc(), sender, MANY, 1)?;
+    let start = Instant::now(rt)?;
+    let first = sum_often(rt.alloc(), &history, often)?;
+    let spent = start.elapsed(rt)?;
+    Ok((first, spent))
+}
+
 // Encodes and decodes a full frame, and sums a history: so often, and says what came out. Gives the frame's bytes.
 fn time_whole(rt: &HostRuntime, rounds: Option<u64>) -> Result<Vec<u8>> {
     let Ok(sender) = ReplicaId::new(1) else {
         bail!("1 is a replica")
     };
-    let frame = full_frame(rt.alloc(), sender)?;
-    let history = history_of(rt.alloc(), sender, MANY, 1)?;
     let often = rounds.unwrap_or(1);
-
-    let start = Instant::now(rt)?;
-    let bytes = encode_often(rt.alloc(), &frame, often)?;
-    let encoding = start.elapsed(rt)?;
-    let start = Instant::now(rt)?;
-    let count = decode_often(rt.alloc(), &bytes, often)?;
-    let decoding = start.elapsed(rt)?;
-    let start = Instant::now(rt)?;
-    let first = sum_often(rt.alloc(), &history, often)?;
-    let summing = start.elapsed(rt)?;
-
+    let (first, summing) = time_summing(rt, sender, often)?;
+    let (bytes, encoding) = time_encoding(rt, sender, often)?;
+    let (count, decoding) = time_decoding(rt, &bytes, often)?;
     println!(rt; "encode: {} bytes {}", bytes.len(), check_sum(&bytes))?;
     println!(rt; "decode: {} entries", count)?;
     println!(rt; "sums: {}", check_sum(&first))?;

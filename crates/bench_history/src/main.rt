@@ -138,21 +138,27 @@ fn told(rt: &HostRuntime, timed: bool, what: &str, made: u64, spent: Duration) -
     Ok(())
 }
 
+// Absorbs references in batches into a new history.
+fn absorb_timed(
+    rt: &HostRuntime,
+    timed: bool,
+    what: &str,
+    references: &[Reference],
+) -> Result<History> {
+    let mut seen = History::new(rt.alloc());
+    let start = Instant::now(rt)?;
+    absorb_all(&mut seen, references)?;
+    let spent = start.elapsed(rt)?;
+    told(rt, timed, what, sum_of(&seen), spent)?;
+    Ok(seen)
+}
+
 // The history of all pages.
 fn absorb(rt: &HostRuntime, timed: bool, pages: u64, replica: ReplicaId) -> Result<History> {
     let drawn = drawn_references(rt.alloc(), pages, replica)?;
-    let mut seen = History::new(rt.alloc());
-    let start = Instant::now(rt)?;
-    absorb_all(&mut seen, &drawn)?;
-    let spent = start.elapsed(rt)?;
-    told(rt, timed, "absorb by Zipf's law", sum_of(&seen), spent)?;
+    absorb_timed(rt, timed, "absorb by Zipf's law", &drawn)?;
     let each = each_page(rt.alloc(), pages, replica)?;
-    let mut large = History::new(rt.alloc());
-    let start = Instant::now(rt)?;
-    absorb_all(&mut large, &each)?;
-    let spent = start.elapsed(rt)?;
-    told(rt, timed, "absorb new pages", sum_of(&large), spent)?;
-    Ok(large)
+    absorb_timed(rt, timed, "absorb new pages", &each)
 }
 
 fn join_some(rt: &HostRuntime, timed: bool, large: &mut History, more: &[Entry]) -> Result<()> {
@@ -162,20 +168,32 @@ fn join_some(rt: &HostRuntime, timed: bool, large: &mut History, more: &[Entry])
     told(rt, timed, "join 1,000 entries", sum_of(large), spent)
 }
 
-fn join_all(rt: &HostRuntime, timed: bool, large: &mut History) -> Result<()> {
+fn copy(rt: &HostRuntime, timed: bool, large: &History) -> Result<History> {
     let start = Instant::now(rt)?;
     let copied = large.copy()?;
     let spent = start.elapsed(rt)?;
     told(rt, timed, "copy", sum_of(&copied), spent)?;
+    Ok(copied)
+}
+
+fn join(
+    rt: &HostRuntime,
+    timed: bool,
+    what: &str,
+    history: &mut History,
+    other: &History,
+) -> Result<()> {
     let start = Instant::now(rt)?;
-    large.join(&copied)?;
+    history.join(other)?;
     let spent = start.elapsed(rt)?;
-    told(rt, timed, "join all, known", sum_of(large), spent)?;
+    told(rt, timed, what, sum_of(history), spent)
+}
+
+fn join_all(rt: &HostRuntime, timed: bool, large: &mut History) -> Result<()> {
+    let copied = copy(rt, timed, large)?;
+    join(rt, timed, "join all, known", large, &copied)?;
     let mut empty = History::new(rt.alloc());
-    let start = Instant::now(rt)?;
-    empty.join(large)?;
-    let spent = start.elapsed(rt)?;
-    told(rt, timed, "join all, new", sum_of(&empty), spent)
+    join(rt, timed, "join all, new", &mut empty, large)
 }
 
 fn look_up(rt: &HostRuntime, timed: bool, large: &History, pages: u64) -> Result<()> {
@@ -189,13 +207,19 @@ fn look_up(rt: &HostRuntime, timed: bool, large: &History, pages: u64) -> Result
     told(rt, timed, "look up", found, spent)
 }
 
-fn main(rt: HostRuntime) -> Result<()> {
-    let asked = env::args(&rt)?.nth(1);
-    let pages = match &asked {
-        None => 1_000,
-        Some(word) => word.parse::<u64>().context("the number of pages")?,
+// The number of pages that is asked for, if one is.
+fn asked_pages(rt: &HostRuntime) -> Result<Option<u64>> {
+    let Some(word) = env::args(rt)?.nth(1) else {
+        return Ok(None);
     };
+    let pages = word.parse::<u64>().context("the number of pages")?;
+    Ok(Some(pages))
+}
+
+fn main(rt: HostRuntime) -> Result<()> {
+    let asked = asked_pages(&rt)?;
     let timed = asked.is_some();
+    let pages = asked.unwrap_or(1_000);
     let Ok(replica) = ReplicaId::new(1) else {
         bail!("1 names a replica")
     };
