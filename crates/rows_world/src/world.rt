@@ -155,8 +155,9 @@ const NOT_ANSWERED: Said = Said::Took(0, 0);
 
 const NO_REPLICA: Said = Said::Refused(WorldFault::NoSuchReplica);
 
-// What is asked of a world, and what is to come of it. Replicas, workers and frames are numbered from 1, pages are given by their
-// number on device 0, and slots by their index and their generation: plain numbers, since each call in a test's rows is proved there.
+// What is asked of a world, and what is to come of it. Replicas, workers and frames are numbered from 1, pages are given by
+// their number on device 0, and slots by their index and their generation: plain numbers, since each call among the rows of
+// a test is proved there.
 #[derive(Clone, Copy)]
 enum Row<'a> {
     // A worker of a replica references a page at a time.
