@@ -1,6 +1,7 @@
 //! Devices in memory, in files, and that fail when they are told to.
 
-use std::fs;
+use std::fs::{self, File, Files};
+use std::process::Abort;
 use warm_devices::{DeviceFault, FileDevice, Flaky, MemDevice, OpenFault, PageDevice, let_go};
 
 #[test]
@@ -12,13 +13,11 @@ fn a_device_in_memory_keeps_its_pages(rt: HostRuntime) {
         "room for a box",
     );
     let mut page = [9; 2];
-    assert!(rt; (device.pages(), device.page_size(), device.failures()) == (4, 2, 0));
-    assert!(rt; (device.read(1, &mut page), page) == (Ok(()), [0; 2]));
-    assert!(rt; device.waiting() == false);
-    assert!(rt; (device.write(1, &[7, 8]), device.waiting()) == (Ok(()), true));
-    assert!(rt; (device.read(1, &mut page), page) == (Ok(()), [7, 8]));
-    assert!(rt; device.flush() == Ok(()));
-    assert!(rt; device.waiting() == false);
+    assert!(rt; device.pages() == 4 && device.page_size() == 2 && device.failures() == 0);
+    assert!(rt; device.read(1, &mut page) == Ok(()) && page == [0; 2] && !device.waiting());
+    assert!(rt; device.write(1, &[7, 8]) == Ok(()) && device.waiting());
+    assert!(rt; device.read(1, &mut page) == Ok(()) && page == [7, 8]);
+    assert!(rt; device.flush() == Ok(()) && !device.waiting());
     let_go(device);
 }
 
@@ -27,10 +26,15 @@ fn the_chosen_write_tears_its_page(rt: HostRuntime) {
     let inner = MemDevice::new(rt.alloc(), 4, 2).expect(&rt, "room for pages");
     let mut device = Flaky::new(inner, 2);
     let mut page = [0; 2];
-    assert!(rt; device.write(1, &[7, 8]) == Ok(()));
-    assert!(rt; (device.write(1, &[9, 9]), device.failures()) == (Err(DeviceFault::Write), 1));
-    assert!(rt; (device.read(1, &mut page), page) == (Ok(()), [0xEE; 2]));
-    assert!(rt; (device.write(1, &[9, 9]), device.flush()) == (Ok(()), Ok(())));
+    assert!(rt;
+        device.write(1, &[7, 8]) == Ok(())
+            && device.write(1, &[9, 9]) == Err(DeviceFault::Write)
+            && device.failures() == 1
+            && device.read(1, &mut page) == Ok(())
+            && page == [0xEE; 2]
+            && device.write(1, &[9, 9]) == Ok(())
+            && device.flush() == Ok(())
+    );
 }
 
 #[test]
@@ -38,16 +42,20 @@ fn the_chosen_call_may_be_a_read(rt: HostRuntime) {
     let inner = MemDevice::new(rt.alloc(), 1, 1).expect(&rt, "room for a page");
     let mut device = Flaky::new(inner, 1);
     let mut page = [3; 1];
-    assert!(rt; device.read(0, &mut page) == Err(DeviceFault::Read));
-    assert!(rt; device.read(0, &mut page) == Ok(()));
+    assert!(rt;
+        device.read(0, &mut page) == Err(DeviceFault::Read) && device.read(0, &mut page) == Ok(())
+    );
 }
 
 #[test]
 fn the_chosen_call_may_be_a_flush(rt: HostRuntime) {
     let inner = MemDevice::new(rt.alloc(), 1, 1).expect(&rt, "room for a page");
     let mut device = Flaky::new(inner, 2);
-    assert!(rt; device.write(0, &[5]) == Ok(()));
-    assert!(rt; (device.flush(), device.waiting()) == (Err(DeviceFault::Flush), true));
+    assert!(rt;
+        device.write(0, &[5]) == Ok(())
+            && device.flush() == Err(DeviceFault::Flush)
+            && device.waiting()
+    );
 }
 
 #[test]
@@ -56,24 +64,34 @@ fn no_call_may_be_chosen(rt: HostRuntime) {
     let mut device = Flaky::new(inner, 0);
     assert!(rt; device.write(0, &[5]) == Ok(()));
     device.settle();
-    assert!(rt; (device.waiting(), device.failures()) == (false, 0));
+    assert!(rt; !device.waiting() && device.failures() == 0);
+}
+
+// Writes page 3 of a file of eight pages, whose device is then dropped.
+fn write_page<R: Files<File = File> + Abort>(rt: &R, path: &str) {
+    let mut device = FileDevice::open(rt, path, 8, 16).expect(rt, "opened");
+    assert!(rt; device.write(3, &[0x5A; 16]) == Ok(()));
+}
+
+// The file has that page and zeros.
+fn find_page<R: Files<File = File> + Abort>(rt: &R, path: &str) {
+    let mut device = FileDevice::open(rt, path, 8, 16).expect(rt, "opened again");
+    let mut page = [0; 16];
+    assert!(rt;
+        device.read(3, &mut page) == Ok(())
+            && page == [0x5A; 16]
+            && device.read(7, &mut page) == Ok(())
+            && page == [0; 16]
+            && !device.waiting()
+            && device.failures() == 0
+    );
 }
 
 #[test]
 fn a_file_keeps_a_dropped_devices_bytes(rt: HostRuntime) {
     let path = "kept.pages";
-    let mut device = FileDevice::open(&rt, path, 8, 16).expect(&rt, "opened");
-    let bytes = [0x5A; 16];
-    assert!(rt; device.write(3, &bytes) == Ok(()));
-    drop(device);
-    let mut device = FileDevice::open(&rt, path, 8, 16).expect(&rt, "opened again");
-    let mut page = [0; 16];
-    assert!(rt; device.read(3, &mut page) == Ok(()));
-    assert!(rt; page == bytes);
-    assert!(rt; device.read(7, &mut page) == Ok(()));
-    assert!(rt; page == [0; 16]);
-    assert!(rt; (device.waiting(), device.failures()) == (false, 0));
-    drop(device);
+    write_page(&rt, path);
+    find_page(&rt, path);
     let file = fs::metadata(&rt, path).expect(&rt, "the file stands");
     assert!(rt; file.len() == 128);
     fs::remove_file(&rt, path).expect(&rt, "the file goes");
@@ -94,12 +112,8 @@ fn faults_have_their_numbers_and_names(rt: HostRuntime) {
         (DeviceFault::Write, 2, "Write"),
         (DeviceFault::Flush, 3, "Flush"),
     ] {
-        assert!(rt; (fault.code(), fault.name()) == (code, name));
+        assert!(rt; fault.code() == code && fault.name() == name);
     }
-    for (fault, code, name) in [
-        (OpenFault::Memory, 1, "Memory"),
-        (OpenFault::Open, 2, "Open"),
-    ] {
-        assert!(rt; (fault.code(), fault.name()) == (code, name));
-    }
+    assert!(rt; OpenFault::Memory.code() == 1 && OpenFault::Memory.name() == "Memory");
+    assert!(rt; OpenFault::Open.code() == 2 && OpenFault::Open.name() == "Open");
 }

@@ -59,70 +59,60 @@ fn taken_anew(rt: &impl Abort, alloc: Global, history: &History) -> SumTable {
     sums(alloc, history).expect(rt, "room for the sums")
 }
 
-// Buckets 1 and 7 have these sums, and each other has that of nothing.
-fn has_sums(rt: &impl Abort, table: &SumTable, bucket_1: [u8; 32], bucket_7: [u8; 32]) {
-    for index in 0..64 {
-        let bucket = Bucket::new(index).expect(rt, "a bucket");
-        let want = match index {
-            1 => bucket_1,
-            7 => bucket_7,
-            _ => OF_NOTHING,
-        };
-        assert!(rt; table.sum(bucket) == want);
+// Which of the four pages a table has sums of: those of bucket 1, that of bucket 7, or all. Each is named by a word, since a sum of
+// 32 bytes is dear to prove wherever it stands.
+#[derive(Clone, Copy)]
+enum Pages {
+    None,
+    OfBucket1,
+    OfBucket7,
+    All,
+}
+
+fn sum_of(index: u8, pages: Pages) -> [u8; 32] {
+    match (index, pages) {
+        (1, Pages::OfBucket1 | Pages::All) => OF_THREE_PAGES,
+        (7, Pages::OfBucket7 | Pages::All) => OF_0_7,
+        _ => OF_NOTHING,
     }
+}
+
+// Whether each bucket has the sum of those of the pages that it has.
+fn has_sums(table: &SumTable, pages: Pages) -> bool {
+    for index in 0..64 {
+        let Some(bucket) = Bucket::new(index) else {
+            return false;
+        };
+        if table.sum(bucket) != sum_of(index, pages) {
+            return false;
+        }
+    }
+    true
 }
 
 #[test]
 fn each_bucket_of_nothing_has_the_sum_of_no_bytes(rt: HostRuntime) {
     let history = History::new(rt.alloc());
     let table = taken_anew(&rt, rt.alloc(), &history);
-    has_sums(&rt, &table, OF_NOTHING, OF_NOTHING);
+    assert!(rt; has_sums(&table, Pages::None));
     let table = Sums::new(rt.alloc()).table();
-    has_sums(&rt, &table, OF_NOTHING, OF_NOTHING);
+    assert!(rt; has_sums(&table, Pages::None));
 }
 
 #[test]
 fn a_bucket_has_the_sum_of_its_entries(rt: HostRuntime) {
-    let history = history_of(&rt, rt.alloc(), &four_pages(&rt));
-    let table = taken_anew(&rt, rt.alloc(), &history);
-    has_sums(&rt, &table, OF_THREE_PAGES, OF_0_7);
+    let table = sums_of(&rt, rt.alloc(), &four_pages(&rt));
+    assert!(rt; has_sums(&table, Pages::All));
 }
 
 // What renewing the sums of the buckets of a mask gives, where they were those of nothing, and where
 // they were those of the four pages and the history is forgotten.
-#[derive(Clone, Copy)]
-struct Renewal {
-    mask: u64,
-    grown: ([u8; 32], [u8; 32]),
-    forgotten: ([u8; 32], [u8; 32]),
-}
-
-const RENEWALS: [Renewal; 5] = [
-    Renewal {
-        mask: 0,
-        grown: (OF_NOTHING, OF_NOTHING),
-        forgotten: (OF_THREE_PAGES, OF_0_7),
-    },
-    Renewal {
-        mask: 2,
-        grown: (OF_THREE_PAGES, OF_NOTHING),
-        forgotten: (OF_NOTHING, OF_0_7),
-    },
-    Renewal {
-        mask: 0x80,
-        grown: (OF_NOTHING, OF_0_7),
-        forgotten: (OF_THREE_PAGES, OF_NOTHING),
-    },
-    Renewal {
-        mask: 0x8000_0000_0000_0001,
-        grown: (OF_NOTHING, OF_NOTHING),
-        forgotten: (OF_THREE_PAGES, OF_0_7),
-    },
-    Renewal {
-        mask: u64::MAX,
-        grown: (OF_THREE_PAGES, OF_0_7),
-        forgotten: (OF_NOTHING, OF_NOTHING),
-    },
+const RENEWALS: [(u64, Pages, Pages); 5] = [
+    (0, Pages::None, Pages::All),
+    (2, Pages::OfBucket1, Pages::OfBucket7),
+    (0x80, Pages::OfBucket7, Pages::OfBucket1),
+    (0x8000_0000_0000_0001, Pages::None, Pages::All),
+    (u64::MAX, Pages::All, Pages::None),
 ];
 
 // Renews sums of the buckets of a mask.
@@ -130,22 +120,28 @@ fn renew(rt: &impl Abort, kept: &mut Sums, history: &History, mask: u64) {
     kept.renew(history, mask).expect(rt, "room for the sums");
 }
 
-// Sums of nothing are renewed as the row says.
-fn renews(rt: &impl Abort, alloc: Global, history: &History, nothing: &History, row: Renewal) {
+// What sums of nothing are renewed to by the buckets of a mask.
+fn grown(rt: &impl Abort, alloc: Global, history: &History, mask: u64) -> SumTable {
     let mut kept = Sums::new(alloc);
-    renew(rt, &mut kept, history, row.mask);
-    has_sums(rt, &kept.table(), row.grown.0, row.grown.1);
+    renew(rt, &mut kept, history, mask);
+    kept.table()
+}
+
+// What all sums of a history are renewed to by the buckets of a mask, where it is forgotten.
+fn forgotten(rt: &impl Abort, alloc: Global, history: &History, mask: u64) -> SumTable {
+    let nothing = History::new(alloc);
+    let mut kept = Sums::new(alloc);
     renew(rt, &mut kept, history, u64::MAX);
-    renew(rt, &mut kept, nothing, row.mask);
-    has_sums(rt, &kept.table(), row.forgotten.0, row.forgotten.1);
+    renew(rt, &mut kept, &nothing, mask);
+    kept.table()
 }
 
 #[test]
 fn the_buckets_of_the_mask_are_renewed(rt: HostRuntime) {
-    let nothing = History::new(rt.alloc());
     let history = history_of(&rt, rt.alloc(), &four_pages(&rt));
-    for row in RENEWALS {
-        renews(&rt, rt.alloc(), &history, &nothing, row);
+    for (mask, after, left) in RENEWALS {
+        assert!(rt; has_sums(&grown(&rt, rt.alloc(), &history, mask), after));
+        assert!(rt; has_sums(&forgotten(&rt, rt.alloc(), &history, mask), left));
     }
 }
 
@@ -166,24 +162,22 @@ fn entries_of(rt: &impl Abort, alloc: Global, batch: &[Reference]) -> Vec<Entry>
     history.iter().collect(alloc).expect(rt, "room for entries")
 }
 
-// Buckets 1 and 7 have these sums as they are kept, and each other has that of nothing.
-fn keeps(rt: &impl Abort, summed: &mut SummedHistory, bucket_1: [u8; 32], bucket_7: [u8; 32]) {
-    let table = summed.sums().expect(rt, "room for the sums");
-    has_sums(rt, &table, bucket_1, bucket_7);
+// Whether the sums that are kept are of those of the four pages.
+fn keeps(rt: &impl Abort, summed: &mut SummedHistory, pages: Pages) -> bool {
+    has_sums(&summed.sums().expect(rt, "room for the sums"), pages)
 }
 
-// The sums that are kept are those that are taken anew.
-fn keeps_those_taken_anew(rt: &impl Abort, alloc: Global, summed: &mut SummedHistory) {
+// Whether the sums that are kept are those that are taken anew.
+fn keeps_those_taken_anew(rt: &impl Abort, alloc: Global, summed: &mut SummedHistory) -> bool {
     let anew = taken_anew(rt, alloc, summed.history());
-    let kept = summed.sums().expect(rt, "room for the sums");
-    assert!(rt; kept == anew);
+    summed.sums().expect(rt, "room for the sums") == anew
 }
 
 // So many pages come as references.
 fn is_told(rt: &impl Abort, alloc: Global, summed: &mut SummedHistory, first: u32, count: u32) {
     let batch = new_pages(rt, alloc, first, count);
     summed.absorb(&batch).expect(rt, "room for a batch");
-    keeps_those_taken_anew(rt, alloc, summed);
+    assert!(rt; keeps_those_taken_anew(rt, alloc, summed));
 }
 
 // So many pages come as entries.
@@ -191,25 +185,34 @@ fn hears(rt: &impl Abort, alloc: Global, summed: &mut SummedHistory, first: u32,
     let batch = new_pages(rt, alloc, first, count);
     let entries = entries_of(rt, alloc, &batch);
     summed.join_entries(&entries).expect(rt, "room for entries");
-    keeps_those_taken_anew(rt, alloc, summed);
+    assert!(rt; keeps_those_taken_anew(rt, alloc, summed));
+}
+
+// The sums of the four pages are kept, however often they are asked for.
+fn told_of_four(rt: &impl Abort, summed: &mut SummedHistory) {
+    summed
+        .absorb(&four_pages(rt))
+        .expect(rt, "room for a batch");
+    assert!(rt; keeps(rt, summed, Pages::All));
+    assert!(rt; keeps(rt, summed, Pages::All));
+}
+
+// Whether nothing is left.
+fn is_forgotten(rt: &impl Abort, summed: &mut SummedHistory) -> bool {
+    summed.clear();
+    summed.history().len() == 0 && keeps(rt, summed, Pages::None)
 }
 
 #[test]
 fn kept_sums_are_those_of_the_history(rt: HostRuntime) {
     let mut summed = SummedHistory::new(rt.alloc());
-    keeps(&rt, &mut summed, OF_NOTHING, OF_NOTHING);
-    summed
-        .absorb(&four_pages(&rt))
-        .expect(&rt, "room for a batch");
-    keeps(&rt, &mut summed, OF_THREE_PAGES, OF_0_7);
-    keeps(&rt, &mut summed, OF_THREE_PAGES, OF_0_7);
+    assert!(rt; keeps(&rt, &mut summed, Pages::None));
+    told_of_four(&rt, &mut summed);
     is_told(&rt, rt.alloc(), &mut summed, 3, 1);
     is_told(&rt, rt.alloc(), &mut summed, 1000, 100);
     hears(&rt, rt.alloc(), &mut summed, 2000, 100);
     assert!(rt; summed.history().len() == 205);
-    summed.clear();
-    assert!(rt; summed.history().len() == 0);
-    keeps(&rt, &mut summed, OF_NOTHING, OF_NOTHING);
+    assert!(rt; is_forgotten(&rt, &mut summed));
 }
 
 // The sums of the history of these references.
@@ -234,34 +237,38 @@ fn differing_buckets_are_set_bits(rt: HostRuntime) {
     assert!(rt; differing(&more, &one_page) == 0x8000_0000_0000_0001);
 }
 
+// Tells of the four pages; where memory is refused, sees that nothing changed, and tells again.
+fn told_again(rt: &impl Abort, summed: &mut SummedHistory) {
+    let batch = four_pages(rt);
+    if summed.absorb(&batch).is_err() {
+        let is_left = summed.history().len() == 0 && keeps(rt, summed, Pages::None);
+        assert!(rt; is_left);
+        summed.absorb(&batch).expect(rt, "room for a batch");
+    }
+}
+
 // Run again with each growth refused in turn: `rt try --test --fail-alloc N -- a_refused_growth`.
 // A refusal leaves the sums that were kept, and what is asked for again is right.
 #[test]
 fn a_refused_growth_changes_no_sum(rt: HostRuntime) {
-    let batch = four_pages(&rt);
     let mut summed = SummedHistory::new(rt.alloc());
-    if summed.absorb(&batch).is_err() {
-        assert!(rt; summed.history().len() == 0);
-        keeps(&rt, &mut summed, OF_NOTHING, OF_NOTHING);
-        summed.absorb(&batch).expect(&rt, "room for a batch");
-    }
+    told_again(&rt, &mut summed);
     if summed.sums().is_err() {
         assert!(rt; summed.history().len() == 4);
     }
-    keeps(&rt, &mut summed, OF_THREE_PAGES, OF_0_7);
+    assert!(rt; keeps(&rt, &mut summed, Pages::All));
 }
 
 #[test]
 fn a_refused_renewal_changes_no_sum(rt: HostRuntime) {
-    let batch = four_pages(&rt);
     let mut history = History::new(rt.alloc());
-    if history.absorb(&batch).is_err() {
+    if history.absorb(&four_pages(&rt)).is_err() {
         return;
     }
     let mut kept = Sums::new(rt.alloc());
     if kept.renew(&history, 2).is_err() {
-        has_sums(&rt, &kept.table(), OF_NOTHING, OF_NOTHING);
+        assert!(rt; has_sums(&kept.table(), Pages::None));
         renew(&rt, &mut kept, &history, 2);
     }
-    has_sums(&rt, &kept.table(), OF_THREE_PAGES, OF_NOTHING);
+    assert!(rt; has_sums(&kept.table(), Pages::OfBucket1));
 }

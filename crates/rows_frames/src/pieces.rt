@@ -2,7 +2,9 @@
 //!
 //! With `rt try --test --fail-alloc N`, for N from 1 on, each growth is refused in turn: the same piece
 //! is then fed once more.
-use crate::frames::{TWICE, decoded, encoded};
+ghost use Rattle.std.specs.Prelude.{◌<◌};
+
+use crate::frames::{TWICE, decoded, encoded, row_holds};
 use std::alloc::Global;
 use std::process::Abort;
 use warm_frames::{Decoder, EntryList, Fed, Frame, FrameFault, SUM_SIZE, SumTable};
@@ -56,8 +58,24 @@ fn same(left: &Frame, right: &Frame) -> bool {
 fn put_frame(rt: &impl Abort, alloc: Global, frame: &Frame, text: &mut Vec<u8>) {
     let bytes = encoded(rt, alloc, frame);
     let again = decoded(alloc, &bytes).expect(rt, "a frame");
-    assert!(rt; same(frame, &again), "decode gives another frame");
+    assert!(rt; same(frame, &again));
     put(rt, text, &bytes);
+}
+
+// Feeds the begin of a piece, and puts the spelling of a frame that it gives behind the text. How many bytes were taken.
+fn feed_some(
+    rt: &impl Abort,
+    alloc: Global,
+    decoder: &mut Decoder,
+    piece: &[u8],
+    text: &mut Vec<u8>,
+) -> usize {
+    let fed = fed(decoder, piece).expect(rt, "no fault");
+    let taken = fed.taken;
+    if let Some(frame) = &fed.frame {
+        put_frame(rt, alloc, frame.as_frame(), text);
+    }
+    taken
 }
 
 // Feeds all of a piece, and puts the spellings of the frames that it gives behind the text.
@@ -73,11 +91,8 @@ fn feed_all(
         if rest.is_empty() {
             return;
         }
-        let fed = fed(decoder, rest).expect(rt, "no fault");
-        rest = rest.get(fed.taken..).expect(rt, "took too much");
-        if let Some(frame) = fed.frame {
-            put_frame(rt, alloc, frame.as_frame(), text);
-        }
+        let taken = feed_some(rt, alloc, decoder, rest, text);
+        rest = rest.get(taken..).expect(rt, "took too much");
     }
 }
 
@@ -92,19 +107,55 @@ fn frames_in(rt: &impl Abort, alloc: Global, pieces: &[&[u8]]) -> Vec<u8> {
     text
 }
 
+// Whether these pieces give the one frame.
+fn give_twice(rt: &impl Abort, alloc: Global, pieces: &[&[u8]]) -> bool {
+    frames_in(rt, alloc, pieces).as_slice() == TWICE.as_slice()
+}
+
+// Whether the frame comes of three pieces, the first of so many bytes, and the second up to so many.
+fn comes_in_three(rt: &impl Abort, alloc: Global, first: usize, second: usize) -> bool {
+    let (front, end) = TWICE.split_at(second.min(42));
+    let (begin, middle) = front.split_at(first.min(front.len()));
+    give_twice(rt, alloc, &[begin, middle, end])
+}
+
 #[test]
 fn a_frame_cut_in_two_and_in_three(rt: HostRuntime) {
     for first in 0..43 {
         for second in first..43 {
-            let (front, end) = TWICE.split_at(second);
-            let (begin, middle) = front.split_at(first);
-            let text = frames_in(&rt, rt.alloc(), &[begin, middle, end]);
-            assert!(rt; text.as_slice() == TWICE.as_slice(), "{first} {second}");
+            row_holds(&rt, second, comes_in_three(&rt, rt.alloc(), first, second));
         }
         let (begin, end) = TWICE.split_at(first);
-        let text = frames_in(&rt, rt.alloc(), &[begin, end]);
-        assert!(rt; text.as_slice() == TWICE.as_slice(), "{first}");
+        row_holds(&rt, first, give_twice(&rt, rt.alloc(), &[begin, end]));
     }
+}
+
+fn fault_of(decoder: &mut Decoder, piece: &[u8]) -> Option<FrameFault> {
+    fed(decoder, piece).err()
+}
+
+// Begins another frame by another number, and then the decoder has failed.
+fn fails(rt: &impl Abort, decoder: &mut Decoder, begin: &[u8], more: &[u8]) {
+    assert!(rt; fault_of(decoder, begin) == Some(FrameFault::BadMagic));
+    assert!(rt; fault_of(decoder, more) == Some(FrameFault::Failed));
+    assert!(rt; decoder.finish() == Err(FrameFault::Failed));
+}
+
+// The spellings of the frames in bytes that come in pieces of a size.
+fn fed_by(
+    rt: &impl Abort,
+    alloc: Global,
+    decoder: &mut Decoder,
+    bytes: &[u8],
+    size: usize,
+) -> Vec<u8>
+    requires { 0 < size }
+{
+    let mut text = Vec::new(alloc);
+    for piece in bytes.chunks(size) {
+        feed_all(rt, alloc, decoder, piece, &mut text);
+    }
+    text
 }
 
 #[test]
@@ -114,42 +165,42 @@ fn a_frame_twice_over(rt: HostRuntime) {
     both[42..].copy_from_slice(&TWICE);
     for size in [1, 2, 41, 42, 43, 84] {
         let mut decoder = Decoder::new(rt.alloc());
-        let mut text = Vec::new(rt.alloc());
-        for piece in both.chunks(size) {
-            feed_all(&rt, rt.alloc(), &mut decoder, piece, &mut text);
-        }
-        assert!(rt; text.as_slice() == both.as_slice(), "in pieces of {size}");
+        let text = fed_by(&rt, rt.alloc(), &mut decoder, &both, size);
+        row_holds(&rt, size, text.as_slice() == both.as_slice());
         assert!(rt; decoder.finish() == Ok(()));
-
-        assert!(rt; fed(&mut decoder, &[0; 4]).err() == Some(FrameFault::BadMagic));
-        assert!(rt; fed(&mut decoder, &TWICE).err() == Some(FrameFault::Failed));
-        assert!(rt; decoder.finish() == Err(FrameFault::Failed));
+        fails(&rt, &mut decoder, &[0; 4], &TWICE);
     }
+}
+
+// The spelling of the frame that ends within a piece, and how many bytes were taken.
+fn ended_in(
+    rt: &impl Abort,
+    alloc: Global,
+    decoder: &mut Decoder,
+    piece: &[u8],
+) -> (usize, Vec<u8>) {
+    let fed = fed(decoder, piece).expect(rt, "no fault");
+    let frame = fed.frame.expect(rt, "a frame");
+    (fed.taken, encoded(rt, alloc, frame.as_frame()))
 }
 
 #[test]
 fn a_frame_and_a_byte(rt: HostRuntime) {
-    let mut bytes = [0; 43];
+    let mut bytes = [0x4D; 43];
     bytes[..42].copy_from_slice(&TWICE);
-    bytes[42] = 0x4D;
     let mut decoder = Decoder::new(rt.alloc());
-    let whole = fed(&mut decoder, &bytes).expect(&rt, "no fault");
-    assert!(rt; whole.taken == 42);
-    let frame = whole.frame.expect(&rt, "a frame");
-    let again = encoded(&rt, rt.alloc(), frame.as_frame());
+    let (taken, again) = ended_in(&rt, rt.alloc(), &mut decoder, &bytes);
+    assert!(rt; taken == 42);
     assert!(rt; again.as_slice() == TWICE.as_slice());
-
     begins(&rt, &mut decoder, &[0x4D]);
     assert!(rt; decoder.finish() == Err(FrameFault::Truncated));
-    assert!(rt; fed(&mut decoder, &[0; 3]).err() == Some(FrameFault::BadMagic));
-    assert!(rt; fed(&mut decoder, &[]).err() == Some(FrameFault::Failed));
-    assert!(rt; decoder.finish() == Err(FrameFault::Failed));
+    fails(&rt, &mut decoder, &[0; 3], &[]);
 }
 
 // The piece is taken whole, and no frame ends with it.
 fn begins(rt: &impl Abort, decoder: &mut Decoder, piece: &[u8]) {
     let begun = fed(decoder, piece).expect(rt, "no fault");
-    assert!(rt; (begun.taken, begun.frame.is_none()) == (piece.len(), true));
+    assert!(rt; begun.taken == piece.len() && begun.frame.is_none());
 }
 
 #[test]
@@ -172,6 +223,14 @@ fn place_of_fault(alloc: Global, bytes: &[u8]) -> Option<(usize, FrameFault)> {
     None
 }
 
+// Whether the frame with another byte at a place is refused so at a place, and so where it comes as one piece.
+fn faults_at(alloc: Global, place: usize, value: u8, at: usize, fault: FrameFault) -> bool {
+    let mut bytes = TWICE;
+    bytes[place % 42] = value;
+    place_of_fault(alloc, &bytes) == Some((at, fault))
+        && fault_of(&mut Decoder::new(alloc), &bytes) == Some(fault)
+}
+
 #[test]
 fn a_fault_comes_with_its_byte(rt: HostRuntime) {
     let rows = [
@@ -187,14 +246,14 @@ fn a_fault_comes_with_its_byte(rt: HostRuntime) {
         (41, 65, 41, FrameFault::BadStamp),
     ];
     for (place, value, at, fault) in rows {
-        let mut bytes = TWICE;
-        bytes[place % 42] = value;
-        let found = place_of_fault(rt.alloc(), &bytes);
-        assert!(rt; found == Some((at, fault)), "{value} at {place}");
-        let whole = fed(&mut Decoder::new(rt.alloc()), &bytes).err();
-        assert!(rt; whole == Some(fault), "{value} at {place}");
+        let is_found = faults_at(rt.alloc(), place, value, at, fault);
+        row_holds(&rt, place, is_found);
     }
-    // A body of 27,005 bytes is longer than any.
+}
+
+#[test]
+fn a_body_longer_than_any_is_refused(rt: HostRuntime) {
+    // It has 27,005 bytes.
     let long = [0x4C, 0x32, 0x47, 0x31, 1, 0, 1, 0, 0, 0x69, 0x7D];
     let found = place_of_fault(rt.alloc(), &long);
     assert!(rt; found == Some((10, FrameFault::BadLength)));
@@ -326,13 +385,18 @@ fn frames_in_any_pieces(
     text
 }
 
+// Whether a stream that comes in pieces of any size gives its frames.
+fn is_same_in_pieces(rt: &impl Abort, alloc: Global, numbers: &mut Numbers) -> bool {
+    let stream = any_stream(rt, alloc, numbers);
+    let text = frames_in_any_pieces(rt, alloc, numbers, &stream);
+    text.as_slice() == stream.as_slice()
+}
+
 #[test]
 fn pieces_of_any_size(rt: HostRuntime) {
     let mut numbers = Numbers { state: 17 };
     for _ in 0..100 {
-        let stream = any_stream(&rt, rt.alloc(), &mut numbers);
-        let text = frames_in_any_pieces(&rt, rt.alloc(), &mut numbers, &stream);
-        assert!(rt; text.as_slice() == stream.as_slice());
+        assert!(rt; is_same_in_pieces(&rt, rt.alloc(), &mut numbers));
     }
 }
 
@@ -360,37 +424,49 @@ fn fed_in_two(decoder: &mut Decoder, front: &[u8], end: &[u8]) -> (usize, Result
     }
 }
 
-// The decoder finds what decode knows.
-fn agree(rt: &impl Abort, known: &Known, before: usize, found: &Result<Fed, FrameFault>) {
-    match (known, found) {
-        (None, Ok(fed)) => assert!(rt; fed.frame.is_none()),
-        (Some((len, Ok(want))), Ok(fed)) => {
-            assert!(rt; before.wrapping_add(fed.taken) == *len);
-            let frame = fed.frame.as_ref().expect(rt, "a frame");
-            assert!(rt; same(frame.as_frame(), want));
-        }
-        (Some((_, Err(want))), Err(fault)) => assert!(rt; *fault == *want),
-        _ => panic!(rt; "another answer"),
+// Whether the decoder gives this frame.
+fn gives(fed: &Fed, want: &Frame) -> bool {
+    match &fed.frame {
+        Some(frame) => same(frame.as_frame(), want),
+        None => false,
     }
 }
 
+// Whether the decoder finds what decode knows.
+fn agree(known: &Known, before: usize, found: &Result<Fed, FrameFault>) -> bool {
+    match (known, found) {
+        (None, Ok(fed)) => fed.frame.is_none(),
+        (Some((len, Ok(want))), Ok(fed)) => {
+            before.wrapping_add(fed.taken) == *len && gives(fed, want)
+        }
+        (Some((_, Err(want))), Err(fault)) => *fault == *want,
+        _ => false,
+    }
+}
+
+// Whether the decoder finds what decode knows of bytes that are cut in two.
+fn is_found_as_known(alloc: Global, bytes: &[u8], place: usize) -> bool {
+    let known = first_known(alloc, bytes);
+    let mut decoder = Decoder::new(alloc);
+    let (front, end) = bytes.split_at(place.min(bytes.len()));
+    let (before, found) = fed_in_two(&mut decoder, front, end);
+    agree(&known, before, &found)
+}
+
 // Any frame, one byte of which is any other or the same, is fed up to that byte and then the rest.
-fn is_found_as_known(rt: &impl Abort, alloc: Global, numbers: &mut Numbers) {
+fn is_damaged_alike(rt: &impl Abort, alloc: Global, numbers: &mut Numbers) -> bool {
     let mut bytes = any_bytes(rt, alloc, numbers);
     let place = numbers.below(bytes.len());
     if let Some(byte) = bytes.as_mut_slice().get_mut(place) {
         *byte = (numbers.next() % 256) as u8;
     }
-    let mut decoder = Decoder::new(alloc);
-    let (front, end) = bytes.as_slice().split_at(place.min(bytes.len()));
-    let (before, found) = fed_in_two(&mut decoder, front, end);
-    agree(rt, &first_known(alloc, &bytes), before, &found);
+    is_found_as_known(alloc, &bytes, place)
 }
 
 #[test]
 fn damaged_frames_against_decode(rt: HostRuntime) {
     let mut numbers = Numbers { state: 4 };
     for _ in 0..1000 {
-        is_found_as_known(&rt, rt.alloc(), &mut numbers);
+        assert!(rt; is_damaged_alike(&rt, rt.alloc(), &mut numbers));
     }
 }

@@ -127,64 +127,83 @@ fn pool_over(
     pool_of(rt, alloc, frames, alone(rt, alloc, device))
 }
 
-// Pins a page, which no fault hinders.
-fn pinned(rt: &impl Abort, pool: &mut Pool, history: &History, no: u32) -> Slot
-    requires pool { IsPool (⟦<Pool as Pooled>⟧.state pool.old) }
-    requires ranked { RankedBy (⟦<Pool as Pooled>⟧.state pool.old) history.now }
-    ensures pool { IsPool (⟦<Pool as Pooled>⟧.state pool.new) }
-    ensures ranked { RankedBy (⟦<Pool as Pooled>⟧.state pool.new) history.now }
-{
-    pool.pin(page(no), history).expect(rt, "the page is pinned")
+// What a pool answers: that it is done, the index and the generation of a slot, or why it is refused.
+#[derive(Clone, Copy, PartialEq)]
+enum Said {
+    Done,
+    At(u32, u64),
+    Refused(PoolFault),
+    // The slot does not hold its page, so the pool was not asked.
+    Unheld,
 }
 
-fn unpin(rt: &impl Abort, pool: &mut Pool, history: &History, slot: Slot)
+fn given(found: Result<Slot, PoolFault>) -> Said {
+    match found {
+        Ok(slot) => Said::At(slot.index, slot.generation),
+        Err(fault) => Said::Refused(fault),
+    }
+}
+
+fn done(found: Result<(), PoolFault>) -> Said {
+    match found {
+        Ok(()) => Said::Done,
+        Err(fault) => Said::Refused(fault),
+    }
+}
+
+fn pinned(pool: &mut Pool, history: &History, no: u32) -> Said
     requires pool { IsPool (⟦<Pool as Pooled>⟧.state pool.old) }
     requires ranked { RankedBy (⟦<Pool as Pooled>⟧.state pool.old) history.now }
     ensures pool { IsPool (⟦<Pool as Pooled>⟧.state pool.new) }
     ensures ranked { RankedBy (⟦<Pool as Pooled>⟧.state pool.new) history.now }
 {
-    assert!(rt; pool.holds(slot), "the slot holds its page");
+    given(pool.pin(page(no), history))
+}
+
+fn loaded(pool: &mut Pool, history: &History, page: PageId) -> Said
+    requires pool { IsPool (⟦<Pool as Pooled>⟧.state pool.old) }
+    requires ranked { RankedBy (⟦<Pool as Pooled>⟧.state pool.old) history.now }
+    ensures pool { IsPool (⟦<Pool as Pooled>⟧.state pool.new) }
+    ensures ranked { RankedBy (⟦<Pool as Pooled>⟧.state pool.new) history.now }
+{
+    given(pool.load(page, history))
+}
+
+// Takes a fix from a slot, whether it holds its page.
+fn unpin(pool: &mut Pool, history: &History, slot: Slot) -> bool
+    requires pool { IsPool (⟦<Pool as Pooled>⟧.state pool.old) }
+    requires ranked { RankedBy (⟦<Pool as Pooled>⟧.state pool.old) history.now }
+    ensures pool { IsPool (⟦<Pool as Pooled>⟧.state pool.new) }
+    ensures ranked { RankedBy (⟦<Pool as Pooled>⟧.state pool.new) history.now }
+{
+    if !pool.holds(slot) {
+        return false;
+    }
     pool.unpin(slot);
+    true
 }
 
-fn write(
-    rt: &impl Abort,
-    pool: &mut Pool,
-    history: &History,
-    slot: Slot,
-    at: usize,
-    bytes: &[u8],
-) -> Result<(), PoolFault>
+fn write(pool: &mut Pool, history: &History, slot: Slot, at: usize, bytes: &[u8]) -> Said
     requires pool { IsPool (⟦<Pool as Pooled>⟧.state pool.old) }
     requires ranked { RankedBy (⟦<Pool as Pooled>⟧.state pool.old) history.now }
     ensures pool { IsPool (⟦<Pool as Pooled>⟧.state pool.new) }
     ensures ranked { RankedBy (⟦<Pool as Pooled>⟧.state pool.new) history.now }
 {
-    assert!(rt; pool.holds(slot), "the slot holds its page");
-    pool.write(slot, at, bytes)
+    if !pool.holds(slot) {
+        return Said::Unheld;
+    }
+    done(pool.write(slot, at, bytes))
 }
 
-// Fills a page with AA, which goes to no device yet.
-fn fill(rt: &impl Abort, pool: &mut Pool, history: &History, no: u32)
-    requires pool { IsPool (⟦<Pool as Pooled>⟧.state pool.old) }
-    requires ranked { RankedBy (⟦<Pool as Pooled>⟧.state pool.old) history.now }
-    ensures pool { IsPool (⟦<Pool as Pooled>⟧.state pool.new) }
-    ensures ranked { RankedBy (⟦<Pool as Pooled>⟧.state pool.new) history.now }
-{
-    let held = pinned(rt, pool, history, no);
-    let written = write(rt, pool, history, held, 0, &[0xAA; 16]);
-    assert!(rt; written == Ok(()));
-    unpin(rt, pool, history, held);
-}
-
-// The sixteen bytes of the slot's page.
-fn read(rt: &impl Abort, pool: &Pool, slot: Slot) -> [u8; 16]
+// Whether the slot's page has these bytes.
+fn reads(pool: &Pool, slot: Slot, wanted: &[u8; 16]) -> bool
     requires { IsPool (⟦<Pool as Pooled>⟧.state pool.now) }
 {
-    assert!(rt; pool.holds(slot), "the slot holds its page");
+    if !pool.holds(slot) {
+        return false;
+    }
     let mut bytes = [0; 16];
-    assert!(rt; pool.read(slot, 0, &mut bytes) == Ok(()));
-    bytes
+    pool.read(slot, 0, &mut bytes) == Ok(()) && bytes == *wanted
 }
 
 fn retire(
@@ -201,22 +220,22 @@ fn retire(
     pool.retire(dev, device)
 }
 
-fn empty(pool: &mut Pool, history: &History) -> Result<(), PoolFault>
+fn emptied(pool: &mut Pool, history: &History) -> Said
     requires pool { IsPool (⟦<Pool as Pooled>⟧.state pool.old) }
     requires ranked { RankedBy (⟦<Pool as Pooled>⟧.state pool.old) history.now }
     ensures pool { IsPool (⟦<Pool as Pooled>⟧.state pool.new) }
     ensures ranked { RankedBy (⟦<Pool as Pooled>⟧.state pool.new) history.now }
 {
-    pool.empty()
+    done(pool.empty())
 }
 
-fn write_back_all(pool: &mut Pool, history: &History) -> Result<(), PoolFault>
+fn written_back(pool: &mut Pool, history: &History) -> Said
     requires pool { IsPool (⟦<Pool as Pooled>⟧.state pool.old) }
     requires ranked { RankedBy (⟦<Pool as Pooled>⟧.state pool.old) history.now }
     ensures pool { IsPool (⟦<Pool as Pooled>⟧.state pool.new) }
     ensures ranked { RankedBy (⟦<Pool as Pooled>⟧.state pool.new) history.now }
 {
-    pool.write_back_all()
+    done(pool.write_back_all())
 }
 
 // The pool, which a fixed page keeps from being closed.
@@ -239,11 +258,7 @@ fn not_closed(rt: &impl Abort, pool: Pool, history: &History) -> Pool
 fn closes(rt: &impl Abort, pool: Pool)
     requires { IsPool (⟦<Pool as Pooled>⟧.state pool) }
 {
-    let is_closed = match pool.close() {
-        Ok(()) => true,
-        Err(_) => false,
-    };
-    assert!(rt; is_closed, "the pool is closed");
+    assert!(rt; pool.close().is_ok());
 }
 
 // The device takes the place of one, which nothing hinders.
@@ -259,116 +274,135 @@ fn exchange(
     ensures pool { IsPool (⟦<Pool as Pooled>⟧.state pool.new) }
     ensures ranked { RankedBy (⟦<Pool as Pooled>⟧.state pool.new) history.now }
 {
-    let is_exchanged = match retire(pool, history, dev, device) {
-        Ok(()) => true,
-        Err(_) => false,
-    };
-    assert!(rt; is_exchanged, "the device is exchanged");
+    assert!(rt; retire(pool, history, dev, device).is_ok());
 }
 
-// Pins a page, and takes the fix away again.
-fn visit(rt: &impl Abort, pool: &mut Pool, history: &History, no: u32)
+// The slot of a page that is given a fix.
+fn held(pool: &mut Pool, history: &History, no: u32) -> Option<Slot>
     requires pool { IsPool (⟦<Pool as Pooled>⟧.state pool.old) }
     requires ranked { RankedBy (⟦<Pool as Pooled>⟧.state pool.old) history.now }
     ensures pool { IsPool (⟦<Pool as Pooled>⟧.state pool.new) }
     ensures ranked { RankedBy (⟦<Pool as Pooled>⟧.state pool.new) history.now }
 {
-    let held = pinned(rt, pool, history, no);
-    unpin(rt, pool, history, held);
+    match pinned(pool, history, no) {
+        Said::At(index, generation) => Some(slot(index, generation)),
+        _ => None,
+    }
 }
 
-// Pins a page, which has these bytes, and takes the fix away again.
-fn find(rt: &impl Abort, pool: &mut Pool, history: &History, no: u32, wanted: [u8; 16])
+// Pins a page, and takes the fix away again, whether both are done.
+fn visits(pool: &mut Pool, history: &History, no: u32) -> bool
     requires pool { IsPool (⟦<Pool as Pooled>⟧.state pool.old) }
     requires ranked { RankedBy (⟦<Pool as Pooled>⟧.state pool.old) history.now }
     ensures pool { IsPool (⟦<Pool as Pooled>⟧.state pool.new) }
     ensures ranked { RankedBy (⟦<Pool as Pooled>⟧.state pool.new) history.now }
 {
-    let held = pinned(rt, pool, history, no);
-    assert!(rt; read(rt, pool, held) == wanted);
-    unpin(rt, pool, history, held);
+    match held(pool, history, no) {
+        Some(slot) => unpin(pool, history, slot),
+        None => false,
+    }
 }
 
-// What is asked of a pool, and what is to come of it.
+// Fills a page with AA, which goes to no device yet, whether that is done.
+fn fills(pool: &mut Pool, history: &History, no: u32) -> bool
+    requires pool { IsPool (⟦<Pool as Pooled>⟧.state pool.old) }
+    requires ranked { RankedBy (⟦<Pool as Pooled>⟧.state pool.old) history.now }
+    ensures pool { IsPool (⟦<Pool as Pooled>⟧.state pool.new) }
+    ensures ranked { RankedBy (⟦<Pool as Pooled>⟧.state pool.new) history.now }
+{
+    match held(pool, history, no) {
+        Some(slot) => {
+            let given = write(pool, history, slot, 0, &[0xAA; 16]);
+            given == Said::Done && unpin(pool, history, slot)
+        }
+        None => false,
+    }
+}
+
+// Pins a page, and takes the fix away again, whether both are done and it has these bytes.
+fn finds(pool: &mut Pool, history: &History, no: u32, wanted: &[u8; 16]) -> bool
+    requires pool { IsPool (⟦<Pool as Pooled>⟧.state pool.old) }
+    requires ranked { RankedBy (⟦<Pool as Pooled>⟧.state pool.old) history.now }
+    ensures pool { IsPool (⟦<Pool as Pooled>⟧.state pool.new) }
+    ensures ranked { RankedBy (⟦<Pool as Pooled>⟧.state pool.new) history.now }
+{
+    match held(pool, history, no) {
+        Some(slot) => reads(pool, slot, wanted) && unpin(pool, history, slot),
+        None => false,
+    }
+}
+
+// What is asked of a pool, and what is to come of it. Slots are given by their index and their generation, and pages by their
+// number on device 0, or by the number of the device and their number on it: plain numbers, since each call in a test's rows is
+// proved there.
 #[derive(Clone, Copy)]
 enum Row<'a> {
     // A page is given a fix.
-    Pins(u32, Result<Slot, PoolFault>),
-    // A page is brought in, without a fix.
-    Loads(PageId, Result<Slot, PoolFault>),
+    Pins(u32, Said),
+    // A page of a device is brought in, without a fix.
+    Loads(u16, u32, Said),
     // A fix is taken away.
-    Unpins(Slot),
+    Unpins(u32, u64),
     // A page is given a fix, which is taken away again.
     Visits(u32),
     // A page is filled with AA, which goes to no device yet.
     Fills(u32),
     // A page has these bytes.
-    Finds(u32, [u8; 16]),
-    // Bytes are written into the slot's page.
-    Writes(Slot, usize, &'a [u8], Result<(), PoolFault>),
-    // The page that leaves next.
-    Victim(Option<PageId>),
+    Finds(u32, &'a [u8; 16]),
+    // Bytes are written into the slot's page, from a place on.
+    Writes(u32, u64, usize, &'a [u8], Said),
+    // The page that leaves next, or that there is none.
+    Leaves(u32),
+    NoneLeaves,
     // Whether the slot holds its page.
-    Holds(Slot, bool),
-    // Whether the page is in a frame.
-    Resident(PageId, bool),
+    Holds(u32, u64, bool),
+    // Whether the page of a device is in a frame.
+    Resident(u16, u32, bool),
     // Whether the page is on a device.
     Has(u32, bool),
     // So many frames.
     Frames(usize),
     // What is dirty is written to its device.
-    WritesBack(Result<(), PoolFault>),
+    WritesBack(Said),
     // The frames are emptied.
-    Empties(Result<(), PoolFault>),
+    Empties(Said),
 }
 
-// Asks what the row says and changes nothing for. `at` is its number.
-fn shows(rt: &impl Abort, pool: &Pool, row: Row<'_>, at: usize)
+// Whether what the row asks, and changes nothing for, is as it says.
+fn shows(rt: &impl Abort, pool: &Pool, row: Row<'_>) -> bool
     requires { IsPool (⟦<Pool as Pooled>⟧.state pool.now) }
 {
     match row {
-        Row::Victim(wanted) => assert!(rt; pool.victim() == wanted, "row {at}"),
-        Row::Holds(slot, wanted) => assert!(rt; pool.holds(slot) == wanted, "row {at}"),
-        Row::Resident(page, wanted) => assert!(rt; pool.resident(page) == wanted, "row {at}"),
-        Row::Has(no, wanted) => assert!(rt; pool.has(page(no)) == wanted, "row {at}"),
-        Row::Frames(wanted) => assert!(rt; pool.frames() == wanted, "row {at}"),
+        Row::Leaves(no) => pool.victim() == Some(page(no)),
+        Row::NoneLeaves => pool.victim().is_none(),
+        Row::Holds(index, generation, wanted) => pool.holds(slot(index, generation)) == wanted,
+        Row::Resident(dev, no, wanted) => pool.resident(PageId { dev, no }) == wanted,
+        Row::Has(no, wanted) => pool.has(page(no)) == wanted,
+        Row::Frames(wanted) => pool.frames() == wanted,
         _ => panic!(rt; "no such row"),
     }
 }
 
-// Writes back or empties, if the row says so. `at` is its number.
-fn puts_down(rt: &impl Abort, pool: &mut Pool, history: &History, row: Row<'_>, at: usize)
+// Asks what the row says, and whether that comes of it.
+fn meets(rt: &impl Abort, pool: &mut Pool, history: &History, row: Row<'_>) -> bool
     requires pool { IsPool (⟦<Pool as Pooled>⟧.state pool.old) }
     requires ranked { RankedBy (⟦<Pool as Pooled>⟧.state pool.old) history.now }
     ensures pool { IsPool (⟦<Pool as Pooled>⟧.state pool.new) }
     ensures ranked { RankedBy (⟦<Pool as Pooled>⟧.state pool.new) history.now }
 {
     match row {
-        Row::WritesBack(wanted) => assert!(rt; write_back_all(pool, history) == wanted, "row {at}"),
-        Row::Empties(wanted) => assert!(rt; empty(pool, history) == wanted, "row {at}"),
-        shown => shows(rt, pool, shown, at),
-    }
-}
-
-// Asks what the row says. `at` is its number.
-fn meets(rt: &impl Abort, pool: &mut Pool, history: &History, row: Row<'_>, at: usize)
-    requires pool { IsPool (⟦<Pool as Pooled>⟧.state pool.old) }
-    requires ranked { RankedBy (⟦<Pool as Pooled>⟧.state pool.old) history.now }
-    ensures pool { IsPool (⟦<Pool as Pooled>⟧.state pool.new) }
-    ensures ranked { RankedBy (⟦<Pool as Pooled>⟧.state pool.new) history.now }
-{
-    match row {
-        Row::Visits(no) => visit(rt, pool, history, no),
-        Row::Fills(no) => fill(rt, pool, history, no),
-        Row::Finds(no, wanted) => find(rt, pool, history, no, wanted),
-        Row::Pins(no, wanted) => assert!(rt; pool.pin(page(no), history) == wanted, "row {at}"),
-        Row::Loads(page, wanted) => assert!(rt; pool.load(page, history) == wanted, "row {at}"),
-        Row::Unpins(slot) => unpin(rt, pool, history, slot),
-        Row::Writes(slot, from, bytes, wanted) => {
-            let written = write(rt, pool, history, slot, from, bytes);
-            assert!(rt; written == wanted, "row {at}")
+        Row::Pins(no, wanted) => pinned(pool, history, no) == wanted,
+        Row::Loads(dev, no, wanted) => loaded(pool, history, PageId { dev, no }) == wanted,
+        Row::Unpins(index, generation) => unpin(pool, history, slot(index, generation)),
+        Row::Visits(no) => visits(pool, history, no),
+        Row::Fills(no) => fills(pool, history, no),
+        Row::Finds(no, wanted) => finds(pool, history, no, wanted),
+        Row::Writes(index, generation, from, bytes, wanted) => {
+            write(pool, history, slot(index, generation), from, bytes) == wanted
         }
-        other => puts_down(rt, pool, history, other, at),
+        Row::WritesBack(wanted) => written_back(pool, history) == wanted,
+        Row::Empties(wanted) => emptied(pool, history) == wanted,
+        shown => shows(rt, pool, shown),
     }
 }
 
@@ -380,7 +414,7 @@ fn runs(rt: &impl Abort, pool: &mut Pool, history: &History, rows: &[Row<'_>])
     ensures ranked { RankedBy (⟦<Pool as Pooled>⟧.state pool.new) history.now }
 {
     for (at, row) in rows.iter().enumerate() {
-        meets(rt, pool, history, *row, at);
+        assert!(rt; meets(rt, pool, history, *row), "row {at}");
     }
 }
 
@@ -421,10 +455,6 @@ fn unretired(
     }
 }
 
-const fn on(dev: u16, no: u32) -> PageId {
-    PageId { dev, no }
-}
-
 // Pages that come into four frames are found there, one number on two devices, and one that left is not.
 fn come_in(rt: &impl Abort, pool: &mut Pool, history: &History)
     requires pool { IsPool (⟦<Pool as Pooled>⟧.state pool.old) }
@@ -433,22 +463,22 @@ fn come_in(rt: &impl Abort, pool: &mut Pool, history: &History)
     ensures ranked { RankedBy (⟦<Pool as Pooled>⟧.state pool.new) history.now }
 {
     let rows = [
-        Row::Loads(on(1, 7), Ok(slot(0, 1))),
-        Row::Loads(on(1, 100), Ok(slot(1, 1))),
-        Row::Resident(on(0, 7), false),
-        Row::Loads(on(0, 7), Ok(slot(2, 1))),
-        Row::Loads(on(0, 7), Ok(slot(2, 1))),
-        Row::Resident(on(0, 4), false),
-        Row::Loads(on(0, 4), Ok(slot(3, 1))),
-        Row::Loads(on(0, 7), Ok(slot(2, 1))),
-        Row::Loads(on(1, 100), Ok(slot(1, 1))),
-        Row::Loads(on(1, 7), Ok(slot(0, 1))),
+        Row::Loads(1, 7, Said::At(0, 1)),
+        Row::Loads(1, 100, Said::At(1, 1)),
+        Row::Resident(0, 7, false),
+        Row::Loads(0, 7, Said::At(2, 1)),
+        Row::Loads(0, 7, Said::At(2, 1)),
+        Row::Resident(0, 4, false),
+        Row::Loads(0, 4, Said::At(3, 1)),
+        Row::Loads(0, 7, Said::At(2, 1)),
+        Row::Loads(1, 100, Said::At(1, 1)),
+        Row::Loads(1, 7, Said::At(0, 1)),
         // No frame is free, and 0:4 is the least page.
-        Row::Loads(on(0, 8), Ok(slot(3, 2))),
-        Row::Resident(on(0, 4), false),
-        Row::Loads(on(0, 8), Ok(slot(3, 2))),
-        Row::Loads(on(0, 7), Ok(slot(2, 1))),
-        Row::Resident(on(1, 100), true),
+        Row::Loads(0, 8, Said::At(3, 2)),
+        Row::Resident(0, 4, false),
+        Row::Loads(0, 8, Said::At(3, 2)),
+        Row::Loads(0, 7, Said::At(2, 1)),
+        Row::Resident(1, 100, true),
     ];
     runs(rt, pool, history, &rows)
 }
@@ -461,15 +491,15 @@ fn stay_and_follow(rt: &impl Abort, pool: &mut Pool, history: &History)
     ensures ranked { RankedBy (⟦<Pool as Pooled>⟧.state pool.new) history.now }
 {
     let rows = [
-        Row::Resident(on(1, 7), false),
-        Row::Resident(on(1, 100), false),
-        Row::Loads(on(0, 8), Ok(slot(3, 2))),
-        Row::Loads(on(0, 7), Ok(slot(2, 1))),
-        Row::Loads(on(0, 9), Ok(slot(0, 2))),
-        Row::Loads(on(0, 4), Ok(slot(1, 2))),
-        Row::Loads(on(0, 9), Ok(slot(0, 2))),
-        Row::Loads(on(0, 7), Ok(slot(2, 1))),
-        Row::Resident(on(1, 4), false),
+        Row::Resident(1, 7, false),
+        Row::Resident(1, 100, false),
+        Row::Loads(0, 8, Said::At(3, 2)),
+        Row::Loads(0, 7, Said::At(2, 1)),
+        Row::Loads(0, 9, Said::At(0, 2)),
+        Row::Loads(0, 4, Said::At(1, 2)),
+        Row::Loads(0, 9, Said::At(0, 2)),
+        Row::Loads(0, 7, Said::At(2, 1)),
+        Row::Resident(1, 4, false),
     ];
     runs(rt, pool, history, &rows)
 }
@@ -513,15 +543,15 @@ fn kept_by_fixes(
     ensures ranked { RankedBy (⟦<Pool as Pooled>⟧.state pool.new) history.now }
 {
     let rows = [
-        Row::Pins(3, Ok(slot(0, 1))),
-        Row::Pins(4, Ok(slot(1, 1))),
-        Row::Unpins(slot(1, 1)),
-        Row::Victim(Some(page(4))),
-        Row::Loads(page(5), Ok(slot(1, 2))),
-        Row::Holds(slot(1, 2), false),
-        Row::Resident(page(4), false),
-        Row::Pins(5, Ok(slot(1, 2))),
-        Row::Writes(slot(1, 2), 15, &[1, 2], Err(PoolFault::OutOfPage)),
+        Row::Pins(3, Said::At(0, 1)),
+        Row::Pins(4, Said::At(1, 1)),
+        Row::Unpins(1, 1),
+        Row::Leaves(4),
+        Row::Loads(0, 5, Said::At(1, 2)),
+        Row::Holds(1, 2, false),
+        Row::Resident(0, 4, false),
+        Row::Pins(5, Said::At(1, 2)),
+        Row::Writes(1, 2, 15, &[1, 2], Said::Refused(PoolFault::OutOfPage)),
     ];
     runs(rt, pool, history, &rows);
     let device = unretired(rt, pool, history, 1, device, PoolFault::NoDevice);
@@ -541,15 +571,15 @@ fn let_go_unfixed(
     ensures ranked { RankedBy (⟦<Pool as Pooled>⟧.state pool.new) history.now }
 {
     let rows = [
-        Row::Empties(Err(PoolFault::Fixed)),
-        Row::Unpins(slot(0, 1)),
-        Row::Unpins(slot(1, 2)),
+        Row::Empties(Said::Refused(PoolFault::Fixed)),
+        Row::Unpins(0, 1),
+        Row::Unpins(1, 2),
     ];
     runs(rt, pool, history, &rows);
     exchange(rt, pool, history, 0, device);
     let rows = [
         Row::Has(5, false),
-        Row::Pins(5, Err(PoolFault::NoPage)),
+        Row::Pins(5, Said::Refused(PoolFault::NoPage)),
         Row::Frames(2),
     ];
     runs(rt, pool, history, &rows)
@@ -597,11 +627,11 @@ fn refused_pools_hand_their_devices_back(rt: HostRuntime) {
 fn a_dirty_victim_stays_where_its_write_fails(rt: HostRuntime) {
     let rows = [
         Row::Fills(1),
-        Row::Pins(2, Err(PoolFault::WriteBack)),
-        Row::Resident(page(1), true),
-        Row::Resident(page(2), false),
+        Row::Pins(2, Said::Refused(PoolFault::WriteBack)),
+        Row::Resident(0, 1, true),
+        Row::Resident(0, 2, false),
         Row::Visits(2),
-        Row::Finds(1, [0xAA; 16]),
+        Row::Finds(1, &[0xAA; 16]),
     ];
     lives(&rt, rt.alloc(), 1, flaky(&rt, rt.alloc(), 3), &rows)
 }
@@ -617,9 +647,9 @@ fn stays_unflushed(
     ensures pool { IsPool (⟦<Pool as Pooled>⟧.state pool.new) }
     ensures ranked { RankedBy (⟦<Pool as Pooled>⟧.state pool.new) history.now }
 {
-    fill(rt, pool, history, 1);
+    assert!(rt; fills(pool, history, 1));
     let device = unretired(rt, pool, history, 0, device, PoolFault::Fault);
-    let rows = [Row::Resident(page(1), true), Row::Finds(1, [0xAA; 16])];
+    let rows = [Row::Resident(0, 1, true), Row::Finds(1, &[0xAA; 16])];
     runs(rt, pool, history, &rows);
     exchange(rt, pool, history, 0, device);
     assert!(rt; !pool.resident(page(1)));
@@ -638,17 +668,17 @@ fn a_device_stays_where_its_flush_fails(rt: HostRuntime) {
 fn an_emptied_pool_keeps_its_pages(rt: HostRuntime) {
     let bytes = [0, 0, 0, 0, 0, 0, 0, 0, 0, 0, 0, 0, 0, 0, 7, 8];
     let rows = [
-        Row::Pins(6, Ok(slot(0, 1))),
-        Row::Writes(slot(0, 1), 14, &[7, 8], Ok(())),
-        Row::Unpins(slot(0, 1)),
-        Row::WritesBack(Ok(())),
-        Row::Resident(page(6), true),
-        Row::Empties(Ok(())),
-        Row::Resident(page(6), false),
-        Row::Victim(None),
-        Row::Pins(6, Ok(slot(0, 2))),
-        Row::Finds(6, bytes),
-        Row::Unpins(slot(0, 2)),
+        Row::Pins(6, Said::At(0, 1)),
+        Row::Writes(0, 1, 14, &[7, 8], Said::Done),
+        Row::Unpins(0, 1),
+        Row::WritesBack(Said::Done),
+        Row::Resident(0, 6, true),
+        Row::Empties(Said::Done),
+        Row::Resident(0, 6, false),
+        Row::NoneLeaves,
+        Row::Pins(6, Said::At(0, 2)),
+        Row::Finds(6, &bytes),
+        Row::Unpins(0, 2),
     ];
     lives(&rt, rt.alloc(), 2, memory(&rt, rt.alloc(), 8), &rows)
 }
@@ -656,13 +686,13 @@ fn an_emptied_pool_keeps_its_pages(rt: HostRuntime) {
 #[test]
 fn a_page_stays_out_where_no_frame_or_no_byte_is_to_be_had(rt: HostRuntime) {
     let rows = [
-        Row::Pins(1, Err(PoolFault::ReadFault)),
-        Row::Resident(page(1), false),
-        Row::Pins(1, Ok(slot(0, 1))),
-        Row::Pins(2, Err(PoolFault::AllFixed)),
-        Row::Resident(page(1), true),
-        Row::Victim(None),
-        Row::Unpins(slot(0, 1)),
+        Row::Pins(1, Said::Refused(PoolFault::ReadFault)),
+        Row::Resident(0, 1, false),
+        Row::Pins(1, Said::At(0, 1)),
+        Row::Pins(2, Said::Refused(PoolFault::AllFixed)),
+        Row::Resident(0, 1, true),
+        Row::NoneLeaves,
+        Row::Unpins(0, 1),
     ];
     lives(&rt, rt.alloc(), 1, flaky(&rt, rt.alloc(), 1), &rows)
 }

@@ -14,7 +14,6 @@ use std::alloc::{AllocError, Global};
 use std::marker::PhantomData;
 use std::process::Abort;
 use warm_devices::{MemDevice, PageDevice};
-use warm_gossip::NodeFault;
 use warm_history::{History, PageHist};
 use warm_pool::Slot;
 use warm_stamps::{Bucket, ByteList, PageId, PageList};
@@ -107,106 +106,144 @@ fn fresh(rt: &impl Abort, alloc: Global, replicas: u16, frames: u32) -> Live
     made(rt, alloc, setup, devices)
 }
 
-// A page's times and replicas: of its last stamp, then of the one before.
-type Seen = (u64, u16, Option<(u64, u16)>);
+// What is known of a page of device 0: its number, the time and the replica of its last stamp, and those of the one before, or 0
+// and 0, which is of no replica.
+type Known = (u32, u64, u16, u64, u16);
 
-fn seen(hist: PageHist) -> Seen {
+fn known_in(no: u32, hist: PageHist) -> Known {
     match hist {
-        PageHist::Once(last) => (last.time, last.replica.get(), None),
+        PageHist::Once(last) => (no, last.time, last.replica.get(), 0, 0),
         PageHist::Twice(two) => {
             let last = two.last();
             let prev = two.prev();
             (
+                no,
                 last.time,
                 last.replica.get(),
-                Some((prev.time, prev.replica.get())),
+                prev.time,
+                prev.replica.get(),
             )
         }
     }
 }
 
-// What an event is to be answered: that it is done, or why it is refused.
-type Done = Result<(), WorldFault>;
+// What an event is answered, where it is short. A page is given by its device and its number.
+#[derive(Clone, Copy, PartialEq)]
+enum Said {
+    Done,
+    Refused(WorldFault),
+    // The number of a frame that is kept.
+    Frame(u64),
+    // How many frames answer one that came, and the number of the first.
+    Took(u64, u64),
+    // The index and the generation of the slot of a page with a fix.
+    Pinned(u32, u64),
+    // The page that leaves next, or that there is none.
+    Leaves(u16, u32),
+    NoneLeaves,
+    // The page that a step of the warm-up loads, or that there is none.
+    Loaded(u16, u32),
+    NoneLoaded,
+    // A history, pages or bytes.
+    Long,
+}
 
-// What is asked of a world, and what is to come of it. Replicas, workers and frames are numbered from 1.
+// An event that happened, a frame that nothing answers, and a number that nothing has.
+const DONE: Said = Said::Done;
+
+const NOT_ANSWERED: Said = Said::Took(0, 0);
+
+const NO_REPLICA: Said = Said::Refused(WorldFault::NoSuchReplica);
+
+// What is asked of a world, and what is to come of it. Replicas, workers and frames are numbered from 1, pages are given by
+// their number on device 0, and slots by their index and their generation: plain numbers, since each call among the rows of
+// a test is proved there.
 #[derive(Clone, Copy)]
 enum Row<'a> {
     // A worker of a replica references a page at a time.
-    Refers(u16, u16, PageId, u64, Done),
+    Refers(u16, u16, u32, u64, Said),
     // A worker's buffer is flushed.
-    Flushes(u16, u16, Done),
-    // A replica sends entries of a bucket, after a page; the number of the frame.
-    Sends(u16, u8, Option<PageId>, u64),
-    // It offers its sums; the number of the frame.
-    Offers(u16, u64),
-    // A frame comes to a replica; how many answer it, and the number of the first.
-    Hears(u16, u64, Result<(u64, u64), WorldFault>),
+    Flushes(u16, u16, Said),
+    // A replica sends the first entries of a bucket.
+    Sends(u16, u8, Said),
+    // It offers its sums.
+    Offers(u16, Said),
+    // A frame comes to a replica.
+    Hears(u16, u64, Said),
+    // A replica is restarted.
+    Restarts(u16, Said),
     // A replica knows just these pages so.
-    Knows(u16, &'a [(PageId, Seen)]),
+    Knows(u16, &'a [Known]),
     // So many of the replica's hottest pages.
     Hottest(u16, u32, &'a [PageId]),
-    // A replica is restarted.
-    Restarts(u16, Done),
     // All pages are written back.
-    Finishes(Result<(), NodeFault>),
-    // A replica's pool is used.
-    Pool(u16, Use<'a>),
-}
-
-// What is asked of a replica's pool, and what is to come of it.
-#[derive(Clone, Copy)]
-enum Use<'a> {
-    // A page is given a fix.
-    Pins(PageId, Result<Slot, WorldFault>),
+    Finishes(Said),
+    // A page of a replica's pool is given a fix.
+    Pins(u16, u32, Said),
+    // The same of a page of device 1.
+    PinsElsewhere(u16, u32, Said),
     // A fix is taken away.
-    Unpins(Slot, Done),
+    Unpins(u16, u32, u64, Said),
     // A page is given a fix, which is taken away again.
-    Visits(u32),
-    // Bytes are written into the slot's page.
-    Puts(Slot, u32, &'a [u8], Done),
-    // The slot's page has these bytes.
-    Has(Slot, u32, &'a [u8]),
-    // So many bytes of the slot are not given.
-    Lacks(Slot, u32, u32, WorldFault),
+    Visits(u16, u32),
+    // Bytes are written into the slot's page, from a place on.
+    Puts(u16, u32, u64, u32, &'a [u8], Said),
+    // The slot's page has these bytes from a place on.
+    Has(u16, u32, u64, u32, &'a [u8]),
+    // Bytes of the slot are asked for and not given: from a place on, so many.
+    Lacks(u16, u32, u64, u32, u32, Said),
     // The page that leaves next.
-    Victim(Option<PageId>),
+    Victim(u16, Said),
     // A step of the warm-up.
-    Loads(Result<Option<PageId>, WorldFault>),
+    Loads(u16, Said),
 }
 
-// That memory was wanting, which no row expects.
-const UNEXPECTED: WorldFault = WorldFault::Node(NodeFault::Memory);
-
-fn settled(live: &mut Live, event: Event) -> Done
+// The one place where a world is stepped: what else is asked of it need not know what a step promises.
+fn answer(live: &mut Live, event: Event) -> Answer
     requires { IsWorld state live.old.world }
     ensures { IsWorld state live.new.world }
 {
-    match live.world.step(event) {
-        Answer::Done => Ok(()),
-        Answer::Refused(fault) => Err(fault),
-        _ => Err(UNEXPECTED),
+    live.world.step(event)
+}
+
+fn leaves(page: Option<PageId>) -> Said {
+    match page {
+        Some(page) => Said::Leaves(page.dev, page.no),
+        None => Said::NoneLeaves,
     }
 }
 
-fn kept(live: &mut Live, event: Event) -> Result<u64, WorldFault>
-    requires { IsWorld state live.old.world }
-    ensures { IsWorld state live.new.world }
-{
-    match live.world.step(event) {
-        Answer::FrameNo(frame) => Ok(frame),
-        Answer::Refused(fault) => Err(fault),
-        _ => Err(UNEXPECTED),
+fn loaded(page: Option<PageId>) -> Said {
+    match page {
+        Some(page) => Said::Loaded(page.dev, page.no),
+        None => Said::NoneLoaded,
     }
 }
 
-fn heard(live: &mut Live, j: u16, k: u64) -> Result<(u64, u64), WorldFault>
+fn said_in(answer: Answer) -> Said {
+    match answer {
+        Answer::Done => Said::Done,
+        Answer::Refused(fault) => Said::Refused(fault),
+        Answer::FrameNo(frame) => Said::Frame(frame),
+        Answer::Took { count, first } => Said::Took(count, first),
+        Answer::Pinned(slot) => Said::Pinned(slot.index, slot.generation),
+        Answer::Page(page) => leaves(page),
+        Answer::Loaded(page) => loaded(page),
+        Answer::Shown(_) | Answer::Pages(_) | Answer::Bytes(_) => Said::Long,
+    }
+}
+
+fn says(live: &mut Live, event: Event) -> Said
     requires { IsWorld state live.old.world }
     ensures { IsWorld state live.new.world }
 {
-    match live.world.step(Event::Deliver(j, k)) {
-        Answer::Took { count, first } => Ok((count, first)),
-        Answer::Refused(fault) => Err(fault),
-        _ => Err(UNEXPECTED),
+    said_in(answer(live, event))
+}
+
+fn shown_in(rt: &impl Abort, answer: Answer) -> History {
+    match answer {
+        Answer::Shown(history) => history,
+        _ => panic!(rt; "the replica is shown"),
     }
 }
 
@@ -214,89 +251,29 @@ fn shown(rt: &impl Abort, live: &mut Live, i: u16) -> History
     requires { IsWorld state live.old.world }
     ensures { IsWorld state live.new.world }
 {
-    match live.world.step(Event::Show(i)) {
-        Answer::Shown(history) => history,
-        _ => panic!(rt; "the replica is shown"),
+    shown_in(rt, answer(live, Event::Show(i)))
+}
+
+// Whether a history has just these entries.
+fn has_entries(history: &History, wanted: &[Known]) -> bool {
+    if history.len() != wanted.len() {
+        return false;
     }
-}
-
-fn pinned(live: &mut Live, i: u16, page: PageId) -> Result<Slot, WorldFault>
-    requires { IsWorld state live.old.world }
-    ensures { IsWorld state live.new.world }
-{
-    match live.world.step(Event::Pin(i, page)) {
-        Answer::Pinned(slot) => Ok(slot),
-        Answer::Refused(fault) => Err(fault),
-        _ => Err(UNEXPECTED),
-    }
-}
-
-fn bytes(live: &mut Live, i: u16, slot: Slot, at: u32, len: u32) -> Result<ByteList, WorldFault>
-    requires { IsWorld state live.old.world }
-    ensures { IsWorld state live.new.world }
-{
-    match live.world.step(Event::Get(i, slot, at, len)) {
-        Answer::Bytes(bytes) => Ok(bytes),
-        Answer::Refused(fault) => Err(fault),
-        _ => Err(UNEXPECTED),
-    }
-}
-
-fn victim(live: &mut Live, i: u16) -> Result<Option<PageId>, WorldFault>
-    requires { IsWorld state live.old.world }
-    ensures { IsWorld state live.new.world }
-{
-    match live.world.step(Event::Victim(i)) {
-        Answer::Page(page) => Ok(page),
-        Answer::Refused(fault) => Err(fault),
-        _ => Err(UNEXPECTED),
-    }
-}
-
-fn loaded(live: &mut Live, i: u16) -> Result<Option<PageId>, WorldFault>
-    requires { IsWorld state live.old.world }
-    ensures { IsWorld state live.new.world }
-{
-    match live.world.step(Event::WarmStep(i)) {
-        Answer::Loaded(page) => Ok(page),
-        Answer::Refused(fault) => Err(fault),
-        _ => Err(UNEXPECTED),
-    }
-}
-
-// Pins a page and takes the fix away again.
-fn visited(live: &mut Live, i: u16, page: PageId) -> Done
-    requires { IsWorld state live.old.world }
-    ensures { IsWorld state live.new.world }
-{
-    match pinned(live, i, page) {
-        Ok(slot) => settled(live, Event::Unpin(i, slot)),
-        Err(fault) => Err(fault),
-    }
-}
-
-fn put(
-    rt: &impl Abort,
-    alloc: Global,
-    live: &mut Live,
-    i: u16,
-    slot: Slot,
-    at: u32,
-    text: &[u8],
-) -> Done
-    requires { IsWorld state live.old.world }
-    ensures { IsWorld state live.new.world }
-{
-    let bytes = ByteList::of(text.to_vec(alloc).expect(rt, "room for the bytes"));
-    settled(live, Event::Put(i, slot, at, bytes))
-}
-
-// A history has just these entries. `at` is the number of the row.
-fn has_entries(rt: &impl Abort, history: &History, wanted: &[(PageId, Seen)], at: usize) {
-    assert!(rt; history.len() == wanted.len(), "row {at}");
     for (place, known) in wanted.iter().enumerate() {
-        let entry = history.at(place).expect(rt, "an entry");
-        assert!(rt; (entry.page, seen(entry.hist)) == *known, "row {at}");
+        let Some(entry) = history.at(place) else {
+            return false;
+        };
+        if entry.page.dev != 0 || known_in(entry.page.no, entry.hist) != *known {
+            return false;
+        }
+    }
+    true
+}
+
+fn pages_in(rt: &impl Abort, answer: Answer) -> PageList {
+    match answer {
+        Answer::Pages(hottest) => hottest,
+        _ => panic!(rt; "the replica has a warm-up list"),
     }
 }
 
@@ -305,87 +282,114 @@ fn warm_list(rt: &impl Abort, live: &mut Live, i: u16, pages: u32) -> PageList
     requires { IsWorld state live.old.world }
     ensures { IsWorld state live.new.world }
 {
-    match live.world.step(Event::Warm(i, pages)) {
-        Answer::Pages(hottest) => hottest,
-        _ => panic!(rt; "the replica has a warm-up list"),
+    pages_in(rt, answer(live, Event::Warm(i, pages)))
+}
+
+// Whether an answer has just these bytes.
+fn has_bytes(answer: Answer, wanted: &[u8]) -> bool {
+    match answer {
+        Answer::Bytes(bytes) => bytes.as_slice() == wanted,
+        _ => false,
     }
 }
 
-fn are_hottest(rt: &impl Abort, live: &mut Live, i: u16, pages: u32, wanted: &[PageId], at: usize)
-    requires { IsWorld state live.old.world }
-    ensures { IsWorld state live.new.world }
-{
-    let hottest = warm_list(rt, live, i, pages);
-    assert!(rt; hottest.as_slice() == wanted, "row {at}");
-}
-
-fn reads(rt: &impl Abort, live: &mut Live, i: u16, slot: Slot, from: u32, wanted: &[u8], at: usize)
+fn reads(rt: &impl Abort, live: &mut Live, i: u16, slot: Slot, from: u32, wanted: &[u8]) -> bool
     requires { IsWorld state live.old.world }
     ensures { IsWorld state live.new.world }
 {
     let count = u32::try_from(wanted.len()).expect(rt, "a row wants few bytes");
-    let read = bytes(live, i, slot, from, count).expect(rt, "the bytes are read");
-    assert!(rt; read.as_slice() == wanted, "row {at}");
+    has_bytes(answer(live, Event::Get(i, slot, from, count)), wanted)
 }
 
-// Uses the pool of a replica as the row says. `at` is its number.
-fn uses(rt: &impl Abort, alloc: Global, live: &mut Live, i: u16, row: Use<'_>, at: usize)
+// Pins a page and takes the fix away again, whether both are done.
+fn visits(live: &mut Live, i: u16, no: u32) -> bool
     requires { IsWorld state live.old.world }
     ensures { IsWorld state live.new.world }
 {
-    match row {
-        Use::Has(slot, from, wanted) => reads(rt, live, i, slot, from, wanted, at),
-        Use::Pins(page, wanted) => assert!(rt; pinned(live, i, page) == wanted, "row {at}"),
-        Use::Unpins(slot, wanted) => {
-            assert!(rt; settled(live, Event::Unpin(i, slot)) == wanted, "row {at}")
+    match says(live, Event::Pin(i, page(no))) {
+        Said::Pinned(index, generation) => {
+            says(live, Event::Unpin(i, slot(index, generation))) == DONE
         }
-        Use::Visits(no) => assert!(rt; visited(live, i, page(no)) == Ok(()), "row {at}"),
-        Use::Puts(slot, from, text, wanted) => {
-            assert!(rt;
-                put(rt, alloc, live, i, slot, from, text) == wanted,
-                "row {at}"
-            )
-        }
-        Use::Lacks(slot, from, len, fault) => {
-            assert!(rt;
-                bytes(live, i, slot, from, len).err() == Some(fault),
-                "row {at}"
-            )
-        }
-        Use::Victim(wanted) => assert!(rt; victim(live, i) == Ok(wanted), "row {at}"),
-        Use::Loads(wanted) => assert!(rt; loaded(live, i) == wanted, "row {at}"),
+        _ => false,
     }
 }
 
-// Asks what the row says. `at` is its number.
-fn meets(rt: &impl Abort, alloc: Global, live: &mut Live, row: Row<'_>, at: usize)
+fn finished(live: &mut Live) -> Said
+    requires { IsWorld state live.old.world }
+    ensures { IsWorld state live.new.world }
+{
+    match live.world.finish() {
+        Ok(()) => Said::Done,
+        Err(fault) => Said::Refused(WorldFault::Node(fault)),
+    }
+}
+
+fn put(rt: &impl Abort, alloc: Global, i: u16, slot: Slot, at: u32, text: &[u8]) -> Event {
+    let bytes = ByteList::of(text.to_vec(alloc).expect(rt, "room for the bytes"));
+    Event::Put(i, slot, at, bytes)
+}
+
+// The event of a replica's pool that a row asks for, and what is to be told of it.
+fn asked_of_pool(rt: &impl Abort, alloc: Global, row: Row<'_>) -> (Event, Said) {
+    match row {
+        Row::Pins(i, no, wanted) => (Event::Pin(i, page(no)), wanted),
+        Row::PinsElsewhere(i, no, wanted) => (Event::Pin(i, PageId { dev: 1, no }), wanted),
+        Row::Unpins(i, index, generation, wanted) => {
+            (Event::Unpin(i, slot(index, generation)), wanted)
+        }
+        Row::Puts(i, index, generation, from, text, wanted) => {
+            let slot = slot(index, generation);
+            (put(rt, alloc, i, slot, from, text), wanted)
+        }
+        Row::Lacks(i, index, generation, from, len, wanted) => {
+            let slot = slot(index, generation);
+            (Event::Get(i, slot, from, len), wanted)
+        }
+        Row::Victim(i, wanted) => (Event::Victim(i), wanted),
+        Row::Loads(i, wanted) => (Event::WarmStep(i), wanted),
+        _ => panic!(rt; "no such row"),
+    }
+}
+
+// The event that a row asks for, and what is to be told of it.
+fn asked(rt: &impl Abort, alloc: Global, row: Row<'_>) -> (Event, Said) {
+    match row {
+        Row::Refers(i, w, no, time, wanted) => (Event::Refer(i, w, page(no), time), wanted),
+        Row::Flushes(i, w, wanted) => (Event::Flush(i, w), wanted),
+        Row::Sends(i, bucket, wanted) => {
+            let bucket = Bucket::new(bucket).expect(rt, "a bucket");
+            (Event::Send(i, bucket, None), wanted)
+        }
+        Row::Offers(i, wanted) => (Event::Offer(i), wanted),
+        Row::Hears(j, k, wanted) => (Event::Deliver(j, k), wanted),
+        Row::Restarts(i, wanted) => (Event::Restart(i), wanted),
+        other => asked_of_pool(rt, alloc, other),
+    }
+}
+
+// Whether the event that a row asks for is answered as it says.
+fn is_said(rt: &impl Abort, alloc: Global, live: &mut Live, row: Row<'_>) -> bool
+    requires { IsWorld state live.old.world }
+    ensures { IsWorld state live.new.world }
+{
+    let (event, wanted) = asked(rt, alloc, row);
+    says(live, event) == wanted
+}
+
+// Asks what the row says, and whether that comes of it.
+fn meets(rt: &impl Abort, alloc: Global, live: &mut Live, row: Row<'_>) -> bool
     requires { IsWorld state live.old.world }
     ensures { IsWorld state live.new.world }
 {
     match row {
-        Row::Pool(i, row) => uses(rt, alloc, live, i, row, at),
-        Row::Hottest(i, pages, wanted) => are_hottest(rt, live, i, pages, wanted, at),
-        Row::Knows(i, wanted) => has_entries(rt, &shown(rt, live, i), wanted, at),
-        Row::Refers(i, w, page, time, wanted) => {
-            let refer = Event::Refer(i, w, page, time);
-            assert!(rt; settled(live, refer) == wanted, "row {at}")
+        Row::Knows(i, wanted) => has_entries(&shown(rt, live, i), wanted),
+        Row::Hottest(i, pages, wanted) => warm_list(rt, live, i, pages).as_slice() == wanted,
+        Row::Finishes(wanted) => finished(live) == wanted,
+        Row::Visits(i, no) => visits(live, i, no),
+        Row::Has(i, index, generation, from, wanted) => {
+            reads(rt, live, i, slot(index, generation), from, wanted)
         }
-        Row::Flushes(i, w, wanted) => {
-            assert!(rt; settled(live, Event::Flush(i, w)) == wanted, "row {at}")
-        }
-        Row::Sends(i, bucket, after, wanted) => {
-            let bucket = Bucket::new(bucket).expect(rt, "a bucket");
-            let send = Event::Send(i, bucket, after);
-            assert!(rt; kept(live, send) == Ok(wanted), "row {at}")
-        }
-        Row::Offers(i, wanted) => {
-            assert!(rt; kept(live, Event::Offer(i)) == Ok(wanted), "row {at}")
-        }
-        Row::Hears(j, k, wanted) => assert!(rt; heard(live, j, k) == wanted, "row {at}"),
-        Row::Restarts(i, wanted) => {
-            assert!(rt; settled(live, Event::Restart(i)) == wanted, "row {at}")
-        }
-        Row::Finishes(wanted) => assert!(rt; live.world.finish() == wanted, "row {at}"),
+        event => is_said(rt, alloc, live, event),
     }
 }
 
@@ -395,7 +399,7 @@ fn runs(rt: &impl Abort, alloc: Global, live: &mut Live, rows: &[Row<'_>])
     ensures { IsWorld state live.new.world }
 {
     for (at, row) in rows.iter().enumerate() {
-        meets(rt, alloc, live, *row, at);
+        assert!(rt; meets(rt, alloc, live, *row), "row {at}");
     }
 }
 

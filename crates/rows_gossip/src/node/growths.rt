@@ -2,14 +2,17 @@
 //! same call then succeeds.
 ghost use Rattle.std.specs.Prelude.{IfOk};
 
-use super::{answer, batch_of, page, slot};
+use super::{Said, batch_of, page, says, slot};
 use std::alloc::{AllocError, Global};
 use std::process::Abort;
 use warm_devices::{MemDevice, PageDevice};
 use warm_frames::Frame;
-use warm_gossip::{Call, Node, NodeFault, Reply, Shown};
+use warm_gossip::{Call, Node, NodeFault, Shown};
 use warm_pool::Pool;
 use warm_stamps::{Bucket, RefList, ReplicaId};
+
+// One growth alone is refused, so the next try has the memory.
+const ONE_REFUSED: &str = "one growth alone is refused";
 
 // A node of two frames over a device of 8 pages.
 fn opened(alloc: Global, id: ReplicaId) -> Result<Node, AllocError>
@@ -29,19 +32,17 @@ fn opened(alloc: Global, id: ReplicaId) -> Result<Node, AllocError>
 fn opened_again(rt: &impl Abort, alloc: Global, number: u16) -> Node
     ensures { ⟦<Node as Shown>⟧.is_fit result }
 {
-    let Ok(id) = ReplicaId::new(number) else {
-        panic!(rt; "the number is of a replica");
-    };
-    if let Ok(node) = opened(alloc, id) {
-        return node;
+    let id = ReplicaId::new(number).expect(rt, "the number is of a replica");
+    match opened(alloc, id) {
+        Ok(node) => node,
+        Err(_) => opened(alloc, id).expect(rt, ONE_REFUSED),
     }
-    let Ok(node) = opened(alloc, id) else {
-        panic!(rt; "one growth alone is refused");
-    };
-    node
 }
 
 const CALLS: usize = 11;
+
+// The place of the call by which replica 2 comes to know a page of bucket 1 and one of bucket 2.
+const TELLING: usize = 11;
 
 // Each kind of call that takes room, one after the other; `None` where room for the call itself was refused.
 fn call_at(alloc: Global, other: &mut Node, place: usize) -> Option<Call>
@@ -71,6 +72,10 @@ fn call_at(alloc: Global, other: &mut Node, place: usize) -> Option<Call>
             at: 0,
             len: 4,
         }),
+        TELLING => {
+            let two = ReplicaId::new(2).ok()?;
+            Some(Call::Absorb(batch_of(alloc, two, &[(129, 5), (2, 7)]).ok()?))
+        }
         _ => Some(Call::Absorb(RefList::of(Vec::new(alloc)))),
     }
 }
@@ -79,13 +84,10 @@ fn call_again(rt: &impl Abort, alloc: Global, other: &mut Node, place: usize) ->
     requires { ⟦<Node as Shown>⟧.is_fit other.old }
     ensures { ⟦<Node as Shown>⟧.is_fit other.new }
 {
-    if let Some(call) = call_at(alloc, other, place) {
-        return call;
+    match call_at(alloc, other, place) {
+        Some(call) => call,
+        None => call_at(alloc, other, place).expect(rt, ONE_REFUSED),
     }
-    let Some(call) = call_at(alloc, other, place) else {
-        panic!(rt; "one growth alone is refused");
-    };
-    call
 }
 
 // Whether all that a node knows, and what would leave its pool, is as in another.
@@ -95,12 +97,22 @@ fn is_same(node: &Node, twin: &Node) -> bool
 {
     let known = node.history();
     let others = twin.history();
-    known.len() == others.len()
-        && (0..known.len()).all(|i| known.at(i) == others.at(i))
-        && node.victim() == twin.victim()
+    for at in 0..known.len() {
+        if known.at(at) != others.at(at) {
+            return false;
+        }
+    }
+    known.len() == others.len() && node.victim() == twin.victim()
 }
 
-// Asks a node whose twin is as it was; a refusal leaves it so, and the next try has the memory.
+// What is said where a growth was refused.
+const NO_ROOM: Said = Said::Refused(NodeFault::Memory);
+
+fn is_refused(said: Said) -> bool {
+    matches!(said, Said::Refused(_))
+}
+
+// Asks a node whose twin is as it was, whether a refusal leaves it so and the next try has the memory.
 fn ask_again(
     rt: &impl Abort,
     alloc: Global,
@@ -108,21 +120,18 @@ fn ask_again(
     twin: &Node,
     other: &mut Node,
     place: usize,
-)
+) -> bool
     requires node { ⟦<Node as Shown>⟧.is_fit node.old }
     requires twin { ⟦<Node as Shown>⟧.is_fit twin.now }
     requires other { ⟦<Node as Shown>⟧.is_fit other.old }
     ensures node { ⟦<Node as Shown>⟧.is_fit node.new }
     ensures other { ⟦<Node as Shown>⟧.is_fit other.new }
 {
-    let Reply::Refused(fault) = answer(node, call_again(rt, alloc, other, place)) else {
-        return;
-    };
-    assert!(rt; fault == NodeFault::Memory, "at call {place}");
-    assert!(rt; is_same(node, twin), "after a refused call {place}");
-    if let Reply::Refused(fault) = answer(node, call_again(rt, alloc, other, place)) {
-        panic!(rt; "one growth alone is refused, and call {place} met {fault:?}");
+    let first = says(node, call_again(rt, alloc, other, place));
+    if first != NO_ROOM {
+        return !is_refused(first);
     }
+    is_same(node, twin) && !is_refused(says(node, call_again(rt, alloc, other, place)))
 }
 
 fn ask_twin(rt: &impl Abort, alloc: Global, twin: &mut Node, other: &mut Node, place: usize)
@@ -131,30 +140,9 @@ fn ask_twin(rt: &impl Abort, alloc: Global, twin: &mut Node, other: &mut Node, p
     ensures twin { ⟦<Node as Shown>⟧.is_fit twin.new }
     ensures other { ⟦<Node as Shown>⟧.is_fit other.new }
 {
-    if let Reply::Refused(_) = answer(twin, call_again(rt, alloc, other, place)) {
-        let _ = answer(twin, call_again(rt, alloc, other, place));
+    if is_refused(says(twin, call_again(rt, alloc, other, place))) {
+        let _ = says(twin, call_again(rt, alloc, other, place));
     }
-}
-
-// Tells another node of a page of bucket 1 and of one of bucket 2, if there is room.
-fn tell(alloc: Global, other: &mut Node) -> bool
-    requires { ⟦<Node as Shown>⟧.is_fit other.old }
-    ensures { ⟦<Node as Shown>⟧.is_fit other.new }
-{
-    let Ok(batch) = batch_of(alloc, other.id(), &[(129, 5), (2, 7)]) else {
-        return false;
-    };
-    other.absorb(batch.as_slice()).is_ok()
-}
-
-fn tell_again(rt: &impl Abort, alloc: Global, other: &mut Node)
-    requires { ⟦<Node as Shown>⟧.is_fit other.old }
-    ensures { ⟦<Node as Shown>⟧.is_fit other.new }
-{
-    if tell(alloc, other) {
-        return;
-    }
-    assert!(rt; tell(alloc, other), "one growth alone is refused");
 }
 
 fn stay_same(rt: &impl Abort, alloc: Global, node: &mut Node, twin: &mut Node, other: &mut Node)
@@ -162,11 +150,12 @@ fn stay_same(rt: &impl Abort, alloc: Global, node: &mut Node, twin: &mut Node, o
     requires twin { ⟦<Node as Shown>⟧.is_fit twin.old }
     requires other { ⟦<Node as Shown>⟧.is_fit other.old }
 {
-    tell_again(rt, alloc, other);
+    ask_twin(rt, alloc, other, node, TELLING);
+    assert!(rt; other.history().len() == 2);
     for place in 0..CALLS {
-        ask_again(rt, alloc, node, twin, other, place);
+        let is_answered = ask_again(rt, alloc, node, twin, other, place);
         ask_twin(rt, alloc, twin, other, place);
-        assert!(rt; is_same(node, twin), "after call {place}");
+        assert!(rt; is_answered && is_same(node, twin), "call {place}");
     }
 }
 

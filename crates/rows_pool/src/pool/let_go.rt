@@ -2,7 +2,8 @@
 ghost use Rattle.warm_pool.specs.State.{IsPool, RankedBy};
 
 use super::{
-    ONE_REFUSED, closes, exchange, memory, not_closed, pinned, pool_over, unpin, unretired, write,
+    ONE_REFUSED, Said, closes, exchange, held, memory, not_closed, pool_over, unpin, unretired,
+    write,
 };
 use noting_device::{Found, Note, Noting};
 use std::alloc::{AllocError, Global};
@@ -52,10 +53,9 @@ fn noted_pool(rt: &impl Abort, alloc: Global, history: &History) -> (Pool, Slot,
 {
     let (device, note) = witness(rt, alloc);
     let mut pool = pool_over(rt, alloc, 2, device);
-    let held = pinned(rt, &mut pool, history, 0);
-    let written = write(rt, &mut pool, history, held, 0, &[0xAA; 16]);
-    assert!(rt; written == Ok(()));
-    (pool, held, note)
+    let slot = held(&mut pool, history, 0).expect(rt, "the page is pinned");
+    assert!(rt; write(&mut pool, history, slot, 0, &[0xAA; 16]) == Said::Done);
+    (pool, slot, note)
 }
 
 fn exchanged(
@@ -73,7 +73,7 @@ fn exchanged(
 {
     let device = unretired(rt, pool, history, 0, device, PoolFault::Fixed);
     assert!(rt; note.found() == Found::NoDrop);
-    unpin(rt, pool, history, held);
+    assert!(rt; unpin(pool, history, held));
     exchange(rt, pool, history, 0, device);
     assert!(rt; is_kept(note));
 }
@@ -94,7 +94,7 @@ fn a_closed_pools_device_has_what_was_written(rt: HostRuntime) {
     let (pool, held, note) = noted_pool(&rt, alloc, &history);
     let mut pool = not_closed(&rt, pool, &history);
     assert!(rt; note.found() == Found::NoDrop);
-    unpin(&rt, &mut pool, &history, held);
+    assert!(rt; unpin(&mut pool, &history, held));
     closes(&rt, pool);
     assert!(rt; is_kept(&note));
 }

@@ -1,7 +1,7 @@
 //! Which page leaves, by what a history was told.
 ghost use Rattle.warm_pool.specs.State.{IsPool, RankedBy};
 
-use super::{ONE_REFUSED, Row, closes, memory, page, pool_over, runs, slot};
+use super::{ONE_REFUSED, Row, Said, closes, loaded, memory, page, pool_over, runs};
 use std::alloc::Global;
 use std::process::Abort;
 use warm_history::History;
@@ -24,16 +24,16 @@ fn history_of(rt: &impl Abort, alloc: Global, seen: &[(u32, u64)]) -> History {
     history
 }
 
-// Brings a page in without a fix, which no fault hinders.
+// Brings a page of device 0 in without a fix, which no fault hinders.
 fn load(rt: &impl Abort, pool: &mut Pool, history: &History, no: u32)
     requires pool { IsPool (⟦<Pool as Pooled>⟧.state pool.old) }
     requires ranked { RankedBy (⟦<Pool as Pooled>⟧.state pool.old) history.now }
     ensures pool { IsPool (⟦<Pool as Pooled>⟧.state pool.new) }
     ensures ranked { RankedBy (⟦<Pool as Pooled>⟧.state pool.new) history.now }
 {
-    let _slot = pool
-        .load(page(no), history)
-        .expect(rt, "the page is loaded");
+    let given = loaded(pool, history, page(no));
+    let is_in = matches!(given, Said::At(_, _));
+    assert!(rt; is_in);
 }
 
 // The page that leaves for page 3, of two frames with the pages 1 and 2.
@@ -87,9 +87,9 @@ fn a_refreshed_page_has_a_new_rank(rt: HostRuntime) {
     let later = history_of(&rt, alloc, &[(1, 5)]);
     let mut pool = pool_over(&rt, alloc, 2, memory(&rt, alloc, 8));
     let rows = [
-        Row::Loads(page(1), Ok(slot(0, 1))),
-        Row::Loads(page(2), Ok(slot(1, 1))),
-        Row::Victim(Some(page(1))),
+        Row::Loads(0, 1, Said::At(0, 1)),
+        Row::Loads(0, 2, Said::At(1, 1)),
+        Row::Leaves(1),
     ];
     runs(&rt, &mut pool, &history, &rows);
     refresh(&mut pool, &later, 1);

@@ -1,7 +1,10 @@
 //! References, buffers, frames and rounds of gossip.
 ghost use Rattle.warm_world.specs.Seen.{IsWorld};
 
-use super::{Live, Row, fresh, heard, kept, lives, page, runs, settled, shown, warm_list};
+use super::{
+    DONE, Live, NO_REPLICA, NOT_ANSWERED, Row, Said, fresh, lives, page, runs, says, shown,
+    warm_list,
+};
 use std::alloc::Global;
 use std::process::Abort;
 use warm_frames::{EntryList, Frame, encode};
@@ -9,40 +12,35 @@ use warm_history::History;
 use warm_stamps::{Bucket, PageId, ReplicaId};
 use warm_world::{Answer, Event, WorldFault};
 
-const PAGE: PageId = PageId { dev: 0, no: 1 };
-
-const DONE: Result<(), WorldFault> = Ok(());
-
-const NOT_ANSWERED: Result<(u64, u64), WorldFault> = Ok((0, 0));
+const NO_WORKER: Said = Said::Refused(WorldFault::NoSuchWorker);
 
 #[test]
 fn names_what_is_missing(rt: HostRuntime) {
-    let no_replica = WorldFault::NoSuchReplica;
-    let no_worker = WorldFault::NoSuchWorker;
+    let no_frame = Said::Refused(WorldFault::NoSuchFrame);
     let rows = [
-        Row::Refers(4, 1, PAGE, 1, Err(no_replica)),
-        Row::Refers(1, 3, PAGE, 1, Err(no_worker)),
-        Row::Refers(9, 9, PAGE, 1, Err(no_replica)),
-        Row::Flushes(1, 0, Err(no_worker)),
-        Row::Hears(1, 1, Err(WorldFault::NoSuchFrame)),
-        Row::Hears(0, 1, Err(no_replica)),
-        Row::Restarts(4, Err(no_replica)),
+        Row::Refers(4, 1, 1, 1, NO_REPLICA),
+        Row::Refers(1, 3, 1, 1, NO_WORKER),
+        Row::Refers(9, 9, 1, 1, NO_REPLICA),
+        Row::Flushes(1, 0, NO_WORKER),
+        Row::Hears(1, 1, no_frame),
+        Row::Hears(0, 1, NO_REPLICA),
+        Row::Restarts(4, NO_REPLICA),
     ];
     lives(&rt, rt.alloc(), 3, 4, &rows)
 }
 
 #[test]
 fn two_replicas_merge_both_ways(rt: HostRuntime) {
-    let both = [(PAGE, (30, 2, Some((20, 1))))];
+    let both = [(1, 30, 2, 20, 1)];
     let rows = [
-        Row::Refers(1, 1, PAGE, 10, DONE),
-        Row::Refers(1, 1, PAGE, 20, DONE),
+        Row::Refers(1, 1, 1, 10, DONE),
+        Row::Refers(1, 1, 1, 20, DONE),
         Row::Flushes(1, 1, DONE),
-        Row::Refers(2, 1, PAGE, 15, DONE),
-        Row::Refers(2, 1, PAGE, 30, DONE),
+        Row::Refers(2, 1, 1, 15, DONE),
+        Row::Refers(2, 1, 1, 30, DONE),
         Row::Flushes(2, 1, DONE),
-        Row::Sends(1, 1, None, 1),
-        Row::Sends(2, 1, None, 2),
+        Row::Sends(1, 1, Said::Frame(1)),
+        Row::Sends(2, 1, Said::Frame(2)),
         Row::Hears(2, 1, NOT_ANSWERED),
         Row::Hears(1, 2, NOT_ANSWERED),
         Row::Knows(1, &both),
@@ -54,7 +52,7 @@ fn two_replicas_merge_both_ways(rt: HostRuntime) {
 #[test]
 fn a_replica_hears_its_own_sums(rt: HostRuntime) {
     let rows = [
-        Row::Offers(1, 1),
+        Row::Offers(1, Said::Frame(1)),
         Row::Hears(1, 1, NOT_ANSWERED),
         Row::Knows(1, &[]),
     ];
@@ -65,21 +63,21 @@ fn a_replica_hears_its_own_sums(rt: HostRuntime) {
 // its entries of these.
 #[test]
 fn a_round_makes_histories_equal(rt: HostRuntime) {
-    let both = [(page(1), (10, 1, None)), (page(2), (11, 2, None))];
+    let both = [(1, 10, 1, 0, 0), (2, 11, 2, 0, 0)];
     let rows = [
-        Row::Refers(1, 1, page(1), 10, DONE),
+        Row::Refers(1, 1, 1, 10, DONE),
         Row::Flushes(1, 1, DONE),
-        Row::Refers(2, 1, page(2), 11, DONE),
+        Row::Refers(2, 1, 2, 11, DONE),
         Row::Flushes(2, 1, DONE),
-        Row::Offers(1, 1),
-        Row::Hears(2, 1, Ok((2, 2))),
+        Row::Offers(1, Said::Frame(1)),
+        Row::Hears(2, 1, Said::Took(2, 2)),
         Row::Hears(1, 2, NOT_ANSWERED),
-        Row::Hears(1, 3, Ok((2, 4))),
+        Row::Hears(1, 3, Said::Took(2, 4)),
         Row::Hears(2, 4, NOT_ANSWERED),
         Row::Hears(2, 5, NOT_ANSWERED),
         Row::Knows(1, &both),
         Row::Knows(2, &both),
-        Row::Offers(1, 6),
+        Row::Offers(1, Said::Frame(6)),
         Row::Hears(2, 6, NOT_ANSWERED),
     ];
     lives(&rt, rt.alloc(), 2, 4, &rows)
@@ -88,29 +86,30 @@ fn a_round_makes_histories_equal(rt: HostRuntime) {
 #[test]
 fn a_restart_forgets_and_hears_again(rt: HostRuntime) {
     let rows = [
-        Row::Refers(1, 1, PAGE, 10, DONE),
+        Row::Refers(1, 1, 1, 10, DONE),
         Row::Flushes(1, 1, DONE),
-        Row::Sends(1, 1, None, 1),
-        Row::Refers(1, 1, page(2), 11, DONE),
+        Row::Sends(1, 1, Said::Frame(1)),
+        Row::Refers(1, 1, 2, 11, DONE),
         Row::Restarts(1, DONE),
         Row::Flushes(1, 1, DONE),
         Row::Knows(1, &[]),
         Row::Hears(1, 1, NOT_ANSWERED),
-        Row::Knows(1, &[(PAGE, (10, 1, None))]),
+        Row::Knows(1, &[(1, 10, 1, 0, 0)]),
     ];
     lives(&rt, rt.alloc(), 1, 4, &rows)
 }
 
 #[test]
 fn warms_the_hottest_first(rt: HostRuntime) {
+    let hottest = [page(9), page(2), page(5)];
     let rows = [
-        Row::Refers(1, 1, page(5), 1, DONE),
-        Row::Refers(1, 1, page(2), 2, DONE),
-        Row::Refers(1, 1, page(2), 3, DONE),
-        Row::Refers(1, 1, page(9), 4, DONE),
-        Row::Refers(1, 1, page(9), 5, DONE),
+        Row::Refers(1, 1, 5, 1, DONE),
+        Row::Refers(1, 1, 2, 2, DONE),
+        Row::Refers(1, 1, 2, 3, DONE),
+        Row::Refers(1, 1, 9, 4, DONE),
+        Row::Refers(1, 1, 9, 5, DONE),
         Row::Flushes(1, 1, DONE),
-        Row::Hottest(1, 3, &[page(9), page(2), page(5)]),
+        Row::Hottest(1, 3, &hottest),
         Row::Hottest(1, 0, &[]),
     ];
     lives(&rt, rt.alloc(), 1, 4, &rows)
@@ -125,7 +124,7 @@ fn refers(rt: &impl Abort, live: &mut Live, count: u32, spread: u32, first: u64)
     for place in 0..count {
         let page = page(place.wrapping_mul(spread));
         let time = first.wrapping_add(place as u64);
-        assert!(rt; settled(live, Event::Refer(1, 1, page, time)) == Ok(()));
+        assert!(rt; says(live, Event::Refer(1, 1, page, time)) == DONE);
     }
 }
 
@@ -135,9 +134,9 @@ fn full_buffer_moves(rt: &impl Abort, alloc: Global, live: &mut Live)
 {
     refers(rt, live, 65, 0, 1);
     let rows = [
-        Row::Knows(1, &[(page(0), (64, 1, Some((63, 1))))]),
+        Row::Knows(1, &[(0, 64, 1, 63, 1)]),
         Row::Flushes(1, 1, DONE),
-        Row::Knows(1, &[(page(0), (65, 1, Some((64, 1))))]),
+        Row::Knows(1, &[(0, 65, 1, 64, 1)]),
     ];
     runs(rt, alloc, live, &rows)
 }
@@ -159,10 +158,10 @@ fn sends_bucket_seven(rt: &impl Abort, alloc: Global, live: &mut Live)
     ensures { IsWorld state live.new.world }
 {
     let rows = [
-        Row::Refers(1, 1, page(7), 10, DONE),
-        Row::Refers(1, 1, page(7), 20, DONE),
+        Row::Refers(1, 1, 7, 10, DONE),
+        Row::Refers(1, 1, 7, 20, DONE),
         Row::Flushes(1, 1, DONE),
-        Row::Sends(1, 7, None, 1),
+        Row::Sends(1, 7, Said::Frame(1)),
     ];
     runs(rt, alloc, live, &rows)
 }
@@ -207,23 +206,23 @@ fn a_frame_brings_what_its_bytes_say(rt: HostRuntime) {
     brings_what_it_says(&rt, rt.alloc(), &mut live)
 }
 
-// Bucket 0 of replica 1, after a page, comes to replica 2, who knew its first pages, so many; what it brings fills a frame
-// of this length.
+// Bucket 0 of replica 1, after a page, comes to replica 2 as the frame of a number. How long a frame is filled by what replica 2
+// then knows, after its first pages, so many.
 fn carries(
     rt: &impl Abort,
     alloc: Global,
     live: &mut Live,
     after: Option<PageId>,
-    length: usize,
+    number: u64,
     known: usize,
-)
+) -> usize
     requires { IsWorld state live.old.world }
     ensures { IsWorld state live.new.world }
 {
     let bucket = Bucket::new(0).expect(rt, "a bucket");
-    let number = kept(live, Event::Send(1, bucket, after)).expect(rt, "a frame is sent");
-    assert!(rt; heard(live, 2, number) == NOT_ANSWERED);
-    assert!(rt; spelled(rt, alloc, live, known).len() == length);
+    assert!(rt; says(live, Event::Send(1, bucket, after)) == Said::Frame(number));
+    assert!(rt; says(live, Event::Deliver(2, number)) == NOT_ANSWERED);
+    spelled(rt, alloc, live, known).len()
 }
 
 // 1001 pages of bucket 0 take two frames: 1000 entries of 17 bytes after a header of 11 and a count of 4, and one entry.
@@ -232,9 +231,10 @@ fn goes_in_two_frames(rt: &impl Abort, alloc: Global, live: &mut Live)
     ensures { IsWorld state live.new.world }
 {
     refers(rt, live, 1001, 64, 0);
-    assert!(rt; settled(live, Event::Flush(1, 1)) == Ok(()));
-    carries(rt, alloc, live, None, 17_015, 0);
-    carries(rt, alloc, live, Some(page(63_936)), 32, 1000);
+    let after = PageId { dev: 0, no: 63_936 };
+    assert!(rt; says(live, Event::Flush(1, 1)) == DONE);
+    assert!(rt; carries(rt, alloc, live, None, 1, 0) == 17_015);
+    assert!(rt; carries(rt, alloc, live, Some(after), 2, 1000) == 32);
     assert!(rt; shown(rt, live, 2).len() == 1001);
 }
 
@@ -255,35 +255,44 @@ fn references_in_turn(rt: &impl Abort, alloc: Global, count: u64) -> Vec<Event> 
     events
 }
 
-fn all_done(rt: &impl Abort, answers: &[Answer]) {
+fn are_all_done(answers: &[Answer]) -> bool {
     for answer in answers {
-        let is_done = matches!(answer, Answer::Done);
-        assert!(rt; is_done, "each reference is taken");
+        let Answer::Done = answer else {
+            return false;
+        };
     }
+    true
 }
 
 fn runs_at_once(rt: &impl Abort, alloc: Global, live: &mut Live)
     requires { IsWorld state live.old.world }
     ensures { IsWorld state live.new.world }
 {
-    let answers = match live.world.run(references_in_turn(rt, alloc, 70_000)) {
-        Ok(answers) => answers,
-        Err(_) => panic!(rt; "memory is ample"),
-    };
+    let answers = live
+        .world
+        .run(references_in_turn(rt, alloc, 70_000))
+        .ok()
+        .expect(rt, "memory is ample");
     assert!(rt; answers.len() == 70_000);
-    all_done(rt, &answers);
+    assert!(rt; are_all_done(&answers));
 }
 
-// The last page of 10,000 is the hottest.
-fn ends_with_the_hottest(rt: &impl Abort, live: &mut Live)
+// Whether these are 10,000 pages, of which the last is the hottest.
+fn are_all(pages: &[PageId]) -> bool {
+    pages.len() == 10_000 && pages.first().copied() == Some(page(9_999))
+}
+
+fn ends_with_the_hottest(rt: &impl Abort, live: &mut Live) -> bool
     requires { IsWorld state live.old.world }
     ensures { IsWorld state live.new.world }
 {
-    assert!(rt; settled(live, Event::Flush(1, 1)) == Ok(()));
-    let pages = warm_list(rt, live, 1, 10_000);
-    let hottest = (pages.as_slice().len(), pages.as_slice().first().copied());
-    assert!(rt; hottest == (10_000, Some(page(9_999))));
-    assert!(rt; shown(rt, live, 1).len() == 10_000);
+    if says(live, Event::Flush(1, 1)) != DONE {
+        return false;
+    }
+    if !are_all(warm_list(rt, live, 1, 10_000).as_slice()) {
+        return false;
+    }
+    shown(rt, live, 1).len() == 10_000
 }
 
 // No clause forbids that memory is said to be wanting while there is plenty, so a long list is run. Each page
@@ -292,5 +301,5 @@ fn ends_with_the_hottest(rt: &impl Abort, live: &mut Live)
 fn seventy_thousand_events_run_at_once(rt: HostRuntime) {
     let mut live = fresh(&rt, rt.alloc(), 1, 4);
     runs_at_once(&rt, rt.alloc(), &mut live);
-    ends_with_the_hottest(&rt, &mut live)
+    assert!(rt; ends_with_the_hottest(&rt, &mut live));
 }

@@ -3,32 +3,44 @@ ghost use Rattle.std.specs.Prelude.{IfSome};
 ghost use Rattle.warm_world.specs.Opening.{AreFew};
 ghost use Rattle.warm_world.specs.Seen.{IsWorld, listed};
 
-use super::{Live, UNEXPECTED, devices_for, page};
+use super::{Live, Said, answer, devices_for, page, says, slot};
 use std::alloc::Global;
 use std::marker::PhantomData;
 use std::process::Abort;
 use warm_devices::PageDevice;
+use warm_gossip::NodeFault;
 use warm_history::History;
-use warm_pool::Slot;
 use warm_stamps::Bucket;
 use warm_world::{Answer, Event, Setup, World, WorldFault};
+
+// One growth alone is refused, so the next try has the memory.
+const ONE_REFUSED: &str = "one growth alone is refused";
+
+fn shown_in(answer: Answer) -> Option<History> {
+    match answer {
+        Answer::Shown(history) => Some(history),
+        _ => None,
+    }
+}
 
 // A copy of what a replica knows. Where one growth is refused, the next try has the memory.
 fn known(rt: &impl Abort, live: &mut Live, i: u16) -> History
     requires { IsWorld state live.old.world }
     ensures { IsWorld state live.new.world }
 {
-    if let Answer::Shown(history) = live.world.step(Event::Show(i)) {
-        return history;
+    match shown_in(answer(live, Event::Show(i))) {
+        Some(history) => history,
+        None => shown_in(answer(live, Event::Show(i))).expect(rt, ONE_REFUSED),
     }
-    let Answer::Shown(history) = live.world.step(Event::Show(i)) else {
-        panic!(rt; "one growth alone is refused");
-    };
-    history
 }
 
 fn have_same_entries(known: &History, others: &History) -> bool {
-    known.len() == others.len() && (0..known.len()).all(|i| known.at(i) == others.at(i))
+    for at in 0..known.len() {
+        if known.at(at) != others.at(at) {
+            return false;
+        }
+    }
+    known.len() == others.len()
 }
 
 // Whether all that the replica of a number knows is as in another world.
@@ -41,34 +53,30 @@ fn knows_same(rt: &impl Abort, live: &mut Live, twin: &mut Live, i: u16) -> bool
     have_same_entries(&known(rt, live, i), &known(rt, twin, i))
 }
 
-// Both replicas know the same as in another world.
-fn know_same(rt: &impl Abort, live: &mut Live, twin: &mut Live, place: usize)
+// Whether both replicas know the same as in another world.
+fn know_same(rt: &impl Abort, live: &mut Live, twin: &mut Live) -> bool
     requires first { IsWorld state live.old.world }
     requires second { IsWorld state twin.old.world }
     ensures first { IsWorld state live.new.world }
     ensures second { IsWorld state twin.new.world }
 {
-    assert!(rt; knows_same(rt, live, twin, 1), "replica 1 at event {place}");
-    assert!(rt; knows_same(rt, live, twin, 2), "replica 2 at event {place}");
+    knows_same(rt, live, twin, 1) && knows_same(rt, live, twin, 2)
 }
 
 // Devices for two replicas. Where one growth is refused, the next try has the memory.
 fn devices_again(rt: &impl Abort, alloc: Global) -> Vec<Vec<Box<dyn PageDevice + Send>>>
     ensures { AreFew (listed state result.items) }
 {
-    if let Ok(devices) = devices_for(alloc, 2, 16) {
-        return devices;
+    match devices_for(alloc, 2, 16) {
+        Ok(devices) => devices,
+        Err(_) => devices_for(alloc, 2, 16).expect(rt, ONE_REFUSED),
     }
-    let Ok(devices) = devices_for(alloc, 2, 16) else {
-        panic!(rt; "one growth alone is refused");
-    };
-    devices
 }
 
 fn opened(rt: &impl Abort, alloc: Global) -> Option<Live>
     ensures { IfSome result (λ live. IsWorld state live.world) }
 {
-    let setup = Setup::new(2, 1, 2, 4, 16).ok()?;
+    let setup = Setup::new(2, 1, 2, 4, 16).expect(rt, "it is within its limits");
     match World::new(alloc, setup, devices_again(rt, alloc)) {
         Ok(world) => Some(Live {
             world,
@@ -82,13 +90,10 @@ fn opened(rt: &impl Abort, alloc: Global) -> Option<Live>
 fn opened_again(rt: &impl Abort, alloc: Global) -> Live
     ensures { IsWorld state result.world }
 {
-    if let Some(live) = opened(rt, alloc) {
-        return live;
+    match opened(rt, alloc) {
+        Some(live) => live,
+        None => opened(rt, alloc).expect(rt, ONE_REFUSED),
     }
-    let Some(live) = opened(rt, alloc) else {
-        panic!(rt; "one growth alone is refused");
-    };
-    live
 }
 
 const EVENTS: usize = 21;
@@ -96,13 +101,7 @@ const EVENTS: usize = 21;
 // Each kind of event, one after the other. By the last of them what waits in buffers reaches the histories, and each frame
 // that was kept has come to a replica.
 fn event_at(rt: &impl Abort, place: usize) -> Event {
-    let Some(one) = Bucket::new(1) else {
-        panic!(rt; "1 is a bucket");
-    };
-    let slot = Slot {
-        index: 0,
-        generation: 1,
-    };
+    let one = Bucket::new(1).expect(rt, "1 is a bucket");
     match place {
         0 => Event::Refer(1, 1, page(1), 10),
         1 => Event::Refer(1, 1, page(1), 20),
@@ -117,7 +116,7 @@ fn event_at(rt: &impl Abort, place: usize) -> Event {
         10 => Event::Warm(2, 2),
         11 => Event::WarmStep(2),
         12 => Event::Pin(1, page(7)),
-        13 => Event::Get(1, slot, 0, 4),
+        13 => Event::Get(1, slot(0, 1), 0, 4),
         14 => Event::Show(2),
         15 => Event::Flush(1, 1),
         16 => Event::Flush(2, 1),
@@ -128,46 +127,59 @@ fn event_at(rt: &impl Abort, place: usize) -> Event {
     }
 }
 
-// How an event is answered: by the number of a frame that was kept, or how many frames answer one that came, and the first of them.
-fn answered(rt: &impl Abort, live: &mut Live, place: usize) -> Result<(u64, u64), WorldFault>
+// What is told where a growth was refused.
+const NO_ROOM: Said = Said::Refused(WorldFault::Node(NodeFault::Memory));
+
+fn answered(rt: &impl Abort, live: &mut Live, place: usize) -> Said
     requires { IsWorld state live.old.world }
     ensures { IsWorld state live.new.world }
 {
-    match live.world.step(event_at(rt, place)) {
-        Answer::Refused(fault) => Err(fault),
-        Answer::FrameNo(number) => Ok((1, number)),
-        Answer::Took { count, first } => Ok((count, first)),
-        _ => Ok((0, 0)),
-    }
+    says(live, event_at(rt, place))
 }
 
 // Steps a world whose twin is as it was; a refusal leaves it so, and the next try has the memory.
-fn step_again(rt: &impl Abort, live: &mut Live, twin: &mut Live, place: usize) -> (u64, u64)
+fn step_again(rt: &impl Abort, live: &mut Live, twin: &mut Live, place: usize) -> Said
     requires first { IsWorld state live.old.world }
     requires second { IsWorld state twin.old.world }
     ensures first { IsWorld state live.new.world }
     ensures second { IsWorld state twin.new.world }
 {
-    let fault = match answered(rt, live, place) {
-        Ok(numbers) => return numbers,
-        Err(fault) => fault,
-    };
-    assert!(rt; fault == UNEXPECTED, "at event {place}");
-    know_same(rt, live, twin, place);
-    match answered(rt, live, place) {
-        Ok(numbers) => numbers,
-        Err(fault) => { panic!(rt; "one growth alone is refused, and event {place} met {fault:?}") }
+    let first = answered(rt, live, place);
+    if first != NO_ROOM {
+        return first;
     }
+    assert!(rt;
+        know_same(rt, live, twin),
+        "after event {place} was refused"
+    );
+    answered(rt, live, place)
 }
 
-fn step_twin(rt: &impl Abort, twin: &mut Live, place: usize) -> Result<(u64, u64), WorldFault>
+fn step_twin(rt: &impl Abort, twin: &mut Live, place: usize) -> Said
     requires { IsWorld state twin.old.world }
     ensures { IsWorld state twin.new.world }
 {
-    match answered(rt, twin, place) {
-        Ok(numbers) => Ok(numbers),
-        Err(_) => answered(rt, twin, place),
+    let first = answered(rt, twin, place);
+    if first != NO_ROOM {
+        return first;
     }
+    answered(rt, twin, place)
+}
+
+fn is_refused(told: Said) -> bool {
+    matches!(told, Said::Refused(_))
+}
+
+// Whether both worlds answer an event alike, without a refusal in the end, and then know the same.
+fn step_alike(rt: &impl Abort, live: &mut Live, twin: &mut Live, place: usize) -> bool
+    requires first { IsWorld state live.old.world }
+    requires second { IsWorld state twin.old.world }
+    ensures first { IsWorld state live.new.world }
+    ensures second { IsWorld state twin.new.world }
+{
+    let told = step_again(rt, live, twin, place);
+    let other = step_twin(rt, twin, place);
+    !is_refused(told) && told == other && know_same(rt, live, twin)
 }
 
 fn step_both(rt: &impl Abort, live: &mut Live, twin: &mut Live)
@@ -177,13 +189,37 @@ fn step_both(rt: &impl Abort, live: &mut Live, twin: &mut Live)
     ensures second { IsWorld state twin.new.world }
 {
     for place in 0..EVENTS {
-        let numbers = step_again(rt, live, twin, place);
-        assert!(rt;
-            step_twin(rt, twin, place) == Ok(numbers),
-            "at event {place}"
-        );
-        know_same(rt, live, twin, place);
+        assert!(rt; step_alike(rt, live, twin, place), "at event {place}");
     }
+}
+
+// Whether this is the event that was to run.
+fn is_back(events: &[Event]) -> bool {
+    matches!(events.first(), Some(Event::Deliver(1, 1)))
+}
+
+// Runs an event, whether there was room for its answer; else the event comes back.
+fn is_run(rt: &impl Abort, live: &mut Live, events: Vec<Event>) -> bool
+    requires { IsWorld state live.old.world }
+    ensures { IsWorld state live.new.world }
+{
+    match live.world.run(events) {
+        Ok(answers) => {
+            assert!(rt; answers.len() == 1);
+            true
+        }
+        Err(back) => {
+            assert!(rt; is_back(&back));
+            false
+        }
+    }
+}
+
+// The list of one event, where there is room for it.
+fn one_event(alloc: Global) -> Option<Vec<Event>> {
+    let mut events = Vec::with_capacity(alloc, 1).ok()?;
+    events.push_reserved(Event::Deliver(1, 1));
+    Some(events)
 }
 
 // A run whose answers have no room gives the events back, and nothing has happened.
@@ -192,21 +228,13 @@ fn run_again(rt: &impl Abort, alloc: Global, live: &mut Live, twin: &mut Live)
     requires second { IsWorld state twin.old.world }
     ensures first { IsWorld state live.new.world }
 {
-    let Ok(mut events) = Vec::with_capacity(alloc, 1) else {
+    let Some(events) = one_event(alloc) else {
         return;
     };
-    events.push_reserved(Event::Deliver(1, 1));
-    let back = match live.world.run(events) {
-        Ok(answers) => {
-            assert!(rt; answers.len() == 1);
-            return;
-        }
-        Err(back) => back,
-    };
-    let Some(Event::Deliver(1, 1)) = back.first() else {
-        panic!(rt; "the event comes back");
-    };
-    know_same(rt, live, twin, EVENTS);
+    if is_run(rt, live, events) {
+        return;
+    }
+    assert!(rt; know_same(rt, live, twin));
 }
 
 fn stay_same(rt: &impl Abort, alloc: Global, live: &mut Live, twin: &mut Live)

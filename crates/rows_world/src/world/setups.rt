@@ -10,43 +10,49 @@ use warm_gossip::NodeFault;
 use warm_pool::PoolFault;
 use warm_world::{BadSetup, BadWorld, Setup, World, WorldFault};
 
+// Whether a setup has the greatest numbers that are within the limits.
+fn is_greatest(setup: &Setup) -> bool {
+    setup.replicas() == 64
+        && setup.workers() == 16
+        && setup.buffer() == 1024
+        && setup.frames() == 65536
+        && setup.page_size() == 65535
+}
+
 #[test]
 fn setups_are_within_limits(rt: HostRuntime) {
-    assert!(rt; Setup::new(65, 2, 64, 4, 16) == Err(BadSetup));
-    assert!(rt; Setup::new(1, 0, 64, 4, 16) == Err(BadSetup));
-    assert!(rt; Setup::new(1, 17, 64, 4, 16) == Err(BadSetup));
-    assert!(rt; Setup::new(1, 2, 1025, 4, 16) == Err(BadSetup));
-    assert!(rt; Setup::new(1, 2, 64, 65537, 16) == Err(BadSetup));
-    assert!(rt; Setup::new(1, 2, 64, 4, 0) == Err(BadSetup));
-    let Ok(setup) = Setup::new(64, 16, 1024, 65536, 65535) else {
-        panic!(rt; "the setup is within its limits");
-    };
-    assert!(rt; (setup.replicas(), setup.workers(), setup.buffer()) == (64, 16, 1024));
-    assert!(rt; (setup.frames(), setup.page_size()) == (65536, 65535));
+    let are_refused = Setup::new(65, 2, 64, 4, 16).is_err()
+        && Setup::new(1, 0, 64, 4, 16).is_err()
+        && Setup::new(1, 17, 64, 4, 16).is_err()
+        && Setup::new(1, 2, 1025, 4, 16).is_err()
+        && Setup::new(1, 2, 64, 65537, 16).is_err()
+        && Setup::new(1, 2, 64, 4, 0) == Err(BadSetup);
+    assert!(rt; are_refused);
+    let setup = Setup::new(64, 16, 1024, 65536, 65535).expect(&rt, "it is within its limits");
+    assert!(rt; is_greatest(&setup));
+}
+
+fn world_fault_is(fault: WorldFault, code: u8, name: &str) -> bool {
+    fault.code() == code && fault.name() == name
+}
+
+fn bad_world_is(bad: BadWorld, code: u8, name: &str) -> bool {
+    bad.code() == code && bad.name() == name
 }
 
 #[test]
 fn faults_have_numbers_and_names(rt: HostRuntime) {
-    for (fault, code, name) in [
-        (WorldFault::Node(NodeFault::Memory), 1, "Memory"),
-        (
-            WorldFault::Node(NodeFault::Pool(PoolFault::Fixed)),
-            11,
-            "Fixed",
-        ),
-        (WorldFault::NoSuchReplica, 14, "NoSuchReplica"),
-        (WorldFault::NoSuchWorker, 15, "NoSuchWorker"),
-        (WorldFault::NoSuchFrame, 16, "NoSuchFrame"),
-    ] {
-        assert!(rt; (fault.code(), fault.name()) == (code, name));
-    }
-    for (bad, code, name) in [
-        (BadWorld::Memory, 1, "Memory"),
-        (BadWorld::SizeDiffers, 3, "SizeDiffers"),
-        (BadWorld::DevicesDiffer, 17, "DevicesDiffer"),
-    ] {
-        assert!(rt; (bad.code(), bad.name()) == (code, name));
-    }
+    let fixed = WorldFault::Node(NodeFault::Pool(PoolFault::Fixed));
+    let are_so = world_fault_is(WorldFault::Node(NodeFault::Memory), 1, "Memory")
+        && world_fault_is(fixed, 11, "Fixed")
+        && world_fault_is(WorldFault::NoSuchReplica, 14, "NoSuchReplica")
+        && world_fault_is(WorldFault::NoSuchWorker, 15, "NoSuchWorker")
+        && world_fault_is(WorldFault::NoSuchFrame, 16, "NoSuchFrame");
+    assert!(rt; are_so);
+    let are_so = bad_world_is(BadWorld::Memory, 1, "Memory")
+        && bad_world_is(BadWorld::SizeDiffers, 3, "SizeDiffers")
+        && bad_world_is(BadWorld::DevicesDiffer, 17, "DevicesDiffer");
+    assert!(rt; are_so);
 }
 
 // Why no world is made: of so many replicas, whose pages have 16 bytes.
