@@ -2,17 +2,17 @@
 //! replies of all jobs are compared with one order.
 ghost use Rattle.std.specs.Prelude.{◌≡◌};
 
-use crate::jobs::Open;
-use crate::setup::{fresh, listed, opened, reference};
+use crate::jobs::{Open, run};
+use crate::setup::{fresh, listed, reference, turn_over};
 use std::alloc::Global;
+use std::process::Abort;
 use std::sync::Wait;
-use std::test::Fail;
 use std::thread::Threads;
 use warm_frames::Frame;
 use warm_gossip::{Call, Reply};
 use warm_history::{Entry, PageHist};
-use warm_replica::{Absorbing, BoxedCall, Job, MAX_JOBS, Step, StepReply, run_workers};
-use warm_stamps::{Bucket, PageId};
+use warm_replica::{Absorbing, BoxedCall, Job, Step, StepReply};
+use warm_stamps::{Bucket, PageId, Reference};
 use warm_turn::Machine;
 
 const JOBS: usize = 8;
@@ -23,23 +23,17 @@ const ROUNDS: u32 = 4_000;
 const RUNS: u32 = 6;
 
 // The replies of these jobs.
-fn answered<M: Absorbing + Drop + Send, R: Threads + Wait + Sync>(
+fn answered<M: Absorbing + Drop + Send, R: Threads + Wait + Abort + Sync>(
     rt: &R,
     alloc: Global,
     machine: M,
     jobs: Vec<Job>,
-) -> Result<Vec<Vec<StepReply>>, Fail>
+) -> Vec<Vec<StepReply>>
     requires { M.is_fit machine }
 {
-    if jobs.len() > MAX_JOBS {
-        return Err("too many jobs".into());
-    }
-    let (replica, worker) = opened(alloc, machine, 1)?;
-    let (mut pass, _buffer) = worker.into_parts();
-    match run_workers(rt, alloc, &replica, &mut pass, jobs, &Open) {
-        Ok(all) => listed(alloc, all),
-        Err(_) => Err("the jobs ran".into()),
-    }
+    let (replica, mut pass) = turn_over(rt, alloc, machine);
+    let ran = run(rt, alloc, &replica, &mut pass, jobs, &Open);
+    listed(rt, alloc, ran.expect(rt, "the jobs run"))
 }
 
 // A machine that tells of each call which one it is, counted from 1, and takes all batches.
@@ -85,17 +79,23 @@ impl Absorbing for Tally {
     ghost absorbs = { λ _ _ batch _ told. inl (told batch refl) };
 }
 
-// Jobs that make calls alone.
-fn calling(alloc: Global) -> Result<Vec<Job>, Fail> {
+// A job that makes calls alone.
+fn calling(rt: &impl Abort, alloc: Global) -> Job {
+    let mut steps = Vec::new(alloc);
+    for _ in 0..ROUNDS {
+        let call = BoxedCall::new(alloc, Call::Victim).expect(rt, "room for a call");
+        steps.push(Step::Make(call)).expect(rt, "room for a step");
+    }
+    Job { cap: 1, steps }
+}
+
+// Eight of them.
+fn all_calling(rt: &impl Abort, alloc: Global) -> Vec<Job> {
     let mut jobs = Vec::new(alloc);
     for _ in 0..JOBS {
-        let mut steps = Vec::new(alloc);
-        for _ in 0..ROUNDS {
-            steps.push(Step::Make(BoxedCall::new(alloc, Call::Victim)?))?;
-        }
-        jobs.push(Job { cap: 1, steps })?;
+        jobs.push(calling(rt, alloc)).expect(rt, "room for a job");
     }
-    Ok(jobs)
+    jobs
 }
 
 // Whether a job was told rising numbers, none of which was told before. They are noted.
@@ -123,41 +123,63 @@ fn are_new(told: &mut Vec<bool>, replies: &[StepReply]) -> bool {
     replies.len() == ROUNDS as usize
 }
 
+// Whether the jobs of one run were told each number once.
+fn are_counted(rt: &impl Abort, alloc: Global, all: &[Vec<StepReply>]) -> bool {
+    let mut told = vec![in alloc; false; JOBS * ROUNDS as usize].expect(rt, "room for notes");
+    for replies in all {
+        if !are_new(&mut told, replies) {
+            return false;
+        }
+    }
+    all.len() == JOBS && !told.contains(&false)
+}
+
 // The calls of all jobs are told 1, 2, 3 and so on, each once, and each job's in its order.
 #[test]
-fn calls_of_eight_jobs_are_counted_once(rt: HostRuntime) -> Result<(), Fail> {
+fn calls_of_eight_jobs_are_counted_once(rt: HostRuntime) {
     let alloc = rt.alloc();
     for _ in 0..RUNS {
-        let mut told = vec![in alloc; false; JOBS * ROUNDS as usize]?;
-        let all = answered(&rt, alloc, Tally { calls: 0 }, calling(alloc)?)?;
-        for replies in &all {
-            assert!(rt; are_new(&mut told, replies));
-        }
-        assert!(rt; all.len() == JOBS && !told.contains(&false));
+        let all = answered(&rt, alloc, Tally { calls: 0 }, all_calling(&rt, alloc));
+        assert!(rt; are_counted(&rt, alloc, &all));
     }
-    Ok(())
 }
 
 // How many rounds of each job.
 type Rounds = [u64; JOBS];
 
+// A touch of this page, a flush, and this call.
+fn push_round(rt: &impl Abort, alloc: Global, steps: &mut Vec<Step>, touch: Reference, call: Call) {
+    let call = BoxedCall::new(alloc, call).expect(rt, "room for a call");
+    steps
+        .push(Step::Touch(touch))
+        .expect(rt, "room for a touch");
+    steps.push(Step::Flush).expect(rt, "room for a flush");
+    steps.push(Step::Make(call)).expect(rt, "room for a step");
+}
+
 // In each round a job touches a page of its own, flushes, and asks for what the node has heard of the pages of all jobs, which
 // are in bucket 0. The stamp of a touch tells the round, counted from 1.
-fn flushing(alloc: Global, job: u32) -> Result<Job, Fail> {
-    let Some(bucket) = Bucket::new(0) else {
-        return Err("0 is a bucket".into());
-    };
+fn flushing(rt: &impl Abort, alloc: Global, job: u32) -> Job {
+    let bucket = Bucket::new(0).expect(rt, "0 is a bucket");
     let no = u32::wrapping_mul(job, 64);
     let mut steps = Vec::new(alloc);
     for round in 1..=ROUNDS {
         let time = u64::from(round) * 8 + u64::from(job);
-        steps.push(Step::Touch(reference(no, time)?))?;
-        steps.push(Step::Flush)?;
+        let touch = reference(rt, no, time);
         let after = None;
-        let call = BoxedCall::new(alloc, Call::Send { bucket, after })?;
-        steps.push(Step::Make(call))?;
+        push_round(rt, alloc, &mut steps, touch, Call::Send { bucket, after });
     }
-    Ok(Job { cap: 1, steps })
+    Job { cap: 1, steps }
+}
+
+// Eight of them.
+fn all_flushing(rt: &impl Abort, alloc: Global) -> Vec<Job> {
+    let mut jobs = Vec::new(alloc);
+    for job in 0..8 {
+        jobs.push(flushing(rt, alloc, job))
+            .expect(rt, "room for a job");
+    }
+    jobs
 }
 
 // How many rounds of each job these entries tell of.
@@ -192,26 +214,50 @@ fn sum_of(rounds: &Rounds) -> u64 {
     sum
 }
 
+// Whether a job that has made so many rounds was told of just these rounds of its own, and what others were told after as many
+// rounds. It is noted.
+fn is_noted(seen: &mut Vec<Option<Rounds>>, job: usize, own: u64, rounds: Rounds) -> bool {
+    let Some(place) = seen.get_mut(sum_of(&rounds) as usize) else {
+        return false;
+    };
+    if rounds.get(job) != Some(&own) || place.unwrap_or(rounds) != rounds {
+        return false;
+    }
+    *place = Some(rounds);
+    true
+}
+
+// What a job was told of, where it touched and flushed before.
+fn told_after(step: &[StepReply]) -> Option<Rounds> {
+    match step {
+        [StepReply::Touched, StepReply::Flushed, reply] => told_of(reply),
+        _ => None,
+    }
+}
+
 // Whether the job had made just its own rounds at each reply, and was told what others were told after as many rounds. It is noted.
 fn are_noted(seen: &mut Vec<Option<Rounds>>, job: usize, replies: &[StepReply]) -> bool {
     let mut own = 0u64;
     for step in replies.chunks(3) {
-        let [StepReply::Touched, StepReply::Flushed, reply] = step else {
-            return false;
-        };
-        let Some(rounds) = told_of(reply) else {
+        let Some(rounds) = told_after(step) else {
             return false;
         };
         own = own.wrapping_add(1);
-        let Some(place) = seen.get_mut(sum_of(&rounds) as usize) else {
-            return false;
-        };
-        if rounds.get(job) != Some(&own) || place.unwrap_or(rounds) != rounds {
+        if !is_noted(seen, job, own, rounds) {
             return false;
         }
-        *place = Some(rounds);
     }
     own == u64::from(ROUNDS)
+}
+
+// Whether these are as many rounds of each job, or more.
+fn has_all(rounds: &Rounds, last: &Rounds) -> bool {
+    for job in 0..JOBS {
+        if last[job] > rounds[job] {
+            return false;
+        }
+    }
+    true
 }
 
 // Whether each of these has all rounds of those before it.
@@ -219,32 +265,32 @@ fn are_in_one_order(seen: &[Option<Rounds>]) -> bool {
     let mut last = [0; JOBS];
     for told in seen {
         let rounds = told.unwrap_or(last);
-        for (before, after) in last.iter().zip(&rounds) {
-            if before > after {
-                return false;
-            }
+        if !has_all(&rounds, &last) {
+            return false;
         }
         last = rounds;
     }
     true
 }
 
+// Whether what the jobs of one run were told are states of one history.
+fn are_of_one_history(rt: &impl Abort, alloc: Global, all: &[Vec<StepReply>]) -> bool {
+    let mut seen = vec![in alloc; None; JOBS * ROUNDS as usize + 1].expect(rt, "room for notes");
+    for (job, replies) in all.iter().enumerate() {
+        if !are_noted(&mut seen, job, replies) {
+            return false;
+        }
+    }
+    all.len() == JOBS && are_in_one_order(&seen)
+}
+
 // What the jobs were told are states of one history: ordered by their rounds, each has all rounds of those before it.
 #[test]
-fn flushes_of_eight_jobs_are_in_one_order(rt: HostRuntime) -> Result<(), Fail> {
+fn flushes_of_eight_jobs_are_in_one_order(rt: HostRuntime) {
     let alloc = rt.alloc();
     for _ in 0..RUNS {
-        let mut seen = vec![in alloc; None; JOBS * ROUNDS as usize + 1]?;
-        let mut jobs = Vec::new(alloc);
-        for job in 0..8 {
-            jobs.push(flushing(alloc, job)?)?;
-        }
-        let all = answered(&rt, alloc, fresh(alloc)?, jobs)?;
-        assert!(rt; all.len() == JOBS);
-        for (job, replies) in all.iter().enumerate() {
-            assert!(rt; are_noted(&mut seen, job, replies));
-        }
-        assert!(rt; are_in_one_order(&seen));
+        let jobs = all_flushing(&rt, alloc);
+        let all = answered(&rt, alloc, fresh(&rt, alloc), jobs);
+        assert!(rt; are_of_one_history(&rt, alloc, &all));
     }
-    Ok(())
 }

@@ -1,17 +1,20 @@
 //! Rows of jobs in threads of their own.
-use crate::setup::{fresh, listed, opened, reference};
+ghost use Rattle.std.specs.Prelude.{◌≡◌};
+
+use crate::setup::{fresh, listed, pages_of, reference, turn_over};
 use std::alloc::Global;
+use std::process::Abort;
 use std::sync::Wait;
 use std::sync::atomic::{AtomicU64, Ordering};
-use std::test::Fail;
 use std::thread;
 use std::thread::Threads;
 use std::time::{Clock, Duration};
 use warm_gossip::{Call, Reply};
 use warm_replica::{
-    Absorbing, BoxedCall, Gate, Job, MAX_JOBS, RunFault, Step, StepReply, run_workers,
+    Absorbing, BoxedCall, Gate, Job, MAX_JOBS, Replies, RunFault, Step, StepReply, run_workers,
 };
-use warm_stamps::PageList;
+use warm_stamps::{PageId, PageList};
+use warm_turn::{Pass, Turn};
 
 // A gate that holds nobody back.
 #[derive(Clone, Copy)]
@@ -23,12 +26,15 @@ impl Gate for Open {
     fn after(&self, _job: usize, _step: usize) {}
 }
 
-// A gate at which four jobs wait for one another before each step, and what each has taken.
+// One in a byte of a job's own.
+const ONES: [u64; 4] = [0x1, 0x100, 0x1_0000, 0x100_0000];
+
+// A gate at which four jobs wait for one another before each step, and what each has taken: a byte for each job.
 #[derive(Drop)]
 struct Meeting<'a, C: Clock> {
     clock: &'a C,
-    here: [AtomicU64; 4],
-    taken: [AtomicU64; 4],
+    here: AtomicU64,
+    taken: AtomicU64,
     late: AtomicU64,
 }
 
@@ -36,39 +42,21 @@ impl<'a, C: Clock> Meeting<'a, C> {
     fn new(clock: &'a C) -> Meeting<'a, C> {
         Meeting {
             clock,
-            here: [
-                AtomicU64::new(0),
-                AtomicU64::new(0),
-                AtomicU64::new(0),
-                AtomicU64::new(0),
-            ],
-            taken: [
-                AtomicU64::new(0),
-                AtomicU64::new(0),
-                AtomicU64::new(0),
-                AtomicU64::new(0),
-            ],
+            here: AtomicU64::new(0),
+            taken: AtomicU64::new(0),
             late: AtomicU64::new(0),
         }
     }
 }
 
-fn are_all(flags: &[AtomicU64; 4], value: u64) -> bool {
-    let mut all = true;
-    for flag in flags {
-        all = all && flag.load(Ordering::SeqCst) == value;
-    }
-    all
-}
-
 impl<'a, C: Clock> Gate for Meeting<'a, C> {
     // Looks at most 10,000 times, a millisecond apart.
     fn before(&self, job: usize, _step: usize) {
-        if let Some(flag) = self.here.get(job) {
-            flag.store(1, Ordering::SeqCst);
+        if let Some(one) = ONES.get(job) {
+            self.here.fetch_or(*one, Ordering::SeqCst);
         }
         for _ in 0..10_000 {
-            if are_all(&self.here, 1) {
+            if self.here.load(Ordering::SeqCst) == 0x0101_0101 {
                 return;
             }
             thread::sleep(self.clock, Duration::from_millis(1));
@@ -76,55 +64,72 @@ impl<'a, C: Clock> Gate for Meeting<'a, C> {
         self.late.store(1, Ordering::SeqCst);
     }
 
+    // Adds the number of the step, counted from 1.
     fn after(&self, job: usize, step: usize) {
-        if let Some(taken) = self.taken.get(job) {
-            taken.store(u64::wrapping_add(step as u64, 1), Ordering::SeqCst);
+        if let Some(one) = ONES.get(job) {
+            let number = u64::wrapping_add(step as u64, 1);
+            self.taken
+                .fetch_add(u64::wrapping_mul(*one, number), Ordering::SeqCst);
         }
     }
 }
 
+// Runs jobs, which are not too many.
+pub(crate) fn run<M: Absorbing + Send, R: Threads + Wait + Abort + Sync, G: Gate + Sync>(
+    rt: &R,
+    alloc: Global,
+    replica: &Turn<M>,
+    pass: &mut Pass<M>,
+    jobs: Vec<Job>,
+    gate: &G,
+) -> Result<Vec<Replies>, RunFault>
+    requires { pass.old.table ≡ replica.now.table }
+    ensures { pass.new.table ≡ replica.now.table }
+{
+    assert!(rt; jobs.len() <= MAX_JOBS);
+    run_workers(rt, alloc, replica, pass, jobs, gate)
+}
+
 // The replies of these jobs, and the pages of the replica afterwards, hottest first.
-fn ran<M: Absorbing + Drop + Send, R: Threads + Wait + Sync, G: Gate + Sync>(
+pub(crate) fn ran<M: Absorbing + Drop + Send, R: Threads + Wait + Abort + Sync, G: Gate + Sync>(
     rt: &R,
     alloc: Global,
     machine: M,
     jobs: Vec<Job>,
     gate: &G,
-) -> Result<(Result<Vec<Vec<StepReply>>, RunFault>, PageList), Fail>
+) -> (Result<Vec<Replies>, RunFault>, PageList)
     requires { M.is_fit machine }
 {
-    if jobs.len() > MAX_JOBS {
-        return Err("too many jobs".into());
-    }
-    let (replica, worker) = opened(alloc, machine, 1)?;
-    let (mut pass, _buffer) = worker.into_parts();
-    let ran = match run_workers(rt, alloc, &replica, &mut pass, jobs, gate) {
-        Ok(all) => Ok(listed(alloc, all)?),
-        Err(fault) => Err(fault),
-    };
-    let Ok(Reply::Pages(pages)) = replica.call(rt, &mut pass, Call::WarmList(100)) else {
-        return Err("the pages are listed".into());
-    };
-    match replica.close(pass) {
-        Ok(_) => Ok((ran, pages)),
-        Err(_) => Err("each ticket was passed on".into()),
-    }
+    let (replica, mut pass) = turn_over(rt, alloc, machine);
+    let ran = run(rt, alloc, &replica, &mut pass, jobs, gate);
+    let answer = replica.call(rt, &mut pass, Call::WarmList(100));
+    replica.close(pass).expect(rt, "each ticket was passed on");
+    (ran, pages_of(answer).expect(rt, "the pages are listed"))
 }
 
 // A job with a buffer of two: three touches of its page, a flush and a call.
-fn job_of(alloc: Global, no: u32) -> Result<Job, Fail> {
+fn job_of(rt: &impl Abort, alloc: Global, no: u32) -> Job {
     let later = u64::from(no);
-    let first = reference(no, u64::wrapping_add(10, later))?;
-    let second = reference(no, u64::wrapping_add(20, later))?;
-    let third = reference(no, 30)?;
-    let steps = vec![in alloc;
-        Step::Touch(first),
-        Step::Touch(second),
-        Step::Touch(third),
-        Step::Flush,
-        Step::Make(BoxedCall::new(alloc, Call::Victim)?),
-    ]?;
-    Ok(Job { cap: 2, steps })
+    let touches = [
+        reference(rt, no, u64::wrapping_add(10, later)),
+        reference(rt, no, u64::wrapping_add(20, later)),
+        reference(rt, no, 30),
+    ];
+    let mut steps = Vec::with_capacity(alloc, 5).expect(rt, "room for steps");
+    for touch in touches {
+        steps
+            .push(Step::Touch(touch))
+            .expect(rt, "room for a touch");
+    }
+    push_call(rt, alloc, &mut steps);
+    Job { cap: 2, steps }
+}
+
+// A flush and a call more.
+fn push_call(rt: &impl Abort, alloc: Global, steps: &mut Vec<Step>) {
+    let call = BoxedCall::new(alloc, Call::Victim).expect(rt, "room for a call");
+    steps.push(Step::Flush).expect(rt, "room for a flush");
+    steps.push(Step::Make(call)).expect(rt, "room for a step");
 }
 
 // Two references fit, the third comes back, and no page is resident.
@@ -145,79 +150,124 @@ fn is_answered(replies: &[StepReply], no: u32) -> bool {
     back.page.no == no && back.stamp.time == 30
 }
 
-#[test]
-fn four_jobs_meet(rt: HostRuntime) -> Result<(), Fail> {
-    let alloc = rt.alloc();
+// Four jobs, of the pages 0 to 3.
+fn four_jobs(rt: &impl Abort, alloc: Global) -> Vec<Job> {
     let mut jobs = Vec::new(alloc);
     for no in 0..4 {
-        jobs.push(job_of(alloc, no)?)?;
+        jobs.push(job_of(rt, alloc, no))
+            .expect(rt, "room for a job");
     }
-    let gate = Meeting::new(&rt);
-    let (answered, pages) = ran(&rt, alloc, fresh(alloc)?, jobs, &gate)?;
-    let Ok(all) = answered else {
-        return Err("the jobs ran".into());
-    };
-    let [first, second, third, fourth] = all.as_slice() else {
-        return Err("each job is answered".into());
-    };
-    assert!(rt; is_answered(first.as_slice(), 0) && is_answered(second.as_slice(), 1));
-    assert!(rt; is_answered(third.as_slice(), 2) && is_answered(fourth.as_slice(), 3));
-    assert!(rt; gate.late.load(Ordering::SeqCst) == 0);
-    assert!(rt; are_all(&gate.taken, 5));
-    let [hottest, warmer, warm, coldest] = pages.as_slice() else {
-        return Err("each job's two references were absorbed".into());
-    };
-    assert!(rt; hottest.no == 3 && warmer.no == 2 && warm.no == 1 && coldest.no == 0);
-    Ok(())
+    jobs
 }
 
-// One job with a buffer of this many references and one touch.
-fn ran_with<R: Threads + Wait + Sync>(
+// Whether each of the four jobs is answered.
+fn are_answered(all: &[Vec<StepReply>]) -> bool {
+    for no in 0..4u32 {
+        let Some(replies) = all.get(no as usize) else {
+            return false;
+        };
+        if !is_answered(replies.as_slice(), no) {
+            return false;
+        }
+    }
+    all.len() == 4
+}
+
+// Whether the pages 3, 2, 1 and 0 are listed, in this order: each job's two references were absorbed.
+fn are_falling(pages: &[PageId]) -> bool {
+    let [hottest, warmer, warm, coldest] = pages else {
+        return false;
+    };
+    hottest.no == 3 && warmer.no == 2 && warm.no == 1 && coldest.no == 0
+}
+
+// Whether four jobs that meet at this gate are answered, and all their references absorbed.
+fn are_met<R: Threads + Wait + Abort + Sync, G: Gate + Sync>(
+    rt: &R,
+    alloc: Global,
+    gate: &G,
+) -> bool {
+    let jobs = four_jobs(rt, alloc);
+    let (ran, pages) = ran(rt, alloc, fresh(rt, alloc), jobs, gate);
+    let all = listed(rt, alloc, ran.expect(rt, "the jobs run"));
+    are_answered(&all) && are_falling(pages.as_slice())
+}
+
+// Each job has taken five steps: 1, 2, 3, 4 and 5 are 15.
+#[test]
+fn four_jobs_meet(rt: HostRuntime) {
+    let gate = Meeting::new(&rt);
+    assert!(rt;
+        are_met(&rt, rt.alloc(), &gate)
+            && gate.late.load(Ordering::SeqCst) == 0
+            && gate.taken.load(Ordering::SeqCst) == 0x0F0F_0F0F
+    );
+}
+
+// A job with a buffer of this many references and one touch.
+fn one_touch(rt: &impl Abort, alloc: Global, cap: usize) -> Vec<Job> {
+    let touch = Step::Touch(reference(rt, 1, 10));
+    let steps = vec![in alloc; touch].expect(rt, "room for a step");
+    vec![in alloc; Job { cap, steps }].expect(rt, "room for a job")
+}
+
+// Whether such a job runs or is refused like this, and nothing was flushed.
+fn ends_with<R: Threads + Wait + Abort + Sync>(
     rt: &R,
     alloc: Global,
     cap: usize,
-) -> Result<Result<(), RunFault>, Fail> {
-    let steps = vec![in alloc; Step::Touch(reference(1, 10)?)]?;
-    let jobs = vec![in alloc; Job { cap, steps }]?;
-    let gate = Open;
-    let (ran, pages) = ran(rt, alloc, fresh(alloc)?, jobs, &gate)?;
-    if !pages.as_slice().is_empty() {
-        return Err("nothing was flushed".into());
-    }
-    match ran {
-        Ok(_) => Ok(Ok(())),
-        Err(fault) => Ok(Err(fault)),
-    }
+    want: Result<(), RunFault>,
+) -> bool {
+    let jobs = one_touch(rt, alloc, cap);
+    let (ran, pages) = ran(rt, alloc, fresh(rt, alloc), jobs, &Open);
+    let ended = match ran {
+        Ok(all) => {
+            listed(rt, alloc, all);
+            Ok(())
+        }
+        Err(fault) => Err(fault),
+    };
+    ended == want && pages.as_slice().is_empty()
 }
 
 #[test]
-fn a_buffer_holds_1_to_1024(rt: HostRuntime) -> Result<(), Fail> {
-    let alloc = rt.alloc();
-    assert!(rt; ran_with(&rt, alloc, 0)? == Err(RunFault::BadCapacity));
-    assert!(rt; ran_with(&rt, alloc, 1)? == Ok(()));
-    assert!(rt; ran_with(&rt, alloc, 1024)? == Ok(()));
-    assert!(rt; ran_with(&rt, alloc, 1025)? == Err(RunFault::BadCapacity));
-    Ok(())
+fn a_buffer_holds_1_to_1024(rt: HostRuntime) {
+    let refused = Err(RunFault::BadCapacity);
+    for (cap, want) in [(0, refused), (1, Ok(())), (1024, Ok(())), (1025, refused)] {
+        assert!(rt; ends_with(&rt, rt.alloc(), cap, want));
+    }
 }
 
-#[test]
-fn sixty_four_jobs_flush(rt: HostRuntime) -> Result<(), Fail> {
-    let alloc = rt.alloc();
+// Sixty-four jobs of a flush.
+fn jobs_that_flush(rt: &impl Abort, alloc: Global) -> Vec<Job> {
     let mut jobs = Vec::new(alloc);
     for _ in 0..64 {
-        let steps = vec![in alloc; Step::Flush]?;
-        jobs.push(Job { cap: 1, steps })?;
+        let steps = vec![in alloc; Step::Flush].expect(rt, "room for a step");
+        jobs.push(Job { cap: 1, steps })
+            .expect(rt, "room for a job");
     }
-    let gate = Open;
-    let (answered, _pages) = ran(&rt, alloc, fresh(alloc)?, jobs, &gate)?;
-    let Ok(all) = answered else {
-        return Err("the jobs ran".into());
-    };
-    assert!(rt; all.len() == 64);
-    for replies in &all {
+    jobs
+}
+
+// Whether each job flushed an empty buffer.
+fn are_flushed(all: &[Vec<StepReply>]) -> bool {
+    for replies in all {
         let [StepReply::Flushed] = replies.as_slice() else {
-            return Err("an empty buffer is flushed".into());
+            return false;
         };
     }
-    Ok(())
+    true
+}
+
+// Whether sixty-four jobs of a flush are each answered.
+fn run_and_flush<R: Threads + Wait + Abort + Sync>(rt: &R, alloc: Global) -> bool {
+    let jobs = jobs_that_flush(rt, alloc);
+    let (ran, _pages) = ran(rt, alloc, fresh(rt, alloc), jobs, &Open);
+    let all = listed(rt, alloc, ran.expect(rt, "the jobs run"));
+    all.len() == 64 && are_flushed(&all)
+}
+
+#[test]
+fn sixty_four_jobs_flush(rt: HostRuntime) {
+    assert!(rt; run_and_flush(&rt, rt.alloc()));
 }

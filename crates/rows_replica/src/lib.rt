@@ -13,4 +13,6 @@ mod mail;
 #[cfg(test)]
 mod setup;
 #[cfg(test)]
+mod waiting;
+#[cfg(test)]
 mod worker;

@@ -1,11 +1,11 @@
 //! Rows of mail: the frames are an entry of a history, and the digest of the empty one.
 ghost use Rattle.std.specs.Prelude.{◌≡◌};
 
-use crate::setup::{fresh, opened, reference};
+use crate::setup::{fresh, opened, reference, replica_of};
 use crossbeam_channel::{Receiver, unbounded};
 use std::alloc::Global;
+use std::process::Abort;
 use std::sync::Wait;
-use std::test::Fail;
 use std::thread::Threads;
 use warm_digest::sums;
 use warm_frames::{Frame, decode, encode};
@@ -18,20 +18,25 @@ use warm_replica::{
 use warm_stamps::{ByteList, RefList, ReplicaId};
 use warm_turn::Turn;
 
+// Mail of these bytes.
+fn letter(rt: &impl Abort, alloc: Global, text: &[u8]) -> Mail {
+    let mut bytes = Vec::new(alloc);
+    bytes.extend_from_slice(text).expect(rt, "room for bytes");
+    Mail::Bytes(ByteList::of(bytes))
+}
+
 // A channel with this mail, and a Stop.
-fn mailed(rt: &impl Wait, alloc: Global, texts: &[&[u8]]) -> Result<Receiver<Mail>, Fail> {
-    let (sender, receiver) = unbounded(alloc)?;
+fn mailed<R: Wait + Abort>(rt: &R, alloc: Global, texts: &[&[u8]]) -> Receiver<Mail> {
+    let (sender, receiver) = unbounded(alloc).expect(rt, "room for a channel");
     for text in texts {
-        let mut bytes = Vec::new(alloc);
-        bytes.extend_from_slice(*text)?;
-        if sender.send(rt, Mail::Bytes(ByteList::of(bytes))).is_err() {
-            return Err("the mail is sent".into());
-        }
+        let mail = letter(rt, alloc, *text);
+        sender.send(rt, mail).ok().expect(rt, "the mail is sent");
     }
-    if sender.send(rt, Mail::Stop).is_err() {
-        return Err("the mail is sent".into());
-    }
-    Ok(receiver)
+    sender
+        .send(rt, Mail::Stop)
+        .ok()
+        .expect(rt, "a Stop is sent");
+    receiver
 }
 
 const ENTRIES: [u8; 42] = [
@@ -40,15 +45,10 @@ const ENTRIES: [u8; 42] = [
 ];
 
 // The bytes of a digest of the empty history, from replica 9.
-fn digest(alloc: Global) -> Result<Vec<u8>, Fail> {
-    let sums = sums(alloc, &History::new(alloc))?;
-    Ok(encode(
-        alloc,
-        &Frame::Digest {
-            sender: ReplicaId::new(9)?,
-            sums,
-        },
-    )?)
+fn digest(rt: &impl Abort, alloc: Global) -> Vec<u8> {
+    let sender = replica_of(rt, 9);
+    let sums = sums(alloc, &History::new(alloc)).expect(rt, "room for sums");
+    encode(alloc, &Frame::Digest { sender, sums }).expect(rt, "room for a frame")
 }
 
 fn is_wish_of_bucket_one(alloc: Global, bytes: &[u8]) -> bool {
@@ -74,62 +74,48 @@ const ONE_STOP: Bounds = Bounds {
 };
 
 // What a machine that was told of 0:1 at 10 does with the mail.
-fn listened<M: Absorbing + Drop, P: Post, R: Wait>(
+fn listened<M: Absorbing + Drop, P: Post, R: Wait + Abort>(
     rt: &R,
     alloc: Global,
     machine: M,
     receiver: Receiver<Mail>,
     post: &mut P,
     bounds: Bounds,
-) -> Result<MailReport, Fail>
+) -> MailReport
     requires { M.is_fit machine }
 {
-    let batch = told(alloc)?;
-    let (replica, mut worker) = opened(alloc, machine, 2)?;
-    heard(
+    let (replica, mut worker) = opened(rt, alloc, machine, 2);
+    tell(rt, alloc, &replica, &mut worker);
+    mail_loop(
         rt,
         alloc,
         &replica,
         &mut worker,
-        batch,
-        receiver,
-        post,
-        bounds,
-    )
-}
-
-// A batch of one reference, to 0:1 at 10.
-fn told(alloc: Global) -> Result<RefList, Fail> {
-    let batch = vec![in alloc; reference(1, 10)?]?;
-    Ok(RefList::of(batch))
-}
-
-// What a worker does with the mail, after it had the replica absorb this batch.
-fn heard<M: Absorbing, P: Post, R: Wait>(
-    rt: &R,
-    alloc: Global,
-    replica: &Turn<M>,
-    worker: &mut Worker<M>,
-    batch: RefList,
-    receiver: Receiver<Mail>,
-    post: &mut P,
-    bounds: Bounds,
-) -> Result<MailReport, Fail>
-    requires { worker.old.pass.table ≡ replica.now.table }
-{
-    let Ok(Reply::Done) = worker.call(rt, replica, Call::Absorb(batch)) else {
-        return Err("the reference is absorbed".into());
-    };
-    Ok(mail_loop(
-        rt,
-        alloc,
-        replica,
-        worker,
         MailIter::new(rt, receiver, bounds.most),
         post,
         bounds.stops,
         bounds.turns,
-    ))
+    )
+}
+
+// Has the replica absorb one reference, to 0:1 at 10.
+fn tell<M: Absorbing, R: Wait + Abort>(
+    rt: &R,
+    alloc: Global,
+    replica: &Turn<M>,
+    worker: &mut Worker<M>,
+)
+    requires { worker.old.pass.table ≡ replica.now.table }
+    ensures { worker.new.pass.table ≡ replica.now.table }
+{
+    let reference = reference(rt, 1, 10);
+    let batch = vec![in alloc; reference].expect(rt, "room for a reference");
+    let told = worker.call(rt, replica, Call::Absorb(RefList::of(batch)));
+    assert!(rt; is_done(told));
+}
+
+fn is_done(told: Result<Reply, Call>) -> bool {
+    matches!(told, Ok(Reply::Done))
 }
 
 const fn report(joined: u64, refused: u64, lost: u128) -> MailReport {
@@ -140,164 +126,199 @@ const fn report(joined: u64, refused: u64, lost: u128) -> MailReport {
     }
 }
 
-// What a node does with a frame of entries, a byte that is no frame, and a Stop.
-fn listened_to_three(rt: &impl Wait, alloc: Global, bounds: Bounds) -> Result<MailReport, Fail> {
-    let mail = mailed(rt, alloc, &[&ENTRIES, &[0]])?;
+// Whether this is what a node does with a frame of entries, a byte that is no frame, and a Stop.
+fn hears_three<R: Wait + Abort>(rt: &R, alloc: Global, bounds: Bounds, want: MailReport) -> bool {
+    let mail = mailed(rt, alloc, &[&ENTRIES, &[0]]);
+    listened_alone(rt, alloc, mail, bounds) == want
+}
+
+// What a node does with this mail, where nobody asks what it posts.
+fn listened_alone<R: Wait + Abort>(
+    rt: &R,
+    alloc: Global,
+    mail: Receiver<Mail>,
+    bounds: Bounds,
+) -> MailReport {
     let mut post = MemPost::new(alloc);
-    listened(rt, alloc, fresh(alloc)?, mail, &mut post, bounds)
+    listened(rt, alloc, fresh(rt, alloc), mail, &mut post, bounds)
 }
 
 // What it does with a digest of the empty history from sender 9, and a Stop.
-fn listened_to_digest<P: Post, R: Wait>(
-    rt: &R,
-    alloc: Global,
-    post: &mut P,
-) -> Result<MailReport, Fail> {
-    let text = digest(alloc)?;
-    let mail = mailed(rt, alloc, &[text.as_slice()])?;
-    listened(rt, alloc, fresh(alloc)?, mail, post, ONE_STOP)
+fn listened_to_digest<P: Post, R: Wait + Abort>(rt: &R, alloc: Global, post: &mut P) -> MailReport {
+    let text = digest(rt, alloc);
+    let mail = mailed(rt, alloc, &[text.as_slice()]);
+    listened(rt, alloc, fresh(rt, alloc), mail, post, ONE_STOP)
 }
 
 #[test]
-fn a_frame_is_joined_and_a_byte_refused(rt: HostRuntime) -> Result<(), Fail> {
-    let heard = listened_to_three(&rt, rt.alloc(), ONE_STOP)?;
-    assert!(rt; heard == report(1, 1, 0));
-    Ok(())
+fn a_frame_is_joined_and_a_byte_refused(rt: HostRuntime) {
+    assert!(rt; hears_three(&rt, rt.alloc(), ONE_STOP, report(1, 1, 0)));
 }
 
 #[test]
-fn turns_end_a_loop(rt: HostRuntime) -> Result<(), Fail> {
-    let one = listened_to_three(&rt, rt.alloc(), within(1, 1, 10))?;
-    assert!(rt; one == report(1, 0, 0));
-    let none = listened_to_three(&rt, rt.alloc(), within(1, 0, 10))?;
-    assert!(rt; none == report(0, 0, 0));
-    Ok(())
+fn turns_end_a_loop(rt: HostRuntime) {
+    for (turns, joined) in [(1, 1), (0, 0)] {
+        assert!(rt; hears_three(&rt, rt.alloc(), within(1, turns, 10), report(joined, 0, 0)));
+    }
 }
 
 #[test]
-fn no_stops_are_no_mail(rt: HostRuntime) -> Result<(), Fail> {
-    let none = listened_to_three(&rt, rt.alloc(), within(0, 10, 10))?;
-    assert!(rt; none == report(0, 0, 0));
-    Ok(())
+fn no_stops_are_no_mail(rt: HostRuntime) {
+    assert!(rt; hears_three(&rt, rt.alloc(), within(0, 10, 10), report(0, 0, 0)));
 }
 
 // The second Stop never comes: the channel is closed.
 #[test]
-fn the_end_of_the_mail_ends_a_loop(rt: HostRuntime) -> Result<(), Fail> {
-    let all = listened_to_three(&rt, rt.alloc(), within(2, 10, 10))?;
-    assert!(rt; all == report(1, 1, 0));
-    let first = listened_to_three(&rt, rt.alloc(), within(1, 10, 1))?;
-    assert!(rt; first == report(1, 0, 0));
-    Ok(())
+fn the_end_of_the_mail_ends_a_loop(rt: HostRuntime) {
+    for (stops, most, refused) in [(2, 10, 1), (1, 1, 0)] {
+        assert!(rt;
+            hears_three(
+                &rt,
+                rt.alloc(),
+                within(stops, 10, most),
+                report(1, refused, 0)
+            )
+        );
+    }
+}
+
+// The two ends of a channel with two Stops.
+fn two_stops<R: Wait + Abort>(rt: &R, alloc: Global) -> (Receiver<Mail>, Receiver<Mail>) {
+    let (sender, receiver) = unbounded(alloc).expect(rt, "room for a channel");
+    let again = receiver.clone().expect(rt, "room for a receiver");
+    for _ in 0..2 {
+        sender
+            .send(rt, Mail::Stop)
+            .ok()
+            .expect(rt, "a Stop is sent");
+    }
+    (receiver, again)
+}
+
+// Whether something comes out of a channel.
+fn brings<R: Wait>(rt: &R, receiver: &Receiver<Mail>) -> bool {
+    receiver.try_recv(rt).is_ok()
+}
+
+fn brings_a_stop<R: Wait>(rt: &R, receiver: &Receiver<Mail>) -> bool {
+    matches!(receiver.try_recv(rt), Ok(Mail::Stop))
 }
 
 // What comes after the Stop is left in the channel.
 #[test]
-fn a_stop_too_many_is_left(rt: HostRuntime) -> Result<(), Fail> {
+fn a_stop_too_many_is_left(rt: HostRuntime) {
     let alloc = rt.alloc();
-    let (sender, receiver) = unbounded(alloc)?;
-    for _ in 0..2 {
-        if sender.send(&rt, Mail::Stop).is_err() {
-            return Err("the mail is sent".into());
-        }
+    let (receiver, again) = two_stops(&rt, alloc);
+    let heard = listened_alone(&rt, alloc, receiver, ONE_STOP);
+    assert!(rt; heard == report(0, 0, 0) && brings_a_stop(&rt, &again) && !brings(&rt, &again));
+}
+
+#[test]
+fn answers_are_lost_without_an_outbox(rt: HostRuntime) {
+    let boxes = Vec::new(rt.alloc());
+    assert!(rt; listened_over(&rt, rt.alloc(), boxes) == report(1, 0, 2));
+}
+
+// Whether these are a frame of one entry.
+fn are_one_entry(alloc: Global, bytes: &[u8]) -> bool {
+    match decode(alloc, bytes) {
+        Ok(Frame::Entries { entries, .. }) => entries.as_slice().len() == 1,
+        _ => false,
     }
-    let again = receiver.clone()?;
-    let mut post = MemPost::new(alloc);
-    let heard = listened(&rt, alloc, fresh(alloc)?, receiver, &mut post, ONE_STOP)?;
-    assert!(rt; heard == report(0, 0, 0));
-    let Ok(Mail::Stop) = again.try_recv(&rt) else {
-        return Err("a Stop is left".into());
+}
+
+// Whether these are a frame of one entry and a wish of bucket 1, both for replica 9.
+fn are_for_nine(alloc: Global, given: &[(ReplicaId, ByteList)]) -> bool {
+    let [(first, entries), (second, wish)] = given else {
+        return false;
     };
-    assert!(rt; again.try_recv(&rt).is_err());
-    Ok(())
+    first.get() == 9
+        && second.get() == 9
+        && are_one_entry(alloc, entries.as_slice())
+        && is_wish_of_bucket_one(alloc, wish.as_slice())
 }
 
 #[test]
-fn answers_are_lost_without_an_outbox(rt: HostRuntime) -> Result<(), Fail> {
-    let alloc = rt.alloc();
-    let mut post = Outboxes::new(&rt, Vec::new(alloc));
-    let heard = listened_to_digest(&rt, alloc, &mut post)?;
-    assert!(rt; heard == report(1, 0, 2));
-    Ok(())
-}
-
-#[test]
-fn answers_are_kept_for_their_sender(rt: HostRuntime) -> Result<(), Fail> {
+fn answers_are_kept_for_their_sender(rt: HostRuntime) {
     let alloc = rt.alloc();
     let mut post = MemPost::new(alloc);
-    let heard = listened_to_digest(&rt, alloc, &mut post)?;
-    assert!(rt; heard == report(1, 0, 0));
-    let [(first, entries), (second, wish)] = post.given() else {
-        return Err("two frames are posted".into());
-    };
-    assert!(rt; first.get() == 9 && second.get() == 9);
-    let Ok(Frame::Entries { entries, .. }) = decode(alloc, entries.as_slice()) else {
-        return Err("the first is of entries".into());
-    };
-    assert!(rt; entries.as_slice().len() == 1);
-    assert!(rt; is_wish_of_bucket_one(alloc, wish.as_slice()));
-    Ok(())
+    let heard = listened_to_digest(&rt, alloc, &mut post);
+    assert!(rt; heard == report(1, 0, 0) && are_for_nine(alloc, post.given()));
 }
 
 // The end of a channel for replica 9, as its only outbox, and the other end.
-fn outbox_of_nine(alloc: Global) -> Result<(Vec<Outbox>, Receiver<Mail>), Fail> {
-    let (sender, receiver) = unbounded(alloc)?;
-    let mut boxes = Vec::new(alloc);
-    boxes.push(Outbox {
-        replica: ReplicaId::new(9)?,
-        sender,
-    })?;
-    Ok((boxes, receiver))
+fn outbox_of_nine(rt: &impl Abort, alloc: Global) -> (Vec<Outbox>, Receiver<Mail>) {
+    let replica = replica_of(rt, 9);
+    let (sender, receiver) = unbounded(alloc).expect(rt, "room for a channel");
+    let mut boxes = Vec::with_capacity(alloc, 2).expect(rt, "room for two outboxes");
+    boxes.push_reserved(Outbox { replica, sender });
+    (boxes, receiver)
+}
+
+// What a node does with a digest from sender 9, over these outboxes.
+fn listened_over<R: Wait + Abort>(rt: &R, alloc: Global, boxes: Vec<Outbox>) -> MailReport {
+    let mut post = Outboxes::new(rt, boxes);
+    listened_to_digest(rt, alloc, &mut post)
 }
 
 #[test]
-fn answers_are_lost_where_nobody_receives(rt: HostRuntime) -> Result<(), Fail> {
+fn answers_are_lost_where_nobody_receives(rt: HostRuntime) {
     let alloc = rt.alloc();
-    let (boxes, receiver) = outbox_of_nine(alloc)?;
+    let (boxes, receiver) = outbox_of_nine(&rt, alloc);
     drop(receiver);
-    let mut post = Outboxes::new(&rt, boxes);
-    let heard = listened_to_digest(&rt, alloc, &mut post)?;
-    assert!(rt; heard == report(1, 0, 2));
-    Ok(())
+    assert!(rt; listened_over(&rt, alloc, boxes) == report(1, 0, 2));
 }
 
-#[test]
-fn answers_reach_the_outbox(rt: HostRuntime) -> Result<(), Fail> {
-    let alloc = rt.alloc();
-    let (boxes, receiver) = outbox_of_nine(alloc)?;
-    let mut post = Outboxes::new(&rt, boxes);
-    let heard = listened_to_digest(&rt, alloc, &mut post)?;
-    assert!(rt; heard == report(1, 0, 0));
-    let Ok(Mail::Bytes(_)) = receiver.try_recv(&rt) else {
-        return Err("the entries arrive".into());
-    };
-    let Ok(Mail::Bytes(wish)) = receiver.try_recv(&rt) else {
-        return Err("the wish arrives".into());
-    };
-    assert!(rt; is_wish_of_bucket_one(alloc, wish.as_slice()));
-    assert!(rt; receiver.try_recv(&rt).is_err());
-    Ok(())
-}
-
-#[test]
-fn answers_reach_the_first_outbox_of_a_number(rt: HostRuntime) -> Result<(), Fail> {
-    let alloc = rt.alloc();
-    let (mut boxes, first) = outbox_of_nine(alloc)?;
-    let (others, second) = outbox_of_nine(alloc)?;
-    for outbox in others {
-        boxes.push(outbox)?;
+// The bytes that come next out of a channel.
+fn next_bytes<R: Wait>(rt: &R, receiver: &Receiver<Mail>) -> Option<ByteList> {
+    match receiver.try_recv(rt) {
+        Ok(Mail::Bytes(bytes)) => Some(bytes),
+        _ => None,
     }
-    let mut post = Outboxes::new(&rt, boxes);
-    let heard = listened_to_digest(&rt, alloc, &mut post)?;
-    assert!(rt; heard == report(1, 0, 0));
-    assert!(rt; first.try_recv(&rt).is_ok());
-    assert!(rt; first.try_recv(&rt).is_ok());
-    assert!(rt; second.try_recv(&rt).is_err());
-    Ok(())
+}
+
+// Whether bytes come out of a channel, then a wish of bucket 1, and nothing more.
+fn brings_a_wish<R: Wait>(rt: &R, alloc: Global, receiver: &Receiver<Mail>) -> bool {
+    let first = next_bytes(rt, receiver).is_some();
+    let Some(wish) = next_bytes(rt, receiver) else {
+        return false;
+    };
+    first && is_wish_of_bucket_one(alloc, wish.as_slice()) && !brings(rt, receiver)
+}
+
+#[test]
+fn answers_reach_the_outbox(rt: HostRuntime) {
+    let alloc = rt.alloc();
+    let (boxes, receiver) = outbox_of_nine(&rt, alloc);
+    let heard = listened_over(&rt, alloc, boxes);
+    assert!(rt; heard == report(1, 0, 0) && brings_a_wish(&rt, alloc, &receiver));
+}
+
+// Two outboxes for replica 9, and their other ends in the same order.
+fn two_outboxes(rt: &impl Abort, alloc: Global) -> (Vec<Outbox>, Receiver<Mail>, Receiver<Mail>) {
+    let (mut boxes, first) = outbox_of_nine(rt, alloc);
+    let (mut others, second) = outbox_of_nine(rt, alloc);
+    boxes
+        .append(&mut others)
+        .expect(rt, "room for two outboxes");
+    (boxes, first, second)
+}
+
+#[test]
+fn answers_reach_the_first_outbox_of_a_number(rt: HostRuntime) {
+    let alloc = rt.alloc();
+    let (boxes, first, second) = two_outboxes(&rt, alloc);
+    let heard = listened_over(&rt, alloc, boxes);
+    assert!(rt;
+        heard == report(1, 0, 0)
+            && brings(&rt, &first)
+            && brings(&rt, &first)
+            && !brings(&rt, &second)
+    );
 }
 
 // What two machines do with their mail, each in a thread of its own.
-fn heard_by_both<M: Absorbing + Drop + Send, R: Threads + Wait + Sync>(
+fn heard_by_both<M: Absorbing + Drop + Send, R: Threads + Wait + Abort + Sync>(
     rt: &R,
     alloc: Global,
     first: M,
@@ -305,56 +326,66 @@ fn heard_by_both<M: Absorbing + Drop + Send, R: Threads + Wait + Sync>(
     second: M,
     to_second: Receiver<Mail>,
     of_second: Vec<Outbox>,
-) -> Result<(MailReport, MailReport), Fail>
+) -> (MailReport, MailReport)
     requires { M.is_fit first × M.is_fit second }
 {
-    let (first, one) = opened(alloc, first, 2)?;
-    let (second, two) = opened(alloc, second, 2)?;
-    let mut stations = Vec::with_capacity(alloc, 2)?;
+    let (first, one) = opened(rt, alloc, first, 2);
+    let (second, two) = opened(rt, alloc, second, 2);
+    let mut stations = Vec::with_capacity(alloc, 2).expect(rt, "room for two stations");
     stations.push_reserved(Station::new(&first, one, to_first, Vec::new(alloc)));
     stations.push_reserved(Station::new(&second, two, to_second, of_second));
     ended(rt, alloc, stations)
 }
 
 // What two stations count until a Stop came to each.
-fn ended<M: Absorbing + Drop + Send, R: Threads + Wait + Sync>(
+fn ended<M: Absorbing + Drop + Send, R: Threads + Wait + Abort + Sync>(
     rt: &R,
     alloc: Global,
     stations: Vec<Station<'_, M>>,
-) -> Result<(MailReport, MailReport), Fail> {
-    let Ok(heard) = run_stations(rt, alloc, stations, 1, 10) else {
-        return Err("no thread".into());
-    };
-    let [(_, one), (_, two)] = heard.as_slice() else {
-        return Err("two loops end".into());
-    };
-    Ok((*one, *two))
+) -> (MailReport, MailReport) {
+    let heard = run_stations(rt, alloc, stations, 1, 10).expect(rt, "threads");
+    reports_of(heard.as_slice()).expect(rt, "two loops end")
 }
 
-#[test]
-fn two_replicas_take_their_mail_in_threads(rt: HostRuntime) -> Result<(), Fail> {
-    let alloc = rt.alloc();
-    let text = digest(alloc)?;
-    let to_first = mailed(&rt, alloc, &[&ENTRIES, &[0]])?;
-    let to_second = mailed(&rt, alloc, &[&ENTRIES, text.as_slice()])?;
-    let (boxes, receiver) = outbox_of_nine(alloc)?;
-    let (one, two) = heard_by_both(
-        &rt,
-        alloc,
-        fresh(alloc)?,
-        to_first,
-        fresh(alloc)?,
-        to_second,
-        boxes,
-    )?;
-    assert!(rt; one == report(1, 1, 0));
-    assert!(rt; two == report(2, 0, 0));
+// What two loops count.
+fn reports_of<M: Absorbing>(heard: &[(Worker<M>, MailReport)]) -> Option<(MailReport, MailReport)> {
+    match heard {
+        [(_, one), (_, two)] => Some((*one, *two)),
+        _ => None,
+    }
+}
+
+// What two nodes count: one of a frame of entries and a byte that is no frame, the other of entries and a digest, with these
+// outboxes.
+fn heard_by_two_nodes<R: Threads + Wait + Abort + Sync>(
+    rt: &R,
+    alloc: Global,
+    boxes: Vec<Outbox>,
+) -> (MailReport, MailReport) {
+    let text = digest(rt, alloc);
+    let to_first = mailed(rt, alloc, &[&ENTRIES, &[0]]);
+    let to_second = mailed(rt, alloc, &[&ENTRIES, text.as_slice()]);
+    let first = fresh(rt, alloc);
+    let second = fresh(rt, alloc);
+    heard_by_both(rt, alloc, first, to_first, second, to_second, boxes)
+}
+
+// How many letters come out of a channel, of at most ten items.
+fn letters_of<R: Wait>(rt: &R, receiver: Receiver<Mail>) -> u64 {
     let mut letters = 0;
-    for item in MailIter::new(&rt, receiver, 10) {
+    for item in MailIter::new(rt, receiver, 10) {
         if let Mail::Bytes(_) = item {
             letters = u64::wrapping_add(letters, 1);
         }
     }
-    assert!(rt; letters == 2);
-    Ok(())
+    letters
+}
+
+#[test]
+fn two_replicas_take_their_mail_in_threads(rt: HostRuntime) {
+    let alloc = rt.alloc();
+    let (boxes, receiver) = outbox_of_nine(&rt, alloc);
+    let (one, two) = heard_by_two_nodes(&rt, alloc, boxes);
+    let letters = letters_of(&rt, receiver);
+    assert!(rt; one == report(1, 1, 0) && two == report(2, 0, 0) && letters == 2);
 }

@@ -1,66 +1,61 @@
 //! Rows of one worker.
 ghost use Rattle.std.specs.Prelude.{◌≡◌};
 
-use crate::setup::{fresh, opened, reference};
+use crate::setup::{fresh, opened, pages_of, reference};
 use std::alloc::Global;
+use std::process::Abort;
 use std::sync::Wait;
-use std::test::Fail;
 use warm_gossip::{Call, NodeFault, Reply};
 use warm_refbuffer::Full;
 use warm_replica::{Absorbing, FlushFault, Worker};
 use warm_stamps::PageId;
 use warm_turn::{Machine, Turn};
 
-// Fills a buffer of two with touches of 0:1 at 10 and 20, and is refused the third.
-fn fill<M: Absorbing>(worker: &mut Worker<M>) -> Result<(), Fail>
+// Fills a buffer of two with touches of 0:1 at 10 and 20, and is refused the third: whether it comes back.
+fn is_filled<M: Absorbing>(rt: &impl Abort, worker: &mut Worker<M>) -> bool
     ensures { worker.new.pass ≡ worker.old.pass }
 {
-    let (first, second, third) = (reference(1, 10)?, reference(1, 20)?, reference(2, 30)?);
+    let first = reference(rt, 1, 10);
+    let second = reference(rt, 1, 20);
+    let third = reference(rt, 2, 30);
     if worker.touch(first).is_err() || worker.touch(second).is_err() {
-        return Err("there is room for two".into());
+        return false;
     }
     let Err(Full(back)) = worker.touch(third) else {
-        return Err("there is no room for three".into());
+        return false;
     };
-    if back != third {
-        return Err("the third is handed back".into());
-    }
-    Ok(())
+    back == third
 }
 
-// A worker flushes what it has touched, and asks for the hottest pages.
-fn flushed<M: Absorbing + Drop>(rt: &impl Wait, alloc: Global, machine: M) -> Result<(), Fail>
+// Whether a worker fills its buffer, flushes it, lists 0:1 as the only page, and is empty then.
+fn is_flushed<M: Absorbing + Drop, R: Wait + Abort>(rt: &R, alloc: Global, machine: M) -> bool
     requires { M.is_fit machine }
 {
-    let (replica, mut worker) = opened(alloc, machine, 2)?;
-    fill(&mut worker)?;
-    let Ok(()) = worker.flush(rt, alloc, &replica) else {
-        return Err("the buffer is flushed".into());
-    };
-    let Ok(Reply::Pages(pages)) = worker.call(rt, &replica, Call::WarmList(5)) else {
-        return Err("the pages are listed".into());
-    };
-    let [page] = pages.as_slice() else {
-        return Err("one page was absorbed".into());
-    };
-    if *page != (PageId { dev: 0, no: 1 }) {
-        return Err("it is 0:1".into());
-    }
-    parted(replica, worker)
+    let (replica, mut worker) = opened(rt, alloc, machine, 2);
+    let is_filled = is_filled(rt, &mut worker);
+    worker
+        .flush(rt, alloc, &replica)
+        .expect(rt, "the buffer is flushed");
+    let answer = worker.call(rt, &replica, Call::WarmList(5));
+    let is_empty = parts(rt, replica, worker);
+    lists_one(answer) && is_filled && is_empty
 }
 
-// The buffer is empty after a flush, and the replica can be closed with the worker's pass.
-fn parted<M: Absorbing + Drop>(replica: Turn<M>, worker: Worker<M>) -> Result<(), Fail>
+// Whether 0:1 alone is listed.
+fn lists_one(answer: Result<Reply, Call>) -> bool {
+    match pages_of(answer) {
+        Some(pages) => pages.as_slice() == [PageId { dev: 0, no: 1 }].as_slice(),
+        None => false,
+    }
+}
+
+// Whether the buffer is empty after a flush. The replica can be closed with the worker's pass.
+fn parts<M: Absorbing + Drop>(rt: &impl Abort, replica: Turn<M>, worker: Worker<M>) -> bool
     requires { worker.pass.table ≡ replica.table }
 {
     let (pass, buffer) = worker.into_parts();
-    if !buffer.is_empty() || buffer.cap() != 2 {
-        return Err("the buffer is empty".into());
-    }
-    match replica.close(pass) {
-        Ok(_) => Ok(()),
-        Err(_) => Err("each ticket was passed on".into()),
-    }
+    replica.close(pass).expect(rt, "each ticket was passed on");
+    buffer.is_empty() && buffer.cap() == 2
 }
 
 // A machine that has no memory for any call.
@@ -94,32 +89,24 @@ impl Absorbing for NoRoom {
     ghost absorbs = { λ _ _ _ _ refused. inr refused };
 }
 
-// A worker is refused a flush, and keeps what it has touched.
-fn kept<M: Absorbing + Drop>(rt: &impl Wait, alloc: Global, machine: M) -> Result<(), Fail>
+// Whether a worker fills its buffer, is refused a flush, and keeps what it has touched.
+fn keeps<M: Absorbing + Drop, R: Wait + Abort>(rt: &R, alloc: Global, machine: M) -> bool
     requires { M.is_fit machine }
 {
-    let (replica, mut worker) = opened(alloc, machine, 2)?;
-    fill(&mut worker)?;
-    let Err(FlushFault::Memory) = worker.flush(rt, alloc, &replica) else {
-        return Err("the machine has no memory".into());
-    };
+    let held = [reference(rt, 1, 10), reference(rt, 1, 20)];
+    let (replica, mut worker) = opened(rt, alloc, machine, 2);
+    let is_filled = is_filled(rt, &mut worker);
+    let refused = worker.flush(rt, alloc, &replica);
     let (_, buffer) = worker.into_parts();
-    let [first, second] = buffer.refs() else {
-        return Err("the buffer keeps two".into());
-    };
-    if *first != reference(1, 10)? || *second != reference(1, 20)? {
-        return Err("the buffer keeps what it held".into());
-    }
-    Ok(())
+    is_filled && refused == Err(FlushFault::Memory) && buffer.refs() == held.as_slice()
 }
 
 #[test]
-fn a_refused_flush_keeps_the_batch(rt: HostRuntime) -> Result<(), Fail> {
-    kept(&rt, rt.alloc(), NoRoom)
+fn a_refused_flush_keeps_the_batch(rt: HostRuntime) {
+    assert!(rt; keeps(&rt, rt.alloc(), NoRoom));
 }
 
 #[test]
-fn a_worker_touches_twice_and_flushes(rt: HostRuntime) -> Result<(), Fail> {
-    let alloc = rt.alloc();
-    flushed(&rt, alloc, fresh(alloc)?)
+fn a_worker_touches_twice_and_flushes(rt: HostRuntime) {
+    assert!(rt; is_flushed(&rt, rt.alloc(), fresh(&rt, rt.alloc())));
 }

@@ -1,7 +1,7 @@
 //! The worked rows of a counter, passes in threads of their own, and want of memory.
 ghost use Rattle.std.specs.Prelude.{◌≡◌, Some};
 
-use std::alloc::Global;
+use std::alloc::{AllocError, Global};
 use std::process::Abort;
 use std::sync::Wait;
 use std::sync::atomic::{AtomicU64, Ordering};
@@ -17,7 +17,7 @@ fn counter_at(rt: &impl Abort, alloc: Global, total: u64) -> (Turn<Counter>, Pas
     match Turn::new(alloc, Counter { total }) {
         Ok(opened) => opened,
         Err(refused) => {
-            assert!(rt; (refused.code(), refused.name()) == (1, "Memory"));
+            assert!(rt; refused.code() == 1 && refused.name() == "Memory");
             Turn::new(alloc, refused.machine).expect(rt, "room for a turn")
         }
     }
@@ -34,67 +34,117 @@ fn learn_opening<M: Machine>(turn: &Turn<M>, pass: &mut Pass<M>)
     turn.learn(pass, note);
 }
 
+// Adds through this pass.
+fn added<R: Wait + Abort>(
+    rt: &R,
+    turn: &Turn<Counter>,
+    pass: &mut Pass<Counter>,
+    more: u64,
+) -> Added
+    requires { pass.old.table ≡ turn.now.table }
+    ensures { pass.new.table ≡ turn.now.table }
+{
+    turn.call(rt, pass, Add(more)).expect(rt, "a ticket")
+}
+
+// The total of a turn that is closed.
+fn closed(rt: &impl Abort, turn: Turn<Counter>, pass: Pass<Counter>) -> u64
+    requires { pass.table ≡ turn.table }
+{
+    let counter = turn.close(pass).expect(rt, "each ticket was passed on");
+    counter.total
+}
+
+// Adds five through the first pass, and two through another that has learned of the five.
+fn add_by_two<R: Wait + Abort>(
+    rt: &R,
+    turn: &Turn<Counter>,
+    first: &mut Pass<Counter>,
+) -> (Added, Added)
+    requires { first.old.table ≡ turn.now.table }
+    ensures { first.new.table ≡ turn.now.table }
+{
+    let mut second = turn.pass(first);
+    learn_opening(turn, &mut second);
+    let five = added(rt, turn, first, 5);
+    let note = turn.note(first);
+    turn.learn(&mut second, note);
+    let seven = added(rt, turn, &mut second, 2);
+    turn.end(first, second);
+    (five, seven)
+}
+
 #[test]
 fn two_passes_count_on_one_machine(rt: HostRuntime) {
     let (turn, mut first) = counter_at(&rt, rt.alloc(), 0);
-    let mut second = turn.pass(&mut first);
-    learn_opening(&turn, &mut second);
-    let five = turn.call(&rt, &mut first, Add(5)).expect(&rt, "a ticket");
-    let note = turn.note(&mut first);
-    turn.learn(&mut second, note);
-    let seven = turn.call(&rt, &mut second, Add(2)).expect(&rt, "a ticket");
-    turn.end(&mut first, second);
+    let (five, seven) = add_by_two(&rt, &turn, &mut first);
     first.is_legal();
-    let counter = turn.close(first).expect(&rt, "each ticket was passed on");
-    assert!(rt; five == Added::Total(5) && seven == Added::Total(7) && counter.total == 7);
+    let total = closed(&rt, turn, first);
+    assert!(rt; five == Added::Total(5) && seven == Added::Total(7) && total == 7);
 }
 
 #[test]
 fn a_full_counter_stays(rt: HostRuntime) {
     let (turn, mut pass) = counter_at(&rt, rt.alloc(), 18446744073709551615);
-    let one = turn.call(&rt, &mut pass, Add(1)).expect(&rt, "a ticket");
-    let none = turn.call(&rt, &mut pass, Add(0)).expect(&rt, "a ticket");
-    assert!(rt; one == Added::Overflow && none == Added::Total(18446744073709551615));
+    let one = added(&rt, &turn, &mut pass, 1);
+    let none = added(&rt, &turn, &mut pass, 0);
+    let total = closed(&rt, turn, pass);
+    assert!(rt;
+        one == Added::Overflow
+            && none == Added::Total(18446744073709551615)
+            && total == 18446744073709551615
+    );
 }
 
 // Says nothing of memory: run with each growth refused in turn by `rt try --test --fail-alloc 1..`.
 #[test]
 fn a_refused_growth_hands_the_machine_back(rt: HostRuntime) {
     let (turn, pass) = counter_at(&rt, rt.alloc(), 41);
-    let counter = turn.close(pass).expect(&rt, "each ticket was passed on");
-    assert!(rt; counter.total == 41);
+    assert!(rt; closed(&rt, turn, pass) == 41);
 }
 
-// The refusal prints this. One growth that is refused is tried again.
-fn says(rt: &impl Abort, alloc: Global, refusal: &impl fmt::Display, want: &str) {
-    let text = match format!(in alloc; "{refusal}") {
+fn text_of(
+    alloc: Global,
+    code: u8,
+    name: &str,
+    refusal: &impl fmt::Display,
+) -> Result<String, AllocError> {
+    format!(in alloc; "{code} {name}: {refusal}")
+}
+
+// Whether this is the number of the refusal, its name and what it prints. One growth that is refused is tried again.
+fn says(
+    rt: &impl Abort,
+    alloc: Global,
+    code: u8,
+    name: &str,
+    refusal: &impl fmt::Display,
+    want: &str,
+) -> bool {
+    let text = match text_of(alloc, code, name, refusal) {
         Ok(text) => text,
-        Err(_) => format!(in alloc; "{refusal}").expect(rt, "room for a text"),
+        Err(_) => text_of(alloc, code, name, refusal).expect(rt, "room for a text"),
     };
-    assert!(rt; text.as_str() == want);
+    text.as_str() == want
 }
 
 #[test]
 fn refusals_say_what_they_are(rt: HostRuntime) {
+    let alloc = rt.alloc();
     let memory = Memory {
         machine: Counter { total: 3 },
     };
-    assert!(rt; (memory.code(), memory.name()) == (1, "Memory"));
-    says(&rt, rt.alloc(), &memory, "no memory was left for a turn");
+    let want = "1 Memory: no memory was left for a turn";
+    assert!(rt; says(&rt, alloc, memory.code(), memory.name(), &memory, want));
     let spent = TurnsSpent { call: Add(1) };
-    assert!(rt; (spent.code(), spent.name()) == (2, "TurnsSpent"));
-    says(&rt, rt.alloc(), &spent, "no ticket is left for a call");
+    let want = "2 TurnsSpent: no ticket is left for a call";
+    assert!(rt; says(&rt, alloc, spent.code(), spent.name(), &spent, want));
     let busy = Busy {
         ticket: 8,
         serving: 7,
     };
-    assert!(rt; (busy.code(), busy.name()) == (3, "Busy"));
-    says(
-        &rt,
-        rt.alloc(),
-        &busy,
-        "ticket 8 is next, and ticket 7 is still served",
-    );
+    let want = "3 Busy: ticket 8 is next, and ticket 7 is still served";
+    assert!(rt; says(&rt, alloc, busy.code(), busy.name(), &busy, want));
 }
 
 // What holds two threads back until two others are done.
@@ -124,6 +174,18 @@ impl Gate {
     }
 }
 
+// Adds one, and looks at no reply.
+fn add_one<M: Machine<Call = Add, Reply = Added>, R: Wait>(
+    rt: &R,
+    turn: &Turn<M>,
+    pass: &mut Pass<M>,
+)
+    requires { pass.old.table ≡ turn.now.table }
+    ensures { pass.new.table ≡ turn.now.table }
+{
+    let _ = turn.call(rt, pass, Add(1));
+}
+
 // Adds one three times, and waits after the first where there is a gate.
 fn add_thrice<M: Machine<Call = Add, Reply = Added>, R: Wait + Clock>(
     rt: &R,
@@ -134,12 +196,12 @@ fn add_thrice<M: Machine<Call = Add, Reply = Added>, R: Wait + Clock>(
     requires { pass.table ≡ turn.now.table }
     ensures { result.table ≡ turn.now.table }
 {
-    let _ = turn.call(rt, &mut pass, Add(1));
+    add_one(rt, turn, &mut pass);
     if let Some(gate) = gate {
         gate.wait(rt);
     }
-    let _ = turn.call(rt, &mut pass, Add(1));
-    let _ = turn.call(rt, &mut pass, Add(1));
+    add_one(rt, turn, &mut pass);
+    add_one(rt, turn, &mut pass);
     pass
 }
 
@@ -164,18 +226,20 @@ fn add_in_two_threads<
     )
 }
 
-// Two passes are ended while two others still call.
-#[test]
-fn four_threads_count_to_twelve(rt: HostRuntime) {
-    let (turn, mut first) = counter_at(&rt, rt.alloc(), 0);
-    let one = turn.pass(&mut first);
-    let two = turn.pass(&mut first);
-    let three = turn.pass(&mut first);
-    let four = turn.pass(&mut first);
-    let gate = Gate::shut();
-    let t = &turn;
-    let r = &rt;
-    let g = &gate;
+// Four passes of a turn add twelve in four threads, and are ended into the first one.
+fn add_in_four_threads<R: Threads + Wait + Clock + Sync>(
+    r: &R,
+    t: &Turn<Counter>,
+    mut first: Pass<Counter>,
+    g: &Gate,
+) -> Pass<Counter>
+    requires { first.table ≡ t.now.table }
+    ensures { result.table ≡ t.now.table }
+{
+    let one = t.pass(&mut first);
+    let two = t.pass(&mut first);
+    let three = t.pass(&mut first);
+    let four = t.pass(&mut first);
     let (mut first, (three, four)) = join(
         r,
         move || -> Pass<Counter>
@@ -196,8 +260,16 @@ fn four_threads_count_to_twelve(rt: HostRuntime) {
                 × (result.1.table ≡ t.entry.now.table) }
         { add_in_two_threads(r, t, three, four, Some(g)) },
     );
-    turn.end(&mut first, three);
-    turn.end(&mut first, four);
-    let counter = turn.close(first).expect(&rt, "each ticket was passed on");
-    assert!(rt; counter.total == 12 && gate.late.load(Ordering::SeqCst) == 0);
+    t.end(&mut first, three);
+    t.end(&mut first, four);
+    first
+}
+
+// Two passes are ended while two others still call.
+#[test]
+fn four_threads_count_to_twelve(rt: HostRuntime) {
+    let gate = Gate::shut();
+    let (turn, first) = counter_at(&rt, rt.alloc(), 0);
+    let first = add_in_four_threads(&rt, &turn, first, &gate);
+    assert!(rt; closed(&rt, turn, first) == 12 && gate.late.load(Ordering::SeqCst) == 0);
 }

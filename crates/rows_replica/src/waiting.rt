@@ -1,19 +1,18 @@
 //! A page is read while another thread touches what it has referenced: a touch waits for nobody.
-ghost use Rattle.std.specs.Prelude.{IfOk};
-
-use std::alloc::{AllocError, Global};
+use crate::jobs::ran;
+use crate::setup::{list_of, over, reference};
+use std::alloc::Global;
+use std::process::Abort;
 use std::sync::atomic::{AtomicU64, Ordering};
 use std::sync::{Arc, Wait};
-use std::test::Fail;
 use std::thread;
 use std::thread::Threads;
 use std::time::{Clock, Duration};
 use warm_devices::{DeviceFault, MemDevice, PageDevice};
-use warm_gossip::{Call, Node, Reply};
-use warm_pool::{Pool, Slot};
-use warm_replica::{Absorbing, BoxedCall, Gate, Job, Replies, Step, StepReply, run_workers};
-use warm_stamps::{PageId, Reference, ReplicaId, Stamp};
-use warm_turn::{Machine, Turn};
+use warm_gossip::{Call, Reply};
+use warm_pool::Slot;
+use warm_replica::{Absorbing, BoxedCall, Gate, Job, Replies, Step, StepReply};
+use warm_stamps::PageId;
 
 // What two threads show each other.
 #[derive(Drop)]
@@ -27,13 +26,13 @@ struct Flags {
 }
 
 impl Flags {
-    fn down(alloc: Global) -> Result<Arc<Flags, Global>, AllocError> {
+    fn down(rt: &impl Abort, alloc: Global) -> Arc<Flags, Global> {
         let flags = Flags {
             reading: AtomicU64::new(0),
             touched: AtomicU64::new(0),
             late: AtomicU64::new(0),
         };
-        Ok(Arc::new(alloc, flags)?)
+        Arc::new(alloc, flags).expect(rt, "room for flags")
     }
 
     // Looks at a flag at most 10,000 times, and sleeps a millisecond after each look.
@@ -131,91 +130,88 @@ impl<'a, C: Clock> Gate for WhileRead<'a, C> {
     }
 }
 
-// A node of one frame.
-fn over(alloc: Global, device: Box<dyn PageDevice + Send>) -> Result<Node, Fail>
-    ensures { IfOk result (λ node. ⟦<Node as Machine>⟧.is_fit node) }
-{
-    let mut devices = Vec::with_capacity(alloc, 1)?;
-    devices.push_reserved(device);
-    match Pool::new(alloc, 1, 16, devices) {
-        Ok(pool) => Ok(Node::new(alloc, ReplicaId::new(1)?, pool)),
-        Err(_) => Err("no pool".into()),
+// A slow device of 8 pages in memory.
+fn slow_device(
+    rt: &impl Abort,
+    alloc: Global,
+    clock: HostRuntime,
+    flags: &Arc<Flags, Global>,
+) -> Slow {
+    let flags = Arc::try_clone(flags).expect(rt, "one owner more");
+    let inner = MemDevice::new(alloc, 8, 16).expect(rt, "room for its pages");
+    Slow {
+        inner,
+        clock,
+        flags,
     }
 }
 
-const PAGE: PageId = PageId { dev: 0, no: 1 };
-
 // A job of one step.
-fn job_of(alloc: Global, step: Step) -> Result<Job, Fail> {
-    let mut steps = Vec::with_capacity(alloc, 1)?;
-    steps.push_reserved(step);
-    Ok(Job { cap: 1, steps })
+fn job_of(rt: &impl Abort, alloc: Global, step: Step) -> Job {
+    let steps = vec![in alloc; step].expect(rt, "room for a step");
+    Job { cap: 1, steps }
 }
 
-// A pin and a touch in threads of their own, and their replies.
-fn pins_and_touches<M: Absorbing + Drop + Send, R: Threads + Wait + Sync, G: Gate + Sync>(
+// A job that pins 0:1, and one that touches it.
+fn two_jobs(rt: &impl Abort, alloc: Global) -> Vec<Job> {
+    let touches = job_of(rt, alloc, Step::Touch(reference(rt, 1, 1)));
+    let page = PageId { dev: 0, no: 1 };
+    let call = BoxedCall::new(alloc, Call::Pin(page)).expect(rt, "room for a call");
+    let pins = job_of(rt, alloc, Step::Make(call));
+    vec![in alloc; pins, touches].expect(rt, "room for two jobs")
+}
+
+// A pin and a touch in threads of their own, and the replies to each.
+fn pins_and_touches<M: Absorbing + Drop + Send, R: Threads + Wait + Abort + Sync, G: Gate + Sync>(
     rt: &R,
     alloc: Global,
     machine: M,
     gate: &G,
-) -> Result<Vec<Replies>, Fail>
+) -> (Replies, Replies)
     requires { M.is_fit machine }
 {
-    let stamp = Stamp {
-        time: 1,
-        replica: ReplicaId::new(1)?,
-    };
-    let pins = job_of(alloc, Step::Make(BoxedCall::new(alloc, Call::Pin(PAGE))?))?;
-    let touches = job_of(alloc, Step::Touch(Reference { page: PAGE, stamp }))?;
-    let mut jobs = Vec::with_capacity(alloc, 2)?;
-    jobs.push_reserved(pins);
-    jobs.push_reserved(touches);
-    let Ok((replica, mut pass)) = Turn::new(alloc, machine) else {
-        return Err("no room".into());
-    };
-    let Ok(replies) = run_workers(rt, alloc, &replica, &mut pass, jobs, gate) else {
-        return Err("the jobs ran".into());
-    };
-    match replica.close(pass) {
-        Ok(_) => Ok(replies),
-        Err(_) => Err("each ticket was passed on".into()),
-    }
+    let (ran, _pages) = ran(rt, alloc, machine, two_jobs(rt, alloc), gate);
+    let mut replies = ran.expect(rt, "the jobs run");
+    let touched = replies.pop().expect(rt, "the touch is answered");
+    let pinned = replies.pop().expect(rt, "the pin is answered");
+    (pinned, touched)
 }
 
-#[test]
-fn a_touch_waits_for_no_device(rt: HostRuntime) -> Result<(), Fail> {
-    let alloc = rt.alloc();
-    let flags = Flags::down(alloc)?;
-    let slow = Slow {
-        inner: MemDevice::new(alloc, 8, 16)?,
-        clock: rt.clone()?,
-        flags: Arc::try_clone(&flags)?,
-    };
-    let node = over(alloc, Box::new(alloc, slow)?)?;
-    let gate = WhileRead {
-        clock: &rt,
-        flags: &flags,
-    };
-    let replies = pins_and_touches(&rt, alloc, node, &gate)?;
-    let mut replies = replies.into_iter();
-    let (Some(pinned), Some(touched)) = (replies.next(), replies.next()) else {
-        return Err("each job is answered".into());
-    };
-    let Ok(pinned) = pinned.into_vec(alloc) else {
-        return Err("there is memory".into());
-    };
-    let [StepReply::Answered(reply)] = pinned.as_slice() else {
-        return Err("the pin is answered".into());
-    };
-    let Reply::Pinned(slot) = reply.as_reply() else {
-        return Err("the page is pinned".into());
+// Whether a pin alone was made, and answered with the first slot.
+fn is_pinned(replies: &[StepReply]) -> bool {
+    let [StepReply::Answered(reply)] = replies else {
+        return false;
     };
     let first = Slot {
         index: 0,
         generation: 1,
     };
-    assert!(rt; *slot == first);
-    assert!(rt; touched.len() == 1 && touched.are_taken());
+    match reply.as_reply() {
+        Reply::Pinned(slot) => *slot == first,
+        _ => false,
+    }
+}
+
+// Whether the pin and the touch are answered over a slow device.
+fn are_answered<R: Clock + Threads + Wait + Abort + Sync>(
+    rt: &R,
+    alloc: Global,
+    clock: HostRuntime,
+    flags: &Arc<Flags, Global>,
+) -> bool {
+    let slow = slow_device(rt, alloc, clock, flags);
+    let device: Box<dyn PageDevice + Send> = Box::new(alloc, slow).expect(rt, "room for it");
+    let node = over(rt, alloc, 1, device);
+    let gate = WhileRead { clock: rt, flags };
+    let (pinned, touched) = pins_and_touches(rt, alloc, node, &gate);
+    let pinned = list_of(rt, alloc, pinned);
+    is_pinned(pinned.as_slice()) && touched.len() == 1 && touched.are_taken()
+}
+
+#[test]
+fn a_touch_waits_for_no_device(rt: HostRuntime) {
+    let flags = Flags::down(&rt, rt.alloc());
+    let clock = rt.clone().expect(&rt, "a runtime more");
+    assert!(rt; are_answered(&rt, rt.alloc(), clock, &flags));
     assert!(rt; flags.late.load(Ordering::SeqCst) == 0);
-    Ok(())
 }
