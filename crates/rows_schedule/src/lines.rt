@@ -1,32 +1,26 @@
 //! Lines of a schedule, read one by one; worked out by hand from docs/FORMATS.md.
-use std::test::Fail;
+use std::alloc::Global;
 use warm_schedule::{Line, LineFault, WorkerLine, parse_line, parse_worker_line};
 use warm_stamps::PageId;
 
+fn is_bad(alloc: Global, line: &[u8]) -> bool {
+    matches!(parse_line(alloc, line), Err(LineFault::Bad))
+}
+
 // The limit is parse_line's own, whatever a player keeps of a line.
 #[test]
-fn a_line_has_a_greatest_length(rt: HostRuntime) -> Result<(), Fail> {
-    let comment = vec![in rt.alloc(); b'#'; 262145]?;
-    assert!(rt;
-        matches!(
-            parse_line(rt.alloc(), &comment.as_slice()[1..]),
-            Ok(Line::Nothing)
-        )
-    );
-    assert!(rt;
-        matches!(
-            parse_line(rt.alloc(), comment.as_slice()),
-            Err(LineFault::Bad)
-        )
-    );
-    Ok(())
+fn a_line_has_a_greatest_length(rt: HostRuntime) {
+    let comment = vec![in rt.alloc(); b'#'; 262145].expect(&rt, "room for a line");
+    let longest = parse_line(rt.alloc(), &comment.as_slice()[1..]);
+    assert!(rt; matches!(longest, Ok(Line::Nothing)));
+    assert!(rt; is_bad(rt.alloc(), comment.as_slice()));
 }
 
 #[test]
 fn a_line_fault_has_its_number_and_name(rt: HostRuntime) {
-    assert!(rt; matches!(parse_line(rt.alloc(), b"foo"), Err(LineFault::Bad)));
-    assert!(rt; (LineFault::Bad.code(), LineFault::Bad.name()) == (2, "Bad"));
-    assert!(rt; (LineFault::Memory.code(), LineFault::Memory.name()) == (1, "Memory"));
+    assert!(rt; is_bad(rt.alloc(), b"foo"));
+    assert!(rt; LineFault::Bad.code() == 2 && LineFault::Bad.name() == "Bad");
+    assert!(rt; LineFault::Memory.code() == 1 && LineFault::Memory.name() == "Memory");
 }
 
 #[test]
