@@ -65,6 +65,14 @@ fn each_prints(rt: &impl Abort, alloc: Global, rows: &[(&str, &str)]) {
     }
 }
 
+// The same in worlds of so many replicas, whose pools have so many frames.
+fn each_prints_in(rt: &impl Abort, alloc: Global, rows: &[(u16, u32, &str, &str)]) {
+    for (replicas, frames, schedule, want) in rows {
+        let setup = Setup::new(*replicas, 2, 64, *frames, 16).expect(rt, "a setup");
+        prints(rt, alloc, setup, schedule, want);
+    }
+}
+
 const FIRST_PATH: [(&str, &str); 6] = [
     ("", ""),
     ("show 1\nvictim 1\nwarm 1 5\n", "end 0\nnone\npages\n"),
@@ -149,20 +157,24 @@ fn references_wait_and_pages_are_ranked(rt: HostRuntime) {
     each_prints(&rt, rt.alloc(), &BUFFERS_AND_RANKS);
 }
 
-const REFUSED: [(u16, &str, &str); 3] = [
+// By replicas, and frames of a pool.
+const REFUSED: [(u16, u32, &str, &str); 3] = [
     (
         1,
+        4,
         "ref 2 1 0:1 5\nflush 1 3\n# x\nbad\n",
         "refused 14 NoSuchReplica\nrefused 15 NoSuchWorker\nbad line 4\n",
     ),
     (
         3,
+        4,
         "ref 4 1 0:1 1\nref 1 3 0:1 1\nref 9 9 0:1 1\ndeliver 1 1\npin 1 1:0\npin 1 0:256\nsend 1 64\nfoo\n",
         "refused 14 NoSuchReplica\nrefused 15 NoSuchWorker\nrefused 14 NoSuchReplica\nrefused 16 NoSuchFrame\n\
          refused 4 NoDevice\nrefused 5 NoPage\nbad line 7\nbad line 8\n",
     ),
     (
         3,
+        4,
         "show 0\nwarm 4 1\nrestart 65535\nsend 4 63\nflush 1 0\nsend 1 63\ndeliver 3 0\ndeliver 3 2\n",
         "refused 14 NoSuchReplica\nrefused 14 NoSuchReplica\nrefused 14 NoSuchReplica\nrefused 14 NoSuchReplica\n\
          refused 15 NoSuchWorker\nframe 1\nrefused 16 NoSuchFrame\nrefused 16 NoSuchFrame\n",
@@ -171,16 +183,14 @@ const REFUSED: [(u16, &str, &str); 3] = [
 
 #[test]
 fn refusals_have_names(rt: HostRuntime) {
-    for (replicas, schedule, want) in REFUSED {
-        let setup = Setup::new(replicas, 2, 64, 4, 16).expect(&rt, "a setup");
-        prints(&rt, rt.alloc(), setup, schedule, want);
-    }
+    each_prints_in(&rt, rt.alloc(), &REFUSED);
 }
 
-// By frames of the pool.
-const POOLS: [(u32, &str, &str); 6] = [
+// By replicas, and frames of a pool.
+const POOLS: [(u16, u32, &str, &str); 6] = [
     // a scan leaves before pages that were referenced twice
     (
+        3,
         4,
         "ref 1 1 0:1 1\nref 1 1 0:1 2\nref 1 1 0:5 10\nref 1 1 0:6 11\nflush 1 1\npin 1 0:1\npin 1 0:5\npin 1 0:6\n\
          unpin 1 0.1\nunpin 1 1.1\nunpin 1 2.1\nvictim 1\n",
@@ -188,6 +198,7 @@ const POOLS: [(u32, &str, &str); 6] = [
     ),
     // the distances are 3 and 2; the page referenced last leaves
     (
+        3,
         4,
         "ref 1 1 0:1 1\nref 1 1 0:1 100\nref 1 1 0:2 50\nref 1 1 0:2 60\nflush 1 1\npin 1 0:1\npin 1 0:2\n\
          unpin 1 0.1\nunpin 1 1.1\nvictim 1\n",
@@ -195,12 +206,14 @@ const POOLS: [(u32, &str, &str); 6] = [
     ),
     // pages with a fix do not leave
     (
+        3,
         2,
         "pin 1 0:3\npin 1 0:4\nunpin 1 1.1\nvictim 1\nunpin 1 0.1\nvictim 1\npin 1 0:3\npin 1 0:4\npin 1 0:5\nvictim 1\n",
         "slot 0.1\nslot 1.1\nok\npage 0:4\nok\npage 0:3\nslot 0.1\nslot 1.1\nrefused 6 AllFixed\nnone\n",
     ),
     // a step of the warm-up loads the hottest page that isn't resident, and evicts no page of the list
     (
+        3,
         2,
         "ref 1 1 0:5 1\nref 1 1 0:2 2\nref 1 1 0:2 3\nref 1 1 0:9 4\nref 1 1 0:9 5\nflush 1 1\n\
          pin 1 0:5\npin 1 0:7\nunpin 1 0.1\nunpin 1 1.1\n\
@@ -210,6 +223,7 @@ const POOLS: [(u32, &str, &str); 6] = [
     ),
     // bytes come back with their page, and not by the slot of another
     (
+        3,
         1,
         "pin 1 0:1\nput 1 0.1 0 CAFE\nunpin 1 0.1\npin 1 0:2\nunpin 1 0.2\nget 1 0.1 0 2\npin 1 0:1\n\
          get 1 0.3 0 2\nget 1 0.3 15 2\nget 1 0.3 16 0\n",
@@ -217,6 +231,7 @@ const POOLS: [(u32, &str, &str); 6] = [
     ),
     // a restart writes pages back, and is refused while one has a fix
     (
+        3,
         4,
         "pin 1 0:1\nput 1 0.1 15 AB\nrestart 1\nunpin 1 0.1\nrestart 1\npin 1 0:1\nget 1 0.2 15 1\n",
         "slot 0.1\nok\nrefused 11 Fixed\nok\nok\nslot 0.2\nbytes ab\n",
@@ -225,10 +240,7 @@ const POOLS: [(u32, &str, &str); 6] = [
 
 #[test]
 fn pools_hold_pages(rt: HostRuntime) {
-    for (frames, schedule, want) in POOLS {
-        let setup = Setup::new(3, 2, 64, frames, 16).expect(&rt, "a setup");
-        prints(&rt, rt.alloc(), setup, schedule, want);
-    }
+    each_prints_in(&rt, rt.alloc(), &POOLS);
 }
 
 // Two replicas exchange what they lack by sums, a wish and what was wished for; then they have nothing to say.
@@ -435,24 +447,23 @@ fn a_long_bucket_takes_two_frames(rt: HostRuntime) {
     prints_after(&rt, rt.alloc(), schedule.as_slice(), 1001, want.as_slice());
 }
 
-// First bytes of a line, its length, and what is printed for it and for the line after it.
-const LONG_LINES: [(u8, usize, &str); 5] = [
-    (b'a', 262144, "bad line 1\nend 0\n"),
-    (b'a', 262145, "bad line 1\nend 0\n"),
-    (b'#', 262144, "end 0\n"),
-    (b'#', 262145, "bad line 1\nend 0\n"),
-    (b' ', 262145, "bad line 1\nend 0\n"),
-];
+// Whether a line of so many bytes like the first one prints this, with the line after it.
+fn long_line_prints(rt: &impl Abort, alloc: Global, first: u8, length: usize, want: &str) -> bool {
+    let mut schedule = vec![in alloc; first; length].expect(rt, "room for a line");
+    add(rt, &mut schedule, 1, b"\nshow 1\n");
+    let answers = answers_of(rt, alloc, default_setup(), schedule.as_slice());
+    answers.as_slice() == want.as_bytes()
+}
 
 // A line of 262,144 bytes is read, and of one more it is bad, whatever it begins with.
 #[test]
 fn an_over_long_line_is_bad(rt: HostRuntime) {
-    for (first, length, want) in LONG_LINES {
-        let mut schedule = vec![in rt.alloc(); first; length].expect(&rt, "room for a line");
-        add(&rt, &mut schedule, 1, b"\nshow 1\n");
-        let answers = answers_of(&rt, rt.alloc(), default_setup(), schedule.as_slice());
-        assert!(rt; answers.as_slice() == want.as_bytes());
-    }
+    let bad = "bad line 1\nend 0\n";
+    assert!(rt; long_line_prints(&rt, rt.alloc(), b'a', 262144, bad));
+    assert!(rt; long_line_prints(&rt, rt.alloc(), b'a', 262145, bad));
+    assert!(rt; long_line_prints(&rt, rt.alloc(), b'#', 262144, "end 0\n"));
+    assert!(rt; long_line_prints(&rt, rt.alloc(), b'#', 262145, bad));
+    assert!(rt; long_line_prints(&rt, rt.alloc(), b' ', 262145, bad));
 }
 
 // Gives one byte at a time, each after a read that was interrupted.
@@ -492,11 +503,15 @@ fn trickles(rt: &impl Abort, alloc: Global, schedule: &[u8], want: &[u8]) {
     assert!(rt; answers.as_slice() == want);
 }
 
+fn each_trickles(rt: &impl Abort, alloc: Global, rows: &[(&str, &str)]) {
+    for (schedule, want) in rows {
+        trickles(rt, alloc, schedule.as_bytes(), want.as_bytes());
+    }
+}
+
 #[test]
 fn a_schedule_may_come_in_bytes(rt: HostRuntime) {
-    for (schedule, want) in GOSSIP {
-        trickles(&rt, rt.alloc(), schedule.as_bytes(), want.as_bytes());
-    }
+    each_trickles(&rt, rt.alloc(), &GOSSIP);
 }
 
 // A hundred thousand reads of one byte each, with as many that were interrupted.
@@ -655,29 +670,41 @@ fn are_the_others(answers: &str, others: &str) -> bool {
     lines.next() == None
 }
 
+// Plays a schedule into a list that does not grow.
+fn ended_into(alloc: Global, schedule: &[u8], answers: &mut [u8]) -> Result<(), PlayFault> {
+    let mut reader = schedule;
+    let mut writer = answers;
+    ended(alloc, &mut reader, &mut writer, default_setup())
+}
+
+// What stands in a list before its last spaces.
+fn text_in<'a>(rt: &impl Abort, answers: &'a [u8]) -> &'a str {
+    str::from_utf8(answers).expect(rt, "a text").trim_end()
+}
+
+// Whether all lines of GROWING but those whose growth was refused are answered as if those had been comments.
+fn is_as_comments(rt: &impl Abort, alloc: Global, answers: &str) -> bool {
+    let without = without_refused(rt, answers);
+    let mut again = [b' '; 1024];
+    let played = ended_into(alloc, without.as_slice(), again.as_mut_slice());
+    assert!(rt; played == Ok(()));
+    are_the_others(answers, text_in(rt, again.as_slice()))
+}
+
 // `rt try --test --fail-alloc N -- a_refused_growth` refuses the Nth growth. Either the play ends with the fault Memory, or
 // the line says so whose growth was refused, and all others are answered as if it had been a comment.
 #[test]
 fn a_refused_growth_is_as_a_comment(rt: HostRuntime) {
     let mut answers = [b' '; 1024];
-    let mut writer = answers.as_mut_slice();
-    let mut reader = GROWING.as_bytes();
-    let played = ended(rt.alloc(), &mut reader, &mut writer, default_setup());
+    let played = ended_into(rt.alloc(), GROWING.as_bytes(), answers.as_mut_slice());
     if played == Err(PlayFault::Memory) {
         return;
     }
     assert!(rt; played == Ok(()));
-    let answers = str::from_utf8(&answers).expect(&rt, "a text").trim_end();
-    if !answers.contains(WANT_OF_MEMORY) {
+    let answers = text_in(&rt, answers.as_slice());
+    if answers.contains(WANT_OF_MEMORY) {
+        assert!(rt; is_as_comments(&rt, rt.alloc(), answers));
+    } else {
         assert!(rt; answers == GROWN);
-        return;
     }
-    let without = without_refused(&rt, answers);
-    let mut again = [b' '; 1024];
-    let mut writer = again.as_mut_slice();
-    let mut reader = without.as_slice();
-    let played = ended(rt.alloc(), &mut reader, &mut writer, default_setup());
-    assert!(rt; played == Ok(()));
-    let others = str::from_utf8(&again).expect(&rt, "a text").trim_end();
-    assert!(rt; are_the_others(answers, others));
 }
