@@ -43,87 +43,72 @@ fn plays_by_threads(read: &Result<Cmd, CmdFault>, file: &str, setup: Option<&str
     }
 }
 
-type Words = &'static [&'static str];
+// Whether the words are read as a play of this file and this setup.
+fn read_as_play(alloc: Global, words: &[&str], file: Option<&str>, setup: Option<&str>) -> bool {
+    let read = command_of(alloc, words);
+    plays(&read, file, setup)
+}
 
-// Words of a play, and the file and the setup that they name.
-const PLAYS: [(Words, Option<&str>, Option<&str>); 4] = [
-    (&["warmplay", "play"], None, None),
-    (
-        &["warmplay", "play", "a", "--setup", "b"],
-        Some("a"),
-        Some("b"),
-    ),
-    (&["warmplay", "play", "--setup=b"], None, Some("b")),
-    (
-        &["warmplay", "play", "--", "--setup"],
-        Some("--setup"),
-        None,
-    ),
-];
+fn read_as_random(
+    alloc: Global,
+    words: &[&str],
+    seed: u64,
+    events: u32,
+    setup: Option<&str>,
+) -> bool {
+    let read = command_of(alloc, words);
+    draws(&read, seed, events, setup)
+}
+
+fn read_as_threads(alloc: Global, words: &[&str], file: &str, setup: Option<&str>) -> bool {
+    let read = command_of(alloc, words);
+    plays_by_threads(&read, file, setup)
+}
 
 #[test]
 fn play_takes_a_file_and_a_setup(rt: HostRuntime) {
-    for (words, file, setup) in PLAYS {
-        let read = command_of(rt.alloc(), words);
-        assert!(rt; plays(&read, file, setup));
-    }
+    let bare = ["warmplay", "play"];
+    assert!(rt; read_as_play(rt.alloc(), bare.as_slice(), None, None));
+    let both = ["warmplay", "play", "a", "--setup", "b"];
+    assert!(rt; read_as_play(rt.alloc(), both.as_slice(), Some("a"), Some("b")));
+    let setup = ["warmplay", "play", "--setup=b"];
+    assert!(rt; read_as_play(rt.alloc(), setup.as_slice(), None, Some("b")));
+    let file = ["warmplay", "play", "--", "--setup"];
+    assert!(rt; read_as_play(rt.alloc(), file.as_slice(), Some("--setup"), None));
 }
 
-// Words that ask for a schedule, and its seed, its number of events and its setup.
-const RANDOMS: [(Words, u64, u32, Option<&str>); 2] = [
-    (
-        &[
-            "warmplay",
-            "random",
-            "--seed",
-            "18446744073709551615",
-            "--events",
-            "1000000",
-        ],
-        18446744073709551615,
-        1000000,
-        None,
-    ),
-    (
-        &[
-            "warmplay",
-            "random",
-            "--events=0",
-            "--setup",
-            "b",
-            "--seed",
-            "007",
-        ],
-        7,
-        0,
-        Some("b"),
-    ),
+const GREATEST_NUMBERS: [&str; 6] = [
+    "warmplay",
+    "random",
+    "--seed",
+    "18446744073709551615",
+    "--events",
+    "1000000",
+];
+
+const LEAST_NUMBERS: [&str; 7] = [
+    "warmplay",
+    "random",
+    "--events=0",
+    "--setup",
+    "b",
+    "--seed",
+    "007",
 ];
 
 #[test]
 fn random_takes_two_numbers_and_a_setup(rt: HostRuntime) {
-    for (words, seed, events, setup) in RANDOMS {
-        let read = command_of(rt.alloc(), words);
-        assert!(rt; draws(&read, seed, events, setup));
-    }
+    let seed = 18446744073709551615;
+    assert!(rt; read_as_random(rt.alloc(), &GREATEST_NUMBERS, seed, 1000000, None));
+    assert!(rt; read_as_random(rt.alloc(), &LEAST_NUMBERS, 7, 0, Some("b")));
 }
-
-// Words of a play by threads, and the file and the setup that they name.
-const THREADS: [(Words, &str, Option<&str>); 2] = [
-    (&["warmplay", "threads", "a"], "a", None),
-    (
-        &["warmplay", "threads", "--setup", "b", "a"],
-        "a",
-        Some("b"),
-    ),
-];
 
 #[test]
 fn threads_takes_a_file_and_a_setup(rt: HostRuntime) {
-    for (words, file, setup) in THREADS {
-        let read = command_of(rt.alloc(), words);
-        assert!(rt; plays_by_threads(&read, file, setup));
-    }
+    let file = ["warmplay", "threads", "a"];
+    assert!(rt; read_as_threads(rt.alloc(), file.as_slice(), "a", None));
+    let both = ["warmplay", "threads", "--setup", "b", "a"];
+    assert!(rt; read_as_threads(rt.alloc(), both.as_slice(), "a", Some("b")));
 }
 
 fn kind_of_words(alloc: Global, words: &[&str]) -> Option<ErrorKind> {
@@ -132,6 +117,8 @@ fn kind_of_words(alloc: Global, words: &[&str]) -> Option<ErrorKind> {
         _ => None,
     }
 }
+
+type Words = &'static [&'static str];
 
 // Words that are refused, and how.
 const REFUSED: [(Words, ErrorKind); 13] = [
