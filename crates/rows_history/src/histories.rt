@@ -4,7 +4,7 @@
 //! is then made a second time, and the test passes only where the refused one changed nothing.
 use std::alloc::Global;
 use std::process::Abort;
-use warm_history::{Entry, History, PageHist, Two, join_hist};
+use warm_history::{Entries, Entry, History, PageHist, Two, join_hist};
 use warm_stamps::{BUCKETS, Bucket, PageId, Reference, ReplicaId, Stamp, bucket_of};
 
 fn page(dev: u16, no: u32) -> PageId {
@@ -25,14 +25,14 @@ fn once(rt: &impl Abort, time: u64, replica: u16) -> PageHist {
     PageHist::Once(stamp(rt, time, replica))
 }
 
-fn entry(no: u32, hist: PageHist) -> Entry {
-    Entry {
-        page: page(0, no),
-        hist,
-    }
+fn entry(page: PageId, hist: PageHist) -> Entry {
+    Entry { page, hist }
 }
 
-fn twice(rt: &impl Abort, last: Stamp, prev: Stamp) -> PageHist {
+// What is kept of a page: its last stamp and the last but one, each given by time and replica.
+fn twice(rt: &impl Abort, last: (u64, u16), prev: (u64, u16)) -> PageHist {
+    let last = stamp(rt, last.0, last.1);
+    let prev = stamp(rt, prev.0, prev.1);
     assert!(rt; prev < last);
     PageHist::Twice(Two::new(last, prev))
 }
@@ -49,14 +49,32 @@ fn are_equal(rt: &impl Abort, a: &History, b: &History) -> bool {
     true
 }
 
-// What going over a history gives, ten times asked for its next entry.
-fn walked(history: &History) -> [Option<Entry>; 10] {
-    let mut found = [None; 10];
-    let mut entries = history.iter();
-    for place in 0..10 {
-        found[place] = entries.next();
+fn is_known(history: &History, page: PageId, hist: PageHist) -> bool {
+    history.get(page) == Some(hist)
+}
+
+fn is_at(history: &History, place: usize, entry: Entry) -> bool {
+    history.at(place) == Some(entry)
+}
+
+fn gives(entries: &mut Entries<'_>, want: Option<Entry>) -> bool {
+    entries.next() == want
+}
+
+// Whether these entries are those of a history at 0, 1 and so on, so many of them and no more.
+fn are_those_of(entries: &mut Entries<'_>, history: &History, count: usize) -> bool {
+    for place in 0..count {
+        if !gives(entries, history.at(place)) {
+            return false;
+        }
     }
-    found
+    gives(entries, None)
+}
+
+// Whether going over a history gives its entries in page order, so many of them.
+fn goes_over(history: &History, count: usize) -> bool {
+    let mut entries = history.iter();
+    are_those_of(&mut entries, history, count)
 }
 
 // Copies; where memory is refused, once more.
@@ -79,46 +97,60 @@ fn absorb_twice(rt: &impl Abort, history: &mut History, batch: &[Reference]) {
     }
 }
 
+// An empty list with so much room; where memory is refused, it is asked for once more.
+fn room_twice(rt: &impl Abort, alloc: Global, count: usize) -> Vec<Reference> {
+    match Vec::with_capacity(alloc, count) {
+        Ok(batch) => batch,
+        Err(_) => Vec::with_capacity(alloc, count).expect(rt, "room for references"),
+    }
+}
+
+// Takes references in at once, each given by the device and the number of its page, a time and a replica.
+fn see(rt: &impl Abort, alloc: Global, history: &mut History, given: &[(u16, u32, u64, u16)]) {
+    let mut batch = room_twice(rt, alloc, given.len());
+    for (dev, no, time, replica) in given {
+        let reference = seen(rt, page(*dev, *no), *time, *replica);
+        batch.push(reference).expect(rt, "room for a reference");
+    }
+    absorb_twice(rt, history, &batch);
+}
+
+// The history of references that were taken in at once.
+fn history_of(rt: &impl Abort, alloc: Global, given: &[(u16, u32, u64, u16)]) -> History {
+    let mut history = History::new(alloc);
+    see(rt, alloc, &mut history, given);
+    history
+}
+
+const FIRST: PageId = PageId { dev: 0, no: 1 };
+
 #[test]
 fn keeps_the_two_latest_stamps(rt: HostRuntime) {
-    let first = page(0, 1);
-    let rising = [
-        seen(&rt, first, 10, 1),
-        seen(&rt, first, 20, 1),
-        seen(&rt, first, 30, 1),
-    ];
-    let mut here = History::new(rt.alloc());
-    assert!(rt; here.len() == 0);
-    absorb_twice(&rt, &mut here, &rising);
-    let latest = twice(&rt, stamp(&rt, 30, 1), stamp(&rt, 20, 1));
-    assert!(rt; (here.at(0), here.at(1)) == (Some(entry(1, latest)), None));
-    assert!(rt; here.get(first) == here.at(0).map(|entry| entry.hist));
-
-    let mut late = History::new(rt.alloc());
-    absorb_twice(
-        &rt,
-        &mut late,
-        &[seen(&rt, first, 30, 1), seen(&rt, first, 20, 1)],
-    );
-    absorb_twice(&rt, &mut late, &[seen(&rt, first, 10, 1)]);
+    let rising = [(0, 1, 10, 1), (0, 1, 20, 1), (0, 1, 30, 1)];
+    let here = history_of(&rt, rt.alloc(), &rising);
+    let latest = twice(&rt, (30, 1), (20, 1));
+    assert!(rt; is_at(&here, 0, entry(FIRST, latest)));
+    assert!(rt; here.at(1) == None);
+    let latest = twice(&rt, (30, 1), (20, 1));
+    assert!(rt; is_known(&here, FIRST, latest));
+    let mut late = history_of(&rt, rt.alloc(), &[rising[2], rising[1]]);
+    see(&rt, rt.alloc(), &mut late, &[rising[0]]);
     assert!(rt; are_equal(&rt, &late, &here));
+    keeps_one_of_equal_stamps(&rt, rt.alloc());
+}
 
-    let mut repeated = History::new(rt.alloc());
-    absorb_twice(
-        &rt,
-        &mut repeated,
-        &[seen(&rt, first, 10, 1), seen(&rt, first, 10, 1)],
-    );
-    assert!(rt; repeated.get(first) == Some(once(&rt, 10, 1)));
+fn keeps_one_of_equal_stamps(rt: &impl Abort, alloc: Global) {
+    let latest = once(rt, 10, 1);
+    let none = History::new(alloc);
+    assert!(rt; none.len() == 0);
+    let repeated = history_of(rt, alloc, &[(0, 1, 10, 1), (0, 1, 10, 1)]);
+    assert!(rt; is_known(&repeated, FIRST, latest));
     assert!(rt; repeated.get(page(0, 2)) == None);
 }
 
 // References to the pages 0:0 to 0:49,999 at the times 0 to 49,999, and again at the 50,000 next.
 fn every_page_twice(rt: &impl Abort, alloc: Global) -> Vec<Reference> {
-    let mut batch = match Vec::with_capacity(alloc, 100_000) {
-        Ok(batch) => batch,
-        Err(_) => Vec::with_capacity(alloc, 100_000).expect(rt, "room for references"),
-    };
+    let mut batch = room_twice(rt, alloc, 100_000);
     for time in 0..100_000u32 {
         let reference = seen(rt, page(0, time % 50_000), u64::from(time), 1);
         batch.push(reference).expect(rt, "room for a reference");
@@ -128,14 +160,14 @@ fn every_page_twice(rt: &impl Abort, alloc: Global) -> Vec<Reference> {
 
 #[test]
 fn takes_in_100_000_references_at_once_and_none(rt: HostRuntime) {
-    let mut here = History::new(rt.alloc());
     let batch = every_page_twice(&rt, rt.alloc());
+    let mut here = History::new(rt.alloc());
     absorb_twice(&rt, &mut here, &batch);
     assert!(rt; here.len() == 50_000);
     for no in [0, 24_999, 49_999u32] {
-        let first = u64::from(no);
-        let latest = twice(&rt, stamp(&rt, 50_000 + first, 1), stamp(&rt, first, 1));
-        assert!(rt; here.get(page(0, no)) == Some(latest));
+        let time = u64::from(no);
+        let latest = twice(&rt, (50_000 + time, 1), (time, 1));
+        assert!(rt; is_known(&here, page(0, no), latest));
     }
     let before = copy_twice(&rt, &here);
     absorb_twice(&rt, &mut here, &[]);
@@ -147,69 +179,54 @@ fn takes_in_100_000_references_at_once_and_none(rt: HostRuntime) {
 
 #[test]
 fn a_copy_equals_its_source_and_stays(rt: HostRuntime) {
-    let mut here = History::new(rt.alloc());
-    absorb_twice(
-        &rt,
-        &mut here,
-        &[seen(&rt, page(1, 2), 3, 4), seen(&rt, page(1, 2), 5, 4)],
-    );
+    let latest = twice(&rt, (5, 4), (3, 4));
+    let mut here = history_of(&rt, rt.alloc(), &[(1, 2, 3, 4), (1, 2, 5, 4)]);
     let copied = copy_twice(&rt, &here);
     assert!(rt; are_equal(&rt, &copied, &here));
-    absorb_twice(&rt, &mut here, &[seen(&rt, page(1, 1), 6, 4)]);
-    assert!(rt; (here.len(), copied.len()) == (2, 1));
-    let latest = twice(&rt, stamp(&rt, 5, 4), stamp(&rt, 3, 4));
-    assert!(rt; copied.get(page(1, 2)) == Some(latest));
+    see(&rt, rt.alloc(), &mut here, &[(1, 1, 6, 4)]);
+    assert!(rt; here.len() == 2);
+    assert!(rt; copied.len() == 1);
+    assert!(rt; is_known(&copied, page(1, 2), latest));
 }
 
 #[test]
 fn tells_replicas_apart(rt: HostRuntime) {
     for time in [5, u64::MAX] {
-        let mut here = History::new(rt.alloc());
-        let batch = [
-            seen(&rt, page(0, 1), time, 1),
-            seen(&rt, page(0, 1), time, 2),
-        ];
-        absorb_twice(&rt, &mut here, &batch);
-        let latest = twice(&rt, stamp(&rt, time, 2), stamp(&rt, time, 1));
-        assert!(rt; here.get(page(0, 1)) == Some(latest));
+        let latest = twice(&rt, (time, 2), (time, 1));
+        let here = history_of(&rt, rt.alloc(), &[(0, 1, time, 1), (0, 1, time, 2)]);
+        assert!(rt; is_known(&here, FIRST, latest));
     }
 }
 
-#[test]
-fn joins_the_two_latest_of_both(rt: HostRuntime) {
-    let first = page(0, 1);
-    let mut here = History::new(rt.alloc());
-    let batch = [
-        seen(&rt, first, 10, 1),
-        seen(&rt, first, 20, 1),
-        seen(&rt, page(0, 3), 1, 1),
-    ];
-    absorb_twice(&rt, &mut here, &batch);
-    let mut there = History::new(rt.alloc());
-    let batch = [
-        seen(&rt, first, 15, 2),
-        seen(&rt, first, 30, 2),
-        seen(&rt, page(0, 2), 2, 2),
-    ];
-    absorb_twice(&rt, &mut there, &batch);
-
-    let before = copy_twice(&rt, &here);
-    if here.join(&there).is_err() {
+// Joins; where memory is refused, sees that nothing changed, and tries again.
+fn join_twice(rt: &impl Abort, history: &mut History, other: &History) {
+    let before = copy_twice(rt, history);
+    if history.join(other).is_err() {
         assert!(rt;
-            are_equal(&rt, &here, &before),
+            are_equal(rt, history, &before),
             "a refused join left something"
         );
-        here.join(&there).expect(&rt, "room to join");
+        history.join(other).expect(rt, "room to join");
     }
-    if there.join(&before).is_err() {
-        there.join(&before).expect(&rt, "room to join");
-    }
+}
+
+const HERE: [(u16, u32, u64, u16); 3] = [(0, 1, 10, 1), (0, 1, 20, 1), (0, 3, 1, 1)];
+
+const THERE: [(u16, u32, u64, u16); 3] = [(0, 1, 15, 2), (0, 1, 30, 2), (0, 2, 2, 2)];
+
+#[test]
+fn joins_the_two_latest_of_both(rt: HostRuntime) {
+    let latest = twice(&rt, (30, 2), (20, 1));
+    let mut here = history_of(&rt, rt.alloc(), &HERE);
+    let mut there = history_of(&rt, rt.alloc(), &THERE);
+    let before = copy_twice(&rt, &here);
+    join_twice(&rt, &mut here, &there);
+    join_twice(&rt, &mut there, &before);
     assert!(rt; are_equal(&rt, &here, &there), "both ways give one history");
     assert!(rt; here.len() == 3);
-    let latest = twice(&rt, stamp(&rt, 30, 2), stamp(&rt, 20, 1));
-    assert!(rt; here.get(first) == Some(latest));
-    assert!(rt; here.get(page(0, 2)) == Some(once(&rt, 2, 2)));
-    assert!(rt; here.get(page(0, 3)) == Some(once(&rt, 1, 1)));
+    assert!(rt; is_known(&here, FIRST, latest));
+    assert!(rt; is_known(&here, page(0, 2), once(&rt, 2, 2)));
+    assert!(rt; is_known(&here, page(0, 3), once(&rt, 1, 1)));
 }
 
 // Joins entries to the empty history; where memory is refused, sees that it is still empty.
@@ -222,14 +239,22 @@ fn joined_to_none(rt: &impl Abort, alloc: Global, more: &[Entry]) -> History {
     here
 }
 
+fn first_entry(rt: &impl Abort) -> Entry {
+    entry(FIRST, once(rt, 8, 1))
+}
+
+fn second_entry(rt: &impl Abort) -> Entry {
+    entry(page(0, 2), once(rt, 7, 1))
+}
+
 #[test]
 fn joins_entries_in_any_order(rt: HostRuntime) {
-    let rising = [entry(1, once(&rt, 8, 1)), entry(2, once(&rt, 7, 1))];
-    let falling = [entry(2, once(&rt, 7, 1)), entry(1, once(&rt, 8, 1))];
+    let rising = [first_entry(&rt), second_entry(&rt)];
+    let falling = [second_entry(&rt), first_entry(&rt)];
     let here = joined_to_none(&rt, rt.alloc(), &rising);
     assert!(rt; here.len() == 2);
-    assert!(rt; here.at(0) == Some(entry(1, once(&rt, 8, 1))));
-    assert!(rt; here.at(1) == Some(entry(2, once(&rt, 7, 1))));
+    assert!(rt; is_at(&here, 0, first_entry(&rt)));
+    assert!(rt; is_at(&here, 1, second_entry(&rt)));
     let there = joined_to_none(&rt, rt.alloc(), &falling);
     assert!(rt; are_equal(&rt, &here, &there));
 }
@@ -250,47 +275,63 @@ fn entries_twice(
     }
 }
 
+fn page_at(entries: &[Entry], place: usize) -> Option<(u16, u32)> {
+    match entries.get(place) {
+        Some(entry) => Some((entry.page.dev, entry.page.no)),
+        None => None,
+    }
+}
+
+// The first page and the second of the entries of a bucket after a page, of so many that are asked for, and how many came.
+fn pages_of(
+    rt: &impl Abort,
+    history: &History,
+    number: u8,
+    after: Option<(u16, u32)>,
+    limit: usize,
+) -> (Option<(u16, u32)>, Option<(u16, u32)>, usize) {
+    let bucket = Bucket::new(number).expect(rt, "a bucket");
+    let after = match after {
+        Some((dev, no)) => Some(page(dev, no)),
+        None => None,
+    };
+    let found = entries_twice(rt, history, bucket, after, limit);
+    let first = page_at(found.as_slice(), 0);
+    let second = page_at(found.as_slice(), 1);
+    (first, second, found.len())
+}
+
+// The number of a bucket, a page, and the two pages after it.
+type Pair = (
+    u8,
+    Option<(u16, u32)>,
+    Option<(u16, u32)>,
+    Option<(u16, u32)>,
+);
+
+const PAIRS: [Pair; 4] = [
+    (1, None, Some((0, 1)), Some((0, 65))),
+    (1, Some((0, 65)), Some((1, 0)), None),
+    (1, Some((1, 0)), None, None),
+    (2, None, None, None),
+];
+
 #[test]
 fn gives_the_entries_of_a_bucket(rt: HostRuntime) {
-    let mut here = History::new(rt.alloc());
-    let batch = [
-        seen(&rt, page(1, 0), 3, 1),
-        seen(&rt, page(0, 65), 2, 1),
-        seen(&rt, page(0, 1), 1, 1),
-    ];
-    absorb_twice(&rt, &mut here, &batch);
-    let rows = [
-        (1, None, Some(page(0, 1)), Some(page(0, 65))),
-        (1, Some(page(0, 65)), Some(page(1, 0)), None),
-        (1, Some(page(1, 0)), None, None),
-        (2, None, None, None),
-    ];
-    for (number, after, first, second) in rows {
-        let bucket = Bucket::new(number).expect(&rt, "a bucket");
-        let found = entries_twice(&rt, &here, bucket, after, 2);
-        assert!(rt;
-            found.get(0).map(|entry| entry.page) == first,
-            "of {number}"
-        );
-        assert!(rt;
-            found.get(1).map(|entry| entry.page) == second,
-            "of {number}"
-        );
-        assert!(rt; found.len() <= 2);
+    let given = [(1, 0, 3, 1), (0, 65, 2, 1), (0, 1, 1, 1)];
+    let here = history_of(&rt, rt.alloc(), &given);
+    for (number, after, first, second) in PAIRS {
+        let found = pages_of(&rt, &here, number, after, 2);
+        assert!(rt; found.0 == first && found.1 == second, "of {number}");
+        assert!(rt; found.2 <= 2);
     }
 }
 
 #[test]
 fn goes_over_pages_in_order(rt: HostRuntime) {
-    let mut here = History::new(rt.alloc());
-    absorb_twice(
-        &rt,
-        &mut here,
-        &[seen(&rt, page(0, 9), 4, 1), seen(&rt, page(0, 2), 5, 1)],
-    );
-    let found = walked(&here);
-    assert!(rt; (found[0], found[1], found[2]) == (here.at(0), here.at(1), None));
-    assert!(rt; here.get(page(0, 2)) == Some(once(&rt, 5, 1)));
+    let here = history_of(&rt, rt.alloc(), &[(0, 9, 4, 1), (0, 2, 5, 1)]);
+    assert!(rt; goes_over(&here, 2));
+    assert!(rt; is_known(&here, page(0, 2), once(&rt, 5, 1)));
 }
 
 #[test]
@@ -307,25 +348,37 @@ fn joins_what_is_kept_of_a_page(rt: HostRuntime) {
     assert!(rt; joined == PageHist::Twice(Two::new(seven, six)));
 }
 
-#[test]
-fn a_refused_batch_leaves_the_hundred_pages(rt: HostRuntime) {
-    let mut first = [seen(&rt, page(0, 0), 10, 1); 100];
-    let mut batch = [seen(&rt, page(0, 0), 20, 1); 120];
+// One reference to each of the first hundred pages of even numbers.
+fn even_pages(rt: &impl Abort) -> [Reference; 100] {
+    let mut batch = [seen(rt, page(0, 0), 10, 1); 100];
     for no in 0..100 {
-        first[no].page.no = 2 * no as u32;
+        batch[no].page.no = 2 * no as u32;
+    }
+    batch
+}
+
+// One reference to each of the first hundred pages of odd numbers, and then to every fifth of the even ones.
+fn odd_pages(rt: &impl Abort) -> [Reference; 120] {
+    let mut batch = [seen(rt, page(0, 0), 20, 1); 120];
+    for no in 0..100 {
         batch[no].page.no = 2 * no as u32 + 1;
     }
     for no in 0..20 {
         batch[100 + no].page.no = 10 * no as u32;
     }
+    batch
+}
+
+#[test]
+fn a_refused_batch_leaves_the_hundred_pages(rt: HostRuntime) {
+    let both = twice(&rt, (20, 1), (10, 1));
     let mut here = History::new(rt.alloc());
-    absorb_twice(&rt, &mut here, &first);
-    absorb_twice(&rt, &mut here, &batch);
+    absorb_twice(&rt, &mut here, &even_pages(&rt));
+    absorb_twice(&rt, &mut here, &odd_pages(&rt));
     assert!(rt; here.len() == 200);
-    assert!(rt; here.get(page(0, 2)) == Some(once(&rt, 10, 1)));
-    assert!(rt; here.get(page(0, 3)) == Some(once(&rt, 20, 1)));
-    let both = twice(&rt, stamp(&rt, 20, 1), stamp(&rt, 10, 1));
-    assert!(rt; here.get(page(0, 10)) == Some(both));
+    assert!(rt; is_known(&here, page(0, 2), once(&rt, 10, 1)));
+    assert!(rt; is_known(&here, page(0, 3), once(&rt, 20, 1)));
+    assert!(rt; is_known(&here, page(0, 10), both));
 }
 
 // Pages of several devices and buckets, in page order: each with the number of its bucket.
@@ -352,73 +405,85 @@ fn spread(rt: &impl Abort, alloc: Global) -> History {
     here
 }
 
+// Whether the entry at this place of the history is that of this page, referenced once at the time of the place.
+fn stands_at(rt: &impl Abort, history: &History, place: usize, page: PageId) -> bool {
+    let time = place as u64;
+    is_at(history, place, entry(page, once(rt, time, 1)))
+        && is_known(history, page, once(rt, time, 1))
+}
+
 #[test]
 fn goes_over_devices_and_buckets_in_page_order(rt: HostRuntime) {
     let here = spread(&rt, rt.alloc());
     assert!(rt; here.len() == 9);
-    let found = walked(&here);
-    for time in 0..9usize {
-        let (dev, no, number) = SPREAD[time];
+    assert!(rt; goes_over(&here, 9));
+    for place in 0..9usize {
+        let (dev, no, number) = SPREAD[place];
         let page = page(dev, no);
         assert!(rt; bucket_of(page).get() == number);
-        assert!(rt; here.get(page) == Some(once(&rt, time as u64, 1)));
-        assert!(rt;
-            found[time].map(|entry| (entry.page, Some(entry.hist))) == Some((page, here.get(page)))
-        );
-        assert!(rt; here.at(time) == found[time]);
+        assert!(rt; stands_at(&rt, &here, place, page));
     }
-    assert!(rt; found[9] == None);
     assert!(rt; here.at(9) == None);
     assert!(rt; here.get(page(65_535, 0)) == None);
+}
+
+// How often going over a history in some order gives this page with what is kept of it; with anything else it is no number.
+fn times_given(history: &History, page: PageId, hist: PageHist) -> Option<usize> {
+    let mut count = 0usize;
+    for entry in history.unordered() {
+        if entry.page == page {
+            if entry.hist != hist {
+                return None;
+            }
+            count = count.wrapping_add(1);
+        }
+    }
+    Some(count)
 }
 
 #[test]
 fn goes_over_all_in_some_order(rt: HostRuntime) {
     let here = spread(&rt, rt.alloc());
-    let mut found = [0u8; 9];
-    for entry in here.unordered() {
-        for time in 0..9usize {
-            let (dev, no, _) = SPREAD[time];
-            if entry.page == page(dev, no) {
-                assert!(rt; entry.hist == once(&rt, time as u64, 1));
-                found[time] = found[time].wrapping_add(1);
-            }
-        }
+    for time in 0..9usize {
+        let (dev, no, _) = SPREAD[time];
+        let hist = once(&rt, time as u64, 1);
+        assert!(rt; times_given(&here, page(dev, no), hist) == Some(1));
     }
-    assert!(rt; found == [1; 9]);
 }
+
+// The number of a bucket, a page, how many entries after it are asked for, the first of them, and how many come.
+type Row = (u8, (u16, u32), usize, Option<(u16, u32)>, usize);
+
+const LATER: [Row; 14] = [
+    (0, (0, 0), 9, Some((0, 64)), 3),
+    (0, (0, 1), 9, Some((0, 64)), 3),
+    (0, (0, 63), 2, Some((0, 64)), 2),
+    (0, (0, 4_294_967_295), 9, Some((1, 63)), 2),
+    (0, (1, 64), 9, Some((65_535, 1)), 1),
+    (0, (65_535, 0), 9, Some((65_535, 1)), 1),
+    (0, (65_535, 1), 9, None, 0),
+    (0, (65_535, 4_294_967_295), 9, None, 0),
+    (0, (0, 0), 0, None, 0),
+    (1, (0, 0), 1, Some((0, 1)), 1),
+    (
+        62,
+        (65_535, 4_294_967_294),
+        9,
+        Some((65_535, 4_294_967_295)),
+        1,
+    ),
+    (63, (0, 0), 9, Some((0, 63)), 2),
+    (63, (0, 64), 9, Some((0, 4_294_967_295)), 1),
+    (63, (1, 0), 9, None, 0),
+];
 
 #[test]
 fn gives_those_after_a_page_of_any_bucket(rt: HostRuntime) {
     let here = spread(&rt, rt.alloc());
-    let rows = [
-        (0, page(0, 0), 9, Some(page(0, 64)), 3),
-        (0, page(0, 1), 9, Some(page(0, 64)), 3),
-        (0, page(0, 63), 2, Some(page(0, 64)), 2),
-        (0, page(0, 4_294_967_295), 9, Some(page(1, 63)), 2),
-        (0, page(1, 64), 9, Some(page(65_535, 1)), 1),
-        (0, page(65_535, 0), 9, Some(page(65_535, 1)), 1),
-        (0, page(65_535, 1), 9, None, 0),
-        (0, page(65_535, 4_294_967_295), 9, None, 0),
-        (0, page(0, 0), 0, None, 0),
-        (1, page(0, 0), 1, Some(page(0, 1)), 1),
-        (
-            62,
-            page(65_535, 4_294_967_294),
-            9,
-            Some(page(65_535, 4_294_967_295)),
-            1,
-        ),
-        (63, page(0, 0), 9, Some(page(0, 63)), 2),
-        (63, page(0, 64), 9, Some(page(0, 4_294_967_295)), 1),
-        (63, page(1, 0), 9, None, 0),
-    ];
-    for (number, after, limit, first, count) in rows {
-        let bucket = Bucket::new(number).expect(&rt, "a bucket");
-        let found = entries_twice(&rt, &here, bucket, Some(after), limit);
-        assert!(rt; found.len() == count, "bucket {number} after {after:?}");
+    for (number, after, limit, first, count) in LATER {
+        let found = pages_of(&rt, &here, number, Some(after), limit);
         assert!(rt;
-            found.get(0).map(|entry| entry.page) == first,
+            found.0 == first && found.2 == count,
             "bucket {number} after {after:?}"
         );
     }

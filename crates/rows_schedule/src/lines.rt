@@ -1,32 +1,43 @@
 //! Lines of a schedule, read one by one; worked out by hand from docs/FORMATS.md.
-use std::test::Fail;
+use std::alloc::Global;
+use std::process::Abort;
 use warm_schedule::{Line, LineFault, WorkerLine, parse_line, parse_worker_line};
 use warm_stamps::PageId;
 
+fn is_bad(alloc: Global, line: &[u8]) -> bool {
+    matches!(parse_line(alloc, line), Err(LineFault::Bad))
+}
+
+fn is_nothing(alloc: Global, line: &[u8]) -> bool {
+    matches!(parse_line(alloc, line), Ok(Line::Nothing))
+}
+
 // The limit is parse_line's own, whatever a player keeps of a line.
 #[test]
-fn a_line_has_a_greatest_length(rt: HostRuntime) -> Result<(), Fail> {
-    let comment = vec![in rt.alloc(); b'#'; 262145]?;
-    assert!(rt;
-        matches!(
-            parse_line(rt.alloc(), &comment.as_slice()[1..]),
-            Ok(Line::Nothing)
-        )
-    );
-    assert!(rt;
-        matches!(
-            parse_line(rt.alloc(), comment.as_slice()),
-            Err(LineFault::Bad)
-        )
-    );
-    Ok(())
+fn a_line_has_a_greatest_length(rt: HostRuntime) {
+    let comment = vec![in rt.alloc(); b'#'; 262145].expect(&rt, "room for a line");
+    assert!(rt; is_nothing(rt.alloc(), &comment.as_slice()[1..]));
+    assert!(rt; is_bad(rt.alloc(), comment.as_slice()));
+}
+
+fn is_named(fault: LineFault, code: u8, name: &str) -> bool {
+    fault.code() == code && fault.name() == name
 }
 
 #[test]
 fn a_line_fault_has_its_number_and_name(rt: HostRuntime) {
-    assert!(rt; matches!(parse_line(rt.alloc(), b"foo"), Err(LineFault::Bad)));
-    assert!(rt; (LineFault::Bad.code(), LineFault::Bad.name()) == (2, "Bad"));
-    assert!(rt; (LineFault::Memory.code(), LineFault::Memory.name()) == (1, "Memory"));
+    assert!(rt; is_bad(rt.alloc(), b"foo"));
+    assert!(rt; is_named(LineFault::Bad, 2, "Bad"));
+    assert!(rt; is_named(LineFault::Memory, 1, "Memory"));
+}
+
+fn asks(line: &[u8], want: WorkerLine) -> bool {
+    parse_worker_line(line) == Some(Some(want))
+}
+
+// Whether a line is blank or a comment.
+fn is_blank(line: &[u8]) -> bool {
+    matches!(parse_worker_line(line), Some(None))
 }
 
 #[test]
@@ -37,47 +48,56 @@ fn a_line_asks_something_of_a_worker(rt: HostRuntime) {
         worker: 2,
         reference: Some((page, 5)),
     };
+    assert!(rt; asks(b"ref 1 2 3:4 5", touches));
     let flushes = WorkerLine {
         replica: 65535,
         worker: 0,
         reference: None,
     };
-    assert!(rt; parse_worker_line(b"ref 1 2 3:4 5") == Some(Some(touches)));
-    assert!(rt; parse_worker_line(b"  flush  65535 000 ") == Some(Some(flushes)));
-    for line in ["", "   ", "#", " # ref 1 2 3:4 5"] {
-        assert!(rt; parse_worker_line(line.as_bytes()) == Some(None), "{line}");
+    assert!(rt; asks(b"  flush  65535 000 ", flushes));
+    assert!(rt; is_blank(b""));
+    assert!(rt; is_blank(b"   "));
+    assert!(rt; is_blank(b"#"));
+    assert!(rt; is_blank(b" # ref 1 2 3:4 5"));
+}
+
+// Lines that ask nothing of a worker.
+const OTHERS: [&str; 25] = [
+    "flush",
+    "flush 1",
+    "flush 1 2 3",
+    "flush 65536 1",
+    "flush 1 65536",
+    "ref 1 2 3:4",
+    "ref 1 2 3:4 5 6",
+    "ref 1 2 34 5",
+    "ref 65536 2 3:4 5",
+    "ref 1 2 3:4 18446744073709551616",
+    "Ref 1 2 3:4 5",
+    "ref#",
+    "word",
+    "send 1 63",
+    "offer 1",
+    "deliver 1 2",
+    "pin 1 3:4",
+    "unpin 1 2.3",
+    "put 1 2.3 4 5A",
+    "get 1 2.3 4 5",
+    "victim 1",
+    "warm 1 2",
+    "warmstep 1",
+    "restart 1",
+    "show 1",
+];
+
+// Sees that none of these lines asks something of a worker.
+fn ask_nothing(rt: &impl Abort, lines: &[&str]) {
+    for line in lines {
+        assert!(rt; parse_worker_line(line.as_bytes()) == None, "{line}");
     }
 }
 
 #[test]
 fn other_lines_ask_nothing_of_a_worker(rt: HostRuntime) {
-    for line in [
-        "flush",
-        "flush 1",
-        "flush 1 2 3",
-        "flush 65536 1",
-        "flush 1 65536",
-        "ref 1 2 3:4",
-        "ref 1 2 3:4 5 6",
-        "ref 1 2 34 5",
-        "ref 65536 2 3:4 5",
-        "ref 1 2 3:4 18446744073709551616",
-        "Ref 1 2 3:4 5",
-        "ref#",
-        "word",
-        "send 1 63",
-        "offer 1",
-        "deliver 1 2",
-        "pin 1 3:4",
-        "unpin 1 2.3",
-        "put 1 2.3 4 5A",
-        "get 1 2.3 4 5",
-        "victim 1",
-        "warm 1 2",
-        "warmstep 1",
-        "restart 1",
-        "show 1",
-    ] {
-        assert!(rt; parse_worker_line(line.as_bytes()) == None, "{line}");
-    }
+    ask_nothing(&rt, &OTHERS);
 }

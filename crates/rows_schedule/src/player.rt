@@ -7,7 +7,6 @@ ghost use Rattle.warm_world.specs.Seen.{listed};
 use std::alloc::{AllocError, Global};
 use std::io::{ErrorKind, Read, Write};
 use std::process::Abort;
-use std::test::Fail;
 use std::{io, str};
 use warm_devices::{Flaky, MemDevice, PageDevice};
 use warm_schedule::{PlayFault, play};
@@ -15,11 +14,6 @@ use warm_world::Setup;
 
 fn default_setup() -> Setup {
     Setup::new(3, 2, 64, 4, 16).unwrap()
-}
-
-// A setup of three replicas whose pools have so many frames.
-fn of_frames(frames: u32) -> Result<Setup, Fail> {
-    Ok(Setup::new(3, 2, 64, frames, 16)?)
 }
 
 type Devices = Vec<Vec<Box<dyn PageDevice + Send>>>;
@@ -38,7 +32,7 @@ fn in_memory(alloc: Global, replicas: u16) -> Result<Devices, AllocError>
 }
 
 // Plays over devices in memory.
-pub(crate) fn ended<R: Read, W: Write>(
+fn ended<R: Read, W: Write>(
     alloc: Global,
     reader: &mut R,
     writer: &mut W,
@@ -51,24 +45,32 @@ pub(crate) fn ended<R: Read, W: Write>(
 }
 
 // What is printed for a schedule in ample memory.
-fn answers_of(alloc: Global, setup: Setup, schedule: &str) -> Result<Vec<u8>, Fail> {
-    let mut reader = schedule.as_bytes();
+pub(crate) fn answers_of(rt: &impl Abort, alloc: Global, setup: Setup, schedule: &[u8]) -> Vec<u8> {
+    let mut reader = schedule;
     let mut answers = Vec::new(alloc);
-    ended(alloc, &mut reader, &mut answers, setup)?;
-    Ok(answers)
+    ended(alloc, &mut reader, &mut answers, setup).expect(rt, "a play to its end");
+    answers
 }
 
 // A schedule prints this.
-fn prints(
-    rt: &impl Abort,
-    alloc: Global,
-    setup: Setup,
-    schedule: &str,
-    want: &str,
-) -> Result<(), Fail> {
-    let answers = answers_of(alloc, setup, schedule)?;
-    assert!(rt; str::from_utf8(answers.as_slice())? == want);
-    Ok(())
+fn prints(rt: &impl Abort, alloc: Global, setup: Setup, schedule: &str, want: &str) {
+    let answers = answers_of(rt, alloc, setup, schedule.as_bytes());
+    assert!(rt; answers.as_slice() == want.as_bytes());
+}
+
+// Each of these schedules prints what stands beside it.
+fn each_prints(rt: &impl Abort, alloc: Global, rows: &[(&str, &str)]) {
+    for (schedule, want) in rows {
+        prints(rt, alloc, default_setup(), schedule, want);
+    }
+}
+
+// The same in worlds of so many replicas, whose pools have so many frames.
+fn each_prints_in(rt: &impl Abort, alloc: Global, rows: &[(u16, u32, &str, &str)]) {
+    for (replicas, frames, schedule, want) in rows {
+        let setup = Setup::new(*replicas, 2, 64, *frames, 16).expect(rt, "a setup");
+        prints(rt, alloc, setup, schedule, want);
+    }
 }
 
 const FIRST_PATH: [(&str, &str); 6] = [
@@ -93,11 +95,8 @@ const FIRST_PATH: [(&str, &str); 6] = [
 ];
 
 #[test]
-fn references_reach_a_history(rt: HostRuntime) -> Result<(), Fail> {
-    for (schedule, want) in FIRST_PATH {
-        prints(&rt, rt.alloc(), default_setup(), schedule, want)?;
-    }
-    Ok(())
+fn references_reach_a_history(rt: HostRuntime) {
+    each_prints(&rt, rt.alloc(), &FIRST_PATH);
 }
 
 const GOSSIP: [(&str, &str); 5] = [
@@ -133,11 +132,8 @@ const GOSSIP: [(&str, &str); 5] = [
 ];
 
 #[test]
-fn frames_bring_what_reached_their_sender(rt: HostRuntime) -> Result<(), Fail> {
-    for (schedule, want) in GOSSIP {
-        prints(&rt, rt.alloc(), default_setup(), schedule, want)?;
-    }
-    Ok(())
+fn frames_bring_what_reached_their_sender(rt: HostRuntime) {
+    each_prints(&rt, rt.alloc(), &GOSSIP);
 }
 
 const BUFFERS_AND_RANKS: [(&str, &str); 3] = [
@@ -157,27 +153,28 @@ const BUFFERS_AND_RANKS: [(&str, &str); 3] = [
 ];
 
 #[test]
-fn references_wait_and_pages_are_ranked(rt: HostRuntime) -> Result<(), Fail> {
-    for (schedule, want) in BUFFERS_AND_RANKS {
-        prints(&rt, rt.alloc(), default_setup(), schedule, want)?;
-    }
-    Ok(())
+fn references_wait_and_pages_are_ranked(rt: HostRuntime) {
+    each_prints(&rt, rt.alloc(), &BUFFERS_AND_RANKS);
 }
 
-const REFUSED: [(u16, &str, &str); 3] = [
+// By replicas, and frames of a pool.
+const REFUSED: [(u16, u32, &str, &str); 3] = [
     (
         1,
+        4,
         "ref 2 1 0:1 5\nflush 1 3\n# x\nbad\n",
         "refused 14 NoSuchReplica\nrefused 15 NoSuchWorker\nbad line 4\n",
     ),
     (
         3,
+        4,
         "ref 4 1 0:1 1\nref 1 3 0:1 1\nref 9 9 0:1 1\ndeliver 1 1\npin 1 1:0\npin 1 0:256\nsend 1 64\nfoo\n",
         "refused 14 NoSuchReplica\nrefused 15 NoSuchWorker\nrefused 14 NoSuchReplica\nrefused 16 NoSuchFrame\n\
          refused 4 NoDevice\nrefused 5 NoPage\nbad line 7\nbad line 8\n",
     ),
     (
         3,
+        4,
         "show 0\nwarm 4 1\nrestart 65535\nsend 4 63\nflush 1 0\nsend 1 63\ndeliver 3 0\ndeliver 3 2\n",
         "refused 14 NoSuchReplica\nrefused 14 NoSuchReplica\nrefused 14 NoSuchReplica\nrefused 14 NoSuchReplica\n\
          refused 15 NoSuchWorker\nframe 1\nrefused 16 NoSuchFrame\nrefused 16 NoSuchFrame\n",
@@ -185,18 +182,15 @@ const REFUSED: [(u16, &str, &str); 3] = [
 ];
 
 #[test]
-fn refusals_have_names(rt: HostRuntime) -> Result<(), Fail> {
-    for (replicas, schedule, want) in REFUSED {
-        let setup = Setup::new(replicas, 2, 64, 4, 16)?;
-        prints(&rt, rt.alloc(), setup, schedule, want)?;
-    }
-    Ok(())
+fn refusals_have_names(rt: HostRuntime) {
+    each_prints_in(&rt, rt.alloc(), &REFUSED);
 }
 
-// By frames of the pool.
-const POOLS: [(u32, &str, &str); 6] = [
+// By replicas, and frames of a pool.
+const POOLS: [(u16, u32, &str, &str); 6] = [
     // a scan leaves before pages that were referenced twice
     (
+        3,
         4,
         "ref 1 1 0:1 1\nref 1 1 0:1 2\nref 1 1 0:5 10\nref 1 1 0:6 11\nflush 1 1\npin 1 0:1\npin 1 0:5\npin 1 0:6\n\
          unpin 1 0.1\nunpin 1 1.1\nunpin 1 2.1\nvictim 1\n",
@@ -204,6 +198,7 @@ const POOLS: [(u32, &str, &str); 6] = [
     ),
     // the distances are 3 and 2; the page referenced last leaves
     (
+        3,
         4,
         "ref 1 1 0:1 1\nref 1 1 0:1 100\nref 1 1 0:2 50\nref 1 1 0:2 60\nflush 1 1\npin 1 0:1\npin 1 0:2\n\
          unpin 1 0.1\nunpin 1 1.1\nvictim 1\n",
@@ -211,12 +206,14 @@ const POOLS: [(u32, &str, &str); 6] = [
     ),
     // pages with a fix do not leave
     (
+        3,
         2,
         "pin 1 0:3\npin 1 0:4\nunpin 1 1.1\nvictim 1\nunpin 1 0.1\nvictim 1\npin 1 0:3\npin 1 0:4\npin 1 0:5\nvictim 1\n",
         "slot 0.1\nslot 1.1\nok\npage 0:4\nok\npage 0:3\nslot 0.1\nslot 1.1\nrefused 6 AllFixed\nnone\n",
     ),
     // a step of the warm-up loads the hottest page that isn't resident, and evicts no page of the list
     (
+        3,
         2,
         "ref 1 1 0:5 1\nref 1 1 0:2 2\nref 1 1 0:2 3\nref 1 1 0:9 4\nref 1 1 0:9 5\nflush 1 1\n\
          pin 1 0:5\npin 1 0:7\nunpin 1 0.1\nunpin 1 1.1\n\
@@ -226,6 +223,7 @@ const POOLS: [(u32, &str, &str); 6] = [
     ),
     // bytes come back with their page, and not by the slot of another
     (
+        3,
         1,
         "pin 1 0:1\nput 1 0.1 0 CAFE\nunpin 1 0.1\npin 1 0:2\nunpin 1 0.2\nget 1 0.1 0 2\npin 1 0:1\n\
          get 1 0.3 0 2\nget 1 0.3 15 2\nget 1 0.3 16 0\n",
@@ -233,6 +231,7 @@ const POOLS: [(u32, &str, &str); 6] = [
     ),
     // a restart writes pages back, and is refused while one has a fix
     (
+        3,
         4,
         "pin 1 0:1\nput 1 0.1 15 AB\nrestart 1\nunpin 1 0.1\nrestart 1\npin 1 0:1\nget 1 0.2 15 1\n",
         "slot 0.1\nok\nrefused 11 Fixed\nok\nok\nslot 0.2\nbytes ab\n",
@@ -240,21 +239,18 @@ const POOLS: [(u32, &str, &str); 6] = [
 ];
 
 #[test]
-fn pools_hold_pages(rt: HostRuntime) -> Result<(), Fail> {
-    for (frames, schedule, want) in POOLS {
-        prints(&rt, rt.alloc(), of_frames(frames)?, schedule, want)?;
-    }
-    Ok(())
+fn pools_hold_pages(rt: HostRuntime) {
+    each_prints_in(&rt, rt.alloc(), &POOLS);
 }
 
 // Two replicas exchange what they lack by sums, a wish and what was wished for; then they have nothing to say.
 #[test]
-fn sums_and_a_wish_make_replicas_equal(rt: HostRuntime) -> Result<(), Fail> {
+fn sums_and_a_wish_make_replicas_equal(rt: HostRuntime) {
     let schedule = "ref 1 1 0:1 10\nflush 1 1\nref 2 1 0:2 11\nflush 2 1\n\
         offer 1\ndeliver 2 1\ndeliver 1 2\ndeliver 1 3\ndeliver 2 4\ndeliver 2 5\nshow 1\nshow 2\noffer 1\ndeliver 2 6\n";
     let want = "ok\nok\nok\nok\nframe 1\ntook 2 from 2\ntook 0\ntook 2 from 4\ntook 0\ntook 0\n\
         0:1 last 10@1\n0:2 last 11@2\nend 2\n0:1 last 10@1\n0:2 last 11@2\nend 2\nframe 6\ntook 0\n";
-    prints(&rt, rt.alloc(), default_setup(), schedule, want)
+    prints(&rt, rt.alloc(), default_setup(), schedule, want);
 }
 
 const SLOTS_AND_BYTES: [(&str, &str); 3] = [
@@ -281,73 +277,71 @@ const SLOTS_AND_BYTES: [(&str, &str); 3] = [
 ];
 
 #[test]
-fn slots_and_bytes_are_read_exactly(rt: HostRuntime) -> Result<(), Fail> {
-    for (schedule, want) in SLOTS_AND_BYTES {
-        prints(&rt, rt.alloc(), default_setup(), schedule, want)?;
+fn slots_and_bytes_are_read_exactly(rt: HostRuntime) {
+    each_prints(&rt, rt.alloc(), &SLOTS_AND_BYTES);
+}
+
+// Adds a piece to a text, so many times.
+fn add(rt: &impl Abort, text: &mut Vec<u8>, times: u32, piece: &[u8]) {
+    for _ in 0..times {
+        text.extend_from_slice(piece).expect(rt, "room for a text");
     }
-    Ok(())
 }
 
 // The longest line of `put` has 131,066 bytes: more than the largest page.
 #[test]
-fn a_put_of_the_longest_line_is_past_the_page(rt: HostRuntime) -> Result<(), Fail> {
+fn a_put_of_the_longest_line_is_past_the_page(rt: HostRuntime) {
     let mut schedule = Vec::new(rt.alloc());
-    schedule.extend_from_slice(b"pin 1 0:1\nput 1 0.1 0 ")?;
-    for _ in 0..131066 {
-        schedule.extend_from_slice(b"00")?;
-    }
-    let schedule = str::from_utf8(schedule.as_slice())?;
-    let want = "slot 0.1\nrefused 10 OutOfPage\n";
-    prints(&rt, rt.alloc(), default_setup(), schedule, want)
+    add(&rt, &mut schedule, 1, b"pin 1 0:1\nput 1 0.1 0 ");
+    add(&rt, &mut schedule, 131_066, b"00");
+    let answers = answers_of(&rt, rt.alloc(), default_setup(), schedule.as_slice());
+    assert!(rt; answers.as_slice() == b"slot 0.1\nrefused 10 OutOfPage\n".as_slice());
+}
+
+// A play of this setup over devices of 16 bytes a page, for so many replicas, ends before its first answer.
+fn refuses_devices(rt: &impl Abort, alloc: Global, setup: Setup, replicas: u16) {
+    let mut reader: &[u8] = b"show 1\n";
+    let mut answers = Vec::new(alloc);
+    let devices = in_memory(alloc, replicas).expect(rt, "devices");
+    let played = play(alloc, &mut reader, &mut answers, setup, devices);
+    assert!(rt; played == Err(PlayFault::BadDevices));
+    assert!(rt; answers.is_empty());
 }
 
 // A world of three replicas refuses two lists of devices.
 #[test]
-fn devices_for_other_replicas_are_refused(rt: HostRuntime) -> Result<(), Fail> {
-    let mut reader: &[u8] = b"show 1\n";
-    let mut answers = Vec::new(rt.alloc());
-    let devices = in_memory(rt.alloc(), 2)?;
-    let played = play(
-        rt.alloc(),
-        &mut reader,
-        &mut answers,
-        default_setup(),
-        devices,
-    );
-    assert!(rt; played == Err(PlayFault::BadDevices));
-    assert!(rt; answers.is_empty());
-    Ok(())
+fn devices_for_other_replicas_are_refused(rt: HostRuntime) {
+    refuses_devices(&rt, rt.alloc(), default_setup(), 2);
 }
 
 // A world of larger pages refuses devices of 16 bytes a page.
 #[test]
-fn devices_of_another_size_are_refused(rt: HostRuntime) -> Result<(), Fail> {
-    let mut reader: &[u8] = b"show 1\n";
-    let mut answers = Vec::new(rt.alloc());
-    let devices = in_memory(rt.alloc(), 1)?;
-    let setup = Setup::new(1, 2, 64, 4, 17)?;
-    let played = play(rt.alloc(), &mut reader, &mut answers, setup, devices);
-    assert!(rt; played == Err(PlayFault::BadDevices));
-    assert!(rt; answers.is_empty());
-    Ok(())
+fn devices_of_another_size_are_refused(rt: HostRuntime) {
+    let setup = Setup::new(1, 2, 64, 4, 17).expect(&rt, "a setup");
+    refuses_devices(&rt, rt.alloc(), setup, 1);
+}
+
+// For one replica a device of 8 pages of 16 bytes, whose second call fails.
+fn failing(alloc: Global) -> Result<Devices, AllocError>
+    ensures { IfOk result (λ devices. AreFew (listed state devices.items)) }
+{
+    let mut list: Vec<Box<dyn PageDevice + Send>> = Vec::with_capacity(alloc, 1)?;
+    list.push_reserved(Box::new(alloc, Flaky::new(MemDevice::new(alloc, 8, 16)?, 2))?);
+    let mut devices: Devices = Vec::with_capacity(alloc, 1)?;
+    devices.push_reserved(list);
+    Ok(devices)
 }
 
 // The device's second call fails: the first reads the page, the second is the write at the end.
 #[test]
-fn a_refused_end_is_the_last_line(rt: HostRuntime) -> Result<(), Fail> {
-    let mut list: Vec<Box<dyn PageDevice + Send>> = Vec::with_capacity(rt.alloc(), 1)?;
-    list.push_reserved(Box::new(
-        rt.alloc(),
-        Flaky::new(MemDevice::new(rt.alloc(), 8, 16)?, 2),
-    )?);
-    let mut devices: Devices = Vec::with_capacity(rt.alloc(), 1)?;
-    devices.push_reserved(list);
+fn a_refused_end_is_the_last_line(rt: HostRuntime) {
     let mut reader: &[u8] = b"pin 1 0:1\nput 1 0.1 0 AA";
     let mut answers = Vec::new(rt.alloc());
-    let setup = Setup::new(1, 1, 1, 1, 16)?;
-    play(rt.alloc(), &mut reader, &mut answers, setup, devices)?;
-    assert!(rt; str::from_utf8(answers.as_slice())? == "slot 0.1\nok\nend refused 12 Fault\n");
-    Ok(())
+    let setup = Setup::new(1, 1, 1, 1, 16).expect(&rt, "a setup");
+    let devices = failing(rt.alloc()).expect(&rt, "a device");
+    let played = play(rt.alloc(), &mut reader, &mut answers, setup, devices);
+    assert!(rt; played == Ok(()));
+    assert!(rt; answers.as_slice() == b"slot 0.1\nok\nend refused 12 Fault\n".as_slice());
 }
 
 const LANGUAGE: [(&str, &str); 7] = [
@@ -385,103 +379,91 @@ const LANGUAGE: [(&str, &str); 7] = [
 ];
 
 #[test]
-fn lines_are_read_as_the_language_has_them(rt: HostRuntime) -> Result<(), Fail> {
-    for (schedule, want) in LANGUAGE {
-        prints(&rt, rt.alloc(), default_setup(), schedule, want)?;
-    }
-    Ok(())
+fn lines_are_read_as_the_language_has_them(rt: HostRuntime) {
+    each_prints(&rt, rt.alloc(), &LANGUAGE);
 }
 
 // References of worker 1 of replica 1, so many, each to a page so many after that of the one before, at times from the first on;
 // then these lines.
 fn references(
+    rt: &impl Abort,
     alloc: Global,
     count: u32,
     spread: u32,
     first: u32,
     lines: &str,
-) -> Result<Vec<u8>, Fail> {
+) -> Vec<u8> {
     let mut schedule = Vec::new(alloc);
     for place in 0..count {
         let (no, time) = (spread.wrapping_mul(place), first.wrapping_add(place));
-        writeln!(&mut schedule, "ref 1 1 0:{no} {time}")?;
+        writeln!(&mut schedule, "ref 1 1 0:{no} {time}").expect(rt, "room for a line");
     }
-    writeln!(&mut schedule, "{lines}")?;
-    Ok(schedule)
+    add(rt, &mut schedule, 1, lines.as_bytes());
+    schedule
 }
 
 // A schedule prints so many times ok, and then this.
-fn prints_after(
-    rt: &impl Abort,
-    alloc: Global,
-    schedule: &[u8],
-    count: usize,
-    want: &str,
-) -> Result<(), Fail> {
-    let answers = answers_of(alloc, default_setup(), str::from_utf8(schedule)?)?;
-    let mut rest = str::from_utf8(answers.as_slice())?;
+fn prints_after(rt: &impl Abort, alloc: Global, schedule: &[u8], count: usize, want: &[u8]) {
+    let answers = answers_of(rt, alloc, default_setup(), schedule);
+    let mut rest = answers.as_slice();
     for _ in 0..count {
-        rest = rest.strip_prefix("ok\n").ok_or("the reference waits")?;
+        rest = rest.strip_prefix(b"ok\n").expect(rt, "the reference waits");
     }
     assert!(rt; rest == want);
-    Ok(())
 }
 
 // A buffer of 64 is flushed by the reference that finds it full.
 #[test]
-fn a_full_buffer_is_flushed_first(rt: HostRuntime) -> Result<(), Fail> {
-    let schedule = references(rt.alloc(), 65, 0, 1, "show 1\nflush 1 1\nshow 1")?;
+fn a_full_buffer_is_flushed_first(rt: HostRuntime) {
+    let schedule = references(&rt, rt.alloc(), 65, 0, 1, "show 1\nflush 1 1\nshow 1\n");
     let want = "0:0 last 64@1 prev 63@1\nend 1\nok\n0:0 last 65@1 prev 64@1\nend 1\n";
-    prints_after(&rt, rt.alloc(), schedule.as_slice(), 65, want)
+    prints_after(&rt, rt.alloc(), schedule.as_slice(), 65, want.as_bytes());
 }
 
 // The pages of bucket 0 from the first on, so many, each referenced once at the time of its place; then these lines.
-fn show_pages(want: &mut Vec<u8>, count: u32, lines: &str) -> Result<(), Fail> {
+fn show_pages(rt: &impl Abort, want: &mut Vec<u8>, count: u32, lines: &str) {
     for place in 0..count {
         let no = place.wrapping_mul(64);
-        writeln!(want, "0:{no} last {place}@1")?;
+        writeln!(want, "0:{no} last {place}@1").expect(rt, "room for a line");
     }
-    writeln!(want, "{lines}")?;
-    Ok(())
+    add(rt, want, 1, lines.as_bytes());
 }
 
 // What is answered once the references wait: the second of two frames brings one page more.
-fn in_two_frames(alloc: Global) -> Result<Vec<u8>, Fail> {
+fn in_two_frames(rt: &impl Abort, alloc: Global) -> Vec<u8> {
     let mut want = Vec::new(alloc);
-    writeln!(&mut want, "ok\nframe 1\nframe 2\ntook 0")?;
-    show_pages(&mut want, 1000, "end 1000\ntook 0")?;
-    show_pages(&mut want, 1001, "end 1001")?;
-    Ok(want)
+    add(rt, &mut want, 1, b"ok\nframe 1\nframe 2\ntook 0\n");
+    show_pages(rt, &mut want, 1000, "end 1000\ntook 0\n");
+    show_pages(rt, &mut want, 1001, "end 1001\n");
+    want
 }
 
 // A frame carries 1000 pages of its bucket, and the next one goes on after the last of them.
 #[test]
-fn a_long_bucket_takes_two_frames(rt: HostRuntime) -> Result<(), Fail> {
-    let lines = "flush 1 1\nsend 1 0\nsend 1 0 0:63936\ndeliver 2 1\nshow 2\ndeliver 2 2\nshow 2";
-    let schedule = references(rt.alloc(), 1001, 64, 0, lines)?;
-    let want = in_two_frames(rt.alloc())?;
-    let want = str::from_utf8(want.as_slice())?;
-    prints_after(&rt, rt.alloc(), schedule.as_slice(), 1001, want)
+fn a_long_bucket_takes_two_frames(rt: HostRuntime) {
+    let lines = "flush 1 1\nsend 1 0\nsend 1 0 0:63936\ndeliver 2 1\nshow 2\ndeliver 2 2\nshow 2\n";
+    let schedule = references(&rt, rt.alloc(), 1001, 64, 0, lines);
+    let want = in_two_frames(&rt, rt.alloc());
+    prints_after(&rt, rt.alloc(), schedule.as_slice(), 1001, want.as_slice());
+}
+
+// Whether a line of so many bytes like the first one prints this, with the line after it.
+fn long_line_prints(rt: &impl Abort, alloc: Global, first: u8, length: usize, want: &str) -> bool {
+    let mut schedule = vec![in alloc; first; length].expect(rt, "room for a line");
+    add(rt, &mut schedule, 1, b"\nshow 1\n");
+    let answers = answers_of(rt, alloc, default_setup(), schedule.as_slice());
+    answers.as_slice() == want.as_bytes()
 }
 
 // A line of 262,144 bytes is read, and of one more it is bad, whatever it begins with.
 #[test]
-fn an_over_long_line_is_bad(rt: HostRuntime) -> Result<(), Fail> {
-    for (first, length, want) in [
-        (b'a', 262144usize, "bad line 1\nend 0\n"),
-        (b'a', 262145, "bad line 1\nend 0\n"),
-        (b'#', 262144, "end 0\n"),
-        (b'#', 262145, "bad line 1\nend 0\n"),
-        (b' ', 262145, "bad line 1\nend 0\n"),
-    ] {
-        let mut schedule = vec![in rt.alloc(); first; length]?;
-        schedule.extend_from_slice(b"\nshow 1\n")?;
-        let mut reader = schedule.as_slice();
-        let mut answers = Vec::new(rt.alloc());
-        ended(rt.alloc(), &mut reader, &mut answers, default_setup())?;
-        assert!(rt; str::from_utf8(answers.as_slice())? == want);
-    }
-    Ok(())
+fn an_over_long_line_is_bad(rt: HostRuntime) {
+    let bad = "bad line 1\nend 0\n";
+    assert!(rt; long_line_prints(&rt, rt.alloc(), b'a', 262144, bad));
+    assert!(rt; long_line_prints(&rt, rt.alloc(), b'a', 262145, bad));
+    assert!(rt; long_line_prints(&rt, rt.alloc(), b'#', 262144, "end 0\n"));
+    assert!(rt; long_line_prints(&rt, rt.alloc(), b'#', 262145, bad));
+    assert!(rt; long_line_prints(&rt, rt.alloc(), b' ', 262145, bad));
 }
 
 // Gives one byte at a time, each after a read that was interrupted.
@@ -510,40 +492,38 @@ impl Read for Trickle<'_> {
 }
 
 // A schedule that comes so prints this.
-fn trickles(rt: &impl Abort, alloc: Global, schedule: &[u8], want: &str) -> Result<(), Fail> {
+fn trickles(rt: &impl Abort, alloc: Global, schedule: &[u8], want: &[u8]) {
     let mut reader = Trickle {
         rest: schedule,
         is_ready: false,
     };
     let mut answers = Vec::new(alloc);
-    ended(alloc, &mut reader, &mut answers, default_setup())?;
-    assert!(rt; str::from_utf8(answers.as_slice())? == want);
-    Ok(())
+    let played = ended(alloc, &mut reader, &mut answers, default_setup());
+    assert!(rt; played == Ok(()));
+    assert!(rt; answers.as_slice() == want);
+}
+
+fn each_trickles(rt: &impl Abort, alloc: Global, rows: &[(&str, &str)]) {
+    for (schedule, want) in rows {
+        trickles(rt, alloc, schedule.as_bytes(), want.as_bytes());
+    }
 }
 
 #[test]
-fn a_schedule_may_come_in_bytes(rt: HostRuntime) -> Result<(), Fail> {
-    for (schedule, want) in GOSSIP {
-        trickles(&rt, rt.alloc(), schedule.as_bytes(), want)?;
-    }
-    Ok(())
+fn a_schedule_may_come_in_bytes(rt: HostRuntime) {
+    each_trickles(&rt, rt.alloc(), &GOSSIP);
 }
 
 // A hundred thousand reads of one byte each, with as many that were interrupted.
 #[test]
-fn a_long_trickle_plays_to_its_end(rt: HostRuntime) -> Result<(), Fail> {
+fn a_long_trickle_plays_to_its_end(rt: HostRuntime) {
     let mut schedule = Vec::new(rt.alloc());
-    for _ in 0..10_000 {
-        schedule.extend_from_slice(b"  show 001\n")?;
-    }
+    add(&rt, &mut schedule, 10_000, b"  show 001\n");
     schedule.truncate(100_000);
     // 9,090 lines of 11 bytes, and of the last line 10
     let mut want = Vec::new(rt.alloc());
-    for _ in 0..9_091 {
-        want.extend_from_slice(b"end 0\n")?;
-    }
-    let want = str::from_utf8(want.as_slice())?;
-    trickles(&rt, rt.alloc(), schedule.as_slice(), want)
+    add(&rt, &mut want, 9_091, b"end 0\n");
+    trickles(&rt, rt.alloc(), schedule.as_slice(), want.as_slice());
 }
 
 // Marks each flush.
@@ -564,7 +544,7 @@ impl Write for Marked {
 
 // Where lines come in pieces, the answer of each is handed on by itself, and nothing is handed on while a line goes on.
 #[test]
-fn answers_are_handed_on_before_the_next_read(rt: HostRuntime) -> Result<(), Fail> {
+fn answers_are_handed_on_before_the_next_read(rt: HostRuntime) {
     let mut reader = Trickle {
         rest: b"show 1\nshow 9\nx",
         is_ready: false,
@@ -572,12 +552,10 @@ fn answers_are_handed_on_before_the_next_read(rt: HostRuntime) -> Result<(), Fai
     let mut writer = Marked {
         taken: Vec::new(rt.alloc()),
     };
-    ended(rt.alloc(), &mut reader, &mut writer, default_setup())?;
-    assert!(rt;
-        str::from_utf8(writer.taken.as_slice())?
-            == "end 0\n|refused 14 NoSuchReplica\n|bad line 3\n|"
-    );
-    Ok(())
+    let played = ended(rt.alloc(), &mut reader, &mut writer, default_setup());
+    assert!(rt; played == Ok(()));
+    let want = "end 0\n|refused 14 NoSuchReplica\n|bad line 3\n|";
+    assert!(rt; writer.taken.as_slice() == want.as_bytes());
 }
 
 // Gives these bytes, and then fails.
@@ -631,19 +609,21 @@ impl Write for Narrow {
     }
 }
 
+// How a play ends whose writer has so much room.
+fn ended_in(alloc: Global, room: usize) -> Result<(), PlayFault> {
+    let mut reader: &[u8] = b"show 1\nref 1 1 0:1 1\nflush 1 1\n";
+    let mut writer = Narrow { room };
+    ended(alloc, &mut reader, &mut writer, default_setup())
+}
+
 // "end 0\nok\nok\n" has 12 bytes. Each write but the first may fail, and after the last one the flush.
 #[test]
 fn a_failed_write_ends_the_play(rt: HostRuntime) {
-    for room in 0..14usize {
-        let mut reader: &[u8] = b"show 1\nref 1 1 0:1 1\nflush 1 1\n";
-        let mut writer = Narrow { room };
-        let played = ended(rt.alloc(), &mut reader, &mut writer, default_setup());
-        if room <= 12 {
-            assert!(rt; played == Err(PlayFault::WriteFault), "room for {room}");
-        } else {
-            assert!(rt; played == Ok(()));
-        }
+    for room in 0..13usize {
+        let played = ended_in(rt.alloc(), room);
+        assert!(rt; played == Err(PlayFault::WriteFault), "room for {room}");
     }
+    assert!(rt; ended_in(rt.alloc(), 13) == Ok(()));
 }
 
 const WANT_OF_MEMORY: &str = "refused 1 Memory";
@@ -667,43 +647,64 @@ fn is_refused(answers: &mut str::Lines<'_>) -> bool {
     false
 }
 
-// `rt try --test --fail-alloc N -- a_refused_growth` refuses the Nth growth. Either the play ends with the fault Memory, or
-// the line says so whose growth was refused, and all others are answered as if it had been a comment.
-#[test]
-fn a_refused_growth_is_as_a_comment(rt: HostRuntime) -> Result<(), Fail> {
-    let mut answers = [b' '; 1024];
-    let mut writer = answers.as_mut_slice();
-    let mut reader = GROWING.as_bytes();
-    let played = ended(rt.alloc(), &mut reader, &mut writer, default_setup());
-    if played == Err(PlayFault::Memory) {
-        return Ok(());
-    }
-    played?;
-    let answers = str::from_utf8(&answers)?.trim_end();
-    if !answers.contains(WANT_OF_MEMORY) {
-        assert!(rt; answers == GROWN);
-        return Ok(());
-    }
+// The lines of GROWING, with a comment in place of each whose growth was refused.
+fn without_refused(rt: &impl Abort, answers: &str) -> [u8; 1024] {
     let mut without = [b' '; 1024];
     let mut writer = without.as_mut_slice();
     let mut lines = answers.lines();
     for line in GROWING.lines() {
-        if is_refused(&mut lines) {
-            writeln!(&mut writer, "#")?;
-        } else {
-            writeln!(&mut writer, "{line}")?;
-        }
+        let kept = if is_refused(&mut lines) { "#" } else { line };
+        writeln!(&mut writer, "{kept}").expect(rt, "room for a line");
     }
-    let mut again = [b' '; 1024];
-    let mut writer = again.as_mut_slice();
-    let mut reader = without.as_slice();
-    ended(rt.alloc(), &mut reader, &mut writer, default_setup())?;
-    let mut lines = str::from_utf8(&again)?.trim_end().lines();
+    without
+}
+
+// Whether the answers are the same, but for those that memory was refused.
+fn are_the_others(answers: &str, others: &str) -> bool {
+    let mut lines = others.lines();
     for line in answers.lines() {
-        if line != WANT_OF_MEMORY {
-            assert!(rt; lines.next() == Some(line));
+        if line != WANT_OF_MEMORY && lines.next() != Some(line) {
+            return false;
         }
     }
-    assert!(rt; lines.next() == None);
-    Ok(())
+    lines.next() == None
+}
+
+// Plays a schedule into a list that does not grow.
+fn ended_into(alloc: Global, schedule: &[u8], answers: &mut [u8]) -> Result<(), PlayFault> {
+    let mut reader = schedule;
+    let mut writer = answers;
+    ended(alloc, &mut reader, &mut writer, default_setup())
+}
+
+// What stands in a list before its last spaces.
+fn text_in<'a>(rt: &impl Abort, answers: &'a [u8]) -> &'a str {
+    str::from_utf8(answers).expect(rt, "a text").trim_end()
+}
+
+// Whether all lines of GROWING but those whose growth was refused are answered as if those had been comments.
+fn is_as_comments(rt: &impl Abort, alloc: Global, answers: &str) -> bool {
+    let without = without_refused(rt, answers);
+    let mut again = [b' '; 1024];
+    let played = ended_into(alloc, without.as_slice(), again.as_mut_slice());
+    assert!(rt; played == Ok(()));
+    are_the_others(answers, text_in(rt, again.as_slice()))
+}
+
+// `rt try --test --fail-alloc N -- a_refused_growth` refuses the Nth growth. Either the play ends with the fault Memory, or
+// the line says so whose growth was refused, and all others are answered as if it had been a comment.
+#[test]
+fn a_refused_growth_is_as_a_comment(rt: HostRuntime) {
+    let mut answers = [b' '; 1024];
+    let played = ended_into(rt.alloc(), GROWING.as_bytes(), answers.as_mut_slice());
+    if played == Err(PlayFault::Memory) {
+        return;
+    }
+    assert!(rt; played == Ok(()));
+    let answers = text_in(&rt, answers.as_slice());
+    if answers.contains(WANT_OF_MEMORY) {
+        assert!(rt; is_as_comments(&rt, rt.alloc(), answers));
+    } else {
+        assert!(rt; answers == GROWN);
+    }
 }

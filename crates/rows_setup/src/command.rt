@@ -1,123 +1,124 @@
+use crate::setup::is_path;
 use clap::error::ErrorKind;
-use warm_setup::{Cmd, CmdFault, PathText, command_of, not_text};
+use std::alloc::Global;
+use warm_setup::{Cmd, CmdFault, command_of, not_text};
 
-// The texts of a command, or `None` where the words gave none.
-fn play_texts(read: &Result<Cmd, CmdFault>) -> Option<(Option<&str>, Option<&str>)> {
+// Whether the words gave a play of this file and this setup.
+fn plays(read: &Result<Cmd, CmdFault>, file: Option<&str>, setup: Option<&str>) -> bool {
     match read {
-        Ok(Cmd::Play { file, setup }) => Some((shown(file), shown(setup))),
-        _ => None,
+        Ok(
+            Cmd::Play {
+                file: found,
+                setup: with,
+            },
+        ) => is_path(found, file) && is_path(with, setup),
+        _ => false,
     }
 }
 
-fn random_values(read: &Result<Cmd, CmdFault>) -> Option<(u64, u32, Option<&str>)> {
+// Whether the words gave a schedule of this seed, this number of events and this setup.
+fn draws(read: &Result<Cmd, CmdFault>, seed: u64, events: u32, setup: Option<&str>) -> bool {
     match read {
         Ok(
             Cmd::Random {
-                seed,
-                events,
-                setup,
+                seed: from,
+                events: count,
+                setup: with,
             },
-        ) => Some((*seed, *events, shown(setup))),
-        _ => None,
+        ) => *from == seed && *count == events && is_path(with, setup),
+        _ => false,
     }
 }
 
-fn shown(path: &Option<PathText>) -> Option<&str> {
-    match path {
-        Some(path) => Some(path.as_str()),
-        None => None,
+// Whether the words gave a play by threads of this file and this setup.
+fn plays_by_threads(read: &Result<Cmd, CmdFault>, file: &str, setup: Option<&str>) -> bool {
+    match read {
+        Ok(
+            Cmd::Threads {
+                file: found,
+                setup: with,
+            },
+        ) => found.as_str() == file && is_path(with, setup),
+        _ => false,
     }
 }
 
-type Words = &'static [&'static str];
+// Whether the words are read as a play of this file and this setup.
+fn read_as_play(alloc: Global, words: &[&str], file: Option<&str>, setup: Option<&str>) -> bool {
+    let read = command_of(alloc, words);
+    plays(&read, file, setup)
+}
 
-// Words of a play, and the file and the setup that they name.
-const PLAYS: [(Words, (Option<&str>, Option<&str>)); 4] = [
-    (&["warmplay", "play"], (None, None)),
-    (
-        &["warmplay", "play", "a", "--setup", "b"],
-        (Some("a"), Some("b")),
-    ),
-    (&["warmplay", "play", "--setup=b"], (None, Some("b"))),
-    (
-        &["warmplay", "play", "--", "--setup"],
-        (Some("--setup"), None),
-    ),
-];
+fn read_as_random(
+    alloc: Global,
+    words: &[&str],
+    seed: u64,
+    events: u32,
+    setup: Option<&str>,
+) -> bool {
+    let read = command_of(alloc, words);
+    draws(&read, seed, events, setup)
+}
+
+fn read_as_threads(alloc: Global, words: &[&str], file: &str, setup: Option<&str>) -> bool {
+    let read = command_of(alloc, words);
+    plays_by_threads(&read, file, setup)
+}
 
 #[test]
 fn play_takes_a_file_and_a_setup(rt: HostRuntime) {
-    for (words, texts) in PLAYS {
-        let read = command_of(rt.alloc(), words);
-        assert!(rt; play_texts(&read) == Some(texts));
-    }
+    let bare = ["warmplay", "play"];
+    assert!(rt; read_as_play(rt.alloc(), bare.as_slice(), None, None));
+    let both = ["warmplay", "play", "a", "--setup", "b"];
+    assert!(rt; read_as_play(rt.alloc(), both.as_slice(), Some("a"), Some("b")));
+    let setup = ["warmplay", "play", "--setup=b"];
+    assert!(rt; read_as_play(rt.alloc(), setup.as_slice(), None, Some("b")));
+    let file = ["warmplay", "play", "--", "--setup"];
+    assert!(rt; read_as_play(rt.alloc(), file.as_slice(), Some("--setup"), None));
 }
 
-// Words that ask for a schedule, and its seed, its number of events and its setup.
-const RANDOMS: [(Words, (u64, u32, Option<&str>)); 2] = [
-    (
-        &[
-            "warmplay",
-            "random",
-            "--seed",
-            "18446744073709551615",
-            "--events",
-            "1000000",
-        ],
-        (18446744073709551615, 1000000, None),
-    ),
-    (
-        &[
-            "warmplay",
-            "random",
-            "--events=0",
-            "--setup",
-            "b",
-            "--seed",
-            "007",
-        ],
-        (7, 0, Some("b")),
-    ),
+const GREATEST_NUMBERS: [&str; 6] = [
+    "warmplay",
+    "random",
+    "--seed",
+    "18446744073709551615",
+    "--events",
+    "1000000",
+];
+
+const LEAST_NUMBERS: [&str; 7] = [
+    "warmplay",
+    "random",
+    "--events=0",
+    "--setup",
+    "b",
+    "--seed",
+    "007",
 ];
 
 #[test]
 fn random_takes_two_numbers_and_a_setup(rt: HostRuntime) {
-    for (words, values) in RANDOMS {
-        let read = command_of(rt.alloc(), words);
-        assert!(rt; random_values(&read) == Some(values));
-    }
+    let seed = 18446744073709551615;
+    assert!(rt; read_as_random(rt.alloc(), &GREATEST_NUMBERS, seed, 1000000, None));
+    assert!(rt; read_as_random(rt.alloc(), &LEAST_NUMBERS, 7, 0, Some("b")));
 }
-
-fn threads_texts(read: &Result<Cmd, CmdFault>) -> Option<(&str, Option<&str>)> {
-    match read {
-        Ok(Cmd::Threads { file, setup }) => Some((file.as_str(), shown(setup))),
-        _ => None,
-    }
-}
-
-// Words of a play by threads, and the file and the setup that they name.
-const THREADS: [(Words, (&str, Option<&str>)); 2] = [
-    (&["warmplay", "threads", "a"], ("a", None)),
-    (
-        &["warmplay", "threads", "--setup", "b", "a"],
-        ("a", Some("b")),
-    ),
-];
 
 #[test]
 fn threads_takes_a_file_and_a_setup(rt: HostRuntime) {
-    for (words, texts) in THREADS {
-        let read = command_of(rt.alloc(), words);
-        assert!(rt; threads_texts(&read) == Some(texts));
-    }
+    let file = ["warmplay", "threads", "a"];
+    assert!(rt; read_as_threads(rt.alloc(), file.as_slice(), "a", None));
+    let both = ["warmplay", "threads", "--setup", "b", "a"];
+    assert!(rt; read_as_threads(rt.alloc(), both.as_slice(), "a", Some("b")));
 }
 
-fn kind_of_words(rt: &HostRuntime, words: &[&str]) -> Option<ErrorKind> {
-    match command_of(rt.alloc(), words) {
+fn kind_of_words(alloc: Global, words: &[&str]) -> Option<ErrorKind> {
+    match command_of(alloc, words) {
         Err(CmdFault::Refused(error)) => Some(error.kind()),
         _ => None,
     }
 }
+
+type Words = &'static [&'static str];
 
 // Words that are refused, and how.
 const REFUSED: [(Words, ErrorKind); 13] = [
@@ -152,21 +153,28 @@ const REFUSED: [(Words, ErrorKind); 13] = [
 #[test]
 fn other_words_are_refused(rt: HostRuntime) {
     for (at, (words, kind)) in REFUSED.iter().enumerate() {
-        assert!(rt; kind_of_words(&rt, words) == Some(*kind), "row {at}");
+        assert!(rt; kind_of_words(rt.alloc(), words) == Some(*kind), "row {at}");
     }
+}
+
+fn are_refused(alloc: Global, seed: &str, events: &str) -> bool {
+    let words = ["warmplay", "random", "--seed", seed, "--events", events];
+    kind_of_words(alloc, words.as_slice()).is_some()
 }
 
 #[test]
 fn numbers_out_of_range_are_refused(rt: HostRuntime) {
-    for (seed, events) in [
-        ("1", "1000001"),
-        ("18446744073709551616", "1"),
-        ("-1", "1"),
-        ("1", "x"),
-        ("", "1"),
-    ] {
-        let words = ["warmplay", "random", "--seed", seed, "--events", events];
-        assert!(rt; kind_of_words(&rt, words.as_slice()).is_some());
+    assert!(rt; are_refused(rt.alloc(), "1", "1000001"));
+    assert!(rt; are_refused(rt.alloc(), "18446744073709551616", "1"));
+    assert!(rt; are_refused(rt.alloc(), "-1", "1"));
+    assert!(rt; are_refused(rt.alloc(), "1", "x"));
+    assert!(rt; are_refused(rt.alloc(), "", "1"));
+}
+
+fn is_fault(read: &Result<Cmd, CmdFault>, code: u8) -> bool {
+    match read {
+        Ok(_) => false,
+        Err(fault) => fault.code() == code,
     }
 }
 
@@ -175,15 +183,15 @@ fn numbers_out_of_range_are_refused(rt: HostRuntime) {
 fn a_refused_growth_of_a_command(rt: HostRuntime) {
     let words = ["warmplay", "play", "a", "--setup", "b"];
     let read = command_of(rt.alloc(), words.as_slice());
-    match &read {
-        Ok(_) => assert!(rt; play_texts(&read) == Some((Some("a"), Some("b")))),
-        Err(fault) => assert!(rt; fault.code() == 1),
-    }
+    assert!(rt; plays(&read, Some("a"), Some("b")) || is_fault(&read, 1));
+}
+
+fn is_named(fault: &CmdFault, code: u8, name: &str) -> bool {
+    fault.code() == code && fault.name() == name
 }
 
 #[test]
 fn the_faults_of_a_command_have_their_numbers_and_names(rt: HostRuntime) {
-    assert!(rt; (CmdFault::Memory.code(), CmdFault::Memory.name()) == (1, "Memory"));
-    let fault = not_text(rt.alloc());
-    assert!(rt; (fault.code(), fault.name()) == (2, "Refused"));
+    assert!(rt; is_named(&CmdFault::Memory, 1, "Memory"));
+    assert!(rt; is_named(&not_text(rt.alloc()), 2, "Refused"));
 }

@@ -1,74 +1,97 @@
+use std::alloc::Global;
+use std::process::Abort;
 use warm_play_fault::PlayFault;
 use warm_setup::{CmdFault, PathText, RunFault, SetupFault, command_of, not_text, outcome_of};
 
-// The status and the line, or `None` where there was no room.
-fn told(rt: &HostRuntime, ended: &Result<(), RunFault>) -> Option<(u8, String)> {
+// Whether a run that ended so has this status and says this line.
+fn tells(
+    rt: &impl Abort,
+    alloc: Global,
+    ended: &Result<(), RunFault>,
+    status: u8,
+    want: &str,
+) -> bool {
     let outcome = outcome_of(ended);
-    let mut line: Vec<u8> = Vec::new(rt.alloc());
-    if outcome.line.write_to(&mut line).is_err() {
-        return None;
-    }
-    match String::from_utf8(line) {
-        Ok(text) => Some((outcome.status, text)),
-        Err(_) => None,
-    }
+    let mut line: Vec<u8> = Vec::new(alloc);
+    outcome
+        .line
+        .write_to(&mut line)
+        .expect(rt, "room for a line");
+    outcome.status == status && line.as_slice() == want.as_bytes()
 }
 
 #[test]
 fn a_played_schedule_says_nothing(rt: HostRuntime) {
-    let (status, line) = told(&rt, &Ok(())).expect(&rt, "room");
-    assert!(rt; (status, line.as_str()) == (0, ""));
+    assert!(rt; tells(&rt, rt.alloc(), &Ok(()), 0, ""));
+}
+
+// Whether a run that this fault ends has this status and says this line.
+fn ends(rt: &impl Abort, alloc: Global, fault: RunFault, status: u8, want: &str) -> bool {
+    tells(rt, alloc, &Err(fault), status, want)
 }
 
 #[test]
 fn a_file_is_named(rt: HostRuntime) {
     let name = PathText::copied_from(rt.alloc(), "no/such file").expect(&rt, "room");
-    let (status, line) = told(&rt, &Err(RunFault::CannotOpen(name))).expect(&rt, "room");
-    assert!(rt; (status, line.as_str()) == (1, "warmplay: cannot open no/such file\n"));
+    let want = "warmplay: cannot open no/such file\n";
+    assert!(rt; ends(&rt, rt.alloc(), RunFault::CannotOpen(name), 1, want));
+}
+
+fn setup_ends(rt: &impl Abort, alloc: Global, fault: SetupFault, want: &str) -> bool {
+    ends(rt, alloc, RunFault::Setup(fault), 2, want)
 }
 
 #[test]
 fn a_setup_fault_is_named(rt: HostRuntime) {
-    for (fault, want) in [
-        (SetupFault::Memory, "warmplay: setup: Memory\n"),
-        (SetupFault::NotToml, "warmplay: setup: NotToml\n"),
-        (SetupFault::BadKey, "warmplay: setup: BadKey\n"),
-        (SetupFault::BadValue, "warmplay: setup: BadValue\n"),
-    ] {
-        let (status, line) = told(&rt, &Err(RunFault::Setup(fault))).expect(&rt, "room");
-        assert!(rt; (status, line.as_str()) == (2, want));
-    }
+    let memory = "warmplay: setup: Memory\n";
+    assert!(rt; setup_ends(&rt, rt.alloc(), SetupFault::Memory, memory));
+    let not_toml = "warmplay: setup: NotToml\n";
+    assert!(rt; setup_ends(&rt, rt.alloc(), SetupFault::NotToml, not_toml));
+    let bad_key = "warmplay: setup: BadKey\n";
+    assert!(rt; setup_ends(&rt, rt.alloc(), SetupFault::BadKey, bad_key));
+    let bad_value = "warmplay: setup: BadValue\n";
+    assert!(rt; setup_ends(&rt, rt.alloc(), SetupFault::BadValue, bad_value));
+}
+
+fn play_ends(rt: &impl Abort, alloc: Global, fault: PlayFault, want: &str) -> bool {
+    ends(rt, alloc, RunFault::Play(fault), 1, want)
 }
 
 #[test]
 fn a_play_fault_is_named(rt: HostRuntime) {
-    for (fault, want) in [
-        (PlayFault::Memory, "warmplay: Memory\n"),
-        (PlayFault::ReadFault, "warmplay: ReadFault\n"),
-        (PlayFault::WriteFault, "warmplay: WriteFault\n"),
-        (PlayFault::BadLine(7), "warmplay: BadLine 7\n"),
-        (PlayFault::NoThread, "warmplay: NoThread\n"),
-        (PlayFault::BadDevices, "warmplay: BadDevices\n"),
-    ] {
-        let (status, line) = told(&rt, &Err(RunFault::Play(fault))).expect(&rt, "room");
-        assert!(rt; (status, line.as_str()) == (1, want));
-    }
+    let memory = "warmplay: Memory\n";
+    assert!(rt; play_ends(&rt, rt.alloc(), PlayFault::Memory, memory));
+    let read_fault = "warmplay: ReadFault\n";
+    assert!(rt; play_ends(&rt, rt.alloc(), PlayFault::ReadFault, read_fault));
+    let write_fault = "warmplay: WriteFault\n";
+    assert!(rt; play_ends(&rt, rt.alloc(), PlayFault::WriteFault, write_fault));
+    let bad_line = "warmplay: BadLine 7\n";
+    assert!(rt; play_ends(&rt, rt.alloc(), PlayFault::BadLine(7), bad_line));
+    let no_thread = "warmplay: NoThread\n";
+    assert!(rt; play_ends(&rt, rt.alloc(), PlayFault::NoThread, no_thread));
+    let bad_devices = "warmplay: BadDevices\n";
+    assert!(rt; play_ends(&rt, rt.alloc(), PlayFault::BadDevices, bad_devices));
+}
+
+fn command_ends(rt: &impl Abort, alloc: Global, fault: CmdFault, status: u8, want: &str) -> bool {
+    ends(rt, alloc, RunFault::Command(fault), status, want)
+}
+
+// Whether this word is refused with this status, and with no line of the run's own.
+fn refuses(rt: &impl Abort, alloc: Global, word: &str, status: u8) -> bool {
+    let words = ["warmplay", word];
+    let fault = command_of(alloc, words.as_slice())
+        .err()
+        .expect(rt, "a word that is refused");
+    command_ends(rt, alloc, fault, status, "")
 }
 
 #[test]
 fn refused_words_have_status_2_and_help_0(rt: HostRuntime) {
-    for (word, want) in [("--help", 0), ("help", 0), ("threads", 2)] {
-        let words = ["warmplay", word];
-        let Err(fault) = command_of(rt.alloc(), words.as_slice()) else {
-            panic!(rt; "{word} is taken");
-        };
-        let (status, line) = told(&rt, &Err(RunFault::Command(fault))).expect(&rt, "room");
-        assert!(rt; (status, line.as_str()) == (want, ""), "{word}");
-    }
-    let (status, line) = told(&rt, &Err(RunFault::Command(not_text(rt.alloc())))).expect(
-        &rt, "room",
-    );
-    assert!(rt; (status, line.as_str()) == (2, ""));
-    let (status, line) = told(&rt, &Err(RunFault::Command(CmdFault::Memory))).expect(&rt, "room");
-    assert!(rt; (status, line.as_str()) == (1, "warmplay: Memory\n"));
+    assert!(rt; refuses(&rt, rt.alloc(), "--help", 0));
+    assert!(rt; refuses(&rt, rt.alloc(), "help", 0));
+    assert!(rt; refuses(&rt, rt.alloc(), "threads", 2));
+    assert!(rt; command_ends(&rt, rt.alloc(), not_text(rt.alloc()), 2, ""));
+    let memory = "warmplay: Memory\n";
+    assert!(rt; command_ends(&rt, rt.alloc(), CmdFault::Memory, 1, memory));
 }

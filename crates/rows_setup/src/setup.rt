@@ -1,3 +1,5 @@
+use std::alloc::Global;
+use std::process::Abort;
 use warm_setup::{DeviceSpec, PathText, SetupFault, read_setup, read_setup_file};
 use warm_world::Setup;
 
@@ -10,17 +12,36 @@ const SIXTEEN: &str =
 const WHOLE: &str =
     "workers = 16\nreplicas = 64\npage_size = 1\nframes = 65536\nbuffer = 1024\n[[device]]\npages = 1048576\n[[device]]\npath = \"a/b\"\npages = 1\n";
 
-fn is_whole(setup: &Setup, devices: &[DeviceSpec]) -> bool {
-    let numbers = (setup.replicas(), setup.workers(), setup.buffer());
-    if numbers != (64, 16, 1024) || setup.frames() != 65536 || setup.page_size() != 1 {
-        return false;
+// Whether a path is this text, or no path where none is wanted.
+pub(crate) fn is_path(path: &Option<PathText>, want: Option<&str>) -> bool {
+    match path {
+        Some(path) => match want {
+            Some(want) => path.as_str() == want,
+            None => false,
+        },
+        None => want.is_none(),
     }
+}
+
+fn is_device(device: &DeviceSpec, pages: u32, path: Option<&str>) -> bool {
+    device.pages == pages && is_path(&device.path, path)
+}
+
+fn has_sizes(setup: &Setup, replicas: u16, workers: u16, buffer: u16) -> bool {
+    setup.replicas() == replicas && setup.workers() == workers && setup.buffer() == buffer
+}
+
+fn has_pool(setup: &Setup, frames: u32, page_size: u32) -> bool {
+    setup.frames() == frames && setup.page_size() == page_size
+}
+
+fn is_whole(setup: &Setup, devices: &[DeviceSpec]) -> bool {
     match devices {
         [first, second] => {
-            first.pages == 1_048_576
-                && first.path.is_none()
-                && second.pages == 1
-                && matches!(&second.path, Some(path) if path.as_str() == "a/b")
+            has_sizes(setup, 64, 16, 1024)
+                && has_pool(setup, 65536, 1)
+                && is_device(first, 1_048_576, None)
+                && is_device(second, 1, Some("a/b"))
         }
         _ => false,
     }
@@ -29,21 +50,25 @@ fn is_whole(setup: &Setup, devices: &[DeviceSpec]) -> bool {
 #[test]
 fn an_empty_text_is_the_defaults(rt: HostRuntime) {
     let (setup, devices) = read_setup(rt.alloc(), "").expect(&rt, "the defaults");
-    let numbers = (setup.replicas(), setup.workers(), setup.buffer());
-    assert!(rt; numbers == (3, 2, 64));
-    assert!(rt; (setup.frames(), setup.page_size()) == (4, 16));
+    assert!(rt; has_sizes(&setup, 3, 2, 64));
+    assert!(rt; has_pool(&setup, 4, 16));
     assert!(rt; devices.len() == 1);
     let device = devices.first().expect(&rt, "a device");
-    assert!(rt; device.pages == 256 && device.path.is_none());
+    assert!(rt; is_device(device, 256, None));
+}
+
+// How many devices the setup of this text lists.
+fn devices_in(rt: &impl Abort, alloc: Global, text: &str) -> usize {
+    let (_, devices) = read_setup(alloc, text).expect(rt, "a setup");
+    devices.len()
 }
 
 #[test]
 fn a_key_is_read_and_the_rest_stays(rt: HostRuntime) {
     let (setup, devices) = read_setup(rt.alloc(), "frames = 2").expect(&rt, "a setup");
-    assert!(rt; (setup.frames(), setup.page_size()) == (2, 16));
+    assert!(rt; has_pool(&setup, 2, 16));
     assert!(rt; devices.len() == 1);
-    let (_, devices) = read_setup(rt.alloc(), SIXTEEN).expect(&rt, "16 devices");
-    assert!(rt; devices.len() == 16);
+    assert!(rt; devices_in(&rt, rt.alloc(), SIXTEEN) == 16);
 }
 
 #[test]
@@ -54,103 +79,74 @@ fn every_key_is_read(rt: HostRuntime) {
     assert!(rt; is_whole(&setup, devices.as_slice()));
 }
 
-fn fault_of_text(rt: &HostRuntime, text: &str) -> Option<SetupFault> {
-    match read_setup(rt.alloc(), text) {
-        Ok(_) => None,
-        Err(fault) => Some(fault),
+// Sees that each of these texts is refused with the fault beside it.
+fn each_is_refused(rt: &impl Abort, alloc: Global, rows: &[(&str, SetupFault)]) {
+    for (text, want) in rows {
+        let fault = read_setup(alloc, text).err();
+        assert!(rt; fault == Some(*want), "{text}");
     }
 }
+
+const NUMBERS: [(&str, SetupFault); 14] = [
+    ("frames = \"2\"", SetupFault::BadKey),
+    ("frames = 2.0", SetupFault::BadKey),
+    ("colour = 1", SetupFault::BadKey),
+    ("workers = [1]", SetupFault::BadKey),
+    ("frames = 0", SetupFault::BadValue),
+    ("frames = -1", SetupFault::BadValue),
+    ("frames = 65537", SetupFault::BadValue),
+    ("buffer = 1025", SetupFault::BadValue),
+    ("page_size = 65537", SetupFault::BadValue),
+    ("replicas = 65", SetupFault::BadValue),
+    ("workers = 17", SetupFault::BadValue),
+    ("frames =", SetupFault::NotToml),
+    ("frames = 1\nframes = 2", SetupFault::NotToml),
+    ("frames", SetupFault::NotToml),
+];
 
 #[test]
 fn a_number_has_its_type_and_its_range(rt: HostRuntime) {
-    for text in [
-        "frames = \"2\"",
-        "frames = 2.0",
-        "colour = 1",
-        "workers = [1]",
-    ] {
-        assert!(rt;
-            fault_of_text(&rt, text) == Some(SetupFault::BadKey),
-            "{text}"
-        );
-    }
-    for text in [
-        "frames = 0",
-        "frames = -1",
-        "frames = 65537",
-        "buffer = 1025",
-        "page_size = 65537",
-        "replicas = 65",
-        "workers = 17",
-    ] {
-        assert!(rt;
-            fault_of_text(&rt, text) == Some(SetupFault::BadValue),
-            "{text}"
-        );
-    }
-    for text in ["frames =", "frames = 1\nframes = 2", "frames"] {
-        assert!(rt;
-            fault_of_text(&rt, text) == Some(SetupFault::NotToml),
-            "{text}"
-        );
-    }
+    each_is_refused(&rt, rt.alloc(), &NUMBERS);
 }
+
+const DEVICES: [(&str, SetupFault); 11] = [
+    ("[[device]]", SetupFault::BadKey),
+    ("[device]\npages = 1", SetupFault::BadKey),
+    ("device = [1]", SetupFault::BadKey),
+    ("[[device]]\npages = 1\npath = 1", SetupFault::BadKey),
+    ("[[device]]\npages = \"1\"", SetupFault::BadKey),
+    ("[[device]]\npages = 1\nsize = 1", SetupFault::BadKey),
+    (SEVENTEEN, SetupFault::BadValue),
+    ("device = []", SetupFault::BadValue),
+    ("[[device]]\npages = 0", SetupFault::BadValue),
+    ("[[device]]\npages = 1048577", SetupFault::BadValue),
+    ("[[device]]\npages = 1\npath = \"\"", SetupFault::BadValue),
+];
 
 #[test]
 fn a_device_has_its_keys(rt: HostRuntime) {
-    for text in [
-        "[[device]]",
-        "[device]\npages = 1",
-        "device = [1]",
-        "[[device]]\npages = 1\npath = 1",
-        "[[device]]\npages = \"1\"",
-        "[[device]]\npages = 1\nsize = 1",
-    ] {
-        assert!(rt;
-            fault_of_text(&rt, text) == Some(SetupFault::BadKey),
-            "{text}"
-        );
-    }
-    for text in [
-        SEVENTEEN,
-        "device = []",
-        "[[device]]\npages = 0",
-        "[[device]]\npages = 1048577",
-        "[[device]]\npages = 1\npath = \"\"",
-    ] {
-        assert!(rt;
-            fault_of_text(&rt, text) == Some(SetupFault::BadValue),
-            "{text}"
-        );
-    }
+    each_is_refused(&rt, rt.alloc(), &DEVICES);
 }
+
+const FIRST_FAULTS: [(&str, SetupFault); 8] = [
+    // The keys' order decides, and not where they stand.
+    ("workers = 0\nbuffer = \"a\"", SetupFault::BadKey),
+    ("device = []\ncolour = 1", SetupFault::BadKey),
+    ("frames = 0\ndevice = [1]", SetupFault::BadKey),
+    ("device = [{pages = 0}, 1]", SetupFault::BadKey),
+    ("[[device]]\npages = \"a\"\npath = \"\"", SetupFault::BadKey),
+    // The missing `pages` come last.
+    ("workers = \"a\"\nbuffer = 0", SetupFault::BadValue),
+    ("[[device]]\npath = \"\"", SetupFault::BadValue),
+    (
+        "[[device]]\npages = 0\n[[device]]\npath = 1",
+        SetupFault::BadValue,
+    ),
+];
 
 #[test]
 fn the_first_fault_is_answered(rt: HostRuntime) {
-    // The keys' order decides, and not where they stand.
-    for text in [
-        "workers = 0\nbuffer = \"a\"",
-        "device = []\ncolour = 1",
-        "frames = 0\ndevice = [1]",
-        "device = [{pages = 0}, 1]",
-        "[[device]]\npages = \"a\"\npath = \"\"",
-    ] {
-        assert!(rt;
-            fault_of_text(&rt, text) == Some(SetupFault::BadKey),
-            "{text}"
-        );
-    }
-    // The missing `pages` come last.
-    for text in [
-        "workers = \"a\"\nbuffer = 0",
-        "[[device]]\npath = \"\"",
-        "[[device]]\npages = 0\n[[device]]\npath = 1",
-    ] {
-        assert!(rt;
-            fault_of_text(&rt, text) == Some(SetupFault::BadValue),
-            "{text}"
-        );
-    }
+    each_is_refused(&rt, rt.alloc(), &FIRST_FAULTS);
 }
 
 #[test]
@@ -175,16 +171,16 @@ fn a_path_comes_back_as_it_was(rt: HostRuntime) {
     assert!(rt; again.as_str() == "a b");
 }
 
+// Whether a fault has this number and this name, and is shown by it.
+fn is_named(rt: &impl Abort, alloc: Global, fault: SetupFault, code: u8, name: &str) -> bool {
+    let shown = format!(in alloc; "{fault}").expect(rt, "room");
+    fault.code() == code && fault.name() == name && shown.as_str() == name
+}
+
 #[test]
 fn the_faults_have_their_numbers_and_names(rt: HostRuntime) {
-    for (fault, code, name) in [
-        (SetupFault::Memory, 1, "Memory"),
-        (SetupFault::NotToml, 2, "NotToml"),
-        (SetupFault::BadKey, 3, "BadKey"),
-        (SetupFault::BadValue, 4, "BadValue"),
-    ] {
-        assert!(rt; (fault.code(), fault.name()) == (code, name));
-        let shown = format!(in rt.alloc(); "{fault}").expect(&rt, "room");
-        assert!(rt; shown.as_str() == name);
-    }
+    assert!(rt; is_named(&rt, rt.alloc(), SetupFault::Memory, 1, "Memory"));
+    assert!(rt; is_named(&rt, rt.alloc(), SetupFault::NotToml, 2, "NotToml"));
+    assert!(rt; is_named(&rt, rt.alloc(), SetupFault::BadKey, 3, "BadKey"));
+    assert!(rt; is_named(&rt, rt.alloc(), SetupFault::BadValue, 4, "BadValue"));
 }

@@ -1,65 +1,76 @@
 //! Buffers of references: what they hold, and which are refused.
 
+use std::alloc::Global;
+use std::process::Abort;
 use warm_refbuffer::{BufferFault, Full, RefBuffer};
 use warm_stamps::{PageId, Reference, ReplicaId, Stamp};
 
-fn reference(replica: ReplicaId, time: u64) -> Reference {
+// The reference to page 0:1 at this time, at replica 1.
+fn reference(rt: &impl Abort, time: u64) -> Reference {
+    let replica = ReplicaId::new(1).expect(rt, "1 is a replica");
     Reference {
         page: PageId { dev: 0, no: 1 },
         stamp: Stamp { time, replica },
     }
 }
 
-#[test]
-fn a_buffer_takes_as_many_as_it_holds(rt: HostRuntime) {
-    let replica = ReplicaId::new(1).expect(&rt, "1 is a replica");
-    let mut buffer = RefBuffer::new(rt.alloc(), 64).expect(&rt, "64 references have room");
+// A buffer of 64 references, full of those at the times 1 to 64.
+fn full_buffer(rt: &impl Abort, alloc: Global) -> RefBuffer {
+    let mut buffer = RefBuffer::new(alloc, 64).expect(rt, "64 references have room");
     assert!(rt; buffer.is_empty());
     for time in 1..=64u64 {
-        assert!(rt; buffer.touch(reference(replica, time)) == Ok(()));
+        assert!(rt; buffer.touch(reference(rt, time)) == Ok(()));
     }
+    buffer
+}
+
+fn is_first(references: &[Reference], want: Reference) -> bool {
+    references.first().copied() == Some(want)
+}
+
+fn is_last(references: &[Reference], want: Reference) -> bool {
+    references.last().copied() == Some(want)
+}
+
+#[test]
+fn a_buffer_takes_as_many_as_it_holds(rt: HostRuntime) {
+    let mut buffer = full_buffer(&rt, rt.alloc());
     assert!(rt; buffer.is_full());
-    let full = Full(reference(replica, 65));
-    assert!(rt; buffer.touch(reference(replica, 65)) == Err(full));
-    assert!(rt; (buffer.len(), buffer.cap()) == (64, 64));
-    assert!(rt;
-        (
-            buffer.refs().first().copied(),
-            buffer.refs().last().copied()
-        ) == (Some(reference(replica, 1)), Some(reference(replica, 64)))
-    );
+    let full = Full(reference(&rt, 65));
+    assert!(rt; buffer.touch(reference(&rt, 65)) == Err(full));
+    assert!(rt; buffer.len() == 64 && buffer.cap() == 64);
+    assert!(rt; is_first(buffer.refs(), reference(&rt, 1)));
+    assert!(rt; is_last(buffer.refs(), reference(&rt, 64)));
     buffer.clear();
-    assert!(rt; (buffer.len(), buffer.cap()) == (0, 64));
+    assert!(rt; buffer.len() == 0 && buffer.cap() == 64);
+}
+
+// The capacity of a new buffer that is asked for with this one.
+fn capacity(alloc: Global, cap: usize) -> Result<usize, BufferFault> {
+    let buffer = RefBuffer::new(alloc, cap)?;
+    Ok(buffer.cap())
 }
 
 #[test]
 fn a_buffer_holds_from_1_to_1024(rt: HostRuntime) {
-    for cap in [0, 1025] {
-        let refused = RefBuffer::new(rt.alloc(), cap).err();
-        assert!(rt;
-            refused == Some(BufferFault::BadCapacity),
-            "a capacity of {cap}"
-        );
-    }
-    for cap in [1, 1024] {
-        let buffer = RefBuffer::new(rt.alloc(), cap).expect(&rt, "a capacity was refused");
-        assert!(rt; buffer.cap() == cap);
-    }
+    assert!(rt; capacity(rt.alloc(), 0) == Err(BufferFault::BadCapacity));
+    assert!(rt; capacity(rt.alloc(), 1) == Ok(1));
+    assert!(rt; capacity(rt.alloc(), 1024) == Ok(1024));
+    assert!(rt; capacity(rt.alloc(), 1025) == Err(BufferFault::BadCapacity));
 }
 
 #[test]
 fn refusals_of_buffers_have_numbers_and_names(rt: HostRuntime) {
-    for (fault, code, name) in [
-        (BufferFault::Memory, 1, "Memory"),
-        (BufferFault::BadCapacity, 2, "BadCapacity"),
-    ] {
-        assert!(rt; (fault.code(), fault.name()) == (code, name));
-    }
+    let memory = BufferFault::Memory;
+    assert!(rt; memory.code() == 1);
+    assert!(rt; memory.name() == "Memory");
+    let capacity = BufferFault::BadCapacity;
+    assert!(rt; capacity.code() == 2);
+    assert!(rt; capacity.name() == "BadCapacity");
 }
 
 #[test]
 fn the_refusal_of_a_full_buffer_has_its_number_and_name(rt: HostRuntime) {
-    let replica = ReplicaId::new(1).expect(&rt, "1 is a replica");
-    assert!(rt; Full(reference(replica, 1)).code() == 3);
-    assert!(rt; Full(reference(replica, 1)).name() == "Full");
+    assert!(rt; Full(reference(&rt, 1)).code() == 3);
+    assert!(rt; Full(reference(&rt, 1)).name() == "Full");
 }

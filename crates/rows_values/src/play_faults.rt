@@ -1,19 +1,21 @@
 //! The numbers and names of what ends a play.
 
+use std::alloc::Global;
+use std::process::Abort;
 use warm_play_fault::PlayFault;
+
+// Whether a fault has this number and this name, and is shown by it.
+fn is_named(rt: &impl Abort, alloc: Global, fault: PlayFault, code: u8, name: &str) -> bool {
+    let shown = format!(in alloc; "{fault}").expect(rt, "room for a name");
+    fault.code() == code && fault.name() == name && shown.as_str() == name
+}
 
 #[test]
 fn play_faults_have_numbers_and_names(rt: HostRuntime) {
-    for (fault, code, name) in [
-        (PlayFault::Memory, 1, "Memory"),
-        (PlayFault::ReadFault, 2, "ReadFault"),
-        (PlayFault::WriteFault, 3, "WriteFault"),
-        (PlayFault::BadLine(7), 4, "BadLine"),
-        (PlayFault::NoThread, 5, "NoThread"),
-        (PlayFault::BadDevices, 6, "BadDevices"),
-    ] {
-        assert!(rt; (fault.code(), fault.name()) == (code, name));
-        let shown = format!(in rt.alloc(); "{fault}").expect(&rt, "room for a name");
-        assert!(rt; shown.as_str() == name);
-    }
+    assert!(rt; is_named(&rt, rt.alloc(), PlayFault::Memory, 1, "Memory"));
+    assert!(rt; is_named(&rt, rt.alloc(), PlayFault::ReadFault, 2, "ReadFault"));
+    assert!(rt; is_named(&rt, rt.alloc(), PlayFault::WriteFault, 3, "WriteFault"));
+    assert!(rt; is_named(&rt, rt.alloc(), PlayFault::BadLine(7), 4, "BadLine"));
+    assert!(rt; is_named(&rt, rt.alloc(), PlayFault::NoThread, 5, "NoThread"));
+    assert!(rt; is_named(&rt, rt.alloc(), PlayFault::BadDevices, 6, "BadDevices"));
 }
