@@ -26,15 +26,16 @@ impl Gate for Open {
     fn after(&self, _job: usize, _step: usize) {}
 }
 
-// One in a byte of a job's own.
-const ONES: [u64; 4] = [0x1, 0x100, 0x1_0000, 0x100_0000];
+// A job's own bit of a word.
+const BITS: [u64; 4] = [1, 2, 4, 8];
 
-// A gate at which four jobs wait for one another before each step, and what each has taken: a byte for each job.
+// A gate at which four jobs wait for one another before each step: which of them came, a bit for each, and how many steps each
+// has taken.
 #[derive(Drop)]
 struct Meeting<'a, C: Clock> {
     clock: &'a C,
     here: AtomicU64,
-    taken: AtomicU64,
+    taken: [AtomicU64; 4],
     late: AtomicU64,
 }
 
@@ -43,20 +44,35 @@ impl<'a, C: Clock> Meeting<'a, C> {
         Meeting {
             clock,
             here: AtomicU64::new(0),
-            taken: AtomicU64::new(0),
+            taken: [
+                AtomicU64::new(0),
+                AtomicU64::new(0),
+                AtomicU64::new(0),
+                AtomicU64::new(0),
+            ],
             late: AtomicU64::new(0),
         }
+    }
+
+    // Whether each job has taken so many steps.
+    fn has_taken(&self, steps: u64) -> bool {
+        for taken in &self.taken {
+            if taken.load(Ordering::SeqCst) != steps {
+                return false;
+            }
+        }
+        true
     }
 }
 
 impl<'a, C: Clock> Gate for Meeting<'a, C> {
     // Looks at most 10,000 times, a millisecond apart.
     fn before(&self, job: usize, _step: usize) {
-        if let Some(one) = ONES.get(job) {
-            self.here.fetch_or(*one, Ordering::SeqCst);
+        if let Some(bit) = BITS.get(job) {
+            self.here.fetch_or(*bit, Ordering::SeqCst);
         }
         for _ in 0..10_000 {
-            if self.here.load(Ordering::SeqCst) == 0x0101_0101 {
+            if self.here.load(Ordering::SeqCst) == 15 {
                 return;
             }
             thread::sleep(self.clock, Duration::from_millis(1));
@@ -64,12 +80,9 @@ impl<'a, C: Clock> Gate for Meeting<'a, C> {
         self.late.store(1, Ordering::SeqCst);
     }
 
-    // Adds the number of the step, counted from 1.
     fn after(&self, job: usize, step: usize) {
-        if let Some(one) = ONES.get(job) {
-            let number = u64::wrapping_add(step as u64, 1);
-            self.taken
-                .fetch_add(u64::wrapping_mul(*one, number), Ordering::SeqCst);
+        if let Some(taken) = self.taken.get(job) {
+            taken.store(u64::wrapping_add(step as u64, 1), Ordering::SeqCst);
         }
     }
 }
@@ -193,14 +206,13 @@ fn are_met<R: Threads + Wait + Abort + Sync, G: Gate + Sync>(
     are_answered(&all) && are_falling(pages.as_slice())
 }
 
-// Each job has taken five steps: 1, 2, 3, 4 and 5 are 15.
 #[test]
 fn four_jobs_meet(rt: HostRuntime) {
     let gate = Meeting::new(&rt);
     assert!(rt;
         are_met(&rt, rt.alloc(), &gate)
             && gate.late.load(Ordering::SeqCst) == 0
-            && gate.taken.load(Ordering::SeqCst) == 0x0F0F_0F0F
+            && gate.has_taken(5)
     );
 }
 
