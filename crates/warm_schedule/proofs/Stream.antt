@@ -8,6 +8,7 @@ use Rattle.std.proofs.Math.Nat.{min-eq_left, min_comm}
 use Rattle.std.proofs.Math.Seq.{take-append-add}
 use Rattle.std.proofs.lemmas.Bool.{cases_lt, ne_eqb, lt-ltb, ltb-true, ltb-false}
 use Rattle.std.proofs.lemmas.List.{append-nil, take_all, take-append-le, length-take, length-take-le}
+use Rattle.warm_random.proofs.Written.{Appends-then}
 use Rattle.warm_schedule.specs.Text.{IsLine, split, lines}
 use Rattle.warm_schedule.specs.Grammar.{meaning}
 use Rattle.warm_schedule.specs.Printed.{Answered, PrintedFrom, Played, EndsIn}
@@ -136,6 +137,11 @@ Appends-kept None b c x h k = tt
 Appends-kept (Some xs) None c x h k = absurd h
 Appends-kept (Some xs) (Some ys) None x h k = absurd k
 Appends-kept (Some xs) (Some ys) (Some zs) x h k = k ∙ h
+
+-- what a last call writes comes after what was written before it
+pub written_then : {A E : Type 0} (r : Result A E) (a b c : Option (List ℕ)) (x y : List ℕ) → Appends a b x → OnOk r (Appends b c y) → OnOk r (Appends a c (x ++ y))
+written_then (Ok v) a b c x y h k = Appends-then a b c x y h k
+written_then (Err e) a b c x y h k = tt
 
 -- what holds after a call that went well
 pub done : {A E P : Type 0} (r : Result A E) → true ≡ is_ok r → OnOk r P → P
