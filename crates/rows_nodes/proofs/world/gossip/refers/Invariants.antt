@@ -1,5 +1,5 @@
 use Rattle.warm_world.specs.Seen.{IsWorld}
-use Rattle.rows_world.proofs.world.gossip.refers.Given as goal
+use Rattle.rows_nodes.proofs.world.gossip.refers.Given as goal
 
 -- the world stays one
 abbrev pub invariant-loop-place : goal.invariant-loop-place

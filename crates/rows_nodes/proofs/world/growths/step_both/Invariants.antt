@@ -1,5 +1,5 @@
 use Rattle.warm_world.specs.Seen.{IsWorld}
-use Rattle.rows_world.proofs.world.growths.step_both.Given as goal
+use Rattle.rows_nodes.proofs.world.growths.step_both.Given as goal
 
 -- both worlds stay worlds
 abbrev pub invariant-loop-place : goal.invariant-loop-place

@@ -1,5 +1,5 @@
 use Rattle.warm_gossip.specs.Clauses.{IsFit}
-use Rattle.rows_gossip.proofs.node.growths.stay_same.Given as goal
+use Rattle.rows_nodes.proofs.node.growths.stay_same.Given as goal
 
 -- all nodes stay fit
 abbrev pub invariant-loop-place : goal.invariant-loop-place

@@ -1,5 +1,5 @@
 use Rattle.warm_gossip.specs.Clauses.{IsFit}
-use Rattle.rows_gossip.proofs.node.runs.Given as goal
+use Rattle.rows_nodes.proofs.node.runs.Given as goal
 
 -- the node stays fit
 abbrev pub invariant-loop-at : goal.invariant-loop-at

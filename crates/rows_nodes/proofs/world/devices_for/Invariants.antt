@@ -1,6 +1,6 @@
 use Rattle.warm_world.specs.Opening.{AreFew}
 use Rattle.warm_world.specs.Seen.{listed}
-use Rattle.rows_world.proofs.world.devices_for.Given as goal
+use Rattle.rows_nodes.proofs.world.devices_for.Given as goal
 
 -- each list so far has few devices
 abbrev pub invariant-loop-replica : goal.invariant-loop-replica
