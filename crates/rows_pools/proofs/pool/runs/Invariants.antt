@@ -1,6 +1,6 @@
 use Rattle.std.proofs.Common.{length}
 use Rattle.warm_pool.specs.State.{IsPool, RankedBy, pool_of}
-use Rattle.rows_pool.proofs.pool.runs.Given as goal
+use Rattle.rows_pools.proofs.pool.runs.Given as goal
 
 -- it stays a pool that the history ranks
 abbrev pub invariant-loop-at : goal.invariant-loop-at
