@@ -2,7 +2,7 @@ use Rattle.std.proofs.Common.{◌≤◌, length, arith}
 use Rattle.std.proofs.lemmas.List.{length-map}
 use Rattle.warm_pool.specs.declared.TheConstants.{MAX_DEVICES}
 use Rattle.warm_schedule.proofs.Few.{few_pushed}
-use Rattle.rows_schedule.proofs.player.in_memory.Goals as goal
+use Rattle.rows_plays.proofs.player.in_memory.Goals as goal
 
 pub loop-preserved : goal.loop-preserved
 loop-preserved g c =
