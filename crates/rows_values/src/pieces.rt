@@ -4,7 +4,7 @@
 //! is then fed once more.
 ghost use Rattle.std.specs.Prelude.{◌<◌};
 
-use crate::frames::{TWICE, decoded, encoded, row_holds};
+use crate::frames::{TWICE, decoded, encoded, room, row_holds};
 use std::alloc::Global;
 use std::process::Abort;
 use warm_frames::{Decoder, EntryList, Fed, Frame, FrameFault, SUM_SIZE, SumTable};
@@ -294,14 +294,6 @@ fn any_hist(rt: &impl Abort, numbers: &mut Numbers) -> PageHist {
         return PageHist::Twice(Two::new(last, prev));
     }
     PageHist::Once(last)
-}
-
-// Room for entries; where it is refused, asked for once more.
-fn room(rt: &impl Abort, alloc: Global, count: usize) -> Vec<Entry> {
-    match Vec::with_capacity(alloc, count) {
-        Ok(entries) => entries,
-        Err(_) => Vec::with_capacity(alloc, count).expect(rt, "room for entries"),
-    }
 }
 
 // So many entries, whose pages are up to nine apart.

@@ -237,7 +237,7 @@ fn pages_have_to_rise(rt: HostRuntime) {
 }
 
 // Room for entries; where it is refused, asked for once more.
-fn room(rt: &impl Abort, alloc: Global, count: usize) -> Vec<Entry> {
+pub(crate) fn room(rt: &impl Abort, alloc: Global, count: usize) -> Vec<Entry> {
     match Vec::with_capacity(alloc, count) {
         Ok(entries) => entries,
         Err(_) => Vec::with_capacity(alloc, count).expect(rt, "room for entries"),
