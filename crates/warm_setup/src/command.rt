@@ -156,8 +156,7 @@ fn play_alone<'a>(alloc: Global) -> Result<Command<'a>, AllocError>
     let top = Command::new(alloc, "warmplay")
         .about("Warm-standby buffer pools that merge LRU-2 histories")
         .subcommand_required(true);
-    let played = top.subcommand(play)?;
-    Ok(played)
+    top.subcommand(play)
 }
 
 fn line_by_line_commands<'a>(alloc: Global) -> Result<Command<'a>, AllocError>
@@ -166,8 +165,7 @@ fn line_by_line_commands<'a>(alloc: Global) -> Result<Command<'a>, AllocError>
 {
     let played = play_alone(alloc)?;
     let random = random_command(alloc)?;
-    let both = played.subcommand(random)?;
-    Ok(both)
+    played.subcommand(random)
 }
 
 fn whole_command<'a>(alloc: Global) -> Result<Command<'a>, AllocError>
@@ -176,8 +174,7 @@ fn whole_command<'a>(alloc: Global) -> Result<Command<'a>, AllocError>
 {
     let both = line_by_line_commands(alloc)?;
     let threads = threads_command(alloc)?;
-    let whole = both.subcommand(threads)?;
-    Ok(whole)
+    both.subcommand(threads)
 }
 
 // The matches of the words, as clap defines them for these commands.
