@@ -5,7 +5,7 @@
 //! nanoseconds are printed too, for `bench/frames/measure.py`; the stream is then of 1000 frames.
 ghost use Rattle.std.specs.Prelude.{◌<◌};
 
-use crate::parts::{added_bytes, replica, twice};
+use crate::parts::{added_bytes, asked_number, replica, twice};
 use anyhow::{Context, Result, bail};
 use std::alloc::Global;
 use std::time::{Duration, Instant};
@@ -219,11 +219,7 @@ fn time_pieces(rt: &HostRuntime, bytes: &[u8], timed: bool) -> Result<()> {
 }
 
 pub(crate) fn play(rt: &HostRuntime, words: &[String]) -> Result<()> {
-    let rounds = match words {
-        [] => None,
-        [word] => Some(word.parse::<u64>().context("how often each is done")?),
-        _ => bail!("frames takes one number, how often each is done"),
-    };
+    let rounds = asked_number(words, "how often each is done")?;
     let bytes = time_whole(rt, rounds)?;
     time_pieces(rt, &bytes, rounds.is_some())
 }

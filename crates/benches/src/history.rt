@@ -2,8 +2,8 @@
 //!
 //! With no word it runs with 1,000 pages and prints what came out. With a number of pages it
 //! runs with so many, and prints the nanoseconds too, for `bench/history/measure.py`.
-use crate::parts::{added, next, replica, scattered};
-use anyhow::{Context, Result, bail};
+use crate::parts::{added, asked_number, next, replica, scattered};
+use anyhow::{Result, bail};
 use std::alloc::Global;
 use std::time::{Duration, Instant};
 use warm_history::{Entry, History, PageHist};
@@ -189,17 +189,8 @@ fn look_up(rt: &HostRuntime, timed: bool, large: &History, pages: u64) -> Result
     told(rt, timed, "look up", found, spent)
 }
 
-// The number of pages that is asked for, if one is.
-fn asked_pages(words: &[String]) -> Result<Option<u64>> {
-    match words {
-        [] => Ok(None),
-        [word] => Ok(Some(word.parse::<u64>().context("the number of pages")?)),
-        _ => bail!("history takes one number, of pages"),
-    }
-}
-
 pub(crate) fn play(rt: &HostRuntime, words: &[String]) -> Result<()> {
-    let asked = asked_pages(words)?;
+    let asked = asked_number(words, "the number of pages")?;
     let timed = asked.is_some();
     let pages = asked.unwrap_or(1_000);
     let replica = replica(1)?;

@@ -1,8 +1,8 @@
-//! What several benches are made of: numbers that are drawn, sums over what came out, pages, references, devices in memory and
-//! nodes.
+//! What several benches are made of: numbers that are asked for or drawn, sums over what came out, pages, references, devices in
+//! memory and nodes.
 ghost use Rattle.std.specs.Prelude.{IfOk};
 
-use anyhow::{Result, bail};
+use anyhow::{Context, Result, bail};
 use std::alloc::Global;
 use warm_devices::{MemDevice, PageDevice};
 use warm_gossip::{Node, Shown};
@@ -11,6 +11,15 @@ use warm_stamps::{PageId, Reference, ReplicaId, Stamp};
 
 // How many bytes the pages of a node have.
 pub(crate) const NODE_PAGE_SIZE: usize = 16;
+
+// The number that is the only word, where there is one.
+pub(crate) fn asked_number(words: &[String], what: &'static str) -> Result<Option<u64>> {
+    match words {
+        [] => Ok(None),
+        [word] => Ok(Some(word.parse::<u64>().context(what)?)),
+        _ => bail!("one number is taken: {what}"),
+    }
+}
 
 // The next number of a linear congruential generator (Knuth's MMIX).
 pub(crate) fn next(drawn: u64) -> u64 {
