@@ -3,8 +3,8 @@
 
 usage: measure.py [ROUNDS]      how often each is done in a run (30, where no number is given)
 
-It wants the proved program (`rt run` in crates/bench_frames leaves it as crates/bench_frames/out/bench_frames) and
-`rustc`. Both programs run in turn, five times, and the fastest run of each counts. Both must print the same.
+It wants the proved program (`rt run` in crates/benches leaves it as crates/benches/out/benches) and `rustc`. Both
+programs run in turn, five times, and the fastest run of each counts. Both must print the same.
 """
 
 import subprocess
@@ -13,7 +13,7 @@ import tempfile
 from pathlib import Path
 
 HERE = Path(__file__).resolve().parent
-OURS = HERE.parent.parent / "crates/bench_frames/out/bench_frames"
+OURS = [HERE.parent.parent / "crates/benches/out/benches", "frames"]
 RUNS = 5
 FRAME = 27_015
 SUMMED = 2_700_000
@@ -22,9 +22,9 @@ STREAM = 1000
 PIECES = [1, 64, 4_096, 65_536]
 
 
-def one_run(program: Path, rounds: int) -> tuple[list[str], list[int]]:
+def one_run(command: list, rounds: int) -> tuple[list[str], list[int]]:
     """What the program made, and the nanoseconds of encoding, decoding and summing, and of each size of pieces."""
-    said = subprocess.run([program, str(rounds)], stdout=subprocess.PIPE, check=True, text=True).stdout.splitlines()
+    said = subprocess.run([*command, str(rounds)], stdout=subprocess.PIPE, check=True, text=True).stdout.splitlines()
     made = [line for line in said if not line.endswith(" ns")]
     return made, [int(word) for line in said if line.endswith(" ns") for word in line.split()[:-1]]
 
@@ -37,8 +37,8 @@ def main() -> None:
         best = {}
         for _ in range(RUNS):
             made = {}
-            for name, program in [("ours", OURS), ("plain", plain)]:
-                made[name], spent = one_run(program, rounds)
+            for name, command in [("ours", OURS), ("plain", [plain])]:
+                made[name], spent = one_run(command, rounds)
                 best[name] = [min(it) for it in zip(spent, best.get(name, spent))]
             assert made["ours"] == made["plain"], made
     print("| what | ours, MB/s | plain Rust, MB/s | ours to plain |")

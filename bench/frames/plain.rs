@@ -1,4 +1,4 @@
-//! The frames and sums of `crates/bench_frames` in plain Rust, for the same measurements.
+//! The frames and sums of `benches frames` in plain Rust, for the same measurements.
 //!
 //! With no argument each is done once; with a number each is done so many times, and the nanoseconds are printed too; the stream is then
 //! of 1000 frames.

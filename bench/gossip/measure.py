@@ -4,8 +4,8 @@
 usage: measure.py [whole] [PAGES..]      how many pages there are (1000 10000 100000 1000000, where none is named)
 
 With `whole` the warm-up is taken to its end instead, 4,096 steps over 500,000 pages, by each program. It wants the proved
-program (`rt run` in crates/bench_gossip leaves it as crates/bench_gossip/out/bench_gossip) and `rustc`. Both programs run in turn,
-five times, and the fastest run of each counts. Both must make the same.
+program (`rt run` in crates/benches leaves it as crates/benches/out/benches) and `rustc`. Both programs run in turn, five
+times, and the fastest run of each counts. Both must make the same.
 """
 
 import os
@@ -16,7 +16,7 @@ from pathlib import Path
 from typing import NamedTuple
 
 HERE = Path(__file__).resolve().parent
-OURS = HERE.parent.parent / "crates/bench_gossip/out/bench_gossip"
+OURS = [HERE.parent.parent / "crates/benches/out/benches", "gossip"]
 RUNS = 5
 BUCKETS = [1, 10, 64]
 STEPS = 16
@@ -30,19 +30,19 @@ class Ran(NamedTuple):
     peak: int  # the most bytes that it held
 
 
-def one_run(program: Path, case: list[str]) -> Ran:
-    with subprocess.Popen([program, *case], stdout=subprocess.PIPE, text=True) as started:
+def one_run(command: list) -> Ran:
+    with subprocess.Popen(command, stdout=subprocess.PIPE, text=True) as started:
         made, spent = started.stdout.read().splitlines()
         _, status, used = os.wait4(started.pid, 0)
         started.returncode = os.waitstatus_to_exitcode(status)
-    assert started.returncode == 0, case
+    assert started.returncode == 0, command
     return Ran(made, int(spent.removesuffix(" ns")), used.ru_maxrss * 1024)
 
 
 def fastest(plain: Path, runs: int, *case: object) -> tuple[Ran, Ran]:
     """The fastest runs of our program and of the plain one."""
     words = [str(it) for it in case]
-    tried = [(one_run(OURS, words), one_run(plain, words)) for _ in range(runs)]
+    tried = [(one_run([*OURS, *words]), one_run([plain, *words])) for _ in range(runs)]
     assert len({ran.made for both in tried for ran in both}) == 1, tried
     ours, plains = zip(*tried)
     return min(ours, key=lambda ran: ran.nanos), min(plains, key=lambda ran: ran.nanos)

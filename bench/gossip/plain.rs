@@ -1,4 +1,4 @@
-//! The gossip and the warm-up of `crates/bench_gossip` in plain Rust, for the same measurements.
+//! The gossip and the warm-up of `benches gossip` in plain Rust, for the same measurements.
 //!
 //! A replica is a `BTreeMap`, and a pool that finds its pages by a `HashMap`. It keeps the sums of its buckets and its warm-up list
 //! until its history changes. Nothing is undone where memory runs out, as nothing is refused here. The arguments are those of the proved program.

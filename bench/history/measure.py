@@ -3,8 +3,8 @@
 
 usage: measure.py [PAGES..]      how many pages there are (1000 10000 100000 1000000, where none is named)
 
-It wants the proved program (`rt run` in crates/bench_history leaves it as crates/bench_history/out/bench_history) and
-`rustc`. Both programs run in turn, nine times, and the fastest run of each counts. Both must make the same.
+It wants the proved program (`rt run` in crates/benches leaves it as crates/benches/out/benches) and `rustc`. Both
+programs run in turn, nine times, and the fastest run of each counts. Both must make the same.
 """
 
 import subprocess
@@ -13,13 +13,13 @@ import tempfile
 from pathlib import Path
 
 HERE = Path(__file__).resolve().parent
-OURS = HERE.parent.parent / "crates/bench_history/out/bench_history"
+OURS = [HERE.parent.parent / "crates/benches/out/benches", "history"]
 RUNS = 9
 
 
-def one_run(program: Path, pages: int) -> tuple[dict[str, str], dict[str, int]]:
+def one_run(command: list, pages: int) -> tuple[dict[str, str], dict[str, int]]:
     """What the program made, and the nanoseconds that each took."""
-    said = subprocess.run([program, str(pages)], stdout=subprocess.PIPE, check=True, text=True).stdout.splitlines()
+    said = subprocess.run([*command, str(pages)], stdout=subprocess.PIPE, check=True, text=True).stdout.splitlines()
     parts = [line.rsplit(": ", 1) for line in said]
     made = {what: it for what, it in parts if not it.endswith(" ns")}
     return made, {what: int(it[:-3]) for what, it in parts if it.endswith(" ns")}
@@ -29,8 +29,8 @@ def measured(plain: Path, pages: int) -> dict[str, dict[str, int]]:
     best = {"ours": {}, "plain": {}}
     for _ in range(RUNS):
         made = {}
-        for name, program in [("ours", OURS), ("plain", plain)]:
-            made[name], spent = one_run(program, pages)
+        for name, command in [("ours", OURS), ("plain", [plain])]:
+            made[name], spent = one_run(command, pages)
             best[name] = {what: min(it, best[name].get(what, it)) for what, it in spent.items()}
         assert all(made["plain"][what] == it for what, it in made["ours"].items()), made
     return best

@@ -1,4 +1,4 @@
-//! The histories of `crates/bench_history` in plain Rust, as one BTreeMap, for the same measurements.
+//! The histories of `benches history` in plain Rust, as one BTreeMap, for the same measurements.
 //!
 //! Prints what was made and the nanoseconds. Absorbing is done a second time with a list of what was
 //! there before, as all or nothing wants it.

@@ -4,7 +4,7 @@ Rust, and how emptying a pool and retiring a device grow with the frames, and pr
 
 usage: measure.py [NAME..]      empty, full, visits, misses (all, where none is named)
 
-It wants the proved program (`rt run` in crates/bench_pool leaves it as crates/bench_pool/out/bench_pool) and `rustc`.
+It wants the proved program (`rt run` in crates/benches leaves it as crates/benches/out/benches) and `rustc`.
 The programs run in turn, five times, and the fastest run of each counts. All must print the same sum.
 """
 
@@ -14,7 +14,7 @@ import tempfile
 from pathlib import Path
 
 HERE = Path(__file__).resolve().parent
-OURS = HERE.parent.parent / "crates/bench_pool/out/bench_pool"
+OURS = [HERE.parent.parent / "crates/benches/out/benches", "pool"]
 RUNS = 5
 VISITS, MISSES = 5_000_000, 1_000_000
 FEW, MANY = 4_096, 65_536
@@ -41,7 +41,7 @@ def fastest(call: str, held: str) -> dict[int, float]:
     best: dict[int, float] = {}
     for _ in range(4 * RUNS):
         for frames in (FEW, MANY):
-            said = subprocess.run([OURS, call, str(frames), held], stdout=subprocess.PIPE, check=True, text=True).stdout
+            said = subprocess.run([*OURS, call, str(frames), held], stdout=subprocess.PIPE, check=True, text=True).stdout
             best[frames] = min(int(said.split()[0]) / 1000, best.get(frames, float("inf")))
     return best
 
@@ -60,7 +60,7 @@ def print_full() -> None:
     with tempfile.TemporaryDirectory() as folder:
         plain = Path(folder) / "plain"
         subprocess.run(["rustc", "-O", "--edition", "2024", "-o", plain, HERE / "plain.rs"], check=True)
-        commands = {"ours": [OURS, "empty", str(MANY), "all"]} | {name: [plain, "empty", *words] for name, words in PLAINS.items()}
+        commands = {"ours": [*OURS, "empty", str(MANY), "all"]} | {name: [plain, "empty", *words] for name, words in PLAINS.items()}
         best: dict[str, float] = {}
         for _ in range(4 * RUNS):
             for name, command in commands.items():
@@ -78,7 +78,7 @@ def beside(what: list[str], count: int, plains: dict[str, list[str]]) -> None:
     with tempfile.TemporaryDirectory() as folder:
         plain = Path(folder) / "plain"
         subprocess.run(["rustc", "-O", "--edition", "2024", "-o", plain, HERE / "plain.rs"], check=True)
-        commands = {"ours": [OURS, *what]} | {name: [plain, *what, *words] for name, words in plains.items()}
+        commands = {"ours": [*OURS, *what]} | {name: [plain, *what, *words] for name, words in plains.items()}
         best: dict[str, float] = {}
         for _ in range(RUNS):
             read = set()

@@ -1,4 +1,4 @@
-//! The visits and misses of `crates/bench_pool` in plain Rust, over a pool with a `HashMap` for its index.
+//! The visits and misses of `benches pool` in plain Rust, over a pool with a `HashMap` for its index.
 //!
 //! With no argument 1,000 visits are made; with a number so many, and the nanoseconds are printed too; with `misses` and a
 //! number so many pins of pages that are in no frame; with `empty` a full pool is emptied, and the nanoseconds are printed. The map has the hash that std gives it, or, with a further word `mixed`,

@@ -5,7 +5,7 @@ std::sync::Mutex, and prints the table of docs/PERFORMANCE.md.
 usage: measure.py [idle|busy|both] [REFERENCES] [PAGES]      both, 1,000,000 of each worker, 100,000, where nothing is said
 
 For `busy` as many other processes as there are processors each keep one busy meanwhile. It wants the proved program
-(`rt run` in crates/bench_replica leaves it as crates/bench_replica/out/bench_replica) and `rustc`. The programs run one
+(`rt run` in crates/benches leaves it as crates/benches/out/benches) and `rustc`. The programs run one
 after another, each time in an order that is drawn, eleven times. Ours is compared with each plain program by the fastest
 run of both, and by the middle of the eleven ratios: a machine whose host takes time shows in how far these differ. All must
 end with the same hottest pages.
@@ -23,22 +23,23 @@ HERE = Path(__file__).resolve().parent
 sys.path.insert(0, str(HERE.parent))
 from busy import all_processors_busy  # noqa: E402
 
-OURS = HERE.parent.parent / "crates/bench_replica/out/bench_replica"
+OURS = [HERE.parent.parent / "crates/benches/out/benches", "replica"]
 RUNS = 11
 CROWDS = [1, 2, 4]
 PLAIN = ["map", "node", "buckets"]
 LINE = re.compile(r"workers (\d): (\d+) in (\d+) ns")
 
 
-def one_run(command: list, workers: int, references: int, pages: int) -> tuple[int, float]:
-    """The sum of the hottest pages, and references a second."""
-    words = [command[0], str(workers), str(references), str(pages), *command[1:]]
+def one_run(command: tuple[list, list], workers: int, references: int, pages: int) -> tuple[int, float]:
+    """The sum of the hottest pages, and references a second. A command has words before its numbers, and after them."""
+    before, after = command
+    words = [*before, str(workers), str(references), str(pages), *after]
     said = subprocess.run(words, stdout=subprocess.PIPE, check=True, text=True).stdout
     _, made, spent = (int(it) for it in LINE.fullmatch(said.strip()).groups())
     return made, workers * references / spent * 1e9
 
 
-def measured(commands: dict[str, list], references: int, pages: int) -> dict[tuple[str, int], list[float]]:
+def measured(commands: dict[str, tuple[list, list]], references: int, pages: int) -> dict[tuple[str, int], list[float]]:
     """The speeds of the runs, in their order."""
     speeds = {(name, workers): [] for name in commands for workers in CROWDS}
     for _ in range(RUNS):
@@ -65,7 +66,7 @@ def main() -> None:
     with tempfile.TemporaryDirectory() as folder:
         plain = Path(folder) / "plain"
         subprocess.run(["rustc", "-O", "--edition", "2024", "-o", plain, HERE / "plain.rs"], check=True)
-        commands = {"ours": [OURS]} | {name: [plain, name] for name in PLAIN}
+        commands = {"ours": (OURS, [])} | {name: ([plain], [name]) for name in PLAIN}
         heads = [f"a plain {name} | ours to it | middle" for name in ["map", "node", "node of 64 maps"]]
         print(f"| processors | workers | ours, million a second | {' | '.join(heads)} |")
         print("|---" * (3 + 3 * len(heads)) + "|")

@@ -1,4 +1,4 @@
-//! The workers of `crates/bench_replica` in plain Rust, over one replica behind a `std::sync::Mutex`, for the same measurements.
+//! The workers of `benches replica` in plain Rust, over one replica behind a `std::sync::Mutex`, for the same measurements.
 //!
 //! `plain WORKERS REFERENCES PAGES [map|node|buckets]`: so many workers bring so many references each, to so many pages, by buffers of
 //! 64. With `map` the replica is a `BTreeMap` of the two latest stamps of each page. With `node` it also does what a node does beside:

@@ -5,8 +5,8 @@ processor time of a turn; and prints the tables of docs/PERFORMANCE.md.
 usage: measure.py [idle|busy|both] [TURNS]      both, and 2,000,000 turns in all threads together, where nothing is said
 
 For `busy` as many other processes as there are processors each keep one busy meanwhile. It wants the proved program
-(`rt run` in crates/bench_turn leaves it as crates/bench_turn/out/bench_turn) and `rustc`. Both programs run in turn,
-nine times, and the fastest run of each counts, and its least processor time. Every total must be what was asked for.
+(`rt run` in crates/benches leaves it as crates/benches/out/benches) and `rustc`. Both programs run in turn, nine
+times, and the fastest run of each counts, and its least processor time. Every total must be what was asked for.
 """
 
 import os
@@ -20,30 +20,30 @@ HERE = Path(__file__).resolve().parent
 sys.path.insert(0, str(HERE.parent))
 from busy import all_processors_busy  # noqa: E402
 
-TURN = HERE.parent.parent / "crates/bench_turn/out/bench_turn"
+TURN = [HERE.parent.parent / "crates/benches/out/benches", "turn"]
 RUNS = 9
 CROWDS = [1, 2, 4, 8]
 LINE = re.compile(r"(\d) threads?: (\d+) in (\d+) ns")
 
 
-def one_run(program: Path, threads: int, turns: int) -> tuple[float, float]:
+def one_run(command: list, threads: int, turns: int) -> tuple[float, float]:
     """Turns a second, and nanoseconds of processor time a turn, user's and system's."""
-    with subprocess.Popen([program, str(threads), str(turns // threads)], stdout=subprocess.PIPE, text=True) as running:
+    with subprocess.Popen([*command, str(threads), str(turns // threads)], stdout=subprocess.PIPE, text=True) as running:
         said = running.stdout.read()
         _, status, used = os.wait4(running.pid, 0)
         running.returncode = os.waitstatus_to_exitcode(status)
-    assert running.returncode == 0, f"{program} ended with {running.returncode}"
+    assert running.returncode == 0, f"{command} ended with {running.returncode}"
     counted, total, spent = (int(it) for it in LINE.fullmatch(said.strip()).groups())
-    assert counted == threads and total == turns // threads * threads, f"{program.name}: {said}"
+    assert counted == threads and total == turns // threads * threads, f"{command}: {said}"
     return total / spent * 1e9, (used.ru_utime + used.ru_stime) / total * 1e9
 
 
-def measured(programs: dict[str, Path], turns: int) -> dict[tuple[str, int], tuple[float, float]]:
+def measured(commands: dict[str, list], turns: int) -> dict[tuple[str, int], tuple[float, float]]:
     best = {}
     for _ in range(RUNS):
         for threads in CROWDS:
-            for name, program in programs.items():
-                speed, used = one_run(program, threads, turns)
+            for name, command in commands.items():
+                speed, used = one_run(command, threads, turns)
                 known = best.get((name, threads), (0, float("inf")))
                 best[name, threads] = max(speed, known[0]), min(used, known[1])
     return best
@@ -60,7 +60,7 @@ def main() -> None:
         print("|---|---|---|---|---|---|---|")
         for are_busy in {"idle": [False], "busy": [True], "both": [False, True]}[when]:
             with all_processors_busy(are_busy):
-                best = measured({"turn": TURN, "mutex": mutex}, turns)
+                best = measured({"turn": TURN, "mutex": [mutex]}, turns)
             for threads in CROWDS:
                 (turn, turn_used), (lock, lock_used) = best["turn", threads], best["mutex", threads]
                 print(

@@ -1,4 +1,4 @@
-//! The counter of `crates/bench_turn` behind a `std::sync::Mutex`, for the same measurements.
+//! The counter of `benches turn` behind a `std::sync::Mutex`, for the same measurements.
 //!
 //! `mutex THREADS TURNS`: so many threads add so many times each, and the total and the nanoseconds are printed.
 

@@ -1,0 +1,225 @@
+//! Encodes and decodes a full frame, sums the buckets of a history of 100,000 pages, and decodes a stream of frames that
+//! comes in pieces.
+//!
+//! With no word each is done once, and what came out is printed. With a number each is done so many times, and the
+//! nanoseconds are printed too, for `bench/frames/measure.py`; the stream is then of 1000 frames.
+ghost use Rattle.std.specs.Prelude.{◌<◌};
+
+use crate::parts::{added_bytes, asked_number, replica, twice};
+use anyhow::{Context, Result, bail};
+use std::alloc::Global;
+use std::time::{Duration, Instant};
+use warm_digest::sums;
+use warm_frames::{BoxedFrame, Decoder, EntryList, Fed, Frame, decode, encode};
+use warm_history::History;
+use warm_stamps::{Bucket, PageId, ReplicaId};
+
+// How many pages a full frame has, and how many the history that is summed.
+const FULL: u32 = 1000;
+
+const MANY: u32 = 100_000;
+
+// How many frames the stream has where times are asked for, and how many bytes its pieces.
+const STREAM: u64 = 1000;
+
+const PIECES: [usize; 4] = [1, 64, 4_096, 65_536];
+
+// A history of so many pages, whose numbers are so far apart, with two stamps each.
+fn history_of(alloc: Global, replica: ReplicaId, pages: u32, apart: u32) -> Result<History> {
+    let Ok(mut batch) = Vec::with_capacity(alloc, 2 * pages as usize) else {
+        bail!("no memory")
+    };
+    for i in 0..pages {
+        let page = PageId {
+            dev: 0,
+            no: i.wrapping_mul(apart),
+        };
+        for reference in twice(page, replica, [u64::from(i), u64::from(i) + 7]) {
+            if batch.push(reference).is_err() {
+                bail!("no memory")
+            }
+        }
+    }
+    let mut history = History::new(alloc);
+    if history.absorb(&batch).is_err() {
+        bail!("no memory")
+    }
+    Ok(history)
+}
+
+// A frame of the first 1000 pages of bucket 0.
+fn full_frame(alloc: Global, sender: ReplicaId) -> Result<Frame> {
+    let history = history_of(alloc, sender, FULL, 64)?;
+    let Some(bucket) = Bucket::new(0) else {
+        bail!("0 is a bucket")
+    };
+    let Ok(entries) = history.entries(bucket, None, FULL as usize) else {
+        bail!("no memory")
+    };
+    match EntryList::of(entries) {
+        Ok(entries) => Ok(Frame::Entries { sender, entries }),
+        Err(_) => bail!("the pages rise"),
+    }
+}
+
+fn encoded(alloc: Global, frame: &Frame) -> Result<Vec<u8>> {
+    match encode(alloc, frame) {
+        Ok(bytes) => Ok(bytes),
+        Err(_) => bail!("no memory"),
+    }
+}
+
+// The bytes of so many encodings, one after the other.
+fn encode_often(alloc: Global, frame: &Frame, rounds: u64) -> Result<Vec<u8>> {
+    let mut bytes = encoded(alloc, frame)?;
+    for _ in 1..rounds {
+        bytes = encoded(alloc, frame)?;
+    }
+    Ok(bytes)
+}
+
+// How many entries were decoded in so many rounds.
+fn decode_often(alloc: Global, bytes: &[u8], rounds: u64) -> Result<u64> {
+    let mut count = 0u64;
+    for _ in 0..rounds {
+        match decode(alloc, bytes) {
+            Ok(Frame::Entries { entries, .. }) => {
+                count = count.wrapping_add(entries.as_slice().len() as u64);
+            }
+            _ => bail!("the frame is one of entries"),
+        }
+    }
+    Ok(count)
+}
+
+// The sum of bucket 0, taken in so many rounds.
+fn sum_often(alloc: Global, history: &History, rounds: u64) -> Result<[u8; 32]> {
+    let Some(bucket) = Bucket::new(0) else {
+        bail!("0 is a bucket")
+    };
+    let mut first = [0u8; 32];
+    for _ in 0..rounds {
+        match sums(alloc, history) {
+            Ok(table) => first = table.sum(bucket),
+            Err(_) => bail!("no memory"),
+        }
+    }
+    Ok(first)
+}
+
+// So many frames with these bytes, one after the other.
+fn stream_of(alloc: Global, bytes: &[u8], frames: u64) -> Result<Vec<u8>> {
+    let mut stream = Vec::new(alloc);
+    for _ in 0..frames {
+        stream.extend_from_slice(bytes)?;
+    }
+    Ok(stream)
+}
+
+// How many entries a frame has, where there is one.
+fn entries_in(frame: Option<BoxedFrame>) -> u64 {
+    let Some(frame) = frame else {
+        return 0;
+    };
+    match frame.as_frame() {
+        Frame::Entries { entries, .. } => entries.as_slice().len() as u64,
+        _ => 0,
+    }
+}
+
+// Feeds all of a piece, and counts the entries of the frames that end in it. `None` at a fault.
+fn feed_all(decoder: &mut Decoder, piece: &[u8]) -> Option<u64> {
+    let mut count = 0u64;
+    let mut rest = piece;
+    for _ in 0..=piece.len() {
+        if rest.is_empty() {
+            break;
+        }
+        let Ok(Fed { taken, frame }) = decoder.feed(rest) else {
+            return None;
+        };
+        count = count.wrapping_add(entries_in(frame));
+        rest = rest.get(taken..)?;
+    }
+    Some(count)
+}
+
+// How many entries a stream has that comes in pieces of so many bytes.
+fn feed_in_pieces(alloc: Global, stream: &[u8], size: usize) -> Option<u64>
+    requires { 0 < size }
+{
+    let mut decoder = Decoder::new(alloc);
+    let mut count = 0u64;
+    for piece in stream.chunks(size) {
+        count = count.wrapping_add(feed_all(&mut decoder, piece)?);
+    }
+    Some(count)
+}
+
+// The bytes of a full frame, encoded so often, and how long that took.
+fn time_encoding(rt: &HostRuntime, sender: ReplicaId, often: u64) -> Result<(Vec<u8>, Duration)> {
+    let frame = full_frame(rt.alloc(), sender)?;
+    let start = Instant::now(rt)?;
+    let bytes = encode_often(rt.alloc(), &frame, often)?;
+    let spent = start.elapsed(rt)?;
+    Ok((bytes, spent))
+}
+
+// How many entries bytes have, decoded so often, and how long that took.
+fn time_decoding(rt: &HostRuntime, bytes: &[u8], often: u64) -> Result<(u64, Duration)> {
+    let start = Instant::now(rt)?;
+    let count = decode_often(rt.alloc(), bytes, often)?;
+    Ok((count, start.elapsed(rt)?))
+}
+
+// The first sum of a history, taken so often, and how long that took.
+fn time_summing(rt: &HostRuntime, sender: ReplicaId, often: u64) -> Result<([u8; 32], Duration)> {
+    let history = history_of(rt.alloc(), sender, MANY, 1)?;
+    let start = Instant::now(rt)?;
+    let first = sum_often(rt.alloc(), &history, often)?;
+    let spent = start.elapsed(rt)?;
+    Ok((first, spent))
+}
+
+// Encodes and decodes a full frame, and sums a history: so often, and says what came out. Gives the frame's bytes.
+fn time_whole(rt: &HostRuntime, rounds: Option<u64>) -> Result<Vec<u8>> {
+    let sender = replica(1)?;
+    let often = rounds.unwrap_or(1);
+    let (first, summing) = time_summing(rt, sender, often)?;
+    let (bytes, encoding) = time_encoding(rt, sender, often)?;
+    let (count, decoding) = time_decoding(rt, &bytes, often)?;
+    println!(rt; "encode: {} bytes {}", bytes.len(), added_bytes(0, &bytes))?;
+    println!(rt; "decode: {} entries", count)?;
+    println!(rt; "sums: {}", added_bytes(0, &first))?;
+    if rounds.is_some() {
+        println!(rt;
+            "{} {} {} ns",
+            encoding.as_nanos(),
+            decoding.as_nanos(),
+            summing.as_nanos()
+        )?;
+    }
+    Ok(bytes)
+}
+
+// Decodes a stream of frames with these bytes, in pieces of each size, and says what came out.
+fn time_pieces(rt: &HostRuntime, bytes: &[u8], timed: bool) -> Result<()> {
+    let frames = if timed { STREAM } else { 1 };
+    let stream = stream_of(rt.alloc(), bytes, frames)?;
+    for size in PIECES {
+        let start = Instant::now(rt)?;
+        let count = feed_in_pieces(rt.alloc(), &stream, size).context("a stream of frames")?;
+        let feeding = start.elapsed(rt)?;
+        println!(rt; "in pieces of {}: {} entries", size, count)?;
+        if timed {
+            println!(rt; "{} ns", feeding.as_nanos())?;
+        }
+    }
+    Ok(())
+}
+
+pub(crate) fn play(rt: &HostRuntime, words: &[String]) -> Result<()> {
+    let rounds = asked_number(words, "how often each is done")?;
+    let bytes = time_whole(rt, rounds)?;
+    time_pieces(rt, &bytes, rounds.is_some())
+}

@@ -1,0 +1,452 @@
+//! Measures a round of gossip between two replicas, a replica's offer of its sums, a standby's warm-up, and the room that a
+//! history takes.
+//!
+//! With no word each is done once, small, and what came out is printed. For `bench/gossip/measure.py` the
+//! nanoseconds are printed too:
+//! - `round PAGES BUCKETS ROUNDS`: that many rounds between replicas that know the same pages, and differ in so many
+//!   buckets before each round. Frames go as bytes.
+//! - `offer PAGES BUCKETS OFFERS`: that many offers by a replica that knows so many pages, before each of which it hears
+//!   of a page in each of so many buckets, which is not timed.
+//! - `warm PAGES STEPS`: that many steps of the warm-up of a replica that knows so many pages, into 4,096 frames.
+//! - `history PAGES`: a replica is told of so many pages.
+ghost use Rattle.std.specs.Prelude.{IfOk};
+
+use crate::parts::{
+    NODE_PAGE_SIZE, added, added_bytes, device, node_over, replica, scattered, twice,
+};
+use anyhow::{Context, Result, bail};
+use std::alloc::Global;
+use std::time::{Clock, Instant};
+use warm_devices::{MemDevice, PageDevice};
+use warm_frames::{Frame, decode, encode};
+use warm_gossip::{Node, NodeFault, Shown};
+use warm_history::{History, PageHist};
+use warm_stamps::{PageId, Reference, ReplicaId, Stamp};
+
+const WARMED: usize = 4_096;
+
+// What came out, and how long it took.
+#[derive(Clone, Copy)]
+struct Made {
+    sum: u64,
+    nanos: u128,
+}
+
+// A refusal as an error of this program.
+fn refused<T>(fault: NodeFault) -> Result<T> {
+    bail!("refused {} {}", fault.code(), fault.name())
+}
+
+// A device of so many pages for a node.
+fn paged(alloc: Global, pages: u32) -> Result<Box<MemDevice>> {
+    device(alloc, pages, NODE_PAGE_SIZE)
+}
+
+// Two references to one page in turn of so many, a little apart.
+fn two_in_turn(i: u32, pages: u32, replica: ReplicaId) -> [Reference; 2] {
+    let page = scattered(u64::from(i), u64::from(pages));
+    twice(page, replica, [u64::from(i), u64::from(i) + 7])
+}
+
+// Two references to each page, by replica 1.
+fn references(alloc: Global, pages: u32) -> Result<Vec<Reference>> {
+    let replica = replica(1)?;
+    let mut batch = Vec::with_capacity(alloc, 2 * pages as usize)?;
+    for i in 0..pages {
+        for reference in two_in_turn(i, pages, replica) {
+            batch.push(reference)?;
+        }
+    }
+    Ok(batch)
+}
+
+// A reference to a page of each of so many buckets, at a time.
+fn in_buckets(
+    alloc: Global,
+    replica: ReplicaId,
+    buckets: u32,
+    time: u64,
+) -> Result<Vec<Reference>> {
+    let mut batch = Vec::with_capacity(alloc, buckets as usize)?;
+    for no in 0..buckets {
+        let page = PageId { dev: 0, no };
+        let stamp = Stamp { time, replica };
+        batch.push(Reference { page, stamp })?;
+    }
+    Ok(batch)
+}
+
+fn absorbed(node: &mut Node, batch: &[Reference]) -> Result<()>
+    requires { ⟦<Node as Shown>⟧.is_fit node.old }
+    ensures { ⟦<Node as Shown>⟧.is_fit node.new }
+{
+    match node.absorb(batch) {
+        Ok(()) => Ok(()),
+        Err(fault) => refused(fault),
+    }
+}
+
+// The bytes of a node's sums.
+fn offered(alloc: Global, node: &mut Node) -> Result<Vec<u8>>
+    requires { ⟦<Node as Shown>⟧.is_fit node.old }
+    ensures { ⟦<Node as Shown>⟧.is_fit node.new }
+{
+    match node.offer() {
+        Ok(frame) => Ok(encode(alloc, &frame)?),
+        Err(fault) => refused(fault),
+    }
+}
+
+// The bytes of each of the frames.
+fn encoded(alloc: Global, frames: &[Frame]) -> Result<Vec<Vec<u8>>> {
+    let mut all = Vec::with_capacity(alloc, frames.len())?;
+    for frame in frames {
+        all.push(encode(alloc, frame)?)?;
+    }
+    Ok(all)
+}
+
+// What a node answers to the bytes of a frame.
+fn answered(alloc: Global, node: &mut Node, bytes: &[u8]) -> Result<Vec<Vec<u8>>>
+    requires { ⟦<Node as Shown>⟧.is_fit node.old }
+    ensures { ⟦<Node as Shown>⟧.is_fit node.new }
+{
+    let Ok(frame) = decode(alloc, bytes) else {
+        bail!("the bytes are of a frame")
+    };
+    match node.receive(frame) {
+        Ok(answers) => encoded(alloc, answers.as_slice()),
+        Err(fault) => refused(fault),
+    }
+}
+
+// What a node answers to all of these, one after the other.
+fn answers(alloc: Global, node: &mut Node, sent: &[Vec<u8>]) -> Result<Vec<Vec<u8>>>
+    requires { ⟦<Node as Shown>⟧.is_fit node.old }
+    ensures { ⟦<Node as Shown>⟧.is_fit node.new }
+{
+    let mut all = Vec::new(alloc);
+    for bytes in sent {
+        all.append(&mut answered(alloc, node, bytes)?)?;
+    }
+    Ok(all)
+}
+
+fn length_of(sent: &[Vec<u8>]) -> u64 {
+    let mut bytes = 0u64;
+    for frame in sent {
+        bytes = bytes.wrapping_add(frame.len() as u64);
+    }
+    bytes
+}
+
+// A round: the first offers its sums, and all that is answered comes to whom it answers. Gives how many bytes went.
+fn round(alloc: Global, first: &mut Node, second: &mut Node) -> Result<u64>
+    requires first { ⟦<Node as Shown>⟧.is_fit first.old }
+    requires second { ⟦<Node as Shown>⟧.is_fit second.old }
+    ensures first { ⟦<Node as Shown>⟧.is_fit first.new }
+    ensures second { ⟦<Node as Shown>⟧.is_fit second.new }
+{
+    let sums = offered(alloc, first)?;
+    let entries_and_wish = answered(alloc, second, &sums)?;
+    let wanted = answers(alloc, first, &entries_and_wish)?;
+    let _none = answers(alloc, second, &wanted)?;
+    let sent = length_of(&entries_and_wish).wrapping_add(length_of(&wanted));
+    Ok(sent.wrapping_add(sums.len() as u64))
+}
+
+// So many rounds. Before each the first hears of pages in so many buckets.
+fn rounds_of(
+    alloc: Global,
+    first: &mut Node,
+    second: &mut Node,
+    buckets: u32,
+    rounds: u32,
+) -> Result<u64>
+    requires first { ⟦<Node as Shown>⟧.is_fit first.old }
+    requires second { ⟦<Node as Shown>⟧.is_fit second.old }
+    ensures first { ⟦<Node as Shown>⟧.is_fit first.new }
+    ensures second { ⟦<Node as Shown>⟧.is_fit second.new }
+{
+    let replica = first.id();
+    let mut sent = 0u64;
+    for i in 0..rounds {
+        let time = (1u64 << 40).wrapping_add(u64::from(i));
+        absorbed(first, &in_buckets(alloc, replica, buckets, time)?)?;
+        sent = sent.wrapping_add(round(alloc, first, second)?);
+    }
+    Ok(sent)
+}
+
+fn last_time(hist: PageHist) -> u64 {
+    match hist {
+        PageHist::Once(last) => last.time,
+        PageHist::Twice(two) => two.last().time,
+    }
+}
+
+// A sum over all entries, so that what was made is seen.
+fn sum_of(history: &History) -> u64 {
+    let mut sum = 0u64;
+    for entry in history.iter() {
+        sum = added(sum, u64::from(entry.page.no)).wrapping_add(last_time(entry.hist));
+    }
+    sum
+}
+
+fn gossiped(
+    clock: &impl Clock,
+    alloc: Global,
+    first: &mut Node,
+    second: &mut Node,
+    buckets: u32,
+    rounds: u32,
+) -> Result<Made>
+    requires first { ⟦<Node as Shown>⟧.is_fit first.old }
+    requires second { ⟦<Node as Shown>⟧.is_fit second.old }
+{
+    let start = Instant::now(clock)?;
+    let sent = rounds_of(alloc, first, second, buckets, rounds)?;
+    let nanos = start.elapsed(clock)?.as_nanos();
+    if sum_of(first.history()) != sum_of(second.history()) {
+        bail!("the histories differ")
+    }
+    let sum = sum_of(second.history()).wrapping_add(sent);
+    Ok(Made { sum, nanos })
+}
+
+// A node of the number, over this device, that was told of so many pages.
+fn told(
+    alloc: Global,
+    number: u16,
+    frames: usize,
+    device: Box<dyn PageDevice + Send>,
+    pages: u32,
+) -> Result<Node>
+    ensures { IfOk result (λ node. ⟦<Node as Shown>⟧.is_fit node) }
+{
+    let mut node = node_over(alloc, number, frames, device)?;
+    absorbed(&mut node, &references(alloc, pages)?)?;
+    Ok(node)
+}
+
+fn rounds_over(
+    clock: &impl Clock,
+    alloc: Global,
+    pages: u32,
+    buckets: u32,
+    rounds: u32,
+) -> Result<Made> {
+    let mut first = told(alloc, 1, 1, paged(alloc, pages)?, pages)?;
+    let mut second = told(alloc, 2, 1, paged(alloc, pages)?, pages)?;
+    gossiped(clock, alloc, &mut first, &mut second, buckets, rounds)
+}
+
+// So many offers of a node that hears of a page in each of so many buckets before each.
+fn offers_of(
+    clock: &impl Clock,
+    alloc: Global,
+    node: &mut Node,
+    buckets: u32,
+    offers: u32,
+) -> Result<Made>
+    requires { ⟦<Node as Shown>⟧.is_fit node.old }
+    ensures { ⟦<Node as Shown>⟧.is_fit node.new }
+{
+    let replica = node.id();
+    let mut sum = 0u64;
+    let mut nanos = 0u128;
+    for i in 0..offers {
+        let time = (1u64 << 40).wrapping_add(u64::from(i));
+        absorbed(node, &in_buckets(alloc, replica, buckets, time)?)?;
+        let start = Instant::now(clock)?;
+        let bytes = offered(alloc, node)?;
+        nanos = nanos.wrapping_add(start.elapsed(clock)?.as_nanos());
+        sum = added_bytes(sum, &bytes);
+    }
+    Ok(Made { sum, nanos })
+}
+
+fn offers_over(
+    clock: &impl Clock,
+    alloc: Global,
+    pages: u32,
+    buckets: u32,
+    offers: u32,
+) -> Result<Made> {
+    let mut node = told(alloc, 1, 1, paged(alloc, pages)?, pages)?;
+    // The first takes all sums.
+    let _first = offered(alloc, &mut node)?;
+    offers_of(clock, alloc, &mut node, buckets, offers)
+}
+
+// So many steps of a node's warm-up, and a sum over the pages that came in, in their order.
+fn warm_steps(node: &mut Node, steps: u32) -> Result<u64>
+    requires { ⟦<Node as Shown>⟧.is_fit node.old }
+    ensures { ⟦<Node as Shown>⟧.is_fit node.new }
+{
+    let mut sum = 0u64;
+    for _ in 0..steps {
+        match node.warm_step() {
+            Ok(Some(page)) => {
+                sum = added(sum, u64::from(page.no));
+            }
+            Ok(None) => return Ok(sum),
+            Err(fault) => return refused(fault),
+        }
+    }
+    Ok(sum)
+}
+
+fn warmed(clock: &impl Clock, alloc: Global, pages: u32, steps: u32) -> Result<Made> {
+    let mut node = told(alloc, 1, WARMED, paged(alloc, pages)?, pages)?;
+    let start = Instant::now(clock)?;
+    let sum = warm_steps(&mut node, steps)?;
+    let nanos = start.elapsed(clock)?.as_nanos();
+    Ok(Made { sum, nanos })
+}
+
+// A node is told of so many pages, a batch at a time, so that nothing but its history takes much room.
+fn remember(node: &mut Node, pages: u32) -> Result<()>
+    requires { ⟦<Node as Shown>⟧.is_fit node.old }
+    ensures { ⟦<Node as Shown>⟧.is_fit node.new }
+{
+    let replica = node.id();
+    for i in 0..pages {
+        absorbed(node, &two_in_turn(i, pages, replica))?;
+    }
+    Ok(())
+}
+
+fn remembered(clock: &impl Clock, alloc: Global, pages: u32) -> Result<Made> {
+    let mut node = node_over(alloc, 1, 1, paged(alloc, 1)?)?;
+    let start = Instant::now(clock)?;
+    remember(&mut node, pages)?;
+    let nanos = start.elapsed(clock)?.as_nanos();
+    let sum = sum_of(node.history());
+    Ok(Made { sum, nanos })
+}
+
+// What is measured.
+#[derive(Clone, Copy)]
+enum Case {
+    Round {
+        pages: u32,
+        buckets: u32,
+        rounds: u32,
+    },
+    Offer {
+        pages: u32,
+        buckets: u32,
+        offers: u32,
+    },
+    Warm {
+        pages: u32,
+        steps: u32,
+    },
+    History {
+        pages: u32,
+    },
+}
+
+fn measured(clock: &impl Clock, alloc: Global, case: Case) -> Result<Made> {
+    match case {
+        Case::Round {
+            pages,
+            buckets,
+            rounds,
+        } => rounds_over(clock, alloc, pages, buckets, rounds),
+        Case::Offer {
+            pages,
+            buckets,
+            offers,
+        } => offers_over(clock, alloc, pages, buckets, offers),
+        Case::Warm { pages, steps } => warmed(clock, alloc, pages, steps),
+        Case::History { pages } => remembered(clock, alloc, pages),
+    }
+}
+
+fn case_of(words: &[String]) -> Result<Case> {
+    let mut numbers = [0u32; 3];
+    for (i, number) in numbers.iter_mut().enumerate() {
+        if let Some(word) = words.get(i + 1) {
+            *number = word.parse::<u32>().context("a number")?;
+        }
+    }
+    let [pages, second, third] = numbers;
+    match words.first().map(|word| word.as_str()) {
+        Some("round") => Ok(Case::Round {
+            pages,
+            buckets: second.min(64),
+            rounds: third,
+        }),
+        Some("offer") => Ok(Case::Offer {
+            pages,
+            buckets: second.min(64),
+            offers: third,
+        }),
+        Some("warm") => Ok(Case::Warm {
+            pages,
+            steps: second,
+        }),
+        Some("history") => Ok(Case::History { pages }),
+        _ => bail!("round, offer, warm or history"),
+    }
+}
+
+const SMALL: [(&str, Case); 6] = [
+    (
+        "round, 1 bucket",
+        Case::Round {
+            pages: 1_000,
+            buckets: 1,
+            rounds: 1,
+        },
+    ),
+    (
+        "round, 10 buckets",
+        Case::Round {
+            pages: 1_000,
+            buckets: 10,
+            rounds: 1,
+        },
+    ),
+    (
+        "round, 64 buckets",
+        Case::Round {
+            pages: 1_000,
+            buckets: 64,
+            rounds: 1,
+        },
+    ),
+    (
+        "two offers",
+        Case::Offer {
+            pages: 1_000,
+            buckets: 1,
+            offers: 2,
+        },
+    ),
+    (
+        "warm-up",
+        Case::Warm {
+            pages: 1_000,
+            steps: 64,
+        },
+    ),
+    ("history", Case::History { pages: 1_000 }),
+];
+
+pub(crate) fn play(rt: &HostRuntime, words: &[String]) -> Result<()> {
+    if words.is_empty() {
+        for (what, case) in SMALL {
+            let made = measured(rt, rt.alloc(), case)?;
+            println!(rt; "{}: {}", what, made.sum)?;
+        }
+        return Ok(());
+    }
+    let made = measured(rt, rt.alloc(), case_of(words)?)?;
+    println!(rt; "{}", made.sum)?;
+    println!(rt; "{} ns", made.nanos)?;
+    Ok(())
+}

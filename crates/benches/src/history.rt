@@ -1,0 +1,202 @@
+//! Measures histories: absorbing, joining, copying, looking up and going over.
+//!
+//! With no word it runs with 1,000 pages and prints what came out. With a number of pages it
+//! runs with so many, and prints the nanoseconds too, for `bench/history/measure.py`.
+use crate::parts::{added, asked_number, next, replica, scattered};
+use anyhow::{Result, bail};
+use std::alloc::Global;
+use std::time::{Duration, Instant};
+use warm_history::{Entry, History, PageHist};
+use warm_stamps::{PageId, Reference, ReplicaId, Stamp};
+
+// How many references are absorbed at once, and how many pages a small join brings.
+const BATCH: usize = 64;
+
+const SMALL: usize = 1_000;
+
+// As many ranks as there are pages have about so many powers of two among them.
+fn octaves_of(pages: u64) -> u64 {
+    if pages < 5_000 {
+        10
+    } else if pages < 50_000 {
+        14
+    } else if pages < 500_000 {
+        17
+    } else {
+        20
+    }
+}
+
+// A page by Zipf's law: each power of two of ranks is as likely as the next.
+fn zipf_page(drawn: u64, pages: u64) -> PageId {
+    let octave = (drawn >> 32).checked_rem(octaves_of(pages)).unwrap_or(0);
+    let below = 1u64 << octave.min(20);
+    let rank = below.wrapping_add((drawn >> 40).checked_rem(below).unwrap_or(0));
+    scattered(rank, pages)
+}
+
+// As many references as pages, drawn by Zipf's law.
+fn drawn_references(alloc: Global, pages: u64, replica: ReplicaId) -> Result<Vec<Reference>> {
+    let mut all = Vec::new(alloc);
+    let mut drawn = 1u64;
+    for time in 0..pages {
+        drawn = next(drawn);
+        let page = zipf_page(drawn, pages);
+        let stamp = Stamp { time, replica };
+        if all.push(Reference { page, stamp }).is_err() {
+            bail!("no memory")
+        }
+    }
+    Ok(all)
+}
+
+// A reference to each page, in a scattered order.
+fn each_page(alloc: Global, pages: u64, replica: ReplicaId) -> Result<Vec<Reference>> {
+    let mut all = Vec::new(alloc);
+    for time in 0..pages {
+        let page = scattered(time, pages);
+        let stamp = Stamp { time, replica };
+        if all.push(Reference { page, stamp }).is_err() {
+            bail!("no memory")
+        }
+    }
+    Ok(all)
+}
+
+// Entries of drawn pages.
+fn some_entries(alloc: Global, pages: u64, replica: ReplicaId) -> Result<Vec<Entry>> {
+    let mut all = Vec::new(alloc);
+    let mut drawn = 7u64;
+    for time in 0..SMALL as u64 {
+        drawn = next(drawn);
+        let page = scattered(drawn >> 33, pages);
+        let hist = PageHist::Once(Stamp { time, replica });
+        if all.push(Entry { page, hist }).is_err() {
+            bail!("no memory")
+        }
+    }
+    Ok(all)
+}
+
+fn absorb_all(history: &mut History, all: &[Reference]) -> Result<()> {
+    for batch in all.chunks(BATCH) {
+        history.absorb(batch)?;
+    }
+    Ok(())
+}
+
+// A sum over all entries, so that what was made is seen.
+fn sum_of(history: &History) -> u64 {
+    let mut sum = 0u64;
+    for entry in history.iter() {
+        sum = added(sum, u64::from(entry.page.no));
+        if let PageHist::Once(stamp) = entry.hist {
+            sum = sum.wrapping_add(stamp.time);
+        }
+    }
+    sum
+}
+
+// How many of the pages drawn are there, of twice as many.
+fn found_in(history: &History, pages: u64) -> u64 {
+    let mut drawn = 11u64;
+    let mut found = 0u64;
+    for _ in 0..pages {
+        drawn = next(drawn);
+        let asked = scattered(drawn >> 33, pages);
+        if let Some(_) = history.get(asked) {
+            found = found.wrapping_add(1);
+        }
+    }
+    found
+}
+
+// Prints what was made, and in a timed run how long it took.
+fn told(rt: &HostRuntime, timed: bool, what: &str, made: u64, spent: Duration) -> Result<()> {
+    println!(rt; "{what}: {made}")?;
+    if timed {
+        println!(rt; "{what}: {} ns", spent.as_nanos())?;
+    }
+    Ok(())
+}
+
+// Absorbs references in batches into a new history.
+fn absorb_timed(
+    rt: &HostRuntime,
+    timed: bool,
+    what: &str,
+    references: &[Reference],
+) -> Result<History> {
+    let mut seen = History::new(rt.alloc());
+    let start = Instant::now(rt)?;
+    absorb_all(&mut seen, references)?;
+    let spent = start.elapsed(rt)?;
+    told(rt, timed, what, sum_of(&seen), spent)?;
+    Ok(seen)
+}
+
+// The history of all pages.
+fn absorb(rt: &HostRuntime, timed: bool, pages: u64, replica: ReplicaId) -> Result<History> {
+    let drawn = drawn_references(rt.alloc(), pages, replica)?;
+    absorb_timed(rt, timed, "absorb by Zipf's law", &drawn)?;
+    let each = each_page(rt.alloc(), pages, replica)?;
+    absorb_timed(rt, timed, "absorb new pages", &each)
+}
+
+fn join_some(rt: &HostRuntime, timed: bool, large: &mut History, more: &[Entry]) -> Result<()> {
+    let start = Instant::now(rt)?;
+    large.join_entries(more)?;
+    let spent = start.elapsed(rt)?;
+    told(rt, timed, "join 1,000 entries", sum_of(large), spent)
+}
+
+fn copy(rt: &HostRuntime, timed: bool, large: &History) -> Result<History> {
+    let start = Instant::now(rt)?;
+    let copied = large.copy()?;
+    let spent = start.elapsed(rt)?;
+    told(rt, timed, "copy", sum_of(&copied), spent)?;
+    Ok(copied)
+}
+
+fn join(
+    rt: &HostRuntime,
+    timed: bool,
+    what: &str,
+    history: &mut History,
+    other: &History,
+) -> Result<()> {
+    let start = Instant::now(rt)?;
+    history.join(other)?;
+    let spent = start.elapsed(rt)?;
+    told(rt, timed, what, sum_of(history), spent)
+}
+
+fn join_all(rt: &HostRuntime, timed: bool, large: &mut History) -> Result<()> {
+    let copied = copy(rt, timed, large)?;
+    join(rt, timed, "join all, known", large, &copied)?;
+    let mut empty = History::new(rt.alloc());
+    join(rt, timed, "join all, new", &mut empty, large)
+}
+
+fn look_up(rt: &HostRuntime, timed: bool, large: &History, pages: u64) -> Result<()> {
+    let start = Instant::now(rt)?;
+    let sum = sum_of(large);
+    let spent = start.elapsed(rt)?;
+    told(rt, timed, "go over all", sum, spent)?;
+    let start = Instant::now(rt)?;
+    let found = found_in(large, pages);
+    let spent = start.elapsed(rt)?;
+    told(rt, timed, "look up", found, spent)
+}
+
+pub(crate) fn play(rt: &HostRuntime, words: &[String]) -> Result<()> {
+    let asked = asked_number(words, "the number of pages")?;
+    let timed = asked.is_some();
+    let pages = asked.unwrap_or(1_000);
+    let replica = replica(1)?;
+    let more = some_entries(rt.alloc(), pages, replica)?;
+    let mut large = absorb(rt, timed, pages, replica)?;
+    join_some(rt, timed, &mut large, &more)?;
+    join_all(rt, timed, &mut large)?;
+    look_up(rt, timed, &large, pages)
+}

@@ -1,0 +1,88 @@
+//! What several benches are made of: numbers that are asked for or drawn, sums over what came out, pages, references, devices in
+//! memory and nodes.
+ghost use Rattle.std.specs.Prelude.{IfOk};
+
+use anyhow::{Context, Result, bail};
+use std::alloc::Global;
+use warm_devices::{MemDevice, PageDevice};
+use warm_gossip::{Node, Shown};
+use warm_pool::Pool;
+use warm_stamps::{PageId, Reference, ReplicaId, Stamp};
+
+// How many bytes the pages of a node have.
+pub(crate) const NODE_PAGE_SIZE: usize = 16;
+
+// The number that is the only word, where there is one.
+pub(crate) fn asked_number(words: &[String], what: &'static str) -> Result<Option<u64>> {
+    match words {
+        [] => Ok(None),
+        [word] => Ok(Some(word.parse::<u64>().context(what)?)),
+        _ => bail!("one number is taken: {what}"),
+    }
+}
+
+// The next number of a linear congruential generator (Knuth's MMIX).
+pub(crate) fn next(drawn: u64) -> u64 {
+    drawn
+        .wrapping_mul(6_364_136_223_846_793_005)
+        .wrapping_add(1_442_695_040_888_963_407)
+}
+
+// A sum over what came out, with one more item. Sums are printed, so that what was made is seen, and tell orders apart.
+pub(crate) fn added(sum: u64, item: u64) -> u64 {
+    sum.wrapping_mul(31).wrapping_add(item)
+}
+
+pub(crate) fn added_bytes(mut sum: u64, bytes: &[u8]) -> u64 {
+    for byte in bytes {
+        sum = added(sum, u64::from(*byte));
+    }
+    sum
+}
+
+// One page in turn of so many, so that all come, in a scattered order.
+pub(crate) fn scattered(i: u64, pages: u64) -> PageId {
+    let no = i.wrapping_mul(7919).checked_rem(pages).unwrap_or(0);
+    PageId {
+        dev: 0,
+        no: u32::try_from(no).unwrap_or(0),
+    }
+}
+
+pub(crate) fn replica(number: u16) -> Result<ReplicaId> {
+    match ReplicaId::new(number) {
+        Ok(replica) => Ok(replica),
+        Err(_) => bail!("no replica has the number {number}"),
+    }
+}
+
+// Two references to a page, at these times.
+pub(crate) fn twice(page: PageId, replica: ReplicaId, times: [u64; 2]) -> [Reference; 2] {
+    times.map(|time| Reference {
+        page,
+        stamp: Stamp { time, replica },
+    })
+}
+
+pub(crate) fn device(alloc: Global, pages: u32, page_size: usize) -> Result<Box<MemDevice>> {
+    let memory = MemDevice::new(alloc, pages, page_size)?;
+    Ok(Box::new(alloc, memory)?)
+}
+
+// A node that was told nothing, with a pool of so many frames over the device.
+pub(crate) fn node_over(
+    alloc: Global,
+    number: u16,
+    frames: usize,
+    device: Box<dyn PageDevice + Send>,
+) -> Result<Node>
+    ensures { IfOk result (λ node. ⟦<Node as Shown>⟧.is_fit node) }
+{
+    let id = replica(number)?;
+    let mut devices = Vec::with_capacity(alloc, 1)?;
+    devices.push_reserved(device);
+    match Pool::new(alloc, frames, NODE_PAGE_SIZE, devices) {
+        Ok(pool) => Ok(Node::new(alloc, id, pool)),
+        Err(unmade) => bail!("no pool: {}", unmade.fault.name()),
+    }
+}

@@ -1,0 +1,439 @@
+//! Measures a pool of pages of 64 bytes over devices in memory, for `bench/pool/measure.py`. Each call prints nanoseconds.
+//!
+//! - With a number: so many visits of resident pages, drawn evenly from 65,536 frames. A visit pins a page, reads eight bytes of
+//!   it, writes eight, and unpins it.
+//! - `misses` and a number: so many pins of pages that are in no frame of 65,536, each read and unpinned. Of each page two
+//!   references are known, and the page that leaves stands anywhere among the frames.
+//! - `empty` or `retire`, a number of frames and a word: a pool of that many frames is emptied, or the device of the pages that it
+//!   holds is retired (where all frames hold one, that of the lower half).
+//!
+//! With no word a little of each is done.
+ghost use Rattle.std.specs.Prelude.{IfOk};
+ghost use Rattle.warm_pool.specs.State.{IsPool, IsRankedByAll, RankedBy};
+
+use crate::parts::{added, device, next, replica, twice};
+use anyhow::{Context, Result, bail};
+use std::alloc::Global;
+use std::time::{Clock, Duration, Instant};
+use warm_devices::{MemDevice, PageDevice};
+use warm_history::History;
+use warm_pool::{Pool, PoolFault, Pooled};
+use warm_stamps::PageId;
+
+const FRAMES: u32 = 65_536;
+
+const PAGE_SIZE: usize = 64;
+
+// Some times the memory of a core's own cache.
+const BESIDE: usize = 32 << 20;
+
+/// Which frames hold a page as a pool is emptied.
+#[derive(Clone, Copy)]
+enum Held {
+    None,
+    LowerHalf,
+    UpperHalf,
+    All,
+}
+
+impl Held {
+    // The device that is retired.
+    fn device(self) -> u16 {
+        match self {
+            Held::UpperHalf => 1,
+            Held::None | Held::LowerHalf | Held::All => 0,
+        }
+    }
+
+    fn from_word(word: &str) -> Result<Held> {
+        match word {
+            "none" => Ok(Held::None),
+            "lower" => Ok(Held::LowerHalf),
+            "upper" => Ok(Held::UpperHalf),
+            "all" => Ok(Held::All),
+            _ => bail!("which frames hold a page: none, lower, upper or all"),
+        }
+    }
+}
+
+// Pins, reads, writes and unpins a page, and gives the first byte that was read.
+fn visit(pool: &mut Pool, history: &History, no: u32, byte: u8) -> Result<u8, PoolFault>
+    requires pool { IsPool (⟦<Pool as Pooled>⟧.state pool.old) }
+    requires ranked { RankedBy (⟦<Pool as Pooled>⟧.state pool.old) history.now }
+    ensures pool { IsPool (⟦<Pool as Pooled>⟧.state pool.new) }
+    ensures ranked { RankedBy (⟦<Pool as Pooled>⟧.state pool.new) history.now }
+{
+    let slot = pool.pin(PageId { dev: 0, no }, history)?;
+    let mut bytes = [0u8; 8];
+    pool.read(slot, 0, &mut bytes)?;
+    pool.write(slot, 0, &[byte; 8])?;
+    pool.unpin(slot);
+    Ok(bytes[0])
+}
+
+// Brings so many pages of a device into frames.
+fn load_pages(pool: &mut Pool, history: &History, dev: u16, pages: u32) -> Result<(), PoolFault>
+    requires pool { IsPool (⟦<Pool as Pooled>⟧.state pool.old) }
+    requires ranked { RankedBy (⟦<Pool as Pooled>⟧.state pool.old) history.now }
+    ensures pool { IsPool (⟦<Pool as Pooled>⟧.state pool.new) }
+    ensures ranked { RankedBy (⟦<Pool as Pooled>⟧.state pool.new) history.now }
+{
+    for no in 0..pages {
+        pool.load(PageId { dev, no }, history)?;
+    }
+    Ok(())
+}
+
+// Pins, reads and unpins a page, and gives the first byte that was read.
+fn look_at(pool: &mut Pool, history: &History, no: u32) -> Result<u8, PoolFault>
+    requires pool { IsPool (⟦<Pool as Pooled>⟧.state pool.old) }
+    requires ranked { RankedBy (⟦<Pool as Pooled>⟧.state pool.old) history.now }
+    ensures pool { IsPool (⟦<Pool as Pooled>⟧.state pool.new) }
+    ensures ranked { RankedBy (⟦<Pool as Pooled>⟧.state pool.new) history.now }
+{
+    let slot = pool.pin(PageId { dev: 0, no }, history)?;
+    let mut bytes = [0u8; 8];
+    pool.read(slot, 0, &mut bytes)?;
+    pool.unpin(slot);
+    Ok(bytes[0])
+}
+
+// Brings the first pages of device 0 into all frames, so that pages that follow one another stand far apart.
+fn load_apart(pool: &mut Pool, history: &History) -> Result<(), PoolFault>
+    requires pool { IsPool (⟦<Pool as Pooled>⟧.state pool.old) }
+    requires ranked { RankedBy (⟦<Pool as Pooled>⟧.state pool.old) history.now }
+    ensures pool { IsPool (⟦<Pool as Pooled>⟧.state pool.new) }
+    ensures ranked { RankedBy (⟦<Pool as Pooled>⟧.state pool.new) history.now }
+{
+    for frame in 0..FRAMES {
+        let no = frame * 40_503 % FRAMES;
+        pool.load(PageId { dev: 0, no }, history)?;
+    }
+    Ok(())
+}
+
+// Looks at the pages from the number of frames up to another, and gives the sum of what was read. Where the first pages are in
+// the frames and ranks rise, none of these is, and the page of the least number leaves.
+fn miss_often(pool: &mut Pool, history: &History, pages: u32) -> Result<u64, PoolFault>
+    requires pool { IsPool (⟦<Pool as Pooled>⟧.state pool.old) }
+    requires ranked { RankedBy (⟦<Pool as Pooled>⟧.state pool.old) history.now }
+    ensures pool { IsPool (⟦<Pool as Pooled>⟧.state pool.new) }
+    ensures ranked { RankedBy (⟦<Pool as Pooled>⟧.state pool.new) history.now }
+{
+    let mut sum = 0u64;
+    for no in FRAMES..pages {
+        let byte = look_at(pool, history, no)?;
+        sum = added(sum, u64::from(byte));
+    }
+    Ok(sum)
+}
+
+// Makes so many visits to pages that a linear congruence draws, and gives the sum of what was read.
+fn visit_often(pool: &mut Pool, history: &History, visits: u64) -> Result<u64, PoolFault>
+    requires pool { IsPool (⟦<Pool as Pooled>⟧.state pool.old) }
+    requires ranked { RankedBy (⟦<Pool as Pooled>⟧.state pool.old) history.now }
+    ensures pool { IsPool (⟦<Pool as Pooled>⟧.state pool.new) }
+    ensures ranked { RankedBy (⟦<Pool as Pooled>⟧.state pool.new) history.now }
+{
+    let mut drawn = 1u64;
+    let mut sum = 0u64;
+    for _ in 0..visits {
+        drawn = next(drawn);
+        let no = (drawn >> 48) as u32;
+        let byte = visit(pool, history, no, ((drawn >> 40) % 256) as u8)?;
+        sum = added(sum, u64::from(byte));
+    }
+    Ok(sum)
+}
+
+// A device of so many pages for a pool.
+fn paged(alloc: Global, pages: u32) -> Result<Box<MemDevice>> {
+    device(alloc, pages, PAGE_SIZE)
+}
+
+// A pool over two devices, without a page.
+fn opened(
+    alloc: Global,
+    frames: u32,
+    first: Box<dyn PageDevice + Send>,
+    second: Box<dyn PageDevice + Send>,
+) -> Result<Pool>
+    ensures pool { IfOk result (λ pool. IsPool (⟦<Pool as Pooled>⟧.state pool)) }
+    ensures ranked { IfOk result (λ pool. IsRankedByAll (⟦<Pool as Pooled>⟧.state pool)) }
+{
+    let Ok(mut devices) = Vec::with_capacity(alloc, 2) else {
+        bail!("no memory")
+    };
+    devices.push_reserved(first);
+    devices.push_reserved(second);
+    match Pool::new(alloc, frames as usize, PAGE_SIZE, devices) {
+        Ok(pool) => Ok(pool),
+        Err(_) => bail!("no pool"),
+    }
+}
+
+// The sum of what so many visits read, and the time that they took.
+fn visits_of(
+    clock: &impl Clock,
+    pool: &mut Pool,
+    history: &History,
+    visits: u64,
+) -> Result<(u64, Duration)>
+    requires pool { IsPool (⟦<Pool as Pooled>⟧.state pool.old) }
+    requires ranked { RankedBy (⟦<Pool as Pooled>⟧.state pool.old) history.now }
+{
+    let Ok(()) = load_pages(pool, history, 0, FRAMES) else {
+        bail!("a page was not loaded")
+    };
+    let start = Instant::now(clock)?;
+    let Ok(sum) = visit_often(pool, history, visits) else {
+        bail!("a visit was refused")
+    };
+    Ok((sum, start.elapsed(clock)?))
+}
+
+fn visited(clock: &impl Clock, alloc: Global, visits: u64) -> Result<(u64, Duration)> {
+    let (first, second) = (paged(alloc, FRAMES)?, paged(alloc, FRAMES)?);
+    let mut pool = opened(alloc, FRAMES, first, second)?;
+    let history = History::new(alloc);
+    visits_of(clock, &mut pool, &history, visits)
+}
+
+// What is known of so many pages: of each two references, so that ranks rise with the pages.
+fn references(alloc: Global, pages: u32) -> Result<History> {
+    let replica = replica(1)?;
+    let mut history = History::new(alloc);
+    for no in 0..pages {
+        let page = PageId { dev: 0, no };
+        let first = u64::from(no);
+        let seen = twice(page, replica, [first, first + (1 << 32)]);
+        if history.absorb(&seen).is_err() {
+            bail!("no memory")
+        }
+    }
+    Ok(history)
+}
+
+// Fills a page of a device with the lowest byte of its number, where it has such a page.
+fn fill(device: &mut MemDevice, no: u32) -> Result<()> {
+    if no >= device.pages() || device.page_size() != PAGE_SIZE {
+        bail!("there is no such page")
+    }
+    match device.write(no, &[(no % 256) as u8; PAGE_SIZE]) {
+        Ok(()) => Ok(()),
+        Err(_) => bail!("a page was not written"),
+    }
+}
+
+// A device of so many pages, all of them filled.
+fn numbered(alloc: Global, pages: u32) -> Result<Box<MemDevice>> {
+    let mut device = paged(alloc, pages)?;
+    for no in 0..pages {
+        fill(&mut device, no)?;
+    }
+    Ok(device)
+}
+
+// The sum of what so many pins with misses read, and the time that they took.
+fn misses_of(
+    clock: &impl Clock,
+    pool: &mut Pool,
+    history: &History,
+    pages: u32,
+) -> Result<(u64, Duration)>
+    requires pool { IsPool (⟦<Pool as Pooled>⟧.state pool.old) }
+    requires ranked { RankedBy (⟦<Pool as Pooled>⟧.state pool.old) history.now }
+{
+    let Ok(()) = load_apart(pool, history) else {
+        bail!("a page was not loaded")
+    };
+    let start = Instant::now(clock)?;
+    let Ok(sum) = miss_often(pool, history, pages) else {
+        bail!("a pin was refused")
+    };
+    Ok((sum, start.elapsed(clock)?))
+}
+
+fn missed(clock: &impl Clock, alloc: Global, misses: u32) -> Result<(u64, Duration)> {
+    let pages = FRAMES.saturating_add(misses);
+    let (first, second) = (numbered(alloc, pages)?, paged(alloc, 1)?);
+    let mut pool = opened(alloc, FRAMES, first, second)?;
+    let history = references(alloc, pages)?;
+    misses_of(clock, &mut pool, &history, pages)
+}
+
+/// What is timed.
+#[derive(Clone, Copy)]
+enum Call {
+    Empty,
+    Retire,
+}
+
+impl Call {
+    fn from_word(word: &str) -> Result<Call> {
+        match word {
+            "empty" => Ok(Call::Empty),
+            "retire" => Ok(Call::Retire),
+            _ => bail!("what is timed: empty or retire"),
+        }
+    }
+}
+
+// Brings a page of device 0 into each frame of the lower half, and one of device 1 into each of the upper half, as far as these
+// are to hold pages or to have held some.
+fn load_halves(pool: &mut Pool, history: &History, half: u32, held: Held) -> Result<()>
+    requires pool { IsPool (⟦<Pool as Pooled>⟧.state pool.old) }
+    requires ranked { RankedBy (⟦<Pool as Pooled>⟧.state pool.old) history.now }
+    ensures { IsPool (⟦<Pool as Pooled>⟧.state pool.new) }
+{
+    let (lower, upper) = match held {
+        Held::None => (0, 0),
+        Held::LowerHalf => (half, 0),
+        Held::UpperHalf | Held::All => (half, half),
+    };
+    if load_pages(pool, history, 0, lower).is_err() {
+        bail!("a page was not loaded")
+    }
+    if load_pages(pool, history, 1, upper).is_err() {
+        bail!("a page was not loaded")
+    }
+    Ok(())
+}
+
+// Takes every page out of its frame.
+fn empty(pool: &mut Pool) -> Result<()>
+    requires { IsPool (⟦<Pool as Pooled>⟧.state pool.old) }
+    ensures { IsPool (⟦<Pool as Pooled>⟧.state pool.new) }
+{
+    match pool.empty() {
+        Ok(()) => Ok(()),
+        Err(_) => bail!("the pool was not emptied"),
+    }
+}
+
+// Takes the pages of a device out of their frames, as another device takes its place.
+fn retire(pool: &mut Pool, dev: u16, another: Box<dyn PageDevice + Send>) -> Result<()>
+    requires { IsPool (⟦<Pool as Pooled>⟧.state pool.old) }
+    ensures { IsPool (⟦<Pool as Pooled>⟧.state pool.new) }
+{
+    match pool.retire(dev, another) {
+        Ok(()) => Ok(()),
+        Err(_) => bail!("the device was not retired"),
+    }
+}
+
+// Writes to so much memory that nothing of a pool is left in a core's own cache: a pool that restarts was not gone over just before, and
+// a small one would else be found there, and a large one not.
+fn write_beside(alloc: Global) -> Result<()> {
+    let beside = Vec::from_elem(alloc, 1u8, BESIDE)?;
+    if beside.first() != Some(&1) {
+        bail!("a byte has another value")
+    }
+    Ok(())
+}
+
+// The time of a call on a pool that is about to be emptied, or whose device is about to be retired.
+fn call_timed(
+    clock: &impl Clock,
+    alloc: Global,
+    pool: &mut Pool,
+    held: Held,
+    call: Call,
+    another: Box<dyn PageDevice + Send>,
+) -> Result<Duration>
+    requires { IsPool (⟦<Pool as Pooled>⟧.state pool.old) }
+{
+    write_beside(alloc)?;
+    let start = Instant::now(clock)?;
+    match call {
+        Call::Empty => empty(pool)?,
+        Call::Retire => retire(pool, held.device(), another)?,
+    }
+    Ok(start.elapsed(clock)?)
+}
+
+// The same, once the frames hold the pages that they are to hold. Where the upper half alone is to hold pages, those of the lower
+// half leave as another device takes the place of theirs.
+fn filled_and_timed(
+    clock: &impl Clock,
+    alloc: Global,
+    pool: &mut Pool,
+    held: Held,
+    call: Call,
+    another: Box<dyn PageDevice + Send>,
+    yet_another: Box<dyn PageDevice + Send>,
+) -> Result<Duration>
+    requires { IsPool (⟦<Pool as Pooled>⟧.state pool.old) }
+{
+    if let Held::UpperHalf = held {
+        retire(pool, 0, another)?;
+    }
+    call_timed(clock, alloc, pool, held, call, yet_another)
+}
+
+// The time of a call on a pool of which these frames hold a page.
+fn timed(
+    clock: &impl Clock,
+    alloc: Global,
+    frames: u32,
+    held: Held,
+    call: Call,
+) -> Result<Duration> {
+    let half = frames / 2;
+    let (first, second) = (paged(alloc, half)?, paged(alloc, half)?);
+    let (another, yet_another) = (paged(alloc, half)?, paged(alloc, half)?);
+    let mut pool = opened(alloc, frames, first, second)?;
+    load_halves(&mut pool, &History::new(alloc), half, held)?;
+    filled_and_timed(clock, alloc, &mut pool, held, call, another, yet_another)
+}
+
+// Does a little of all that is measured.
+fn play_small(rt: &HostRuntime) -> Result<()> {
+    let (sum, _) = visited(rt, rt.alloc(), 1_000)?;
+    println!(rt; "1000 visits: {}", sum)?;
+    let (sum, _) = missed(rt, rt.alloc(), 1_000)?;
+    println!(rt; "1000 misses: {}", sum)?;
+    timed(rt, rt.alloc(), 4_096, Held::UpperHalf, Call::Empty)?;
+    println!(rt; "4096 frames emptied")?;
+    timed(rt, rt.alloc(), 4_096, Held::UpperHalf, Call::Retire)?;
+    println!(rt; "the device of 2048 frames retired")?;
+    Ok(())
+}
+
+// Says what visits or misses read, and the time that they took.
+fn tell(rt: &HostRuntime, count: u64, what: &str, read: (u64, Duration)) -> Result<()> {
+    println!(rt; "{} {}: {}", count, what, read.0)?;
+    println!(rt; "{} ns", read.1.as_nanos())?;
+    Ok(())
+}
+
+fn play_visits(rt: &HostRuntime, visits: &str) -> Result<()> {
+    let visits = visits.parse::<u64>().context("the number of visits")?;
+    let read = visited(rt, rt.alloc(), visits)?;
+    tell(rt, visits, "visits", read)
+}
+
+fn play_misses(rt: &HostRuntime, misses: &str) -> Result<()> {
+    let misses = misses.parse::<u32>().context("the number of misses")?;
+    let read = missed(rt, rt.alloc(), misses)?;
+    tell(rt, u64::from(misses), "misses", read)
+}
+
+fn play_call(rt: &HostRuntime, call: Call, frames: &str, held: &str) -> Result<()> {
+    let frames = frames.parse::<u32>().context("the number of frames")?;
+    let spent = timed(rt, rt.alloc(), frames, Held::from_word(held)?, call)?;
+    println!(rt; "{} ns", spent.as_nanos())?;
+    Ok(())
+}
+
+pub(crate) fn play(rt: &HostRuntime, words: &[String]) -> Result<()> {
+    match words {
+        [] => play_small(rt),
+        [visits] => play_visits(rt, visits),
+        [word, misses] if word.as_str() == "misses" => play_misses(rt, misses),
+        [call, frames, held] => play_call(rt, Call::from_word(call)?, frames, held),
+        _ => bail!(
+            "pool takes visits, misses and a number, or a call, frames and what holds a page"
+        ),
+    }
+}

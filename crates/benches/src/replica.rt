@@ -1,0 +1,243 @@
+//! Counts references that workers bring to one replica: each touches and flushes, in a thread of its own.
+//!
+//! With no word 1, 2 and 4 workers bring 1,000 references each, to 100 pages, and the sum of the hottest pages is
+//! printed. With three numbers, `WORKERS REFERENCES PAGES`, 1, 2 or 4 workers bring so many each to so many pages, and
+//! the nanoseconds are printed too, for `bench/replica/measure.py`.
+ghost use Rattle.std.specs.Prelude.{◌≡◌};
+ghost use Rattle.std.specs.Thread.{IsSend, IsSync};
+
+use crate::parts::{NODE_PAGE_SIZE, added, device, next, node_over};
+use anyhow::{Context, Result, bail};
+use std::alloc::Global;
+use std::io::Print;
+use std::sync::Wait;
+use std::thread::{Threads, join};
+use std::time::{Clock, Duration, Instant};
+use warm_devices::PageDevice;
+use warm_gossip::{Call, Reply};
+use warm_refbuffer::{Full, RefBuffer};
+use warm_replica::{Absorbing, Worker};
+use warm_stamps::{PageId, Reference, ReplicaId, Stamp};
+use warm_turn::{Pass, Turn};
+
+// How many references a worker's buffer holds.
+const BUFFER: usize = 64;
+
+// How many of the hottest pages are summed.
+const HOTTEST: usize = 1_000;
+
+// How many pages the device has that the node stands over.
+const DEVICE_PAGES: u32 = 8;
+
+// The reference of a worker's `i`th turn, to the page drawn.
+fn reference(replica: ReplicaId, worker: u64, i: u64, drawn: u64, pages: u64) -> Reference {
+    let no = (drawn >> 33).checked_rem(pages).unwrap_or(0);
+    let no = u32::try_from(no).unwrap_or(0);
+    let time = i.wrapping_mul(4).wrapping_add(worker);
+    Reference {
+        page: PageId { dev: 0, no },
+        stamp: Stamp { time, replica },
+    }
+}
+
+// Touches so many references to so many pages, and flushes whenever the buffer is full and at the end. Says how many flushes were
+// refused.
+fn bring<M: Absorbing, R: Wait>(
+    rt: &R,
+    alloc: Global,
+    replica: &Turn<M>,
+    worker: &mut Worker<M>,
+    id: ReplicaId,
+    number: u64,
+    references: u64,
+    pages: u64,
+) -> u64
+    requires { worker.old.pass.table ≡ replica.now.table }
+    ensures { worker.new.pass.table ≡ replica.now.table }
+{
+    let mut refused = 0u64;
+    let mut drawn = number;
+    for i in 0..references {
+        drawn = next(drawn);
+        let touched = reference(id, number, i, drawn, pages);
+        if let Err(Full(back)) = worker.touch(touched) {
+            if worker.flush(rt, alloc, replica).is_err() {
+                refused = refused.wrapping_add(1);
+            }
+            let _ = worker.touch(back);
+        }
+    }
+    if worker.flush(rt, alloc, replica).is_err() {
+        refused = refused.wrapping_add(1);
+    }
+    refused
+}
+
+// A worker of this number brings its references. A buffer that there is no memory for is counted as a refused flush.
+fn bring_one<M: Absorbing, R: Wait + AllocGlobal>(
+    rt: &R,
+    replica: &Turn<M>,
+    pass: Pass<M>,
+    number: u64,
+    references: u64,
+    pages: u64,
+) -> (Pass<M>, u64)
+    requires { pass.table ≡ replica.now.table }
+    ensures { result.0.table ≡ replica.now.table }
+{
+    let alloc = rt.alloc();
+    let (Ok(id), Ok(buffer)) = (ReplicaId::new(1), RefBuffer::new(alloc, BUFFER)) else {
+        return (pass, 1);
+    };
+    let mut worker = Worker::new(pass, buffer);
+    let refused = bring(
+        rt,
+        alloc,
+        replica,
+        &mut worker,
+        id,
+        number,
+        references,
+        pages,
+    );
+    let (pass, _) = worker.into_parts();
+    (pass, refused)
+}
+
+// Two workers, of this number and the next, each in a thread of its own.
+fn bring_two<M: Absorbing + Send, R: Threads + Wait + AllocGlobal + Sync>(
+    rt: &R,
+    replica: &Turn<M>,
+    mut pass: Pass<M>,
+    number: u64,
+    references: u64,
+    pages: u64,
+) -> (Pass<M>, u64)
+    requires { pass.table ≡ replica.now.table }
+    ensures { result.0.table ≡ replica.now.table }
+{
+    let other = replica.pass(&mut pass);
+    let ((mut pass, first), (other, second)) = join(
+        rt,
+        move || -> (Pass<M>, u64)
+            requires { pass.table ≡ replica.now.table }
+            ensures { result.0.table ≡ replica.entry.now.table }
+        { bring_one(rt, replica, pass, number, references, pages) },
+        move || -> (Pass<M>, u64)
+            requires { other.table ≡ replica.now.table }
+            ensures { result.0.table ≡ replica.entry.now.table }
+        {
+            bring_one(
+                rt,
+                replica,
+                other,
+                number.wrapping_add(1),
+                references,
+                pages,
+            )
+        },
+    );
+    replica.end(&mut pass, other);
+    (pass, first.wrapping_add(second))
+}
+
+// Four workers.
+fn bring_four<M: Absorbing + Send, R: Threads + Wait + AllocGlobal + Sync>(
+    rt: &R,
+    replica: &Turn<M>,
+    mut pass: Pass<M>,
+    references: u64,
+    pages: u64,
+) -> (Pass<M>, u64)
+    requires { pass.table ≡ replica.now.table }
+    ensures { result.0.table ≡ replica.now.table }
+{
+    let other = replica.pass(&mut pass);
+    let ((mut pass, first), (other, second)) = join(
+        rt,
+        move || -> (Pass<M>, u64)
+            requires { IsSend M.row × IsSync R.row × (pass.table ≡ replica.now.table) }
+            ensures { result.0.table ≡ replica.entry.now.table }
+        { bring_two(rt, replica, pass, 0, references, pages) },
+        move || -> (Pass<M>, u64)
+            requires { IsSend M.row × IsSync R.row × (other.table ≡ replica.now.table) }
+            ensures { result.0.table ≡ replica.entry.now.table }
+        { bring_two(rt, replica, other, 2, references, pages) },
+    );
+    replica.end(&mut pass, other);
+    (pass, first.wrapping_add(second))
+}
+
+// A sum over the numbers of the hottest pages, so that what was brought is seen.
+fn sum_of(pages: &[PageId]) -> u64 {
+    let mut sum = 0u64;
+    for page in pages {
+        sum = added(sum, u64::from(page.no));
+    }
+    sum
+}
+
+// The sum of the hottest pages after so many workers brought their references, and how long they took.
+fn brought<M: Absorbing + Drop + Send, R: Threads + Wait + Clock + AllocGlobal + Sync>(
+    rt: &R,
+    machine: M,
+    workers: u64,
+    references: u64,
+    pages: u64,
+) -> Result<(u64, Duration)>
+    requires { M.is_fit machine }
+{
+    let start = Instant::now(rt)?;
+    let Ok((replica, pass)) = Turn::new(rt.alloc(), machine) else {
+        bail!("no memory for a turn")
+    };
+    let (mut pass, refused) = match workers {
+        1 => bring_one(rt, &replica, pass, 0, references, pages),
+        2 => bring_two(rt, &replica, pass, 0, references, pages),
+        _ => bring_four(rt, &replica, pass, references, pages),
+    };
+    let spent = start.elapsed(rt)?;
+    let hottest = replica.call(rt, &mut pass, Call::WarmList(HOTTEST));
+    match (refused, hottest) {
+        (0, Ok(Reply::Pages(pages))) => Ok((sum_of(pages.as_slice()), spent)),
+        _ => bail!("a call was refused"),
+    }
+}
+
+// One run, with a node of two frames over this device.
+fn run<R: Threads + Wait + Clock + AllocGlobal + Sync>(
+    rt: &R,
+    device: Box<dyn PageDevice + Send>,
+    workers: u64,
+    references: u64,
+    pages: u64,
+) -> Result<(u64, Duration)> {
+    let node = node_over(rt.alloc(), 1, 2, device)?;
+    brought(rt, node, workers, references, pages)
+}
+
+pub(crate) fn play<R: Threads + Wait + Clock + Print + AllocGlobal + Sync>(
+    rt: &R,
+    words: &[String],
+) -> Result<()> {
+    let alloc = rt.alloc();
+    let mut asked = Vec::new(alloc);
+    for word in words {
+        asked.push(word.parse::<u64>().context("a number")?)?;
+    }
+    if let [workers, references, pages] = asked.as_slice() {
+        let device = device(alloc, DEVICE_PAGES, NODE_PAGE_SIZE)?;
+        let (sum, spent) = run(rt, device, *workers, *references, *pages)?;
+        println!(rt; "workers {workers}: {sum} in {} ns", spent.as_nanos())?;
+        return Ok(());
+    }
+    if !asked.is_empty() {
+        bail!("replica takes three numbers, of workers, of the references of each and of pages")
+    }
+    for workers in [1, 2, 4] {
+        let device = device(alloc, DEVICE_PAGES, NODE_PAGE_SIZE)?;
+        let (sum, _) = run(rt, device, workers, 1_000, 100)?;
+        println!(rt; "workers {workers}: {sum}")?;
+    }
+    Ok(())
+}
