@@ -28,7 +28,7 @@ impl Note {
     /// Where the room for it is refused.
     pub fn blank(
         alloc: Global,
-        pages: u32,
+        pages: u64,
         page_size: usize,
     ) -> Result<Arc<Note, Global>, AllocError> {
         let mut all = Vec::with_capacity(alloc, pages as usize)?;
@@ -56,7 +56,7 @@ impl Note {
     }
 
     /// Whether the drop found just these bytes in page `no`.
-    pub fn has(&self, no: u32, bytes: &[u8]) -> bool {
+    pub fn has(&self, no: u64, bytes: &[u8]) -> bool {
         let Some(page) = self.pages.get(no as usize) else {
             return false;
         };
@@ -72,7 +72,7 @@ impl Note {
         self.found.store(found, Ordering::SeqCst);
     }
 
-    pub(crate) fn put_page(&self, no: u32, bytes: &[u8]) {
+    pub(crate) fn put_page(&self, no: u64, bytes: &[u8]) {
         let Some(page) = self.pages.get(no as usize) else {
             return;
         };

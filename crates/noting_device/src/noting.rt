@@ -38,7 +38,7 @@ impl PageDevice for Noting {
 
     ghost state = { noting_state };
 
-    fn pages(&self) -> u32 {
+    fn pages(&self) -> u64 {
         self.inner.pages()
     }
 
@@ -54,11 +54,11 @@ impl PageDevice for Noting {
         self.inner.failures()
     }
 
-    fn read(&mut self, no: u32, into: &mut [u8]) -> Result<(), DeviceFault> {
+    fn read(&mut self, no: u64, into: &mut [u8]) -> Result<(), DeviceFault> {
         self.inner.read(no, into)
     }
 
-    fn write(&mut self, no: u32, bytes: &[u8]) -> Result<(), DeviceFault> {
+    fn write(&mut self, no: u64, bytes: &[u8]) -> Result<(), DeviceFault> {
         self.inner.write(no, bytes)
     }
 

@@ -14,7 +14,7 @@ pub trait PageDevice: Drop {
     ghost state: { Self → DeviceState };
 
     /// How many pages there are. They are numbered from 0.
-    fn pages(&self) -> u32
+    fn pages(&self) -> u64
         ensures { result ≡ (state self.now).pages };
 
     /// The size of a page, in bytes.
@@ -33,7 +33,7 @@ pub trait PageDevice: Drop {
     ///
     /// # Errors
     /// `Read` alone. Contents and what waits are then as before; `into` may hold any bytes.
-    fn read(&mut self, no: u32, into: &mut [u8]) -> Result<(), DeviceFault>
+    fn read(&mut self, no: u64, into: &mut [u8]) -> Result<(), DeviceFault>
         requires known { no < (state self.old).pages }
         requires sized { length into.old ≡ (state self.old).page_size }
         ensures shape { SameShape (state self.old) (state self.new) }
@@ -47,7 +47,7 @@ pub trait PageDevice: Drop {
     ///
     /// # Errors
     /// `Write` alone. The page may then hold any bytes; all others are as before, and something waits.
-    fn write(&mut self, no: u32, bytes: &[u8]) -> Result<(), DeviceFault>
+    fn write(&mut self, no: u64, bytes: &[u8]) -> Result<(), DeviceFault>
         requires known { no < (state self.old).pages }
         requires sized { length bytes.now ≡ (state self.old).page_size }
         ensures shape { SameShape (state self.old) (state self.new) }

@@ -13,7 +13,7 @@ use std::os::unix::fs::FileExt;
 /// The device is safe whatever the file gives, and it counts its failures. Of the bytes it claims nothing.
 pub struct FileDevice {
     file: File,
-    pages: u32,
+    pages: u64,
     page_size: usize,
     waiting: bool,
     failures: u64,
@@ -51,7 +51,7 @@ impl FileDevice {
     pub fn open<R: Files<File = File>>(
         files: &R,
         path: &str,
-        pages: u32,
+        pages: u64,
         page_size: usize,
     ) -> Result<FileDevice, OpenFault>
         ensures opened { IfOk result (λ device. file_state device ≡ record {
@@ -65,7 +65,7 @@ impl FileDevice {
         }) }
         ensures too_large { 2 ^ 63 ≤ pages * page_size → result ≡ Err Open }
     {
-        let len = match u64::from(pages).checked_mul(page_size as u64) {
+        let len = match pages.checked_mul(page_size as u64) {
             Some(len) if len < 1 << 63 => len,
             _ => return Err(OpenFault::Open),
         };
@@ -85,7 +85,7 @@ impl PageDevice for FileDevice {
 
     ghost state = { file_state };
 
-    fn pages(&self) -> u32 {
+    fn pages(&self) -> u64 {
         self.pages
     }
 
@@ -101,8 +101,8 @@ impl PageDevice for FileDevice {
         self.failures
     }
 
-    fn read(&mut self, no: u32, into: &mut [u8]) -> Result<(), DeviceFault> {
-        let at = u64::from(no) * self.page_size as u64;
+    fn read(&mut self, no: u64, into: &mut [u8]) -> Result<(), DeviceFault> {
+        let at = no * self.page_size as u64;
         if self.file.read_exact_at(into, at).is_err() {
             self.failures = self.failures.saturating_add(1);
             return Err(DeviceFault::Read);
@@ -110,9 +110,9 @@ impl PageDevice for FileDevice {
         Ok(())
     }
 
-    fn write(&mut self, no: u32, bytes: &[u8]) -> Result<(), DeviceFault> {
+    fn write(&mut self, no: u64, bytes: &[u8]) -> Result<(), DeviceFault> {
         self.waiting = true;
-        let at = u64::from(no) * self.page_size as u64;
+        let at = no * self.page_size as u64;
         if self.file.write_all_at(bytes, at).is_err() {
             self.failures = self.failures.saturating_add(1);
             return Err(DeviceFault::Write);

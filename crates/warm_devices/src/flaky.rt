@@ -64,7 +64,7 @@ impl<D: PageDevice> PageDevice for Flaky<D> {
 
     ghost state = { flaky_state };
 
-    fn pages(&self) -> u32 {
+    fn pages(&self) -> u64 {
         self.inner.pages()
     }
 
@@ -80,7 +80,7 @@ impl<D: PageDevice> PageDevice for Flaky<D> {
         self.inner.failures().saturating_add(self.failed)
     }
 
-    fn read(&mut self, no: u32, into: &mut [u8]) -> Result<(), DeviceFault>
+    fn read(&mut self, no: u64, into: &mut [u8]) -> Result<(), DeviceFault>
         requires known { no < (flaky_state self.old).pages }
         requires sized { length into.old ≡ (flaky_state self.old).page_size }
         ensures shape { SameShape (flaky_state self.old) (flaky_state self.new) }
@@ -98,7 +98,7 @@ impl<D: PageDevice> PageDevice for Flaky<D> {
         self.inner.read(no, into)
     }
 
-    fn write(&mut self, no: u32, bytes: &[u8]) -> Result<(), DeviceFault>
+    fn write(&mut self, no: u64, bytes: &[u8]) -> Result<(), DeviceFault>
         requires known { no < (flaky_state self.old).pages }
         requires sized { length bytes.now ≡ (flaky_state self.old).page_size }
         ensures shape { SameShape (flaky_state self.old) (flaky_state self.new) }

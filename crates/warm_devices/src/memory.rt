@@ -14,7 +14,7 @@ use std::ops::Range;
 pub struct MemDevice {
     // One page after the other.
     bytes: Vec<u8>,
-    pages: u32,
+    pages: u64,
     page_size: usize,
     waiting: bool,
 }
@@ -44,7 +44,7 @@ impl MemDevice {
     ///
     /// # Errors
     /// Where the room for the pages is refused, or is more than any memory.
-    pub fn new(alloc: Global, pages: u32, page_size: usize) -> Result<MemDevice, AllocError>
+    pub fn new(alloc: Global, pages: u64, page_size: usize) -> Result<MemDevice, AllocError>
         ensures { IfOk result (λ device. device ≡ zeroed pages page_size) }
     {
         let bytes = zeros(alloc, pages as usize, page_size)?;
@@ -68,7 +68,7 @@ fn zeros(alloc: Global, pages: usize, page_size: usize) -> Result<Vec<u8>, Alloc
 }
 
 // Where a page stands among the bytes of all.
-fn place_of(no: u32, page_size: usize) -> Range<usize>
+fn place_of(no: u64, page_size: usize) -> Range<usize>
     requires { (no + 1) * page_size < 2 ^ 64 }
     ensures start { result.start ≡ no * page_size }
     ensures end { result.end ≡ no * page_size + page_size }
@@ -90,7 +90,7 @@ fn write_at(all: &mut Vec<u8>, place: Range<usize>, bytes: &[u8])
 impl PageDevice for MemDevice {
     ghost state = { λ device. device };
 
-    fn pages(&self) -> u32 {
+    fn pages(&self) -> u64 {
         self.pages
     }
 
@@ -108,13 +108,13 @@ impl PageDevice for MemDevice {
         0
     }
 
-    fn read(&mut self, no: u32, into: &mut [u8]) -> Result<(), DeviceFault> {
+    fn read(&mut self, no: u64, into: &mut [u8]) -> Result<(), DeviceFault> {
         let place = place_of(no, self.page_size);
         into.copy_from_slice(&self.bytes[place]);
         Ok(())
     }
 
-    fn write(&mut self, no: u32, bytes: &[u8]) -> Result<(), DeviceFault> {
+    fn write(&mut self, no: u64, bytes: &[u8]) -> Result<(), DeviceFault> {
         let place = place_of(no, self.page_size);
         write_at(&mut self.bytes, place, bytes);
         self.waiting = true;

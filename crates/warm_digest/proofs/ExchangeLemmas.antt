@@ -1,5 +1,5 @@
 -- An exchange of the buckets that differ, page by page.
-use Rattle.std.proofs.Common.{◌≡◌, ◌≢◌, ◌⊎◌, inl, inr, ℕ, zero, suc, ◌<◌, ◌≤◌, Bool, true, false, cond, List, [], ◌∷◌, ◌++◌, map, filter, Some, None, Result, Ok, Err, refl, sym, ap, subst, ◌∙◌, arith, Decides}
+use Rattle.std.proofs.Common.{◌≡◌, ◌≢◌, ◌⊎◌, inl, inr, ℕ, zero, suc, ◌<◌, ◌≤◌, Bool, true, false, cond, List, [], ◌∷◌, ◌++◌, map, filter, max, Some, None, Result, Ok, Err, refl, sym, ap, subst, ◌∙◌, arith, Decides}
 use Rattle.std.specs.Prelude.{◌==◌}
 use Rattle.std.specs.List.{AllByRecursion}
 use Rattle.std.specs.Int.{bit_at}
@@ -18,15 +18,20 @@ use Rattle.warm_stamps.proofs.DistinctLemmas.{is_equal, all_filter}
 use Rattle.warm_stamps.proofs.StampLemmas.{page_order}
 use Rattle.warm_history.specs.declared.hist.Entry.{Entry}
 use Rattle.warm_history.specs.Carried.{bucket_entries}
-use Rattle.warm_history.specs.ReferenceSets.{ReferenceSet, ◌∪◌}
-use Rattle.warm_history.specs.Histories.{HistoryView, entries_of, references_to, first_two, hist, history}
-use Rattle.warm_history.proofs.JoinLemmas.{hist_repeat}
-use Rattle.warm_history.proofs.HistoryLemmas.{get, joined, hist-append, get-history, same_hists}
+use Rattle.warm_history.specs.ReferenceSets.{ReferenceSet, recent, references, ◌∪◌}
+use Rattle.warm_history.specs.ListHistories.{references_to, first_two, hist}
+use Rattle.warm_history.specs.ListHistories as list
+use Rattle.warm_history.specs.Histories.{HistoryView, entries_of, history}
+use Rattle.warm_history.proofs.KeptLemmas.{kept_alike}
+use Rattle.warm_history.proofs.ListJoinLemmas.{hist_repeat}
+use Rattle.warm_history.proofs.ListHistoryLemmas.{get, joined, hist-append, get-history}
+use Rattle.warm_history.proofs.CarriedLemmas.{references-those}
+use Rattle.warm_history.proofs.HistoryLemmas.{entries-history, references-both, same_hists}
 use Rattle.warm_frames.specs.declared.fault.FrameFault.{FrameFault}
 use Rattle.warm_frames.specs.declared.fault.FrameFault.TheVariants.{BadLength}
 use Rattle.warm_frames.specs.Entries.{IsEntry, entries_bytes}
-use Rattle.warm_frames.specs.Reading.{entry_at}
-use Rattle.warm_frames.proofs.FieldLemmas.{entry_again}
+use Rattle.warm_frames.specs.Reading.{written_entry_at}
+use Rattle.warm_frames.proofs.FieldLemmas.{written_again, nothing_written}
 use Rattle.warm_digest.specs.Exchange.{bucket_text, IsCollision, IsDifferenceOf, in_buckets, Fits, ExchangeJoins}
 
 -- ---- a text is of one list of entries
@@ -42,9 +47,8 @@ abbrev rest_read : Read → List ℕ
 rest_read (Ok x) = x.1
 rest_read (Err f) = []
 
-nothing_there : entry_at None [] ≡ Err BadLength
-unfolding entry_at
-nothing_there = refl
+nothing_there : written_entry_at None [] ≡ Err BadLength
+nothing_there = nothing_written
 
 abbrev ok : Entry → List ℕ → Read
 ok e rest = Ok (e, rest)
@@ -55,12 +59,12 @@ never_both e rest read is none = absurd (cc)
 same_entries : (es fs : List Entry) → AllByRecursion IsEntry es → AllByRecursion IsEntry fs → entries_bytes es ≡ entries_bytes fs → es ≡ fs
 same_entries [] [] some others same = refl
 same_entries [] (f ∷ fs) some others same =
-    never_both f (entries_bytes fs) (entry_at None []) (ap (entry_at None) same ∙ entry_again None f (entries_bytes fs) others.0 refl) nothing_there
+    never_both f (entries_bytes fs) (written_entry_at None []) (ap (written_entry_at None) same ∙ written_again None f (entries_bytes fs) others.0 refl) nothing_there
 same_entries (e ∷ es) [] some others same =
-    never_both e (entries_bytes es) (entry_at None []) (ap (entry_at None) (sym same) ∙ entry_again None e (entries_bytes es) some.0 refl) nothing_there
+    never_both e (entries_bytes es) (written_entry_at None []) (ap (written_entry_at None) (sym same) ∙ written_again None e (entries_bytes es) some.0 refl) nothing_there
 same_entries (e ∷ es) (f ∷ fs) some others same =
     let both : ok e (entries_bytes es) ≡ ok f (entries_bytes fs) =
-    sym (entry_again None e (entries_bytes es) some.0 refl) ∙ ap (entry_at None) same ∙ entry_again None f (entries_bytes fs) others.0 refl in
+    sym (written_again None e (entries_bytes es) some.0 refl) ∙ ap (written_entry_at None) same ∙ written_again None f (entries_bytes fs) others.0 refl in
     let first : e ≡ f = ap (λ (r : Read). first_read r e) both in
     let later : es ≡ fs = same_entries es fs some.1 others.1 (ap rest_read both) in
     cc
@@ -83,13 +87,15 @@ get-bucket bucket (e ∷ es) p is = cases (page_bucket e.page == bucket) refl (i
     cases false away false other rest = rest
 
 -- lists that agree on a bucket say the same of each of its pages
-same_bucket_same_hist : (S T : ReferenceSet) (p : PageId) → bucket_entries (page_bucket p) (entries_of (history S)) ≡ bucket_entries (page_bucket p) (entries_of (history T)) → hist S p ≡ hist T p
+same_bucket_same_hist : (S T : ReferenceSet) (p : PageId) → bucket_entries (page_bucket p) (entries_of (history S)) ≡ bucket_entries (page_bucket p) (entries_of (history T)) → hist (references S) p ≡ hist (references T) p
 same_bucket_same_hist S T p same =
-    sym (get-history S p)
-    ∙ sym (get-bucket (page_bucket p) (history S) p refl)
+    sym (get-history (references S) p)
+    ∙ ap (λ es. get es p) (sym (entries-history S))
+    ∙ sym (get-bucket (page_bucket p) (entries_of (history S)) p refl)
     ∙ ap (λ es. get es p) same
-    ∙ get-bucket (page_bucket p) (history T) p refl
-    ∙ get-history T p
+    ∙ get-bucket (page_bucket p) (entries_of (history T)) p refl
+    ∙ ap (λ es. get es p) (entries-history T)
+    ∙ get-history (references T) p
 
 -- ---- references to pages that pass a test
 
@@ -184,15 +190,23 @@ low_bucket : (p : PageId) → page_bucket p < BUCKETS
 low_bucket p = omega arith
 
 exchanged : (S T : ReferenceSet) (mask : ℕ) → Fits (history S) → Fits (history T) → ((bucket : ℕ) → bucket < BUCKETS → Settled (history S) (history T) mask bucket) → history (T ∪ in_buckets mask S) ≡ history (T ∪ S)
-exchanged S T mask fits others settled = same_hists (T ∪ in_buckets mask S) (T ∪ S) (λ p.
-    hist_exchanged (λ q. bit_at mask (page_bucket q) == 1) S T p (λ clear. elim (settled (page_bucket p) (low_bucket p)) [
+exchanged S T mask fits others settled =
+    let test : PageId → Bool = λ q. bit_at mask (page_bucket q) == 1 in
+    let m = max T.horizon S.horizon in
+    let alike : (p : PageId) → hist (references T ++ kept test (references S)) p ≡ hist (references T ++ references S) p = λ p.
+    hist_exchanged test (references S) (references T) p (λ clear. elim (settled (page_bucket p) (low_bucket p)) [
       | inl set ↦ (let never : true ≡ false = sym (eq-eqb (bit_at mask (page_bucket p)) 1 set) ∙ clear in absurd (cc))
       | inr text ↦ same_bucket_same_hist S T p (same_entries
           (bucket_entries (page_bucket p) (entries_of (history S))) (bucket_entries (page_bucket p) (entries_of (history T)))
-          (all_filter IsEntry (λ e. page_bucket e.page == page_bucket p) (history S) fits)
-          (all_filter IsEntry (λ e. page_bucket e.page == page_bucket p) (history T) others)
+          (all_filter IsEntry (λ e. page_bucket e.page == page_bucket p) (entries_of (history S)) fits)
+          (all_filter IsEntry (λ e. page_bucket e.page == page_bucket p) (entries_of (history T)) others)
           text)
-    ]))
+    ]) in
+    same_hists (T ∪ in_buckets mask S) (T ∪ S) refl (λ p.
+    ap (λ rs. hist rs p) (references-both T (in_buckets mask S))
+    ∙ ap (λ rs. hist (recent m (references T ++ rs)) p) (references-those (λ r. test r.page) S)
+    ∙ kept_alike m (references T ++ kept test (references S)) (references T ++ references S) alike p
+    ∙ ap (λ rs. hist rs p) (sym (references-both T S)))
 
 pub exchange_joins : ExchangeJoins
 exchange_joins S T mask fits others differ = elim (all_settled (history S) (history T) mask BUCKETS (omega arith) differ) [

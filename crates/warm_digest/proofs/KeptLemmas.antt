@@ -1,8 +1,9 @@
 -- Buckets that a history's growth does not touch, and sums that are renewed bucket by bucket.
-use Rattle.std.proofs.Common.{◌≡◌, ◌≢◌, inl, inr, ℕ, suc, ◌<◌, ◌*◌, ◌%◌, ◌^◌, Bool, true, false, cond, List, [], ◌∷◌, ◌++◌, length, None, refl, sym, ap, subst, ◌∙◌, arith}
+use Rattle.std.proofs.Common.{◌≡◌, ◌≢◌, inl, inr, ℕ, suc, ◌<◌, ◌≤◌, ◌*◌, ◌%◌, ◌^◌, Bool, true, false, cond, List, [], ◌∷◌, ◌++◌, length, max, None, refl, sym, ap, subst, ◌∙◌, arith}
 use Rattle.std.specs.Prelude.{◌==◌, bit_or}
 use Rattle.std.specs.Int.{bit_at, w64}
 use Rattle.std.specs.List.{All}
+use Rattle.std.specs.Option.{option_and_then}
 use Rattle.std.specs.Ordering.{is_eq, on, flip_args}
 use Rattle.std.proofs.lemmas.Bool.{cases_eq, eqb-true}
 use Rattle.std.proofs.lemmas.List.{append-nil}
@@ -18,14 +19,19 @@ use Rattle.warm_stamps.proofs.DistinctLemmas.{is_equal, rising_filter}
 use Rattle.warm_stamps.proofs.StampLemmas.{page_order}
 use Rattle.warm_history.specs.declared.hist.Entry.{Entry}
 use Rattle.warm_history.specs.Carried.{bucket_entries}
-use Rattle.warm_history.specs.ReferenceSets.{these, ◌∪◌}
-use Rattle.warm_history.specs.Histories.{HistoryView, IsHistory, entries_of, first_two, history, holding, entry_refs, refs}
-use Rattle.warm_history.proofs.HistoryLemmas.{IsHistory-history, get, get-history, hist-refs, same_gets, told, told-append, told_entry}
+use Rattle.warm_history.specs.KeptEntries.{kept_hist}
+use Rattle.warm_history.specs.ReferenceSets.{ReferenceSet, recent, references, these, ◌∪◌}
+use Rattle.warm_history.specs.ListHistories as list
+use Rattle.warm_history.specs.ListHistories.{PagesRise}
+use Rattle.warm_history.specs.Histories.{HistoryView, IsHistory, entries_of, first_two, history, holding, holding_since, entry_refs, refs}
+use Rattle.warm_history.proofs.KeptLemmas.{hist-kept, kept_refs}
+use Rattle.warm_history.proofs.HistoryLemmas.{entries-history}
+use Rattle.warm_history.proofs.ListHistoryLemmas.{IsHistory-history, get, get-history, hist-refs, same_gets, told, told-append, told_entry}
 use Rattle.warm_frames.specs.Entries.{entries_bytes}
 use Rattle.warm_frames.specs.Sums.{sum_at}
 use Rattle.sha2.specs.Sha256.{sha256}
 use Rattle.warm_digest.specs.BucketSums.{bucket_sum, sums_of}
-use Rattle.warm_digest.specs.KeptSums.{HasSumsOf, SameSumsOutside, IsKept, Marks}
+use Rattle.warm_digest.specs.KeptSums.{HasSumsOf, SameSumsOutside, IsKept, Marks, MarksJoined}
 use Rattle.warm_digest.proofs.ExchangeLemmas.{get-bucket}
 
 -- ---- buckets that are not touched
@@ -44,11 +50,11 @@ get_elsewhere bucket (e ∷ es) p away = cases (page_bucket e.page == bucket) re
     cases false out c there rest = rest
 
 -- lists that say the same of each page of a bucket have the same entries in it
-same_bucket : (bucket : ℕ) (h g : List Entry) → IsHistory h → IsHistory g → ((p : PageId) → page_bucket p ≡ bucket → get h p ≡ get g p) → bucket_entries bucket h ≡ bucket_entries bucket g
+same_bucket : (bucket : ℕ) (h g : List Entry) → PagesRise h → PagesRise g → ((p : PageId) → page_bucket p ≡ bucket → get h p ≡ get g p) → bucket_entries bucket h ≡ bucket_entries bucket g
 same_bucket bucket h g whole_h whole_g alike =
     let by_page = on (λ (e : Entry). e.page) page_cmp in
     let is_in : Entry → Bool = λ e. page_bucket e.page == bucket in
-    same_gets (bucket_entries bucket h) (bucket_entries bucket g) (rising_filter by_page is_in h whole_h.pages_rise) (rising_filter by_page is_in g whole_g.pages_rise) (λ p. elim (cases_eq (page_bucket p) bucket) [
+    same_gets (bucket_entries bucket h) (bucket_entries bucket g) (rising_filter by_page is_in h whole_h) (rising_filter by_page is_in g whole_g) (λ p. elim (cases_eq (page_bucket p) bucket) [
       | inl there ↦ get-bucket bucket h p there ∙ alike p there ∙ sym (get-bucket bucket g p there)
       | inr away ↦ get_elsewhere bucket h p away ∙ sym (get_elsewhere bucket g p away)
     ])
@@ -67,19 +73,30 @@ untold [] p away = refl
 untold (r ∷ T) p away = rw (apart r.page p (away 0 r (omega arith))) (untold T p (λ k d low. away (suc k) d (omega (arith, low))))
 
 -- nor by entries of such pages
-untold_entries : (es : List Entry) (p : PageId) → All (λ e. page_bucket e.page ≢ page_bucket p) es → told (refs (holding es)) p ≡ []
+untold_entries : (es : List Entry) (p : PageId) → All (λ e. page_bucket e.page ≢ page_bucket p) es → told (list.refs es) p ≡ []
 untold_entries [] p away = refl
 untold_entries (e ∷ es) p away =
-    told-append (entry_refs e) (refs (holding es)) p
-    ∙ ap (λ ss. ss ++ told (refs (holding es)) p) (told_entry e.page e.hist p)
+    told-append (entry_refs e) (list.refs es) p
+    ∙ ap (λ ss. ss ++ told (list.refs es) p) (told_entry e.page e.hist p)
     ∙ rw (apart e.page p (away 0 e (omega arith))) (untold_entries es p (λ k d low. away (suc k) d (omega (arith, low))))
 
--- a history that takes in what tells nothing of a bucket's pages has the same entries in the bucket
-untouched : (h : HistoryView) (T : List Reference) (bucket : ℕ) → IsHistory h → ((p : PageId) → page_bucket p ≡ bucket → told T p ≡ []) → bucket_entries bucket (history (refs h ++ T)) ≡ bucket_entries bucket h
-untouched h T bucket whole none = same_bucket bucket (history (refs h ++ T)) h (IsHistory-history (refs h ++ T)) whole (λ p there.
-    get-history (refs h ++ T) p
-    ∙ ap (λ ss. first_two (distinct (flip_args stamp_cmp) ss)) (told-append (refs h) T p ∙ ap (λ ss. told (refs h) p ++ ss) (none p there) ∙ append-nil (told (refs h) p))
-    ∙ hist-refs h whole p)
+-- a history that takes in what tells nothing of a bucket's pages, and no later horizon, has the same entries in the bucket
+untouched : (h : HistoryView) (T : ReferenceSet) (bucket : ℕ) → IsHistory h → T.horizon ≤ h.horizon → ((p : PageId) → page_bucket p ≡ bucket → told T.told p ≡ []) → bucket_entries bucket (entries_of (history (refs h ∪ T))) ≡ bucket_entries bucket (entries_of h)
+untouched h T bucket whole le none =
+    let es = entries_of h in
+    let m = max h.horizon T.horizon in
+    let own : m ≡ h.horizon = omega (arith, le) in
+    let listed : list.IsHistory es = record { pages_rise = whole.pages_rise; stamps_fall = whole.stamps_fall } in
+    let all = references (refs h ∪ T) in
+    ap (bucket_entries bucket) (entries-history (refs h ∪ T))
+    ∙ same_bucket bucket (list.history all) es (IsHistory-history all).pages_rise whole.pages_rise (λ p there.
+    get-history all p
+    ∙ hist-kept m (list.refs es ++ T.told) p
+    ∙ ap (λ ss. option_and_then (kept_hist m) (first_two (distinct (flip_args stamp_cmp) ss))) (told-append (list.refs es) T.told p ∙ ap (λ ss. told (list.refs es) p ++ ss) (none p there) ∙ append-nil (told (list.refs es) p))
+    ∙ sym (hist-kept m (list.refs es) p)
+    ∙ ap (λ k. list.hist (recent k (list.refs es)) p) own
+    ∙ ap (λ rs. list.hist rs p) (kept_refs h.horizon es whole.none_older)
+    ∙ hist-refs es listed p)
 
 abbrev sum_from : List Entry → List ℕ
 sum_from es = sha256 (entries_bytes es)
@@ -88,19 +105,24 @@ sum_from es = sha256 (entries_bytes es)
 pub kept_with_references : (h g : HistoryView) (batch : List Reference) (old new : ℕ) (sums : List (List ℕ)) → IsHistory h → g ≡ history (refs h ∪ these batch)
     → IsKept old (entries_of h) sums → Marks (λ r. r.page) old batch new → IsKept new (entries_of g) sums
 kept_with_references h g batch old new sums whole is kept marks bucket low clear =
-    let same : bucket_entries bucket g ≡ bucket_entries bucket h =
-    ap (bucket_entries bucket) is
-    ∙ untouched h batch bucket whole (λ p there. untold batch p (subst (λ b. All (λ r. page_bucket r.page ≢ b) batch) (sym there) (marks bucket clear).1)) in
+    let same : bucket_entries bucket (entries_of g) ≡ bucket_entries bucket (entries_of h) =
+    ap (λ (k : HistoryView). bucket_entries bucket (entries_of k)) is
+    ∙ untouched h (these batch) bucket whole (omega arith) (λ p there. untold batch p (subst (λ b. All (λ r. page_bucket r.page ≢ b) batch) (sym there) (marks bucket clear).1)) in
     kept bucket low (marks bucket clear).0 ∙ sym (ap sum_from same)
 
 -- and when entries are
-pub kept_with_entries : (h g : HistoryView) (more : List Entry) (old new : ℕ) (sums : List (List ℕ)) → IsHistory h → g ≡ history (refs h ∪ refs (holding more))
-    → IsKept old (entries_of h) sums → Marks (λ e. e.page) old more new → IsKept new (entries_of g) sums
-kept_with_entries h g more old new sums whole is kept marks bucket low clear =
-    let same : bucket_entries bucket g ≡ bucket_entries bucket h =
-    ap (bucket_entries bucket) is
-    ∙ untouched h (refs (holding more)) bucket whole (λ p there. untold_entries more p (subst (λ b. All (λ e. page_bucket e.page ≢ b) more) (sym there) (marks bucket clear).1)) in
-    kept bucket low (marks bucket clear).0 ∙ sym (ap sum_from same)
+pub kept_with_entries : (h g : HistoryView) (horizon : ℕ) (more : List Entry) (old new : ℕ) (sums : List (List ℕ)) → IsHistory h → g ≡ history (refs h ∪ refs (holding_since horizon more))
+    → IsKept old (entries_of h) sums → MarksJoined h.horizon horizon old more new → IsKept new (entries_of g) sums
+kept_with_entries h g horizon more old new sums whole is kept marks bucket low clear =
+    let marked = marks bucket low clear in
+    let same : bucket_entries bucket (entries_of g) ≡ bucket_entries bucket (entries_of h) =
+    ap (λ (k : HistoryView). bucket_entries bucket (entries_of k)) is
+    ∙ untouched h (refs (holding_since horizon more)) bucket whole marked.0 (λ p there. untold_entries more p (subst (λ b. All (λ e. page_bucket e.page ≢ b) more) (sym there) marked.2)) in
+    kept bucket low marked.1 ∙ sym (ap sum_from same)
+
+-- where all bits are set none is clear
+pub all_marked : (own horizon old : ℕ) (more : List Entry) → MarksJoined own horizon old more 18446744073709551615
+all_marked own horizon old more bucket low clear = absurd (omega (arith, clear, bit_at_ones 64 bucket low))
 
 -- ---- renewed sums
 

@@ -1,5 +1,5 @@
 -- Sums that are kept while a history grows, and renewed bucket by bucket.
-use Rattle.std.specs.Prelude.{◌≡◌, ◌≢◌, ℕ, ◌<◌, List}
+use Rattle.std.specs.Prelude.{◌≡◌, ◌≢◌, ℕ, ◌<◌, ◌≤◌, List}
 use Rattle.std.specs.Int.{bit_at}
 use Rattle.std.specs.List.{All}
 use Rattle.warm_stamps.specs.declared.PageId.{PageId}
@@ -24,6 +24,10 @@ IsKept changed h sums = (bucket : ℕ) → bucket < BUCKETS → bit_at changed b
 -- a bucket whose bit is clear now was so before, and is not that of this page
 abbrev pub MarksPage : ℕ → PageId → ℕ → Type 0
 MarksPage old page new = (bucket : ℕ) → bit_at new bucket ≡ 0 → (bit_at old bucket ≡ 0) × (page_bucket page ≢ bucket)
+
+-- the same of entries that came with a horizon; where that is later than the own one, no bit is clear
+abbrev pub MarksJoined : ℕ → ℕ → ℕ → List Entry → ℕ → Type 0
+MarksJoined own horizon old more new = (bucket : ℕ) → bucket < BUCKETS → bit_at new bucket ≡ 0 → (horizon ≤ own) × (bit_at old bucket ≡ 0) × All (λ e. page_bucket e.page ≢ bucket) more
 
 -- the same of a list of items that each have a page
 abbrev pub Marks : {A : Type 0} → (A → PageId) → ℕ → List A → ℕ → Type 0

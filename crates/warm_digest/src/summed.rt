@@ -1,9 +1,9 @@
 //! A history whose bucket sums are kept.
 ghost use Rattle.std.specs.Prelude.{◌≡◌, [], IfOk, OnOk, OnErr};
-ghost use Rattle.warm_history.specs.ReferenceSets.{these, ◌∪◌};
-ghost use Rattle.warm_history.specs.Histories.{entries_of, history, holding, join, refs};
+ghost use Rattle.warm_history.specs.ReferenceSets.{these, since, ◌∪◌};
+ghost use Rattle.warm_history.specs.Histories.{entries_of, history, holding, holding_since, join, refs};
 ghost use Rattle.warm_digest.specs.BucketSums.{sums_of};
-ghost use Rattle.warm_digest.specs.KeptSums.{Marks, MarksPage};
+ghost use Rattle.warm_digest.specs.KeptSums.{Marks, MarksJoined, MarksPage};
 
 use crate::kept::Sums;
 use std::alloc::{AllocError, Global};
@@ -84,15 +84,36 @@ impl SummedHistory {
 
     /// Takes in all that these entries hold, as [`History::join_entries`] does: `AllocError` changes
     /// nothing.
-    pub fn join_entries(&mut self, more: &[Entry]) -> Result<(), AllocError>
-        ensures exact { OnOk result (self.new ≡ join self.old (holding more.now)) }
+    pub fn join_entries(&mut self, horizon: u64, more: &[Entry]) -> Result<(), AllocError>
+        ensures exact { OnOk result (self.new ≡ join self.old (holding_since horizon more.now)) }
         ensures err { OnErr result (self.new ≡ self.old) }
     {
         // Asked for what holds of every history: its pages rise.
         let _whole = self.history.len();
-        self.history.join_entries(more)?;
-        self.changed = mark_entries(self.changed, more);
+        let own = self.history.horizon();
+        self.history.join_entries(horizon, more)?;
+        self.changed = mark_joined(self.changed, own, horizon, more);
         Ok(())
+    }
+
+    /// The time before which stamps are forgotten. Takes no memory.
+    pub fn horizon(&self) -> u64
+        ensures { result ≡ self.now.horizon }
+    {
+        self.history.horizon()
+    }
+
+    /// Forgets all stamps before this time, as [`History::raise`] does.
+    ///
+    /// Where the time is past the horizon, the next sums are all taken anew.
+    pub fn raise(&mut self, time: u64)
+        ensures exact { self.new ≡ history (since time (refs self.old)) }
+    {
+        // Asked for what holds of every history: its pages rise.
+        let _whole = self.history.len();
+        let own = self.history.horizon();
+        self.history.raise(time);
+        self.changed = mark_joined(self.changed, own, time, &[]);
     }
 
     /// Forgets everything. Takes no memory.
@@ -135,6 +156,16 @@ fn mark_references(changed: u64, batch: &[Reference]) -> u64
         mask = mark(mask, reference.page);
     }
     mask
+}
+
+// The mask with the buckets that entries may change which came with a horizon: all, where it is later than the own.
+fn mark_joined(changed: u64, own: u64, horizon: u64, more: &[Entry]) -> u64
+    ensures { MarksJoined own horizon changed more.now result }
+{
+    if own < horizon {
+        return u64::MAX;
+    }
+    mark_entries(changed, more)
 }
 
 // The mask with the buckets of the entries' pages.

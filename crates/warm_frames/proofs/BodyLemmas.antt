@@ -9,7 +9,6 @@ use Rattle.std.proofs.lemmas.List.{append-nil, nil_from_length, take_at, drop_at
 use Rattle.std.proofs.lemmas.List.Concat.{flat_map-cons}
 use Rattle.warm_stamps.specs.declared.TheConstants.{BUCKETS}
 use Rattle.warm_stamps.specs.declared.PageId.{PageId}
-use Rattle.warm_stamps.specs.Bytes.{bytes_of_page}
 use Rattle.warm_stamps.proofs.ByteLemmas.{IsBytes}
 use Rattle.warm_history.specs.declared.hist.PageHist.{PageHist}
 use Rattle.warm_history.specs.declared.hist.PageHist.TheVariants.{Once, Twice}
@@ -17,14 +16,16 @@ use Rattle.warm_history.specs.declared.hist.Entry.{Entry}
 use Rattle.warm_history.specs.Carried.{comes_after}
 use Rattle.warm_history.specs.Histories.{PagesRise}
 use Rattle.warm_history.proofs.MergeLemmas.{rises_on}
+use Rattle.warm_frames.specs.declared.format.Format.{Format}
+use Rattle.warm_frames.specs.declared.format.Format.TheVariants.{Narrow, Wide}
 use Rattle.warm_frames.specs.declared.writing.TheConstants.{MAX_ENTRY_SIZE}
 use Rattle.warm_frames.specs.declared.entries.TheConstants.{MAX_ENTRIES}
 use Rattle.warm_frames.specs.declared.fault.FrameFault.TheVariants.{BadLength, BadCount}
 use Rattle.warm_frames.specs.declared.sums.TheConstants.{SUM_SIZE}
-use Rattle.warm_frames.specs.Entries.{hist_bytes, entry_bytes, entries_bytes, IsEntry, IsEntryList}
+use Rattle.warm_frames.specs.Entries.{hist_bytes, page_bytes_in, entry_bytes_in, entries_bytes_in, IsEntry, IsEntryList}
 use Rattle.warm_frames.specs.Sums.{IsSumTable, table_size}
-use Rattle.warm_frames.specs.Reading.{◌>>=◌, number_at, want, entry_at, entries_at, count_at, all_entries, entries_of, sums_of}
-use Rattle.warm_frames.proofs.FieldLemmas.{bind_ok, want_ok, chosen_ok, ok_is, Takes, Takes-then, wide32, number_takes, number_again, entry_takes, entry_again, less_is, less_true}
+use Rattle.warm_frames.specs.Reading.{◌>>=◌, entry_size, number_at, want, entry_at, entries_at, count_at, all_entries, entries_of, sums_of}
+use Rattle.warm_frames.proofs.FieldLemmas.{bind_ok, want_ok, chosen_ok, ok_is, Takes, Takes-then, wide32, number_takes, number_again, IsNarrowIn, entry_takes, entry_again, less_is, less_true}
 
 -- ---- entries
 
@@ -46,36 +47,38 @@ rise_from : (es : List Entry) → PagesRise es → RiseFrom None es
 rise_from [] rise = tt
 rise_from (e ∷ es) rise = (refl, rise_after e es rise)
 
-pub record TakesEntries (n : ℕ) (before : Option PageId) (bytes : List ℕ) (x : List Entry × List ℕ) : Type 0 where
-  pub taken : Takes bytes (entries_bytes x.0) x.1
+pub record TakesEntries (format : Format) (n : ℕ) (before : Option PageId) (bytes : List ℕ) (x : List Entry × List ℕ) : Type 0 where
+  pub taken : Takes bytes (entries_bytes_in format x.0) x.1
   pub count : length x.0 ≡ n
   pub each : AllByRecursion IsEntry x.0
+  pub narrow : AllByRecursion (λ e. IsNarrowIn format e.page) x.0
   pub rise : RiseFrom before x.0
 
-entries_take : (n : ℕ) (before : Option PageId) (bytes : List ℕ) (x : List Entry × List ℕ) → IsBytes bytes → entries_at n before bytes ≡ Ok x → TakesEntries n before bytes x
+entries_take : (format : Format) (n : ℕ) (before : Option PageId) (bytes : List ℕ) (x : List Entry × List ℕ) → IsBytes bytes → entries_at format n before bytes ≡ Ok x → TakesEntries format n before bytes x
 unfolding entries_at
-entries_take zero before bytes x fits e =
-    subst (TakesEntries 0 before bytes) (ok_is ([], bytes) x e) (record { taken = record { parts = refl; rest_fits = fits }; count = refl; each = tt; rise = tt })
-entries_take (suc n) before bytes x fits e =
-    let a = bind_ok (entry_at before bytes) (λ first. entries_at n (Some first.0.page) first.1 >>= λ later. Ok (first.0 ∷ later.0, later.1)) x e in
-    let b = bind_ok (entries_at n (Some a.0.0.page) a.0.1) (λ later. Ok (a.0.0 ∷ later.0, later.1)) x a.2 in
-    let first = entry_takes before bytes a.0 fits a.1 in
-    let later = entries_take n (Some a.0.0.page) a.0.1 b.0 first.taken.rest_fits b.1 in
-    let both = Takes-then bytes (entry_bytes a.0.0) a.0.1 (entries_bytes b.0.0) b.0.1 first.taken later.taken in
+entries_take format zero before bytes x fits e =
+    subst (TakesEntries format 0 before bytes) (ok_is ([], bytes) x e) (record { taken = record { parts = refl; rest_fits = fits }; count = refl; each = tt; narrow = tt; rise = tt })
+entries_take format (suc n) before bytes x fits e =
+    let a = bind_ok (entry_at format before bytes) (λ first. entries_at format n (Some first.0.page) first.1 >>= λ later. Ok (first.0 ∷ later.0, later.1)) x e in
+    let b = bind_ok (entries_at format n (Some a.0.0.page) a.0.1) (λ later. Ok (a.0.0 ∷ later.0, later.1)) x a.2 in
+    let first = entry_takes format before bytes a.0 fits a.1 in
+    let later = entries_take format n (Some a.0.0.page) a.0.1 b.0 first.taken.rest_fits b.1 in
+    let both = Takes-then bytes (entry_bytes_in format a.0.0) a.0.1 (entries_bytes_in format b.0.0) b.0.1 first.taken later.taken in
     let made : List Entry × List ℕ = (a.0.0 ∷ b.0.0, b.0.1) in
-    subst (TakesEntries (suc n) before bytes) (ok_is made x b.2) (record {
-      taken = record { parts = both.parts ∙ ap (λ (w : List ℕ). w ++ b.0.1) (sym (flat_map-cons entry_bytes a.0.0 b.0.0)); rest_fits = both.rest_fits };
+    subst (TakesEntries format (suc n) before bytes) (ok_is made x b.2) (record {
+      taken = record { parts = both.parts ∙ ap (λ (w : List ℕ). w ++ b.0.1) (sym (flat_map-cons (entry_bytes_in format) a.0.0 b.0.0)); rest_fits = both.rest_fits };
       count = ap suc later.count;
       each = (first.fits, later.each);
+      narrow = (first.narrow, later.narrow);
       rise = (first.greater, later.rise);
     })
 
-entries_again : (es : List Entry) (before : Option PageId) (rest : List ℕ) → AllByRecursion IsEntry es → RiseFrom before es → entries_at (length es) before (entries_bytes es ++ rest) ≡ Ok (es, rest)
+entries_again : (format : Format) (es : List Entry) (before : Option PageId) (rest : List ℕ) → AllByRecursion IsEntry es → AllByRecursion (λ e. IsNarrowIn format e.page) es → RiseFrom before es → entries_at format (length es) before (entries_bytes_in format es ++ rest) ≡ Ok (es, rest)
 unfolding entries_at
-entries_again [] before rest fits rise = refl
-entries_again (e ∷ es) before rest fits rise =
-    let regrouped : entries_bytes (e ∷ es) ++ rest ≡ entry_bytes e ++ (entries_bytes es ++ rest) = ap (λ (w : List ℕ). w ++ rest) (flat_map-cons entry_bytes e es) ∙ append_assoc (entry_bytes e) (entries_bytes es) rest in
-    ap (entries_at (suc (length es)) before) regrouped ∙ rw (entry_again before e (entries_bytes es ++ rest) fits.0 rise.0, entries_again es (Some e.page) rest fits.1 rise.1) refl
+entries_again format [] before rest fits narrow rise = refl
+entries_again format (e ∷ es) before rest fits narrow rise =
+    let regrouped : entries_bytes_in format (e ∷ es) ++ rest ≡ entry_bytes_in format e ++ (entries_bytes_in format es ++ rest) = ap (λ (w : List ℕ). w ++ rest) (flat_map-cons (entry_bytes_in format) e es) ∙ append_assoc (entry_bytes_in format e) (entries_bytes_in format es) rest in
+    ap (entries_at format (suc (length es)) before) regrouped ∙ rw (entry_again format before e (entries_bytes_in format es ++ rest) fits.0 narrow.0 rise.0, entries_again format es (Some e.page) rest fits.1 narrow.1 rise.1) refl
 
 pub record CountsEntries (body : List ℕ) (x : ℕ × List ℕ) : Type 0 where
   pub taken : Takes body (to_be_bytes w32 x.0) x.1
@@ -90,55 +93,59 @@ count_takes body x fits e =
     let few : a.0.0 ≤ MAX_ENTRIES = grind (arith, nat_tests, g.0) in
     subst (CountsEntries body) (ok_is a.0 x g.1) (record { taken = t.0; few = few })
 
-pub record AreEntries (count : ℕ) (bytes : List ℕ) (es : List Entry) : Type 0 where
-  pub text : bytes ≡ entries_bytes es
+pub record AreEntries (format : Format) (count : ℕ) (bytes : List ℕ) (es : List Entry) : Type 0 where
+  pub text : bytes ≡ entries_bytes_in format es
   pub as_many : length es ≡ count
   pub each : AllByRecursion IsEntry es
+  pub narrow : AllByRecursion (λ e. IsNarrowIn format e.page) es
   pub rise : PagesRise es
 
 -- all bytes after a count are the entries
-pub all_take : (count : ℕ) (bytes : List ℕ) (es : List Entry) → IsBytes bytes → all_entries count bytes ≡ Ok es → AreEntries count bytes es
+pub all_take : (format : Format) (count : ℕ) (bytes : List ℕ) (es : List Entry) → IsBytes bytes → all_entries format count bytes ≡ Ok es → AreEntries format count bytes es
 unfolding all_entries
-all_take count bytes es fits e =
-    let a = bind_ok (entries_at count None bytes) (λ entries. want (eqb (length entries.1) 0) BadLength >>= λ ended. Ok entries.0) es e in
+all_take format count bytes es fits e =
+    let a = bind_ok (entries_at format count None bytes) (λ entries. want (eqb (length entries.1) 0) BadLength >>= λ ended. Ok entries.0) es e in
     let g = want_ok (eqb (length a.0.1) 0) BadLength (λ ended. Ok a.0.0) es a.2 in
-    let t = entries_take count None bytes a.0 fits a.1 in
+    let t = entries_take format count None bytes a.0 fits a.1 in
     let nothing : a.0.1 ≡ [] = nil_from_length a.0.1 (eqb-true _ _ g.0) in
-    subst (AreEntries count bytes) (ok_is a.0.0 es g.1) (record {
-      text = t.taken.parts ∙ ap (λ (r : List ℕ). entries_bytes a.0.0 ++ r) nothing ∙ append-nil (entries_bytes a.0.0);
+    subst (AreEntries format count bytes) (ok_is a.0.0 es g.1) (record {
+      text = t.taken.parts ∙ ap (λ (r : List ℕ). entries_bytes_in format a.0.0 ++ r) nothing ∙ append-nil (entries_bytes_in format a.0.0);
       as_many = t.count;
       each = t.each;
+      narrow = t.narrow;
       rise = rise_all None a.0.0 t.rise;
     })
 
 -- what is read after a count is a list for a frame
-pub all_listed : (body : List ℕ) (count : ℕ) (rest : List ℕ) (es : List Entry) → IsBytes body → count_at body ≡ Ok (count, rest) → all_entries count rest ≡ Ok es → IsEntryList es
-all_listed body count rest es fits h e =
+pub all_listed : (format : Format) (body : List ℕ) (count : ℕ) (rest : List ℕ) (es : List Entry) → IsBytes body → count_at body ≡ Ok (count, rest) → all_entries format count rest ≡ Ok es → IsEntryList es
+all_listed format body count rest es fits h e =
     let c = count_takes body (count, rest) fits h in
-    let t = all_take count rest es c.taken.rest_fits e in
+    let t = all_take format count rest es c.taken.rest_fits e in
     record { pages_rise = t.rise; at_most = rw t.as_many c.few; each = t.each }
 
-pub record ListsEntries (body : List ℕ) (es : List Entry) : Type 0 where
-  pub text : body ≡ to_be_bytes w32 (length es) ++ entries_bytes es
+pub record ListsEntries (format : Format) (body : List ℕ) (es : List Entry) : Type 0 where
+  pub text : body ≡ to_be_bytes w32 (length es) ++ entries_bytes_in format es
   pub listed : IsEntryList es
+  pub narrow : AllByRecursion (λ e. IsNarrowIn format e.page) es
 
-pub entries_body : (body : List ℕ) (es : List Entry) → IsBytes body → entries_of body ≡ Ok es → ListsEntries body es
+pub entries_body : (format : Format) (body : List ℕ) (es : List Entry) → IsBytes body → entries_of format body ≡ Ok es → ListsEntries format body es
 unfolding entries_of
-entries_body body es fits e =
-    let a = bind_ok (count_at body) (λ count. all_entries count.0 count.1) es e in
+entries_body format body es fits e =
+    let a = bind_ok (count_at body) (λ count. all_entries format count.0 count.1) es e in
     let c = count_takes body a.0 fits a.1 in
-    let t = all_take a.0.0 a.0.1 es c.taken.rest_fits a.2 in
+    let t = all_take format a.0.0 a.0.1 es c.taken.rest_fits a.2 in
     record {
-      text = c.taken.parts ∙ ap (λ (w : List ℕ). to_be_bytes w32 a.0.0 ++ w) t.text ∙ ap (λ (n : ℕ). to_be_bytes w32 n ++ entries_bytes es) (sym t.as_many);
+      text = c.taken.parts ∙ ap (λ (w : List ℕ). to_be_bytes w32 a.0.0 ++ w) t.text ∙ ap (λ (n : ℕ). to_be_bytes w32 n ++ entries_bytes_in format es) (sym t.as_many);
       listed = record { pages_rise = t.rise; at_most = rw t.as_many c.few; each = t.each };
+      narrow = t.narrow;
     }
 
-pub body_again : (es : List Entry) → IsEntryList es → entries_of (to_be_bytes w32 (length es) ++ entries_bytes es) ≡ Ok es
+pub body_again : (format : Format) (es : List Entry) → IsEntryList es → AllByRecursion (λ e. IsNarrowIn format e.page) es → entries_of format (to_be_bytes w32 (length es) ++ entries_bytes_in format es) ≡ Ok es
 unfolding entries_of count_at all_entries
-body_again es listed =
+body_again format es listed narrow =
     let few : leb (length es) MAX_ENTRIES ≡ true = let h = listed.at_most in grind (arith, nat_tests) in
-    let count = number_again w32 (2 ^ 32) BadLength wide32 (length es) (entries_bytes es) (let h = listed.at_most in omega arith) in
-    let rest : entries_at (length es) None (entries_bytes es) ≡ Ok (es, []) = ap (entries_at (length es) None) (sym (append-nil (entries_bytes es))) ∙ entries_again es None [] listed.each (rise_from es listed.pages_rise) in
+    let count = number_again w32 (2 ^ 32) BadLength wide32 (length es) (entries_bytes_in format es) (let h = listed.at_most in omega arith) in
+    let rest : entries_at format (length es) None (entries_bytes_in format es) ≡ Ok (es, []) = ap (entries_at format (length es) None) (sym (append-nil (entries_bytes_in format es))) ∙ entries_again format es None [] listed.each narrow (rise_from es listed.pages_rise) in
     rw (count, few, rest) refl
 
 -- ---- the length of entries
@@ -147,12 +154,17 @@ short_hist : (h : PageHist) → length (hist_bytes h) ≤ 21
 short_hist (Once last) = omega arith
 short_hist (Twice two) = omega arith
 
-pub short_entries : (es : List Entry) → length (entries_bytes es) ≤ MAX_ENTRY_SIZE * length es
-short_entries [] = omega arith
-short_entries (e ∷ es) =
-    let whole : length (entries_bytes (e ∷ es)) ≡ length (entry_bytes e) + length (entries_bytes es) = ap length (flat_map-cons entry_bytes e es) ∙ length-append (entry_bytes e) (entries_bytes es) in
-    let own : length (entry_bytes e) ≡ 6 + length (hist_bytes e.hist) = length-append (bytes_of_page e.page) (hist_bytes e.hist) in
-    omega (arith, whole, own, short_hist e.hist, short_entries es)
+short_page : (format : Format) (p : PageId) → length (page_bytes_in format p) + 21 ≡ entry_size format
+short_page Narrow p = refl
+short_page Wide p = refl
+
+pub short_entries : (format : Format) (es : List Entry) → length (entries_bytes_in format es) ≤ entry_size format * length es
+short_entries format [] = omega arith
+short_entries format (e ∷ es) =
+    let whole : length (entries_bytes_in format (e ∷ es)) ≡ length (entry_bytes_in format e) + length (entries_bytes_in format es) = ap length (flat_map-cons (entry_bytes_in format) e es) ∙ length-append (entry_bytes_in format e) (entries_bytes_in format es) in
+    let own : length (entry_bytes_in format e) ≡ length (page_bytes_in format e.page) + length (hist_bytes e.hist) = length-append (page_bytes_in format e.page) (hist_bytes e.hist) in
+    let more : entry_size format * suc (length es) ≡ entry_size format + entry_size format * length es = grind arith in
+    omega (arith, whole, own, more, short_page format e.page, short_hist e.hist, short_entries format es)
 
 -- ---- tables of sums
 

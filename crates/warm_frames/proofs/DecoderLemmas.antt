@@ -11,10 +11,10 @@ use Rattle.warm_frames.specs.declared.decoder.Fed.{Fed}
 use Rattle.warm_frames.specs.declared.fault.FrameFault.{FrameFault}
 use Rattle.warm_frames.specs.declared.fault.FrameFault.TheVariants.{Memory, Truncated}
 use Rattle.warm_frames.specs.declared.frame.Frame.{Frame}
-use Rattle.warm_frames.specs.declared.reading.TheConstants.{HEADER_SIZE}
+use Rattle.warm_frames.specs.declared.format.TheConstants.{HEADER_SIZE}
 use Rattle.warm_frames.specs.Pieces.{DecoderState, Inside, Broken, state_of, IsPart, IsLasting, Feeds, Takes, DecodesWith, KnowsWith}
 use Rattle.warm_frames.specs.Sizes.{frame_size, KnowsSize, SaysSize}
-use Rattle.warm_frames.proofs.SizeLemmas.{size_goes, known_stays, no_ok, err_is, lt_or_le, lt_or_is, header_short, header_enough, header_lasts, size_whole, headed, fault_of_body, fault_of_header, ShownIn}
+use Rattle.warm_frames.proofs.SizeLemmas.{size_goes, known_stays, no_ok, err_is, lt_or_le, lt_or_is, size_over, header_enough, header_lasts, size_whole, size_settled, fault_of_body, fault_of_header, ShownIn}
 
 -- what is known stays so, whatever follows
 pub size_again : (begun more : List ℕ) (size : ℕ) → frame_size begun ≡ Ok size → frame_size (begun ++ more) ≡ Ok size
@@ -22,10 +22,7 @@ size_again begun more size is = known_stays (frame_size begun) (frame_size (begu
 
 -- a size that the bytes say only with the piece is greater than what has begun
 pub size_above : (begun piece : List ℕ) (size : ℕ) → frame_size begun ≡ Err Truncated → frame_size (begun ++ piece) ≡ Ok size → length begun < size
-size_above begun piece size short is =
-    let h = headed (begun ++ piece) size is in
-    let few = header_short begun short in
-    omega (arith, few, h.size_is)
+size_above begun piece size short is = size_over begun piece size short is
 
 -- what wasn't known and isn't with the piece
 pub still_unknown : (begun piece held : List ℕ) (known : Option ℕ) → KnowsSize begun known → frame_size (begun ++ piece) ≡ Err Truncated → held ≡ begun ++ piece → KnowsSize held known
@@ -125,9 +122,8 @@ pub size_up_to : (begun piece : List ℕ) (size n : ℕ) → frame_size (begun +
 size_up_to begun piece size n is end enough =
     let front : List ℕ = begun ++ take n piece in
     let len : length front ≡ size = omega (arith, end, enough, length-append begun (take n piece), length-take n piece) in
-    let h = headed (begun ++ piece) size is in
     let parts : front ++ drop n piece ≡ begun ++ piece = append_assoc begun (take n piece) (drop n piece) ∙ ap (λ (p : List ℕ). begun ++ p) (take-append-drop n piece) in
-    let whole : frame_size (front ++ drop n piece) ≡ frame_size front = header_enough front (drop n piece) (omega (arith, len, h.size_is)) in
+    let whole : frame_size (front ++ drop n piece) ≡ frame_size front = size_settled front (drop n piece) size (ap frame_size parts ∙ is) (omega (arith, len)) in
     sym whole ∙ ap frame_size parts ∙ is ∙ ap (λ (m : ℕ). Ok m) (sym len)
 
 -- what was known stays, where nothing was taken

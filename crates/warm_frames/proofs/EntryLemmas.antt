@@ -4,6 +4,7 @@ use Rattle.std.specs.List.{AllByRecursion}
 use Rattle.std.proofs.lemmas.List.{append-nil, take_more}
 use Rattle.warm_stamps.specs.declared.PageId.{PageId}
 use Rattle.warm_history.specs.declared.hist.Entry.{Entry}
+use Rattle.warm_frames.specs.declared.format.Format.{Format}
 use Rattle.warm_frames.specs.declared.fault.FrameFault.{FrameFault}
 use Rattle.warm_frames.specs.Reading.{◌>>=◌, entry_at, entries_at}
 
@@ -25,28 +26,28 @@ regroup front e (Ok x) = ap (λ (es : List Entry). Ok (es, x.1)) (simp append_as
 regroup front e (Err f) = refl
 
 -- one more entry was read
-pub reads_on : (front : List Entry) (count i : ℕ) (before : Option PageId) (bytes : List ℕ) (e : Entry) (after : List ℕ) (total : Result (List Entry × List ℕ) FrameFault) → i < count → entry_at before bytes ≡ Ok (e, after)
-    → with_front front (entries_at (count - i) before bytes) ≡ total → with_front (front ++ e ∷ []) (entries_at (count - (i + 1)) (Some e.page) after) ≡ total
+pub reads_on : (format : Format) (front : List Entry) (count i : ℕ) (before : Option PageId) (bytes : List ℕ) (e : Entry) (after : List ℕ) (total : Result (List Entry × List ℕ) FrameFault) → i < count → entry_at format before bytes ≡ Ok (e, after)
+    → with_front front (entries_at format (count - i) before bytes) ≡ total → with_front (front ++ e ∷ []) (entries_at format (count - (i + 1)) (Some e.page) after) ≡ total
 unfolding entries_at
-reads_on front count i before bytes e after total lt h so_far =
+reads_on format front count i before bytes e after total lt h so_far =
     let k : count - i ≡ suc (count - (i + 1)) = omega arith in
-    let one : with_front front (entries_at (count - i) before bytes) ≡ with_front (front ++ e ∷ []) (entries_at (count - (i + 1)) (Some e.page) after) = rw (k, h) (regroup front e (entries_at (count - (i + 1)) (Some e.page) after)) in
+    let one : with_front front (entries_at format (count - i) before bytes) ≡ with_front (front ++ e ∷ []) (entries_at format (count - (i + 1)) (Some e.page) after) = rw (k, h) (regroup front e (entries_at format (count - (i + 1)) (Some e.page) after)) in
     sym one ∙ so_far
 
 -- an entry has a fault
-pub reads_fault : (front : List Entry) (count i : ℕ) (before : Option PageId) (bytes : List ℕ) (fault : FrameFault) (total : Result (List Entry × List ℕ) FrameFault) → i < count → entry_at before bytes ≡ Err fault
-    → with_front front (entries_at (count - i) before bytes) ≡ total → total ≡ Err fault
+pub reads_fault : (format : Format) (front : List Entry) (count i : ℕ) (before : Option PageId) (bytes : List ℕ) (fault : FrameFault) (total : Result (List Entry × List ℕ) FrameFault) → i < count → entry_at format before bytes ≡ Err fault
+    → with_front front (entries_at format (count - i) before bytes) ≡ total → total ≡ Err fault
 unfolding entries_at
-reads_fault front count i before bytes fault total lt h so_far =
+reads_fault format front count i before bytes fault total lt h so_far =
     let k : count - i ≡ suc (count - (i + 1)) = omega arith in
-    let one : with_front front (entries_at (count - i) before bytes) ≡ Err fault = rw (k, h) refl in
+    let one : with_front front (entries_at format (count - i) before bytes) ≡ Err fault = rw (k, h) refl in
     sym so_far ∙ one
 
 -- all were read
-pub reads_all : (front : List Entry) (count i : ℕ) (before : Option PageId) (bytes : List ℕ) (total : Result (List Entry × List ℕ) FrameFault) → count ≤ i
-    → with_front front (entries_at (count - i) before bytes) ≡ total → total ≡ Ok (front, bytes)
+pub reads_all : (format : Format) (front : List Entry) (count i : ℕ) (before : Option PageId) (bytes : List ℕ) (total : Result (List Entry × List ℕ) FrameFault) → count ≤ i
+    → with_front front (entries_at format (count - i) before bytes) ≡ total → total ≡ Ok (front, bytes)
 unfolding entries_at
-reads_all front count i before bytes total le so_far =
+reads_all format front count i before bytes total le so_far =
     let k : count - i ≡ 0 = omega arith in
-    let one : with_front front (entries_at (count - i) before bytes) ≡ Ok (front, bytes) = rw k (ap (λ (es : List Entry). Ok (es, bytes)) (append-nil front)) in
+    let one : with_front front (entries_at format (count - i) before bytes) ≡ Ok (front, bytes) = rw k (ap (λ (es : List Entry). Ok (es, bytes)) (append-nil front)) in
     sym so_far ∙ one

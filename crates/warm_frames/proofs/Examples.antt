@@ -5,11 +5,12 @@ use Rattle.warm_history.specs.declared.hist.PageHist.TheVariants.{Once, Twice}
 use Rattle.warm_history.specs.declared.hist.Entry.{Entry}
 use Rattle.warm_frames.specs.declared.writing.TheConstants.{MAX_ENTRY_SIZE}
 use Rattle.warm_frames.specs.declared.entries.TheConstants.{MAX_ENTRIES}
+use Rattle.warm_frames.specs.declared.format.Format.TheVariants.{Narrow}
 use Rattle.warm_frames.specs.declared.fault.FrameFault.TheVariants.{Truncated, BadMagic, BadKind, BadSender, BadLength, BadCount, BadTag, BadStamp, BadOrder}
 use Rattle.warm_frames.specs.declared.frame.Frame.TheVariants.{Entries, Want}
-use Rattle.warm_frames.specs.Spelling.{spelling}
+use Rattle.warm_frames.specs.Spelling.{spelling_in, spelling}
 use Rattle.warm_frames.specs.Sums.{table_size}
-use Rattle.warm_frames.specs.Reading.{start_at, length_at, body_at, two_in, hist_at, entry_at, entries_at, count_at, all_entries, entries_of, frame_of, read_frame}
+use Rattle.warm_frames.specs.Reading.{start_at, length_at, body_at, two_in, hist_at, page_at, entry_at, entries_at, count_at, all_entries, entries_of, frame_of, read_frame}
 
 abbrev at : ℕ → ℕ → Stamp
 at time replica = record { time = time; replica = replica }
@@ -24,10 +25,10 @@ twice n last prev = record { page = record { dev = 0; no = n }; hist = Twice (re
 -- ---- sizes
 
 -- what the limits come to: the most bytes of an entry and of a body of entries, and those of sums
-longest_entry_is : MAX_ENTRY_SIZE ≡ 27
+longest_entry_is : MAX_ENTRY_SIZE ≡ 31
 longest_entry_is = refl
 
-longest_body_is : 4 + MAX_ENTRY_SIZE * MAX_ENTRIES ≡ 27004
+longest_body_is : 4 + MAX_ENTRY_SIZE * MAX_ENTRIES ≡ 31004
 longest_body_is = refl
 
 table_size_is : table_size ≡ 2048
@@ -53,30 +54,53 @@ page n = 0 ∷ 0 ∷ 0 ∷ 0 ∷ 0 ∷ n ∷ []
 abbrev entries_frame : ℕ → ℕ → ℕ → List ℕ → List ℕ
 entries_frame sender len count text = letters ++ 1 ∷ 0 ∷ sender ∷ 0 ∷ 0 ∷ 0 ∷ len ∷ 0 ∷ 0 ∷ 0 ∷ count ∷ text
 
-nothing_spelled : spelling (Entries 3 []) ≡ letters ++ 1 ∷ 0 ∷ 3 ∷ 0 ∷ 0 ∷ 0 ∷ 4 ∷ 0 ∷ 0 ∷ 0 ∷ 0 ∷ []
+nothing_spelled : spelling_in Narrow (Entries 3 0 []) ≡ letters ++ 1 ∷ 0 ∷ 3 ∷ 0 ∷ 0 ∷ 0 ∷ 4 ∷ 0 ∷ 0 ∷ 0 ∷ 0 ∷ []
 nothing_spelled = refl
 
-two_stamps_spelled : spelling (Entries 1 (twice 7 (at 20 1) (at 10 1) ∷ [])) ≡ entries_frame 1 0x1F 1 (page 7 ++ 2 ∷ (twenty ++ ten))
+two_stamps_spelled : spelling_in Narrow (Entries 1 0 (twice 7 (at 20 1) (at 10 1) ∷ [])) ≡ entries_frame 1 0x1F 1 (page 7 ++ 2 ∷ (twenty ++ ten))
 two_stamps_spelled = refl
 
-wish_spelled : spelling (Want 2 6) ≡ letters ++ 3 ∷ 0 ∷ 2 ∷ 0 ∷ 0 ∷ 0 ∷ 8 ∷ 0 ∷ 0 ∷ 0 ∷ 0 ∷ 0 ∷ 0 ∷ 0 ∷ 6 ∷ []
+wish_spelled : spelling_in Narrow (Want 2 0 6) ≡ letters ++ 3 ∷ 0 ∷ 2 ∷ 0 ∷ 0 ∷ 0 ∷ 8 ∷ 0 ∷ 0 ∷ 0 ∷ 0 ∷ 0 ∷ 0 ∷ 0 ∷ 6 ∷ []
 wish_spelled = refl
+
+-- the wide spelling of the wish, and of an entry under a horizon
+wish_written : spelling (Want 2 0 6) ≡ 0x4C ∷ 0x32 ∷ 0x47 ∷ 0x32 ∷ 3 ∷ 0 ∷ 2 ∷ 0 ∷ 0 ∷ 0 ∷ 0 ∷ 0 ∷ 0 ∷ 0 ∷ 0 ∷ 0 ∷ 0 ∷ 0 ∷ 8 ∷ 0 ∷ 0 ∷ 0 ∷ 0 ∷ 0 ∷ 0 ∷ 0 ∷ 6 ∷ []
+wish_written = refl
+
+-- a page in ten bytes, its number's fourth byte from the end and its last
+abbrev page_wide : ℕ → ℕ → List ℕ
+page_wide high n = 0 ∷ 0 ∷ 0 ∷ 0 ∷ 0 ∷ high ∷ 0 ∷ 0 ∷ 0 ∷ n ∷ []
+
+abbrev wide_frame : List ℕ → List ℕ
+wide_frame text = 0x4C ∷ 0x32 ∷ 0x47 ∷ 0x32 ∷ 1 ∷ 0 ∷ 1 ∷ 0 ∷ 0 ∷ 0 ∷ 0 ∷ 0 ∷ 0 ∷ 0 ∷ 12 ∷ 0 ∷ 0 ∷ 0 ∷ 0x23 ∷ 0 ∷ 0 ∷ 0 ∷ 1 ∷ text
+
+wide_written : spelling (Entries 1 12 (twice 7 (at 20 1) (at 10 1) ∷ [])) ≡ wide_frame (page_wide 0 7 ++ 2 ∷ (twenty ++ ten))
+wide_written = refl
+
+wide_read : read_frame (wide_frame (page_wide 0 7 ++ 2 ∷ (twenty ++ ten))) ≡ Ok (Entries 1 12 (twice 7 (at 20 1) (at 10 1) ∷ []))
+unfolding read_frame start_at length_at body_at frame_of entries_of count_at all_entries entries_at entry_at page_at hist_at two_in
+wide_read = refl
+
+-- a page number above 32 bits is read
+wide_page_read : read_frame (wide_frame (page_wide 1 0 ++ 2 ∷ (twenty ++ ten))) ≡ Ok (Entries 1 12 (twice 4294967296 (at 20 1) (at 10 1) ∷ []))
+unfolding read_frame start_at length_at body_at frame_of entries_of count_at all_entries entries_at entry_at page_at hist_at two_in
+wide_page_read = refl
 
 -- ---- readings
 
-two_stamps_read : read_frame (entries_frame 1 0x1F 1 (page 7 ++ 2 ∷ (twenty ++ ten))) ≡ Ok (Entries 1 (twice 7 (at 20 1) (at 10 1) ∷ []))
-unfolding read_frame start_at length_at body_at frame_of entries_of count_at all_entries entries_at entry_at hist_at two_in
+two_stamps_read : read_frame (entries_frame 1 0x1F 1 (page 7 ++ 2 ∷ (twenty ++ ten))) ≡ Ok (Entries 1 0 (twice 7 (at 20 1) (at 10 1) ∷ []))
+unfolding read_frame start_at length_at body_at frame_of entries_of count_at all_entries entries_at entry_at page_at hist_at two_in
 two_stamps_read = refl
 
-rising_read : read_frame (entries_frame 1 0x26 2 (page 7 ++ 1 ∷ (twenty ++ page 8 ++ 1 ∷ ten))) ≡ Ok (Entries 1 (once 7 (at 20 1) ∷ once 8 (at 10 1) ∷ []))
-unfolding read_frame start_at length_at body_at frame_of entries_of count_at all_entries entries_at entry_at hist_at
+rising_read : read_frame (entries_frame 1 0x26 2 (page 7 ++ 1 ∷ (twenty ++ page 8 ++ 1 ∷ ten))) ≡ Ok (Entries 1 0 (once 7 (at 20 1) ∷ once 8 (at 10 1) ∷ []))
+unfolding read_frame start_at length_at body_at frame_of entries_of count_at all_entries entries_at entry_at page_at hist_at
 rising_read = refl
 
-nothing_read : read_frame (spelling (Entries 3 [])) ≡ Ok (Entries 3 [])
+nothing_read : read_frame (spelling (Entries 3 0 [])) ≡ Ok (Entries 3 0 [])
 unfolding read_frame start_at length_at body_at frame_of entries_of count_at all_entries entries_at
 nothing_read = refl
 
-wish_read : read_frame (spelling (Want 2 6)) ≡ Ok (Want 2 6)
+wish_read : read_frame (spelling (Want 2 0 6)) ≡ Ok (Want 2 0 6)
 unfolding read_frame start_at length_at body_at frame_of
 wish_read = refl
 
@@ -111,17 +135,17 @@ unfolding read_frame start_at length_at body_at frame_of entries_of count_at
 count_1001 = refl
 
 count_2 : read_frame (entries_frame 1 0x1F 2 (page 7 ++ 2 ∷ (twenty ++ ten))) ≡ Err BadLength
-unfolding read_frame start_at length_at body_at frame_of entries_of count_at all_entries entries_at entry_at hist_at two_in
+unfolding read_frame start_at length_at body_at frame_of entries_of count_at all_entries entries_at entry_at page_at hist_at two_in
 count_2 = refl
 
 tag_3 : read_frame (entries_frame 1 0x1F 1 (page 7 ++ 3 ∷ (twenty ++ ten))) ≡ Err BadTag
-unfolding read_frame start_at length_at body_at frame_of entries_of count_at all_entries entries_at entry_at hist_at
+unfolding read_frame start_at length_at body_at frame_of entries_of count_at all_entries entries_at entry_at page_at hist_at
 tag_3 = refl
 
 equal_stamps : read_frame (entries_frame 1 0x1F 1 (page 7 ++ 2 ∷ (twenty ++ twenty))) ≡ Err BadStamp
-unfolding read_frame start_at length_at body_at frame_of entries_of count_at all_entries entries_at entry_at hist_at two_in
+unfolding read_frame start_at length_at body_at frame_of entries_of count_at all_entries entries_at entry_at page_at hist_at two_in
 equal_stamps = refl
 
 equal_pages : read_frame (entries_frame 1 0x26 2 (page 7 ++ 1 ∷ (twenty ++ page 7 ++ 1 ∷ ten))) ≡ Err BadOrder
-unfolding read_frame start_at length_at body_at frame_of entries_of count_at all_entries entries_at entry_at hist_at
+unfolding read_frame start_at length_at body_at frame_of entries_of count_at all_entries entries_at entry_at page_at hist_at
 equal_pages = refl

@@ -1,5 +1,5 @@
 -- Which faults a reader can meet.
-use Rattle.std.proofs.Common.{◌≡◌, ◌⊎◌, inl, inr, ℕ, zero, suc, ◌+◌, ◌<◌, ◌≤◌, Bool, true, false, cond, eqb, leb, ltb, List, [], ◌∷◌, length, take, drop, Option, Some, None, Result, Ok, Err, refl, subst, arith}
+use Rattle.std.proofs.Common.{◌≡◌, ◌⊎◌, inl, inr, ℕ, zero, suc, ◌+◌, ◌<◌, ◌≤◌, Bool, true, false, cond, eqb, leb, ltb, List, [], ◌∷◌, length, take, drop, Option, Some, None, Result, Ok, Err, refl, sym, ap, subst, arith}
 use Rattle.std.specs.Int.{Width, w16, w32, w64, byte_len, from_be_bytes}
 use Rattle.std.specs.Ordering.{is_lt}
 use Rattle.std.specs.Simd.{first_chunks}
@@ -8,10 +8,12 @@ use Rattle.std.proofs.lemmas.Bool.Decides.{nat_tests}
 use Rattle.std.proofs.lemmas.List.{length-drop}
 use Rattle.warm_stamps.specs.declared.TheConstants.{BUCKETS}
 use Rattle.warm_stamps.specs.declared.PageId.{PageId}
-use Rattle.warm_stamps.specs.Bytes.{page_of, stamp_of}
+use Rattle.warm_stamps.specs.Bytes.{stamp_of}
 use Rattle.warm_stamps.specs.Stamps.{stamp_cmp}
 use Rattle.warm_history.specs.Carried.{comes_after}
-use Rattle.warm_frames.specs.declared.reading.TheConstants.{MAGIC}
+use Rattle.warm_frames.specs.declared.format.Format.{Format}
+use Rattle.warm_frames.specs.declared.format.Format.TheVariants.{Narrow, Wide}
+use Rattle.warm_frames.specs.declared.format.TheConstants.{MAGIC, NARROW_MAGIC}
 use Rattle.warm_frames.specs.declared.entries.TheConstants.{MAX_ENTRIES}
 use Rattle.warm_frames.specs.declared.fault.FrameFault.{FrameFault}
 use Rattle.warm_frames.specs.declared.fault.FrameFault.TheVariants.{Truncated, BadMagic, BadKind, BadSender, BadLength, BadCount, BadStamp, BadOrder}
@@ -19,9 +21,10 @@ use Rattle.warm_frames.specs.declared.reading.Kind.{Kind}
 use Rattle.warm_frames.specs.declared.reading.Kind.TheVariants as kinds
 use Rattle.warm_frames.specs.declared.sums.TheConstants.{SUM_SIZE}
 use Rattle.warm_frames.specs.Pieces.{IsLasting}
-use Rattle.warm_frames.specs.Reading.{◌>>=◌, front_at, number_at, byte_at, want, is_replica, kind_of, start_at, stamp_in, two_in, hist_at, entry_at, entries_at, count_at, all_entries, entries_of, sums_of, frame_of}
+use Rattle.warm_frames.specs.Reading.{◌>>=◌, front_at, number_at, byte_at, want, is_replica, kind_of, Start, format_of, horizon_at, start_at, stamp_in, two_in, hist_at, page_at, entry_at, entries_at, count_at, all_entries, entries_of, sums_of, frame_by, frame_of}
 use Rattle.warm_frames.specs.Sums.{table_size}
-use Rattle.warm_frames.proofs.FieldLemmas.{guard_ok, ok_is}
+use Rattle.warm_frames.specs.Sizes.{header_size}
+use Rattle.warm_frames.proofs.FieldLemmas.{done, guard_ok, ok_is}
 
 -- a fault that is met is one of these
 abbrev pub Only : {A : Type 0} → (FrameFault → Type 0) → Result A FrameFault → Type 0
@@ -87,42 +90,51 @@ hist_lasts (suc (suc zero)) bytes =
     only_then IsLasting (two_in last.0 prev.0) _ (two_lasts last.0 prev.0) (λ two is_two. tt)))
 hist_lasts (suc (suc (suc tag))) bytes = (omega arith, omega arith)
 
-entry_lasts : (before : Option PageId) (bytes : List ℕ) → Only IsLasting (entry_at before bytes)
+page_lasts : (format : Format) (bytes : List ℕ) → Only IsLasting (page_at format bytes)
+unfolding page_at
+page_lasts Narrow bytes = only_then IsLasting (front_at 6 BadLength bytes) _ (front_lasts 6 bytes) (λ six is_six. tt)
+page_lasts Wide bytes = only_then IsLasting (front_at 10 BadLength bytes) _ (front_lasts 10 bytes) (λ ten is_ten. tt)
+
+entry_lasts : (format : Format) (before : Option PageId) (bytes : List ℕ) → Only IsLasting (entry_at format before bytes)
 unfolding entry_at
-entry_lasts before bytes =
-    only_then IsLasting (front_at 6 BadLength bytes) _ (front_lasts 6 bytes) (λ six is_six.
-    only_then IsLasting (want (comes_after before (page_of six.0)) BadOrder) _ (only_want IsLasting (comes_after before (page_of six.0)) BadOrder (omega arith, omega arith)) (λ greater is_greater.
-    only_then IsLasting (byte_at BadLength six.1) _ (byte_lasts six.1) (λ tag is_tag.
+entry_lasts format before bytes =
+    only_then IsLasting (page_at format bytes) _ (page_lasts format bytes) (λ page is_page.
+    only_then IsLasting (want (comes_after before page.0) BadOrder) _ (only_want IsLasting (comes_after before page.0) BadOrder (omega arith, omega arith)) (λ greater is_greater.
+    only_then IsLasting (byte_at BadLength page.1) _ (byte_lasts page.1) (λ tag is_tag.
     only_then IsLasting (hist_at tag.0 tag.1) _ (hist_lasts tag.0 tag.1) (λ hist is_hist. tt))))
 
-entries_last : (n : ℕ) (before : Option PageId) (bytes : List ℕ) → Only IsLasting (entries_at n before bytes)
+entries_last : (format : Format) (n : ℕ) (before : Option PageId) (bytes : List ℕ) → Only IsLasting (entries_at format n before bytes)
 unfolding entries_at
-entries_last zero before bytes = tt
-entries_last (suc n) before bytes =
-    only_then IsLasting (entry_at before bytes) _ (entry_lasts before bytes) (λ first is_first.
-    only_then IsLasting (entries_at n (Some first.0.page) first.1) _ (entries_last n (Some first.0.page) first.1) (λ later is_later. tt))
+entries_last format zero before bytes = tt
+entries_last format (suc n) before bytes =
+    only_then IsLasting (entry_at format before bytes) _ (entry_lasts format before bytes) (λ first is_first.
+    only_then IsLasting (entries_at format n (Some first.0.page) first.1) _ (entries_last format n (Some first.0.page) first.1) (λ later is_later. tt))
 
-body_lasts : (body : List ℕ) → Only IsLasting (entries_of body)
+body_lasts : (format : Format) (body : List ℕ) → Only IsLasting (entries_of format body)
 unfolding entries_of count_at all_entries
-body_lasts body =
+body_lasts format body =
     only_then IsLasting (count_at body) _ (only_then IsLasting (number_at w32 BadLength body) _ (number_lasts w32 body) (λ count is_count.
     only_then IsLasting (want (leb count.0 MAX_ENTRIES) BadCount) _ (only_want IsLasting (leb count.0 MAX_ENTRIES) BadCount (omega arith, omega arith)) (λ few is_few. tt)))
     (λ count is_count.
-    only_then IsLasting (entries_at count.0 None count.1) _ (entries_last count.0 None count.1) (λ entries is_entries.
+    only_then IsLasting (entries_at format count.0 None count.1) _ (entries_last format count.0 None count.1) (λ entries is_entries.
     only_then IsLasting (want (eqb (length entries.1) 0) BadLength) _ (only_want IsLasting (eqb (length entries.1) 0) BadLength bad_length) (λ ended is_ended. tt)))
 
 -- a fault of a body is there for good
-pub frame_lasts : (kind : Kind) (sender : ℕ) (body : List ℕ) → Only IsLasting (frame_of kind sender body)
-unfolding frame_of sums_of
-frame_lasts kinds.Entries sender body = only_then IsLasting (entries_of body) _ (body_lasts body) (λ entries is_entries. tt)
-frame_lasts kinds.Digest sender body =
+by_lasts : (kind : Kind) (format : Format) (sender horizon : ℕ) (body : List ℕ) → Only IsLasting (frame_by kind format sender horizon body)
+unfolding sums_of
+by_lasts kinds.Entries format sender horizon body = only_then IsLasting (entries_of format body) _ (body_lasts format body) (λ entries is_entries. tt)
+by_lasts kinds.Digest format sender horizon body =
     only_then IsLasting (sums_of body) _ (only_chosen IsLasting (eqb (length body) table_size) BadLength (first_chunks SUM_SIZE BUCKETS body) bad_length) (λ sums is_sums. tt)
-frame_lasts kinds.Want sender body = only_then IsLasting (number_at w64 BadLength body) _ (number_lasts w64 body) (λ mask is_mask. tt)
+by_lasts kinds.Want format sender horizon body = only_then IsLasting (number_at w64 BadLength body) _ (number_lasts w64 body) (λ mask is_mask. tt)
+
+pub frame_lasts : (start : Start) (body : List ℕ) → Only IsLasting (frame_of start body)
+unfolding frame_of
+frame_lasts start body = by_lasts start.kind start.format start.sender start.horizon body
 
 -- ---- the header: it ends too soon only where fewer bytes are there than it has
 
-abbrev pub ShortOrLasting : ℕ → FrameFault → Type 0
-ShortOrLasting len fault = ((fault ≡ Truncated) × (len < 11)) ⊎ IsLasting fault
+abbrev pub ShortOrLasting : ℕ → ℕ → FrameFault → Type 0
+ShortOrLasting most len fault = ((fault ≡ Truncated) × (len < most)) ⊎ IsLasting fault
 
 pub number_short : (P : FrameFault → Type 0) (w : Width) (bytes : List ℕ) → (length bytes < byte_len w → P Truncated) → Only P (number_at w Truncated bytes)
 number_short P w bytes short = only_cond P (ltb (length bytes) (byte_len w)) Truncated (from_be_bytes w (take (byte_len w) bytes), drop (byte_len w) bytes) (λ test. short (grind (arith, nat_tests, test)))
@@ -149,13 +161,55 @@ pub byte_long : (short : FrameFault) (bytes : List ℕ) (x : ℕ × List ℕ) �
 byte_long short [] x e = absurd cc
 byte_long short (b ∷ bytes) x e = subst (λ (p : ℕ × List ℕ). length (b ∷ bytes) ≡ 1 + length p.1) (ok_is (b, bytes) x e) (omega arith)
 
-pub start_short : (bytes : List ℕ) → Only (ShortOrLasting (length bytes)) (start_at bytes)
+-- how many bytes the header has that begins so
+abbrev pub most_of : Result (ℕ × List ℕ) FrameFault → ℕ
+most_of (Ok x) = cond (eqb x.0 MAGIC) 19 11
+most_of (Err fault) = 19
+
+abbrev pub header_most : List ℕ → ℕ
+header_most bytes = most_of (number_at w32 Truncated bytes)
+
+format_short : (P : FrameFault → Type 0) (letters : ℕ) → P BadMagic → Only P (format_of letters)
+format_short P letters bad = cases (eqb letters MAGIC) (eqb letters NARROW_MAGIC)
+  where
+    cases : (a b : Bool) → Only P (cond a (done Wide) (cond b (done Narrow) (Err BadMagic)))
+    cases true b = tt
+    cases false true = tt
+    cases false false = bad
+
+-- which format the letters have
+pub format_is : (letters : ℕ) (format : Format) → format_of letters ≡ Ok format → header_size format ≡ cond (eqb letters MAGIC) 19 11
+format_is letters format e = cases (eqb letters MAGIC) (eqb letters NARROW_MAGIC) e
+  where
+    cases : (a b : Bool) → cond a (done Wide) (cond b (done Narrow) (Err BadMagic)) ≡ Ok format → header_size format ≡ cond a 19 11
+    cases true b is = ap header_size (sym (ok_is Wide format is))
+    cases false true is = ap header_size (sym (ok_is Narrow format is))
+    cases false false is = absurd cc
+
+horizon_short : (P : FrameFault → Type 0) (format : Format) (bytes : List ℕ) → (length bytes < 8 → header_size format ≡ 19 → P Truncated) → Only P (horizon_at format bytes)
+horizon_short P Narrow bytes short = tt
+horizon_short P Wide bytes short = number_short P w64 bytes (λ few. short few refl)
+
+either_most : (b : Bool) → 11 ≤ cond b 19 11
+either_most true = omega arith
+either_most false = omega arith
+
+pub start_short : (bytes : List ℕ) → Only (ShortOrLasting (header_most bytes) (length bytes)) (start_at bytes)
 unfolding start_at
 start_short bytes =
-    let P = ShortOrLasting (length bytes) in
-    only_then P (number_at w32 Truncated bytes) _ (number_short P w32 bytes (λ few. inl (refl, omega (arith, few)))) (λ letters is_letters.
-    only_then P (want (eqb letters.0 MAGIC) BadMagic) _ (only_want P (eqb letters.0 MAGIC) BadMagic (inr (omega arith, omega arith))) (λ known is_known.
-    only_then P (byte_at Truncated letters.1) _ (byte_short P letters.1 (λ few. inl (refl, omega (arith, few, number_long w32 Truncated bytes letters is_letters)))) (λ number is_number.
+    let P = ShortOrLasting (header_most bytes) (length bytes) in
+    only_then P (number_at w32 Truncated bytes) _ (number_short P w32 bytes (λ few. inl (refl, few_most bytes (omega (arith, few))))) (λ letters is_letters.
+    let most : header_most bytes ≡ cond (eqb letters.0 MAGIC) 19 11 = ap most_of is_letters in
+    only_then P (format_of letters.0) _ (format_short P letters.0 (inr (omega arith, omega arith))) (λ format is_format.
+    only_then P (byte_at Truncated letters.1) _ (byte_short P letters.1 (λ few. inl (refl, few_most bytes (omega (arith, few, number_long w32 Truncated bytes letters is_letters))))) (λ number is_number.
     only_then P (kind_of number.0) _ (kind_short P number.0 (inr (omega arith, omega arith))) (λ kind is_kind.
-    only_then P (number_at w16 Truncated number.1) _ (number_short P w16 number.1 (λ few. inl (refl, omega (arith, few, number_long w32 Truncated bytes letters is_letters, byte_long Truncated letters.1 number is_number)))) (λ sender is_sender.
-    only_then P (want (is_replica sender.0) BadSender) _ (only_want P (is_replica sender.0) BadSender (inr (omega arith, omega arith))) (λ good is_good. tt))))))
+    only_then P (number_at w16 Truncated number.1) _ (number_short P w16 number.1 (λ few. inl (refl, few_most bytes (omega (arith, few, number_long w32 Truncated bytes letters is_letters, byte_long Truncated letters.1 number is_number))))) (λ sender is_sender.
+    only_then P (want (is_replica sender.0) BadSender) _ (only_want P (is_replica sender.0) BadSender (inr (omega arith, omega arith))) (λ good is_good.
+    only_then P (horizon_at format sender.1) _ (horizon_short P format sender.1 (λ few wide. inl (refl, omega (arith, few, wide, most, format_is letters.0 format is_format, number_long w32 Truncated bytes letters is_letters, byte_long Truncated letters.1 number is_number, number_long w16 Truncated number.1 sender is_sender)))) (λ horizon is_horizon. tt)))))))
+  where
+    few_most : (bytes : List ℕ) → length bytes < 11 → length bytes < header_most bytes
+    few_most bytes few = cases (number_at w32 Truncated bytes)
+      where
+        cases : (r : Result (ℕ × List ℕ) FrameFault) → length bytes < most_of r
+        cases (Ok x) = omega (arith, few, either_most (eqb x.0 MAGIC))
+        cases (Err e) = omega (arith, few)

@@ -1,5 +1,5 @@
 -- A field that is read is the field that was written, and what was written is read again.
-use Rattle.std.proofs.Common.{◌≡◌, ℕ, zero, suc, ◌^◌, ◌<◌, ◌≤◌, Bool, true, false, cond, ltb, List, [], ◌∷◌, ◌++◌, length, take, drop, Option, Result, Ok, Err, refl, sym, ap, subst, ◌∙◌, append_assoc, arith}
+use Rattle.std.proofs.Common.{◌≡◌, ℕ, zero, suc, ◌^◌, ◌<◌, ◌≤◌, Bool, true, false, cond, ltb, List, [], ◌∷◌, ◌++◌, length, take, drop, Option, None, Result, Ok, Err, refl, sym, ap, subst, ◌∙◌, append_assoc, arith}
 use Rattle.std.specs.Int.{Width, w16, w32, w64, byte_len, from_be_bytes, to_be_bytes}
 use Rattle.std.specs.Ordering.{is_lt}
 use Rattle.std.specs.declared.cmp.Ordering.{Ordering}
@@ -10,17 +10,19 @@ use Rattle.std.proofs.lemmas.List.{take_at, drop_at, take-append-drop, length-ap
 use Rattle.std.proofs.lemmas.Nat.{be_bytes_2, be_bytes_4, be_bytes_8, from_be_bytes-to_be_bytes_2, from_be_bytes-to_be_bytes_4, from_be_bytes-to_be_bytes_8}
 use Rattle.warm_stamps.specs.declared.Stamp.{Stamp}
 use Rattle.warm_stamps.specs.declared.PageId.{PageId}
-use Rattle.warm_stamps.specs.Bytes.{bytes_of_stamp, stamp_of, bytes_of_page, page_of, IsReplica, IsStamp}
+use Rattle.warm_stamps.specs.Bytes.{bytes_of_stamp, stamp_of, bytes_of_page, page_of, narrow_bytes_of_page, page_of_narrow, IsReplica, IsStamp, IsPage}
 use Rattle.warm_stamps.specs.Stamps.{stamp_cmp}
-use Rattle.warm_stamps.proofs.ByteLemmas.{IsBytes, IsBytes-take, IsBytes-drop, stamp_again, stamp_spelled, IsStamp-of, page_again, page_spelled, IsPage-of}
+use Rattle.warm_stamps.proofs.ByteLemmas.{IsBytes, IsBytes-take, IsBytes-drop, stamp_again, stamp_spelled, IsStamp-of, page_again, page_spelled, IsPage-of, narrow_again, narrow_spelled, IsNarrow-of, IsPage-of_narrow}
 use Rattle.warm_history.specs.declared.hist.PageHist.{PageHist}
 use Rattle.warm_history.specs.declared.hist.PageHist.TheVariants.{Once, Twice}
 use Rattle.warm_history.specs.declared.hist.Entry.{Entry}
 use Rattle.warm_history.specs.Carried.{comes_after}
+use Rattle.warm_frames.specs.declared.format.Format.{Format}
+use Rattle.warm_frames.specs.declared.format.Format.TheVariants.{Narrow, Wide}
 use Rattle.warm_frames.specs.declared.fault.FrameFault.{FrameFault}
 use Rattle.warm_frames.specs.declared.fault.FrameFault.TheVariants.{BadLength, BadStamp, BadOrder}
-use Rattle.warm_frames.specs.Entries.{hist_bytes, entry_bytes, IsHist, IsEntry}
-use Rattle.warm_frames.specs.Reading.{◌>>=◌, front_at, number_at, byte_at, want, is_replica, stamp_in, two_in, hist_at, entry_at}
+use Rattle.warm_frames.specs.Entries.{hist_bytes, page_bytes_in, entry_bytes_in, IsHist, IsEntry}
+use Rattle.warm_frames.specs.Reading.{◌>>=◌, front_at, number_at, byte_at, want, is_replica, stamp_in, two_in, hist_at, page_at, entry_at, written_entry_at}
 
 -- ---- steps
 
@@ -229,36 +231,87 @@ hist_again (Twice two) rest fits =
     let regrouped : (bytes_of_stamp two.last ++ bytes_of_stamp two.prev) ++ rest ≡ bytes_of_stamp two.last ++ (bytes_of_stamp two.prev ++ rest) = append_assoc (bytes_of_stamp two.last) (bytes_of_stamp two.prev) rest in
     ap (hist_at 2) regrouped ∙ rw (front_again 10 BadLength (bytes_of_stamp two.last) (bytes_of_stamp two.prev ++ rest) refl, front_again 10 BadLength (bytes_of_stamp two.prev) rest refl, stamp_in_again two.last fits.0, stamp_in_again two.prev fits.1, fits.2) refl
 
+-- ---- pages
+
+-- the page has a number that the format can hold
+abbrev pub IsNarrowIn : Format → PageId → Type 0
+IsNarrowIn Narrow p = p.no < 2 ^ 32
+IsNarrowIn Wide p = Unit {0}
+
+pub record TakesPage (format : Format) (bytes : List ℕ) (x : PageId × List ℕ) : Type 0 where
+  pub taken : Takes bytes (page_bytes_in format x.0) x.1
+  pub fits : IsPage x.0
+  pub narrow : IsNarrowIn format x.0
+
+page_takes : (format : Format) (bytes : List ℕ) (x : PageId × List ℕ) → IsBytes bytes → page_at format bytes ≡ Ok x → TakesPage format bytes x
+unfolding page_at
+page_takes Narrow bytes x fits e =
+    let a = bind_ok (front_at 6 BadLength bytes) (λ six. Ok (page_of_narrow six.0, six.1)) x e in
+    let t = front_takes 6 BadLength bytes a.0 fits a.1 in
+    let page = page_of_narrow a.0.0 in
+    let made : PageId × List ℕ = (page, a.0.1) in
+    subst (TakesPage Narrow bytes) (ok_is made x a.2) (record {
+      taken = record { parts = t.taken.parts ∙ ap (λ (w : List ℕ). w ++ a.0.1) (sym (narrow_spelled a.0.0 t.len t.fits)); rest_fits = t.taken.rest_fits };
+      fits = IsPage-of_narrow a.0.0 t.fits;
+      narrow = (IsNarrow-of a.0.0 t.fits).no;
+    })
+page_takes Wide bytes x fits e =
+    let a = bind_ok (front_at 10 BadLength bytes) (λ ten. Ok (page_of ten.0, ten.1)) x e in
+    let t = front_takes 10 BadLength bytes a.0 fits a.1 in
+    let page = page_of a.0.0 in
+    let made : PageId × List ℕ = (page, a.0.1) in
+    subst (TakesPage Wide bytes) (ok_is made x a.2) (record {
+      taken = record { parts = t.taken.parts ∙ ap (λ (w : List ℕ). w ++ a.0.1) (sym (page_spelled a.0.0 t.len t.fits)); rest_fits = t.taken.rest_fits };
+      fits = IsPage-of a.0.0 t.fits;
+      narrow = tt;
+    })
+
+page_at_again : (format : Format) (p : PageId) (rest : List ℕ) → IsPage p → IsNarrowIn format p → page_at format (page_bytes_in format p ++ rest) ≡ Ok (p, rest)
+unfolding page_at
+page_at_again Narrow p rest fits narrow = rw (front_again 6 BadLength (narrow_bytes_of_page p) rest refl, narrow_again p (record { dev = fits.dev; no = narrow })) refl
+page_at_again Wide p rest fits narrow = rw (front_again 10 BadLength (bytes_of_page p) rest refl, page_again p fits) refl
+
 -- ---- entries
 
-pub record TakesEntry (before : Option PageId) (bytes : List ℕ) (x : Entry × List ℕ) : Type 0 where
-  pub taken : Takes bytes (entry_bytes x.0) x.1
+pub record TakesEntry (format : Format) (before : Option PageId) (bytes : List ℕ) (x : Entry × List ℕ) : Type 0 where
+  pub taken : Takes bytes (entry_bytes_in format x.0) x.1
   pub fits : IsEntry x.0
+  pub narrow : IsNarrowIn format x.0.page
   pub greater : comes_after before x.0.page ≡ true
 
-pub entry_takes : (before : Option PageId) (bytes : List ℕ) (x : Entry × List ℕ) → IsBytes bytes → entry_at before bytes ≡ Ok x → TakesEntry before bytes x
+pub entry_takes : (format : Format) (before : Option PageId) (bytes : List ℕ) (x : Entry × List ℕ) → IsBytes bytes → entry_at format before bytes ≡ Ok x → TakesEntry format before bytes x
 unfolding entry_at
-entry_takes before bytes x fits e =
-    let a = bind_ok (front_at 6 BadLength bytes) (λ six. want (comes_after before (page_of six.0)) BadOrder >>= λ greater. byte_at BadLength six.1 >>= λ tag. hist_at tag.0 tag.1 >>= λ hist. Ok (record { page = page_of six.0; hist = hist.0 }, hist.1)) x e in
-    let page = page_of a.0.0 in
+entry_takes format before bytes x fits e =
+    let a = bind_ok (page_at format bytes) (λ page. want (comes_after before page.0) BadOrder >>= λ greater. byte_at BadLength page.1 >>= λ tag. hist_at tag.0 tag.1 >>= λ hist. Ok (record { page = page.0; hist = hist.0 }, hist.1)) x e in
+    let page = a.0.0 in
     let g = want_ok (comes_after before page) BadOrder (λ greater. byte_at BadLength a.0.1 >>= λ tag. hist_at tag.0 tag.1 >>= λ hist. Ok (record { page = page; hist = hist.0 }, hist.1)) x a.2 in
     let b = bind_ok (byte_at BadLength a.0.1) (λ tag. hist_at tag.0 tag.1 >>= λ hist. Ok (record { page = page; hist = hist.0 }, hist.1)) x g.1 in
     let d = bind_ok (hist_at b.0.0 b.0.1) (λ hist. Ok (record { page = page; hist = hist.0 }, hist.1)) x b.2 in
-    let t1 = front_takes 6 BadLength bytes a.0 fits a.1 in
+    let t1 = page_takes format bytes a.0 fits a.1 in
     let t2 = byte_takes BadLength a.0.1 b.0 t1.taken.rest_fits b.1 in
     let t3 = hist_takes b.0.0 b.0.1 d.0 t2.rest_fits d.1 in
     let later : Takes a.0.1 (hist_bytes d.0.0) d.0.1 = record { parts = t2.parts ∙ t3.taken.parts; rest_fits = t3.taken.rest_fits } in
-    let six : Takes bytes (bytes_of_page page) a.0.1 = record { parts = t1.taken.parts ∙ ap (λ (w : List ℕ). w ++ a.0.1) (sym (page_spelled a.0.0 t1.len t1.fits)); rest_fits = t1.taken.rest_fits } in
     let made : Entry × List ℕ = (record { page = page; hist = d.0.0 }, d.0.1) in
-    subst (TakesEntry before bytes) (ok_is made x d.2) (record {
-      taken = Takes-then bytes (bytes_of_page page) a.0.1 (hist_bytes d.0.0) d.0.1 six later;
-      fits = record { page = IsPage-of a.0.0 t1.fits; hist = t3.fits };
+    subst (TakesEntry format before bytes) (ok_is made x d.2) (record {
+      taken = Takes-then bytes (page_bytes_in format page) a.0.1 (hist_bytes d.0.0) d.0.1 t1.taken later;
+      fits = record { page = t1.fits; hist = t3.fits };
+      narrow = t1.narrow;
       greater = g.0;
     })
 
-pub entry_again : (before : Option PageId) (e : Entry) (rest : List ℕ) → IsEntry e → comes_after before e.page ≡ true → entry_at before (entry_bytes e ++ rest) ≡ Ok (e, rest)
+pub entry_again : (format : Format) (before : Option PageId) (e : Entry) (rest : List ℕ) → IsEntry e → IsNarrowIn format e.page → comes_after before e.page ≡ true → entry_at format before (entry_bytes_in format e ++ rest) ≡ Ok (e, rest)
 unfolding entry_at
-entry_again before e rest fits greater =
+entry_again format before e rest fits narrow greater =
+    let text = page_bytes_in format e.page in
     let tagged : hist_bytes e.hist ++ rest ≡ hist_tag e.hist ∷ (stamps_bytes e.hist ++ rest) = ap (λ (w : List ℕ). w ++ rest) (hist_bytes-tag e.hist) in
-    let regrouped : entry_bytes e ++ rest ≡ bytes_of_page e.page ++ (hist_tag e.hist ∷ (stamps_bytes e.hist ++ rest)) = append_assoc (bytes_of_page e.page) (hist_bytes e.hist) rest ∙ ap (λ (w : List ℕ). bytes_of_page e.page ++ w) tagged in
-    ap (entry_at before) regrouped ∙ rw (front_again 6 BadLength (bytes_of_page e.page) (hist_tag e.hist ∷ (stamps_bytes e.hist ++ rest)) refl, page_again e.page fits.page, greater, hist_again e.hist rest fits.hist) refl
+    let regrouped : entry_bytes_in format e ++ rest ≡ text ++ (hist_tag e.hist ∷ (stamps_bytes e.hist ++ rest)) = append_assoc text (hist_bytes e.hist) rest ∙ ap (λ (w : List ℕ). text ++ w) tagged in
+    ap (entry_at format before) regrouped ∙ rw (page_at_again format e.page (hist_tag e.hist ∷ (stamps_bytes e.hist ++ rest)) fits.page narrow, greater, hist_again e.hist rest fits.hist) refl
+
+-- what is written of an entry is read
+pub written_again : (before : Option PageId) (e : Entry) (rest : List ℕ) → IsEntry e → comes_after before e.page ≡ true → written_entry_at before (entry_bytes_in Wide e ++ rest) ≡ Ok (e, rest)
+written_again before e rest fits greater = entry_again Wide before e rest fits tt greater
+
+-- nothing is no entry
+pub nothing_written : written_entry_at None [] ≡ Err BadLength
+unfolding entry_at page_at
+nothing_written = refl

@@ -1,7 +1,7 @@
 -- The size of a frame: what a header says it says whatever follows, and fewer bytes are no frame.
-use Rattle.std.proofs.Common.{◌≡◌, ◌⊎◌, inl, inr, ℕ, suc, ◌+◌, ◌*◌, ◌<◌, ◌≤◌, Bool, true, false, eqb, leb, ltb, List, [], ◌∷◌, ◌++◌, length, take, drop, Result, Ok, Err, refl, sym, ap, subst, ◌∙◌, append_assoc, ⊎_elim, arith}
-use Rattle.std.specs.Int.{Width, w16, w32, byte_len}
-use Rattle.std.proofs.lemmas.Bool.{ltb-false, le-ltb}
+use Rattle.std.proofs.Common.{◌≡◌, ◌⊎◌, inl, inr, ℕ, suc, ◌+◌, ◌*◌, ◌<◌, ◌≤◌, Bool, true, false, cond, eqb, leb, ltb, List, [], ◌∷◌, ◌++◌, length, take, drop, Result, Ok, Err, refl, sym, ap, subst, ◌∙◌, append_assoc, ⊎_elim, arith}
+use Rattle.std.specs.Int.{Width, w16, w32, w64, byte_len, from_be_bytes}
+use Rattle.std.proofs.lemmas.Bool.{ltb-false, ltb-true, le-ltb}
 use Rattle.std.proofs.lemmas.Bool.Decides.{nat_tests}
 use Rattle.std.proofs.lemmas.List.{append-nil, take_all, take-append-drop, take-append-le, drop-append-le, length-append, length-take, nil_from_length}
 use Rattle.warm_frames.specs.declared.writing.TheConstants.{MAX_ENTRY_SIZE}
@@ -11,13 +11,15 @@ use Rattle.warm_frames.specs.declared.fault.FrameFault.TheVariants.{Truncated, B
 use Rattle.warm_frames.specs.declared.frame.Frame.{Frame}
 use Rattle.warm_frames.specs.declared.reading.Kind.{Kind}
 use Rattle.warm_frames.specs.declared.reading.Kind.TheVariants as kinds
-use Rattle.warm_frames.specs.declared.reading.TheConstants.{HEADER_SIZE, MAGIC}
+use Rattle.warm_frames.specs.declared.format.Format.{Format}
+use Rattle.warm_frames.specs.declared.format.Format.TheVariants.{Narrow, Wide}
+use Rattle.warm_frames.specs.declared.format.TheConstants.{HEADER_SIZE, MAGIC}
 use Rattle.warm_frames.specs.Pieces.{IsLasting, IsPart, ShowsFault}
-use Rattle.warm_frames.specs.Reading.{◌>>=◌, number_at, byte_at, want, is_replica, kind_of, may_have, start_at, length_at, whole_body, body_at, frame_of, read_frame}
-use Rattle.warm_frames.specs.Sizes.{frame_size}
+use Rattle.warm_frames.specs.Reading.{◌>>=◌, number_at, byte_at, want, is_replica, kind_of, may_have, Start, format_of, horizon_at, start_at, length_at, whole_body, body_at, frame_of, read_frame}
+use Rattle.warm_frames.specs.Sizes.{header_size, frame_size}
 use Rattle.warm_frames.specs.Spelling.{Spells}
 use Rattle.warm_frames.proofs.FieldLemmas.{bind_ok, want_ok, ok_is}
-use Rattle.warm_frames.proofs.FaultLemmas.{Only, only_then, only_fault, only_want, frame_lasts, ShortOrLasting, number_short, start_short, number_long, byte_long}
+use Rattle.warm_frames.proofs.FaultLemmas.{Only, only_then, only_fault, only_want, frame_lasts, ShortOrLasting, number_short, start_short, header_most, most_of, format_is, number_long, byte_long}
 use Rattle.warm_frames.proofs.FrameLemmas.{length_ok, frame_read}
 
 -- ---- results, with more bytes behind
@@ -57,31 +59,33 @@ byte_goes (b ∷ bytes) more = refl
 
 -- ---- the header, with more bytes behind
 
-abbrev pub kind_behind : List ℕ → Kind × ℕ × List ℕ → Kind × ℕ × List ℕ
-kind_behind more x = (x.0, x.1, x.2 ++ more)
+horizon_goes : (format : Format) (bytes more : List ℕ) → Goes (behind more) (horizon_at format bytes) (horizon_at format (bytes ++ more))
+horizon_goes Narrow bytes more = refl
+horizon_goes Wide bytes more = number_goes w64 bytes more
 
-start_goes : (bytes more : List ℕ) → Goes (kind_behind more) (start_at bytes) (start_at (bytes ++ more))
+start_goes : (bytes more : List ℕ) → Goes (behind more) (start_at bytes) (start_at (bytes ++ more))
 unfolding start_at
 start_goes bytes more =
-    goes_on (behind more) (kind_behind more) _ _ _ _ (number_goes w32 bytes more) (λ letters.
-    goes_on (λ b. b) (kind_behind more) _ _ _ _ (stays (want (eqb letters.0 MAGIC) BadMagic)) (λ known.
-    goes_on (behind more) (kind_behind more) _ _ _ _ (byte_goes letters.1 more) (λ number.
-    goes_on (λ k. k) (kind_behind more) _ _ _ _ (stays (kind_of number.0)) (λ kind.
-    goes_on (behind more) (kind_behind more) _ _ _ _ (number_goes w16 number.1 more) (λ sender.
-    goes_on (λ b. b) (kind_behind more) _ _ _ _ (stays (want (is_replica sender.0) BadSender)) (λ good. refl))))))
+    goes_on (behind more) (behind more) _ _ _ _ (number_goes w32 bytes more) (λ letters.
+    goes_on (λ m. m) (behind more) _ _ _ _ (stays (format_of letters.0)) (λ format.
+    goes_on (behind more) (behind more) _ _ _ _ (byte_goes letters.1 more) (λ number.
+    goes_on (λ k. k) (behind more) _ _ _ _ (stays (kind_of number.0)) (λ kind.
+    goes_on (behind more) (behind more) _ _ _ _ (number_goes w16 number.1 more) (λ sender.
+    goes_on (λ b. b) (behind more) _ _ _ _ (stays (want (is_replica sender.0) BadSender)) (λ good.
+    goes_on (behind more) (behind more) _ _ _ _ (horizon_goes format sender.1 more) (λ horizon. refl)))))))
 
-length_goes : (kind : Kind) (bytes more : List ℕ) → Goes (behind more) (length_at kind bytes) (length_at kind (bytes ++ more))
+length_goes : (format : Format) (kind : Kind) (bytes more : List ℕ) → Goes (behind more) (length_at format kind bytes) (length_at format kind (bytes ++ more))
 unfolding length_at
-length_goes kind bytes more =
+length_goes format kind bytes more =
     goes_on (behind more) (behind more) _ _ _ _ (number_goes w32 bytes more) (λ len.
-    goes_on (λ b. b) (behind more) _ _ _ _ (stays (want (may_have kind len.0) BadLength)) (λ allowed. refl))
+    goes_on (λ b. b) (behind more) _ _ _ _ (stays (want (may_have format kind len.0) BadLength)) (λ allowed. refl))
 
 -- once the header says a size or a fault, it says so whatever follows
 pub size_goes : (bytes more : List ℕ) → Goes (λ n. n) (frame_size bytes) (frame_size (bytes ++ more))
 unfolding frame_size
 size_goes bytes more =
-    goes_on (kind_behind more) (λ n. n) _ _ _ _ (start_goes bytes more) (λ start.
-    goes_on (behind more) (λ n. n) _ _ _ _ (length_goes start.0 start.2 more) (λ len. refl))
+    goes_on (behind more) (λ n. n) _ _ _ _ (start_goes bytes more) (λ start.
+    goes_on (behind more) (λ n. n) _ _ _ _ (length_goes start.0.format start.0.kind start.1 more) (λ len. refl))
 
 abbrev pub failed : {A : Type 0} → FrameFault → Result A FrameFault
 failed e = Err e
@@ -107,46 +111,60 @@ known_stays (Err e) later goes known = ⊎_elim (λ short. absurd (known (ap (λ
 
 -- ---- what a header says
 
-start_long : (bytes : List ℕ) (x : Kind × ℕ × List ℕ) → start_at bytes ≡ Ok x → length bytes ≡ 7 + length x.2
+horizon_long : (format : Format) (bytes : List ℕ) (x : ℕ × List ℕ) → horizon_at format bytes ≡ Ok x → length bytes + 11 ≡ header_size format + length x.1
+horizon_long Narrow bytes x e = subst (λ (y : ℕ × List ℕ). length bytes + 11 ≡ 11 + length y.1) (ok_is (0, bytes) x e) (omega arith)
+horizon_long Wide bytes x e = omega (arith, number_long w64 Truncated bytes x e)
+
+-- what is read of a header as far as the horizon: how long it is, and that the letters are those of its format
+pub record StartLong (bytes : List ℕ) (x : Start × List ℕ) : Type 0 where
+  pub long : length bytes + 4 ≡ header_size x.0.format + length x.1
+  pub most : header_most bytes ≡ header_size x.0.format
+
+start_long : (bytes : List ℕ) (x : Start × List ℕ) → start_at bytes ≡ Ok x → StartLong bytes x
 unfolding start_at
 start_long bytes x e =
     let a = bind_ok (number_at w32 Truncated bytes) _ x e in
-    let g = want_ok (eqb a.0.0 MAGIC) BadMagic _ x a.2 in
-    let b = bind_ok (byte_at Truncated a.0.1) _ x g.1 in
+    let m = bind_ok (format_of a.0.0) _ x a.2 in
+    let b = bind_ok (byte_at Truncated a.0.1) _ x m.2 in
     let d = bind_ok (kind_of b.0.0) _ x b.2 in
     let f = bind_ok (number_at w16 Truncated b.0.1) _ x d.2 in
     let good = want_ok (is_replica f.0.0) BadSender _ x f.2 in
-    let made : Kind × ℕ × List ℕ = (d.0, f.0.0, f.0.1) in
-    subst (λ (y : Kind × ℕ × List ℕ). length bytes ≡ 7 + length y.2) (ok_is made x good.1)
-    (omega (arith, number_long w32 Truncated bytes a.0 a.1, byte_long Truncated a.0.1 b.0 b.1, number_long w16 Truncated b.0.1 f.0 f.1))
+    let h = bind_ok (horizon_at m.0 f.0.1) _ x good.1 in
+    let made : Start × List ℕ = (record { format = m.0; kind = d.0; sender = f.0.0; horizon = h.0.0 }, h.0.1) in
+    subst (StartLong bytes) (ok_is made x h.2) (record {
+      long = omega (arith, number_long w32 Truncated bytes a.0 a.1, byte_long Truncated a.0.1 b.0 b.1, number_long w16 Truncated b.0.1 f.0 f.1, horizon_long m.0 f.0.1 h.0 h.1);
+      most = ap most_of a.1 ∙ sym (format_is a.0.0 m.0 m.1);
+    })
 
 -- bytes that begin with a whole header, and what is read of them
 pub record Headed (bytes : List ℕ) (size : ℕ) : Type 0 where
-  pub kind : Kind
-  pub sender : ℕ
+  pub start : Start
   pub len : ℕ
   pub rest : List ℕ
-  pub size_is : size ≡ HEADER_SIZE + len
-  pub length_is : length bytes ≡ HEADER_SIZE + length rest
-  pub allowed : may_have kind len ≡ true
-  pub reads : read_frame bytes ≡ (whole_body len rest >>= frame_of kind sender)
+  pub size_is : size ≡ header_size start.format + len
+  pub length_is : length bytes ≡ header_size start.format + length rest
+  pub most : header_most bytes ≡ header_size start.format
+  pub allowed : may_have start.format start.kind len ≡ true
+  pub reads : read_frame bytes ≡ (whole_body len rest >>= frame_of start)
 
 pub headed : (bytes : List ℕ) (size : ℕ) → frame_size bytes ≡ Ok size → Headed bytes size
 unfolding frame_size read_frame body_at
 headed bytes size e =
     let a = bind_ok (start_at bytes) _ size e in
-    let b = bind_ok (length_at a.0.0 a.0.2) _ size a.2 in
-    let l = length_ok a.0.0 a.0.2 b.0 b.1 in
+    let start = a.0.0 in
+    let b = bind_ok (length_at start.format start.kind a.0.1) _ size a.2 in
+    let l = length_ok start.format start.kind a.0.1 b.0 b.1 in
+    let s = start_long bytes a.0 a.1 in
     record {
-      kind = a.0.0;
-      sender = a.0.1;
+      start = start;
       len = b.0.0;
       rest = b.0.1;
-      size_is = sym (ok_is (HEADER_SIZE + b.0.0) size b.2);
-      length_is = omega (arith, start_long bytes a.0 a.1, number_long w32 Truncated a.0.2 b.0 l.0);
+      size_is = sym (ok_is (header_size start.format + b.0.0) size b.2);
+      length_is = omega (arith, s.long, number_long w32 Truncated a.0.1 b.0 l.0);
+      most = s.most;
       allowed = l.1;
-      reads = ap (λ (r : Result (Kind × ℕ × List ℕ) FrameFault). r >>= λ start. body_at start.0 start.2 >>= λ body. frame_of start.0 start.1 body) a.1
-          ∙ ap (λ (r : Result (ℕ × List ℕ) FrameFault). (r >>= λ len. whole_body len.0 len.1) >>= λ body. frame_of a.0.0 a.0.1 body) b.1;
+      reads = ap (λ (r : Result (Start × List ℕ) FrameFault). r >>= λ start. body_at start.0.format start.0.kind start.1 >>= λ body. frame_of start.0 body) a.1
+          ∙ ap (λ (r : Result (ℕ × List ℕ) FrameFault). (r >>= λ len. whole_body len.0 len.1) >>= λ body. frame_of start body) b.1;
     }
 
 -- fewer bytes than its size end too soon
@@ -173,13 +191,28 @@ size_whole bytes e size is =
     let as_many : h.len ≡ length h.rest = omega (arith, h.size_is, h.length_is) in
     let test : leb h.len (length h.rest) ≡ true = grind (arith, nat_tests, as_many) in
     let back : leb (length h.rest) h.len ≡ true = grind (arith, nat_tests, as_many) in
-    let reads : read_frame bytes ≡ frame_of h.kind h.sender h.rest = h.reads ∙ rw (test, back) refl in
-    only_fault IsLasting (frame_of h.kind h.sender h.rest) e (frame_lasts h.kind h.sender h.rest) (sym reads ∙ is)
+    let reads : read_frame bytes ≡ frame_of h.start h.rest = h.reads ∙ rw (test, back) refl in
+    only_fault IsLasting (frame_of h.start h.rest) e (frame_lasts h.start h.rest) (sym reads ∙ is)
 
-most_bytes : (kind : Kind) (len : ℕ) → may_have kind len ≡ true → len ≤ 4 + MAX_ENTRY_SIZE * MAX_ENTRIES
-most_bytes kinds.Entries len e = grind (arith, nat_tests, e)
-most_bytes kinds.Digest len e = grind (arith, nat_tests, e)
-most_bytes kinds.Want len e = grind (arith, nat_tests, e)
+most_bytes : (format : Format) (kind : Kind) (len : ℕ) → may_have format kind len ≡ true → len ≤ 4 + MAX_ENTRY_SIZE * MAX_ENTRIES
+most_bytes Narrow kinds.Entries len e = grind (arith, nat_tests, e)
+most_bytes Wide kinds.Entries len e = grind (arith, nat_tests, e)
+most_bytes format kinds.Digest len e = grind (arith, nat_tests, e)
+most_bytes format kinds.Want len e = grind (arith, nat_tests, e)
+
+least_bytes : (format : Format) (kind : Kind) (len : ℕ) → may_have format kind len ≡ true → 4 ≤ len
+least_bytes Narrow kinds.Entries len e = grind (arith, nat_tests, e)
+least_bytes Wide kinds.Entries len e = grind (arith, nat_tests, e)
+least_bytes format kinds.Digest len e = grind (arith, nat_tests, e)
+least_bytes format kinds.Want len e = grind (arith, nat_tests, e)
+
+most_header : (format : Format) → header_size format ≤ 19
+most_header Narrow = omega arith
+most_header Wide = omega arith
+
+least_header : (format : Format) → 11 ≤ header_size format
+least_header Narrow = omega arith
+least_header Wide = omega arith
 
 -- ---- faults of a header
 
@@ -198,34 +231,73 @@ err_twice e (Err d) f g k each is = ap (λ (x : FrameFault). Err x) (err_is d e 
 pub size_fault : (bytes : List ℕ) (e : FrameFault) → frame_size bytes ≡ Err e → read_frame bytes ≡ Err e
 unfolding frame_size read_frame body_at
 size_fault bytes e is =
-    err_then e (start_at bytes) _ _ (λ start. err_twice e (length_at start.0 start.2) _ _ _ (λ len made. no_err made)) is
+    err_then e (start_at bytes) _ _ (λ start. err_twice e (length_at start.0.format start.0.kind start.1) _ _ _ (λ len made. no_err made)) is
 
-length_short : (P : FrameFault → Type 0) (kind : Kind) (bytes : List ℕ) → (length bytes < 4 → P Truncated) → P BadLength → Only P (length_at kind bytes)
+length_short : (P : FrameFault → Type 0) (format : Format) (kind : Kind) (bytes : List ℕ) → (length bytes < 4 → P Truncated) → P BadLength → Only P (length_at format kind bytes)
 unfolding length_at
-length_short P kind bytes short bad =
+length_short P format kind bytes short bad =
     only_then P (number_at w32 Truncated bytes) _ (number_short P w32 bytes short) (λ len is_len.
-    only_then P (want (may_have kind len.0) BadLength) _ (only_want P (may_have kind len.0) BadLength bad) (λ allowed is_allowed. tt))
+    only_then P (want (may_have format kind len.0) BadLength) _ (only_want P (may_have format kind len.0) BadLength bad) (λ allowed is_allowed. tt))
 
-size_only : (bytes : List ℕ) → Only (ShortOrLasting (length bytes)) (frame_size bytes)
+size_only : (bytes : List ℕ) → Only (ShortOrLasting (header_most bytes) (length bytes)) (frame_size bytes)
 unfolding frame_size
 size_only bytes =
-    let P = ShortOrLasting (length bytes) in
+    let P = ShortOrLasting (header_most bytes) (length bytes) in
     only_then P (start_at bytes) _ (start_short bytes) (λ start is_start.
-    only_then P (length_at start.0 start.2) _ (length_short P start.0 start.2 (λ few. inl (refl, omega (arith, few, start_long bytes start is_start))) (inr (omega arith, omega arith))) (λ len is_len. tt))
+    let s = start_long bytes start is_start in
+    only_then P (length_at start.0.format start.0.kind start.1) _ (length_short P start.0.format start.0.kind start.1 (λ few. inl (refl, omega (arith, few, s.long, s.most))) (inr (omega arith, omega arith))) (λ len is_len. tt))
 
 -- Truncated is no fault for good
 pub truncated_mends : IsLasting Truncated → ⊥
 truncated_mends lasts = omega (arith, lasts.0)
 
+-- a header that isn't whole has fewer bytes than one of its format
+pub header_fewer : (bytes : List ℕ) → frame_size bytes ≡ Err Truncated → length bytes < header_most bytes
+header_fewer bytes e = ⊎_elim (λ short. short.1) (λ lasts. absurd (truncated_mends lasts)) (only_fault (ShortOrLasting (header_most bytes) (length bytes)) (frame_size bytes) Truncated (size_only bytes) e)
+
+most_header_of : (bytes : List ℕ) → header_most bytes ≤ HEADER_SIZE
+most_header_of bytes = cases (number_at w32 Truncated bytes)
+  where
+    either_way : (b : Bool) → cond b 19 11 ≤ HEADER_SIZE
+    either_way true = omega arith
+    either_way false = omega arith
+
+    cases : (r : Result (ℕ × List ℕ) FrameFault) → most_of r ≤ HEADER_SIZE
+    cases (Ok x) = either_way (eqb x.0 MAGIC)
+    cases (Err e) = omega arith
+
 pub header_short : (bytes : List ℕ) → frame_size bytes ≡ Err Truncated → length bytes < HEADER_SIZE
-header_short bytes e = ⊎_elim (λ short. short.1) (λ lasts. absurd (truncated_mends lasts)) (only_fault (ShortOrLasting (length bytes)) (frame_size bytes) Truncated (size_only bytes) e)
+header_short bytes e = omega (arith, header_fewer bytes e, most_header_of bytes)
+
+-- the letters are there from the fourth byte on
+letters_stay : (front later : Result (ℕ × List ℕ) FrameFault) (more : List ℕ) → Goes (behind more) front later → (front ≡ Err Truncated → ⊥) → most_of later ≡ most_of front
+letters_stay (Ok x) later more goes known = ap most_of goes
+letters_stay (Err e) later more goes known = ⊎_elim (λ short. absurd (known (ap (λ (f : FrameFault). Err f) short))) (λ same. ap most_of same) goes
+
+-- bytes that say no size are fewer than the size that they say with more
+pub size_over : (begun more : List ℕ) (size : ℕ) → frame_size begun ≡ Err Truncated → frame_size (begun ++ more) ≡ Ok size → length begun < size
+size_over begun more size short is =
+    let h = headed (begun ++ more) size is in
+    let least = least_bytes h.start.format h.start.kind h.len h.allowed in
+    let wide = least_header h.start.format in
+    ⊎_elim (λ few. let four : length begun < 4 = ltb-true (length begun) 4 few in omega (arith, four, h.size_is, least, wide))
+    (λ enough.
+    let read : number_at w32 Truncated begun ≡ Ok (from_be_bytes w32 (take 4 begun), drop 4 begun) = rw enough refl in
+    let known : number_at w32 Truncated begun ≡ Err Truncated → ⊥ = λ e. no_ok (sym e ∙ read) in
+    let same : header_most (begun ++ more) ≡ header_most begun = letters_stay (number_at w32 Truncated begun) (number_at w32 Truncated (begun ++ more)) more (number_goes w32 begun more) known in
+    omega (arith, header_fewer begun short, same, h.most, h.size_is))
+    (either (ltb (length begun) 4))
 
 pub header_lasts : (bytes : List ℕ) (e : FrameFault) → frame_size bytes ≡ Err e → (e ≡ Truncated) ⊎ IsLasting e
-header_lasts bytes e is = ⊎_elim (λ short. inl short.0) (λ lasts. inr lasts) (only_fault (ShortOrLasting (length bytes)) (frame_size bytes) e (size_only bytes) is)
+header_lasts bytes e is = ⊎_elim (λ short. inl short.0) (λ lasts. inr lasts) (only_fault (ShortOrLasting (header_most bytes) (length bytes)) (frame_size bytes) e (size_only bytes) is)
 
 -- a whole header says its size whatever follows
 pub header_enough : (bytes more : List ℕ) → HEADER_SIZE ≤ length bytes → frame_size (bytes ++ more) ≡ frame_size bytes
 header_enough bytes more enough = known_stays (frame_size bytes) (frame_size (bytes ++ more)) (size_goes bytes more) (λ short. let few = header_short bytes short in omega (arith, few, enough))
+
+-- bytes that are as many as the size that they say with more say it themselves
+pub size_settled : (bytes more : List ℕ) (size : ℕ) → frame_size (bytes ++ more) ≡ Ok size → size ≤ length bytes → frame_size (bytes ++ more) ≡ frame_size bytes
+size_settled bytes more size is enough = known_stays (frame_size bytes) (frame_size (bytes ++ more)) (size_goes bytes more) (λ short. let less = size_over bytes more size short is in omega (arith, less, enough))
 
 -- ---- fronts
 
@@ -308,9 +380,10 @@ by_size bytes short (Err e) is =
     omega (arith, few)
 by_size bytes short (Ok size) is =
     let h = headed bytes size is in
-    let most = most_bytes h.kind h.len h.allowed in
+    let most = most_bytes h.start.format h.start.kind h.len h.allowed in
+    let wide = most_header h.start.format in
     let less : length bytes < size = below bytes size is short in
-    omega (arith, less, most, h.size_is)
+    omega (arith, less, most, wide, h.size_is)
 
 -- a part of a frame has fewer bytes than the longest frame
 pub part_is_short : (bytes : List ℕ) → IsPart bytes → length bytes < HEADER_SIZE + 4 + MAX_ENTRY_SIZE * MAX_ENTRIES

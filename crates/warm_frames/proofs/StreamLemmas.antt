@@ -1,16 +1,15 @@
 -- Streams: what was fed is frames and a rest, and there is one such reading.
 use Rattle.std.proofs.Common.{◌≡◌, inl, inr, ℕ, ◌≤◌, List, [], ◌∷◌, ◌++◌, length, take, drop, Option, Some, None, Result, Ok, Err, refl, sym, ap, subst, ◌∙◌, append_assoc, ⊎_elim, arith}
 use Rattle.std.specs.Prelude.{option_to_list}
-use Rattle.std.specs.List.{AllByRecursion, flat_map}
 use Rattle.std.proofs.lemmas.List.{append-nil, take_all, take_at, drop_at, take-append-drop, take-append-le}
 use Rattle.std.proofs.lemmas.List.Concat.{flat_map-cons}
 use Rattle.warm_frames.specs.declared.decoder.Fed.{Fed}
 use Rattle.warm_frames.specs.declared.fault.FrameFault.{FrameFault}
 use Rattle.warm_frames.specs.declared.fault.FrameFault.TheVariants.{Truncated}
 use Rattle.warm_frames.specs.declared.frame.Frame.{Frame}
-use Rattle.warm_frames.specs.Pieces.{DecoderState, Inside, Broken, IsPart, IsLasting, ShowsFault, Takes, Breaks, Feeds, Feeding, bytes_taken, taken_in, frame_given, frames_given, Feedings, Splits, Fails}
+use Rattle.warm_frames.specs.Pieces.{DecoderState, Inside, Broken, IsPart, IsLasting, ShowsFault, Takes, Breaks, Feeds, Feeding, bytes_taken, taken_in, frame_given, frames_given, Feedings, SpellAll, texts_of, Splits, Fails}
 use Rattle.warm_frames.specs.Reading.{read_frame}
-use Rattle.warm_frames.specs.Spelling.{IsFrame, spelling}
+use Rattle.warm_frames.specs.Spelling.{Spells}
 use Rattle.warm_frames.proofs.FrameLemmas.{frame_read, one_spelling, no_prefix}
 use Rattle.warm_frames.proofs.SizeLemmas.{failed, no_ok, err_is, lt_or_le, truncated_mends, nothing_short, part_without_header, fault_for_good}
 
@@ -42,10 +41,12 @@ one_fed calls new rest begun piece taken None next later takes run =
 one_fed calls new rest begun piece taken (Some frame) next later takes run =
     let after = later [] nothing_is_part (subst (λ (s : DecoderState). Feedings s calls new) takes.2 run) in
     let first = takes.1 in
+    let text = begun ++ take taken piece in
     record {
-      whole = sym (append_assoc begun (take taken piece) (taken_in calls)) ∙ (λ i. first.text i ++ after.whole i)
-          ∙ sym (append_assoc (spelling frame) (flat_map spelling (frames_given calls)) rest) ∙ ap (λ (w : List ℕ). w ++ rest) (sym (flat_map-cons spelling frame (frames_given calls)));
-      each = (first.fits, after.each);
+      texts = text ∷ after.texts;
+      whole = sym (append_assoc begun (take taken piece) (taken_in calls)) ∙ ap (λ (w : List ℕ). text ++ w) after.whole
+          ∙ sym (append_assoc text (texts_of after.texts) rest);
+      each = (first, after.each);
       part = after.part;
     }
 
@@ -59,7 +60,7 @@ one_answered calls new rest begun piece (Err fault) next later part ends (inr br
 fed_from : (calls : List Feeding) (new : DecoderState) (rest : List ℕ) → new ≡ Inside rest → Later calls new rest
 fed_from [] new rest ends begun part run =
     let same : begun ≡ rest = inside_is begun rest (sym run ∙ ends) in
-    record { whole = append-nil begun ∙ same; each = tt; part = subst IsPart same part }
+    record { texts = []; whole = append-nil begun ∙ same; each = tt; part = subst IsPart same part }
 fed_from (c ∷ calls) new rest ends begun part run =
     let all = one_answered calls new rest begun c.piece c.answer run.0 (fed_from calls new rest ends) part ends run.1 run.2 in
     let bytes : taken_in (c ∷ calls) ≡ bytes_taken c.piece c.answer ++ taken_in calls = flat_map-cons (λ (d : Feeding). bytes_taken d.piece d.answer) c calls in
@@ -75,9 +76,10 @@ in_pieces calls rest run = fed_from calls (Inside rest) rest refl [] nothing_is_
 pub fault_in_pieces : (calls : List Feeding) (begun piece : List ℕ) (fault : FrameFault) → Feedings (Inside []) calls (Inside begun) → Breaks begun piece fault Broken → Fails (taken_in calls ++ piece) (frames_given calls) fault
 fault_in_pieces calls begun piece fault run breaks =
     let split = in_pieces calls begun run in
-    let front = flat_map spelling (frames_given calls) in
+    let front = texts_of split.texts in
     let n = breaks.0 in
     record {
+      texts = split.texts;
       bad = begun ++ take n piece;
       later = drop n piece;
       whole = ap (λ (w : List ℕ). w ++ piece) split.whole ∙ append_assoc front begun piece
@@ -95,53 +97,50 @@ shorter a x b y same le = sym (take-append-le (length a) b y le) ∙ ap (take (l
 longer : (a x b y : List ℕ) → a ++ x ≡ b ++ y → length a ≤ length b → b ≡ a ++ drop (length a) b
 longer a x b y same le = sym (take-append-drop (length a) b) ∙ ap (λ (w : List ℕ). w ++ drop (length a) b) (shorter a x b y same le)
 
--- where one frame's spelling is a front of another's, they are one frame
-front_frame : (f g : Frame) (x y : List ℕ) → IsFrame f → IsFrame g → spelling f ++ x ≡ spelling g ++ y → length (spelling f) ≤ length (spelling g) → f ≡ g
-front_frame f g x y is_f is_g same le =
-    let rest = drop (length (spelling f)) (spelling g) in
-    let parts : spelling g ≡ spelling f ++ rest = longer (spelling f) x (spelling g) y same le in
-    let none : rest ≡ [] = no_prefix (spelling f) rest f g (record { fits = is_f; text = refl }) (record { fits = is_g; text = sym parts }) in
-    one_spelling (spelling g) f g (record { fits = is_f; text = parts ∙ ap (λ (r : List ℕ). spelling f ++ r) none ∙ append-nil (spelling f) }) (record { fits = is_g; text = refl })
+-- where one frame's spelling is a front of another's, they are one spelling
+front_text : (s t : List ℕ) (f g : Frame) (x y : List ℕ) → Spells s f → Spells t g → s ++ x ≡ t ++ y → length s ≤ length t → s ≡ t
+front_text s t f g x y is_f is_g same le =
+    let rest = drop (length s) t in
+    let parts : t ≡ s ++ rest = longer s x t y same le in
+    let none : rest ≡ [] = no_prefix s rest f g is_f (subst (λ (w : List ℕ). Spells w g) parts is_g) in
+    sym (append-nil s) ∙ ap (λ (r : List ℕ). s ++ r) (sym none) ∙ sym parts
 
-first_frame : (f g : Frame) (x y : List ℕ) → IsFrame f → IsFrame g → spelling f ++ x ≡ spelling g ++ y → f ≡ g
-first_frame f g x y is_f is_g same =
-    ⊎_elim (λ lt. front_frame f g x y is_f is_g same (omega (arith, lt))) (λ le. sym (front_frame g f y x is_g is_f (sym same) le)) (lt_or_le (length (spelling f)) (length (spelling g)))
+first_text : (s t : List ℕ) (f g : Frame) (x y : List ℕ) → Spells s f → Spells t g → s ++ x ≡ t ++ y → s ≡ t
+first_text s t f g x y is_f is_g same =
+    ⊎_elim (λ lt. front_text s t f g x y is_f is_g same (omega (arith, lt))) (λ le. sym (front_text t s g f y x is_g is_f (sym same) le)) (lt_or_le (length s) (length t))
 
 -- no frame comes first
 abbrev pub NoFrame : List ℕ → Type 0
-NoFrame bytes = (f : Frame) (more : List ℕ) → IsFrame f → bytes ≡ spelling f ++ more → ⊥
-
-frame_reads : (f : Frame) → IsFrame f → read_frame (spelling f) ≡ Ok f
-frame_reads f fits = frame_read (spelling f) f (record { fits = fits; text = refl })
+NoFrame bytes = (text : List ℕ) (f : Frame) (more : List ℕ) → Spells text f → bytes ≡ text ++ more → ⊥
 
 part_no_frame : (rest : List ℕ) → IsPart rest → NoFrame rest
-part_no_frame rest part f more fits is =
-    let n = length (spelling f) in
-    let front : take n rest ≡ spelling f = ap (take n) is ∙ take_at (spelling f) more n refl in
-    no_ok (sym (part n) ∙ ap read_frame front ∙ frame_reads f fits)
+part_no_frame rest part text f more spelt is =
+    let n = length text in
+    let front : take n rest ≡ text = ap (take n) is ∙ take_at text more n refl in
+    no_ok (sym (part n) ∙ ap read_frame front ∙ frame_read text f spelt)
 
 bad_no_frame : (bad later : List ℕ) (fault : FrameFault) → ShowsFault bad fault → NoFrame (bad ++ later)
-bad_no_frame bad later fault shown f more fits is =
-    ⊎_elim (λ lt. no_ok (sym (shown.not_before (length (spelling f)) lt) ∙ ap read_frame (shorter (spelling f) more bad later (sym is) (omega (arith, lt))) ∙ frame_reads f fits))
-    (λ le. fault_for_good bad (drop (length bad) (spelling f)) fault f shown (record { fits = fits; text = sym (longer bad later (spelling f) more is le) }))
-    (lt_or_le (length (spelling f)) (length bad))
+bad_no_frame bad later fault shown text f more spelt is =
+    ⊎_elim (λ lt. no_ok (sym (shown.not_before (length text) lt) ∙ ap read_frame (shorter text more bad later (sym is) (omega (arith, lt))) ∙ frame_read text f spelt))
+    (λ le. fault_for_good bad (drop (length bad) text) fault f shown (subst (λ (w : List ℕ). Spells w f) (longer bad later text more is le) spelt))
+    (lt_or_le (length text) (length bad))
 
-same_reading : (fs gs : List Frame) (r q : List ℕ) → AllByRecursion IsFrame fs → AllByRecursion IsFrame gs → NoFrame r → NoFrame q → flat_map spelling fs ++ r ≡ flat_map spelling gs ++ q → (fs ≡ gs) × (r ≡ q)
-same_reading [] [] r q all_f all_g none_r none_q same = (refl, same)
-same_reading [] (g ∷ gs) r q all_f all_g none_r none_q same =
-    absurd (none_r g (flat_map spelling gs ++ q) all_g.0 (same ∙ ap (λ (w : List ℕ). w ++ q) (flat_map-cons spelling g gs) ∙ append_assoc (spelling g) (flat_map spelling gs) q))
-same_reading (f ∷ fs) [] r q all_f all_g none_r none_q same =
-    absurd (none_q f (flat_map spelling fs ++ r) all_f.0 (sym same ∙ ap (λ (w : List ℕ). w ++ r) (flat_map-cons spelling f fs) ∙ append_assoc (spelling f) (flat_map spelling fs) r))
-same_reading (f ∷ fs) (g ∷ gs) r q all_f all_g none_r none_q same =
-    let x = flat_map spelling fs ++ r in
-    let y = flat_map spelling gs ++ q in
-    let left : flat_map spelling (f ∷ fs) ++ r ≡ spelling f ++ x = ap (λ (w : List ℕ). w ++ r) (flat_map-cons spelling f fs) ∙ append_assoc (spelling f) (flat_map spelling fs) r in
-    let right : flat_map spelling (g ∷ gs) ++ q ≡ spelling g ++ y = ap (λ (w : List ℕ). w ++ q) (flat_map-cons spelling g gs) ∙ append_assoc (spelling g) (flat_map spelling gs) q in
-    let both : spelling f ++ x ≡ spelling g ++ y = sym left ∙ same ∙ right in
-    let first : f ≡ g = first_frame f g x y all_f.0 all_g.0 both in
-    let len : length (spelling f) ≡ length (spelling g) = ap (λ (k : Frame). length (spelling k)) first in
-    let behind : x ≡ y = sym (drop_at (spelling f) x (length (spelling f)) refl) ∙ ap (drop (length (spelling f))) both ∙ drop_at (spelling g) y (length (spelling f)) (sym len) in
-    let later = same_reading fs gs r q all_f.1 all_g.1 none_r none_q behind in
+same_reading : (ts us : List (List ℕ)) (fs gs : List Frame) (r q : List ℕ) → SpellAll ts fs → SpellAll us gs → NoFrame r → NoFrame q → texts_of ts ++ r ≡ texts_of us ++ q → (fs ≡ gs) × (r ≡ q)
+same_reading [] [] [] [] r q all_f all_g none_r none_q same = (refl, same)
+same_reading [] us (f ∷ fs) gs r q all_f all_g none_r none_q same = absurd all_f
+same_reading (t ∷ ts) us [] gs r q all_f all_g none_r none_q same = absurd all_f
+same_reading ts [] fs (g ∷ gs) r q all_f all_g none_r none_q same = absurd all_g
+same_reading ts (u ∷ us) fs [] r q all_f all_g none_r none_q same = absurd all_g
+same_reading [] (u ∷ us) [] (g ∷ gs) r q all_f all_g none_r none_q same = absurd (none_r u g (texts_of us ++ q) all_g.0 (same ∙ append_assoc u (texts_of us) q))
+same_reading (t ∷ ts) [] (f ∷ fs) [] r q all_f all_g none_r none_q same = absurd (none_q t f (texts_of ts ++ r) all_f.0 (sym same ∙ append_assoc t (texts_of ts) r))
+same_reading (t ∷ ts) (u ∷ us) (f ∷ fs) (g ∷ gs) r q all_f all_g none_r none_q same =
+    let x = texts_of ts ++ r in
+    let y = texts_of us ++ q in
+    let both : t ++ x ≡ u ++ y = sym (append_assoc t (texts_of ts) r) ∙ same ∙ append_assoc u (texts_of us) q in
+    let text : t ≡ u = first_text t u f g x y all_f.0 all_g.0 both in
+    let first : f ≡ g = one_spelling u f g (subst (λ (w : List ℕ). Spells w f) text all_f.0) all_g.0 in
+    let behind : x ≡ y = sym (drop_at t x (length t) refl) ∙ ap (drop (length t)) both ∙ drop_at u y (length t) (sym (ap length text)) in
+    let later = same_reading ts us fs gs r q all_f.1 all_g.1 none_r none_q behind in
     ((λ i. first i ∷ later.0 i), later.1)
 
 mended : (fault : FrameFault) → failed {A = Frame} fault ≡ failed Truncated → IsLasting fault → ⊥
@@ -154,12 +153,12 @@ not_shorter a x b y e d first second same =
 
 -- a stream has one list of frames and one rest
 pub one_reading : (stream : List ℕ) (fs gs : List Frame) (r q : List ℕ) → Splits stream fs r → Splits stream gs q → (fs ≡ gs) × (r ≡ q)
-one_reading stream fs gs r q a b = same_reading fs gs r q a.each b.each (part_no_frame r a.part) (part_no_frame q b.part) (sym a.whole ∙ b.whole)
+one_reading stream fs gs r q a b = same_reading a.texts b.texts fs gs r q a.each b.each (part_no_frame r a.part) (part_no_frame q b.part) (sym a.whole ∙ b.whole)
 
 -- a part shows no fault
 pub part_or_fault : (stream : List ℕ) (fs gs : List Frame) (r : List ℕ) (fault : FrameFault) → Splits stream fs r → Fails stream gs fault → ⊥
 part_or_fault stream fs gs r fault a b =
-    let same = same_reading fs gs r (b.bad ++ b.later) a.each b.each (part_no_frame r a.part) (bad_no_frame b.bad b.later fault b.shown) (sym a.whole ∙ b.whole) in
+    let same = same_reading a.texts b.texts fs gs r (b.bad ++ b.later) a.each b.each (part_no_frame r a.part) (bad_no_frame b.bad b.later fault b.shown) (sym a.whole ∙ b.whole) in
     let n = length b.bad in
     let front : take n r ≡ b.bad = ap (take n) same.1 ∙ take_at b.bad b.later n refl in
     mended fault (sym b.shown.read ∙ ap read_frame (sym front) ∙ a.part n) b.shown.lasting
@@ -167,7 +166,7 @@ part_or_fault stream fs gs r fault a b =
 -- a stream has one fault, behind one list of frames
 pub one_fault : (stream : List ℕ) (fs gs : List Frame) (e d : FrameFault) → Fails stream fs e → Fails stream gs d → (fs ≡ gs) × (e ≡ d)
 one_fault stream fs gs e d a b =
-    let same = same_reading fs gs (a.bad ++ a.later) (b.bad ++ b.later) a.each b.each (bad_no_frame a.bad a.later e a.shown) (bad_no_frame b.bad b.later d b.shown) (sym a.whole ∙ b.whole) in
+    let same = same_reading a.texts b.texts fs gs (a.bad ++ a.later) (b.bad ++ b.later) a.each b.each (bad_no_frame a.bad a.later e a.shown) (bad_no_frame b.bad b.later d b.shown) (sym a.whole ∙ b.whole) in
     let as_long : length b.bad ≤ length a.bad = not_shorter a.bad a.later b.bad b.later e d a.shown b.shown same.1 in
     let as_short : length a.bad ≤ length b.bad = not_shorter b.bad b.later a.bad a.later d e b.shown a.shown (sym same.1) in
     let bad : a.bad ≡ b.bad = sym (shorter a.bad a.later b.bad b.later same.1 as_short) ∙ take_all (length a.bad) b.bad as_long in

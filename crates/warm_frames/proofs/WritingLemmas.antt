@@ -1,5 +1,5 @@
 -- What is written, piece by piece.
-use Rattle.std.proofs.Common.{◌≡◌, ℕ, ◌+◌, ◌<◌, List, [], ◌∷◌, ◌++◌, length, take, get_or, sym, ap, ◌∙◌, append_assoc, arith}
+use Rattle.std.proofs.Common.{◌≡◌, ℕ, ◌+◌, ◌<◌, ◌^◌, List, [], ◌∷◌, ◌++◌, length, take, get_or, sym, ap, ◌∙◌, append_assoc, arith}
 use Rattle.std.specs.List.{flat_map}
 use Rattle.std.proofs.lemmas.List.{append-nil, take_more, length-append}
 use Rattle.std.proofs.lemmas.List.Concat.{flat_map-append}
@@ -9,10 +9,11 @@ use Rattle.warm_history.specs.declared.hist.Entry.{Entry}
 use Rattle.warm_history.specs.declared.hist.PageHist.{PageHist}
 use Rattle.warm_history.specs.declared.hist.PageHist.TheVariants.{Once, Twice}
 use Rattle.warm_history.specs.LatestTwo.{LatestTwo}
+use Rattle.warm_frames.specs.declared.format.Format.TheVariants.{Wide}
 use Rattle.warm_frames.specs.declared.frame.Frame.TheVariants as frames
 use Rattle.warm_frames.specs.Entries.{hist_bytes, entry_bytes, entries_bytes}
 use Rattle.warm_frames.specs.Sums.{IsSumTable, table_size}
-use Rattle.warm_frames.specs.Spelling.{header_bytes, Spells}
+use Rattle.warm_frames.specs.Spelling.{header_bytes, SpellsIn}
 use Rattle.warm_frames.proofs.BodyLemmas.{length-sums}
 
 -- the bytes of one entry more come last
@@ -24,9 +25,9 @@ pub entries_and_one : (es : List Entry) (i : ℕ) (e : Entry) → i < length es 
 entries_and_one es i e lt is = rw (take_more es i e lt, ← is) (bytes_and_one (take i es) e)
 
 -- the length of one entry more
-pub length_and_one : (es : List Entry) (i len more : ℕ) (e : Entry) → i < length es → e ≡ get_or es i e → more ≡ length (hist_bytes e.hist) → len ≡ length (entries_bytes (take i es)) → len + (6 + more) ≡ length (entries_bytes (take (i + 1) es))
+pub length_and_one : (es : List Entry) (i len more : ℕ) (e : Entry) → i < length es → e ≡ get_or es i e → more ≡ length (hist_bytes e.hist) → len ≡ length (entries_bytes (take i es)) → len + (10 + more) ≡ length (entries_bytes (take (i + 1) es))
 length_and_one es i len more e lt is one so_far =
-    let own : length (entry_bytes e) ≡ 6 + length (hist_bytes e.hist) = length-append (bytes_of_page e.page) (hist_bytes e.hist) in
+    let own : length (entry_bytes e) ≡ 10 + length (hist_bytes e.hist) = length-append (bytes_of_page e.page) (hist_bytes e.hist) in
     let whole : length (entries_bytes (take (i + 1) es)) ≡ length (entries_bytes (take i es)) + length (entry_bytes e) = ap length (entries_and_one es i e lt is) ∙ length-append (entries_bytes (take i es)) (entry_bytes e) in
     omega (arith, own, whole)
 
@@ -43,8 +44,9 @@ put_twice old tagged mid new last prev two h tag later earlier is_last is_prev i
     ∙ (λ i. (old ++ 2 ∷ []) ++ (bytes_of_stamp (is_last i) ++ bytes_of_stamp (is_prev i)))
     ∙ append_assoc old (2 ∷ []) (bytes_of_stamp two.last ++ bytes_of_stamp two.prev) ∙ ap (λ (k : PageHist). old ++ hist_bytes k) (sym is)
 
-pub digest_spelled : (text : List ℕ) (sender : ℕ) (sums : List (List ℕ)) → IsReplica sender → IsSumTable sums → text ≡ header_bytes 2 sender table_size ++ flat_map (λ sum. sum) sums → Spells text (frames.Digest sender sums)
-digest_spelled text sender sums good table is = record {
-  fits = (good, table);
-  text = is ∙ ap (λ (n : ℕ). header_bytes 2 sender n ++ flat_map (λ sum. sum) sums) (sym (length-sums sums table));
+pub digest_spelled : (text : List ℕ) (sender horizon : ℕ) (sums : List (List ℕ)) → IsReplica sender → horizon < 2 ^ 64 → IsSumTable sums → text ≡ header_bytes Wide 2 sender horizon table_size ++ flat_map (λ sum. sum) sums → SpellsIn Wide text (frames.Digest sender horizon sums)
+digest_spelled text sender horizon sums good few table is = record {
+  fits = (good, few, table);
+  holds = tt;
+  text = is ∙ ap (λ (n : ℕ). header_bytes Wide 2 sender horizon n ++ flat_map (λ sum. sum) sums) (sym (length-sums sums table));
 }

@@ -2,12 +2,15 @@
 use Rattle.std.specs.Prelude.{◌≡◌, ℕ, ◌≤◌, List, ◌∷◌, ◌++◌, length}
 use Rattle.std.specs.List.{AllByRecursion, flat_map}
 use Rattle.std.specs.declared.cmp.Ordering.TheVariants.{Less}
-use Rattle.warm_stamps.specs.Bytes.{bytes_of_stamp, bytes_of_page, IsStamp, IsPage}
+use Rattle.warm_stamps.specs.Bytes.{bytes_of_stamp, bytes_of_page, narrow_bytes_of_page, IsStamp, IsPage}
+use Rattle.warm_stamps.specs.declared.PageId.{PageId}
 use Rattle.warm_stamps.specs.Stamps.{stamp_cmp}
 use Rattle.warm_history.specs.declared.hist.PageHist.{PageHist}
 use Rattle.warm_history.specs.declared.hist.PageHist.TheVariants.{Once, Twice}
 use Rattle.warm_history.specs.declared.hist.Entry.{Entry}
 use Rattle.warm_history.specs.Histories.{PagesRise}
+use Rattle.warm_frames.specs.declared.format.Format.{Format}
+use Rattle.warm_frames.specs.declared.format.Format.TheVariants.{Narrow, Wide}
 use Rattle.warm_frames.specs.declared.entries.TheConstants.{MAX_ENTRIES}
 
 -- the stamps of an entry are stamps, and of two the second is older
@@ -35,10 +38,22 @@ abbrev pub hist_bytes : PageHist → List ℕ
 hist_bytes (Once last) = 1 ∷ bytes_of_stamp last
 hist_bytes (Twice two) = 2 ∷ (bytes_of_stamp two.last ++ bytes_of_stamp two.prev)
 
+-- a page as a format has it
+abbrev pub page_bytes_in : Format → PageId → List ℕ
+page_bytes_in Narrow p = narrow_bytes_of_page p
+page_bytes_in Wide p = bytes_of_page p
+
 -- the page, and what is kept of it
-abbrev pub entry_bytes : Entry → List ℕ
-entry_bytes e = bytes_of_page e.page ++ hist_bytes e.hist
+abbrev pub entry_bytes_in : Format → Entry → List ℕ
+entry_bytes_in format e = page_bytes_in format e.page ++ hist_bytes e.hist
 
 -- entries one after the other, without a count
+abbrev pub entries_bytes_in : Format → List Entry → List ℕ
+entries_bytes_in format es = flat_map (entry_bytes_in format) es
+
+-- as they are written, and summed
+abbrev pub entry_bytes : Entry → List ℕ
+entry_bytes e = entry_bytes_in Wide e
+
 abbrev pub entries_bytes : List Entry → List ℕ
-entries_bytes es = flat_map entry_bytes es
+entries_bytes es = entries_bytes_in Wide es

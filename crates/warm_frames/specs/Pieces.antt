@@ -1,17 +1,17 @@
 -- Frames in a stream of bytes that comes in pieces.
-use Rattle.std.specs.Prelude.{◌≡◌, ◌⊎◌, ℕ, ◌+◌, ◌*◌, ◌<◌, ◌≤◌, Bool, true, false, List, [], ◌∷◌, ◌++◌, length, take, Option, Some, None, option_to_list, Result, Ok, Err}
-use Rattle.std.specs.List.{AllByRecursion, flat_map}
+use Rattle.std.specs.Prelude.{◌≡◌, ◌⊎◌, ℕ, ◌+◌, ◌*◌, ◌<◌, ◌≤◌, Bool, true, false, List, [], ◌∷◌, ◌++◌, length, take, ⊤, Option, Some, None, option_to_list, Result, Ok, Err}
+use Rattle.std.specs.List.{flat_map}
 use Rattle.warm_frames.specs.declared.writing.TheConstants.{MAX_ENTRY_SIZE}
 use Rattle.warm_frames.specs.declared.decoder.Fed.{Fed}
 use Rattle.warm_frames.specs.declared.entries.TheConstants.{MAX_ENTRIES}
 use Rattle.warm_frames.specs.declared.fault.FrameFault.{FrameFault}
 use Rattle.warm_frames.specs.declared.fault.FrameFault.TheVariants.{Memory, Truncated, Failed}
 use Rattle.warm_frames.specs.declared.frame.Frame.{Frame}
-use Rattle.warm_frames.specs.declared.reading.TheConstants.{HEADER_SIZE}
+use Rattle.warm_frames.specs.declared.format.TheConstants.{HEADER_SIZE}
 use Rattle.warm_frames.specs.Faults.{fault_code}
 use Rattle.warm_frames.specs.Reading.{read_frame}
 use Rattle.warm_frames.specs.Sizes.{SaysSize}
-use Rattle.warm_frames.specs.Spelling.{IsFrame, spelling, Spells}
+use Rattle.warm_frames.specs.Spelling.{Spells}
 
 -- Where a decoder stands in its stream: inside a frame of which these bytes have come, none between two frames; or behind a fault.
 pub data DecoderState : Type 0 where
@@ -101,16 +101,30 @@ Feedings old (c ∷ more) new = (next : DecoderState) × Feeds old c.piece c.ans
 
 -- ---- streams
 
--- the stream is the spellings of these frames, and then a part of one
+-- the texts spell the frames, one each
+abbrev pub SpellAll : List (List ℕ) → List Frame → Type 0
+SpellAll [] [] = ⊤
+SpellAll [] (f ∷ fs) = ⊥
+SpellAll (t ∷ ts) [] = ⊥
+SpellAll (t ∷ ts) (f ∷ fs) = Spells t f × SpellAll ts fs
+
+-- texts one after the other
+abbrev pub texts_of : List (List ℕ) → List ℕ
+texts_of [] = []
+texts_of (t ∷ ts) = t ++ texts_of ts
+
+-- the stream is spellings of these frames, and then a part of one
 pub record Splits (stream : List ℕ) (frames : List Frame) (rest : List ℕ) : Type 0 where
-  pub whole : stream ≡ flat_map spelling frames ++ rest
-  pub each : AllByRecursion IsFrame frames
+  pub texts : List (List ℕ)
+  pub whole : stream ≡ texts_of texts ++ rest
+  pub each : SpellAll texts frames
   pub part : IsPart rest
 
--- the stream is the spellings of these frames, then bytes that show this fault, and whatever follows
+-- the stream is spellings of these frames, then bytes that show this fault, and whatever follows
 pub record Fails (stream : List ℕ) (frames : List Frame) (fault : FrameFault) : Type 0 where
+  pub texts : List (List ℕ)
   pub bad : List ℕ
   pub later : List ℕ
-  pub whole : stream ≡ flat_map spelling frames ++ (bad ++ later)
-  pub each : AllByRecursion IsFrame frames
+  pub whole : stream ≡ texts_of texts ++ (bad ++ later)
+  pub each : SpellAll texts frames
   pub shown : ShowsFault bad fault

@@ -6,13 +6,15 @@ use Rattle.std.specs.Simd.{first_chunks}
 use Rattle.warm_stamps.specs.declared.TheConstants.{BUCKETS, MAX_REPLICAS}
 use Rattle.warm_stamps.specs.declared.Stamp.{Stamp}
 use Rattle.warm_stamps.specs.declared.PageId.{PageId}
-use Rattle.warm_stamps.specs.Bytes.{stamp_of, page_of}
+use Rattle.warm_stamps.specs.Bytes.{stamp_of, page_of, page_of_narrow}
 use Rattle.warm_stamps.specs.Stamps.{stamp_cmp}
 use Rattle.warm_history.specs.declared.hist.PageHist.{PageHist}
 use Rattle.warm_history.specs.declared.hist.PageHist.TheVariants.{Once, Twice}
 use Rattle.warm_history.specs.declared.hist.Entry.{Entry}
 use Rattle.warm_history.specs.Carried.{comes_after}
-use Rattle.warm_frames.specs.declared.reading.TheConstants.{MAGIC}
+use Rattle.warm_frames.specs.declared.format.Format.{Format}
+use Rattle.warm_frames.specs.declared.format.Format.TheVariants.{Narrow, Wide}
+use Rattle.warm_frames.specs.declared.format.TheConstants.{MAGIC, NARROW_MAGIC, NARROW_ENTRY_SIZE}
 use Rattle.warm_frames.specs.declared.writing.TheConstants.{MAX_ENTRY_SIZE}
 use Rattle.warm_frames.specs.declared.entries.TheConstants.{MAX_ENTRIES}
 use Rattle.warm_frames.specs.declared.fault.FrameFault.{FrameFault}
@@ -63,28 +65,50 @@ kind_of (suc (suc zero)) = Ok kinds.Digest
 kind_of (suc (suc (suc zero))) = Ok kinds.Want
 kind_of (suc (suc (suc (suc n)))) = Err BadKind
 
--- the lengths that the body of a frame of this kind can have
-abbrev pub may_have : Kind → ℕ → Bool
-may_have kinds.Entries len = nat_le 4 len && nat_le len (4 + MAX_ENTRY_SIZE * MAX_ENTRIES)
-may_have kinds.Digest len = len == table_size
-may_have kinds.Want len = len == 8
+-- the format of the magic number
+abbrev pub format_of : ℕ → Result Format FrameFault
+format_of letters = if letters == MAGIC then Ok Wide else if letters == NARROW_MAGIC then Ok Narrow else Err BadMagic
 
--- the magic number, the kind and the sender, and what follows
-unfoldable pub start_at : List ℕ → Result (Kind × ℕ × List ℕ) FrameFault
+-- the most bytes of an entry
+abbrev pub entry_size : Format → ℕ
+entry_size Narrow = NARROW_ENTRY_SIZE
+entry_size Wide = MAX_ENTRY_SIZE
+
+-- the lengths that the body of a frame of this kind can have
+abbrev pub may_have : Format → Kind → ℕ → Bool
+may_have format kinds.Entries len = nat_le 4 len && nat_le len (4 + entry_size format * MAX_ENTRIES)
+may_have format kinds.Digest len = len == table_size
+may_have format kinds.Want len = len == 8
+
+-- a header as far as the horizon
+pub record Start : Type 0 where
+  pub format : Format
+  pub kind : Kind
+  pub sender : ℕ
+  pub horizon : ℕ
+
+-- the horizon, and what follows; a format without one has horizon 0
+abbrev pub horizon_at : Format → List ℕ → Result (ℕ × List ℕ) FrameFault
+horizon_at Narrow bytes = Ok (0, bytes)
+horizon_at Wide bytes = number_at w64 Truncated bytes
+
+-- the magic number, the kind, the sender and the horizon, and what follows
+unfoldable pub start_at : List ℕ → Result (Start × List ℕ) FrameFault
 start_at bytes = do
   letters ← number_at w32 Truncated bytes
-  known ← want (letters.0 == MAGIC) BadMagic
+  format ← format_of letters.0
   number ← byte_at Truncated letters.1
   kind ← kind_of number.0
   sender ← number_at w16 Truncated number.1
   good ← want (is_replica sender.0) BadSender
-  Ok (kind, sender.0, sender.1)
+  horizon ← horizon_at format sender.1
+  Ok (record { format = format; kind = kind; sender = sender.0; horizon = horizon.0 }, horizon.1)
 
 -- the length, where the kind can have it, and what follows
-unfoldable pub length_at : Kind → List ℕ → Result (ℕ × List ℕ) FrameFault
-length_at kind bytes = do
+unfoldable pub length_at : Format → Kind → List ℕ → Result (ℕ × List ℕ) FrameFault
+length_at format kind bytes = do
   len ← number_at w32 Truncated bytes
-  allowed ← want (may_have kind len.0) BadLength
+  allowed ← want (may_have format kind len.0) BadLength
   Ok len
 
 -- a body of this length, which is all that is left
@@ -95,9 +119,9 @@ whole_body len rest = do
   Ok rest
 
 -- the length, and the body, which is all that follows
-unfoldable pub body_at : Kind → List ℕ → Result (List ℕ) FrameFault
-body_at kind bytes = do
-  len ← length_at kind bytes
+unfoldable pub body_at : Format → Kind → List ℕ → Result (List ℕ) FrameFault
+body_at format kind bytes = do
+  len ← length_at format kind bytes
   whole_body len.0 len.1
 
 -- ---- entries
@@ -128,26 +152,39 @@ hist_at (suc (suc zero)) bytes = do
   Ok (two, prev.1)
 hist_at (suc (suc (suc n))) bytes = Err BadTag
 
--- an entry whose page comes after the one before
-unfoldable pub entry_at : Option PageId → List ℕ → Result (Entry × List ℕ) FrameFault
-entry_at before bytes = do
+-- a page, of ten bytes or, in the narrow format, of six
+unfoldable pub page_at : Format → List ℕ → Result (PageId × List ℕ) FrameFault
+page_at Narrow bytes = do
   six ← front_at 6 BadLength bytes
-  greater ← want (comes_after before (page_of six.0)) BadOrder
-  tag ← byte_at BadLength six.1
+  Ok (page_of_narrow six.0, six.1)
+page_at Wide bytes = do
+  ten ← front_at 10 BadLength bytes
+  Ok (page_of ten.0, ten.1)
+
+-- an entry whose page comes after the one before
+unfoldable pub entry_at : Format → Option PageId → List ℕ → Result (Entry × List ℕ) FrameFault
+entry_at format before bytes = do
+  page ← page_at format bytes
+  greater ← want (comes_after before page.0) BadOrder
+  tag ← byte_at BadLength page.1
   hist ← hist_at tag.0 tag.1
-  Ok (record { page = page_of six.0; hist = hist.0 }, hist.1)
+  Ok (record { page = page.0; hist = hist.0 }, hist.1)
+
+-- an entry as it is written
+abbrev pub written_entry_at : Option PageId → List ℕ → Result (Entry × List ℕ) FrameFault
+written_entry_at before bytes = entry_at Wide before bytes
 
 -- so many entries
-unfoldable pub entries_at : ℕ → Option PageId → List ℕ → Result (List Entry × List ℕ) FrameFault
-entries_at zero before bytes = Ok ([], bytes)
-entries_at (suc n) before bytes = do
-  first ← entry_at before bytes
-  later ← entries_at n (Some first.0.page) first.1
+unfoldable pub entries_at : Format → ℕ → Option PageId → List ℕ → Result (List Entry × List ℕ) FrameFault
+entries_at format zero before bytes = Ok ([], bytes)
+entries_at format (suc n) before bytes = do
+  first ← entry_at format before bytes
+  later ← entries_at format n (Some first.0.page) first.1
   Ok (first.0 ∷ later.0, later.1)
 
 -- so many entries, the first of which comes after none
-abbrev pub entries_from : ℕ → List ℕ → Result (List Entry × List ℕ) FrameFault
-entries_from count bytes = entries_at count None bytes
+abbrev pub entries_from : Format → ℕ → List ℕ → Result (List Entry × List ℕ) FrameFault
+entries_from format count bytes = entries_at format count None bytes
 
 -- how many entries a body has, and what follows the count
 unfoldable pub count_at : List ℕ → Result (ℕ × List ℕ) FrameFault
@@ -157,16 +194,16 @@ count_at body = do
   Ok count
 
 -- all of these bytes as so many entries
-unfoldable pub all_entries : ℕ → List ℕ → Result (List Entry) FrameFault
-all_entries count bytes = do
-  entries ← entries_from count bytes
+unfoldable pub all_entries : Format → ℕ → List ℕ → Result (List Entry) FrameFault
+all_entries format count bytes = do
+  entries ← entries_from format count bytes
   ended ← want (length entries.1 == 0) BadLength
   Ok entries.0
 
-unfoldable pub entries_of : List ℕ → Result (List Entry) FrameFault
-entries_of body = do
+unfoldable pub entries_of : Format → List ℕ → Result (List Entry) FrameFault
+entries_of format body = do
   count ← count_at body
-  all_entries count.0 count.1
+  all_entries format count.0 count.1
 
 -- ---- frames
 
@@ -174,23 +211,27 @@ entries_of body = do
 unfoldable pub sums_of : List ℕ → Result (List (List ℕ)) FrameFault
 sums_of body = if length body == table_size then Ok (first_chunks SUM_SIZE BUCKETS body) else Err BadLength
 
-unfoldable pub frame_of : Kind → ℕ → List ℕ → Result Frame FrameFault
-frame_of kinds.Entries sender body = do
-  entries ← entries_of body
-  Ok (frames.Entries sender entries)
-frame_of kinds.Digest sender body = do
+abbrev pub frame_by : Kind → Format → ℕ → ℕ → List ℕ → Result Frame FrameFault
+frame_by kinds.Entries format sender horizon body = do
+  entries ← entries_of format body
+  Ok (frames.Entries sender horizon entries)
+frame_by kinds.Digest format sender horizon body = do
   sums ← sums_of body
-  Ok (frames.Digest sender sums)
-frame_of kinds.Want sender body = do
+  Ok (frames.Digest sender horizon sums)
+frame_by kinds.Want format sender horizon body = do
   mask ← number_at w64 BadLength body
-  Ok (frames.Want sender mask.0)
+  Ok (frames.Want sender horizon mask.0)
+
+-- the frame of a body
+unfoldable pub frame_of : Start → List ℕ → Result Frame FrameFault
+frame_of start body = frame_by start.kind start.format start.sender start.horizon body
 
 -- a whole frame
 unfoldable pub read_frame : List ℕ → Result Frame FrameFault
 read_frame bytes = do
   start ← start_at bytes
-  body ← body_at start.0 start.2
-  frame_of start.0 start.1 body
+  body ← body_at start.0.format start.0.kind start.1
+  frame_of start.0 body
 
 -- how many entries of a body room is taken for
 abbrev pub entries_room : List ℕ → Result ℕ FrameFault
@@ -207,8 +248,8 @@ room_in kinds.Want body = Ok 0
 unfoldable pub room_of : List ℕ → Result ℕ FrameFault
 room_of bytes = do
   start ← start_at bytes
-  body ← body_at start.0 start.2
-  room_in start.0 body
+  body ← body_at start.0.format start.0.kind start.1
+  room_in start.0.kind body
 
 -- room is taken, for one entry at least
 abbrev pub TakesRoom : Result ℕ FrameFault → Type 0

@@ -2,15 +2,22 @@
 use Rattle.std.specs.Prelude.{◌≡◌, ◌≢◌, ℕ, ◌+◌, ◌<◌, List, ◌++◌, length, Option, Some, None, Result, Ok, Err}
 use Rattle.warm_frames.specs.declared.fault.FrameFault.{FrameFault}
 use Rattle.warm_frames.specs.declared.fault.FrameFault.TheVariants.{Truncated}
-use Rattle.warm_frames.specs.declared.reading.TheConstants.{HEADER_SIZE}
+use Rattle.warm_frames.specs.declared.format.Format.{Format}
+use Rattle.warm_frames.specs.declared.format.Format.TheVariants.{Narrow, Wide}
+use Rattle.warm_frames.specs.declared.format.TheConstants.{HEADER_SIZE, NARROW_HEADER_SIZE}
 use Rattle.warm_frames.specs.Reading.{◌>>=◌, start_at, length_at}
+
+-- how many bytes a header has
+abbrev pub header_size : Format → ℕ
+header_size Narrow = NARROW_HEADER_SIZE
+header_size Wide = HEADER_SIZE
 
 -- the size of the frame that begins with these bytes, its header and its body
 unfoldable pub frame_size : List ℕ → Result ℕ FrameFault
 frame_size bytes = do
   start ← start_at bytes
-  len ← length_at start.0 start.2
-  Ok (HEADER_SIZE + len.0)
+  len ← length_at start.0.format start.0.kind start.1
+  Ok (header_size start.0.format + len.0)
 
 -- what is known of the size of the frame that has begun: nothing while its header isn't whole, and then more than has come
 abbrev pub KnowsSize : List ℕ → Option ℕ → Type 0

@@ -1,35 +1,68 @@
--- The one spelling of a frame.
-use Rattle.std.specs.Prelude.{◌≡◌, ℕ, ◌<◌, ◌^◌, List, ◌∷◌, ◌++◌, length}
-use Rattle.std.specs.List.{flat_map}
+-- The spellings of a frame: one in each format that can hold it.
+use Rattle.std.specs.Prelude.{◌≡◌, ℕ, ◌<◌, ◌^◌, List, [], ◌∷◌, ◌++◌, length, ⊤}
+use Rattle.std.specs.List.{AllByRecursion, flat_map}
 use Rattle.std.specs.Int.{w16, w32, w64, to_be_bytes}
 use Rattle.warm_stamps.specs.Bytes.{IsReplica}
-use Rattle.warm_frames.specs.declared.reading.TheConstants.{MAGIC}
+use Rattle.warm_history.specs.declared.hist.Entry.{Entry}
+use Rattle.warm_frames.specs.declared.format.Format.{Format}
+use Rattle.warm_frames.specs.declared.format.Format.TheVariants.{Narrow, Wide}
+use Rattle.warm_frames.specs.declared.format.TheConstants.{MAGIC, NARROW_MAGIC}
 use Rattle.warm_frames.specs.declared.frame.Frame.{Frame}
 use Rattle.warm_frames.specs.declared.frame.Frame.TheVariants.{Entries, Digest, Want}
-use Rattle.warm_frames.specs.Entries.{IsEntryList, entries_bytes}
+use Rattle.warm_frames.specs.Entries.{IsEntryList, entries_bytes_in}
 use Rattle.warm_frames.specs.Sums.{IsSumTable}
 
 -- the frames that there are
 abbrev pub IsFrame : Frame → Type 0
-IsFrame (Entries sender entries) = IsReplica sender × IsEntryList entries
-IsFrame (Digest sender sums) = IsReplica sender × IsSumTable sums
-IsFrame (Want sender mask) = IsReplica sender × (mask < 2 ^ 64)
+IsFrame (Entries sender horizon entries) = IsReplica sender × (horizon < 2 ^ 64) × IsEntryList entries
+IsFrame (Digest sender horizon sums) = IsReplica sender × (horizon < 2 ^ 64) × IsSumTable sums
+IsFrame (Want sender horizon mask) = IsReplica sender × (horizon < 2 ^ 64) × (mask < 2 ^ 64)
 
--- the magic number, the kind, the sender and the length of the body
-abbrev pub header_bytes : ℕ → ℕ → ℕ → List ℕ
-header_bytes kind sender len = to_be_bytes w32 MAGIC ++ (kind ∷ (to_be_bytes w16 sender ++ to_be_bytes w32 len))
+-- the magic number of a format
+abbrev pub magic_of : Format → ℕ
+magic_of Narrow = NARROW_MAGIC
+magic_of Wide = MAGIC
+
+-- the horizon, where the format has one
+abbrev pub horizon_bytes : Format → ℕ → List ℕ
+horizon_bytes Narrow horizon = []
+horizon_bytes Wide horizon = to_be_bytes w64 horizon
+
+-- the magic number, the kind, the sender, the horizon and the length of the body
+abbrev pub header_bytes : Format → ℕ → ℕ → ℕ → ℕ → List ℕ
+header_bytes format kind sender horizon len = to_be_bytes w32 (magic_of format) ++ (kind ∷ (to_be_bytes w16 sender ++ (horizon_bytes format horizon ++ to_be_bytes w32 len)))
 
 -- a header and the body
-abbrev pub framed : ℕ → ℕ → List ℕ → List ℕ
-framed kind sender body = header_bytes kind sender (length body) ++ body
+abbrev pub framed : Format → ℕ → ℕ → ℕ → List ℕ → List ℕ
+framed format kind sender horizon body = header_bytes format kind sender horizon (length body) ++ body
 
 -- the body of a frame of entries: their count, and the entries
+abbrev pub spelling_in : Format → Frame → List ℕ
+spelling_in format (Entries sender horizon entries) = framed format 1 sender horizon (to_be_bytes w32 (length entries) ++ entries_bytes_in format entries)
+spelling_in format (Digest sender horizon sums) = framed format 2 sender horizon (flat_map (λ sum. sum) sums)
+spelling_in format (Want sender horizon mask) = framed format 3 sender horizon (to_be_bytes w64 mask)
+
+-- the spelling that is written
 abbrev pub spelling : Frame → List ℕ
-spelling (Entries sender entries) = framed 1 sender (to_be_bytes w32 (length entries) ++ entries_bytes entries)
-spelling (Digest sender sums) = framed 2 sender (flat_map (λ sum. sum) sums)
-spelling (Want sender mask) = framed 3 sender (to_be_bytes w64 mask)
+spelling f = spelling_in Wide f
+
+-- the numbers of all pages have 32 bits
+abbrev pub AreNarrow : List Entry → Type 0
+AreNarrow es = AllByRecursion (λ e. e.page.no < 2 ^ 32) es
+
+-- the format can hold the frame: the narrow one has no horizon, and page numbers of 32 bits
+abbrev pub Holds : Format → Frame → Type 0
+Holds Wide f = ⊤
+Holds Narrow (Entries sender horizon entries) = (horizon ≡ 0) × AreNarrow entries
+Holds Narrow (Digest sender horizon sums) = horizon ≡ 0
+Holds Narrow (Want sender horizon mask) = horizon ≡ 0
+
+-- these bytes spell this frame in a format
+pub record SpellsIn (format : Format) (bytes : List ℕ) (frame : Frame) : Type 0 where
+  pub fits : IsFrame frame
+  pub holds : Holds format frame
+  pub text : bytes ≡ spelling_in format frame
 
 -- these bytes spell this frame
-pub record Spells (bytes : List ℕ) (frame : Frame) : Type 0 where
-  pub fits : IsFrame frame
-  pub text : bytes ≡ spelling frame
+abbrev pub Spells : List ℕ → Frame → Type 0
+Spells bytes frame = (format : Format) × SpellsIn format bytes frame

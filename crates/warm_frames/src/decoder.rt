@@ -1,13 +1,14 @@
 //! Frames from a stream of bytes that comes in pieces.
 ghost use Rattle.std.specs.Prelude.{◌≡◌, ◌⊎◌, ◌<◌, ◌++◌, [], length, None, IfOk, IfErr, OnOk, OnErr};
-ghost use Rattle.warm_frames.specs.declared.reading.TheConstants.{HEADER_SIZE};
+ghost use Rattle.warm_frames.specs.declared.format.TheConstants.{HEADER_SIZE};
 ghost use Rattle.warm_frames.specs.Spelling.{Spells};
 ghost use Rattle.warm_frames.specs.Sizes.{frame_size, KnowsSize, SaysSize};
 ghost use Rattle.warm_frames.specs.Pieces.{DecoderState.Inside, DecodesWith, Feeds, KnowsWith, finish_of};
 
 use crate::fault::FrameFault;
+use crate::format::HEADER_SIZE;
 use crate::frame::{BoxedFrame, decode_boxed};
-use crate::reading::{HEADER_SIZE, frame_size};
+use crate::reading::frame_size;
 use std::alloc::Global;
 use std::cmp::min;
 use std::marker::Model;

@@ -19,6 +19,8 @@ pub enum Frame {
     Entries {
         /// Who sends.
         sender: ReplicaId,
+        /// The sender's horizon: the time before which it forgot stamps.
+        horizon: u64,
         /// The entries, at most [`crate::MAX_ENTRIES`].
         entries: EntryList,
     },
@@ -26,6 +28,8 @@ pub enum Frame {
     Digest {
         /// Who sends.
         sender: ReplicaId,
+        /// The sender's horizon: the time before which it forgot stamps.
+        horizon: u64,
         /// The sum of each bucket.
         sums: SumTable,
     },
@@ -33,6 +37,8 @@ pub enum Frame {
     Want {
         /// Who sends.
         sender: ReplicaId,
+        /// The sender's horizon: the time before which it forgot stamps.
+        horizon: u64,
         /// The buckets: bit b, of value 2^b, asks for bucket b.
         mask: u64,
     },
@@ -49,9 +55,21 @@ pub fn encode(alloc: Global, frame: &Frame) -> Result<Vec<u8>, AllocError>
     ensures exact { IfOk result (λ bytes. bytes.items ≡ spelling frame.now) }
 {
     match frame {
-        Frame::Entries { sender, entries } => entries_text(alloc, *sender, entries),
-        Frame::Digest { sender, sums } => digest_text(alloc, *sender, sums),
-        Frame::Want { sender, mask } => want_text(alloc, *sender, *mask),
+        Frame::Entries {
+            sender,
+            horizon,
+            entries,
+        } => entries_text(alloc, *sender, *horizon, entries),
+        Frame::Digest {
+            sender,
+            horizon,
+            sums,
+        } => digest_text(alloc, *sender, *horizon, sums),
+        Frame::Want {
+            sender,
+            horizon,
+            mask,
+        } => want_text(alloc, *sender, *horizon, *mask),
     }
 }
 

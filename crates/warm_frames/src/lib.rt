@@ -9,6 +9,7 @@
 mod decoder;
 mod entries;
 mod fault;
+mod format;
 mod frame;
 pub mod laws;
 mod reading;

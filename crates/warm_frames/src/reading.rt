@@ -3,23 +3,17 @@
 ghost use Rattle.std.specs.Prelude.{◌≡◌, ◌≤◌, [], vec_capacity};
 ghost use Rattle.std.specs.Int.{w16, w32, w64};
 ghost use Rattle.warm_history.specs.Carried.{comes_after};
-ghost use Rattle.warm_frames.specs.Reading.{Reads, number_at, byte_at, kind_of, may_have, start_at, length_at, body_at, front_at, stamp_in, two_in, hist_at, entry_at, entries_from, count_at, all_entries, entries_of, sums_of, read_frame, room_of, entries_room, Gives};
+ghost use Rattle.warm_frames.specs.Reading.{Reads, number_at, byte_at, kind_of, may_have, horizon_at, start_at, length_at, body_at, front_at, stamp_in, two_in, hist_at, page_at, entry_at, entries_from, count_at, all_entries, entries_of, sums_of, read_frame, room_of, entries_room, Gives};
 ghost use Rattle.warm_frames.specs.Sizes.{frame_size};
 
 use crate::entries::{EntryList, MAX_ENTRIES};
 use crate::fault::FrameFault;
+use crate::format::{Format, entry_size, format_of, header_size};
 use crate::frame::Frame;
 use crate::sums::{SUM_SIZE, SUMS, SumTable, TABLE_SIZE};
-use crate::writing::MAX_ENTRY_SIZE;
 use std::alloc::Global;
 use warm_history::{Entry, PageHist, Two};
-use warm_stamps::{PageId, ReplicaId, Stamp, page_from, stamp_from};
-
-// The letters L2G1, with which each frame begins.
-pub(crate) const MAGIC: u32 = 0x4C32_4731;
-
-// How many bytes a header has: the magic number, the kind, the sender and the length.
-pub(crate) const HEADER_SIZE: usize = 4 + 1 + 2 + 4;
+use warm_stamps::{PageId, ReplicaId, Stamp, page_from, page_from_narrow, stamp_from};
 
 // The kinds of frames, numbered from 1.
 #[derive(Clone, Copy)]
@@ -85,41 +79,52 @@ fn kind_of(number: u8) -> Result<Kind, FrameFault>
     }
 }
 
-fn may_have(kind: Kind, len: usize) -> bool
-    ensures { result ≡ may_have kind len }
+fn may_have(format: Format, kind: Kind, len: usize) -> bool
+    ensures { result ≡ may_have format kind len }
 {
     match kind {
-        Kind::Entries => 4 <= len && len <= 4 + MAX_ENTRY_SIZE * MAX_ENTRIES,
+        Kind::Entries => 4 <= len && len <= 4 + entry_size(format) * MAX_ENTRIES,
         Kind::Digest => len == TABLE_SIZE,
         Kind::Want => len == 8,
     }
 }
 
-// The header as far as the sender.
+// The horizon, where the format has one.
+fn horizon_at(format: Format, bytes: &[u8]) -> Result<(u64, &[u8]), FrameFault>
+    ensures { Reads (λ x. (x.0, x.1.now)) result (horizon_at format bytes.now) }
+{
+    match format {
+        Format::Narrow => Ok((0, bytes)),
+        Format::Wide => u64_at(bytes, FrameFault::Truncated),
+    }
+}
+
+// The header as far as the horizon.
 #[tactic(auto, unfolding(crate::specs::Reading::start_at))]
-fn start_at(bytes: &[u8]) -> Result<(Kind, ReplicaId, &[u8]), FrameFault>
-    ensures { Reads (λ x. (x.0, x.1, x.2.now)) result (start_at bytes.now) }
+fn start_at(bytes: &[u8]) -> Result<(Format, Kind, ReplicaId, u64, &[u8]), FrameFault>
+    ensures { Reads
+        (λ x. (record { format = x.0; kind = x.1; sender = x.2; horizon = x.3 }, x.4.now))
+        result (start_at bytes.now) }
 {
     let (letters, rest) = u32_at(bytes, FrameFault::Truncated)?;
-    if letters != MAGIC {
-        return Err(FrameFault::BadMagic);
-    }
+    let format = format_of(letters)?;
     let (number, rest) = u8_at(rest, FrameFault::Truncated)?;
     let kind = kind_of(number)?;
     let (sender, rest) = u16_at(rest, FrameFault::Truncated)?;
-    match ReplicaId::new(sender) {
-        Ok(sender) => Ok((kind, sender, rest)),
-        Err(_) => Err(FrameFault::BadSender),
-    }
+    let Ok(sender) = ReplicaId::new(sender) else {
+        return Err(FrameFault::BadSender);
+    };
+    let (horizon, rest) = horizon_at(format, rest)?;
+    Ok((format, kind, sender, horizon, rest))
 }
 
 // The length, where the kind can have it, and what follows.
 #[tactic(auto, unfolding(crate::specs::Reading::length_at))]
-fn length_at(kind: Kind, bytes: &[u8]) -> Result<(u32, &[u8]), FrameFault>
-    ensures { Reads (λ x. (x.0, x.1.now)) result (length_at kind bytes.now) }
+fn length_at(format: Format, kind: Kind, bytes: &[u8]) -> Result<(u32, &[u8]), FrameFault>
+    ensures { Reads (λ x. (x.0, x.1.now)) result (length_at format kind bytes.now) }
 {
     let (len, rest) = u32_at(bytes, FrameFault::Truncated)?;
-    if !may_have(kind, len as usize) {
+    if !may_have(format, kind, len as usize) {
         return Err(FrameFault::BadLength);
     }
     Ok((len, rest))
@@ -127,10 +132,10 @@ fn length_at(kind: Kind, bytes: &[u8]) -> Result<(u32, &[u8]), FrameFault>
 
 // The length and the body.
 #[tactic(auto, unfolding(crate::specs::Reading::body_at))]
-fn body_at(kind: Kind, bytes: &[u8]) -> Result<&[u8], FrameFault>
-    ensures { Reads (λ body. body.now) result (body_at kind bytes.now) }
+fn body_at(format: Format, kind: Kind, bytes: &[u8]) -> Result<&[u8], FrameFault>
+    ensures { Reads (λ body. body.now) result (body_at format kind bytes.now) }
 {
-    let (len, body) = length_at(kind, bytes)?;
+    let (len, body) = length_at(format, kind, bytes)?;
     let len = len as usize;
     if body.len() < len {
         return Err(FrameFault::Truncated);
@@ -147,12 +152,12 @@ fn body_at(kind: Kind, bytes: &[u8]) -> Result<&[u8], FrameFault>
 pub(crate) fn frame_size(bytes: &[u8]) -> Result<usize, FrameFault>
     ensures { result ≡ frame_size bytes.now }
 {
-    let (kind, _, rest) = match start_at(bytes) {
+    let (format, kind, _, _, rest) = match start_at(bytes) {
         Ok(start) => start,
         Err(fault) => return Err(fault),
     };
-    match length_at(kind, rest) {
-        Ok((len, _)) => Ok(HEADER_SIZE + len as usize),
+    match length_at(format, kind, rest) {
+        Ok((len, _)) => Ok(header_size(format) + len as usize),
         Err(fault) => Err(fault),
     }
 }
@@ -208,14 +213,34 @@ fn comes_after(before: Option<PageId>, page: PageId) -> bool
     }
 }
 
-#[tactic(auto, unfolding(crate::specs::Reading::entry_at))]
-fn entry_at(before: Option<PageId>, bytes: &[u8]) -> Result<(Entry, &[u8]), FrameFault>
-    ensures { Reads (λ x. (x.0, x.1.now)) result (entry_at before bytes.now) }
+// A page, of ten bytes or, in the narrow format, of six.
+#[tactic(auto, unfolding(crate::specs::Reading::page_at))]
+fn page_at(format: Format, bytes: &[u8]) -> Result<(PageId, &[u8]), FrameFault>
+    ensures { Reads (λ x. (x.0, x.1.now)) result (page_at format bytes.now) }
 {
-    let Some((front, rest)) = bytes.split_first_chunk::<6>() else {
-        return Err(FrameFault::BadLength);
-    };
-    let page = page_from(front);
+    match format {
+        Format::Narrow => {
+            let Some((six, rest)) = bytes.split_first_chunk::<6>() else {
+                return Err(FrameFault::BadLength);
+            };
+            Ok((page_from_narrow(six), rest))
+        }
+        Format::Wide => {
+            let (ten, rest) = ten_at(bytes)?;
+            Ok((page_from(ten), rest))
+        }
+    }
+}
+
+#[tactic(auto, unfolding(crate::specs::Reading::entry_at))]
+fn entry_at(
+    format: Format,
+    before: Option<PageId>,
+    bytes: &[u8],
+) -> Result<(Entry, &[u8]), FrameFault>
+    ensures { Reads (λ x. (x.0, x.1.now)) result (entry_at format before bytes.now) }
+{
+    let (page, rest) = page_at(format, bytes)?;
     if !comes_after(before, page) {
         return Err(FrameFault::BadOrder);
     }
@@ -229,17 +254,18 @@ fn entry_at(before: Option<PageId>, bytes: &[u8]) -> Result<(Entry, &[u8]), Fram
 // The entries one after the other, which are put at the end of those read before.
 fn entries_at<'a>(
     entries: &mut Vec<Entry>,
+    format: Format,
     count: u32,
     bytes: &'a [u8],
 ) -> Result<&'a [u8], FrameFault>
     requires empty { entries.old.items ≡ [] }
     requires room { count ≤ vec_capacity entries.old }
-    ensures { Reads (λ rest. (entries.new.items, rest.now)) result (entries_from count bytes.now) }
+    ensures { Reads (λ rest. (entries.new.items, rest.now)) result (entries_from format count bytes.now) }
 {
     let mut before = None;
     let mut rest = bytes;
     for _ in 0..count {
-        match entry_at(before, rest) {
+        match entry_at(format, before, rest) {
             Ok((entry, after)) => {
                 before = Some(entry.page);
                 entries.push_reserved(entry);
@@ -264,12 +290,17 @@ fn count_at(body: &[u8]) -> Result<(u32, &[u8]), FrameFault>
 
 // All of these bytes as entries, in a vector that has room for them.
 #[tactic(auto, unfolding(crate::specs::Reading::all_entries))]
-fn all_entries(mut entries: Vec<Entry>, count: u32, bytes: &[u8]) -> Result<Vec<Entry>, FrameFault>
+fn all_entries(
+    mut entries: Vec<Entry>,
+    format: Format,
+    count: u32,
+    bytes: &[u8],
+) -> Result<Vec<Entry>, FrameFault>
     requires empty { entries.items ≡ [] }
     requires room { count ≤ vec_capacity entries }
-    ensures { Reads (λ all. all.items) result (all_entries count bytes.now) }
+    ensures { Reads (λ all. all.items) result (all_entries format count bytes.now) }
 {
-    let rest = entries_at(&mut entries, count, bytes)?;
+    let rest = entries_at(&mut entries, format, count, bytes)?;
     if !rest.is_empty() {
         return Err(FrameFault::BadLength);
     }
@@ -278,14 +309,14 @@ fn all_entries(mut entries: Vec<Entry>, count: u32, bytes: &[u8]) -> Result<Vec<
 
 // The entries of a body. Room for them is taken once.
 #[tactic(auto, unfolding(crate::specs::Reading::entries_of))]
-fn entries_of(alloc: Global, body: &[u8]) -> Result<EntryList, FrameFault>
-    ensures { Gives result (entries_of body.now) (entries_room body.now) }
+fn entries_of(alloc: Global, format: Format, body: &[u8]) -> Result<EntryList, FrameFault>
+    ensures { Gives result (entries_of format body.now) (entries_room body.now) }
 {
     let (count, rest) = count_at(body)?;
     let Ok(entries) = Vec::with_capacity(alloc, count as usize) else {
         return Err(FrameFault::Memory);
     };
-    let entries = all_entries(entries, count, rest)?;
+    let entries = all_entries(entries, format, count, rest)?;
     Ok(EntryList::whole(entries))
 }
 
@@ -305,23 +336,35 @@ fn sums_of(body: &[u8]) -> Result<SumTable, FrameFault>
 pub(crate) fn frame_in(alloc: Global, bytes: &[u8]) -> Result<Frame, FrameFault>
     ensures { Gives result (read_frame bytes.now) (room_of bytes.now) }
 {
-    let (kind, sender, rest) = match start_at(bytes) {
+    let (format, kind, sender, horizon, rest) = match start_at(bytes) {
         Ok(start) => start,
         Err(fault) => return Err(fault),
     };
-    let body = body_at(kind, rest)?;
+    let body = body_at(format, kind, rest)?;
     match kind {
         Kind::Entries => {
-            let entries = entries_of(alloc, body)?;
-            Ok(Frame::Entries { sender, entries })
+            let entries = entries_of(alloc, format, body)?;
+            Ok(Frame::Entries {
+                sender,
+                horizon,
+                entries,
+            })
         }
         Kind::Digest => {
             let sums = sums_of(body)?;
-            Ok(Frame::Digest { sender, sums })
+            Ok(Frame::Digest {
+                sender,
+                horizon,
+                sums,
+            })
         }
         Kind::Want => {
             let (mask, _) = u64_at(body, FrameFault::BadLength)?;
-            Ok(Frame::Want { sender, mask })
+            Ok(Frame::Want {
+                sender,
+                horizon,
+                mask,
+            })
         }
     }
 }

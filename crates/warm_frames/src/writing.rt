@@ -3,26 +3,34 @@ ghost use Rattle.std.specs.Prelude.{◌≡◌, ◌≤◌, ◌*◌, ◌++◌, len
 ghost use Rattle.warm_stamps.specs.Bytes.{IsReplica, bytes_of_stamp};
 ghost use Rattle.warm_frames.specs.declared.writing.TheConstants.{MAX_ENTRY_SIZE};
 ghost use Rattle.warm_frames.specs.declared.entries.TheConstants.{MAX_ENTRIES};
+ghost use Rattle.warm_frames.specs.declared.format.Format.TheVariants.{Wide};
 ghost use Rattle.warm_frames.specs.declared.frame.Frame.TheVariants as frames;
 ghost use Rattle.warm_frames.specs.Entries.{hist_bytes, entry_bytes, entries_bytes};
-ghost use Rattle.warm_frames.specs.Spelling.{header_bytes, Spells};
+ghost use Rattle.warm_frames.specs.Spelling.{header_bytes, SpellsIn};
 
 use crate::entries::EntryList;
-use crate::reading::{HEADER_SIZE, MAGIC};
+use crate::format::{HEADER_SIZE, MAGIC};
 use crate::sums::{SumTable, TABLE_SIZE};
 use std::alloc::{AllocError, Global};
 use warm_history::{Entry, PageHist};
 use warm_stamps::{ReplicaId, Stamp, page_bytes};
 
 // The header of a frame, with room for a body of this length.
-fn header(alloc: Global, kind: u8, sender: ReplicaId, len: u32) -> Result<Vec<u8>, AllocError>
-    ensures text { IfOk result (λ text. text.items ≡ header_bytes kind sender len) }
+fn header(
+    alloc: Global,
+    kind: u8,
+    sender: ReplicaId,
+    horizon: u64,
+    len: u32,
+) -> Result<Vec<u8>, AllocError>
+    ensures text { IfOk result (λ text. text.items ≡ header_bytes Wide kind sender horizon len) }
     ensures sender { IsReplica sender }
 {
     let mut text = Vec::with_capacity(alloc, HEADER_SIZE + len as usize)?;
     text.extend_from_slice(&MAGIC.to_be_bytes())?;
     text.push(kind)?;
     text.extend_from_slice(&sender.get().to_be_bytes())?;
+    text.extend_from_slice(&horizon.to_be_bytes())?;
     text.extend_from_slice(&len.to_be_bytes())?;
     Ok(text)
 }
@@ -57,7 +65,7 @@ fn put_hist(text: &mut Vec<u8>, hist: PageHist) -> Result<(), AllocError>
 }
 
 /// The most bytes that an entry has: a page, a tag and two stamps.
-pub const MAX_ENTRY_SIZE: usize = 6 + 1 + 2 * 10;
+pub const MAX_ENTRY_SIZE: usize = 10 + 1 + 2 * 10;
 
 /// Puts the bytes of an entry, as they stand in a frame and as they are summed, behind the text: its
 /// page, a tag, which is the number of its stamps, and the stamps, the later one first.
@@ -89,7 +97,7 @@ fn entries_len(entries: &[Entry]) -> u32
 {
     let mut len = 0;
     for entry in entries {
-        len += 6 + hist_len(entry.hist);
+        len += 10 + hist_len(entry.hist);
     }
     len
 }
@@ -97,12 +105,13 @@ fn entries_len(entries: &[Entry]) -> u32
 pub(crate) fn entries_text(
     alloc: Global,
     sender: ReplicaId,
+    horizon: u64,
     entries: &EntryList,
 ) -> Result<Vec<u8>, AllocError>
-    ensures { IfOk result (λ text. Spells text.items (frames.Entries sender entries.now)) }
+    ensures { IfOk result (λ text. SpellsIn Wide text.items (frames.Entries sender horizon entries.now)) }
 {
     let entries = entries.as_slice();
-    let mut text = header(alloc, 1, sender, 4 + entries_len(entries))?;
+    let mut text = header(alloc, 1, sender, horizon, 4 + entries_len(entries))?;
     text.extend_from_slice(&(entries.len() as u32).to_be_bytes())?;
     for entry in entries {
         put_entry(&mut text, entry)?;
@@ -113,19 +122,25 @@ pub(crate) fn entries_text(
 pub(crate) fn digest_text(
     alloc: Global,
     sender: ReplicaId,
+    horizon: u64,
     sums: &SumTable,
 ) -> Result<Vec<u8>, AllocError>
-    ensures { IfOk result (λ text. Spells text.items (frames.Digest sender sums.now)) }
+    ensures { IfOk result (λ text. SpellsIn Wide text.items (frames.Digest sender horizon sums.now)) }
 {
-    let mut text = header(alloc, 2, sender, TABLE_SIZE as u32)?;
+    let mut text = header(alloc, 2, sender, horizon, TABLE_SIZE as u32)?;
     text.extend_from_slice(sums.as_bytes())?;
     Ok(text)
 }
 
-pub(crate) fn want_text(alloc: Global, sender: ReplicaId, mask: u64) -> Result<Vec<u8>, AllocError>
-    ensures { IfOk result (λ text. Spells text.items (frames.Want sender mask)) }
+pub(crate) fn want_text(
+    alloc: Global,
+    sender: ReplicaId,
+    horizon: u64,
+    mask: u64,
+) -> Result<Vec<u8>, AllocError>
+    ensures { IfOk result (λ text. SpellsIn Wide text.items (frames.Want sender horizon mask)) }
 {
-    let mut text = header(alloc, 3, sender, 8)?;
+    let mut text = header(alloc, 3, sender, horizon, 8)?;
     text.extend_from_slice(&mask.to_be_bytes())?;
     Ok(text)
 }

@@ -1,46 +1,66 @@
 -- How many pairs the maps of the buckets hold, and which maps hold none or the same.
-use Rattle.std.proofs.Common.{◌≡◌, ℕ, List, [], ◌∷◌, ◌++◌, sym, ap, refl, ◌∙◌, subst, arith, length, zero, suc, get_or, ◌/◌, ◌+◌, ◌<◌, ◌≤◌}
+use Rattle.std.proofs.Common.{◌≡◌, ℕ, List, [], ◌∷◌, ◌++◌, sym, ap, refl, ◌∙◌, subst, arith, length, zero, suc, get_or, Option, Some, None, ◌+◌, ◌*◌, ◌<◌, ◌≤◌}
 use Rattle.std.specs.Fn.{Mut, Called}
 use Rattle.std.specs.Array.{IsFromFnResult}
 use Rattle.std.specs.List.{AllByRecursion, AllZip}
-use Rattle.std.specs.BTreeMap.{BTreeMap}
+use Rattle.std.specs.BTreeMap.{BTreeMap, is_at, insert_entry}
 use Rattle.std.specs.Ordering.{nat_cmp}
-use Rattle.std.specs.declared.cmp.Ordering.TheVariants.{Less}
-use Rattle.std.proofs.lemmas.Cmp.{ranked}
 use Rattle.std.proofs.lemmas.List.Elements.{same_from_all_zip}
 use Rattle.warm_history.specs.declared.hist.PageHist.{PageHist}
-use Rattle.warm_history.specs.Tree.{Pairs, AreKept}
-use Rattle.warm_history.specs.BucketMaps.{pairs_of, joined, LiesIn, AreBuckets}
-use Rattle.warm_history.specs.BucketMaps.{PlacesRise}
-use Rattle.warm_history.proofs.TreeLemmas.{ArePlaces}
-use Rattle.warm_history.proofs.PlaceOrder.{below_all_places}
+use Rattle.warm_history.specs.Tree.{Pairs}
+use Rattle.warm_history.specs.BucketMaps.{pairs_of, joined, LiesIn, AreBuckets, AreSmall, map_at, with_map}
+use Rattle.warm_history.specs.Undo.{put_back}
+use Rattle.warm_stamps.proofs.DistinctLemmas.{by_cases}
+use Rattle.std.proofs.lemmas.List.{length-append}
+use Rattle.std.specs.Map.{remove_entry, set_value}
 
--- ---- how many places there are
+-- ---- how many pairs there are
 
-from : (p : ℕ) (pairs : Pairs) → AllByRecursion (λ (e : ℕ × PageHist). nat_cmp p e.0 ≡ Less) pairs → AllByRecursion (λ (e : ℕ × PageHist). p + 1 ≤ e.0) pairs
-from p [] all = tt
-from p (e ∷ pairs) all =
-    let less : p < e.0 = ranked p e.0 Less (sym all.0) in
-    let more : p + 1 ≤ e.0 = omega arith in
-    (more, from p pairs all.1)
+pub few_joined : (ms : List Pairs) → AreSmall ms → length (joined ms) ≤ length ms * 288230376151711743
+few_joined [] all = omega arith
+few_joined (m ∷ ms) all =
+    let few : length m < 288230376151711744 = all.0 in
+    let rest : length (joined ms) ≤ length ms * 288230376151711743 = few_joined ms all.1 in
+    rw length-append (omega arith)
 
-few_from : (first : ℕ) (pairs : Pairs) → first ≤ 18014398509481984 → PlacesRise pairs → ArePlaces pairs → AllByRecursion (λ (e : ℕ × PageHist). first ≤ e.0) pairs → length pairs + first ≤ 18014398509481984
-few_from first [] low rising all above = omega arith
-few_from first (e ∷ pairs) low rising all above =
-    let bucket : e.0 / 281474976710656 < 64 = below_all_places e.0 all.0 in
-    let next : e.0 + 1 ≤ 18014398509481984 = omega arith in
-    let begins : first ≤ e.0 = above.0 in
-    let rest : length pairs + (e.0 + 1) ≤ 18014398509481984 = few_from (e.0 + 1) pairs next rising.1 all.1 (from e.0 pairs rising.0) in
-    omega arith
+pub small_at : (i : ℕ) (ms : List Pairs) → AreSmall ms → length (map_at ms i) < 288230376151711744
+small_at i [] all = omega arith
+small_at zero (m ∷ ms) all = all.0
+small_at (suc i) (m ∷ ms) all = small_at i ms all.1
 
-all_from_zero : (pairs : Pairs) → AllByRecursion (λ (e : ℕ × PageHist). 0 ≤ e.0) pairs
-all_from_zero [] = tt
-all_from_zero (e ∷ pairs) = (omega arith, all_from_zero pairs)
+pub small_with : (i : ℕ) (n : Pairs) (ms : List Pairs) → AreSmall ms → length n < 288230376151711744 → AreSmall (with_map ms i n)
+small_with i n [] all small = tt
+small_with zero n (m ∷ ms) all small = (small, all.1)
+small_with (suc i) n (m ∷ ms) all small = (all.0, small_with i n ms all.1 small)
 
-pub few_kept : (pairs : Pairs) → AreKept pairs → length pairs ≤ 18014398509481984
-few_kept pairs are =
-    let few : length pairs + 0 ≤ 18014398509481984 = few_from 0 pairs (omega arith) are.places_rise are.are_places (all_from_zero pairs) in
-    omega arith
+length-set_value : (p : ℕ) (h : PageHist) (m : Pairs) → length (set_value (is_at (nat_cmp p)) m h) ≡ length m
+length-set_value p h [] = refl
+length-set_value p h (e ∷ m) = by_cases (nat_cmp p e.0) _
+    (λ pe. rw pe (ap suc (length-set_value p h m)))
+    (λ pe. rw pe refl)
+    (λ pe. rw pe (ap suc (length-set_value p h m)))
+
+length-remove : (p : ℕ) (m : Pairs) → length (remove_entry (is_at (nat_cmp p)) m) ≤ length m
+length-remove p [] = omega arith
+length-remove p (e ∷ m) =
+    let rest : length (remove_entry (is_at (nat_cmp p)) m) ≤ length m = length-remove p m in
+    by_cases (nat_cmp p e.0) _
+    (λ pe. rw pe (omega arith))
+    (λ pe. rw pe (omega arith))
+    (λ pe. rw pe (omega arith))
+
+pub few_put_back : (p : ℕ) (known : Option PageHist) (m : Pairs) → length (put_back p known m) ≤ length m
+few_put_back p None m = length-remove p m
+few_put_back p (Some h) m = omega (arith, length-set_value p h m)
+
+pub few_inserted : (p : ℕ) (h : PageHist) (m : Pairs) → length (insert_entry nat_cmp m p h) ≤ length m + 1
+few_inserted p h [] = omega arith
+few_inserted p h (e ∷ m) =
+    let rest : length (insert_entry nat_cmp m p h) ≤ length m + 1 = few_inserted p h m in
+    by_cases (nat_cmp p e.0) _
+    (λ pe. rw pe (omega arith))
+    (λ pe. rw pe (omega arith))
+    (λ pe. rw pe (omega arith))
 
 -- ---- maps that hold nothing
 
@@ -57,6 +77,14 @@ each_made g f ms n told made i m less =
 pub empty_joined : (ms : List (BTreeMap ℕ PageHist)) → AreEmpty ms → joined (pairs_of ms) ≡ []
 empty_joined [] none = refl
 empty_joined (m ∷ ms) none = ap (λ t. t ++ joined (pairs_of ms)) (none zero m (omega arith)) ∙ empty_joined ms (λ i x less. none (suc i) x (omega arith))
+
+pub empty_small : (ms : List (BTreeMap ℕ PageHist)) → AreEmpty ms → AreSmall (pairs_of ms)
+empty_small [] none = tt
+empty_small (m ∷ ms) none =
+    let first : m.entries ≡ [] = none zero m (omega arith) in
+    let long : length m.entries ≡ 0 = ap length first in
+    let small : length m.entries < 288230376151711744 = omega arith in
+    (small, empty_small ms (λ i x less. none (suc i) x (omega arith)))
 
 pub empty_buckets : (bucket : ℕ) (ms : List (BTreeMap ℕ PageHist)) → AreEmpty ms → AreBuckets bucket (pairs_of ms)
 empty_buckets bucket [] none = tt

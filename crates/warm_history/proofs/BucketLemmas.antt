@@ -173,5 +173,5 @@ map_at-of (x ∷ ms) zero m there = refl
 map_at-of (x ∷ ms) (suc i) m there = let left : i < length ms = omega arith in map_at-of ms i m left
 
 -- a place lies in the bucket that it names
-pub lies_in_own : (i p : ℕ) → i ≡ p / 281474976710656 → LiesIn (0 + i) p
+pub lies_in_own : (i p : ℕ) → i ≡ p / 1208925819614629174706176 → LiesIn (0 + i) p
 lies_in_own i p is = (omega arith, omega arith)

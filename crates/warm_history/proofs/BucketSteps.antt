@@ -10,7 +10,7 @@ use Rattle.std.specs.declared.result.Result.TheVariants.{Ok, Err}
 use Rattle.warm_stamps.proofs.DistinctLemmas.{by_cases}
 use Rattle.warm_history.specs.declared.hist.PageHist.{PageHist}
 use Rattle.warm_history.specs.declared.bucket_maps.Known.{Known}
-use Rattle.warm_history.specs.Histories.{latest_of, stamps_held, held}
+use Rattle.warm_history.specs.ListHistories.{latest_of, stamps_held, held}
 use Rattle.warm_history.specs.Places.{IsPlace}
 use Rattle.warm_history.specs.Tree.{Pairs, AreKept, TakesStamps}
 use Rattle.warm_history.specs.Undo.{put_back, noted, Undoes}
@@ -172,13 +172,13 @@ recorded (Ok note) maps i p more m n old are is there view records =
 recorded (Err e) maps i p more m n old are is there view records = tt
 
 -- the place's own bucket is the number of one of the 64 maps
-pub own_map : {A : Type 0} (maps : List A) (i p : ℕ) → length maps ≡ 64 → i ≡ p / 281474976710656 → IsPlace p → i < length maps
+pub own_map : {A : Type 0} (maps : List A) (i p : ℕ) → length maps ≡ 64 → i ≡ p / 1208925819614629174706176 → IsPlace p → i < length maps
 own_map maps i p long own is =
-    let below : p / 281474976710656 < 64 = below_all_places p is in
+    let below : p / 1208925819614629174706176 < 64 = below_all_places p is in
     omega arith
 
 -- what the map of the place's own bucket recorded, all maps recorded
-pub recorded_in_own : {E : Type 0} (r : Result (Option Known) E) (maps : List (BTreeMap ℕ PageHist)) (i p : ℕ) (more : PageHist) (m n : BTreeMap ℕ PageHist) (old : Pairs) → (length maps ≡ 64) × AreBuckets 0 (pairs_of maps) → i ≡ p / 281474976710656 → IsPlace p → joined (pairs_of maps) ≡ old → IfOk r (λ note. Records (get_or maps i m).entries p more note n.entries) → IfOk r (λ note. Records old p more note (all_with maps i n))
+pub recorded_in_own : {E : Type 0} (r : Result (Option Known) E) (maps : List (BTreeMap ℕ PageHist)) (i p : ℕ) (more : PageHist) (m n : BTreeMap ℕ PageHist) (old : Pairs) → (length maps ≡ 64) × AreBuckets 0 (pairs_of maps) → i ≡ p / 1208925819614629174706176 → IsPlace p → joined (pairs_of maps) ≡ old → IfOk r (λ note. Records (get_or maps i m).entries p more note n.entries) → IfOk r (λ note. Records old p more note (all_with maps i n))
 recorded_in_own r maps i p more m n old are own is view records = recorded r maps i p more m n old are.1 (lies_in_own i p own) (own_map maps i p are.0 own is) view records
 
 pub unchanged : {A E : Type 0} (r : Result A E) (maps : List (BTreeMap ℕ PageHist)) (i : ℕ) (m n : BTreeMap ℕ PageHist) (old : Pairs) → i < length maps → joined (pairs_of maps) ≡ old → OnErr r (n.entries ≡ (get_or maps i m).entries) → OnErr r (all_with maps i n ≡ old)

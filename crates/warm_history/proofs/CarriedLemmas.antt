@@ -1,99 +1,36 @@
 -- What is taken of a history for a bucket is the history of what is carried.
-use Rattle.std.proofs.Common.{◌≡◌, ℕ, zero, suc, Bool, true, false, ◌||◌, cond, is_some, List, [], ◌∷◌, take, filter, map, sym, ap, refl, ◌∙◌, Option, Some, None}
-use Rattle.std.specs.List.{cons_option, list_any, AllByRecursion}
-use Rattle.std.specs.Option.{option_map}
-use Rattle.std.specs.Ordering.{is_eq, flip_args}
+use Rattle.std.proofs.Common.{◌≡◌, ℕ, Bool, true, false, List, [], ◌∷◌, take, filter, sym, ap, refl, ◌∙◌, Option}
+use Rattle.std.specs.List.{list_any}
+use Rattle.std.specs.Ordering.{is_eq}
 use Rattle.warm_stamps.specs.declared.PageId.{PageId}
 use Rattle.warm_stamps.specs.declared.Reference.{Reference}
-use Rattle.warm_stamps.specs.Stamps.{stamp_cmp, page_cmp}
-use Rattle.warm_stamps.specs.Distinct.{distinct, IsRising}
-use Rattle.warm_stamps.proofs.DistinctLemmas.{is_equal, distinct_rises, rising_filter, rising_take, all_filter, all_of_has}
-use Rattle.warm_stamps.proofs.StampLemmas.{page_order}
-use Rattle.warm_history.specs.declared.hist.PageHist.{PageHist}
-use Rattle.warm_history.specs.declared.hist.Entry.{Entry}
-use Rattle.warm_history.specs.Histories.{references_to, first_two, hist, pages, history}
+use Rattle.warm_stamps.specs.Stamps.{page_cmp}
+use Rattle.warm_history.specs.ReferenceSets.{ReferenceSet, is_kept, recent, references, those}
+use Rattle.warm_history.specs.ListHistories as list
+use Rattle.warm_history.specs.Histories.{entries_of, history}
 use Rattle.warm_history.specs.Carried.{is_chosen, pages_carried, carried}
-use Rattle.warm_history.proofs.HistoryLemmas.{named, entries, get_entries, rising_entries, has_named, named-some, named-distinct, get-history, IsHistory-history, same_gets}
+use Rattle.warm_history.proofs.HistoryLemmas.{entries-history}
+use Rattle.warm_history.proofs.ListCarriedLemmas as of_list
 
--- ---- entries of chosen pages
-
-filter-entries : (f : PageId → Option PageHist) (test : PageId → Bool) (ps : List PageId) → filter (λ e. test e.page) (entries f ps) ≡ entries f (filter test ps)
-filter-entries f test [] = refl
-filter-entries f test (q ∷ qs) = cases (f q) (test q) refl (filter-entries f test qs) ∙ sym (apart (test q))
+kept-those : (test : Reference → Bool) (m : ℕ) (rs : List Reference) → recent m (filter test rs) ≡ filter test (recent m rs)
+kept-those test m [] = refl
+kept-those test m (r ∷ rs) = cases (test r) refl (is_kept m r.stamp) refl (kept-those test m rs)
   where
-    apart : (t : Bool) → entries f (cond t (q ∷ filter test qs) (filter test qs)) ≡ cond t (cons_option (option_map (λ h. record { page = q; hist = h }) (f q)) (entries f (filter test qs))) (entries f (filter test qs))
-    apart true = refl
-    apart false = refl
+    cases : (b : Bool) → test r ≡ b → (c : Bool) → is_kept m r.stamp ≡ c → recent m (filter test rs) ≡ filter test (recent m rs) → recent m (filter test (r ∷ rs)) ≡ filter test (recent m (r ∷ rs))
+    cases true t true k rest = rw (t, k) (rw t (ap (λ x. r ∷ x) rest))
+    cases true t false k rest = rw (t, k) rest
+    cases false t true k rest = rw (t, k) (rw t rest)
+    cases false t false k rest = rw (t, k) rest
 
-    cases : (x : Option PageHist) (t : Bool) → test q ≡ t → filter (λ e. test e.page) (entries f qs) ≡ entries f (filter test qs) → filter (λ (e : Entry). test e.page) (cons_option (option_map (λ h. record { page = q; hist = h }) x) (entries f qs)) ≡ cond t (cons_option (option_map (λ h. record { page = q; hist = h }) x) (entries f (filter test qs))) (entries f (filter test qs))
-    cases None true is rest = rest
-    cases None false is rest = rest
-    cases (Some h) true is rest = rw is (ap (λ t. record { page = q; hist = h } ∷ t) rest)
-    cases (Some h) false is rest = rw is rest
+-- the references of a set that pass a test
+pub references-those : (test : Reference → Bool) (S : ReferenceSet) → references (those test S) ≡ filter test (references S)
+references-those test S = kept-those test S.horizon S.told
 
-take-entries : (f : PageId → Option PageHist) (n : ℕ) (ps : List PageId) → AllByRecursion (λ p. is_some (f p) ≡ true) ps → take n (entries f ps) ≡ entries f (take n ps)
-take-entries f zero ps all = refl
-take-entries f (suc n) [] all = refl
-take-entries f (suc n) (q ∷ qs) all = cases (f q) all.0 (take-entries f n qs all.1)
-  where
-    cases : (x : Option PageHist) → is_some x ≡ true → take n (entries f qs) ≡ entries f (take n qs) → take (suc n) (cons_option (option_map (λ h. record { page = q; hist = h }) x) (entries f qs)) ≡ cons_option (option_map (λ h. record { page = q; hist = h }) x) (entries f (take n qs))
-    cases None is rest = let no : false ≡ true = is in absurd (cc)
-    cases (Some h) is rest = ap (λ t. record { page = q; hist = h } ∷ t) rest
-
--- of each page that it names, a list says something
-all_said : (S : List Reference) → AllByRecursion (λ p. is_some (hist S p) ≡ true) (pages S)
-all_said S = all_of_has (λ p. is_some (hist S p) ≡ true) (pages S) (λ p has.
-    sym (named-some S p) ∙ sym (named-distinct (map (λ (r : Reference). r.page) S) p) ∙ has_named (pages S) p has)
-
--- ---- the references to chosen pages
-
--- whether the page is one of the pages, as the definition asks it
-any-named : (ps : List PageId) (p : PageId) → list_any (λ q. is_eq (page_cmp q p)) ps ≡ named ps p
-any-named [] p = refl
-any-named (q ∷ qs) p = rw (any-named qs p) (elim (is_eq (page_cmp q p)) as (λ b. (b || named qs p) ≡ cond b true (named qs p)) [ true ↦ refl | false ↦ refl ])
-
--- the references of S to the pages ps
-abbrev among : List Reference → List PageId → List Reference
-among S ps = filter (λ r. list_any (λ p. is_eq (page_cmp p r.page)) ps) S
-
-nothing : (b : Bool) (none : List Reference) → none ≡ [] → none ≡ cond b none []
-nothing true none is = refl
-nothing false none is = is
-
-references_to-among : (S : List Reference) (ps : List PageId) (p : PageId) → references_to (among S ps) p ≡ cond (named ps p) (references_to S p) []
-references_to-among [] ps p = nothing (named ps p) [] refl
-references_to-among (r ∷ S) ps p = cases (list_any (λ q. is_eq (page_cmp q r.page)) ps) refl (is_eq (page_cmp r.page p)) refl (references_to-among S ps p)
-  where
-    cases : (t : Bool) → list_any (λ q. is_eq (page_cmp q r.page)) ps ≡ t → (b : Bool) → is_eq (page_cmp r.page p) ≡ b → references_to (among S ps) p ≡ cond (named ps p) (references_to S p) [] → references_to (cond (list_any (λ q. is_eq (page_cmp q r.page)) ps) (r ∷ among S ps) (among S ps)) p ≡ cond (named ps p) (cond (is_eq (page_cmp r.page p)) (r ∷ references_to S p) (references_to S p)) []
-    cases true is true here rest =
-        let same : r.page ≡ p = page_order.same r.page p (is_equal (page_cmp r.page p) here) in
-        let there : named ps p ≡ true = ap (named ps) (sym same) ∙ sym (any-named ps r.page) ∙ is in
-        rw (is, here) (rw there (ap (λ t. r ∷ t) (rest ∙ rw there refl)))
-    cases true is false other rest = rw (is, other) rest
-    cases false is true here rest =
-        let same : r.page ≡ p = page_order.same r.page p (is_equal (page_cmp r.page p) here) in
-        let away : named ps p ≡ false = ap (named ps) (sym same) ∙ sym (any-named ps r.page) ∙ is in
-        rw is (rest ∙ rw away refl)
-    cases false is false other rest = rw (is, other) rest
-
-hist-among : (S : List Reference) (ps : List PageId) (p : PageId) → hist (among S ps) p ≡ cond (named ps p) (hist S p) None
-hist-among S ps p =
-    ap (λ rs. first_two (distinct (flip_args stamp_cmp) (map (λ (r : Reference). r.stamp) rs))) (references_to-among S ps p)
-    ∙ elim (named ps p) as (λ b. first_two (distinct (flip_args stamp_cmp) (map (λ (r : Reference). r.stamp) (cond b (references_to S p) []))) ≡ cond b (hist S p) None) [ true ↦ refl | false ↦ refl ]
-
--- the history of the references to rising pages has an entry for each of these pages
-history-among : (S : List Reference) (ps : List PageId) → IsRising page_cmp ps → history (among S ps) ≡ entries (hist S) ps
-history-among S ps rising =
-    let whole = IsHistory-history (among S ps) in
-    same_gets (history (among S ps)) (entries (hist S) ps) whole.pages_rise (rising_entries (hist S) ps rising) (λ p.
-    get-history (among S ps) p ∙ hist-among S ps p ∙ sym (get_entries (hist S) ps p))
-
--- the first entries of a history that are in the bucket and after the page are the history of what is carried
-pub history-carried : (S : List Reference) (bucket : ℕ) (after : Option PageId) (limit : ℕ) → take limit (filter (λ e. is_chosen bucket after e.page) (history S)) ≡ history (carried S bucket after limit)
-unfolding history
+-- the first entries of a history that are in the bucket and after the page are the entries of the history of what is carried
+pub history-carried : (S : ReferenceSet) (bucket : ℕ) (after : Option PageId) (limit : ℕ) → take limit (filter (λ e. is_chosen bucket after e.page) (entries_of (history S))) ≡ entries_of (history (carried S bucket after limit))
 history-carried S bucket after limit =
-    let chosen = is_chosen bucket after in
-    ap (take limit) (filter-entries (hist S) chosen (pages S))
-    ∙ take-entries (hist S) limit (filter chosen (pages S)) (all_filter (λ p. is_some (hist S p) ≡ true) chosen (pages S) (all_said S))
-    ∙ sym (history-among S (pages_carried S bucket after limit)
-    (rising_take page_cmp limit (filter chosen (pages S)) (rising_filter page_cmp chosen (pages S) (distinct_rises page_cmp page_order (map (λ (r : Reference). r.page) S)))))
+    let test : Reference → Bool = λ r. list_any (λ p. is_eq (page_cmp p r.page)) (pages_carried S bucket after limit) in
+    ap (λ es. take limit (filter (λ e. is_chosen bucket after e.page) es)) (entries-history S)
+    ∙ of_list.history-carried (references S) bucket after limit
+    ∙ ap list.history (sym (kept-those test S.horizon S.told))
+    ∙ sym (entries-history (carried S bucket after limit))

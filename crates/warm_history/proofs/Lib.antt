@@ -1,6 +1,14 @@
 pub mod Examples
 pub mod CarriedLemmas
 pub mod Lists
+pub mod ListHistoryLemmas
+pub mod ListJoinLemmas
+pub mod ListCarriedLemmas
+pub mod ListSetLemmas
+pub mod KeptLemmas
+pub mod RaiseLemmas
+pub mod CutLemmas
+pub mod RecentLemmas
 pub mod HistoryLemmas
 pub mod JoinLemmas
 pub mod MergeLemmas

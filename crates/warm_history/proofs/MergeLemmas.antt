@@ -4,7 +4,7 @@ use Rattle.std.specs.declared.cmp.Ordering.TheVariants.{Less}
 use Rattle.warm_stamps.specs.Stamps.{page_cmp}
 use Rattle.warm_history.specs.declared.hist.Entry.{Entry}
 use Rattle.warm_history.specs.Histories.{PagesRise}
-use Rattle.warm_history.proofs.HistoryLemmas.{above_less}
+use Rattle.warm_history.proofs.ListHistoryLemmas.{above_less}
 
 -- a first entry below the next one leaves the question to the later ones
 pub rises_on : (e next : Entry) (later : List Entry) → PagesRise (next ∷ later) → page_cmp e.page next.page ≡ Less → PagesRise (e ∷ next ∷ later)

@@ -11,9 +11,9 @@ use Rattle.warm_stamps.specs.Stamps.{page_cmp}
 use Rattle.warm_stamps.proofs.DistinctLemmas.{is_equal, by_cases, flipped}
 use Rattle.warm_stamps.proofs.StampLemmas.{page_order}
 use Rattle.warm_history.specs.declared.hist.Entry.{Entry}
-use Rattle.warm_history.specs.Histories.{IsFalling, PagesRise, IsHistory}
+use Rattle.warm_history.specs.ListHistories.{IsFalling, PagesRise, IsHistory}
 use Rattle.warm_history.specs.Tree.{put_in, in_page_order}
-use Rattle.warm_history.proofs.HistoryLemmas.{get, either_way, AllAbove, above_less}
+use Rattle.warm_history.proofs.ListHistoryLemmas.{get, either_way, AllAbove, above_less}
 
 -- two pages of which each is the third are one
 pub both_same : (p q r : PageId) → is_eq (page_cmp p r) ≡ true → is_eq (page_cmp q r) ≡ true → page_cmp p q ≡ Equal

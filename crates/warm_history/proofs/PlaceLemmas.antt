@@ -11,10 +11,10 @@ use Rattle.warm_stamps.proofs.DistinctLemmas.{is_equal, distinct_swap}
 use Rattle.warm_stamps.proofs.StampLemmas.{stamp_order, page_order, IsStrictOrder-flip}
 use Rattle.warm_history.specs.declared.hist.PageHist.{PageHist}
 use Rattle.warm_history.specs.declared.hist.Entry.{Entry}
-use Rattle.warm_history.specs.Histories.{first_two, latest_of, hist, history, stamps_held, held, entry_refs, refs, StandsFor, IsHistory}
+use Rattle.warm_history.specs.ListHistories.{first_two, latest_of, hist, history, stamps_held, held, entry_refs, refs, StandsFor, IsHistory}
 use Rattle.warm_history.proofs.Lists.{front_two, front_two-first, front_two-second}
-use Rattle.warm_history.proofs.HistoryLemmas.{get, told, told-append, told_entry, held-first_two, first_two-front_two, get-history, IsHistory-history, same_gets}
-use Rattle.warm_history.proofs.JoinLemmas.{history_of_own_references}
+use Rattle.warm_history.proofs.ListHistoryLemmas.{get, told, told-append, told_entry, held-first_two, first_two-front_two, get-history, IsHistory-history, same_gets}
+use Rattle.warm_history.proofs.ListJoinLemmas.{history_of_own_references}
 
 -- a stamp more changes the two latest of others as it would with these alone; the others are a stamp and the rest, as code that adds two has them
 pub latest_of_more : (last prev : Stamp) (ss : List Stamp) (r : PageHist) → Some r ≡ latest_of (prev ∷ ss) → latest_of (last ∷ stamps_held r) ≡ latest_of (last ∷ prev ∷ ss)

@@ -18,7 +18,7 @@ pub nat_order : IsStrictOrder nat_cmp
 nat_order = record { total = nat_cmp_total; same = λ x y e. ranked x y Equal (sym e) }
 
 -- in one bucket places rise as pages do
-pub same_order : (bucket : ℕ) (p q : PageId) → p.no < 4294967296 → q.no < 4294967296 → nat_cmp (place_in bucket p) (place_in bucket q) ≡ page_cmp p q
+pub same_order : (bucket : ℕ) (p q : PageId) → p.no < 18446744073709551616 → q.no < 18446744073709551616 → nat_cmp (place_in bucket p) (place_in bucket q) ≡ page_cmp p q
 same_order bucket p q p_no q_no =
     let at = place_in bucket p in
     let there = place_in bucket q in
@@ -48,7 +48,7 @@ same_order bucket p q p_no q_no =
     rw more (sym (nat_cmp_is at there Greater above)))
 
 -- what is at a place has a number within its bounds
-no_below : (k : ℕ) → (page_at k).no < 4294967296
+no_below : (k : ℕ) → (page_at k).no < 18446744073709551616
 no_below k = omega arith
 
 dev_below : (k : ℕ) → (page_at k).dev < 65536
@@ -137,7 +137,7 @@ in_bucket bucket k is = within bucket k (is_le (nat_cmp (first_place bucket) k))
     (λ one. let low : first_place bucket ≤ k = omega (arith, from_first k is) in at_most (first_place bucket) k low)
     (λ low. ap is_le (above (first_place bucket) k low))
 
-pub after_page : (bucket : ℕ) (last : PageId) (k : ℕ) → last.no < 4294967296 → IsPlace k → range_contains nat_cmp (Excluded (place_in bucket last)) (Excluded (first_place (bucket + 1))) k ≡ is_chosen bucket (Some last) (page_at k)
+pub after_page : (bucket : ℕ) (last : PageId) (k : ℕ) → last.no < 18446744073709551616 → IsPlace k → range_contains nat_cmp (Excluded (place_in bucket last)) (Excluded (first_place (bucket + 1))) k ≡ is_chosen bucket (Some last) (page_at k)
 after_page bucket last k fits is = within bucket k (is_lt (nat_cmp (place_in bucket last) k)) (is_lt (page_cmp last (page_at k))) is
     (λ one.
     let own : k ≡ place_in bucket (page_at k) = sym is ∙ ap (λ b. place_in b (page_at k)) one in
@@ -151,7 +151,7 @@ of_bucket bucket after p is = by_cases (nat_cmp (page_bucket p) bucket) _
     (λ more. let other : (page_bucket p == bucket) ≡ false = sym (unsigned_tied (page_bucket p) bucket) ∙ ap is_eq more in absurd (let no : false ≡ true = rw other at is in cc))
 
 -- a place is one of the 64 buckets
-pub below_all_places : (k : ℕ) → IsPlace k → k / 281474976710656 < 64
+pub below_all_places : (k : ℕ) → IsPlace k → k / 1208925819614629174706176 < 64
 below_all_places k is =
     let below : k < first_place (page_bucket (page_at k) + 1) = below_next k is in
     let few : page_bucket (page_at k) < 64 = omega arith in

@@ -22,9 +22,9 @@ use Rattle.warm_stamps.proofs.DistinctLemmas.{is_equal, by_cases, flipped, disti
 use Rattle.warm_stamps.proofs.StampLemmas.{stamp_order, page_order, IsStrictOrder-flip}
 use Rattle.warm_history.specs.declared.hist.PageHist.{PageHist}
 use Rattle.warm_history.specs.declared.hist.Entry.{Entry}
-use Rattle.warm_history.specs.Histories.{first_two, hist, latest_of, stamps_held, held, entry_refs, refs, history, IsHistory, IsFalling, PagesRise}
-use Rattle.warm_history.proofs.HistoryLemmas.{get, told, told-append, told_entry, told_refs, same_gets, falling_first_two, IsFallingIfAny}
-use Rattle.warm_history.proofs.JoinLemmas.{history_of_own_references, history_first, history_alike}
+use Rattle.warm_history.specs.ListHistories.{first_two, hist, latest_of, stamps_held, held, entry_refs, refs, history, IsHistory, IsFalling, PagesRise}
+use Rattle.warm_history.proofs.ListHistoryLemmas.{get, told, told-append, told_entry, told_refs, same_gets, falling_first_two, IsFallingIfAny}
+use Rattle.warm_history.proofs.ListJoinLemmas.{history_of_own_references, history_first, history_alike}
 use Rattle.warm_history.proofs.PlaceLemmas.{takes_in}
 use Rattle.warm_history.proofs.PlaceOrder.{nat_order, same_place, rising_pages}
 use Rattle.warm_history.proofs.OrderLemmas.{both_same, either_first, get-in_order, in_order_rises, IsHistory-in_order, PagesDiffer, permuted_in_order, get-filter}
@@ -167,7 +167,7 @@ get-kept pairs q = get-in_order (as_entries pairs) q
 pub find-kept : (place : ℕ) (pairs : Pairs) → IsPlace place → AreKept pairs → found place pairs ≡ get (kept pairs) (page_at place)
 find-kept place pairs is are = find-get place pairs is are.are_places ∙ sym (get-kept pairs (page_at place))
 
-differing : (pairs : Pairs) → PlacesRise pairs → ArePlaces pairs → PagesDiffer (as_entries pairs)
+pub differing : (pairs : Pairs) → PlacesRise pairs → ArePlaces pairs → PagesDiffer (as_entries pairs)
 differing [] rising all = tt
 differing (e ∷ pairs) rising all = (sym (find-get e.0 pairs all.0 all.1) ∙ no_later e.0 pairs rising.0, differing pairs rising.1 all.1)
 
@@ -196,7 +196,7 @@ told_differing (e ∷ es) differ p =
         rw here (ap (λ x. stamps_held e.hist ++ held x) (ap (get es) (sym tied) ∙ differ.0) ∙ append-nil (stamps_held e.hist))
     cases false other = rw other refl
 
-hist-pairs : (pairs : Pairs) → AreKept pairs → (p : PageId) → hist (refs (as_entries pairs)) p ≡ hist (refs (kept pairs)) p
+pub hist-pairs : (pairs : Pairs) → AreKept pairs → (p : PageId) → hist (refs (as_entries pairs)) p ≡ hist (refs (kept pairs)) p
 hist-pairs pairs are p =
     ap (λ ss. first_two (distinct (flip_args stamp_cmp) ss)) (
     told_differing (as_entries pairs) (differing pairs are.places_rise are.are_places) p

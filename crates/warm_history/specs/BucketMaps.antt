@@ -1,5 +1,5 @@
 -- A map from places that is kept as a map for each bucket.
-use Rattle.std.specs.Prelude.{◌≡◌, ℕ, Bool, true, List, [], ◌∷◌, ◌++◌, ◌+◌, ◌≤◌, ◌<◌, ⊤, zero, suc, map, filter, Option, Some, None}
+use Rattle.std.specs.Prelude.{◌≡◌, ℕ, Bool, true, List, [], ◌∷◌, ◌++◌, ◌+◌, ◌≤◌, ◌<◌, length, ⊤, zero, suc, map, filter, Option, Some, None}
 use Rattle.std.specs.List.{AllByRecursion}
 use Rattle.std.specs.Map.{lookup}
 use Rattle.std.specs.BTreeMap.{BTreeMap, is_at, insert_entry}
@@ -7,7 +7,8 @@ use Rattle.std.specs.Ordering.{nat_cmp, on}
 use Rattle.warm_stamps.specs.Distinct.{IsRising}
 use Rattle.warm_history.specs.declared.hist.PageHist.{PageHist}
 use Rattle.warm_history.specs.declared.bucket_maps.Known.{Known}
-use Rattle.warm_history.specs.Histories.{latest_of, stamps_held, held}
+use Rattle.warm_history.specs.declared.bucket_maps.TheConstants.{MOST}
+use Rattle.warm_history.specs.ListHistories.{latest_of, stamps_held, held}
 use Rattle.warm_history.specs.Places.{first_place}
 use Rattle.warm_history.specs.Tree.{Pairs}
 
@@ -28,6 +29,10 @@ LiesIn bucket place = (first_place bucket ≤ place) × (place < first_place (bu
 abbrev pub AreBuckets : ℕ → List Pairs → Type 0
 AreBuckets bucket [] = ⊤
 AreBuckets bucket (m ∷ ms) = AllByRecursion (λ e. LiesIn bucket e.0) m × AreBuckets (bucket + 1) ms
+
+-- each map has fewer pairs than a count of all 64 can bear
+abbrev pub AreSmall : List Pairs → Type 0
+AreSmall ms = AllByRecursion (λ m. length m < MOST) ms
 
 -- the map of number i, or none at all
 abbrev pub map_at : List Pairs → ℕ → Pairs

@@ -1,30 +1,35 @@
--- What a history says of a list of references, read as a set of pages with stamps.
-use Rattle.std.specs.Prelude.{◌≡◌, List, [], ◌∷◌, ◌++◌, map, filter, Option, Some, None}
+-- What a history says of kept references, read as a set of pages with stamps.
+use Rattle.std.specs.Prelude.{◌≡◌, ℕ, List, map, filter, Option, true}
 use Rattle.std.specs.List.{AllByRecursion, filter_map}
 use Rattle.std.specs.Option.{option_map}
-use Rattle.std.specs.Ordering.{is_eq, on, flip_args}
-use Rattle.std.specs.declared.cmp.Ordering.TheVariants.{Less}
+use Rattle.std.specs.Ordering.{is_eq, flip_args}
 use Rattle.warm_stamps.specs.declared.Stamp.{Stamp}
 use Rattle.warm_stamps.specs.declared.PageId.{PageId}
 use Rattle.warm_stamps.specs.declared.Reference.{Reference}
 use Rattle.warm_stamps.specs.Stamps.{stamp_cmp, page_cmp}
-use Rattle.warm_stamps.specs.Distinct.{distinct, IsRising}
+use Rattle.warm_stamps.specs.Distinct.{distinct}
 use Rattle.warm_history.specs.declared.hist.PageHist.{PageHist}
-use Rattle.warm_history.specs.declared.hist.PageHist.TheVariants.{Once, Twice}
 use Rattle.warm_history.specs.declared.hist.Entry.{Entry}
-use Rattle.warm_history.specs.ReferenceSets.{ReferenceSet, references, these, ◌∪◌}
+use Rattle.warm_history.specs.ReferenceSets.{ReferenceSet, is_kept, references, ◌∪◌}
+use Rattle.warm_history.specs.ListHistories as list
+pub use Rattle.warm_history.specs.ListHistories.{first_two, latest_of, stamps_held, held, entry_refs, IsFalling, PagesRise}
 
--- what contracts see of a history
-abbrev pub HistoryView : Type 0
-HistoryView = List Entry
+-- what contracts see of a history: its horizon and its entries
+pub record HistoryView : Type 0 where
+  pub horizon : ℕ
+  pub entries : List Entry
 
 -- the entries of a history
 abbrev pub entries_of : HistoryView → List Entry
-entries_of h = h
+entries_of h = h.entries
 
--- the history of these entries
+-- the history of these entries, without a horizon
 abbrev pub holding : List Entry → HistoryView
-holding es = es
+holding es = record { horizon = 0; entries = es }
+
+-- the history of these entries at a horizon
+abbrev pub holding_since : ℕ → List Entry → HistoryView
+holding_since horizon es = record { horizon = horizon; entries = es }
 
 -- the references of S to the page p
 abbrev pub references_to : ReferenceSet → PageId → List Reference
@@ -33,16 +38,6 @@ references_to S p = filter (λ r. is_eq (page_cmp r.page p)) (references S)
 -- the distinct stamps of the page p in S, greatest first
 abbrev pub stamps : ReferenceSet → PageId → List Stamp
 stamps S p = distinct (flip_args stamp_cmp) (map (λ r. r.stamp) (references_to S p))
-
--- the first two of stamps that fall, or fewer where there are fewer
-abbrev pub first_two : List Stamp → Option PageHist
-first_two [] = None
-first_two (last ∷ []) = Some (Once last)
-first_two (last ∷ prev ∷ older) = Some (Twice (record { last = last; prev = prev }))
-
--- the two latest of a list of stamps
-abbrev pub latest_of : List Stamp → Option PageHist
-latest_of ss = first_two (distinct (flip_args stamp_cmp) ss)
 
 -- the two latest stamps of the page p in S
 abbrev pub hist : ReferenceSet → PageId → Option PageHist
@@ -56,48 +51,33 @@ pages S = distinct page_cmp (map (λ r. r.page) (references S))
 abbrev pub entry_of : ReferenceSet → PageId → Option Entry
 entry_of S p = option_map (λ h. record { page = p; hist = h }) (hist S p)
 
--- the two latest stamps of each page named in S, in rising page order
+-- the horizon of S, and the two latest stamps of each page named in S, in rising page order
 unfoldable pub history : ReferenceSet → HistoryView
-history S = holding (filter_map (entry_of S) (pages S))
-
--- the stamps that a page's history holds, the later one first
-abbrev pub stamps_held : PageHist → List Stamp
-stamps_held (Once last) = last ∷ []
-stamps_held (Twice two) = two.last ∷ two.prev ∷ []
-
--- the stamps held of a page, if there are any
-abbrev pub held : Option PageHist → List Stamp
-held None = []
-held (Some h) = stamps_held h
-
--- the references that an entry holds
-abbrev pub entry_refs : Entry → List Reference
-entry_refs e = map (λ s. record { page = e.page; stamp = s }) (stamps_held e.hist)
+history S = record { horizon = S.horizon; entries = filter_map (entry_of S) (pages S) }
 
 -- the references that entries hold
 abbrev pub held_by : List Entry → List Reference
-held_by [] = []
-held_by (e ∷ es) = entry_refs e ++ held_by es
+held_by es = list.refs es
 
 -- the references that a history holds
 abbrev pub refs : HistoryView → ReferenceSet
-refs h = these (held_by (entries_of h))
+refs h = record { horizon = h.horizon; told = list.refs (entries_of h) }
 
--- the stamps of a page's history fall
-abbrev pub IsFalling : PageHist → Type 0
-IsFalling (Once last) = Unit {0}
-IsFalling (Twice two) = stamp_cmp two.prev two.last ≡ Less
+-- the stamps of a page's history aren't older than the horizon
+abbrev pub IsKept : ℕ → PageHist → Type 0
+IsKept horizon h = AllByRecursion (λ s. is_kept horizon s ≡ true) (stamps_held h)
 
--- the pages of entries rise
-abbrev pub PagesRise : List Entry → Type 0
-PagesRise h = IsRising (on (λ e. e.page) page_cmp) h
+-- no stamp of the entries is older than the horizon
+abbrev pub NoneOlder : ℕ → List Entry → Type 0
+NoneOlder horizon es = AllByRecursion (λ e. IsKept horizon e.hist) es
 
--- what is true of every history: its pages rise, and the stamps of each page fall
+-- what is true of every history: its pages rise, the stamps of each page fall, and none is older than the horizon
 pub record IsHistory (h : HistoryView) : Type 0 where
   pub pages_rise : PagesRise (entries_of h)
   pub stamps_fall : AllByRecursion (λ e. IsFalling e.hist) (entries_of h)
+  pub none_older : NoneOlder h.horizon (entries_of h)
 
--- a history stands for a set of references
+-- a history stands for kept references
 abbrev pub StandsFor : HistoryView → ReferenceSet → Type 0
 StandsFor h S = h ≡ history S
 

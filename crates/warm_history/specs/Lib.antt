@@ -1,3 +1,5 @@
+pub mod ListHistories
+pub mod KeptEntries
 pub mod ReferenceSets
 pub mod Histories
 pub mod Carried
@@ -8,4 +10,5 @@ pub mod Places
 pub mod Tree
 pub mod BucketMaps
 pub mod Merges
+pub mod Cuts
 pub mod Undo

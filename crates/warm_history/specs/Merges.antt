@@ -7,21 +7,20 @@ use Rattle.warm_stamps.specs.Buckets.{page_bucket}
 use Rattle.warm_history.specs.declared.hist.Entry.{Entry}
 use Rattle.warm_history.specs.declared.merges.Part.{Part}
 use Rattle.warm_history.specs.declared.merges.Merged.{Merged}
-use Rattle.warm_history.specs.Histories.{HistoryView, entries_of}
 use Rattle.warm_history.specs.Carried.{is_chosen}
 use Rattle.warm_history.specs.Tree.{as_entries}
 
 -- the entries of a bucket whose page is greater than the one given, if one is
-abbrev pub later_of_bucket : ℕ → Option PageId → HistoryView → List Entry
-later_of_bucket bucket after h = filter (λ e. is_chosen bucket after e.page) (entries_of h)
+abbrev pub later_of_bucket : ℕ → Option PageId → List Entry → List Entry
+later_of_bucket bucket after es = filter (λ e. is_chosen bucket after e.page) es
 
 -- the number of the page's bucket is at least from, and less than to
 abbrev pub is_between : ℕ → ℕ → PageId → Bool
 is_between from to p = nat_le from (page_bucket p) && nat_lt (page_bucket p) to
 
 -- the entries of the buckets from one number to before another
-abbrev pub of_buckets : ℕ → ℕ → HistoryView → List Entry
-of_buckets from to h = filter (λ e. is_between from to e.page) (entries_of h)
+abbrev pub of_buckets : ℕ → ℕ → List Entry → List Entry
+of_buckets from to es = filter (λ e. is_between from to e.page) es
 
 -- the first of these entries, if there is one
 abbrev pub first_of : List Entry → Option Entry

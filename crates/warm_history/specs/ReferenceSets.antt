@@ -1,25 +1,39 @@
--- Lists of references, read as sets.
-use Rattle.std.specs.Prelude.{Bool, List, ◌++◌, filter}
+-- Kept references: those of a list that aren't older than a horizon, read as a set.
+use Rattle.std.specs.Prelude.{ℕ, Bool, List, ◌++◌, [], filter, max, nat_le}
+use Rattle.warm_stamps.specs.declared.Stamp.{Stamp}
 use Rattle.warm_stamps.specs.declared.Reference.{Reference}
 
 -- above ◌≡◌, as ◌++◌ is
 infixr 60 ◌∪◌
--- references, of which the order doesn't matter and any may be repeated
-abbrev pub ReferenceSet : Type 0
-ReferenceSet = List Reference
+-- the references that were told, and the time before which they are forgotten
+pub record ReferenceSet : Type 0 where
+  pub horizon : ℕ
+  pub told : List Reference
 
--- the references of a set
+-- the stamp isn't older than the horizon
+abbrev pub is_kept : ℕ → Stamp → Bool
+is_kept horizon s = nat_le horizon s.time
+
+-- the references of a list that aren't older than the horizon
+abbrev pub recent : ℕ → List Reference → List Reference
+recent horizon rs = filter (λ r. is_kept horizon r.stamp) rs
+
+-- the references of a set: those that it keeps
 abbrev pub references : ReferenceSet → List Reference
-references S = S
+references S = recent S.horizon S.told
 
--- the set of the references of a list
+-- the set of the references of a list, none of them forgotten
 abbrev pub these : List Reference → ReferenceSet
-these rs = rs
+these rs = record { horizon = 0; told = rs }
 
--- the references of both
+-- the references of both, cut at the greater horizon
 abbrev pub ◌∪◌ : ReferenceSet → ReferenceSet → ReferenceSet
-S ∪ T = S ++ T
+S ∪ T = record { horizon = max S.horizon T.horizon; told = S.told ++ T.told }
 
 -- the references that pass the test
 abbrev pub those : (Reference → Bool) → ReferenceSet → ReferenceSet
-those test S = filter test S
+those test S = record { horizon = S.horizon; told = filter test S.told }
+
+-- the references from this time on
+abbrev pub since : ℕ → ReferenceSet → ReferenceSet
+since time S = S ∪ record { horizon = time; told = [] }

@@ -1,5 +1,5 @@
 -- A history kept in maps from places.
-use Rattle.std.specs.Prelude.{◌≡◌, ℕ, List, [], ◌∷◌, map}
+use Rattle.std.specs.Prelude.{◌≡◌, ℕ, List, [], ◌∷◌, ◌++◌, map}
 use Rattle.std.specs.List.{AllByRecursion}
 use Rattle.std.specs.Ordering.{match_ordering, nat_cmp, on}
 use Rattle.warm_stamps.specs.declared.Reference.{Reference}
@@ -7,8 +7,8 @@ use Rattle.warm_stamps.specs.Stamps.{page_cmp}
 use Rattle.warm_stamps.specs.Distinct.{IsRising}
 use Rattle.warm_history.specs.declared.hist.PageHist.{PageHist}
 use Rattle.warm_history.specs.declared.hist.Entry.{Entry}
-use Rattle.warm_history.specs.ReferenceSets.{ReferenceSet, these, ◌∪◌}
-use Rattle.warm_history.specs.Histories.{HistoryView, holding, entry_refs, refs, history, IsFalling}
+use Rattle.warm_history.specs.ReferenceSets.{recent}
+use Rattle.warm_history.specs.ListHistories.{entry_refs, refs, history, IsFalling}
 use Rattle.warm_history.specs.Places.{page_at, IsPlace}
 
 -- what such maps hold, by place
@@ -29,9 +29,9 @@ abbrev pub in_page_order : List Entry → List Entry
 in_page_order [] = []
 in_page_order (e ∷ es) = put_in e (in_page_order es)
 
--- the history that the pairs keep
-abbrev pub kept : Pairs → HistoryView
-kept pairs = holding (in_page_order (as_entries pairs))
+-- the entries that the pairs keep, in page order
+abbrev pub kept : Pairs → List Entry
+kept pairs = in_page_order (as_entries pairs)
 
 -- what is true of the pairs of every history: they lie at rising places of pages, and stamps fall
 pub record AreKept (pairs : Pairs) : Type 0 where
@@ -40,23 +40,27 @@ pub record AreKept (pairs : Pairs) : Type 0 where
   pub stamps_fall : AllByRecursion (λ e. IsFalling e.1) pairs
 
 -- what is told by a page's stamps
-abbrev pub told_at : ℕ → PageHist → ReferenceSet
-told_at place h = these (entry_refs (record { page = page_at place; hist = h }))
+abbrev pub told_at : ℕ → PageHist → List Reference
+told_at place h = entry_refs (record { page = page_at place; hist = h })
 
 -- the pairs new keep what old keep, with these references taken in
-abbrev pub PairsTakeIn : Pairs → ReferenceSet → Pairs → Type 0
-PairsTakeIn old rs new = kept new ≡ history (refs (kept old) ∪ rs)
+abbrev pub PairsTakeIn : Pairs → List Reference → Pairs → Type 0
+PairsTakeIn old rs new = kept new ≡ history (refs (kept old) ++ rs)
 
--- the same, where what is taken in are the stamps of the page at a place, the references of a list,
--- the entries of a list, or what other pairs keep
+-- the same, where what is taken in are the stamps of the page at a place
 abbrev pub TakesStamps : Pairs → ℕ → PageHist → Pairs → Type 0
 TakesStamps old place h new = PairsTakeIn old (told_at place h) new
 
-abbrev pub TakesReferences : Pairs → List Reference → Pairs → Type 0
-TakesReferences old rs new = PairsTakeIn old (these rs) new
+-- the same, where it is what isn't older than the horizon of the stamps of the page at a place, of the
+-- references of a list, of the entries of a list, or of what other pairs keep
+abbrev pub TakesRecent : ℕ → Pairs → ℕ → PageHist → Pairs → Type 0
+TakesRecent horizon old place h new = PairsTakeIn old (recent horizon (told_at place h)) new
 
-abbrev pub TakesEntries : Pairs → List Entry → Pairs → Type 0
-TakesEntries old es new = PairsTakeIn old (refs (holding es)) new
+abbrev pub TakesReferences : ℕ → Pairs → List Reference → Pairs → Type 0
+TakesReferences horizon old rs new = PairsTakeIn old (recent horizon rs) new
 
-abbrev pub TakesPairs : Pairs → Pairs → Pairs → Type 0
-TakesPairs old more new = PairsTakeIn old (refs (kept more)) new
+abbrev pub TakesEntries : ℕ → Pairs → List Entry → Pairs → Type 0
+TakesEntries horizon old es new = PairsTakeIn old (recent horizon (refs es)) new
+
+abbrev pub TakesPairs : ℕ → Pairs → Pairs → Pairs → Type 0
+TakesPairs horizon old more new = PairsTakeIn old (recent horizon (refs (kept more))) new

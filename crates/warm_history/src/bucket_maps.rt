@@ -1,14 +1,15 @@
 //! A map from places, kept as a map for each bucket: a look-up goes down a small map.
 ghost use Rattle.std.specs.Iterator.{YieldsFirst};
-ghost use Rattle.std.specs.Prelude.{◌≡◌, ◌<◌, ◌≤◌, [], length, OnOk, OnErr, IfOk, IfSome, IfNone, Some, ◌++◌};
-ghost use Rattle.warm_history.specs.Histories.{latest_of, stamps_held};
-ghost use Rattle.warm_history.specs.Places.{IsPlace, first_place};
+ghost use Rattle.std.specs.Prelude.{◌≡◌, ◌<◌, ◌≤◌, ◌^◌, [], length, map, OnOk, OnErr, IfOk, IfSome, IfNone, Some, ◌++◌};
+ghost use Rattle.warm_history.specs.ListHistories.{latest_of, stamps_held};
+ghost use Rattle.warm_history.specs.Places.{IsPlace};
+ghost use Rattle.warm_history.specs.Cuts.{cut_at};
 ghost use Rattle.warm_stamps.specs.declared.TheConstants.{BUCKETS};
 ghost use Rattle.warm_history.specs.Tree.{AreKept, TakesStamps};
 ghost use Rattle.warm_history.specs.BucketMaps.{joined, pairs_of, pairs_left, HoldsBucket, PlacesRise, Records, found};
 ghost use Rattle.warm_history.specs.Undo.{put_back, noted, Undoes};
 
-use crate::hist::{PageHist, join_hist, join_known};
+use crate::hist::{PageHist, join_hist, join_known, keep_since};
 use crate::place::bucket_at;
 use std::alloc::{AllocError, Global};
 use std::array;
@@ -20,30 +21,33 @@ use warm_stamps::BUCKETS;
 // How many maps there are.
 const MAPS: usize = BUCKETS as usize;
 
+// No map has as many pairs as this, so that those of all maps can be counted. So many have no room in any memory.
+pub(crate) const MOST: usize = 288_230_376_151_711_744;
+
 // What was known of the page at a place before it changed.
 #[derive(Debug, Clone, Copy)]
 pub(crate) struct Known {
-    place: u64,
+    place: u128,
     hist: Option<PageHist>,
 }
 
 // What is known of places, in the order of their numbers: a map for each bucket.
 #[derive(Debug, Drop)]
 pub(crate) struct BucketMaps {
-    maps: [BTreeMap<u64, PageHist>; MAPS],
+    maps: [BTreeMap<u128, PageHist>; MAPS],
 }
 
 impl Model for BucketMaps {
     ghost use Rattle.std.specs.Prelude.{◌≡◌, length};
     ghost use Rattle.warm_stamps.specs.declared.TheConstants.{BUCKETS};
     ghost use Rattle.warm_history.specs.Tree.{Pairs};
-    ghost use Rattle.warm_history.specs.BucketMaps.{joined, AreBuckets, pairs_of};
+    ghost use Rattle.warm_history.specs.BucketMaps.{joined, AreBuckets, AreSmall, pairs_of};
 
     ghost Value = { Pairs };
 
     ghost view = { λ b. joined (pairs_of b.maps) };
 
-    ghost invariant = { λ b. (length b.maps ≡ BUCKETS) × AreBuckets 0 (pairs_of b.maps) };
+    ghost invariant = { λ b. (length b.maps ≡ BUCKETS) × AreBuckets 0 (pairs_of b.maps) × AreSmall (pairs_of b.maps) };
 }
 
 impl BucketMaps {
@@ -58,7 +62,6 @@ impl BucketMaps {
 
     // How many places have something known.
     pub(crate) fn len(&self) -> usize
-        requires { AreKept self.now }
         ensures { result ≡ length self.now }
     {
         count_all(&self.maps)
@@ -73,7 +76,7 @@ impl BucketMaps {
     }
 
     // The map of the bucket of this number.
-    pub(crate) fn map_of(&self, number: u8) -> &BTreeMap<u64, PageHist>
+    pub(crate) fn map_of(&self, number: u8) -> &BTreeMap<u128, PageHist>
         requires { number < BUCKETS }
         ensures { HoldsBucket number result.now.entries self.now }
     {
@@ -94,7 +97,7 @@ impl BucketMaps {
     }
 
     // What is known at a place.
-    pub(crate) fn get(&self, place: u64) -> Option<PageHist>
+    pub(crate) fn get(&self, place: u128) -> Option<PageHist>
         requires { IsPlace place }
         ensures { result ≡ found place self.now }
     {
@@ -102,7 +105,11 @@ impl BucketMaps {
     }
 
     // Takes in what is told of the page at a place, and tells what was known of it, where that changes.
-    pub(crate) fn record(&mut self, place: u64, more: PageHist) -> Result<Option<Known>, AllocError>
+    pub(crate) fn record(
+        &mut self,
+        place: u128,
+        more: PageHist,
+    ) -> Result<Option<Known>, AllocError>
         requires place { IsPlace place }
         requires kept { AreKept self.old }
         ensures exact { OnOk result (TakesStamps self.old place more self.new) }
@@ -122,13 +129,20 @@ impl BucketMaps {
             put_back_in(&mut self.maps[bucket], known);
         }
     }
+
+    // Forgets the stamps older than the horizon. Takes no memory.
+    pub(crate) fn forget(&mut self, horizon: u64)
+        ensures { self.new ≡ cut_at horizon self.old }
+    {
+        forget_all(&mut self.maps, horizon);
+    }
 }
 
 // Goes over all pairs: those left of the map at hand, then those of the other maps.
 #[derive(Debug, Drop)]
 pub(crate) struct EachPair<'a> {
-    here: Range<'a, u64, PageHist>,
-    rest: &'a [BTreeMap<u64, PageHist>],
+    here: Range<'a, u128, PageHist>,
+    rest: &'a [BTreeMap<u128, PageHist>],
 }
 
 impl<'a> Model for EachPair<'a> {
@@ -143,22 +157,22 @@ impl<'a> Model for EachPair<'a> {
 impl<'a> Iterator for EachPair<'a> {
     ghost use Rattle.std.specs.Iterator.{YieldsFirst, item_count};
 
-    type Item = (u64, PageHist);
+    type Item = (u128, PageHist);
 
     ghost next_gives = { YieldsFirst (λ pairs. pairs) };
 
     ghost remaining = { item_count (λ pairs. pairs) };
 
-    fn next(&mut self) -> Option<(u64, PageHist)> {
+    fn next(&mut self) -> Option<(u128, PageHist)> {
         next_pair(&mut self.here, &mut self.rest)
     }
 }
 
 // The first of the pairs that are left: maps with none are stepped over.
 fn next_pair<'a>(
-    here: &mut Range<'a, u64, PageHist>,
-    rest: &mut &'a [BTreeMap<u64, PageHist>],
-) -> Option<(u64, PageHist)>
+    here: &mut Range<'a, u128, PageHist>,
+    rest: &mut &'a [BTreeMap<u128, PageHist>],
+) -> Option<(u128, PageHist)>
     ensures { YieldsFirst (λ pairs. pairs)
         (pairs_left here.old rest.old.now) result (pairs_left here.new rest.new.now) }
 {
@@ -172,9 +186,9 @@ fn next_pair<'a>(
     }
 }
 
-// How many pairs the maps hold, where they are no more than there are places.
-fn count_all(maps: &[BTreeMap<u64, PageHist>]) -> usize
-    requires { length (joined (pairs_of maps.now)) ≤ first_place BUCKETS }
+// How many pairs the maps hold, where they can be counted.
+fn count_all(maps: &[BTreeMap<u128, PageHist>]) -> usize
+    requires { length (joined (pairs_of maps.now)) < 2 ^ 64 }
     ensures { result ≡ length (joined (pairs_of maps.now)) }
 {
     let mut count = 0;
@@ -186,13 +200,14 @@ fn count_all(maps: &[BTreeMap<u64, PageHist>]) -> usize
 
 // Takes in what is told of the page at a place of the map's own bucket.
 fn record_in(
-    map: &mut BTreeMap<u64, PageHist>,
-    place: u64,
+    map: &mut BTreeMap<u128, PageHist>,
+    place: u128,
     more: PageHist,
 ) -> Result<Option<Known>, AllocError>
     requires { PlacesRise map.old.entries }
     ensures ok { IfOk result (λ note. Records map.old.entries place more note map.new.entries) }
     ensures err { OnErr result (map.new.entries ≡ map.old.entries) }
+    ensures small { length map.old.entries < MOST → length map.new.entries < MOST }
 {
     if let Some(known) = map.get_mut(&place) {
         let Some(before) = raise(known, more) else {
@@ -200,6 +215,9 @@ fn record_in(
         };
         let hist = Some(before);
         return Ok(Some(Known { place, hist }));
+    }
+    if map.len() >= MOST - 1 {
+        return Err(AllocError);
     }
     let hist = join_known(None, more);
     map.insert(place, hist)?;
@@ -221,7 +239,21 @@ fn raise(known: &mut PageHist, more: PageHist) -> Option<PageHist>
     Some(before)
 }
 
-fn put_back_in(map: &mut BTreeMap<u64, PageHist>, known: Known)
+fn forget_all(maps: &mut [BTreeMap<u128, PageHist>], horizon: u64)
+    ensures { pairs_of maps.new ≡ map (cut_at horizon) (pairs_of maps.old) }
+{
+    for map in maps.iter_mut() {
+        forget_in(map, horizon);
+    }
+}
+
+fn forget_in(map: &mut BTreeMap<u128, PageHist>, horizon: u64)
+    ensures { map.new.entries ≡ cut_at horizon map.old.entries }
+{
+    map.retain(|_, hist| keep_since(hist, horizon));
+}
+
+fn put_back_in(map: &mut BTreeMap<u128, PageHist>, known: Known)
     ensures { map.new.entries ≡ put_back known.place known.hist map.old.entries }
 {
     let place = known.place;

@@ -1,6 +1,8 @@
 //! The history of one page: its latest stamp, or its two latest.
-ghost use Rattle.std.specs.Prelude.{◌≡◌, [], ◌∷◌, ◌++◌};
-ghost use Rattle.warm_history.specs.Histories.{latest_of, stamps_held, held};
+ghost use Rattle.std.specs.Prelude.{◌≡◌, [], ◌∷◌, ◌++◌, filter, cond};
+ghost use Rattle.warm_history.specs.ListHistories.{latest_of, stamps_held, held};
+ghost use Rattle.warm_history.specs.ReferenceSets.{is_kept};
+ghost use Rattle.warm_history.specs.KeptEntries.{kept_hist};
 ghost use Rattle.warm_stamps.specs.Stamps.{stamp_cmp};
 
 use std::cmp::Ordering;
@@ -110,6 +112,22 @@ impl PageHist {
     {
         self.with(two.prev()).with(two.last())
     }
+
+    // What is left of these stamps, where those older than the horizon are forgotten.
+    pub(crate) fn since(self, horizon: u64) -> Option<PageHist>
+        ensures left { result ≡ kept_hist horizon self }
+        ensures stamps { held result ≡ filter (is_kept horizon) (stamps_held self) }
+    {
+        match self {
+            PageHist::Once(last) => {
+                if last.time < horizon {
+                    return None;
+                }
+                Some(PageHist::Once(last))
+            }
+            PageHist::Twice(two) => since_both(two, horizon),
+        }
+    }
 }
 
 /// What is kept of a page of which two histories know: the two latest distinct stamps of both
@@ -121,6 +139,33 @@ pub fn join_hist(a: PageHist, b: PageHist) -> PageHist
         PageHist::Once(last) => b.with(last),
         PageHist::Twice(two) => b.with_both(two),
     }
+}
+
+// What is left of both stamps, where those older than the horizon are forgotten.
+fn since_both(two: Two, horizon: u64) -> Option<PageHist>
+    ensures left { result ≡ kept_hist horizon (PageHist.Twice two) }
+    ensures stamps { held result ≡ filter (is_kept horizon) (two.last ∷ two.prev ∷ []) }
+{
+    let last = two.last();
+    let prev = two.prev();
+    if last.time < horizon {
+        return None;
+    }
+    if prev.time < horizon {
+        return Some(PageHist::Once(last));
+    }
+    Some(PageHist::Twice(two))
+}
+
+// Forgets the stamps older than the horizon, and tells whether one is left.
+pub(crate) fn keep_since(hist: &mut PageHist, horizon: u64) -> bool
+    ensures { cond result (Some hist.new) None ≡ kept_hist horizon hist.old }
+{
+    let Some(left) = hist.since(horizon) else {
+        return false;
+    };
+    *hist = left;
+    true
 }
 
 // The two latest stamps of what is known of a page, if anything is, and of more.

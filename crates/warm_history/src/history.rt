@@ -1,7 +1,7 @@
 //! Histories, as maps from places: the entries of a bucket lie together.
-ghost use Rattle.std.specs.Prelude.{◌≡◌, ◌≤◌, [], length, OnOk, OnErr, IfOk, IsPermutation, slice_get, take};
-ghost use Rattle.warm_history.specs.ReferenceSets.{ReferenceSet, these, ◌∪◌};
-ghost use Rattle.warm_history.specs.Histories.{entries_of, holding, hist, refs, history, join, StandsFor, TakesIn, IsHistory};
+ghost use Rattle.std.specs.Prelude.{◌≡◌, ◌≤◌, [], length, max, OnOk, OnErr, IfOk, IsPermutation, slice_get, take};
+ghost use Rattle.warm_history.specs.ReferenceSets.{ReferenceSet, these, since, ◌∪◌};
+ghost use Rattle.warm_history.specs.Histories.{entries_of, holding, holding_since, hist, refs, history, join, StandsFor, TakesIn, IsHistory};
 ghost use Rattle.warm_history.specs.Carried.{AreCarried, bucket_entries};
 ghost use Rattle.warm_history.specs.Merges.{later_of_bucket};
 
@@ -10,7 +10,7 @@ use crate::hist::{Entry, PageHist};
 use crate::merges::{AllParts, Source, all_parts};
 use crate::parts::{later_pairs, next_entry};
 use crate::place::page_at;
-use crate::tree::{known_of, take_entries, take_pairs, take_references};
+use crate::tree::{known_of, raise, take_entries, take_pairs, take_references};
 use std::alloc::{AllocError, Global};
 use std::collections::btree_map::Range;
 use std::fmt;
@@ -28,6 +28,7 @@ use warm_stamps::{Bucket, PageId, Reference};
 #[derive(Debug)]
 pub struct History {
     alloc: Global,
+    horizon: u64,
     maps: BucketMaps,
 }
 
@@ -35,20 +36,24 @@ pub struct History {
 // field, and here down to each of 64 maps.
 impl Drop for History {
     fn drop(mut self) {
-        let Self { alloc: _, maps } = self;
+        let Self {
+            alloc: _,
+            horizon: _,
+            maps,
+        } = self;
         drop(maps);
     }
 }
 
 impl Model for History {
-    ghost use Rattle.warm_history.specs.Histories.{HistoryView};
+    ghost use Rattle.warm_history.specs.Histories.{HistoryView, holding_since, NoneOlder};
     ghost use Rattle.warm_history.specs.Tree.{kept, AreKept};
 
     ghost Value = { HistoryView };
 
-    ghost view = { λ h. kept h.maps };
+    ghost view = { λ h. holding_since h.horizon (kept h.maps) };
 
-    ghost invariant = { λ h. AreKept h.maps };
+    ghost invariant = { λ h. AreKept h.maps × NoneOlder h.horizon (kept h.maps) };
 }
 
 impl History {
@@ -59,8 +64,27 @@ impl History {
     {
         History {
             alloc,
+            horizon: 0,
             maps: BucketMaps::new(alloc),
         }
+    }
+
+    /// The time before which stamps are forgotten. Takes no memory.
+    pub fn horizon(&self) -> u64
+        ensures value { result ≡ self.now.horizon }
+        ensures stands { (S : ReferenceSet) → StandsFor self.now S → result ≡ S.horizon }
+    {
+        self.horizon
+    }
+
+    /// Forgets all stamps before this time, unless the horizon is later already. Takes no memory.
+    ///
+    /// Where the time is past the horizon, all entries are gone over once.
+    pub fn raise(&mut self, time: u64)
+        ensures raised { (S : ReferenceSet) → StandsFor self.old S → StandsFor self.new (since time S) }
+        ensures exact { self.new ≡ history (since time (refs self.old)) }
+    {
+        self.horizon = raise(&mut self.maps, self.horizon, time);
     }
 
     /// How many pages have an entry. Takes no memory.
@@ -129,7 +153,7 @@ impl History {
         ensures exact { OnOk result (self.new ≡ history (refs self.old ∪ these batch.now)) }
         ensures err { OnErr result (self.new ≡ self.old) }
     {
-        take_references(self.alloc, &mut self.maps, batch)?;
+        take_references(self.alloc, &mut self.maps, self.horizon, batch)?;
         Ok(())
     }
 
@@ -143,7 +167,9 @@ impl History {
         ensures exact { OnOk result (self.new ≡ join self.old other.now) }
         ensures err { OnErr result (self.new ≡ self.old) }
     {
-        take_pairs(self.alloc, &mut self.maps, &other.maps)?;
+        let horizon = later(self.horizon, other.horizon);
+        take_pairs(self.alloc, &mut self.maps, horizon, &other.maps)?;
+        self.horizon = raise(&mut self.maps, self.horizon, horizon);
         Ok(())
     }
 
@@ -151,12 +177,14 @@ impl History {
     ///
     /// The entries are gone over once, and each page is looked up here. `AllocError` comes only where
     /// room for what was known of these pages, or for a new page, was refused, and changes nothing.
-    pub fn join_entries(&mut self, more: &[Entry]) -> Result<(), AllocError>
-        ensures ok { OnOk result (TakesIn self.old (refs (holding more.now)) self.new) }
-        ensures exact { OnOk result (self.new ≡ join self.old (holding more.now)) }
+    pub fn join_entries(&mut self, horizon: u64, more: &[Entry]) -> Result<(), AllocError>
+        ensures ok { OnOk result (TakesIn self.old (refs (holding_since horizon more.now)) self.new) }
+        ensures exact { OnOk result (self.new ≡ join self.old (holding_since horizon more.now)) }
         ensures err { OnErr result (self.new ≡ self.old) }
     {
-        take_entries(self.alloc, &mut self.maps, more)?;
+        let horizon = later(self.horizon, horizon);
+        take_entries(self.alloc, &mut self.maps, horizon, more)?;
+        self.horizon = raise(&mut self.maps, self.horizon, horizon);
         Ok(())
     }
 
@@ -167,6 +195,7 @@ impl History {
         let maps = self.maps.copy()?;
         Ok(History {
             alloc: self.alloc,
+            horizon: self.horizon,
             maps,
         })
     }
@@ -192,7 +221,7 @@ impl History {
 
     // The entries of a bucket whose page is greater than the one given, where one is given.
     fn later(&self, bucket: Bucket, after: Option<PageId>) -> BucketEntries<'_>
-        ensures { result ≡ later_of_bucket bucket after self.now }
+        ensures { result ≡ later_of_bucket bucket after (entries_of self.now) }
     {
         BucketEntries {
             left: later_pairs(&self.maps, bucket.get(), after),
@@ -244,7 +273,7 @@ impl<'a> Iterator for Entries<'a> {
 /// Contracts see it as the list of the entries that are left.
 #[derive(Debug, Drop)]
 pub struct BucketEntries<'a> {
-    left: Range<'a, u64, PageHist>,
+    left: Range<'a, u128, PageHist>,
 }
 
 impl<'a> Model for BucketEntries<'a> {
@@ -305,6 +334,13 @@ impl<'a> Iterator for Unordered<'a> {
             hist,
         })
     }
+}
+
+// The later of two times.
+fn later(one: u64, other: u64) -> u64
+    ensures { result ≡ max one other }
+{
+    if one < other { other } else { one }
 }
 
 // The first `limit` of the entries.

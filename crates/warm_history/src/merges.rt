@@ -32,7 +32,7 @@ pub(crate) trait Source: Drop {
 #[derive(Drop)]
 pub(crate) struct Part<'a> {
     first: Option<Entry>,
-    later: Range<'a, u64, PageHist>,
+    later: Range<'a, u128, PageHist>,
 }
 
 impl<'a> Source for Part<'a> {
@@ -190,7 +190,7 @@ fn thirty_two(maps: &BucketMaps, number: u8) -> ThirtyTwo<'_>
 // The entries of all buckets.
 pub(crate) fn all_parts(maps: &BucketMaps) -> AllParts<'_>
     requires { AreKept maps.now }
-    ensures { all_left result ≡ entries_of (kept maps.now) }
+    ensures { all_left result ≡ kept maps.now }
 {
     let one = thirty_two(maps, 0);
     let other = thirty_two(maps, 32);

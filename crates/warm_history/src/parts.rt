@@ -17,7 +17,7 @@ pub(crate) fn later_pairs(
     maps: &BucketMaps,
     number: u8,
     after: Option<PageId>,
-) -> Range<'_, u64, PageHist>
+) -> Range<'_, u128, PageHist>
     requires bucket { number < BUCKETS }
     requires kept { AreKept maps.now }
     ensures { as_entries result ≡ later_of_bucket number after (kept maps.now) }
@@ -34,7 +34,7 @@ pub(crate) fn later_pairs(
 }
 
 // The first of the entries that are left.
-pub(crate) fn next_entry(left: &mut Range<'_, u64, PageHist>) -> Option<Entry>
+pub(crate) fn next_entry(left: &mut Range<'_, u128, PageHist>) -> Option<Entry>
     ensures { YieldsFirst (λ (left : _). as_entries left) left.old result left.new }
 {
     let (place, hist) = left.next()?;

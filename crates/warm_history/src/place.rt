@@ -4,32 +4,32 @@ ghost use Rattle.warm_history.specs.Places.{first_place, bucket_at, place_in, pl
 
 use warm_stamps::{PageId, bucket_of};
 
-// How many places each bucket has: 2^48, one for each page.
-pub(crate) const PLACES: u64 = 281_474_976_710_656;
+// How many places each bucket has: 2^80, one for each page.
+pub(crate) const PLACES: u128 = 1_208_925_819_614_629_174_706_176;
 
 // The place where a bucket begins; at 64, where the last one ends.
-pub(crate) fn first_place(number: u8) -> u64
+pub(crate) fn first_place(number: u8) -> u128
     ensures { result ≡ first_place number }
 {
-    u64::from(number) * PLACES
+    u128::from(number) * PLACES
 }
 
 // The number of the bucket that the place is in.
-pub(crate) fn bucket_at(place: u64) -> usize
+pub(crate) fn bucket_at(place: u128) -> usize
     ensures { result ≡ bucket_at place }
 {
     (place / PLACES) as usize
 }
 
 // The place of a page, were it in the bucket of this number.
-pub(crate) fn place_in(number: u8, page: PageId) -> u64
+pub(crate) fn place_in(number: u8, page: PageId) -> u128
     ensures { result ≡ place_in number page }
 {
-    first_place(number) + (u64::from(page.dev) * 4_294_967_296 + u64::from(page.no))
+    first_place(number) + (u128::from(page.dev) * 18_446_744_073_709_551_616 + u128::from(page.no))
 }
 
 // The place of a page.
-pub(crate) fn place_of(page: PageId) -> u64
+pub(crate) fn place_of(page: PageId) -> u128
     ensures value { result ≡ place_of page }
     ensures back { page_at result ≡ page }
     ensures place { IsPlace result }
@@ -38,11 +38,11 @@ pub(crate) fn place_of(page: PageId) -> u64
 }
 
 // The page whose place it is.
-pub(crate) fn page_at(place: u64) -> PageId
+pub(crate) fn page_at(place: u128) -> PageId
     ensures { result ≡ page_at place }
 {
     PageId {
-        dev: (place / 4_294_967_296 % 65_536) as u16,
-        no: (place % 4_294_967_296) as u32,
+        dev: (place / 18_446_744_073_709_551_616 % 65_536) as u16,
+        no: (place % 18_446_744_073_709_551_616) as u64,
     }
 }

@@ -2,16 +2,20 @@
 //!
 //! What a change took away is noted. Where no memory is left the notes are put back, the last one
 //! first, which takes none.
-ghost use Rattle.std.specs.Prelude.{◌≡◌, OnOk, OnErr};
+ghost use Rattle.std.specs.Prelude.{◌≡◌, OnOk, OnErr, max};
 ghost use Rattle.warm_history.specs.Places.{place_of, page_at, IsPlace};
 ghost use Rattle.warm_history.specs.Tree.{
   AreKept,
+  kept,
   TakesStamps,
+  TakesRecent,
   TakesReferences,
   TakesEntries,
   TakesPairs,
 };
 ghost use Rattle.warm_history.specs.BucketMaps.{found};
+ghost use Rattle.warm_history.specs.Histories.{NoneOlder};
+ghost use Rattle.warm_history.specs.KeptEntries.{kept_entries};
 ghost use Rattle.warm_history.specs.Undo.{undone, LeadsBack};
 
 use crate::bucket_maps::{BucketMaps, Known};
@@ -29,58 +33,61 @@ pub(crate) fn known_of(maps: &BucketMaps, page: PageId) -> Option<PageHist>
     maps.get(place)
 }
 
-// Takes in all references or, where memory is refused, none.
+// Takes in all references that are not older than the horizon or, where memory is refused, none.
 pub(crate) fn take_references(
     alloc: Global,
     maps: &mut BucketMaps,
+    horizon: u64,
     batch: &[Reference],
 ) -> Result<(), AllocError>
     requires { AreKept maps.old }
-    ensures exact { OnOk result (TakesReferences maps.old batch.now maps.new) }
+    ensures exact { OnOk result (TakesReferences horizon maps.old batch.now maps.new) }
     ensures whole { AreKept maps.new }
     ensures err { OnErr result (maps.new ≡ maps.old) }
 {
     let mut undo = Vec::with_capacity(alloc, batch.len())?;
-    if let Err(fault) = take_each_reference(maps, &mut undo, batch) {
+    if let Err(fault) = take_each_reference(maps, &mut undo, horizon, batch) {
         put_all_back(maps, &mut undo);
         return Err(fault);
     }
     Ok(())
 }
 
-// Takes in all entries, which may come in any order, or none.
+// Takes in all stamps of entries, which may come in any order, that are not older than the horizon, or none.
 pub(crate) fn take_entries(
     alloc: Global,
     maps: &mut BucketMaps,
+    horizon: u64,
     more: &[Entry],
 ) -> Result<(), AllocError>
     requires { AreKept maps.old }
-    ensures exact { OnOk result (TakesEntries maps.old more.now maps.new) }
+    ensures exact { OnOk result (TakesEntries horizon maps.old more.now maps.new) }
     ensures whole { AreKept maps.new }
     ensures err { OnErr result (maps.new ≡ maps.old) }
 {
     let mut undo = Vec::new(alloc);
-    if let Err(fault) = take_each_entry(maps, &mut undo, more) {
+    if let Err(fault) = take_each_entry(maps, &mut undo, horizon, more) {
         put_all_back(maps, &mut undo);
         return Err(fault);
     }
     Ok(())
 }
 
-// Takes in all that another map has, or nothing.
+// Takes in all that another map has and that isn't older than the horizon, or nothing.
 pub(crate) fn take_pairs(
     alloc: Global,
     maps: &mut BucketMaps,
+    horizon: u64,
     more: &BucketMaps,
 ) -> Result<(), AllocError>
     requires here { AreKept maps.old }
     requires there { AreKept more.now }
-    ensures exact { OnOk result (TakesPairs maps.old more.now maps.new) }
+    ensures exact { OnOk result (TakesPairs horizon maps.old more.now maps.new) }
     ensures whole { AreKept maps.new }
     ensures err { OnErr result (maps.new ≡ maps.old) }
 {
     let mut undo = Vec::new(alloc);
-    if let Err(fault) = take_each_pair(maps, &mut undo, more) {
+    if let Err(fault) = take_each_pair(maps, &mut undo, horizon, more) {
         put_all_back(maps, &mut undo);
         return Err(fault);
     }
@@ -91,7 +98,7 @@ pub(crate) fn take_pairs(
 fn take(
     maps: &mut BucketMaps,
     undo: &mut Vec<Known>,
-    place: u64,
+    place: u128,
     more: PageHist,
 ) -> Result<(), AllocError>
     requires place { IsPlace place }
@@ -108,19 +115,41 @@ fn take(
     Ok(())
 }
 
+// Takes in what is told of the page at a place that isn't older than the horizon.
+fn take_recent(
+    maps: &mut BucketMaps,
+    undo: &mut Vec<Known>,
+    horizon: u64,
+    place: u128,
+    more: PageHist,
+) -> Result<(), AllocError>
+    requires place { IsPlace place }
+    requires kept { AreKept maps.old }
+    ensures exact { OnOk result (TakesRecent horizon maps.old place more maps.new) }
+    ensures undo { LeadsBack undo.new.items maps.new undo.old.items maps.old }
+    ensures whole { AreKept maps.new }
+{
+    let Some(recent) = more.since(horizon) else {
+        return Ok(());
+    };
+    take(maps, undo, place, recent)?;
+    Ok(())
+}
+
 fn take_each_reference(
     maps: &mut BucketMaps,
     undo: &mut Vec<Known>,
+    horizon: u64,
     batch: &[Reference],
 ) -> Result<(), AllocError>
     requires { AreKept maps.old }
-    ensures exact { OnOk result (TakesReferences maps.old batch.now maps.new) }
+    ensures exact { OnOk result (TakesReferences horizon maps.old batch.now maps.new) }
     ensures undo { LeadsBack undo.new.items maps.new undo.old.items maps.old }
     ensures whole { AreKept maps.new }
 {
     for reference in batch {
         let place = place_of(reference.page);
-        take(maps, undo, place, PageHist::Once(reference.stamp))?;
+        take_recent(maps, undo, horizon, place, PageHist::Once(reference.stamp))?;
     }
     Ok(())
 }
@@ -128,16 +157,17 @@ fn take_each_reference(
 fn take_each_entry(
     maps: &mut BucketMaps,
     undo: &mut Vec<Known>,
+    horizon: u64,
     more: &[Entry],
 ) -> Result<(), AllocError>
     requires { AreKept maps.old }
-    ensures exact { OnOk result (TakesEntries maps.old more.now maps.new) }
+    ensures exact { OnOk result (TakesEntries horizon maps.old more.now maps.new) }
     ensures undo { LeadsBack undo.new.items maps.new undo.old.items maps.old }
     ensures whole { AreKept maps.new }
 {
     for entry in more {
         let place = place_of(entry.page);
-        take(maps, undo, place, entry.hist)?;
+        take_recent(maps, undo, horizon, place, entry.hist)?;
     }
     Ok(())
 }
@@ -145,18 +175,34 @@ fn take_each_entry(
 fn take_each_pair(
     maps: &mut BucketMaps,
     undo: &mut Vec<Known>,
+    horizon: u64,
     more: &BucketMaps,
 ) -> Result<(), AllocError>
     requires here { AreKept maps.old }
     requires there { AreKept more.now }
-    ensures exact { OnOk result (TakesPairs maps.old more.now maps.new) }
+    ensures exact { OnOk result (TakesPairs horizon maps.old more.now maps.new) }
     ensures undo { LeadsBack undo.new.items maps.new undo.old.items maps.old }
     ensures whole { AreKept maps.new }
 {
     for (place, hist) in more.each_pair() {
-        take(maps, undo, place, hist)?;
+        take_recent(maps, undo, horizon, place, hist)?;
     }
     Ok(())
+}
+
+// Forgets what is older than a time that is past the horizon, and tells the horizon from then on.
+pub(crate) fn raise(maps: &mut BucketMaps, horizon: u64, time: u64) -> u64
+    requires kept { AreKept maps.old }
+    requires recent { NoneOlder horizon (kept maps.old) }
+    ensures later { result ≡ max horizon time }
+    ensures cut { kept maps.new ≡ kept_entries result (kept maps.old) }
+    ensures whole { AreKept maps.new }
+{
+    if horizon < time {
+        maps.forget(time);
+        return time;
+    }
+    horizon
 }
 
 // Puts back what was known, the last change first.

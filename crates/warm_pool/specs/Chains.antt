@@ -10,7 +10,7 @@ page_in pages frame = slice_index_or pages frame None
 -- the chain of a frame that holds this, of n and one: pages are spread over the first n, and the frames without a page have the last
 unfoldable pub chain_of : ℕ → Option PageId → ℕ
 chain_of n None = n
-chain_of n (Some page) = (((page.no * 2654435769 + page.dev * 2246822519) % 4294967296) * n) / 4294967296
+chain_of n (Some page) = (((page.no % 4294967296 * 2654435769 + page.no / 4294967296 * 1000000007 + page.dev * 2246822519) % 4294967296) * n) / 4294967296
 
 -- the chain of each frame
 abbrev pub chains_of : List (Option PageId) → List ℕ

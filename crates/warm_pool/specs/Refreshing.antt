@@ -4,6 +4,7 @@ use Rattle.warm_stamps.specs.declared.PageId.{PageId}
 use Rattle.warm_history.specs.Histories.{HistoryView, hist, refs}
 use Rattle.warm_pool.specs.Frames.{nth_frame}
 use Rattle.warm_rank.specs.declared.RankKey.{RankKey}
+use Rattle.warm_rank.specs.Keys.{rank_key}
 use Rattle.warm_pool.specs.State.{PoolState, RankedBy}
 
 -- both histories say the same of each page but these
@@ -15,6 +16,12 @@ pub record Renews (old : PoolState) (p : PageId) (key : RankKey) (new : PoolStat
   pub pages : (i : ℕ) → (nth_frame new.frames i).page ≡ (nth_frame old.frames i).page
   pub here : (i : ℕ) → (nth_frame old.frames i).page ≡ Some p → (nth_frame new.frames i).key ≡ Some key
   pub others : (i : ℕ) → (nth_frame old.frames i).page ≢ Some p → (nth_frame new.frames i).key ≡ (nth_frame old.frames i).key
+
+-- the page in this frame, if there is one, has the rank that the history gives it, and pages in others have the ranks that they had
+pub record RenewsFrame (old : PoolState) (at : ℕ) (h : HistoryView) (new : PoolState) : Type 0 where
+  pub pages : (i : ℕ) → (nth_frame new.frames i).page ≡ (nth_frame old.frames i).page
+  pub here : (p : PageId) → (nth_frame old.frames at).page ≡ Some p → (nth_frame new.frames at).key ≡ Some (rank_key p (hist (refs h) p))
+  pub others : (i : ℕ) (p : PageId) → (nth_frame old.frames i).page ≡ Some p → i ≢ at → (nth_frame new.frames i).key ≡ (nth_frame old.frames i).key
 
 -- a history that agrees with one that ranked the old pool, but for these pages, ranks the new one
 abbrev pub RefreshesRanks : List PageId → HistoryView → PoolState → PoolState → Type 0

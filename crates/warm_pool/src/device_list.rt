@@ -40,7 +40,7 @@ pub(crate) fn write_page(
 }
 
 /// How many pages one of the devices has.
-pub(crate) fn pages_of(devices: &[Box<dyn PageDevice + Send>], device: usize) -> u32
+pub(crate) fn pages_of(devices: &[Box<dyn PageDevice + Send>], device: usize) -> u64
     requires { device < length devices.now }
     ensures { result ≡ (nth_device (map (λ b. state b) devices.now) device).pages }
 {

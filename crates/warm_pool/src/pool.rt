@@ -13,7 +13,7 @@ ghost use Rattle.warm_pool.specs.Opening.{IsUpTo, IsSize, NewRefused};
 ghost use Rattle.warm_pool.specs.WritingBack.{Cleans, CleanFails};
 ghost use Rattle.warm_pool.specs.Pinning.{Pinned, PinRefused, Loaded, LoadRefused, PutsIn, PutRefused, unpinned, IsNextVictim, LoadsInto, LoadFails, FixesPage, FixRefused, IsNextPlace, TakesFrame, WritesDirty};
 ghost use Rattle.warm_pool.specs.PageBytes.{IsRead, ReadRefused, Written, WriteRefused, MakesDirty};
-ghost use Rattle.warm_pool.specs.Refreshing.{Renews, RefreshesRanks};
+ghost use Rattle.warm_pool.specs.Refreshing.{Renews, RenewsFrame, RefreshesRanks};
 ghost use Rattle.warm_pool.specs.declared.fault.PoolFault.TheVariants.{OutOfPage, FixesFull};
 ghost use Rattle.warm_pool.specs.Clauses.{pool_state, shown};
 
@@ -329,6 +329,35 @@ impl Pool {
         for page in pages {
             self.renew(history, *page);
         }
+    }
+
+    /// Renews the ranks of all resident pages.
+    pub fn refresh_all(&mut self, history: &History)
+        requires pool { IsPool (pool_state state self.old) }
+        ensures pool { IsPool (pool_state state self.new) }
+        ensures ranked { RankedBy (pool_state state self.new) history.now }
+        ensures same { shown state self.new ≡ shown state self.old }
+        ensures kept { KeepsBytes (pool_state state self.old) (pool_state state self.new) }
+    {
+        for at in 0..self.frames.len() {
+            self.renew_at(history, at);
+        }
+    }
+
+    // Renews the rank of the page in a frame, if there is one.
+    fn renew_at(&mut self, history: &History, at: usize)
+        requires pool { IsPool (pool_state state self.old) }
+        requires there { at < length (pool_state state self.old).frames }
+        ensures pool { IsPool (pool_state state self.new) }
+        ensures same { shown state self.new ≡ shown state self.old }
+        ensures kept { KeepsBytes (pool_state state self.old) (pool_state state self.new) }
+        ensures keys { RenewsFrame (pool_state state self.old) at history.now
+            (pool_state state self.new) }
+    {
+        let Some(page) = self.frames.page(at) else {
+            return;
+        };
+        self.renew(history, page);
     }
 
     // Renews the rank of a page, where it is resident.

@@ -179,7 +179,9 @@ fn chain_of(frames: usize, page: Option<PageId>) -> usize
     let Some(page) = page else {
         return frames;
     };
-    let mixed = (u64::from(page.no) * 2654435769 + u64::from(page.dev) * 2246822519) % 4294967296;
+    let low = page.no % 4294967296 * 2654435769;
+    let high = page.no / 4294967296 * 1000000007;
+    let mixed = (low + high + u64::from(page.dev) * 2246822519) % 4294967296;
     (mixed * frames as u64 / 4294967296) as usize
 }
 

@@ -16,7 +16,8 @@ use Rattle.warm_stamps.proofs.DistinctLemmas.{Has, by_cases, flipped, has_distin
 use Rattle.warm_stamps.proofs.StampLemmas.{stamp_order, reference_order, IsStrictOrder-flip}
 use Rattle.warm_history.specs.ReferenceSets.{ReferenceSet, references}
 use Rattle.warm_history.specs.Histories.{stamps}
-use Rattle.warm_history.proofs.HistoryLemmas.{told}
+use Rattle.warm_history.specs.ListHistories as list
+use Rattle.warm_history.proofs.ListHistoryLemmas.{told}
 use Rattle.warm_rank.specs.Ranking.{count_later}
 
 abbrev pub later : Stamp → Reference → Bool
@@ -100,6 +101,10 @@ told_of (r ∷ rs) p s has = cases (told_of rs p s) (is_eq (page_cmp r.page p)) 
     cases : (Has (told rs p) s → (x : Reference) × Has rs x × (x.stamp ≡ s)) → (b : Bool) → is_eq (page_cmp r.page p) ≡ b → (x : Reference) × Has (r ∷ rs) x × (x.stamp ≡ s)
     cases rest true here = elim (rw here at has) [ inl e ↦ (r, inl refl, e) | inr there ↦ of_tail (rest there) ]
     cases rest false other = of_tail (rest (rw other at has))
+
+-- the stamps of a page in a list are stamps of its references
+pub stamps_in : (rs : List Reference) (p : PageId) (s : Stamp) → Has (list.stamps rs p) s → (r : Reference) × Has rs r × (r.stamp ≡ s)
+stamps_in rs p s has = told_of rs p s (has_from_distinct (flip_args stamp_cmp) (IsStrictOrder-flip stamp_cmp stamp_order) (told rs p) s has)
 
 -- the stamps of a page are stamps of S
 pub stamps_of : (S : ReferenceSet) (p : PageId) (s : Stamp) → Has (stamps S p) s → IsStampOf S s

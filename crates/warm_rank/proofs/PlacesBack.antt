@@ -15,11 +15,11 @@ use Rattle.warm_stamps.specs.Distinct.{insert_distinct, distinct}
 use Rattle.warm_stamps.proofs.DistinctLemmas.{IsStrictOrder, Has, by_cases, flipped, has_from_distinct}
 use Rattle.warm_stamps.proofs.StampLemmas.{stamp_order, reference_order}
 use Rattle.warm_history.specs.ReferenceSets.{ReferenceSet, references}
-use Rattle.warm_history.specs.Histories.{stamps}
+use Rattle.warm_history.specs.ListHistories.{stamps}
 use Rattle.warm_rank.specs.Backward.{StampsRise, count_to, places_back}
 use Rattle.warm_rank.specs.Laws.{DistanceIsPlacesBack}
 use Rattle.warm_rank.specs.Ranking.{distance_from}
-use Rattle.warm_rank.proofs.Counting.{later, counted, passed, stamps_of}
+use Rattle.warm_rank.proofs.Counting.{later, counted, passed, stamps_in}
 
 -- what is true of all items is true of each
 each : {A : Type 0} (P : A → Type 0) (xs : List A) → AllByRecursion P xs → (x : A) → Has xs x → P x
@@ -101,7 +101,7 @@ distance_in-last r rs (a ∷ b ∷ ss) above below =
 -- the stamps of a page in references that rise are all later than an older reference
 below_stamps : (r : Reference) (rs : List Reference) (p : PageId) → AllByRecursion (λ s. stamp_cmp r.stamp s.stamp ≡ Less) rs → (t : Stamp) → Has (stamps rs p) t → stamp_cmp r.stamp t ≡ Less
 below_stamps r rs p above t has =
-    let of = stamps_of rs p t has in
+    let of = stamps_in rs p t has in
     subst (λ u. stamp_cmp r.stamp u ≡ Less) of.2 (each (λ (s : Reference). stamp_cmp r.stamp s.stamp ≡ Less) rs above of.0 of.1)
 
 stamps-here : (r : Reference) (rs : List Reference) (p : PageId) → AllByRecursion (λ s. stamp_cmp r.stamp s.stamp ≡ Less) rs → is_eq (page_cmp r.page p) ≡ true → stamps (r ∷ rs) p ≡ stamps rs p ++ r.stamp ∷ []
@@ -143,4 +143,4 @@ distance_from-in S (last ∷ []) rise = refl
 distance_from-in S (last ∷ prev ∷ older) rise = ap Some (count_by-distinct (later prev) (references S) rise)
 
 pub distance_is_places_back : DistanceIsPlacesBack
-distance_is_places_back S p rise = distance_from-in S (stamps S p) rise ∙ places (references S) p rise
+distance_is_places_back S p rise = distance_from-in S (stamps (references S) p) rise ∙ places (references S) p rise

@@ -1,6 +1,6 @@
 //! Ranks with all their fields side by side.
 //!
-//! A list of many is sorted sooner so than one of [`RankKey`]: each takes 32 bytes in place of 48, and is
+//! A list of many is sorted sooner so than one of [`RankKey`]: each takes 32 bytes in place of 56, and is
 //! compared without a match.
 ghost use Rattle.std.specs.Prelude.{◌≡◌};
 ghost use Rattle.warm_rank.specs.Packed.{packed_key, packed_page};
@@ -18,7 +18,7 @@ pub struct PackedKey {
     later_time: u64,
     later_replica: u16,
     dev: u16,
-    no: u32,
+    no: u64,
 }
 
 impl PackedKey {

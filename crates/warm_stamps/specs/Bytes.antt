@@ -13,13 +13,21 @@ bytes_of_stamp s = to_be_bytes w64 s.time ++ to_be_bytes w16 s.replica
 abbrev pub stamp_of : List ℕ → Stamp
 stamp_of bytes = record { time = from_be_bytes w64 (take 8 bytes); replica = from_be_bytes w16 (drop 8 bytes) }
 
--- two bytes of the device's number, and four of the page's own
+-- two bytes of the device's number, and eight of the page's own
 abbrev pub bytes_of_page : PageId → List ℕ
-bytes_of_page p = to_be_bytes w16 p.dev ++ to_be_bytes w32 p.no
+bytes_of_page p = to_be_bytes w16 p.dev ++ to_be_bytes w64 p.no
+
+-- the page that ten bytes spell
+abbrev pub page_of : List ℕ → PageId
+page_of bytes = record { dev = from_be_bytes w16 (take 2 bytes); no = from_be_bytes w64 (drop 2 bytes) }
+
+-- two bytes of the device's number, and four of the page's own, where that has no more
+abbrev pub narrow_bytes_of_page : PageId → List ℕ
+narrow_bytes_of_page p = to_be_bytes w16 p.dev ++ to_be_bytes w32 p.no
 
 -- the page that six bytes spell
-abbrev pub page_of : List ℕ → PageId
-page_of bytes = record { dev = from_be_bytes w16 (take 2 bytes); no = from_be_bytes w32 (drop 2 bytes) }
+abbrev pub page_of_narrow : List ℕ → PageId
+page_of_narrow bytes = record { dev = from_be_bytes w16 (take 2 bytes); no = from_be_bytes w32 (drop 2 bytes) }
 
 -- the stamps and the pages that there are
 pub record IsStamp (s : Stamp) : Type 0 where
@@ -28,4 +36,4 @@ pub record IsStamp (s : Stamp) : Type 0 where
 
 pub record IsPage (p : PageId) : Type 0 where
   pub dev : p.dev < 2 ^ 16
-  pub no : p.no < 2 ^ 32
+  pub no : p.no < 2 ^ 64

@@ -1,6 +1,6 @@
 //! Stamps and pages as bytes, the highest byte of each number first.
 ghost use Rattle.std.specs.Prelude.{◌≡◌, ◌↔◌, IfOk, IsOk};
-ghost use Rattle.warm_stamps.specs.Bytes.{bytes_of_stamp, stamp_of, bytes_of_page, page_of, IsReplica};
+ghost use Rattle.warm_stamps.specs.Bytes.{bytes_of_stamp, stamp_of, bytes_of_page, page_of, narrow_bytes_of_page, page_of_narrow, IsReplica};
 
 use crate::{BadReplica, PageId, ReplicaId, Stamp};
 
@@ -28,24 +28,37 @@ pub fn stamp_from(bytes: &[u8; 10]) -> Result<Stamp, BadReplica>
     })
 }
 
-/// The six bytes of a page: two of its device's number, then four of its own.
-pub fn page_bytes(page: PageId) -> [u8; 6]
+/// The ten bytes of a page: two of its device's number, then eight of its own.
+pub fn page_bytes(page: PageId) -> [u8; 10]
     ensures spelled { result ≡ bytes_of_page page }
     ensures back { page_of result ≡ page }
 {
     let [high, low] = page.dev.to_be_bytes();
-    let [a, b, c, d] = page.no.to_be_bytes();
-    [high, low, a, b, c, d]
+    let [a, b, c, d, e, f, g, h] = page.no.to_be_bytes();
+    [high, low, a, b, c, d, e, f, g, h]
 }
 
-/// The page of these six bytes.
-pub fn page_from(bytes: &[u8; 6]) -> PageId
+/// The page of these ten bytes.
+pub fn page_from(bytes: &[u8; 10]) -> PageId
     ensures value { result ≡ page_of bytes.now }
     ensures spelled { bytes_of_page result ≡ bytes.now }
+{
+    let [high, low, a, b, c, d, e, f, g, h] = *bytes;
+    PageId {
+        dev: u16::from_be_bytes([high, low]),
+        no: u64::from_be_bytes([a, b, c, d, e, f, g, h]),
+    }
+}
+
+/// The page of these six bytes, as pages were spelled while their numbers had 32 bits: two of its device's
+/// number, then four of its own.
+pub fn page_from_narrow(bytes: &[u8; 6]) -> PageId
+    ensures value { result ≡ page_of_narrow bytes.now }
+    ensures spelled { narrow_bytes_of_page result ≡ bytes.now }
 {
     let [high, low, a, b, c, d] = *bytes;
     PageId {
         dev: u16::from_be_bytes([high, low]),
-        no: u32::from_be_bytes([a, b, c, d]),
+        no: u64::from(u32::from_be_bytes([a, b, c, d])),
     }
 }

@@ -19,7 +19,7 @@ mod bytes;
 mod items;
 pub mod laws;
 
-pub use bytes::{page_bytes, page_from, stamp_bytes, stamp_from};
+pub use bytes::{page_bytes, page_from, page_from_narrow, stamp_bytes, stamp_from};
 pub use items::{ByteList, Items, PageList, RefList};
 
 /// The most replicas there are. They are numbered from 1.
@@ -88,7 +88,7 @@ pub struct PageId {
     /// The device's number.
     pub dev: u16,
     /// The page's number on the device.
-    pub no: u32,
+    pub no: u64,
 }
 
 /// One reference: a page with a stamp. References are ordered by page, then stamp.
@@ -145,8 +145,9 @@ impl Bucket {
 pub fn bucket_of(page: PageId) -> Bucket
     ensures { result ≡ page_bucket page }
 {
-    let sum = u64::from(page.dev) + u64::from(page.no);
+    let buckets = u64::from(BUCKETS);
+    let sum = u64::from(page.dev) % buckets + page.no % buckets;
     Bucket {
-        index: (sum % u64::from(BUCKETS)) as u8,
+        index: (sum % buckets) as u8,
     }
 }

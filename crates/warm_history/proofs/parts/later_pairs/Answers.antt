@@ -33,7 +33,7 @@ returns-in-Some c =
     let bucket = c.args.number in
     let last = c.in-Some.last in
     let are = c.requires.kept in
-    let fits : last.no < 4294967296 = omega arith in
+    let fits : last.no < 18446744073709551616 = omega arith in
     rw c.in-Some.is (
     ap as_entries (c.range-in-Some.ensures.between tt)
     ∙ ap (λ k. as_entries (entries_between nat_cmp (Excluded k) (Excluded c.first_place-end.result) here)) c.place_in.ensures

@@ -2,4 +2,4 @@ use Rattle.std.proofs.Common.{◌+◌, ◌*◌}
 use Rattle.warm_history.proofs.place.place_in.Goals as goal
 
 pub returns : goal.returns
-returns c = λ i. c.first_place.ensures i + (c.from.ensures i * 4294967296 + c.from-2.ensures i)
+returns c = λ i. c.first_place.ensures i + (c.from.ensures i * 18446744073709551616 + c.from-2.ensures i)

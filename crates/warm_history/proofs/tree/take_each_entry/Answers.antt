@@ -1,8 +1,10 @@
 use Rattle.std.proofs.Common.{◌+◌, ◌++◌, List, drop, ap, ◌∙◌}
 use Rattle.warm_history.specs.declared.hist.Entry.{Entry}
-use Rattle.warm_history.specs.Histories.{refs, history, entry_refs}
+use Rattle.warm_history.specs.ReferenceSets.{recent}
+use Rattle.warm_history.specs.ListHistories.{refs, history, entry_refs}
 use Rattle.warm_history.specs.Tree.{kept}
 use Rattle.warm_history.proofs.TreeLemmas.{IsHistory-kept, goes_on, all_taken, left_more, none_left}
+use Rattle.warm_history.proofs.RecentLemmas.{recent_more}
 use Rattle.warm_history.proofs.tree.take_each_entry.Goals as goal
 
 pub loop-entry-preserved : goal.loop-entry-preserved
@@ -11,11 +13,12 @@ loop-entry-preserved c =
     let i : _ = c.loop-entry.entry-index in
     let more : List Entry = c.args.more.now in
     let e : Entry = c.entry-item.result in
+    let m : _ = c.args.horizon in
     record {
-      whole = c.take.ensures.whole;
-      goes_on = goes_on _ (kept c.take.new.maps) (entry_refs e) (refs (drop (i + 1) more)) (refs (drop i more)) _ (c.in_ok-take.ensures.exact ∙ ap (λ p. history (refs (kept c.loop-entry.maps) ++ entry_refs (record { page = p; hist = e.hist }))) c.place_of-place.ensures.back) (ap refs (left_more more i e c.loop-entry-test.true c.entry-item.is)) inv.goes_on;
-      undo = c.take.ensures.undo ∙ inv.undo;
+      whole = c.take_recent.ensures.whole;
+      goes_on = goes_on _ (kept c.take_recent.new.maps) (recent m (entry_refs e)) (recent m (refs (drop (i + 1) more))) (recent m (refs (drop i more))) _ (c.in_ok-take_recent.ensures.exact ∙ ap (λ p. history (refs (kept c.loop-entry.maps) ++ recent m (entry_refs (record { page = p; hist = e.hist })))) c.place_of-place.ensures.back) (recent_more m (entry_refs e) (refs (drop (i + 1) more)) (refs (drop i more)) (ap refs (left_more more i e c.loop-entry-test.true c.entry-item.is))) inv.goes_on;
+      undo = c.take_recent.ensures.undo ∙ inv.undo;
     }
 
 pub returns-clause-exact : goal.returns-clause-exact
-returns-clause-exact c = all_taken _ _ (refs (drop c.loop-entry.entry-index c.args.more.now)) (IsHistory-kept _ c.loop-entry.invariant.whole) (ap refs (none_left c.args.more.now c.loop-entry.entry-index c.loop-entry-test.false)) c.loop-entry.invariant.goes_on
+returns-clause-exact c = all_taken _ _ (recent c.args.horizon (refs (drop c.loop-entry.entry-index c.args.more.now))) (IsHistory-kept _ c.loop-entry.invariant.whole) (ap (λ es. recent c.args.horizon (refs es)) (none_left c.args.more.now c.loop-entry.entry-index c.loop-entry-test.false)) c.loop-entry.invariant.goes_on

@@ -1,6 +1,6 @@
-use Rattle.std.proofs.Common.{◌≡◌, drop}
-use Rattle.warm_history.specs.ReferenceSets.{these, ◌∪◌}
-use Rattle.warm_history.specs.Histories.{refs, history}
+use Rattle.std.proofs.Common.{◌≡◌, ◌++◌, drop}
+use Rattle.warm_history.specs.ReferenceSets.{recent}
+use Rattle.warm_history.specs.ListHistories.{refs, history}
 use Rattle.warm_history.specs.Tree.{kept, AreKept}
 use Rattle.warm_history.specs.Undo.{undone}
 use Rattle.warm_history.proofs.tree.take_each_reference.Given as goal
@@ -8,6 +8,6 @@ use Rattle.warm_history.proofs.tree.take_each_reference.Given as goal
 abbrev pub invariant-loop-reference : goal.invariant-loop-reference
 invariant-loop-reference l = record {
   whole : AreKept l.maps;
-  goes_on : history (refs (kept l.maps) ∪ these (drop l.reference-index l.batch)) ≡ history (refs (kept l.initial.maps) ∪ these l.batch);
+  goes_on : history (refs (kept l.maps) ++ recent l.horizon (drop l.reference-index l.batch)) ≡ history (refs (kept l.initial.maps) ++ recent l.horizon l.batch);
   undo : undone l.undo.items l.maps ≡ undone l.initial.undo.items l.initial.maps;
 }

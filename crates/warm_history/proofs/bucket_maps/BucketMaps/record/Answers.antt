@@ -1,7 +1,8 @@
-use Rattle.std.proofs.Common.{◌<◌, ◌+◌, sym, subst, ◌∙◌, length}
+use Rattle.std.proofs.Common.{◌<◌, ◌+◌, sym, subst, ◌∙◌, length, get_or}
 use Rattle.std.proofs.lemmas.Result.{IfOk-weaker}
-use Rattle.warm_history.specs.Tree.{AreKept}
-use Rattle.warm_history.specs.BucketMaps.{pairs_of, joined, AreBuckets, PlacesRise}
+use Rattle.warm_history.specs.Tree.{AreKept, Pairs}
+use Rattle.warm_history.proofs.BucketCounts.{small_at, small_with}
+use Rattle.warm_history.specs.BucketMaps.{pairs_of, joined, AreBuckets, AreSmall, PlacesRise}
 use Rattle.warm_history.proofs.BucketLemmas.{map_at-of, lies_in_own}
 use Rattle.warm_history.proofs.BucketSteps.{AllIn, pairs_of-set, length-set, bucket_in, buckets_with, map_rises, stays_in, own_map, recorded_in_own, unchanged, ok_then, either_way, records_exact, records_whole, records_undo}
 use Rattle.warm_history.proofs.bucket_maps.BucketMaps.record.Goals as goal
@@ -23,12 +24,16 @@ invariant_of-self c =
     let there : i < length maps = own_map maps i p c.self.invariant.0 c.bucket_at.ensures c.requires.place in
     let old : AllIn (0 + i) _ = subst (AllIn (0 + i)) (map_at-of maps i c.index-self-bucket_at.result there) (bucket_in 0 i ms c.self.invariant.1) in
     let new : AllIn (0 + i) (c.record_in.new.map).entries = stays_in c.record_in.result (λ note. note) (0 + i) p c.args.more _ _ old (lies_in_own i p c.bucket_at.ensures) c.record_in.ensures.ok c.record_in.ensures.err in
-    (length-set maps i _ ∙ c.self.invariant.0, subst (AreBuckets 0) (sym (pairs_of-set maps i _)) (buckets_with 0 i _ ms c.self.invariant.1 new))
+    let old_small : length (get_or maps i c.index-self-bucket_at.result).entries < 288230376151711744 = subst (λ (m : Pairs). length m < 288230376151711744) (map_at-of maps i c.index-self-bucket_at.result there) (small_at i ms c.self.invariant.2) in (
+      length-set maps i _ ∙ c.self.invariant.0,
+      subst (AreBuckets 0) (sym (pairs_of-set maps i _)) (buckets_with 0 i _ ms c.self.invariant.1 new),
+      subst AreSmall (sym (pairs_of-set maps i _)) (small_with i _ ms c.self.invariant.2 (c.record_in.ensures.small old_small)),
+    )
 
 pub returns-clause-exact : goal.returns-clause-exact
 returns-clause-exact c =
     let p = c.args.place in
-    let ok = recorded_in_own c.record_in.result c.self.inside.maps c.bucket_at.result p c.args.more c.index-self-bucket_at.result c.record_in.new.map c.args.self.now c.self.invariant c.bucket_at.ensures c.requires.place c.self.view_is c.record_in.ensures.ok in
+    let ok = recorded_in_own c.record_in.result c.self.inside.maps c.bucket_at.result p c.args.more c.index-self-bucket_at.result c.record_in.new.map c.args.self.now (c.self.invariant.0, c.self.invariant.1) c.bucket_at.ensures c.requires.place c.self.view_is c.record_in.ensures.ok in
     ok_then c.record_in.result _ _ (λ note records. records_exact c.args.self.now _ p c.args.more note c.requires.place c.requires.kept records) ok
 
 pub returns-clause-whole : goal.returns-clause-whole
@@ -37,7 +42,7 @@ returns-clause-whole c =
     let i = c.bucket_at.result in
     let p = c.args.place in
     let there : i < length maps = own_map maps i p c.self.invariant.0 c.bucket_at.ensures c.requires.place in
-    let ok = recorded_in_own c.record_in.result maps i p c.args.more c.index-self-bucket_at.result c.record_in.new.map c.args.self.now c.self.invariant c.bucket_at.ensures c.requires.place c.self.view_is c.record_in.ensures.ok in
+    let ok = recorded_in_own c.record_in.result maps i p c.args.more c.index-self-bucket_at.result c.record_in.new.map c.args.self.now (c.self.invariant.0, c.self.invariant.1) c.bucket_at.ensures c.requires.place c.self.view_is c.record_in.ensures.ok in
     let err = unchanged c.record_in.result maps i c.index-self-bucket_at.result c.record_in.new.map c.args.self.now there c.self.view_is c.record_in.ensures.err in
     either_way c.record_in.result _ _ _
     (λ note records. records_whole c.args.self.now _ p c.args.more note c.requires.place c.requires.kept records)
@@ -46,7 +51,7 @@ returns-clause-whole c =
 pub returns-clause-undo : goal.returns-clause-undo
 returns-clause-undo c =
     let p = c.args.place in
-    let ok = recorded_in_own c.record_in.result c.self.inside.maps c.bucket_at.result p c.args.more c.index-self-bucket_at.result c.record_in.new.map c.args.self.now c.self.invariant c.bucket_at.ensures c.requires.place c.self.view_is c.record_in.ensures.ok in
+    let ok = recorded_in_own c.record_in.result c.self.inside.maps c.bucket_at.result p c.args.more c.index-self-bucket_at.result c.record_in.new.map c.args.self.now (c.self.invariant.0, c.self.invariant.1) c.bucket_at.ensures c.requires.place c.self.view_is c.record_in.ensures.ok in
     IfOk-weaker c.record_in.result _ _ (λ note records. records_undo c.args.self.now _ p c.args.more note c.requires.kept records) ok
 
 pub returns-clause-err : goal.returns-clause-err

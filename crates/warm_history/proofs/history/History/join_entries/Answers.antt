@@ -1,10 +1,26 @@
-use Rattle.std.proofs.Common.{ap, ◌∙◌}
+use Rattle.std.proofs.Common.{ap, ◌∙◌, arith, ◌≤◌}
 use Rattle.warm_history.specs.ReferenceSets.{◌∪◌}
-use Rattle.warm_history.specs.Histories.{HistoryView, holding, refs, history}
+use Rattle.warm_history.specs.ListHistories as list
+use Rattle.warm_history.specs.Histories.{HistoryView, holding_since, refs, history}
+use Rattle.warm_history.specs.Tree.{kept}
 use Rattle.warm_history.proofs.JoinLemmas.{history_first}
+use Rattle.warm_history.proofs.RaiseLemmas.{none_taken, joined_to, none_of}
 use Rattle.warm_history.proofs.history.History.join_entries.Goals as goal
 
+-- nothing that was taken in is older than the horizon
+pub raise-self-inside-requires-clause-recent : goal.raise-self-inside-requires-clause-recent
+raise-self-inside-requires-clause-recent c =
+    let m = c.later-horizon.result in
+    let le : c.self.inside.horizon ≤ m = omega (arith, c.later-horizon.ensures) in
+    none_taken c.self.inside.horizon m (kept c.self.inside.maps) (kept c.take_entries.new.maps) (list.refs c.args.more.now) le c.self.invariant.1 c.in_ok-take_entries.ensures.exact
+
+pub returns-clause-exact : goal.returns-clause-exact
+returns-clause-exact c =
+    joined_to c.self.inside.horizon (c.args.horizon) c.later-horizon.result c.raise-self-inside.result (kept c.self.inside.maps) (kept c.take_entries.new.maps) (kept c.raise-self-inside.new.maps) (list.refs c.args.more.now) c.later-horizon.ensures c.raise-self-inside.ensures.later c.in_ok-take_entries.ensures.exact c.raise-self-inside.ensures.cut
+    ∙ ap (λ (h : HistoryView). history (refs h ∪ refs (holding_since (c.args.horizon) c.args.more.now))) c.self.view_is
+
+pub invariant_of-self-2 : goal.invariant_of-self-2
+invariant_of-self-2 c = (c.raise-self-inside.ensures.whole, none_of c.raise-self-inside.result (kept c.raise-self-inside.new.maps) _ (returns-clause-exact c))
+
 pub returns-clause-ok : goal.returns-clause-ok
-returns-clause-ok c S stands =
-    let more = refs (holding c.args.more.now) in
-    c.in_ok-take_entries.ensures.exact ∙ ap (λ (h : HistoryView). history (refs h ∪ more)) (c.self.view_is ∙ stands) ∙ history_first S more
+returns-clause-ok c S stands = returns-clause-exact c ∙ ap (λ (h : HistoryView). history (refs h ∪ refs (holding_since c.args.horizon c.args.more.now))) stands ∙ history_first S (refs (holding_since c.args.horizon c.args.more.now))

@@ -2,12 +2,13 @@ use Rattle.std.proofs.Common.{ap, sym, subst}
 use Rattle.std.specs.List.Sorted.{IsPermutation}
 use Rattle.std.proofs.lemmas.List.Sorted.{IsPermutation-sym}
 use Rattle.warm_history.specs.Tree.{as_entries, kept}
+use Rattle.warm_history.specs.Histories.{entries_of}
 use Rattle.warm_history.proofs.TreeLemmas.{permuted_kept}
 use Rattle.warm_history.proofs.history.History.unordered.Goals as goal
 
 pub returns : goal.returns
 returns c =
     let pairs = c.self.inside.maps in
-    subst (λ es. IsPermutation es (as_entries c.each_pair.result)) c.self.view_is
+    subst (λ h. IsPermutation (entries_of h) (as_entries c.each_pair.result)) c.self.view_is
     (subst (IsPermutation (kept pairs)) (sym (ap as_entries c.each_pair.ensures))
-    (IsPermutation-sym (as_entries pairs) (kept pairs) (permuted_kept pairs c.self.invariant)))
+    (IsPermutation-sym (as_entries pairs) (kept pairs) (permuted_kept pairs c.self.invariant.0)))

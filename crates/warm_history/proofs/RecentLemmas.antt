@@ -1,0 +1,37 @@
+-- What is taken in of what isn't older than a horizon.
+use Rattle.std.proofs.Common.{◌≡◌, ℕ, List, [], ◌∷◌, ◌++◌, filter, map, refl, sym, ap, ◌∙◌}
+use Rattle.std.proofs.lemmas.List.{append-nil}
+use Rattle.warm_stamps.specs.declared.Stamp.{Stamp}
+use Rattle.warm_stamps.specs.declared.Reference.{Reference}
+use Rattle.warm_history.specs.declared.hist.PageHist.{PageHist}
+use Rattle.warm_history.specs.declared.hist.Entry.{Entry}
+use Rattle.warm_history.specs.ReferenceSets.{is_kept, recent}
+use Rattle.warm_history.specs.ListHistories.{stamps_held, entry_refs, refs, history}
+use Rattle.warm_history.specs.Places.{page_at}
+use Rattle.warm_history.specs.Tree.{Pairs, as_entries, kept, AreKept, told_at, TakesStamps, TakesRecent}
+use Rattle.warm_history.proofs.KeptLemmas.{recent_entry, kept-append, kept_alike}
+use Rattle.warm_history.proofs.ListJoinLemmas.{history_alike, history_of_own_references}
+use Rattle.warm_history.proofs.TreeLemmas.{IsHistory-kept, hist-pairs}
+
+-- what is told at a place, as far as it isn't older than the horizon, is told by the stamps that aren't
+told_recent : (m p : ℕ) (more : PageHist) (ss : List Stamp) → ss ≡ filter (is_kept m) (stamps_held more) → recent m (told_at p more) ≡ map (λ s. record { page = page_at p; stamp = s }) ss
+told_recent m p more ss is = recent_entry m (page_at p) (stamps_held more) ∙ ap (map (λ s. record { page = page_at p; stamp = s })) (sym is)
+
+-- where none is left
+pub takes_none : (m : ℕ) (old : Pairs) (p : ℕ) (more : PageHist) → AreKept old → [] ≡ filter (is_kept m) (stamps_held more) → TakesRecent m old p more old
+takes_none m old p more are none =
+    sym (history_of_own_references (kept old) (IsHistory-kept old are))
+    ∙ ap history (sym (append-nil (refs (kept old))))
+    ∙ ap (λ rs. history (refs (kept old) ++ rs)) (sym (told_recent m p more [] none))
+
+-- where some are
+pub takes_some : (m : ℕ) (old new : Pairs) (p : ℕ) (more left : PageHist) → stamps_held left ≡ filter (is_kept m) (stamps_held more) → TakesStamps old p left new → TakesRecent m old p more new
+takes_some m old new p more left some takes = takes ∙ ap (λ rs. history (refs (kept old) ++ rs)) (sym (told_recent m p more (stamps_held left) some))
+
+-- the first of what is left to take in, and the rest
+pub recent_more : (m : ℕ) (first rest left : List Reference) → left ≡ first ++ rest → recent m left ≡ recent m first ++ recent m rest
+recent_more m first rest left is = ap (recent m) is ∙ kept-append m first rest
+
+-- the pairs, or what they keep, may be taken in
+pub told_by_recent : (m : ℕ) (S : List Reference) (pairs : Pairs) → AreKept pairs → history (S ++ recent m (refs (as_entries pairs))) ≡ history (S ++ recent m (refs (kept pairs)))
+told_by_recent m S pairs are = history_alike S S (recent m (refs (as_entries pairs))) (recent m (refs (kept pairs))) (λ p. refl) (kept_alike m (refs (as_entries pairs)) (refs (kept pairs)) (hist-pairs pairs are))

@@ -1,0 +1,9 @@
+use Rattle.std.proofs.Common.{ap, sym, ◌∙◌}
+use Rattle.warm_history.proofs.RecentLemmas.{takes_none, takes_some}
+use Rattle.warm_history.proofs.tree.take_recent.Goals as goal
+
+pub returns-in_default-clause-exact : goal.returns-in_default-clause-exact
+returns-in_default-clause-exact c = takes_none c.args.horizon c.args.maps.now c.args.place c.args.more c.requires.kept c.in_default.ensures.stamps
+
+pub returns-clause-exact : goal.returns-clause-exact
+returns-clause-exact c = takes_some c.args.horizon c.args.maps.now c.take.new.maps c.args.place c.args.more c.in-Some.recent c.in-Some.ensures.stamps c.in_ok-take.ensures.exact
