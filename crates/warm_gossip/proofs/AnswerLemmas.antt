@@ -45,14 +45,14 @@ pieces-cons size (x ∷ xs) pos some =
     ap (λ t. take size (x ∷ xs) ∷ t) (same_pieces size (length xs) (length (drop size (x ∷ xs))) (drop size (x ∷ xs)) pos (omega arith) (omega arith))
 
 -- a frame of the first entries, and then those of the others
-pub frame_more : (id : ℕ) (frames : List Frame) (rest part later : List Entry) (frame : Frame) → 0 < length rest → part ≡ take (min MAX_ENTRIES (length rest)) rest → later ≡ drop (min MAX_ENTRIES (length rest)) rest → frame ≡ Entries id part → (frames ++ frame ∷ []) ++ entry_frames id later ≡ frames ++ entry_frames id rest
-frame_more id frames rest part later frame some front back is =
-    let first : frame ≡ Entries id (take MAX_ENTRIES rest) = is ∙ ap (Entries id) (front ∙ take_min MAX_ENTRIES rest) in
-    let others : entry_frames id later ≡ entry_frames id (drop MAX_ENTRIES rest) = ap (entry_frames id) (back ∙ drop_min MAX_ENTRIES rest) in
-    append_assoc frames (frame ∷ []) (entry_frames id later)
-    ∙ ap (λ (f : Frame). frames ++ f ∷ entry_frames id later) first
-    ∙ ap (λ (fs : List Frame). frames ++ Entries id (take MAX_ENTRIES rest) ∷ fs) others
-    ∙ ap (λ (parts : List (List Entry)). frames ++ map (λ part. Entries id part) parts) (sym (pieces-cons MAX_ENTRIES rest (omega arith) some))
+pub frame_more : (id horizon : ℕ) (frames : List Frame) (rest part later : List Entry) (frame : Frame) → 0 < length rest → part ≡ take (min MAX_ENTRIES (length rest)) rest → later ≡ drop (min MAX_ENTRIES (length rest)) rest → frame ≡ Entries id horizon part → (frames ++ frame ∷ []) ++ entry_frames id horizon later ≡ frames ++ entry_frames id horizon rest
+frame_more id horizon frames rest part later frame some front back is =
+    let first : frame ≡ Entries id horizon (take MAX_ENTRIES rest) = is ∙ ap (Entries id horizon) (front ∙ take_min MAX_ENTRIES rest) in
+    let others : entry_frames id horizon later ≡ entry_frames id horizon (drop MAX_ENTRIES rest) = ap (entry_frames id horizon) (back ∙ drop_min MAX_ENTRIES rest) in
+    append_assoc frames (frame ∷ []) (entry_frames id horizon later)
+    ∙ ap (λ (f : Frame). frames ++ f ∷ entry_frames id horizon later) first
+    ∙ ap (λ (fs : List Frame). frames ++ Entries id horizon (take MAX_ENTRIES rest) ∷ fs) others
+    ∙ ap (λ (parts : List (List Entry)). frames ++ map (λ part. Entries id horizon part) parts) (sym (pieces-cons MAX_ENTRIES rest (omega arith) some))
 
 -- there is more where a list is not empty
 pub some_left : (n : ℕ) (empty : Bool) → empty ≡ (n == 0) → empty ≡ false → 0 < n
@@ -123,6 +123,6 @@ differing_from : (theirs own : List (List ℕ)) (h : HistoryView) (mask : ℕ) �
 differing_from theirs own h mask is differ = λ bucket low. subst (λ (sums : List (List ℕ)). (bit_at mask bucket ≡ 1) ↔ (sum_at theirs bucket ≢ sum_at sums bucket)) is (differ bucket low)
 
 pub some_differ : (id : ℕ) (theirs own : List (List ℕ)) (h : HistoryView) (frames : List Frame) (mask : ℕ) → mask < 2 ^ 64 → own ≡ sums_of (entries_of h)
-    → ((bucket : ℕ) → bucket < BUCKETS → (bit_at mask bucket ≡ 1) ↔ (sum_at theirs bucket ≢ sum_at own bucket)) → (mask ≡ 0 → ⊥) → frames ≡ wanted_frames id h mask ++ Want id mask ∷ [] → AnswersSums id h theirs frames
+    → ((bucket : ℕ) → bucket < BUCKETS → (bit_at mask bucket ≡ 1) ↔ (sum_at theirs bucket ≢ sum_at own bucket)) → (mask ≡ 0 → ⊥) → frames ≡ wanted_frames id h mask ++ Want id h.horizon mask ∷ [] → AnswersSums id h theirs frames
 some_differ id theirs own h frames mask fits is differ some all =
-    (mask, fits, differing_from theirs own h mask is differ, all ∙ other_chosen mask [] (wanted_frames id h mask ++ Want id mask ∷ []) some)
+    (mask, fits, differing_from theirs own h mask is differ, all ∙ other_chosen mask [] (wanted_frames id h mask ++ Want id h.horizon mask ∷ []) some)

@@ -1,6 +1,6 @@
 -- A node takes a batch, or refuses it for want of memory.
 use Rattle.std.proofs.Common.{inl, inr, refl}
-use Rattle.warm_gossip.specs.declared.call.Reply.TheVariants.{Done, Sent, Answers, Pinned, Bytes, Page, Pages, Loaded, Refused}
+use Rattle.warm_gossip.specs.declared.call.Reply.TheVariants.{Done, Sent, Answers, Kept, Pinned, Bytes, Page, Pages, Loaded, Refused}
 use Rattle.warm_gossip.specs.declared.fault.NodeFault.TheVariants.{Memory, Pool, StaleSlot}
 use Rattle.warm_gossip.specs.Batches.{BatchesAreTaken}
 
@@ -11,6 +11,7 @@ batches_are_taken x y batch (Refused (Pool why)) goes = absurd goes
 batches_are_taken x y batch (Refused StaleSlot) goes = absurd goes
 batches_are_taken x y batch (Sent frame) goes = absurd goes
 batches_are_taken x y batch (Answers frames) goes = absurd goes
+batches_are_taken x y batch (Kept horizon) goes = absurd goes
 batches_are_taken x y batch (Pinned slot) goes = absurd goes
 batches_are_taken x y batch (Bytes bytes) goes = absurd goes
 batches_are_taken x y batch (Page page) goes = absurd goes

@@ -3,7 +3,7 @@ use Rattle.std.proofs.Common.{◌≡◌, ℕ, [], ◌∷◌, None, refl}
 use Rattle.warm_stamps.specs.declared.Stamp.{Stamp}
 use Rattle.warm_history.specs.declared.hist.Entry.{Entry}
 use Rattle.warm_history.specs.declared.hist.PageHist.TheVariants.{Once, Twice}
-use Rattle.warm_history.specs.Histories.{holding, history}
+use Rattle.warm_history.specs.Histories.{holding, holding_since, history}
 use Rattle.warm_frames.specs.declared.frame.Frame.TheVariants.{Entries, Want}
 use Rattle.warm_gossip.specs.Answers.{buckets_in, wanted_frames, pieces, sent, taught}
 
@@ -31,20 +31,26 @@ abbrev once : ℕ → Stamp → Entry
 once n stamp = record { page = record { dev = 0; no = n }; hist = Once stamp }
 
 -- two pages of two buckets, which a replica sends in two frames; bucket 3 is empty, and gives none
-two_frames : wanted_frames 1 (holding (once 1 (at 10 1) ∷ once 2 (at 11 2) ∷ [])) 14 ≡ Entries 1 (once 1 (at 10 1) ∷ []) ∷ Entries 1 (once 2 (at 11 2) ∷ []) ∷ []
+two_frames : wanted_frames 1 (holding (once 1 (at 10 1) ∷ once 2 (at 11 2) ∷ [])) 14 ≡ Entries 1 0 (once 1 (at 10 1) ∷ []) ∷ Entries 1 0 (once 2 (at 11 2) ∷ []) ∷ []
 unfolding buckets_in
 two_frames = refl
 
 -- an empty bucket that is asked for by itself is sent as a frame without entries
-empty_sent : sent 1 (holding (once 1 (at 10 1) ∷ [])) 2 None ≡ Entries 1 []
+empty_sent : sent 1 (holding (once 1 (at 10 1) ∷ [])) 2 None ≡ Entries 1 0 []
 unfolding history
 empty_sent = refl
 
 -- entries are joined, and do not take the place of what is known
-joined : taught (holding (once 1 (at 20 1) ∷ [])) (Entries 2 (once 1 (at 30 2) ∷ [])) ≡ holding ((let e : Entry = record { page = record { dev = 0; no = 1 }; hist = Twice (record { last = at 30 2; prev = at 20 1 }) } in e) ∷ [])
+joined : taught (holding (once 1 (at 20 1) ∷ [])) (Entries 2 0 (once 1 (at 30 2) ∷ [])) ≡ holding ((let e : Entry = record { page = record { dev = 0; no = 1 }; hist = Twice (record { last = at 30 2; prev = at 20 1 }) } in e) ∷ [])
 unfolding history
 joined = refl
 
--- a wish teaches nothing
-nothing_taught : taught (holding (once 1 (at 20 1) ∷ [])) (Want 2 6) ≡ holding (once 1 (at 20 1) ∷ [])
+-- a wish teaches nothing but its horizon
+nothing_taught : taught (holding (once 1 (at 20 1) ∷ [])) (Want 2 20 6) ≡ holding_since 20 (once 1 (at 20 1) ∷ [])
+unfolding history
 nothing_taught = refl
+
+-- and what is older than that is forgotten
+older_forgotten : taught (holding (once 1 (at 20 1) ∷ once 2 (at 21 1) ∷ [])) (Want 2 21 6) ≡ holding_since 21 (once 2 (at 21 1) ∷ [])
+unfolding history
+older_forgotten = refl

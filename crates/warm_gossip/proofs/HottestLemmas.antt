@@ -13,7 +13,8 @@ use Rattle.warm_stamps.proofs.StampLemmas.{page_order, IsStrictOrder-flip}
 use Rattle.warm_history.specs.ReferenceSets.{ReferenceSet, references}
 use Rattle.warm_history.specs.declared.hist.PageHist.{PageHist}
 use Rattle.warm_history.specs.declared.hist.PageHist.TheVariants.{Once, Twice}
-use Rattle.warm_history.specs.Histories.{hist, pages, references_to, first_two}
+use Rattle.warm_history.specs.ListHistories as list
+use Rattle.warm_history.specs.Histories.{hist, pages, first_two}
 use Rattle.warm_history.proofs.HistoryLemmas.{some_named}
 use Rattle.warm_rank.specs.Keys.{rank_key, key_cmp}
 use Rattle.warm_rank.specs.Ranking.{leaving_cmp, IsBefore, warm}
@@ -116,11 +117,11 @@ cut_closed cmp order (suc n) (z ∷ zs) rising x y (inl is) (inr later) less =
 cut_closed cmp order (suc n) (z ∷ zs) rising x y (inr has) (inr later) less = inr (cut_closed cmp order n zs rising.1 x y has later less)
 
 -- a page is named, or no reference is to it
-named_or_not : (S : ReferenceSet) (p : PageId) → Has (map (λ (r : Reference). r.page) (references S)) p ⊎ (references_to S p ≡ [])
+named_or_not : (S : List Reference) (p : PageId) → Has (map (λ (r : Reference). r.page) S) p ⊎ (list.references_to S p ≡ [])
 named_or_not [] p = inr refl
 named_or_not (r ∷ S) p = cases (named_or_not S p)
   where
-    cases : Has (map (λ (x : Reference). x.page) S) p ⊎ (references_to S p ≡ []) → Has (map (λ (x : Reference). x.page) (r ∷ S)) p ⊎ (references_to (r ∷ S) p ≡ [])
+    cases : Has (map (λ (x : Reference). x.page) S) p ⊎ (list.references_to S p ≡ []) → Has (map (λ (x : Reference). x.page) (r ∷ S)) p ⊎ (list.references_to (r ∷ S) p ≡ [])
     cases (inl has) = inl (inr has)
     cases (inr none) = by_cases (page_cmp r.page p) _ (λ less. inr (rw less none)) (λ tied. inl (inl (page_order.same r.page p tied))) (λ more. inr (rw more none))
 
@@ -132,7 +133,7 @@ leaves_first p q (Some (Twice two)) some less = absurd (cc)
 
 -- so a page that leaves after one that is named is named
 after_named : (S : ReferenceSet) (p q : PageId) → Has (pages S) p → IsBefore S p q → Has (pages S) q
-after_named S p q named before = elim (named_or_not S q) [
+after_named S p q named before = elim (named_or_not (references S) q) [
   | inl has ↦ has_distinct page_cmp page_order (map (λ (r : Reference). r.page) (references S)) q has
   | inr none ↦
       let unknown : hist S q ≡ None = ap (λ rs. first_two (distinct (flip_args stamp_cmp) (map (λ (r : Reference). r.stamp) rs))) none in

@@ -1,7 +1,8 @@
--- What a history that takes something in says of the pages that it is not told of: what it said before.
-use Rattle.std.proofs.Common.{◌≡◌, suc, false, List, [], ◌∷◌, ◌++◌, map, sym, ap, refl, subst, ◌∙◌, arith}
+-- What a history that takes something in says of the pages that it is not told of: what it said before, where its horizon does not rise.
+use Rattle.std.proofs.Common.{◌≡◌, ℕ, ◌≤◌, suc, false, List, [], ◌∷◌, ◌++◌, map, max, sym, ap, refl, subst, ◌∙◌, arith}
 use Rattle.std.proofs.lemmas.List.{append-nil}
 use Rattle.std.specs.List.{Contains}
+use Rattle.std.specs.Option.{option_and_then}
 use Rattle.std.specs.Ordering.{is_eq, flip_args}
 use Rattle.warm_stamps.specs.declared.PageId.{PageId}
 use Rattle.warm_stamps.specs.declared.Reference.{Reference}
@@ -10,9 +11,14 @@ use Rattle.warm_stamps.specs.Distinct.{distinct}
 use Rattle.warm_stamps.proofs.DistinctLemmas.{by_cases}
 use Rattle.warm_stamps.proofs.StampLemmas.{page_order}
 use Rattle.warm_history.specs.declared.hist.Entry.{Entry}
-use Rattle.warm_history.specs.ReferenceSets.{these, ◌∪◌}
-use Rattle.warm_history.specs.Histories.{HistoryView, holding, first_two, hist, history, entry_refs, refs}
-use Rattle.warm_history.proofs.HistoryLemmas.{told, told-append, told_entry, hist_refs-history}
+use Rattle.warm_history.specs.KeptEntries.{kept_hist}
+use Rattle.warm_history.specs.ReferenceSets.{ReferenceSet, recent, these, since, ◌∪◌}
+use Rattle.warm_history.specs.ListHistories as list
+use Rattle.warm_history.specs.Histories.{HistoryView, IsHistory, holding_since, first_two, hist, history, entry_refs, refs}
+use Rattle.warm_history.proofs.KeptLemmas.{hist-kept}
+use Rattle.warm_history.proofs.ListHistoryLemmas.{told, told-append, told_entry}
+use Rattle.warm_history.proofs.HistoryLemmas.{hist_refs-history}
+use Rattle.warm_history.proofs.JoinLemmas.{history_of_own_references}
 use Rattle.warm_pool.specs.Refreshing.{AgreeOutside}
 
 differs : (q p : PageId) → (q ≡ p → ⊥) → is_eq (page_cmp q p) ≡ false
@@ -25,29 +31,42 @@ untold (r ∷ T) p unnamed =
     rw (differs r.page p (λ is. unnamed (0, omega arith, is))) (untold T p (λ has. unnamed (suc has.0, omega arith, has.2)))
 
 -- nor one that no entry is of
-untold_entries : (es : List Entry) (p : PageId) → (Contains (map (λ e. e.page) es) p → ⊥) → told (refs es) p ≡ []
+untold_entries : (es : List Entry) (p : PageId) → (Contains (map (λ e. e.page) es) p → ⊥) → told (list.refs es) p ≡ []
 untold_entries [] p unnamed = refl
 untold_entries (e ∷ es) p unnamed =
-    told-append (entry_refs e) (refs es) p
-    ∙ ap (λ ss. ss ++ told (refs es) p) (told_entry e.page e.hist p)
+    told-append (entry_refs e) (list.refs es) p
+    ∙ ap (λ ss. ss ++ told (list.refs es) p) (told_entry e.page e.hist p)
     ∙ (rw (differs e.page p (λ is. unnamed (0, omega arith, is))) (untold_entries es p (λ has. unnamed (suc has.0, omega arith, has.2))))
 
-hist_as_before : (S T : List Reference) (p : PageId) → told T p ≡ [] → hist S p ≡ hist (refs (history (S ++ T))) p
-hist_as_before S T p none =
-    sym (hist_refs-history (S ++ T) p
-    ∙ ap (λ ss. first_two (distinct (flip_args stamp_cmp) ss)) (told-append S T p ∙ ap (λ ss. told S p ++ ss) none ∙ append-nil (told S p)))
+pub no_greater : (a b : ℕ) → b ≤ a → max a b ≡ a
+no_greater a b le = omega (arith, le)
+
+-- what tells nothing of a page, and has no later horizon, changes nothing that is said of it
+hist_as_before : (S T : ReferenceSet) (p : PageId) → T.horizon ≤ S.horizon → told T.told p ≡ [] → hist S p ≡ hist (refs (history (S ∪ T))) p
+hist_as_before S T p le none =
+    sym (hist_refs-history (S ∪ T) p
+    ∙ ap (λ m. list.hist (recent m (S.told ++ T.told)) p) (no_greater S.horizon T.horizon le)
+    ∙ hist-kept S.horizon (S.told ++ T.told) p
+    ∙ ap (λ ss. option_and_then (kept_hist S.horizon) (first_two (distinct (flip_args stamp_cmp) ss))) (told-append S.told T.told p ∙ ap (λ ss. told S.told p ++ ss) none ∙ append-nil (told S.told p))
+    ∙ sym (hist-kept S.horizon S.told p))
 
 -- a history that takes references in agrees with itself outside their pages
 pub absorbed_agrees : (h : HistoryView) (batch : List Reference) → AgreeOutside (map (λ r. r.page) batch) h (history (refs h ∪ these batch))
-absorbed_agrees h batch p unnamed = hist_as_before (refs h) batch p (untold batch p unnamed)
+absorbed_agrees h batch p unnamed = hist_as_before (refs h) (these batch) p (omega arith) (untold batch p unnamed)
 
--- and one that takes entries in, outside the pages of these
-pub joined_agrees : (h : HistoryView) (es : List Entry) → AgreeOutside (map (λ e. e.page) es) h (history (refs h ∪ refs (holding es)))
-joined_agrees h es p unnamed = hist_as_before (refs h) (refs es) p (untold_entries es p unnamed)
+-- and one that takes entries in, of no later horizon, outside the pages of these
+pub joined_agrees : (h : HistoryView) (horizon : ℕ) (es : List Entry) → horizon ≤ h.horizon → AgreeOutside (map (λ e. e.page) es) h (history (refs h ∪ refs (holding_since horizon es)))
+joined_agrees h horizon es le p unnamed = hist_as_before (refs h) (refs (holding_since horizon es)) p le (untold_entries es p unnamed)
 
 -- the same of pages and a history that are known to be these
 pub absorbed_agrees_as : (h : HistoryView) (batch : List Reference) (ps : List PageId) (g : HistoryView) → ps ≡ map (λ r. r.page) batch → g ≡ history (refs h ∪ these batch) → AgreeOutside ps h g
 absorbed_agrees_as h batch ps g is becomes = subst (λ qs. AgreeOutside qs h g) (sym is) (subst (λ k. AgreeOutside (map (λ r. r.page) batch) h k) (sym becomes) (absorbed_agrees h batch))
 
-pub joined_agrees_as : (h : HistoryView) (es : List Entry) (ps : List PageId) (g : HistoryView) → ps ≡ map (λ e. e.page) es → g ≡ history (refs h ∪ refs (holding es)) → AgreeOutside ps h g
-joined_agrees_as h es ps g is becomes = subst (λ qs. AgreeOutside qs h g) (sym is) (subst (λ k. AgreeOutside (map (λ e. e.page) es) h k) (sym becomes) (joined_agrees h es))
+pub joined_agrees_as : (h : HistoryView) (horizon : ℕ) (es : List Entry) (ps : List PageId) (g : HistoryView) → horizon ≤ h.horizon → ps ≡ map (λ e. e.page) es → g ≡ history (refs h ∪ refs (holding_since horizon es)) → AgreeOutside ps h g
+joined_agrees_as h horizon es ps g le is becomes = subst (λ qs. AgreeOutside qs h g) (sym is) (subst (λ k. AgreeOutside (map (λ e. e.page) es) h k) (sym becomes) (joined_agrees h horizon es le))
+
+-- a history raised to no later time is itself
+pub raised_to_no_later : (h : HistoryView) (time : ℕ) → IsHistory h → time ≤ h.horizon → history (since time (refs h)) ≡ h
+raised_to_no_later h time whole le =
+    let same : since time (refs h) ≡ refs h = λ i. record { horizon = no_greater h.horizon time le i; told = append-nil (list.refs h.entries) i } in
+    ap history same ∙ history_of_own_references h whole

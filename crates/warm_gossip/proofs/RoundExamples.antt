@@ -2,11 +2,11 @@
 use Rattle.std.proofs.Common.{◌≡◌, [], ◌∷◌, ◌++◌, List, refl}
 use Rattle.warm_history.specs.declared.hist.Entry.{Entry}
 use Rattle.warm_history.specs.declared.hist.PageHist.TheVariants.{Once}
-use Rattle.warm_history.specs.Histories.{HistoryView, holding, history, join}
+use Rattle.warm_history.specs.Histories.{HistoryView, holding, holding_since, history, join}
 use Rattle.warm_frames.specs.declared.frame.Frame.{Frame}
 use Rattle.warm_frames.specs.declared.frame.Frame.TheVariants.{Entries, Want}
-use Rattle.warm_gossip.specs.Answers.{buckets_in, wanted_frames}
-use Rattle.warm_gossip.specs.Round.{Hears}
+use Rattle.warm_gossip.specs.Answers.{buckets_in, taught, wanted_frames}
+use Rattle.warm_gossip.specs.Round.{Hears, offer}
 
 -- the page 0:1, referenced at 10 by replica 1, and the page 0:2, referenced at 11 by replica 2
 abbrev one : Entry
@@ -26,15 +26,15 @@ both = holding (one ∷ two ∷ [])
 
 -- what replica 2 answers to sums from which its own differ in the buckets 1 and 2, which is the mask 6
 abbrev asked : List Frame
-asked = Entries 2 (two ∷ []) ∷ Want 2 6 ∷ []
+asked = Entries 2 0 (two ∷ []) ∷ Want 2 0 6 ∷ []
 
-asked_is : wanted_frames 2 standby 6 ++ Want 2 6 ∷ [] ≡ asked
+asked_is : wanted_frames 2 standby 6 ++ Want 2 0 6 ∷ [] ≡ asked
 unfolding buckets_in
 asked_is = refl
 
 -- what replica 1 answers to that: both pages, since it knows both by then
 abbrev given : List Frame
-given = Entries 1 (one ∷ []) ∷ Entries 1 (two ∷ []) ∷ []
+given = Entries 1 0 (one ∷ []) ∷ Entries 1 0 (two ∷ []) ∷ []
 
 heard : Hears 1 primary asked given both
 unfolding history buckets_in
@@ -48,3 +48,34 @@ back = ([], [], refl, ([], [], refl, (refl, refl), refl), refl)
 join_is : join primary standby ≡ both
 unfolding history
 join_is = refl
+
+-- The same where replica 2 has the horizon 11: the first page is too old for it, and replica 1 forgets it as it hears from there.
+abbrev later : HistoryView
+later = holding_since 11 (two ∷ [])
+
+-- what was offered without a horizon changes nothing
+offered : taught later (offer 1 primary) ≡ later
+unfolding history
+offered = refl
+
+abbrev asked_later : List Frame
+asked_later = Entries 2 11 (two ∷ []) ∷ Want 2 11 6 ∷ []
+
+asked_later_is : wanted_frames 2 later 6 ++ Want 2 11 6 ∷ [] ≡ asked_later
+unfolding buckets_in
+asked_later_is = refl
+
+abbrev given_later : List Frame
+given_later = Entries 1 11 (two ∷ []) ∷ []
+
+heard_later : Hears 1 primary asked_later given_later later
+unfolding history buckets_in
+heard_later = ([], given_later, refl, (given_later, [], refl, (refl, refl), refl), refl)
+
+back_later : Hears 2 later given_later [] later
+unfolding history
+back_later = ([], [], refl, (refl, refl), refl)
+
+join_later : join primary later ≡ later
+unfolding history
+join_later = refl

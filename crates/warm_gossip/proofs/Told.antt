@@ -1,19 +1,19 @@
 -- What a node was told is its history.
 use Rattle.std.proofs.Common.{◌≡◌, refl, sym, ap, ◌∙◌, List, [], ◌∷◌, Some, None}
-use Rattle.warm_history.specs.ReferenceSets.{ReferenceSet, these, ◌∪◌}
+use Rattle.warm_history.specs.ReferenceSets.{ReferenceSet, these, since, ◌∪◌}
 use Rattle.warm_history.specs.Histories.{holding, history, refs}
 use Rattle.warm_history.proofs.JoinLemmas.{history_first}
-use Rattle.warm_frames.specs.declared.frame.Frame.TheVariants.{Entries, Digest, Want}
 use Rattle.warm_pool.specs.declared.fault.PoolFault.TheVariants.{OutOfPage, Fixed, Fault}
 use Rattle.warm_pool.specs.View.{PoolView}
 use Rattle.warm_turn.specs.declared.board.Entry.{Entry}
 use Rattle.warm_turn.specs.Turns.{Runs}
 use Rattle.warm_gossip.specs.declared.call.Call.{Call}
-use Rattle.warm_gossip.specs.declared.call.Call.TheVariants.{Absorb, Send, Offer, Receive, Pin, Unpin, Read, Write, Victim, WarmList, WarmStep, Restart}
+use Rattle.warm_gossip.specs.declared.call.Call.TheVariants.{Absorb, Send, Offer, Receive, Horizon, Pin, Unpin, Read, Write, Victim, WarmList, WarmStep, Restart}
 use Rattle.warm_gossip.specs.declared.call.Reply.{Reply}
-use Rattle.warm_gossip.specs.declared.call.Reply.TheVariants.{Done, Sent, Answers, Pinned, Bytes, Page, Pages, Loaded, Refused}
+use Rattle.warm_gossip.specs.declared.call.Reply.TheVariants.{Done, Sent, Answers, Kept, Pinned, Bytes, Page, Pages, Loaded, Refused}
 use Rattle.warm_gossip.specs.declared.fault.NodeFault.{NodeFault}
 use Rattle.warm_gossip.specs.declared.fault.NodeFault.TheVariants.{Memory, Pool, StaleSlot}
+use Rattle.warm_gossip.specs.Answers.{refs_in}
 use Rattle.warm_gossip.specs.State.{NodeView}
 use Rattle.warm_gossip.specs.Step.{Refuses, Step}
 use Rattle.warm_gossip.specs.Told.{told, told_by, ToldIsHistory}
@@ -54,9 +54,8 @@ step_tells : (S : ReferenceSet) (call : Call) (reply : Reply) (old new : NodeVie
 step_tells S (Absorb batch) Done old new is step = same_history step ∙ (ap (λ h. history (refs h ∪ these batch)) is ∙ history_first S (these batch))
 step_tells S (Send bucket after) (Sent frame) old new is step = same_history step.1 ∙ is
 step_tells S Offer (Sent frame) old new is step = same_history step.1 ∙ is
-step_tells S (Receive (Entries sender entries)) (Answers frames) old new is step = same_history step.1 ∙ (ap (λ h. history (refs h ∪ refs (holding entries))) is ∙ history_first S (refs (holding entries)))
-step_tells S (Receive (Digest sender sums)) (Answers frames) old new is step = same_history step.1 ∙ is
-step_tells S (Receive (Want sender mask)) (Answers frames) old new is step = same_history step.1 ∙ is
+step_tells S (Receive frame) (Answers frames) old new is step = same_history step.1 ∙ (ap (λ h. history (refs h ∪ refs_in frame)) is ∙ history_first S (refs_in frame))
+step_tells S (Horizon time) (Kept horizon) old new is step = same_history step.0 ∙ (ap (λ h. history (since time (refs h))) is ∙ history_first S (record { horizon = time; told = [] }))
 step_tells S (Pin p) (Pinned to) old new is step = same_history step.0 ∙ is
 step_tells S (Unpin slot) Done old new is step = same_history step.1 ∙ is
 step_tells S (Read slot at len) (Bytes given) old new is step = same_history step.3 ∙ is

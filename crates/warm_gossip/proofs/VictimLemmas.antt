@@ -17,9 +17,9 @@ use Rattle.warm_pool.specs.Keeping.{FailsAt}
 use Rattle.warm_pool.specs.Pinning.{AddsFix, PutsIn, PutRefused, LoadRefused, PinRefused}
 use Rattle.warm_pool.proofs.Slots.{at_set}
 use Rattle.warm_gossip.specs.declared.call.Call.{Call}
-use Rattle.warm_gossip.specs.declared.call.Call.TheVariants.{Absorb, Send, Offer, Receive, Pin, Unpin, Read, Write, Victim, WarmList, WarmStep, Restart}
+use Rattle.warm_gossip.specs.declared.call.Call.TheVariants.{Absorb, Send, Offer, Receive, Horizon, Pin, Unpin, Read, Write, Victim, WarmList, WarmStep, Restart}
 use Rattle.warm_gossip.specs.declared.call.Reply.{Reply}
-use Rattle.warm_gossip.specs.declared.call.Reply.TheVariants.{Done, Sent, Answers, Pinned, Bytes, Page, Pages, Loaded, Refused}
+use Rattle.warm_gossip.specs.declared.call.Reply.TheVariants.{Done, Sent, Answers, Kept, Pinned, Bytes, Page, Pages, Loaded, Refused}
 use Rattle.warm_gossip.specs.declared.fault.NodeFault.{NodeFault}
 use Rattle.warm_gossip.specs.declared.fault.NodeFault.TheVariants.{Memory, Pool, StaleSlot}
 use Rattle.warm_gossip.specs.State.{NodeView}
@@ -104,6 +104,7 @@ pages_after old new (Absorb batch) Done other step = inl (same_pool old.pool new
 pages_after old new (Send bucket after) (Sent frame) other step = inl (unchanged old new step.1)
 pages_after old new Offer (Sent frame) other step = inl (unchanged old new step.1)
 pages_after old new (Receive frame) (Answers frames) other step = inl (same_pool old.pool new.pool (ap (λ n. n.pool) step.1))
+pages_after old new (Horizon time) (Kept horizon) other step = inl (same_pool old.pool new.pool (ap (λ n. n.pool) step.0))
 pages_after old new (Pin p) (Pinned slot) other step = pinned old.history old.pool new.pool p slot step.1.1
 pages_after old new (Unpin slot) Done other step = inl (fixes_change old.pool new.pool slot.index _ step.0.there (ap (λ n. n.pool.frames) step.1))
 pages_after old new (Read slot at len) (Bytes bytes) other step = inl (unchanged old new step.3)

@@ -16,7 +16,7 @@ use Rattle.warm_gossip.specs.declared.call.Reply.TheVariants.{Done, Refused}
 use Rattle.warm_gossip.specs.declared.fault.NodeFault.{NodeFault}
 use Rattle.warm_gossip.specs.declared.fault.NodeFault.TheVariants.{Pool}
 use Rattle.warm_gossip.specs.declared.node.Node.{Node}
-use Rattle.warm_gossip.specs.Answers.{joined_with}
+use Rattle.warm_history.specs.Histories.{holding_since, join}
 use Rattle.warm_gossip.specs.State.{NodeState, NodeView, IsNode, node_view}
 use Rattle.warm_gossip.specs.Step.{IsFailed, OnPool, Step}
 
@@ -58,8 +58,8 @@ abbrev pub SameShown : {X : Type 0} {P : X → Type 0} → (DynBox X Global P �
 SameShown state old new = shown state new ≡ shown state old
 
 -- it has taken these entries in
-abbrev pub Learns : {X : Type 0} {P : X → Type 0} → (DynBox X Global P → DeviceState) → Node X P → List Entry → Node X P → Type 0
-Learns state old entries new = shown state new ≡ record (shown state old) { history = joined_with (shown state old).history entries }
+abbrev pub Learns : {X : Type 0} {P : X → Type 0} → (DynBox X Global P → DeviceState) → Node X P → ℕ → List Entry → Node X P → Type 0
+Learns state old horizon entries new = shown state new ≡ record (shown state old) { history = join (shown state old).history (holding_since horizon entries) }
 
 -- a page could not be written to its device, or a device not flushed
 abbrev pub WriteBackFails : {X : Type 0} {P : X → Type 0} → (DynBox X Global P → DeviceState) → Node X P → NodeFault → Node X P → Type 0

@@ -1,7 +1,7 @@
 -- What each call does to a node, and why it is refused, as a caller sees it.
 use Rattle.std.specs.Prelude.{◌≡◌, ℕ, ◌+◌, ◌<◌, ◌≤◌, List, [], length, Option, Some, None, slice_index_or}
 use Rattle.warm_stamps.specs.declared.PageId.{PageId}
-use Rattle.warm_history.specs.ReferenceSets.{these, ◌∪◌}
+use Rattle.warm_history.specs.ReferenceSets.{these, since, ◌∪◌}
 use Rattle.warm_history.specs.Histories.{entries_of, holding, history, refs}
 use Rattle.warm_rank.specs.Ranking.{IsVictim, warm}
 use Rattle.warm_frames.specs.declared.frame.Frame.TheVariants.{Digest}
@@ -14,9 +14,9 @@ use Rattle.warm_pool.specs.Pinning.{Pinned as PinnedIn, PinRefused, PutsIn, PutR
 use Rattle.warm_pool.specs.PageBytes.{IsRead, Written}
 use Rattle.warm_pool.specs.Retiring.{Emptied}
 use Rattle.warm_gossip.specs.declared.call.Call.{Call}
-use Rattle.warm_gossip.specs.declared.call.Call.TheVariants.{Absorb, Send, Offer, Receive, Pin, Unpin, Read, Write, Victim, WarmList, WarmStep, Restart}
+use Rattle.warm_gossip.specs.declared.call.Call.TheVariants.{Absorb, Send, Offer, Receive, Horizon, Pin, Unpin, Read, Write, Victim, WarmList, WarmStep, Restart}
 use Rattle.warm_gossip.specs.declared.call.Reply.{Reply}
-use Rattle.warm_gossip.specs.declared.call.Reply.TheVariants.{Done, Sent, Answers, Pinned, Bytes, Page, Pages, Loaded, Refused}
+use Rattle.warm_gossip.specs.declared.call.Reply.TheVariants.{Done, Sent, Answers, Kept, Pinned, Bytes, Page, Pages, Loaded, Refused}
 use Rattle.warm_gossip.specs.declared.fault.NodeFault.{NodeFault}
 use Rattle.warm_gossip.specs.declared.fault.NodeFault.TheVariants.{Memory, Pool, StaleSlot}
 use Rattle.warm_gossip.specs.State.{NodeView}
@@ -89,7 +89,8 @@ abbrev pub Step : NodeView → Call → Reply → NodeView → Type 0
 Step old call (Refused said) new = Refuses old call said new
 Step old (Absorb batch) Done new = new ≡ record old { history = history (refs old.history ∪ these batch) }
 Step old (Send bucket after) (Sent frame) new = (frame ≡ sent old.id old.history bucket after) × (new ≡ old)
-Step old Offer (Sent frame) new = (frame ≡ Digest old.id (sums_of (entries_of old.history))) × (new ≡ old)
+Step old Offer (Sent frame) new = (frame ≡ Digest old.id old.history.horizon (sums_of (entries_of old.history))) × (new ≡ old)
+Step old (Horizon time) (Kept horizon) new = (new ≡ record old { history = history (since time (refs old.history)) }) × (horizon ≡ new.history.horizon)
 Step old (Receive frame) (Answers frames) new = IsAnswer old.id old.history frame frames × (new ≡ record old { history = taught old.history frame })
 Step old (Pin p) (Pinned slot) new = OnPool (λ v w. PinnedIn old.history v p slot w) old new
 Step old (Unpin slot) Done new = Holds old.pool slot × (new ≡ record old { pool = unpinned old.pool slot })

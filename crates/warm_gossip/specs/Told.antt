@@ -1,21 +1,22 @@
 -- What a list of calls told a node.
 use Rattle.std.specs.Prelude.{◌≡◌, List, [], ◌∷◌}
-use Rattle.warm_history.specs.ReferenceSets.{ReferenceSet, these, ◌∪◌}
-use Rattle.warm_history.specs.Histories.{holding, history, refs}
-use Rattle.warm_frames.specs.declared.frame.Frame.TheVariants.{Entries}
+use Rattle.warm_history.specs.ReferenceSets.{ReferenceSet, these, since, ◌∪◌}
+use Rattle.warm_history.specs.Histories.{history}
+use Rattle.warm_gossip.specs.Answers.{refs_in}
 use Rattle.warm_turn.specs.declared.board.Entry.{Entry}
 use Rattle.warm_turn.specs.Turns.{Runs}
 use Rattle.warm_gossip.specs.declared.call.Call.{Call}
-use Rattle.warm_gossip.specs.declared.call.Call.TheVariants.{Absorb, Receive, Restart}
+use Rattle.warm_gossip.specs.declared.call.Call.TheVariants.{Absorb, Receive, Horizon, Restart}
 use Rattle.warm_gossip.specs.declared.call.Reply.{Reply}
-use Rattle.warm_gossip.specs.declared.call.Reply.TheVariants.{Done, Answers}
+use Rattle.warm_gossip.specs.declared.call.Reply.TheVariants.{Done, Answers, Kept}
 use Rattle.warm_gossip.specs.State.{NodeView}
 use Rattle.warm_gossip.specs.Step.{Step}
 
 -- what one call, answered so, leaves of the references that a node was told
 abbrev pub told_by : ReferenceSet → Call → Reply → ReferenceSet
 told_by S (Absorb batch) Done = S ∪ these batch
-told_by S (Receive (Entries sender entries)) (Answers frames) = S ∪ refs (holding entries)
+told_by S (Receive frame) (Answers frames) = S ∪ refs_in frame
+told_by S (Horizon time) (Kept horizon) = since time S
 told_by S Restart Done = these []
 told_by S call reply = S
 

@@ -2,8 +2,11 @@
 ghost use Rattle.std.specs.Prelude.{◌≡◌, ◌==◌, ◌≤◌, ◌++◌, length, IfOk, OnOk};
 ghost use Rattle.std.specs.Int.{bit_at};
 ghost use Rattle.warm_history.specs.Carried.{bucket_entries};
-ghost use Rattle.warm_history.specs.Histories.{PagesRise, entries_of};
-ghost use Rattle.warm_gossip.specs.Answers.{AnswersSums, entry_frames, wanted_frames};
+ghost use Rattle.warm_history.specs.Histories.{PagesRise, entries_of, refs};
+ghost use Rattle.warm_history.specs.Histories as known;
+ghost use Rattle.warm_history.specs.ReferenceSets.{since};
+ghost use Rattle.warm_digest.specs.BucketSums.{sums_of};
+ghost use Rattle.warm_gossip.specs.Answers.{AnswersSums, entry_frames, wanted_frames, refs_in};
 
 use crate::remembered::Remembered;
 use std::alloc::{AllocError, Global};
@@ -13,10 +16,10 @@ use warm_history::{Entry, History};
 use warm_stamps::{BUCKETS, Bucket, ReplicaId};
 
 // A frame of these entries.
-fn frame_of(alloc: Global, id: ReplicaId, part: &[Entry]) -> Result<Frame, AllocError>
+fn frame_of(alloc: Global, id: ReplicaId, horizon: u64, part: &[Entry]) -> Result<Frame, AllocError>
     requires rise { PagesRise part.now }
     requires few { length part.now ≤ MAX_ENTRIES }
-    ensures { IfOk result (λ frame. frame ≡ Frame.Entries id part.now) }
+    ensures { IfOk result (λ frame. frame ≡ Frame.Entries id horizon part.now) }
 {
     let copied = Vec::from_slice(alloc, part)?;
     let Ok(entries) = EntryList::of(copied) else {
@@ -24,6 +27,7 @@ fn frame_of(alloc: Global, id: ReplicaId, part: &[Entry]) -> Result<Frame, Alloc
     };
     Ok(Frame::Entries {
         sender: id,
+        horizon,
         entries,
     })
 }
@@ -33,15 +37,16 @@ fn push_frames(
     alloc: Global,
     frames: &mut Vec<Frame>,
     id: ReplicaId,
+    horizon: u64,
     entries: &[Entry],
 ) -> Result<(), AllocError>
     requires { PagesRise entries.now }
-    ensures { OnOk result (frames.new.items ≡ frames.old.items ++ entry_frames id entries.now) }
+    ensures { OnOk result (frames.new.items ≡ frames.old.items ++ entry_frames id horizon entries.now) }
 {
     let mut rest = entries;
     while !rest.is_empty() {
         let (part, later) = rest.split_at(MAX_ENTRIES.min(rest.len()));
-        let frame = frame_of(alloc, id, part)?;
+        let frame = frame_of(alloc, id, horizon, part)?;
         frames.push(frame)?;
         rest = later;
     }
@@ -85,30 +90,98 @@ pub(crate) fn wanted_frames(
             continue;
         }
         let entries = listed(alloc, history, bucket)?;
-        push_frames(alloc, &mut frames, id, &entries)?;
+        push_frames(alloc, &mut frames, id, history.horizon(), &entries)?;
     }
     Ok(frames)
 }
 
-/// What a node with this history answers to the sums of another replica: its own entries of the
-/// buckets that differ, and then a wish for these; nothing where none differs.
+// What is answered to the sums of another replica by a history with these sums.
+fn answer_given(
+    alloc: Global,
+    id: ReplicaId,
+    history: &History,
+    own: &SumTable,
+    sums: &SumTable,
+) -> Result<Vec<Frame>, AllocError>
+    requires { own.now ≡ sums_of (entries_of history.now) }
+    ensures { IfOk result (λ frames. AnswersSums id history.now sums.now frames.items) }
+{
+    let mask = differing(sums, own);
+    if mask == 0 {
+        return Ok(Vec::new(alloc));
+    }
+    let mut frames = wanted_frames(alloc, id, history, mask)?;
+    let horizon = history.horizon();
+    frames.push(Frame::Want {
+        sender: id,
+        horizon,
+        mask,
+    })?;
+    Ok(frames)
+}
+
+// A second history, raised.
+fn raised_copy(history: &History, horizon: u64) -> Result<History, AllocError>
+    ensures { IfOk result (λ copy. copy ≡ known.history (since horizon (refs history.now))) }
+{
+    let mut copy = history.copy()?;
+    copy.raise(horizon);
+    Ok(copy)
+}
+
+/// What a node with this history answers to the sums of another replica, at the greater horizon: its own
+/// entries of the buckets that differ, and then a wish for these; nothing where none differs.
 ///
 /// `AllocError` comes only where room was refused.
 pub(crate) fn answer_to_sums(
     alloc: Global,
     id: ReplicaId,
     history: &mut Remembered,
+    horizon: u64,
     sums: &SumTable,
 ) -> Result<Vec<Frame>, AllocError>
-    ensures answer { IfOk result (λ frames. AnswersSums id history.old sums.now frames.items) }
+    ensures answer { IfOk result (λ frames. AnswersSums id (known.history (since horizon (refs history.old))) sums.now frames.items) }
     ensures same { history.new ≡ history.old }
 {
-    let own = history.sums()?;
-    let mask = differing(sums, &own);
-    if mask == 0 {
-        return Ok(Vec::new(alloc));
+    if history.horizon() < horizon {
+        let raised = raised_copy(history.history(), horizon)?;
+        let own = warm_digest::sums(alloc, &raised)?;
+        return answer_given(alloc, id, &raised, &own, sums);
     }
-    let mut frames = wanted_frames(alloc, id, history.history(), mask)?;
-    frames.push(Frame::Want { sender: id, mask })?;
-    Ok(frames)
+    // Asked for what holds of every history: none of its stamps is older than its horizon.
+    let _whole = history.history().len();
+    let own = history.sums()?;
+    answer_given(alloc, id, history.history(), &own, sums)
+}
+
+/// What a node with this history answers to a wish, at the greater horizon.
+///
+/// `AllocError` comes only where room was refused.
+pub(crate) fn answer_to_wish(
+    alloc: Global,
+    id: ReplicaId,
+    history: &History,
+    horizon: u64,
+    mask: u64,
+) -> Result<Vec<Frame>, AllocError>
+    ensures { IfOk result (λ frames. frames.items ≡ wanted_frames id (known.history (since horizon (refs history.now))) mask) }
+{
+    if history.horizon() < horizon {
+        let raised = raised_copy(history, horizon)?;
+        return wanted_frames(alloc, id, &raised, mask);
+    }
+    // Asked for what holds of every history: none of its stamps is older than its horizon.
+    let _whole = history.len();
+    wanted_frames(alloc, id, history, mask)
+}
+
+/// The horizon of a frame.
+pub(crate) fn horizon_of(frame: &Frame) -> u64
+    ensures { result ≡ (refs_in frame.now).horizon }
+{
+    match frame {
+        Frame::Entries { horizon, .. } => *horizon,
+        Frame::Digest { horizon, .. } => *horizon,
+        Frame::Want { horizon, .. } => *horizon,
+    }
 }

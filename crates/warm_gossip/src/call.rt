@@ -20,6 +20,8 @@ pub enum Call {
     Offer,
     /// Take what a frame says, and answer it.
     Receive(Frame),
+    /// Forget all stamps before this time.
+    Horizon(u64),
     /// Give a page a fix, and put it into a frame of the pool where it is in none. A page with a fix does not leave.
     ///
     /// A pin is no reference: it changes no rank. Whoever pins also absorbs a reference.
@@ -63,6 +65,8 @@ pub enum Reply {
     Sent(Frame),
     /// The frames that answer the one received, in their order.
     Answers(FrameList),
+    /// The time before which stamps are forgotten from then on.
+    Kept(u64),
     /// Where the page is that was given a fix.
     Pinned(Slot),
     /// The bytes that were asked for.

@@ -1,11 +1,12 @@
 //! The calls on a node's history.
 ghost use Rattle.std.specs.Prelude.{◌≡◌, IfErr, IfOk, OnOk, map};
-ghost use Rattle.warm_gossip.specs.declared.call.Call.TheVariants.{Absorb, Send, Offer, Receive, WarmList};
-ghost use Rattle.warm_gossip.specs.declared.call.Reply.TheVariants.{Sent, Answers, Pages};
+ghost use Rattle.warm_gossip.specs.declared.call.Call.TheVariants.{Absorb, Send, Offer, Receive, Horizon, WarmList};
+ghost use Rattle.warm_gossip.specs.declared.call.Reply.TheVariants.{Sent, Answers, Kept, Pages};
 ghost use Rattle.warm_gossip.specs.declared.fault.NodeFault.TheVariants.{Memory};
-ghost use Rattle.warm_gossip.specs.Clauses.{Answered, IsFit, Learns, SameShown, done};
+ghost use Rattle.warm_gossip.specs.Answers.{IsAnswer};
+ghost use Rattle.warm_gossip.specs.Clauses.{Answered, Goes, IsFit, shown, Learns, SameShown, done};
 
-use crate::answers::{answer_to_sums, wanted_frames};
+use crate::answers::{answer_to_sums, answer_to_wish, horizon_of};
 use crate::fault::NodeFault;
 use crate::node::Node;
 use std::alloc::{AllocError, Global};
@@ -35,20 +36,64 @@ impl Node {
     }
 
     /// Takes entries into the history.
-    pub(crate) fn learn(&mut self, entries: &[Entry]) -> Result<(), NodeFault>
+    pub(crate) fn learn(&mut self, horizon: u64, entries: &[Entry]) -> Result<(), NodeFault>
         requires fit { IsFit state self.old }
         ensures fit { IsFit state self.new }
-        ensures learnt { OnOk result (Learns state self.old entries.now self.new) }
+        ensures learnt { OnOk result (Learns state self.old horizon entries.now self.new) }
         ensures refused { IfErr result (λ why. (why ≡ Memory) × SameShown state self.old self.new) }
     {
         let Ok(named) = pages_of_entries(self.alloc, entries) else {
             return Err(NodeFault::Memory);
         };
-        let Ok(()) = self.history.join_entries(entries) else {
+        let own = self.history.horizon();
+        let Ok(()) = self.history.join_entries(horizon, entries) else {
             return Err(NodeFault::Memory);
         };
+        if own < horizon {
+            self.pool.refresh_all(self.history.history());
+            return Ok(());
+        }
         self.pool.refresh(self.history.history(), &named);
         Ok(())
+    }
+
+    /// Forgets all stamps before this time, and tells the horizon from then on: the call `Horizon`. Takes no memory.
+    pub fn raise(&mut self, time: u64) -> u64
+        requires fit { IsFit state self.old }
+        ensures fit { IsFit state self.new }
+        ensures step { Goes state self.old (Horizon time) (Kept result) self.new }
+    {
+        self.history.raise(time);
+        self.pool.refresh_all(self.history.history());
+        self.history.horizon()
+    }
+
+    /// The frames that the node would answer to this one, with nothing changed that a caller sees.
+    ///
+    /// # Errors
+    /// `Memory`: room was refused.
+    pub fn answers(&mut self, frame: &Frame) -> Result<FrameList, NodeFault>
+        requires fit { IsFit state self.old }
+        ensures fit { IsFit state self.new }
+        ensures same { SameShown state self.old self.new }
+        ensures answers { IfOk result (IsAnswer (shown state self.old).id (shown state self.old).history frame.now) }
+        ensures refused { IfErr result (λ why. why ≡ Memory) }
+    {
+        match frame {
+            Frame::Entries { .. } => Ok(FrameList::of(Vec::new(self.alloc))),
+            Frame::Digest { horizon, sums, .. } => {
+                match answer_to_sums(self.alloc, self.id, &mut self.history, *horizon, sums) {
+                    Ok(frames) => Ok(FrameList::of(frames)),
+                    Err(_) => Err(NodeFault::Memory),
+                }
+            }
+            Frame::Want { horizon, mask, .. } => {
+                match answer_to_wish(self.alloc, self.id, self.history.history(), *horizon, *mask) {
+                    Ok(frames) => Ok(FrameList::of(frames)),
+                    Err(_) => Err(NodeFault::Memory),
+                }
+            }
+        }
     }
 
     /// Takes what a frame says, and gives the frames that answer it, in order: the call `Receive`.
@@ -62,24 +107,18 @@ impl Node {
         ensures fit { IsFit state self.new }
         ensures step { Answered state self.old (Receive frame) Answers result self.new }
     {
-        match frame {
-            Frame::Entries { entries, .. } => {
-                self.learn(entries.as_slice())?;
-                Ok(FrameList::of(Vec::new(self.alloc)))
-            }
-            Frame::Digest { sums, .. } => {
-                match answer_to_sums(self.alloc, self.id, &mut self.history, &sums) {
-                    Ok(frames) => Ok(FrameList::of(frames)),
-                    Err(_) => Err(NodeFault::Memory),
-                }
-            }
-            Frame::Want { mask, .. } => {
-                match wanted_frames(self.alloc, self.id, self.history.history(), mask) {
-                    Ok(frames) => Ok(FrameList::of(frames)),
-                    Err(_) => Err(NodeFault::Memory),
-                }
-            }
+        if let Frame::Entries {
+            horizon,
+            entries,
+            ..
+        } = frame
+        {
+            self.learn(horizon, entries.as_slice())?;
+            return Ok(FrameList::of(Vec::new(self.alloc)));
         }
+        let answers = self.answers(&frame)?;
+        self.raise(horizon_of(&frame));
+        Ok(answers)
     }
 
     /// A frame of the first entries of a bucket, of those whose page is greater than `after`, as many as a frame carries: the call
@@ -101,6 +140,7 @@ impl Node {
         };
         Ok(Frame::Entries {
             sender: self.id,
+            horizon: history.horizon(),
             entries,
         })
     }
@@ -120,6 +160,7 @@ impl Node {
         match self.history.sums() {
             Ok(sums) => Ok(Frame::Digest {
                 sender: self.id,
+                horizon: self.history.horizon(),
                 sums,
             }),
             Err(_) => Err(NodeFault::Memory),

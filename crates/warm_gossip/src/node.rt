@@ -148,6 +148,7 @@ impl Node {
             Call::Send { bucket, after } => Ok(Reply::Sent(self.send(bucket, after)?)),
             Call::Offer => Ok(Reply::Sent(self.offer()?)),
             Call::Receive(frame) => Ok(Reply::Answers(self.receive(frame)?)),
+            Call::Horizon(time) => Ok(Reply::Kept(self.raise(time))),
             Call::Pin(page) => Ok(Reply::Pinned(self.pin(page)?)),
             Call::Unpin(slot) => {
                 self.unpin(slot)?;

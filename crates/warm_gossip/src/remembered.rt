@@ -1,7 +1,7 @@
 //! What a node remembers: its history, and what it has made of that.
 ghost use Rattle.std.specs.Prelude.{◌≡◌, [], IfOk, OnOk, OnErr};
-ghost use Rattle.warm_history.specs.ReferenceSets.{these, ◌∪◌};
-ghost use Rattle.warm_history.specs.Histories.{entries_of, history, holding, join, refs};
+ghost use Rattle.warm_history.specs.ReferenceSets.{these, since, ◌∪◌};
+ghost use Rattle.warm_history.specs.Histories.{entries_of, history, holding, holding_since, join, refs};
 ghost use Rattle.warm_digest.specs.BucketSums.{sums_of};
 ghost use Rattle.warm_gossip.specs.Remembered.{IsHottest};
 
@@ -73,13 +73,28 @@ impl Remembered {
     }
 
     /// Takes in all that these entries hold. `AllocError` changes nothing.
-    pub(crate) fn join_entries(&mut self, more: &[Entry]) -> Result<(), AllocError>
-        ensures exact { OnOk result (self.new ≡ join self.old (holding more.now)) }
+    pub(crate) fn join_entries(&mut self, horizon: u64, more: &[Entry]) -> Result<(), AllocError>
+        ensures exact { OnOk result (self.new ≡ join self.old (holding_since horizon more.now)) }
         ensures err { OnErr result (self.new ≡ self.old) }
     {
-        self.summed.join_entries(more)?;
+        self.summed.join_entries(horizon, more)?;
         self.hottest = None;
         Ok(())
+    }
+
+    /// The time before which stamps are forgotten. Takes no memory.
+    pub(crate) fn horizon(&self) -> u64
+        ensures { result ≡ self.now.horizon }
+    {
+        self.summed.horizon()
+    }
+
+    /// Forgets all stamps before this time. Takes no memory.
+    pub(crate) fn raise(&mut self, time: u64)
+        ensures { self.new ≡ history (since time (refs self.old)) }
+    {
+        self.summed.raise(time);
+        self.hottest = None;
     }
 
     /// Forgets everything. Takes no memory.

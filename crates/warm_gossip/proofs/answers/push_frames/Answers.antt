@@ -13,8 +13,8 @@ loop-rest-preserved c =
     let later = c.split_at.result.1.now in
     record {
       rise = pages_rise_drop c.min.result rest later c.split_at.ensures.back c.loop-rest.invariant.rise;
-      goes_on = ap (λ frames. frames ++ entry_frames c.args.id later) c.in_ok-push.ensures.items
-          ∙ frame_more c.args.id c.loop-rest.frames.items rest part later c.in_ok-frame.frame (some_left (length rest) c.is_empty.result c.is_empty.ensures c.loop-rest-test.true)
+      goes_on = ap (λ frames. frames ++ entry_frames c.args.id c.args.horizon later) c.in_ok-push.ensures.items
+          ∙ frame_more c.args.id c.args.horizon c.loop-rest.frames.items rest part later c.in_ok-frame.frame (some_left (length rest) c.is_empty.result c.is_empty.ensures c.loop-rest-test.true)
           (c.split_at.ensures.front ∙ ap (λ n. take n rest) c.min.ensures) (c.split_at.ensures.back ∙ ap (λ n. drop n rest) c.min.ensures) c.in_ok-frame.ensures
           ∙ c.loop-rest.invariant.goes_on;
     }

@@ -7,7 +7,7 @@ use Rattle.warm_gossip.proofs.answers.push_frames.Given as goal
 abbrev pub invariant-loop-rest : goal.invariant-loop-rest
 invariant-loop-rest l = record {
   rise : PagesRise l.rest;
-  goes_on : l.frames.items ++ entry_frames l.id l.rest ≡ l.fn.frames.items ++ entry_frames l.id l.fn.entries;
+  goes_on : l.frames.items ++ entry_frames l.id l.horizon l.rest ≡ l.fn.frames.items ++ entry_frames l.id l.horizon l.fn.entries;
 }
 
 abbrev pub decreases-loop-rest : goal.decreases-loop-rest

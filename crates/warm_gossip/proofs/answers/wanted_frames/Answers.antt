@@ -24,8 +24,9 @@ loop-index-preserved c =
     let is = c.in-Some.ensures.value in
     let set = subst (λ b. (bit_at c.args.mask b == 1) ≡ true) is (sym c.is_wanted.ensures ∙ c.if-not-is_wanted.false) in
     c.in_ok-push_frames.ensures
-    ∙ ap (λ frames. frames ++ entry_frames id c.deref.result.now) c.loop-index.invariant
-    ∙ ap (λ es. frames_below id h c.args.mask index ++ entry_frames id es) (c.deref.ensures.value ∙ c.in_ok-entries.ensures ∙ ap (λ b. bucket_entries b (entries_of h)) is)
+    ∙ ap (λ frames. frames ++ entry_frames id c.horizon.result c.deref.result.now) c.loop-index.invariant
+    ∙ ap (λ m. frames_below id h c.args.mask index ++ entry_frames id m c.deref.result.now) c.horizon.ensures.value
+    ∙ ap (λ es. frames_below id h c.args.mask index ++ entry_frames id h.horizon es) (c.deref.ensures.value ∙ c.in_ok-entries.ensures ∙ ap (λ b. bucket_entries b (entries_of h)) is)
     ∙ wanted_more id c.args.mask index h set
 
 pub returns : goal.returns
