@@ -83,8 +83,8 @@ pub trait PageDevice: Drop {
 }
 
 /// Drops a device on which nothing waits. The condition keeps a page that was written and not flushed from being lost unseen.
-pub fn let_go(device: Box<dyn PageDevice + Send>)
-    requires { (state device).waiting ≡ false }
+pub fn let_go<D: PageDevice>(device: D)
+    requires { (D.state device).waiting ≡ false }
 {
     drop(device);
 }

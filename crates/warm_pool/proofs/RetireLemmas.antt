@@ -6,7 +6,7 @@ use Rattle.std.proofs.lemmas.List.{length-map, length-set, map-set, set-get_or}
 use Rattle.warm_stamps.specs.declared.PageId.{PageId}
 use Rattle.warm_history.specs.Histories.{HistoryView}
 use Rattle.warm_devices.specs.Device.{DeviceState, SameShape, one_more, page_at}
-use Rattle.warm_pool.specs.Frames.{FrameState, nth_frame, vacated}
+use Rattle.warm_pool.specs.Frames.{FrameState, FramesState, nth_frame, vacated}
 use Rattle.warm_pool.specs.State.{PoolState, IsPool, RankedBy, nth_device, no_device}
 use Rattle.warm_pool.specs.View.{stored, view_of, frame_view, device_view, is_page, bytes_in, FrameView, HasPage, contents_at}
 use Rattle.warm_pool.specs.Keeping.{FailsAt}
@@ -15,7 +15,7 @@ use Rattle.warm_pool.specs.Retiring.{Retired, MayRetire, IsFixedOn, emptied, IsF
 use Rattle.warm_pool.specs.Flushes.{IsFlushed, FlushFails}
 use Rattle.warm_pool.proofs.FlushLemmas.{same_shape}
 use Rattle.warm_pool.proofs.Bytes.{bytes_nowhere, contents_seen, device_seen, frame_seen, page_found}
-use Rattle.warm_pool.proofs.Keeps.{view_of_kept}
+use Rattle.warm_pool.proofs.Keeps.{pool_from, view_of_kept}
 use Rattle.warm_pool.proofs.SettleLemmas.{AreAlike, counts, count_at, alike_kept, down_view, flush_down, flush_fails_at}
 use Rattle.warm_pool.proofs.VacateLemmas.{clean_to}
 use Rattle.warm_pool.proofs.EmptyLemmas.{nth_vacated, vacated_pool, vacated_ranked, unfixed_to}
@@ -189,6 +189,14 @@ module _ (dev : ℕ) (t : PoolState) (device : DeviceState) (w : IsPool t) (ther
   pub retired_view : (s : PoolState) → view_of t ≡ view_of s → Retired (view_of s) dev device (view_of u)
   retired_view s same = subst (λ v. Retired v dev device (view_of u)) same retired_seen
 
+-- the same, where frames and devices are said by equations
+pub took_in : (old new : FramesState) (spare : ℕ) (devices later : List DeviceState) (dev : ℕ) (device : DeviceState) → IsPool (pool_from old spare devices) → dev < length devices → device.page_size ≡ old.page_size
+    → AreUnfixed (Some dev) old.frames → new ≡ record old { frames = vacated_chosen (Some dev) old.frames } → later ≡ set devices dev device → IsPool (pool_from new spare later)
+took_in old new spare devices later dev device w there size unfixed is becomes =
+    subst (λ (f : FramesState). IsPool (pool_from f spare later)) (sym is)
+    (subst (λ ds. IsPool (pool_from (record old { frames = vacated_chosen (Some dev) old.frames }) spare ds)) (sym becomes)
+    (retired_pool dev (pool_from old spare devices) device w there size unfixed))
+
 -- Why a device isn't retired
 
 pub may_retire : (s : PoolState) (dev : ℕ) (device : DeviceState) → IsPool s → dev < length s.devices → device.page_size ≡ s.page_size → AreUnfixed (Some dev) s.frames → MayRetire (view_of s) dev device
@@ -211,7 +219,7 @@ fixed_on s dev w fixed = record {
 pub way_there : (s t : PoolState) (dev size : ℕ) → MakesWay s dev size t → dev < length t.devices
 way_there s t dev size way = subst (λ n. dev < n) (sym way.down.devices.count) way.there
 
-way_unfixed : (s t : PoolState) (dev size : ℕ) → MakesWay s dev size t → AreUnfixed (Some dev) t.frames
+pub way_unfixed : (s t : PoolState) (dev size : ℕ) → MakesWay s dev size t → AreUnfixed (Some dev) t.frames
 way_unfixed s t dev size way = unfixed_to (Some dev) (length s.frames) s.frames t.frames way.down.becomes way.unfixed
 
 pub way_clean : (s t : PoolState) (dev size : ℕ) → MakesWay s dev size t → AreClean (Some dev) t.frames

@@ -4,7 +4,6 @@ pub mod Chains
 pub mod Residents
 pub mod State
 pub mod View
-pub mod Clauses
 pub mod Keeping
 pub mod Opening
 pub mod DeviceCalls

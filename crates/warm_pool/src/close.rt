@@ -4,44 +4,41 @@ ghost use Rattle.warm_history.specs.Histories.{HistoryView};
 ghost use Rattle.warm_devices.specs.Device.{DeviceState};
 ghost use Rattle.warm_pool.specs.Frames.{nth_frame};
 ghost use Rattle.warm_pool.specs.State.{IsPool, IsSettled, IsRankedByAll, nth_device};
-ghost use Rattle.warm_pool.specs.View.{IsUnfixed};
+ghost use Rattle.warm_pool.specs.View.{IsUnfixed, view_of};
 ghost use Rattle.warm_pool.specs.Keeping.{FailsAt, KeepsRanks};
 ghost use Rattle.warm_pool.specs.WritingBack.{WriteBackFails, PutsAllDown, PutsOneDown, ChosenFails, StopsAt, clean_if};
 ghost use Rattle.warm_pool.specs.Retiring.{EmptyRefused, Emptied, RetireRefused, Retired, AreUnfixed, AreClean, IsFixedIn, MakesWay, retired};
 ghost use Rattle.warm_pool.specs.Flushes.{NoneWaits};
 ghost use Rattle.warm_pool.specs.declared.fault.PoolFault.TheVariants.{Fault};
-ghost use Rattle.warm_pool.specs.Clauses.{pool_state, shown};
 
 use crate::fault::{PoolFault, Unretired};
 use crate::flush::{exchange, flush_all, flush_device, let_all_go};
 use crate::frames::Frames;
-use crate::pool::{Pool, Pooled};
+use crate::pool::{Pool, write_back};
 use crate::residents::is_chosen;
 use warm_devices::{DeviceFault, PageDevice};
 
 /// Why a pool was not closed, and the pool.
 #[derive(Drop)]
-pub struct Unclosed {
+pub struct Unclosed<D: PageDevice> {
     /// Why: `Fixed` or `Fault`.
     pub fault: PoolFault,
     /// The pool, whose pages, fixes and contents are as they were.
-    pub pool: Pool,
+    pub pool: Pool<D>,
 }
 
-impl Pool {
+impl<D: PageDevice> Pool<D> {
     /// Writes each page that was written to back to its device, in the order of frames, and then flushes the devices on which
     /// something waits, in rising order.
     ///
     /// # Errors
     /// `Fault` at the first write or flush that fails. Pages, fixes and contents stay, and so does what was written by then.
     pub fn write_back_all(&mut self) -> Result<(), PoolFault>
-        requires pool { IsPool (pool_state state self.old) }
-        ensures pool { IsPool (pool_state state self.new) }
-        ensures ranked { KeepsRanks (pool_state state self.old) (pool_state state self.new) }
-        ensures same { OnOk result (shown state self.new ≡ shown state self.old) }
-        ensures settled { OnOk result (IsSettled (pool_state state self.new)) }
+        ensures ranked { KeepsRanks self.old self.new }
+        ensures same { OnOk result (view_of self.new ≡ view_of self.old) }
+        ensures settled { OnOk result (IsSettled self.new) }
         ensures refused { IfErr result (λ fault. (fault ≡ Fault) × WriteBackFails
-            (pool_state state self.old) (pool_state state self.new)) }
+            self.old self.new) }
     {
         match self.settle() {
             Ok(()) => Ok(()),
@@ -54,14 +51,12 @@ impl Pool {
     /// # Errors
     /// `Fixed` where a page is fixed, which changes nothing; else `Fault`, which leaves what it leaves there.
     pub fn empty(&mut self) -> Result<(), PoolFault>
-        requires pool { IsPool (pool_state state self.old) }
-        ensures pool { IsPool (pool_state state self.new) }
-        ensures emptied { OnOk result (Emptied (shown state self.old) (shown state self.new)) }
-        ensures settled { OnOk result (IsSettled (pool_state state self.new)) }
-        ensures unranked { OnOk result (IsRankedByAll (pool_state state self.new)) }
-        ensures ranked { KeepsRanks (pool_state state self.old) (pool_state state self.new) }
+        ensures emptied { OnOk result (Emptied (view_of self.old) (view_of self.new)) }
+        ensures settled { OnOk result (IsSettled self.new) }
+        ensures unranked { OnOk result (IsRankedByAll self.new) }
+        ensures ranked { KeepsRanks self.old self.new }
         ensures refused { IfErr result (λ fault. EmptyRefused
-            (pool_state state self.old) fault (pool_state state self.new)) }
+            self.old fault self.new) }
     {
         self.put_down()?;
         self.frames.vacate_chosen(None);
@@ -72,15 +67,13 @@ impl Pool {
     ///
     /// # Errors
     /// As [`Pool::empty`]; the pool comes back.
-    pub fn close(mut self) -> Result<(), Unclosed>
-        requires pool { IsPool (pool_state state self) }
-        ensures unfixed { OnOk result (IsUnfixed (shown state self)) }
+    pub fn close(mut self) -> Result<(), Unclosed<D>>
+        ensures unfixed { OnOk result (IsUnfixed (view_of self)) }
         ensures refused { IfErr result (λ unclosed. EmptyRefused
-            (pool_state state self) unclosed.fault
-            (pool_state state unclosed.pool)) }
-        ensures pool { IfErr result (λ unclosed. IsPool (pool_state state unclosed.pool)) }
+            self unclosed.fault
+            unclosed.pool) }
         ensures ranked { IfErr result (λ unclosed. KeepsRanks
-            (pool_state state self) (pool_state state unclosed.pool)) }
+            self unclosed.pool) }
     {
         match self.put_down() {
             Ok(()) => {
@@ -100,16 +93,14 @@ impl Pool {
     /// - `SizeDiffers`: the pages of the new device have another size than those of the pool.
     /// - `Fixed`: a page of the device is fixed.
     /// - `Fault`: a write or the flush of the device failed, whose count of failures has grown.
-    pub fn retire(&mut self, dev: u16, device: Box<dyn PageDevice + Send>) -> Result<(), Unretired>
-        requires pool { IsPool (pool_state state self.old) }
-        ensures pool { IsPool (pool_state state self.new) }
-        ensures retired { OnOk result (Retired (shown state self.old) dev
-            (state device) (shown state self.new)) }
+    pub fn retire(&mut self, dev: u16, device: D) -> Result<(), Unretired<D>>
+        ensures retired { OnOk result (Retired (view_of self.old) dev
+            (D.state device) (view_of self.new)) }
         ensures refused { IfErr result (λ unretired. RetireRefused
-            (shown state self.old) dev (state device) unretired.fault
-            (shown state self.new)) }
+            (view_of self.old) dev (D.state device) unretired.fault
+            (view_of self.new)) }
         ensures given_back { IfErr result (λ unretired. unretired.device ≡ device) }
-        ensures ranked { KeepsRanks (pool_state state self.old) (pool_state state self.new) }
+        ensures ranked { KeepsRanks self.old self.new }
     {
         match self.make_way(dev, device.page_size()) {
             Ok(()) => {
@@ -122,14 +113,13 @@ impl Pool {
 
     // Writes the pages of a device back and flushes it, where a device with pages of this size may take its place.
     fn make_way(&mut self, dev: u16, page_size: usize) -> Result<(), PoolFault>
-        requires pool { IsPool (pool_state state self.old) }
-        ensures pool { IsPool (pool_state state self.new) }
+        ensures pool { IsPool self.new }
         ensures way { OnOk result (MakesWay
-            (pool_state state self.old) dev page_size (pool_state state self.new)) }
+            self.old dev page_size self.new) }
         ensures refused { IfErr result (λ fault. (device : DeviceState) → device.page_size
-            ≡ page_size → RetireRefused (shown state self.old) dev device fault
-            (shown state self.new)) }
-        ensures ranked { KeepsRanks (pool_state state self.old) (pool_state state self.new) }
+            ≡ page_size → RetireRefused (view_of self.old) dev device fault
+            (view_of self.new)) }
+        ensures ranked { KeepsRanks self.old self.new }
     {
         if dev as usize >= self.devices.len() {
             return Err(PoolFault::NoDevice);
@@ -148,15 +138,14 @@ impl Pool {
 
     // Writes the pages of one device back and flushes it.
     fn settle_device(&mut self, dev: u16) -> Result<(), DeviceFault>
-        requires pool { IsPool (pool_state state self.old) }
-        requires there { dev < length (pool_state state self.old).devices }
-        ensures pool { IsPool (pool_state state self.new) }
+        requires there { dev < length self.old.devices }
+        ensures pool { IsPool self.new }
         ensures down { OnOk result (PutsAllDown (Some dev)
-            (pool_state state self.old) (pool_state state self.new)) }
+            self.old self.new) }
         ensures flushed { OnOk result ((nth_device
-            (pool_state state self.new).devices dev).waiting ≡ false) }
-        ensures stopped { OnErr result (FailsAt (shown state self.old) dev (shown state self.new)) }
-        ensures ranked { KeepsRanks (pool_state state self.old) (pool_state state self.new) }
+            self.new.devices dev).waiting ≡ false) }
+        ensures stopped { OnErr result (FailsAt (view_of self.old) dev (view_of self.new)) }
+        ensures ranked { KeepsRanks self.old self.new }
     {
         self.clean_chosen(Some(dev))?;
         flush_device(&mut self.devices, dev as usize)?;
@@ -164,12 +153,14 @@ impl Pool {
     }
 
     // Lets a device take the place of one on which nothing waits, and whose pages leave their frames.
-    fn take_in(&mut self, dev: u16, device: Box<dyn PageDevice + Send>)
-        requires there { dev < length (pool_state state self.old).devices }
-        requires clean { AreClean (Some dev) (pool_state state self.old).frames }
-        requires quiet { (nth_device (pool_state state self.old).devices dev).waiting ≡ false }
-        ensures { pool_state state self.new ≡ retired
-            (pool_state state self.old) dev (state device) }
+    fn take_in(&mut self, dev: u16, device: D)
+        requires there { dev < length self.old.devices }
+        requires clean { AreClean (Some dev) self.old.frames }
+        requires unfixed { AreUnfixed (Some dev) self.old.frames }
+        requires quiet { (nth_device self.old.devices dev).waiting ≡ false }
+        requires sized { (D.state device).page_size ≡ self.old.page_size }
+        ensures { self.new ≡ retired
+            self.old dev (D.state device) }
     {
         self.frames.vacate_chosen(Some(dev));
         exchange(&mut self.devices, dev as usize, device);
@@ -177,15 +168,14 @@ impl Pool {
 
     // Writes all pages back and flushes all devices, where no page is fixed.
     fn put_down(&mut self) -> Result<(), PoolFault>
-        requires pool { IsPool (pool_state state self.old) }
-        ensures pool { IsPool (pool_state state self.new) }
-        ensures unfixed { OnOk result (AreUnfixed None (pool_state state self.old).frames) }
+        ensures pool { IsPool self.new }
+        ensures unfixed { OnOk result (AreUnfixed None self.old.frames) }
         ensures down { OnOk result (PutsAllDown None
-            (pool_state state self.old) (pool_state state self.new)) }
-        ensures flushed { OnOk result (NoneWaits (pool_state state self.new).devices) }
+            self.old self.new) }
+        ensures flushed { OnOk result (NoneWaits self.new.devices) }
         ensures refused { IfErr result (λ fault. EmptyRefused
-            (pool_state state self.old) fault (pool_state state self.new)) }
-        ensures ranked { KeepsRanks (pool_state state self.old) (pool_state state self.new) }
+            self.old fault self.new) }
+        ensures ranked { KeepsRanks self.old self.new }
     {
         if is_fixed(&self.frames, None) {
             return Err(PoolFault::Fixed);
@@ -198,14 +188,13 @@ impl Pool {
 
     // Writes all pages back and flushes all devices.
     fn settle(&mut self) -> Result<(), DeviceFault>
-        requires pool { IsPool (pool_state state self.old) }
-        ensures pool { IsPool (pool_state state self.new) }
+        ensures pool { IsPool self.new }
         ensures down { OnOk result (PutsAllDown None
-            (pool_state state self.old) (pool_state state self.new)) }
-        ensures flushed { OnOk result (NoneWaits (pool_state state self.new).devices) }
+            self.old self.new) }
+        ensures flushed { OnOk result (NoneWaits self.new.devices) }
         ensures stopped { OnErr result (WriteBackFails
-            (pool_state state self.old) (pool_state state self.new)) }
-        ensures ranked { KeepsRanks (pool_state state self.old) (pool_state state self.new) }
+            self.old self.new) }
+        ensures ranked { KeepsRanks self.old self.new }
     {
         self.clean_chosen(None)?;
         flush_all(&mut self.devices)?;
@@ -214,12 +203,11 @@ impl Pool {
 
     // Writes the pages of the frames that are concerned back.
     fn clean_chosen(&mut self, which: Option<u16>) -> Result<(), DeviceFault>
-        requires pool { IsPool (pool_state state self.old) }
-        ensures pool { IsPool (pool_state state self.new) }
+        ensures pool { IsPool self.new }
         ensures down { OnOk result (PutsAllDown which
-            (pool_state state self.old) (pool_state state self.new)) }
+            self.old self.new) }
         ensures stopped { OnErr result (StopsAt which
-            (pool_state state self.old) (pool_state state self.new)) }
+            self.old self.new) }
     {
         for at in 0..self.frames.len() {
             self.clean_if(at, which)?;
@@ -229,18 +217,17 @@ impl Pool {
 
     // Writes the page of a frame back, where it is concerned.
     fn clean_if(&mut self, at: usize, which: Option<u16>) -> Result<(), DeviceFault>
-        requires pool { IsPool (pool_state state self.old) }
-        requires there { at < length (pool_state state self.old).frames }
-        ensures pool { IsPool (pool_state state self.new) }
+        requires there { at < length self.old.frames }
+        ensures pool { IsPool self.new }
         ensures down { OnOk result (PutsOneDown which
-            (pool_state state self.old) at (pool_state state self.new)) }
+            self.old at self.new) }
         ensures failed { OnErr result (ChosenFails which
-            (pool_state state self.old) at (pool_state state self.new)) }
+            self.old at self.new) }
     {
         if !is_chosen(which, self.frames.page(at)) {
             return Ok(());
         }
-        self.write_back(at)
+        write_back(&mut self.frames, &mut self.devices, at)
     }
 }
 

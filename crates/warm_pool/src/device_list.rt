@@ -7,50 +7,50 @@ use warm_devices::{DeviceFault, PageDevice};
 use warm_stamps::PageId;
 
 /// Reads one page of one of the devices.
-pub(crate) fn read_page(
-    devices: &mut Vec<Box<dyn PageDevice + Send>>,
+pub(crate) fn read_page<D: PageDevice>(
+    devices: &mut Vec<D>,
     page: PageId,
     into: &mut Vec<u8>,
 ) -> Result<(), DeviceFault>
     requires device { page.dev < length devices.old.items }
-    requires known { page.no < (nth_device (map (λ b. state b) devices.old.items) page.dev).pages }
+    requires known { page.no < (nth_device (map D.state devices.old.items) page.dev).pages }
     requires sized { length into.old.items
-        ≡ (nth_device (map (λ b. state b) devices.old.items) page.dev).page_size }
-    ensures call { PageRead (map (λ b. state b) devices.old.items)
-        (map (λ b. state b) devices.new.items) page.dev page.no into.new.items result }
+        ≡ (nth_device (map D.state devices.old.items) page.dev).page_size }
+    ensures call { PageRead (map D.state devices.old.items)
+        (map D.state devices.new.items) page.dev page.no into.new.items result }
     ensures len { length into.new.items ≡ length into.old.items }
 {
     devices[page.dev as usize].read(page.no, into)
 }
 
 /// Writes one page of one of the devices.
-pub(crate) fn write_page(
-    devices: &mut Vec<Box<dyn PageDevice + Send>>,
+pub(crate) fn write_page<D: PageDevice>(
+    devices: &mut Vec<D>,
     page: PageId,
     bytes: &[u8],
 ) -> Result<(), DeviceFault>
     requires device { page.dev < length devices.old.items }
-    requires known { page.no < (nth_device (map (λ b. state b) devices.old.items) page.dev).pages }
+    requires known { page.no < (nth_device (map D.state devices.old.items) page.dev).pages }
     requires sized { length bytes.now
-        ≡ (nth_device (map (λ b. state b) devices.old.items) page.dev).page_size }
-    ensures { PageWrite (map (λ b. state b) devices.old.items)
-        (map (λ b. state b) devices.new.items) page.dev page.no bytes.now result }
+        ≡ (nth_device (map D.state devices.old.items) page.dev).page_size }
+    ensures { PageWrite (map D.state devices.old.items)
+        (map D.state devices.new.items) page.dev page.no bytes.now result }
 {
     devices[page.dev as usize].write(page.no, bytes)
 }
 
 /// How many pages one of the devices has.
-pub(crate) fn pages_of(devices: &[Box<dyn PageDevice + Send>], device: usize) -> u64
+pub(crate) fn pages_of<D: PageDevice>(devices: &[D], device: usize) -> u64
     requires { device < length devices.now }
-    ensures { result ≡ (nth_device (map (λ b. state b) devices.now) device).pages }
+    ensures { result ≡ (nth_device (map D.state devices.now) device).pages }
 {
     devices[device].pages()
 }
 
 /// Whether each device has pages of this size.
-pub fn all_sized(devices: &[Box<dyn PageDevice + Send>], page_size: usize) -> bool
+pub fn all_sized<D: PageDevice>(devices: &[D], page_size: usize) -> bool
     ensures { IsTrue result
-        ↔ AreOfSize page_size (length devices.now) (map (λ b. state b) devices.now) }
+        ↔ AreOfSize page_size (length devices.now) (map D.state devices.now) }
 {
     for device in devices {
         if device.page_size() != page_size {

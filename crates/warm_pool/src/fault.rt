@@ -77,18 +77,18 @@ impl PoolFault {
 
 /// Why no pool was made, and the devices that were handed in for it.
 #[derive(Drop)]
-pub struct Unmade {
+pub struct Unmade<D: PageDevice> {
     /// Why: `BadFrames`, `SizeDiffers` or `Memory`.
     pub fault: PoolFault,
     /// The devices, as they were.
-    pub devices: Vec<Box<dyn PageDevice + Send>>,
+    pub devices: Vec<D>,
 }
 
 /// Why a device was not retired, and the device that was to take its place.
 #[derive(Drop)]
-pub struct Unretired {
+pub struct Unretired<D: PageDevice> {
     /// Why: `NoDevice`, `SizeDiffers`, `Fixed` or `Fault`.
     pub fault: PoolFault,
     /// The new device, as it was.
-    pub device: Box<dyn PageDevice + Send>,
+    pub device: D,
 }

@@ -7,11 +7,11 @@ use std::mem;
 use warm_devices::{DeviceFault, PageDevice, let_go};
 
 /// Flushes each device on which something waits, in rising order, up to the first that fails.
-pub(crate) fn flush_all(devices: &mut Vec<Box<dyn PageDevice + Send>>) -> Result<(), DeviceFault>
+pub(crate) fn flush_all<D: PageDevice>(devices: &mut Vec<D>) -> Result<(), DeviceFault>
     ensures flushed { OnOk result (FlushedTo (length devices.old.items)
-        (map (λ b. state b) devices.old.items) (map (λ b. state b) devices.new.items)) }
+        (map D.state devices.old.items) (map D.state devices.new.items)) }
     ensures stopped { OnErr result (FlushStops
-        (map (λ b. state b) devices.old.items) (map (λ b. state b) devices.new.items)) }
+        (map D.state devices.old.items) (map D.state devices.new.items)) }
 {
     for at in 0..devices.len() {
         flush_device(devices, at)?;
@@ -20,13 +20,13 @@ pub(crate) fn flush_all(devices: &mut Vec<Box<dyn PageDevice + Send>>) -> Result
 }
 
 /// Flushes one of the devices, where something waits on it.
-pub(crate) fn flush_device(
-    devices: &mut Vec<Box<dyn PageDevice + Send>>,
+pub(crate) fn flush_device<D: PageDevice>(
+    devices: &mut Vec<D>,
     at: usize,
 ) -> Result<(), DeviceFault>
     requires { at < length devices.old.items }
-    ensures { DeviceFlush (map (λ b. state b) devices.old.items)
-        (map (λ b. state b) devices.new.items) at result }
+    ensures { DeviceFlush (map D.state devices.old.items)
+        (map D.state devices.new.items) at result }
 {
     if !devices[at].waiting() {
         return Ok(());
@@ -35,8 +35,8 @@ pub(crate) fn flush_device(
 }
 
 /// Drops devices on which nothing waits.
-pub(crate) fn let_all_go(mut devices: Vec<Box<dyn PageDevice + Send>>)
-    requires { NoneWaits (map (λ b. state b) devices.items) }
+pub(crate) fn let_all_go<D: PageDevice>(mut devices: Vec<D>)
+    requires { NoneWaits (map D.state devices.items) }
 {
     while let Some(device) = devices.pop() {
         let_go(device);
@@ -44,15 +44,11 @@ pub(crate) fn let_all_go(mut devices: Vec<Box<dyn PageDevice + Send>>)
 }
 
 /// Puts a device in the place of one on which nothing waits, and drops that.
-pub(crate) fn exchange(
-    devices: &mut Vec<Box<dyn PageDevice + Send>>,
-    at: usize,
-    device: Box<dyn PageDevice + Send>,
-)
+pub(crate) fn exchange<D: PageDevice>(devices: &mut Vec<D>, at: usize, device: D)
     requires there { at < length devices.old.items }
-    requires quiet { (nth_device (map (λ b. state b) devices.old.items) at).waiting ≡ false }
-    ensures { map (λ b. state b) devices.new.items
-        ≡ set (map (λ b. state b) devices.old.items) at (state device) }
+    requires quiet { (nth_device (map D.state devices.old.items) at).waiting ≡ false }
+    ensures { map D.state devices.new.items
+        ≡ set (map D.state devices.old.items) at (D.state device) }
 {
     let old = mem::replace(&mut devices[at], device);
     let_go(old);

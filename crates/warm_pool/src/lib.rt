@@ -5,10 +5,10 @@
 //! 2-distance (O'Neil, O'Neil, Weikum, "The LRU-K Page Replacement Algorithm For Database Disk Buffering", SIGMOD 1993), as a history
 //! ranks them. A page that was written to goes to its device before it leaves. No call but [`Pool::write`] changes a byte of a page.
 //!
-//! Clauses see a pool by its `state` and, of that, what a caller sees: its `shown`, plain data. They stand in `specs/State.antt` and
+//! To clauses a pool is plain data, a `PoolState`, and `view_of` is what of it a caller sees. They stand in `specs/State.antt` and
 //! `specs/View.antt`, and what the calls do to them in `Opening.antt`, `Pinning.antt`, `PageBytes.antt`, `Refreshing.antt`,
-//! `WritingBack.antt` and `Retiring.antt` beside them. That a state is one of a pool (`IsPool`) is a condition of each call and is
-//! kept by it. Boxed devices are handed in by the caller; the pool drops one only where nothing waits in it.
+//! `WritingBack.antt` and `Retiring.antt` beside them. That a state is one of a pool (`IsPool`) is the invariant of the type, which each
+//! call keeps. The devices are handed in by the caller, and of one type; the pool drops one only where nothing waits in it.
 #![tactic(auto)]
 
 mod close;
@@ -25,7 +25,7 @@ mod slot;
 pub use close::Unclosed;
 pub use device_list::all_sized;
 pub use fault::{PoolFault, Unmade, Unretired};
-pub use pool::{Pool, Pooled};
+pub use pool::Pool;
 pub use slot::Slot;
 
 /// The most devices of a pool: a page names its device in 16 bits.

@@ -6,8 +6,8 @@ ghost use Rattle.warm_rank.specs.Keys.{rank_key};
 ghost use Rattle.warm_rank.specs.Ranking.{IsVictim};
 ghost use Rattle.warm_pool.specs.Frames.{nth_frame};
 ghost use Rattle.warm_pool.specs.FrameSteps.{fresh_frames};
-ghost use Rattle.warm_pool.specs.State.{PoolState, IsPool, RankedBy, IsRankedByAll, IsNowhere, opened, nth_device};
-ghost use Rattle.warm_pool.specs.View.{PoolView, HasPage, IsResident, Holds};
+ghost use Rattle.warm_pool.specs.State.{PoolState, IsPool, pool_of, RankedBy, IsRankedByAll, IsNowhere, opened, nth_device};
+ghost use Rattle.warm_pool.specs.View.{view_of, PoolView, HasPage, IsResident, Holds};
 ghost use Rattle.warm_pool.specs.Keeping.{SameButFailures, KeepsRanks, KeepsBytes, KeepsFrames, KeepsOthers};
 ghost use Rattle.warm_pool.specs.Opening.{IsUpTo, IsSize, NewRefused};
 ghost use Rattle.warm_pool.specs.WritingBack.{Cleans, CleanFails};
@@ -15,7 +15,6 @@ ghost use Rattle.warm_pool.specs.Pinning.{Pinned, PinRefused, Loaded, LoadRefuse
 ghost use Rattle.warm_pool.specs.PageBytes.{IsRead, ReadRefused, Written, WriteRefused, MakesDirty};
 ghost use Rattle.warm_pool.specs.Refreshing.{Renews, RenewsFrame, RefreshesRanks};
 ghost use Rattle.warm_pool.specs.declared.fault.PoolFault.TheVariants.{OutOfPage, FixesFull};
-ghost use Rattle.warm_pool.specs.Clauses.{pool_state, shown};
 
 use crate::MAX_DEVICES;
 use crate::device_list::{all_sized, pages_of, read_page, write_page};
@@ -23,6 +22,7 @@ use crate::fault::{PoolFault, Unmade};
 use crate::frames::Frames;
 use crate::slot::Slot;
 use std::alloc::{AllocError, Global};
+use std::marker::Model;
 use warm_devices::{DeviceFault, MAX_PAGE_SIZE, PageDevice};
 use warm_history::History;
 use warm_rank::{MAX_SLOTS, RankKey, key_of};
@@ -30,19 +30,20 @@ use warm_stamps::PageId;
 
 /// Pages of devices in frames.
 ///
-/// Clauses see [`Pooled::state`] of a pool, and [`Pooled::shown`], what a caller sees of it. A pool is *ranked by* a history where the
-/// rank of each resident page is the one that the history gives it. A pool without a page is ranked by every history.
+/// To clauses a pool is plain data, of which it always holds that it is a pool (`IsPool`: [`Pool::is_pool`]). What a caller sees of
+/// it is its `view_of`. A pool is *ranked by* a history where the rank of each resident page is the one that the history gives it. A
+/// pool without a page is ranked by every history.
 ///
 /// A pool that is dropped settles its devices by their own drops, but loses what only its dirty frames hold: close it instead.
-pub struct Pool {
+pub struct Pool<D: PageDevice> {
     pub(crate) frames: Frames,
-    pub(crate) devices: Vec<Box<dyn PageDevice + Send>>,
+    pub(crate) devices: Vec<D>,
     // A page is first read into this buffer, so that a failed read changes no frame.
     pub(crate) spare: Vec<u8>,
 }
 
 // By hand, so that an owner makes one call at each way out (see `History`).
-impl Drop for Pool {
+impl<D: PageDevice> Drop for Pool<D> {
     fn drop(mut self) {
         let Self {
             frames,
@@ -55,31 +56,21 @@ impl Drop for Pool {
     }
 }
 
-/// What a pool is to a contract.
-pub trait Pooled {
-    /// Its frames and its devices as plain data.
-    ghost state: { Self → PoolState };
-
-    /// What a caller sees of it.
-    ghost shown: { Self → PoolView };
-}
-
-impl Pooled for Pool {
+impl<D: PageDevice> Model for Pool<D> {
     ghost use Rattle.std.specs.Prelude.{length};
-    ghost use Rattle.warm_pool.specs.State.{pool_of};
-    ghost use Rattle.warm_pool.specs.View.{view_of};
+    ghost use Rattle.warm_pool.specs.State.{IsPool, PoolState, pool_of};
 
-    ghost state = { λ p. pool_of (λ b. (PageDevice-box b).state b.value) p.frames
-        (length p.spare.items) p.devices.items };
+    ghost Value = { PoolState };
 
-    ghost shown = { λ p. view_of (pool_of (λ b. (PageDevice-box b).state b.value) p.frames
-        (length p.spare.items) p.devices.items) };
+    ghost view = { λ p. pool_of D.state p.frames (length p.spare.items) p.devices.items };
+
+    ghost invariant = { λ p. IsPool (pool_of D.state p.frames (length p.spare.items) p.devices.items) };
 }
 
-impl Pool {
+impl<D: PageDevice> Pool<D> {
     // Its devices, and no pool any more: a pool is taken apart beside its drop alone.
-    pub(crate) fn into_devices(self) -> Vec<Box<dyn PageDevice + Send>>
-        ensures { result.items ≡ self.devices.items }
+    pub(crate) fn into_devices(self) -> Vec<D>
+        ensures { map D.state result.items ≡ self.devices }
     {
         let Self {
             frames,
@@ -102,15 +93,14 @@ impl Pool {
         alloc: Global,
         frames: usize,
         page_size: usize,
-        devices: Vec<Box<dyn PageDevice + Send>>,
-    ) -> Result<Pool, Unmade>
+        devices: Vec<D>,
+    ) -> Result<Pool<D>, Unmade<D>>
         requires few { length devices.items ≤ MAX_DEVICES }
-        ensures pool { IfOk result (λ pool. IsPool (pool_state state pool)) }
-        ensures opened { IfOk result (λ pool. pool_state state pool
-            ≡ opened frames page_size (map (λ b. state b) devices.items)) }
-        ensures ranked { IfOk result (λ pool. IsRankedByAll (pool_state state pool)) }
+        ensures opened { IfOk result (λ pool. pool
+            ≡ opened frames page_size (map D.state devices.items)) }
+        ensures ranked { IfOk result (λ pool. IsRankedByAll (pool)) }
         ensures refused { IfErr result (λ unmade. NewRefused frames page_size
-            (map (λ b. state b) devices.items) unmade.fault
+            (map D.state devices.items) unmade.fault
             × (unmade.devices.items ≡ devices.items)) }
     {
         if let Some(fault) = shape_fault(frames, page_size, &devices) {
@@ -129,18 +119,24 @@ impl Pool {
         }
     }
 
+    /// A theorem, for a caller that needs it: what holds of every pool. Nothing is done.
+    pub fn is_pool(&self)
+        ensures { IsPool self.now }
+    {
+        // For the proof alone: it brings in what is always true of a pool.
+        let _frames = &self.frames;
+    }
+
     /// How many frames there are, with a page or without.
     pub fn frames(&self) -> usize
-        requires pool { IsPool (pool_state state self.now) }
-        ensures { result ≡ length (shown state self.now).frames }
+        ensures { result ≡ length (view_of self.now).frames }
     {
         self.frames.len()
     }
 
     /// Whether a device has the page.
     pub fn has(&self, page: PageId) -> bool
-        requires pool { IsPool (pool_state state self.now) }
-        ensures { IsTrue result ↔ HasPage (shown state self.now) page }
+        ensures { IsTrue result ↔ HasPage (view_of self.now) page }
     {
         match self.check(page) {
             Ok(()) => true,
@@ -150,8 +146,7 @@ impl Pool {
 
     /// Whether the page is in a frame.
     pub fn resident(&self, page: PageId) -> bool
-        requires pool { IsPool (pool_state state self.now) }
-        ensures { IsTrue result ↔ IsResident (shown state self.now) page }
+        ensures { IsTrue result ↔ IsResident (view_of self.now) page }
     {
         match self.frames.find(page) {
             Some(_) => true,
@@ -161,8 +156,7 @@ impl Pool {
 
     /// Whether the slot's frame has a fix, and no other page was put into it since the slot was given.
     pub fn holds(&self, slot: Slot) -> bool
-        requires pool { IsPool (pool_state state self.now) }
-        ensures { IsTrue result ↔ Holds (shown state self.now) slot }
+        ensures { IsTrue result ↔ Holds (view_of self.now) slot }
     {
         let at = slot.index as usize;
         if at >= self.frames.len() {
@@ -185,23 +179,21 @@ impl Pool {
     /// - `WriteBack`: the page that would leave was written to, and could not be written to its device, whose count of failures has
     ///   grown.
     pub fn pin(&mut self, page: PageId, history: &History) -> Result<Slot, PoolFault>
-        requires pool { IsPool (pool_state state self.old) }
-        requires ranked { RankedBy (pool_state state self.old) history.now }
-        ensures pool { IsPool (pool_state state self.new) }
-        ensures ranked { RankedBy (pool_state state self.new) history.now }
+        requires ranked { RankedBy self.old history.now }
+        ensures ranked { RankedBy self.new history.now }
         ensures pinned { IfOk result (λ slot. Pinned history.now
-            (shown state self.old) page slot (shown state self.new)) }
-        ensures holds { IfOk result (λ slot. Holds (shown state self.new) slot) }
+            (view_of self.old) page slot (view_of self.new)) }
+        ensures holds { IfOk result (λ slot. Holds (view_of self.new) slot) }
         ensures frame { IfOk result (λ slot. TakesFrame
-            (pool_state state self.old) page slot (pool_state state self.new)) }
+            self.old page slot self.new) }
         ensures refused { IfErr result (λ fault. PinRefused history.now
-            (shown state self.old) page fault (shown state self.new)) }
+            (view_of self.old) page fault (view_of self.new)) }
         ensures stays { OnErr result (SameButFailures
-            (shown state self.old) (shown state self.new)) }
+            (view_of self.old) (view_of self.new)) }
         ensures frames { OnErr result (KeepsFrames
-            (pool_state state self.old) (pool_state state self.new)) }
+            self.old self.new) }
         ensures writes { IfErr result (λ fault. WritesDirty history.now
-            (pool_state state self.old) fault) }
+            self.old fault) }
     {
         if let Err(fault) = self.check(page) {
             return Err(fault);
@@ -217,22 +209,20 @@ impl Pool {
     /// # Errors
     /// Those of a pin, in its order, and with what it leaves; a resident page is never refused.
     pub fn load(&mut self, page: PageId, history: &History) -> Result<Slot, PoolFault>
-        requires pool { IsPool (pool_state state self.old) }
-        requires ranked { RankedBy (pool_state state self.old) history.now }
-        ensures pool { IsPool (pool_state state self.new) }
-        ensures ranked { RankedBy (pool_state state self.new) history.now }
+        requires ranked { RankedBy self.old history.now }
+        ensures ranked { RankedBy self.new history.now }
         ensures loaded { IfOk result (λ slot. Loaded history.now
-            (shown state self.old) page slot (shown state self.new)) }
+            (view_of self.old) page slot (view_of self.new)) }
         ensures frame { IfOk result (λ slot. TakesFrame
-            (pool_state state self.old) page slot (pool_state state self.new)) }
+            self.old page slot self.new) }
         ensures refused { IfErr result (λ fault. LoadRefused history.now
-            (shown state self.old) page fault (shown state self.new)) }
+            (view_of self.old) page fault (view_of self.new)) }
         ensures stays { OnErr result (SameButFailures
-            (shown state self.old) (shown state self.new)) }
+            (view_of self.old) (view_of self.new)) }
         ensures frames { OnErr result (KeepsFrames
-            (pool_state state self.old) (pool_state state self.new)) }
+            self.old self.new) }
         ensures writes { IfErr result (λ fault. WritesDirty history.now
-            (pool_state state self.old) fault) }
+            self.old fault) }
     {
         if let Err(fault) = self.check(page) {
             return Err(fault);
@@ -252,8 +242,7 @@ impl Pool {
     /// The page that would leave next: of the resident pages without a fix the one of the greatest backward 2-distance; `None` where
     /// there is none.
     pub fn victim(&self) -> Option<PageId>
-        requires pool { IsPool (pool_state state self.now) }
-        ensures { IsNextVictim (pool_state state self.now) result }
+        ensures { IsNextVictim self.now result }
     {
         let Some(at) = self.frames.least() else {
             return None;
@@ -263,12 +252,10 @@ impl Pool {
 
     /// Takes a fix from the slot's page. Without a fix it may leave. What was written to it stays to be written back.
     pub fn unpin(&mut self, slot: Slot)
-        requires pool { IsPool (pool_state state self.old) }
-        requires holds { Holds (shown state self.old) slot }
-        ensures pool { IsPool (pool_state state self.new) }
-        ensures ranked { KeepsRanks (pool_state state self.old) (pool_state state self.new) }
-        ensures unpinned { shown state self.new ≡ unpinned (shown state self.old) slot }
-        ensures kept { KeepsBytes (pool_state state self.old) (pool_state state self.new) }
+        requires holds { Holds (view_of self.old) slot }
+        ensures ranked { KeepsRanks self.old self.new }
+        ensures unpinned { view_of self.new ≡ unpinned (view_of self.old) slot }
+        ensures kept { KeepsBytes self.old self.new }
     {
         self.frames.unfix(slot.index as usize);
     }
@@ -278,11 +265,10 @@ impl Pool {
     /// # Errors
     /// `OutOfPage` where they reach beyond the end of the page; `into` is as it was.
     pub fn read(&self, slot: Slot, at: usize, into: &mut [u8]) -> Result<(), PoolFault>
-        requires pool { IsPool (pool_state state self.now) }
-        requires holds { Holds (shown state self.now) slot }
-        ensures read { OnOk result (IsRead (shown state self.now) slot at into.new) }
+        requires holds { Holds (view_of self.now) slot }
+        ensures read { OnOk result (IsRead (view_of self.now) slot at into.new) }
         ensures refused { IfErr result (λ fault. ReadRefused
-            (pool_state state self.now) at into.old fault into.new) }
+            self.now at into.old fault into.new) }
         ensures len { length into.new ≡ length into.old }
     {
         if !self.is_within(at, into.len()) {
@@ -298,17 +284,15 @@ impl Pool {
     /// # Errors
     /// `OutOfPage` where they reach beyond the end of the page; nothing is changed.
     pub fn write(&mut self, slot: Slot, at: usize, bytes: &[u8]) -> Result<(), PoolFault>
-        requires pool { IsPool (pool_state state self.old) }
-        requires holds { Holds (shown state self.old) slot }
-        ensures pool { IsPool (pool_state state self.new) }
-        ensures ranked { KeepsRanks (pool_state state self.old) (pool_state state self.new) }
-        ensures written { OnOk result (Written (shown state self.old) slot at bytes.now
-            (shown state self.new)) }
+        requires holds { Holds (view_of self.old) slot }
+        ensures ranked { KeepsRanks self.old self.new }
+        ensures written { OnOk result (Written (view_of self.old) slot at bytes.now
+            (view_of self.new)) }
         ensures dirty { OnOk result (MakesDirty
-            (pool_state state self.old) slot (pool_state state self.new)) }
+            self.old slot self.new) }
         ensures refused { IfErr result (λ fault. WriteRefused
-            (pool_state state self.old) at bytes.now fault
-            (pool_state state self.new)) }
+            self.old at bytes.now fault
+            self.new) }
     {
         if !self.is_within(at, bytes.len()) {
             return Err(PoolFault::OutOfPage);
@@ -319,13 +303,13 @@ impl Pool {
 
     /// Renews the ranks of those of the pages that are resident.
     pub fn refresh(&mut self, history: &History, pages: &[PageId])
-        requires pool { IsPool (pool_state state self.old) }
-        ensures pool { IsPool (pool_state state self.new) }
         ensures ranked { RefreshesRanks pages.now history.now
-            (pool_state state self.old) (pool_state state self.new) }
-        ensures same { shown state self.new ≡ shown state self.old }
-        ensures kept { KeepsBytes (pool_state state self.old) (pool_state state self.new) }
+            self.old self.new }
+        ensures same { view_of self.new ≡ view_of self.old }
+        ensures kept { KeepsBytes self.old self.new }
     {
+        // For the proof.
+        self.is_pool();
         for page in pages {
             self.renew(history, *page);
         }
@@ -333,11 +317,9 @@ impl Pool {
 
     /// Renews the ranks of all resident pages.
     pub fn refresh_all(&mut self, history: &History)
-        requires pool { IsPool (pool_state state self.old) }
-        ensures pool { IsPool (pool_state state self.new) }
-        ensures ranked { RankedBy (pool_state state self.new) history.now }
-        ensures same { shown state self.new ≡ shown state self.old }
-        ensures kept { KeepsBytes (pool_state state self.old) (pool_state state self.new) }
+        ensures ranked { RankedBy self.new history.now }
+        ensures same { view_of self.new ≡ view_of self.old }
+        ensures kept { KeepsBytes self.old self.new }
     {
         for at in 0..self.frames.len() {
             self.renew_at(history, at);
@@ -346,13 +328,11 @@ impl Pool {
 
     // Renews the rank of the page in a frame, if there is one.
     fn renew_at(&mut self, history: &History, at: usize)
-        requires pool { IsPool (pool_state state self.old) }
-        requires there { at < length (pool_state state self.old).frames }
-        ensures pool { IsPool (pool_state state self.new) }
-        ensures same { shown state self.new ≡ shown state self.old }
-        ensures kept { KeepsBytes (pool_state state self.old) (pool_state state self.new) }
-        ensures keys { RenewsFrame (pool_state state self.old) at history.now
-            (pool_state state self.new) }
+        requires there { at < length self.old.frames }
+        ensures pool { IsPool self.new }
+        ensures same { view_of self.new ≡ view_of self.old }
+        ensures kept { KeepsBytes self.old self.new }
+        ensures keys { RenewsFrame self.old at history.now self.new }
     {
         let Some(page) = self.frames.page(at) else {
             return;
@@ -362,12 +342,11 @@ impl Pool {
 
     // Renews the rank of a page, where it is resident.
     fn renew(&mut self, history: &History, page: PageId)
-        requires pool { IsPool (pool_state state self.old) }
-        ensures pool { IsPool (pool_state state self.new) }
-        ensures same { shown state self.new ≡ shown state self.old }
-        ensures kept { KeepsBytes (pool_state state self.old) (pool_state state self.new) }
-        ensures keys { Renews (pool_state state self.old) page
-            (rank_key page (hist (refs history.now) page)) (pool_state state self.new) }
+        ensures pool { IsPool self.new }
+        ensures same { view_of self.new ≡ view_of self.old }
+        ensures kept { KeepsBytes self.old self.new }
+        ensures keys { Renews self.old page
+            (rank_key page (hist (refs history.now) page)) self.new }
     {
         if let Some(at) = self.frames.find(page) {
             let key = known_key(history, page);
@@ -377,13 +356,12 @@ impl Pool {
 
     // Whether a device has the page, and else why it can't come in.
     fn check(&self, page: PageId) -> Result<(), PoolFault>
-        requires pool { IsPool (pool_state state self.now) }
-        ensures known { OnOk result (HasPage (shown state self.now) page) }
-        ensures unknown { OnErr result (HasPage (shown state self.now) page → ⊥) }
+        ensures known { OnOk result (HasPage (view_of self.now) page) }
+        ensures unknown { OnErr result (HasPage (view_of self.now) page → ⊥) }
         ensures load { IfErr result (λ fault. (h : HistoryView) → LoadRefused h
-            (shown state self.now) page fault (shown state self.now)) }
+            (view_of self.now) page fault (view_of self.now)) }
         ensures pin { IfErr result (λ fault. (h : HistoryView) → PinRefused h
-            (shown state self.now) page fault (shown state self.now)) }
+            (view_of self.now) page fault (view_of self.now)) }
     {
         let device = page.dev as usize;
         if device >= self.devices.len() {
@@ -397,7 +375,7 @@ impl Pool {
 
     // Whether so many bytes from `at` on are within a page.
     fn is_within(&self, at: usize, len: usize) -> bool
-        ensures { IsTrue result ↔ (at + len ≤ (shown state self.now).page_size) }
+        ensures { IsTrue result ↔ (at + len ≤ (view_of self.now).page_size) }
     {
         let size = self.frames.page_size();
         at <= size && len <= size - at
@@ -405,19 +383,18 @@ impl Pool {
 
     // Adds a fix to a resident page.
     fn add_fix(&mut self, at: usize) -> Result<Slot, PoolFault>
-        requires pool { IsPool (pool_state state self.old) }
-        requires there { at < length (pool_state state self.old).frames }
-        requires held { (nth_frame (pool_state state self.old).frames at).page ≢ None }
-        ensures pool { IsPool (pool_state state self.new) }
-        ensures ranked { KeepsRanks (pool_state state self.old) (pool_state state self.new) }
+        requires there { at < length self.old.frames }
+        requires held { (nth_frame self.old.frames at).page ≢ None }
+        ensures pool { IsPool self.new }
+        ensures ranked { KeepsRanks self.old self.new }
         ensures fixed { FixesPage
-            (pool_state state self.old) at result (pool_state state self.new) }
-        ensures holds { IfOk result (λ slot. Holds (shown state self.new) slot) }
-        ensures kept { KeepsBytes (pool_state state self.old) (pool_state state self.new) }
+            self.old at result self.new }
+        ensures holds { IfOk result (λ slot. Holds (view_of self.new) slot) }
+        ensures kept { KeepsBytes self.old self.new }
         ensures others { IfOk result (λ slot. KeepsOthers slot.index
-            (pool_state state self.old) (pool_state state self.new)) }
+            self.old self.new) }
         ensures refused { IfErr result (λ fault. FixRefused
-            (pool_state state self.old) at fault (pool_state state self.new)) }
+            self.old at fault self.new) }
     {
         let generation = self.frames.generation(at);
         if self.frames.fixes(at) < u32::MAX {
@@ -432,11 +409,10 @@ impl Pool {
 
     // The frame into which a page goes that comes in.
     fn place(&self) -> Option<usize>
-        requires pool { IsPool (pool_state state self.now) }
-        ensures place { IsNextPlace (pool_state state self.now) result }
-        ensures there { IfSome result (λ at. at < length (pool_state state self.now).frames) }
+        ensures place { IsNextPlace self.now result }
+        ensures there { IfSome result (λ at. at < length self.now.frames) }
         ensures unfixed { IfSome result (λ at. (nth_frame
-            (pool_state state self.now).frames at).fixes ≡ 0) }
+            self.now.frames at).fixes ≡ 0) }
     {
         match self.frames.first_free() {
             Some(at) => Some(at),
@@ -446,23 +422,22 @@ impl Pool {
 
     // Puts a page that is in no frame into one, with so many fixes.
     fn bring(&mut self, page: PageId, history: &History, fixes: u32) -> Result<Slot, PoolFault>
-        requires pool { IsPool (pool_state state self.old) }
-        requires ranked { RankedBy (pool_state state self.old) history.now }
-        requires known { HasPage (shown state self.old) page }
-        requires absent { IsNowhere (pool_state state self.old).frames page }
-        ensures pool { IsPool (pool_state state self.new) }
-        ensures ranked { RankedBy (pool_state state self.new) history.now }
+        requires ranked { RankedBy self.old history.now }
+        requires known { HasPage (view_of self.old) page }
+        requires absent { IsNowhere self.old.frames page }
+        ensures pool { IsPool self.new }
+        ensures ranked { RankedBy self.new history.now }
         ensures put { IfOk result (λ slot. PutsIn history.now
-            (shown state self.old) page fixes slot
-            (shown state self.new)) }
+            (view_of self.old) page fixes slot
+            (view_of self.new)) }
         ensures frame { IfOk result (λ slot. TakesFrame
-            (pool_state state self.old) page slot (pool_state state self.new)) }
+            self.old page slot self.new) }
         ensures refused { IfErr result (λ fault. PutRefused history.now
-            (shown state self.old) page fault (shown state self.new)) }
+            (view_of self.old) page fault (view_of self.new)) }
         ensures frames { OnErr result (KeepsFrames
-            (pool_state state self.old) (pool_state state self.new)) }
+            self.old self.new) }
         ensures writes { IfErr result (λ fault. WritesDirty history.now
-            (pool_state state self.old) fault) }
+            self.old fault) }
     {
         let Some(at) = self.place() else {
             return Err(PoolFault::AllFixed);
@@ -489,62 +464,62 @@ impl Pool {
         key: RankKey,
         fixes: u32,
     ) -> Result<(), PoolFault>
-        requires pool { IsPool (pool_state state self.old) }
-        requires there { at < length (pool_state state self.old).frames }
-        requires room { (nth_frame (pool_state state self.old).frames at).generation < 2 ^ 64 - 1 }
-        requires device { page.dev < length (pool_state state self.old).devices }
-        requires known { page.no < (nth_device (pool_state state self.old).devices page.dev).pages }
-        requires absent { IsNowhere (pool_state state self.old).frames page }
-        ensures pool { IsPool (pool_state state self.new) }
-        ensures put { OnOk result (LoadsInto (pool_state state self.old) at page key fixes
-            (pool_state state self.new)) }
+        requires there { at < length self.old.frames }
+        requires room { (nth_frame self.old.frames at).generation < 2 ^ 64 - 1 }
+        requires device { page.dev < length self.old.devices }
+        requires known { page.no < (nth_device self.old.devices page.dev).pages }
+        requires absent { IsNowhere self.old.frames page }
+        ensures pool { IsPool self.new }
+        ensures put { OnOk result (LoadsInto self.old at page key fixes
+            self.new) }
         ensures refused { IfErr result (λ fault. LoadFails
-            (pool_state state self.old) at page fault (pool_state state self.new)) }
+            self.old at page fault self.new) }
     {
         if read_page(&mut self.devices, page, &mut self.spare).is_err() {
             return Err(PoolFault::ReadFault);
         }
-        if self.write_back(at).is_err() {
+        if write_back(&mut self.frames, &mut self.devices, at).is_err() {
             return Err(PoolFault::WriteBack);
         }
         self.frames.put(at, page, key, fixes, &mut self.spare);
         Ok(())
     }
+}
 
-    // Writes the page of a frame to its device, where it isn't there as it is in the frame.
-    pub(crate) fn write_back(&mut self, at: usize) -> Result<(), DeviceFault>
-        requires pool { IsPool (pool_state state self.old) }
-        requires there { at < length (pool_state state self.old).frames }
-        ensures pool { IsPool (pool_state state self.new) }
-        ensures done { OnOk result (Cleans
-            (pool_state state self.old) at (pool_state state self.new)) }
-        ensures failed { OnErr result (CleanFails
-            (pool_state state self.old) at (pool_state state self.new)) }
-        ensures spare { self.new.spare.items ≡ self.old.spare.items }
-    {
-        let Some(page) = self.frames.page(at) else {
-            return Ok(());
-        };
-        if !self.frames.is_dirty(at) {
-            return Ok(());
-        }
-        if write_page(&mut self.devices, page, self.frames.bytes(at)).is_err() {
-            return Err(DeviceFault::Write);
-        }
-        self.frames.clean(at);
-        Ok(())
+// Writes the page of a frame to its device, where it isn't there as it is in the frame.
+pub(crate) fn write_back<D: PageDevice>(
+    frames: &mut Frames,
+    devices: &mut Vec<D>,
+    at: usize,
+) -> Result<(), DeviceFault>
+    requires pool { IsPool (pool_of D.state frames.old frames.old.page_size devices.old.items) }
+    requires there { at < length frames.old.frames }
+    ensures pool { IsPool (pool_of D.state frames.new frames.old.page_size devices.new.items) }
+    ensures done { OnOk result (Cleans
+        (pool_of D.state frames.old frames.old.page_size devices.old.items) at
+        (pool_of D.state frames.new frames.old.page_size devices.new.items)) }
+    ensures failed { OnErr result (CleanFails
+        (pool_of D.state frames.old frames.old.page_size devices.old.items) at
+        (pool_of D.state frames.new frames.old.page_size devices.new.items)) }
+{
+    let Some(page) = frames.page(at) else {
+        return Ok(());
+    };
+    if !frames.is_dirty(at) {
+        return Ok(());
     }
+    if write_page(devices, page, frames.bytes(at)).is_err() {
+        return Err(DeviceFault::Write);
+    }
+    frames.clean(at);
+    Ok(())
 }
 
 // Why no pool is made, as far as that is known before room is taken.
-fn shape_fault(
-    frames: usize,
-    page_size: usize,
-    devices: &[Box<dyn PageDevice + Send>],
-) -> Option<PoolFault>
+fn shape_fault<D: PageDevice>(frames: usize, page_size: usize, devices: &[D]) -> Option<PoolFault>
     ensures { MatchOption result (IsUpTo MAX_SLOTS frames
-        × IsSize page_size (map (λ b. state b) devices.now))
-        (λ fault. NewRefused frames page_size (map (λ b. state b) devices.now) fault) }
+        × IsSize page_size (map D.state devices.now))
+        (λ fault. NewRefused frames page_size (map D.state devices.now) fault) }
 {
     if frames < 1 || frames > MAX_SLOTS {
         return Some(PoolFault::BadFrames);

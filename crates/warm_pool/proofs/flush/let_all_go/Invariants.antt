@@ -3,7 +3,7 @@ use Rattle.warm_pool.specs.Flushes.{NoneWaits}
 use Rattle.warm_pool.proofs.flush.let_all_go.Given as goal
 
 abbrev pub invariant-loop-device : goal.invariant-loop-device
-invariant-loop-device g l = NoneWaits (map (λ b. (goal.PageDevice-dyn g (b.vtable, b.value)).state b.value) l.devices.items)
+invariant-loop-device g l = NoneWaits (map g.D.PageDevice.state l.devices.items)
 
 abbrev pub decreases-loop-device : goal.decreases-loop-device
 decreases-loop-device g l = vec_len l.devices

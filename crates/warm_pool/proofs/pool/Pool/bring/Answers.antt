@@ -1,4 +1,6 @@
-use Rattle.std.proofs.Common.{◌≡◌, ◌<◌, refl, sym, subst, ◌∙◌, arith}
+use Rattle.std.proofs.Common.{◌≡◌, ◌<◌, refl, sym, subst, ◌∙◌, arith, ap}
+use Rattle.warm_pool.specs.State.{IsPool}
+use Rattle.warm_pool.specs.Frames.{nth_frame}
 use Rattle.warm_pool.proofs.PoolSteps.{has_device, has_number, seen_generation}
 use Rattle.warm_pool.proofs.Pins.{put_refused, failed_ranked, loaded_ranked, loaded_puts}
 use Rattle.warm_pool.proofs.KeepingLemmas.{loaded_takes, failed_writes_dirty}
@@ -9,34 +11,34 @@ returns-in_default-clause-refused g c = (c.in_default.ensures.place c.args.histo
 
 pub load_into-requires-clause-room : goal.load_into-requires-clause-room
 load_into-requires-clause-room g c =
-    subst (λ n. n < 18446744073709551615) c.generation-generation.ensures c.if-generation-lt18446744073709551615.true
+    subst (λ n. n < 18446744073709551615) (c.generation-generation.ensures ∙ ap (λ s. (nth_frame s.frames c.in-Some.at).generation) c.self.view_is) c.if-generation-lt18446744073709551615.true
 
 pub load_into-requires-clause-device : goal.load_into-requires-clause-device
-load_into-requires-clause-device g c = has_device c.requires.pool _ c.requires.known
+load_into-requires-clause-device g c = has_device (subst (λ s. IsPool s) c.self.view_is c.self.invariant) _ c.requires.known
 
 pub load_into-requires-clause-known : goal.load_into-requires-clause-known
-load_into-requires-clause-known g c = has_number c.requires.pool _ c.requires.known
+load_into-requires-clause-known g c = has_number (subst (λ s. IsPool s) c.self.view_is c.self.invariant) _ c.requires.known
 
 pub returns-in-Err-clause-ranked : goal.returns-in-Err-clause-ranked
 returns-in-Err-clause-ranked g c =
-    failed_ranked c.requires.pool c.load_into.ensures.pool c.in-Some.at c.args.page c.in-Err.fault c.in-Err.ensures.refused c.args.history.now c.requires.ranked
+    failed_ranked (subst (λ s. IsPool s) c.self.view_is c.self.invariant) c.load_into.ensures.pool c.in-Some.at c.args.page c.in-Err.fault c.in-Err.ensures.refused c.args.history.now c.requires.ranked
 
 pub returns-in-Err-clause-refused : goal.returns-in-Err-clause-refused
 returns-in-Err-clause-refused g c =
-    put_refused c.requires.pool c.load_into.ensures.pool c.args.history.now c.in-Some.at c.args.page (c.in-Some.ensures.place _ c.requires.ranked)
-    (subst (λ n. n < 18446744073709551615) c.generation-generation.ensures c.if-generation-lt18446744073709551615.true)
+    put_refused (subst (λ s. IsPool s) c.self.view_is c.self.invariant) c.load_into.ensures.pool c.args.history.now c.in-Some.at c.args.page (c.in-Some.ensures.place _ c.requires.ranked)
+    (subst (λ n. n < 18446744073709551615) (c.generation-generation.ensures ∙ ap (λ s. (nth_frame s.frames c.in-Some.at).generation) c.self.view_is) c.if-generation-lt18446744073709551615.true)
     c.in-Err.fault c.in-Err.ensures.refused
 
 pub returns-then-generation-lt18446744073709551615-clause-ranked : goal.returns-then-generation-lt18446744073709551615-clause-ranked
 returns-then-generation-lt18446744073709551615-clause-ranked g c =
-    loaded_ranked c.requires.pool c.load_into.ensures.pool c.in-Some.at c.args.page c.known_key-key.result c.args.fixes c.in_default-load_into.ensures.put
+    loaded_ranked (subst (λ s. IsPool s) c.self.view_is c.self.invariant) c.load_into.ensures.pool c.in-Some.at c.args.page c.known_key-key.result c.args.fixes c.in_default-load_into.ensures.put
     c.in-Some.ensures.there c.args.history.now c.known_key-key.ensures c.requires.ranked
 
 pub returns-then-generation-lt18446744073709551615-clause-put : goal.returns-then-generation-lt18446744073709551615-clause-put
 returns-then-generation-lt18446744073709551615-clause-put g c =
-    loaded_puts c.requires.pool c.load_into.ensures.pool c.in-Some.at c.args.page c.known_key-key.result c.args.fixes c.in_default-load_into.ensures.put
+    loaded_puts (subst (λ s. IsPool s) c.self.view_is c.self.invariant) c.load_into.ensures.pool c.in-Some.at c.args.page c.known_key-key.result c.args.fixes c.in_default-load_into.ensures.put
     c.args.history.now c.requires.absent (c.in-Some.ensures.place _ c.requires.ranked) c.generation-generation.result
-    c.generation-generation.ensures c.if-generation-lt18446744073709551615.true
+    (c.generation-generation.ensures ∙ ap (λ s. (nth_frame s.frames c.in-Some.at).generation) c.self.view_is) c.if-generation-lt18446744073709551615.true
 
 pub returns-clause-refused : goal.returns-clause-refused
 returns-clause-refused g c =
@@ -44,7 +46,7 @@ returns-clause-refused g c =
       (
         c.in-Some.at,
         c.in-Some.ensures.place _ c.requires.ranked,
-        sym (seen_generation c.requires.pool c.in-Some.at c.generation-generation.ensures) ∙ full,
+        sym (seen_generation (subst (λ s. IsPool s) c.self.view_is c.self.invariant) c.in-Some.at (c.generation-generation.ensures ∙ ap (λ s. (nth_frame s.frames c.in-Some.at).generation) c.self.view_is)) ∙ full,
       ),
       refl,
     )

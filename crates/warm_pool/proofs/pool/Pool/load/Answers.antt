@@ -1,4 +1,8 @@
-use Rattle.std.proofs.Common.{refl, inl}
+use Rattle.std.proofs.Common.{refl, inl, subst, ap, ◌∙◌, Some, None}
+use Rattle.warm_pool.specs.State.{IsPool}
+use Rattle.warm_pool.specs.Frames.{nth_frame}
+use Rattle.warm_pool.specs.FrameSteps.{pages_held}
+use Rattle.warm_pool.specs.Residents.{IsPlaceOf}
 use Rattle.warm_pool.proofs.PoolSteps.{found_there, found_holds, found_nowhere, seen_there, seen_page, seen_generation}
 use Rattle.warm_pool.proofs.Pins.{load_puts, load_put_refused, stays_put}
 use Rattle.warm_pool.proofs.KeepingLemmas.{same_bytes, stays_in_frame, unknown_writes_none}
@@ -8,28 +12,28 @@ pub returns-in-Some-clause-loaded : goal.returns-in-Some-clause-loaded
 returns-in-Some-clause-loaded g c = (
   c.in_default.ensures.known,
   inl (record {
-    there = seen_there c.requires.pool c.in-Some.at (found_there c.requires.pool _ _ c.in-Some.ensures);
-    resident = seen_page c.requires.pool c.in-Some.at c.args.page (found_holds c.requires.pool _ _ c.in-Some.ensures);
-    current = seen_generation c.requires.pool c.in-Some.at c.generation-generation.ensures;
+    there = seen_there (subst (λ s. IsPool s) c.self.view_is c.self.invariant) c.in-Some.at (found_there (subst (λ s. IsPool s) c.self.view_is c.self.invariant) _ _ (subst (λ s. IsPlaceOf (pages_held s.frames) c.args.page (Some c.in-Some.at)) c.self.view_is c.in-Some.ensures));
+    resident = seen_page (subst (λ s. IsPool s) c.self.view_is c.self.invariant) c.in-Some.at c.args.page (found_holds (subst (λ s. IsPool s) c.self.view_is c.self.invariant) _ _ (subst (λ s. IsPlaceOf (pages_held s.frames) c.args.page (Some c.in-Some.at)) c.self.view_is c.in-Some.ensures));
+    current = seen_generation (subst (λ s. IsPool s) c.self.view_is c.self.invariant) c.in-Some.at (c.generation-generation.ensures ∙ ap (λ s. (nth_frame s.frames c.in-Some.at).generation) c.self.view_is);
     same = refl;
   }),
 )
 
 pub bring-requires-clause-absent : goal.bring-requires-clause-absent
-bring-requires-clause-absent g c = found_nowhere c.requires.pool _ c.in-None.ensures
+bring-requires-clause-absent g c = found_nowhere (subst (λ s. IsPool s) c.self.view_is c.self.invariant) _ (subst (λ s. IsPlaceOf (pages_held s.frames) c.args.page None) c.self.view_is c.in-None.ensures)
 
 pub returns-in-None-clause-loaded : goal.returns-in-None-clause-loaded
 returns-in-None-clause-loaded g c =
-    load_puts c.requires.pool c.bring.ensures.pool c.args.history.now c.args.page c.in_default.ensures.known _ c.bring.ensures.put
+    load_puts (subst (λ s. IsPool s) c.self.view_is c.self.invariant) c.bring.ensures.pool c.args.history.now c.args.page c.in_default.ensures.known _ c.bring.ensures.put
 
 pub returns-in-None-clause-refused : goal.returns-in-None-clause-refused
 returns-in-None-clause-refused g c =
-    load_put_refused c.requires.pool c.bring.ensures.pool c.args.history.now c.args.page c.in_default.ensures.known
-    (found_nowhere c.requires.pool _ c.in-None.ensures) _ c.bring.ensures.refused
+    load_put_refused (subst (λ s. IsPool s) c.self.view_is c.self.invariant) c.bring.ensures.pool c.args.history.now c.args.page c.in_default.ensures.known
+    (found_nowhere (subst (λ s. IsPool s) c.self.view_is c.self.invariant) _ (subst (λ s. IsPlaceOf (pages_held s.frames) c.args.page None) c.self.view_is c.in-None.ensures)) _ c.bring.ensures.refused
 
 pub returns-in-None-clause-stays : goal.returns-in-None-clause-stays
 returns-in-None-clause-stays g c =
-    stays_put c.requires.pool c.bring.ensures.pool c.args.history.now c.args.page c.in_default.ensures.known _ c.bring.ensures.refused
+    stays_put (subst (λ s. IsPool s) c.self.view_is c.self.invariant) c.bring.ensures.pool c.args.history.now c.args.page c.in_default.ensures.known _ c.bring.ensures.refused
 
 pub returns-in-Err-clause-writes : goal.returns-in-Err-clause-writes
 returns-in-Err-clause-writes g c =
@@ -37,4 +41,4 @@ returns-in-Err-clause-writes g c =
 
 pub returns-in-Some-clause-frame : goal.returns-in-Some-clause-frame
 returns-in-Some-clause-frame g c =
-    stays_in_frame _ _ c.in-Some.at c.args.page _ (found_holds c.requires.pool _ _ c.in-Some.ensures) (λ j ne. refl) (same_bytes _)
+    stays_in_frame _ _ c.in-Some.at c.args.page _ (found_holds (subst (λ s. IsPool s) c.self.view_is c.self.invariant) _ _ (subst (λ s. IsPlaceOf (pages_held s.frames) c.args.page (Some c.in-Some.at)) c.self.view_is c.in-Some.ensures)) (λ j ne. refl) (same_bytes _)

@@ -3,8 +3,8 @@ use Rattle.std.proofs.lemmas.List.{length-map}
 use Rattle.warm_pool.proofs.Opens.{opened_state, opened_pool, opened_ranked}
 use Rattle.warm_pool.proofs.pool.Pool.new.Goals as goal
 
-pub returns-in-Ok-clause-pool : goal.returns-in-Ok-clause-pool
-returns-in-Ok-clause-pool g c =
+pub invariant_of-result : goal.invariant_of-result
+invariant_of-result g c =
     let shape = rw c.deref.ensures.value at c.in_default.ensures in
     opened_pool c.in-Ok.frames _ c.args.frames c.args.page_size _ c.in-Ok.ensures.0 c.in-Ok.ensures.1 shape.0 shape.1
     (subst (λ n. n ≤ 65536) (sym (length-map _ _)) c.requires.few)

@@ -1,49 +1,53 @@
+use Rattle.std.proofs.Common.{subst, Some, None}
+use Rattle.warm_pool.specs.State.{IsPool}
+use Rattle.warm_pool.specs.FrameSteps.{pages_held}
+use Rattle.warm_pool.specs.Residents.{IsPlaceOf}
 use Rattle.warm_pool.proofs.PoolSteps.{found_there, found_holds, found_nowhere}
 use Rattle.warm_pool.proofs.Pins.{pin_adds, pin_puts, pin_holds, pin_put_refused, stays_put, pin_full, full_stays}
 use Rattle.warm_pool.proofs.KeepingLemmas.{unknown_writes_none, fix_takes}
 use Rattle.warm_pool.proofs.pool.Pool.pin.Goals as goal
 
 pub add_fix-requires-clause-there : goal.add_fix-requires-clause-there
-add_fix-requires-clause-there g c = found_there c.requires.pool _ _ c.in-Some.ensures
+add_fix-requires-clause-there g c = found_there (subst (λ s. IsPool s) c.self.view_is c.self.invariant) _ _ (subst (λ s. IsPlaceOf (pages_held s.frames) c.args.page (Some c.in-Some.at)) c.self.view_is c.in-Some.ensures)
 
 pub add_fix-requires-clause-held : goal.add_fix-requires-clause-held
-add_fix-requires-clause-held g c none = let holds = found_holds c.requires.pool c.args.page _ c.in-Some.ensures in absurd (cc)
+add_fix-requires-clause-held g c none = let holds = found_holds (subst (λ s. IsPool s) c.self.view_is c.self.invariant) c.args.page _ (subst (λ s. IsPlaceOf (pages_held s.frames) c.args.page (Some c.in-Some.at)) c.self.view_is c.in-Some.ensures) in absurd (cc)
 
 pub returns-in-Some-clause-ranked : goal.returns-in-Some-clause-ranked
 returns-in-Some-clause-ranked g c = c.add_fix.ensures.ranked c.args.history.now c.requires.ranked
 
 pub returns-in-Some-clause-pinned : goal.returns-in-Some-clause-pinned
 returns-in-Some-clause-pinned g c =
-    pin_adds c.requires.pool c.add_fix.ensures.pool c.args.history.now c.args.page c.in_default.ensures.known _
-    (c.add_fix.ensures.fixed c.args.page (found_holds c.requires.pool _ _ c.in-Some.ensures))
+    pin_adds (subst (λ s. IsPool s) c.self.view_is c.self.invariant) c.add_fix.ensures.pool c.args.history.now c.args.page c.in_default.ensures.known _
+    (c.add_fix.ensures.fixed c.args.page (found_holds (subst (λ s. IsPool s) c.self.view_is c.self.invariant) _ _ (subst (λ s. IsPlaceOf (pages_held s.frames) c.args.page (Some c.in-Some.at)) c.self.view_is c.in-Some.ensures)))
 
 pub returns-in-Some-clause-refused : goal.returns-in-Some-clause-refused
 returns-in-Some-clause-refused g c =
-    pin_full c.requires.pool c.add_fix.ensures.pool c.args.history.now c.args.page c.in-Some.at c.in_default.ensures.known
-    (found_there c.requires.pool _ _ c.in-Some.ensures) (found_holds c.requires.pool _ _ c.in-Some.ensures) _ c.add_fix.ensures.refused
+    pin_full (subst (λ s. IsPool s) c.self.view_is c.self.invariant) c.add_fix.ensures.pool c.args.history.now c.args.page c.in-Some.at c.in_default.ensures.known
+    (found_there (subst (λ s. IsPool s) c.self.view_is c.self.invariant) _ _ (subst (λ s. IsPlaceOf (pages_held s.frames) c.args.page (Some c.in-Some.at)) c.self.view_is c.in-Some.ensures)) (found_holds (subst (λ s. IsPool s) c.self.view_is c.self.invariant) _ _ (subst (λ s. IsPlaceOf (pages_held s.frames) c.args.page (Some c.in-Some.at)) c.self.view_is c.in-Some.ensures)) _ c.add_fix.ensures.refused
 
 pub returns-in-Some-clause-stays : goal.returns-in-Some-clause-stays
-returns-in-Some-clause-stays g c = full_stays c.requires.pool c.add_fix.ensures.pool c.in-Some.at _ c.add_fix.ensures.refused
+returns-in-Some-clause-stays g c = full_stays (subst (λ s. IsPool s) c.self.view_is c.self.invariant) c.add_fix.ensures.pool c.in-Some.at _ c.add_fix.ensures.refused
 
 pub bring-requires-clause-absent : goal.bring-requires-clause-absent
-bring-requires-clause-absent g c = found_nowhere c.requires.pool _ c.in-None.ensures
+bring-requires-clause-absent g c = found_nowhere (subst (λ s. IsPool s) c.self.view_is c.self.invariant) _ (subst (λ s. IsPlaceOf (pages_held s.frames) c.args.page None) c.self.view_is c.in-None.ensures)
 
 pub returns-in-None-clause-pinned : goal.returns-in-None-clause-pinned
 returns-in-None-clause-pinned g c =
-    pin_puts c.requires.pool c.bring.ensures.pool c.args.history.now c.args.page c.in_default.ensures.known _ c.bring.ensures.put
+    pin_puts (subst (λ s. IsPool s) c.self.view_is c.self.invariant) c.bring.ensures.pool c.args.history.now c.args.page c.in_default.ensures.known _ c.bring.ensures.put
 
 pub returns-in-None-clause-holds : goal.returns-in-None-clause-holds
 returns-in-None-clause-holds g c =
-    pin_holds c.requires.pool c.bring.ensures.pool c.args.history.now c.args.page c.in_default.ensures.known _ c.bring.ensures.put
+    pin_holds (subst (λ s. IsPool s) c.self.view_is c.self.invariant) c.bring.ensures.pool c.args.history.now c.args.page c.in_default.ensures.known _ c.bring.ensures.put
 
 pub returns-in-None-clause-refused : goal.returns-in-None-clause-refused
 returns-in-None-clause-refused g c =
-    pin_put_refused c.requires.pool c.bring.ensures.pool c.args.history.now c.args.page c.in_default.ensures.known
-    (found_nowhere c.requires.pool _ c.in-None.ensures) _ c.bring.ensures.refused
+    pin_put_refused (subst (λ s. IsPool s) c.self.view_is c.self.invariant) c.bring.ensures.pool c.args.history.now c.args.page c.in_default.ensures.known
+    (found_nowhere (subst (λ s. IsPool s) c.self.view_is c.self.invariant) _ (subst (λ s. IsPlaceOf (pages_held s.frames) c.args.page None) c.self.view_is c.in-None.ensures)) _ c.bring.ensures.refused
 
 pub returns-in-None-clause-stays : goal.returns-in-None-clause-stays
 returns-in-None-clause-stays g c =
-    stays_put c.requires.pool c.bring.ensures.pool c.args.history.now c.args.page c.in_default.ensures.known _ c.bring.ensures.refused
+    stays_put (subst (λ s. IsPool s) c.self.view_is c.self.invariant) c.bring.ensures.pool c.args.history.now c.args.page c.in_default.ensures.known _ c.bring.ensures.refused
 
 pub returns-in-Err-clause-writes : goal.returns-in-Err-clause-writes
 returns-in-Err-clause-writes g c =
@@ -51,4 +55,4 @@ returns-in-Err-clause-writes g c =
 
 pub returns-in-Some-clause-frame : goal.returns-in-Some-clause-frame
 returns-in-Some-clause-frame g c =
-    fix_takes _ _ c.in-Some.at c.args.page (found_holds c.requires.pool _ _ c.in-Some.ensures) c.add_fix.ensures.kept _ c.add_fix.ensures.others
+    fix_takes _ _ c.in-Some.at c.args.page (found_holds (subst (λ s. IsPool s) c.self.view_is c.self.invariant) _ _ (subst (λ s. IsPlaceOf (pages_held s.frames) c.args.page (Some c.in-Some.at)) c.self.view_is c.in-Some.ensures)) c.add_fix.ensures.kept _ c.add_fix.ensures.others

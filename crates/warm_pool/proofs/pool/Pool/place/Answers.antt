@@ -1,17 +1,17 @@
-use Rattle.warm_pool.proofs.PoolSteps.{seen_free, free_there, free_unfixed, seen_full, seen_place, least_if_there, least_if_unfixed}
 use Rattle.std.proofs.Common.{inl}
+use Rattle.warm_pool.proofs.PoolSteps.{seen_free, free_there, free_unfixed, seen_full, seen_place, least_if_there, least_if_unfixed}
 use Rattle.warm_pool.proofs.pool.Pool.place.Goals as goal
 
 pub returns-in-Some : goal.returns-in-Some
-returns-in-Some g c = record {
-  place = λ h r. inl (seen_free c.requires.pool _ c.in-Some.ensures);
-  there = free_there c.requires.pool _ c.in-Some.ensures;
-  unfixed = free_unfixed c.requires.pool _ c.in-Some.ensures;
-}
+returns-in-Some g c = rw (← c.self.view_is) (record {
+  place = λ h r. inl (seen_free c.self.invariant _ c.in-Some.ensures);
+  there = free_there c.self.invariant _ c.in-Some.ensures;
+  unfixed = free_unfixed c.self.invariant _ c.in-Some.ensures;
+})
 
 pub returns-in-None : goal.returns-in-None
-returns-in-None g c = record {
-  place = seen_place c.requires.pool (seen_full c.requires.pool c.in-None.ensures) _ c.least.ensures;
-  there = least_if_there c.requires.pool _ c.least.ensures;
-  unfixed = least_if_unfixed c.requires.pool _ c.least.ensures;
-}
+returns-in-None g c = rw (← c.self.view_is) (record {
+  place = seen_place c.self.invariant (seen_full c.self.invariant c.in-None.ensures) _ c.least.ensures;
+  there = least_if_there c.self.invariant _ c.least.ensures;
+  unfixed = least_if_unfixed c.self.invariant _ c.least.ensures;
+})

@@ -1,11 +1,15 @@
-use Rattle.warm_pool.proofs.RetireLemmas.{way_clean, retire_pool, retire_view, retire_ranked}
+use Rattle.std.proofs.Common.{sym, ◌∙◌}
+use Rattle.warm_pool.proofs.RetireLemmas.{way_clean, way_unfixed, retire_view, retire_ranked}
 use Rattle.warm_pool.proofs.pool.Pool.retire.Goals as goal
 
 pub take_in-requires-clause-clean : goal.take_in-requires-clause-clean
 take_in-requires-clause-clean g c = way_clean _ _ c.args.dev _ c.in-Ok.ensures.way
 
-pub returns-in-Ok-clause-pool : goal.returns-in-Ok-clause-pool
-returns-in-Ok-clause-pool g c = retire_pool _ _ _ c.args.dev _ _ c.make_way.ensures.pool c.in-Ok.ensures.way c.page_size.ensures c.take_in.ensures
+pub take_in-requires-clause-unfixed : goal.take_in-requires-clause-unfixed
+take_in-requires-clause-unfixed g c = way_unfixed _ _ c.args.dev _ c.in-Ok.ensures.way
+
+pub take_in-requires-clause-sized : goal.take_in-requires-clause-sized
+take_in-requires-clause-sized g c = sym c.page_size.ensures ∙ c.in-Ok.ensures.way.size ∙ sym c.in-Ok.ensures.way.down.same.0
 
 pub returns-in-Ok-clause-retired : goal.returns-in-Ok-clause-retired
 returns-in-Ok-clause-retired g c = retire_view _ _ _ c.args.dev _ _ c.make_way.ensures.pool c.in-Ok.ensures.way c.page_size.ensures c.take_in.ensures
