@@ -7,7 +7,7 @@ use Rattle.warm_rank.specs.Ranking.{warm}
 use Rattle.warm_pool.specs.declared.slot.Slot.{Slot}
 use Rattle.warm_pool.specs.declared.fault.PoolFault.{PoolFault}
 use Rattle.warm_pool.specs.declared.fault.PoolFault.TheVariants.{NoDevice, NoPage}
-use Rattle.warm_pool.specs.State.{PoolState, IsPool}
+use Rattle.warm_pool.specs.State.{PoolState}
 use Rattle.warm_pool.specs.View.{view_of, PoolView}
 use Rattle.warm_pool.specs.Pinning.{Loaded, LoadRefused, PutsIn, PutRefused}
 use Rattle.warm_gossip.specs.declared.remembered.Hottest.{Hottest}
@@ -31,9 +31,9 @@ pub load_refused_in : {h k : HistoryView} {v : PoolView} {p : PageId} (w : PoolV
 load_refused_in {h} {k} {v} {p} w why is loadable refused = subst (λ (l : HistoryView). PutRefused l v p why w) is (refused_in k w why loadable refused)
 
 -- the first page of a list of as many of the hottest pages as there are frames is the next to load
-pub next_warm : {s : PoolState} → IsPool s → (h k : HistoryView) (list : Hottest) (ps : List PageId) (n : ℕ) (o : Option PageId) → IsHistory k → k ≡ h
+pub next_warm : (s : PoolState) (h k : HistoryView) (list : Hottest) (ps : List PageId) (n : ℕ) (o : Option PageId) → IsHistory k → k ≡ h
     → IsHottest h list → list.asked ≡ n → ps ≡ list.pages.items → n ≡ length (view_of s).frames
     → IsFirstLoadable (view_of s) ps o → IsFirstLoadable (view_of s) (warm (refs h) (length (view_of s).frames)) o
-next_warm {s} pool h k list ps n o whole is hottest many are frames =
+next_warm s h k list ps n o whole is hottest many are frames =
     let own : h ≡ history (refs h) = sym (history_of_own_references h (subst IsHistory is whole)) in
     subst (λ xs. IsFirstLoadable (view_of s) xs o) (are ∙ hottest (refs h) own ∙ ap (warm (refs h)) (many ∙ frames))

@@ -1,7 +1,7 @@
--- A node as plain data, what holds of every node, and what a caller sees of it.
+-- A node as plain data, and what a caller sees of it.
 use Rattle.std.specs.Prelude.{ℕ, []}
 use Rattle.warm_history.specs.Histories.{HistoryView, holding}
-use Rattle.warm_pool.specs.State.{PoolState, IsPool, RankedBy}
+use Rattle.warm_pool.specs.State.{PoolState}
 use Rattle.warm_pool.specs.View.{view_of, PoolView}
 
 -- a node: who it is, what its history holds, and its pool
@@ -18,10 +18,6 @@ pub record NodeView : Type 0 where
 
 abbrev pub node_view : NodeState → NodeView
 node_view s = record { id = s.id; history = s.history; pool = view_of s.pool }
-
--- a node is fit: its pool is one, and is ranked by its history
-abbrev pub IsNode : NodeState → Type 0
-IsNode s = IsPool s.pool × RankedBy s.pool s.history
 
 -- a node that was told nothing
 abbrev pub opened : ℕ → PoolState → NodeState

@@ -4,26 +4,25 @@ ghost use Rattle.warm_gossip.specs.declared.call.Call.TheVariants.{Absorb, Send,
 ghost use Rattle.warm_gossip.specs.declared.call.Reply.TheVariants.{Sent, Answers, Kept, Pages};
 ghost use Rattle.warm_gossip.specs.declared.fault.NodeFault.TheVariants.{Memory};
 ghost use Rattle.warm_gossip.specs.Answers.{IsAnswer};
-ghost use Rattle.warm_gossip.specs.Clauses.{Answered, Goes, IsFit, shown, Learns, SameShown, done};
+ghost use Rattle.warm_gossip.specs.Clauses.{Answered, Goes, Learns, SameShown, done};
 
 use crate::answers::{answer_to_sums, answer_to_wish, horizon_of};
 use crate::fault::NodeFault;
 use crate::node::Node;
 use std::alloc::{AllocError, Global};
+use warm_devices::PageDevice;
 use warm_frames::{EntryList, Frame, FrameList, MAX_ENTRIES};
 use warm_history::Entry;
 use warm_rank::warm_list;
 use warm_stamps::{Bucket, PageId, PageList, Reference};
 
-impl Node {
+impl<D: PageDevice> Node<D> {
     /// Takes references into the history: the call `Absorb`.
     ///
     /// # Errors
     /// `Memory`: room was refused; nothing has changed.
     pub fn absorb(&mut self, batch: &[Reference]) -> Result<(), NodeFault>
-        requires fit { IsFit state self.old }
-        ensures fit { IsFit state self.new }
-        ensures step { Answered state self.old (Absorb batch.now) done result self.new }
+        ensures { Answered self.old (Absorb batch.now) done result self.new }
     {
         let Ok(touched) = pages_of_references(self.alloc, batch) else {
             return Err(NodeFault::Memory);
@@ -37,10 +36,8 @@ impl Node {
 
     /// Takes entries into the history.
     pub(crate) fn learn(&mut self, horizon: u64, entries: &[Entry]) -> Result<(), NodeFault>
-        requires fit { IsFit state self.old }
-        ensures fit { IsFit state self.new }
-        ensures learnt { OnOk result (Learns state self.old horizon entries.now self.new) }
-        ensures refused { IfErr result (λ why. (why ≡ Memory) × SameShown state self.old self.new) }
+        ensures learnt { OnOk result (Learns self.old horizon entries.now self.new) }
+        ensures refused { IfErr result (λ why. (why ≡ Memory) × SameShown self.old self.new) }
     {
         let Ok(named) = pages_of_entries(self.alloc, entries) else {
             return Err(NodeFault::Memory);
@@ -59,9 +56,7 @@ impl Node {
 
     /// Forgets all stamps before this time, and tells the horizon from then on: the call `Horizon`. Takes no memory.
     pub fn raise(&mut self, time: u64) -> u64
-        requires fit { IsFit state self.old }
-        ensures fit { IsFit state self.new }
-        ensures step { Goes state self.old (Horizon time) (Kept result) self.new }
+        ensures { Goes self.old (Horizon time) (Kept result) self.new }
     {
         self.history.raise(time);
         self.pool.refresh_all(self.history.history());
@@ -73,10 +68,8 @@ impl Node {
     /// # Errors
     /// `Memory`: room was refused.
     pub fn answers(&mut self, frame: &Frame) -> Result<FrameList, NodeFault>
-        requires fit { IsFit state self.old }
-        ensures fit { IsFit state self.new }
-        ensures same { SameShown state self.old self.new }
-        ensures answers { IfOk result (IsAnswer (shown state self.old).id (shown state self.old).history frame.now) }
+        ensures same { SameShown self.old self.new }
+        ensures answers { IfOk result (IsAnswer self.old.id self.old.history frame.now) }
         ensures refused { IfErr result (λ why. why ≡ Memory) }
     {
         match frame {
@@ -103,9 +96,7 @@ impl Node {
     /// # Errors
     /// `Memory`: room was refused; nothing has changed that a caller sees.
     pub fn receive(&mut self, frame: Frame) -> Result<FrameList, NodeFault>
-        requires fit { IsFit state self.old }
-        ensures fit { IsFit state self.new }
-        ensures step { Answered state self.old (Receive frame) Answers result self.new }
+        ensures { Answered self.old (Receive frame) Answers result self.new }
     {
         if let Frame::Entries {
             horizon,
@@ -127,7 +118,7 @@ impl Node {
     /// # Errors
     /// `Memory`: room was refused; nothing has changed.
     pub fn send(&self, bucket: Bucket, after: Option<PageId>) -> Result<Frame, NodeFault>
-        ensures { Answered state self.now (Send bucket after) Sent result self.now }
+        ensures { Answered self.now (Send bucket after) Sent result self.now }
     {
         // Asked for what holds of every history: its pages rise.
         let history = self.history.history();
@@ -153,9 +144,7 @@ impl Node {
     /// # Errors
     /// `Memory`: room was refused; nothing has changed that a caller sees, and the next offer takes the same sums anew.
     pub fn offer(&mut self) -> Result<Frame, NodeFault>
-        requires fit { IsFit state self.old }
-        ensures fit { IsFit state self.new }
-        ensures step { Answered state self.old Offer Sent result self.new }
+        ensures { Answered self.old Offer Sent result self.new }
     {
         match self.history.sums() {
             Ok(sums) => Ok(Frame::Digest {
@@ -172,7 +161,7 @@ impl Node {
     /// # Errors
     /// `Memory`: room was refused; nothing has changed.
     pub fn warm_list(&self, n: usize) -> Result<PageList, NodeFault>
-        ensures { Answered state self.now (WarmList n) Pages result self.now }
+        ensures { Answered self.now (WarmList n) Pages result self.now }
     {
         // Asked for what holds of every history: its pages rise.
         let history = self.history.history();

@@ -12,8 +12,8 @@
 //! Each call is also a method of its own, as [`Node::pin`], which gives its result or the [`NodeFault`]. [`Node::call`] is for whoever
 //! keeps, sends or replays calls as values.
 //!
-//! Clauses see a node by its `shown`, the plain data of `specs/State.antt`; `specs/Step.antt` says what each call does to that, and why
-//! it is refused.
+//! To clauses a node is the plain data of `specs/State.antt`; `specs/Step.antt` says what each call does to what a caller sees of that,
+//! and why it is refused.
 #![tactic(auto)]
 
 mod answers;
@@ -30,4 +30,4 @@ mod warm_step;
 pub use call::{Call, Reply};
 pub use fault::NodeFault;
 pub use machine::Meaning;
-pub use node::{Node, Shown};
+pub use node::Node;

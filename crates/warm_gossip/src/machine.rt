@@ -19,10 +19,9 @@ impl Model for Meaning {
     ghost view = { λ _. nobody };
 }
 
-/// Every call is a step, and a node that is fit stays so: [`warm_turn::Turn::new`] takes a node that is fit, and each reply that
-/// comes of a turn is that of one legal history of steps.
-impl Machine for Node {
-    ghost use Rattle.warm_gossip.specs.Clauses as clauses;
+/// Every call is a step, so each reply that comes of a turn is that of one legal history of steps. Every node may be handed in.
+impl<D: PageDevice + Send> Machine for Node<D> {
+    ghost use Rattle.warm_gossip.specs.State.{node_view};
     ghost use Rattle.warm_gossip.specs.Step.{Step};
 
     type Call = Call;
@@ -31,9 +30,9 @@ impl Machine for Node {
 
     type State = Meaning;
 
-    ghost meaning = { clauses.shown (λ b. (PageDevice-box b).state b.value) };
+    ghost meaning = { λ n. node_view n };
 
-    ghost is_fit = { clauses.IsFit (λ b. (PageDevice-box b).state b.value) };
+    ghost is_fit = { λ _. Unit {0} };
 
     ghost goes = { Step };
 

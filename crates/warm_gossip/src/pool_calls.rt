@@ -1,17 +1,20 @@
 //! The calls on a node's pool.
 ghost use Rattle.std.specs.Prelude.{◌↔◌, IfErr, IsTrue, OnOk};
-ghost use Rattle.warm_pool.specs.View.{Holds};
+ghost use Rattle.warm_pool.specs.State.{IsSettled};
+ghost use Rattle.warm_pool.specs.View.{Holds, view_of};
 ghost use Rattle.warm_gossip.specs.declared.call.Call.TheVariants.{Pin, Unpin, Read, Write, Victim, Restart};
 ghost use Rattle.warm_gossip.specs.declared.call.Reply.TheVariants.{Pinned, Bytes, Page};
-ghost use Rattle.warm_gossip.specs.Clauses.{Answered, Goes, IsAtRest, IsFit, SameShown, WriteBackFails, done, shown};
+ghost use Rattle.warm_gossip.specs.Clauses.{Answered, Goes, SameShown, WriteBackFails, done};
+ghost use Rattle.warm_gossip.specs.State.{node_view};
 ghost use Rattle.warm_gossip.specs.Step.{IsWithin};
 
 use crate::fault::NodeFault;
 use crate::node::Node;
+use warm_devices::PageDevice;
 use warm_pool::{PoolFault, Slot};
 use warm_stamps::{ByteList, PageId};
 
-impl Node {
+impl<D: PageDevice> Node<D> {
     /// Gives a page a fix, and puts it into a frame where it is in none: the call `Pin`. Takes no memory.
     ///
     /// **A pin is no reference**: whoever pins a page also absorbs a reference to it.
@@ -19,9 +22,7 @@ impl Node {
     /// # Errors
     /// `Pool`, with the fault and the order of [`warm_pool::Pool::pin`]. Pages, fixes and contents are as they were.
     pub fn pin(&mut self, page: PageId) -> Result<Slot, NodeFault>
-        requires fit { IsFit state self.old }
-        ensures fit { IsFit state self.new }
-        ensures step { Answered state self.old (Pin page) Pinned result self.new }
+        ensures { Answered self.old (Pin page) Pinned result self.new }
     {
         match self.pool.pin(page, self.history.history()) {
             Ok(slot) => Ok(slot),
@@ -34,9 +35,7 @@ impl Node {
     /// # Errors
     /// `StaleSlot`: the slot doesn't hold its page; nothing has changed.
     pub fn unpin(&mut self, slot: Slot) -> Result<(), NodeFault>
-        requires fit { IsFit state self.old }
-        ensures fit { IsFit state self.new }
-        ensures step { Answered state self.old (Unpin slot) done result self.new }
+        ensures { Answered self.old (Unpin slot) done result self.new }
     {
         if !self.pool.holds(slot) {
             return Err(NodeFault::StaleSlot);
@@ -51,8 +50,7 @@ impl Node {
     /// In this order: `StaleSlot`, where the slot doesn't hold its page; `Pool(OutOfPage)`, where the bytes reach beyond its end;
     /// `Memory`.
     pub fn read(&self, slot: Slot, at: usize, len: usize) -> Result<ByteList, NodeFault>
-        requires fit { IsFit state self.now }
-        ensures step { Answered state self.now (Read slot at len) Bytes result self.now }
+        ensures { Answered self.now (Read slot at len) Bytes result self.now }
     {
         if !self.pool.holds(slot) {
             return Err(NodeFault::StaleSlot);
@@ -71,10 +69,11 @@ impl Node {
 
     // Whether so many bytes from `at` on are within a page: none are read beyond it, wherever they begin.
     fn is_within(&self, slot: Slot, at: usize, len: usize) -> bool
-        requires fit { IsFit state self.now }
-        requires holds { Holds (shown state self.now).pool slot }
-        ensures { IsTrue result ↔ IsWithin (shown state self.now) at len }
+        requires { Holds (view_of self.now.pool) slot }
+        ensures { IsTrue result ↔ IsWithin (node_view self.now) at len }
     {
+        // Asked for what holds of every pool: a page has few bytes.
+        self.pool.is_pool();
         match at.checked_add(len) {
             Some(end) => self.pool.read(slot, end, &mut []).is_ok(),
             None => false,
@@ -87,9 +86,7 @@ impl Node {
     /// In this order: `StaleSlot`, where the slot doesn't hold its page; `Pool(OutOfPage)`, where the bytes reach beyond its end.
     /// Nothing has changed.
     pub fn write(&mut self, slot: Slot, at: usize, bytes: &[u8]) -> Result<(), NodeFault>
-        requires fit { IsFit state self.old }
-        ensures fit { IsFit state self.new }
-        ensures step { Answered state self.old (Write slot at bytes.now) done result self.new }
+        ensures { Answered self.old (Write slot at bytes.now) done result self.new }
     {
         if !self.pool.holds(slot) {
             return Err(NodeFault::StaleSlot);
@@ -102,8 +99,7 @@ impl Node {
 
     /// The page that would leave next, where there is one: the call `Victim`. Takes no memory.
     pub fn victim(&self) -> Option<PageId>
-        requires fit { IsFit state self.now }
-        ensures { Goes state self.now Victim (Page result) self.now }
+        ensures { Goes self.now Victim (Page result) self.now }
     {
         self.pool.victim()
     }
@@ -115,10 +111,8 @@ impl Node {
     /// `Pool(Fixed)`: a page is fixed, and nothing has changed. `Pool(Fault)`: a page could not be written to its device, or a
     /// device not flushed; counts of failures alone have changed.
     pub fn restart(&mut self) -> Result<(), NodeFault>
-        requires fit { IsFit state self.old }
-        ensures fit { IsFit state self.new }
-        ensures step { Answered state self.old Restart done result self.new }
-        ensures settled { OnOk result (IsAtRest state self.new) }
+        ensures step { Answered self.old Restart done result self.new }
+        ensures settled { OnOk result (IsSettled self.new.pool) }
     {
         match self.pool.empty() {
             Ok(()) => {
@@ -134,11 +128,9 @@ impl Node {
     /// # Errors
     /// `Fault` at the first write or flush that fails. Of what a node shows, counts of failures alone have changed.
     pub fn write_back(&mut self) -> Result<(), NodeFault>
-        requires fit { IsFit state self.old }
-        ensures fit { IsFit state self.new }
-        ensures same { OnOk result (SameShown state self.old self.new) }
-        ensures settled { OnOk result (IsAtRest state self.new) }
-        ensures refused { IfErr result (λ why. WriteBackFails state self.old why self.new) }
+        ensures same { OnOk result (SameShown self.old self.new) }
+        ensures settled { OnOk result (IsSettled self.new.pool) }
+        ensures refused { IfErr result (λ why. WriteBackFails self.old why self.new) }
     {
         match self.pool.write_back_all() {
             Ok(()) => Ok(()),

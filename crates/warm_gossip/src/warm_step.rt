@@ -2,14 +2,16 @@
 ghost use Rattle.std.specs.Prelude.{◌↔◌, IsTrue};
 ghost use Rattle.warm_gossip.specs.declared.call.Call.TheVariants.{WarmStep};
 ghost use Rattle.warm_gossip.specs.declared.call.Reply.TheVariants.{Loaded};
-ghost use Rattle.warm_gossip.specs.Clauses.{Answered, IsFit, shown};
+ghost use Rattle.warm_pool.specs.View.{view_of};
+ghost use Rattle.warm_gossip.specs.Clauses.{Answered};
 ghost use Rattle.warm_gossip.specs.Step.{IsFirstLoadable, IsLoadable};
 
 use crate::fault::NodeFault;
 use crate::node::Node;
+use warm_devices::PageDevice;
 use warm_stamps::PageId;
 
-impl Node {
+impl<D: PageDevice> Node<D> {
     /// Loads the hottest page that is not resident and that a device has, of as many as the pool has frames, and gives it; `None`
     /// where there is none: the call `WarmStep`. On a standby it is called until it gives none, before the standby takes over.
     ///
@@ -20,9 +22,7 @@ impl Node {
     /// `Memory`: there was no room for the list of the hottest pages; the next step makes it. `Pool`, with the fault and the order of
     /// [`warm_pool::Pool::load`]. Pages, fixes and contents are as they were.
     pub fn warm_step(&mut self) -> Result<Option<PageId>, NodeFault>
-        requires fit { IsFit state self.old }
-        ensures fit { IsFit state self.new }
-        ensures step { Answered state self.old WarmStep Loaded result self.new }
+        ensures { Answered self.old WarmStep Loaded result self.new }
     {
         // Asked for what holds of every history: its pages rise.
         let _whole = self.history.history().len();
@@ -42,8 +42,7 @@ impl Node {
 
     // The first of the pages that a device has and no frame.
     fn first_loadable(&self, pages: &[PageId]) -> Option<PageId>
-        requires fit { IsFit state self.now }
-        ensures { IsFirstLoadable (shown state self.now).pool pages.now result }
+        ensures { IsFirstLoadable (view_of self.now.pool) pages.now result }
     {
         for page in pages {
             if self.is_loadable(*page) {
@@ -55,8 +54,7 @@ impl Node {
 
     // Whether a device has the page, and no frame.
     fn is_loadable(&self, page: PageId) -> bool
-        requires fit { IsFit state self.now }
-        ensures { IsTrue result ↔ IsLoadable (shown state self.now).pool page }
+        ensures { IsTrue result ↔ IsLoadable (view_of self.now.pool) page }
     {
         self.pool.has(page) && !self.pool.resident(page)
     }

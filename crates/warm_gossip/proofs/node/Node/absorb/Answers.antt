@@ -2,7 +2,7 @@ use Rattle.std.proofs.Common.{◌∙◌}
 use Rattle.warm_gossip.proofs.Ranks.{absorbed_agrees_as}
 use Rattle.warm_gossip.proofs.node.Node.absorb.Goals as goal
 
-pub returns-clause-fit : goal.returns-clause-fit
-returns-clause-fit g c =
+pub invariant_of-self-2 : goal.invariant_of-self-2
+invariant_of-self-2 g c =
     let agrees = absorbed_agrees_as _ _ _ _ (c.deref.ensures.value ∙ c.in-Ok.ensures) (c.history.ensures ∙ c.in-Ok-absorb.ensures.exact) in
-    (c.refresh.ensures.pool, rw c.history.ensures at (c.refresh.ensures.ranked c.args.self.now.history c.requires.fit.1 agrees))
+    rw c.history.ensures at (c.refresh.ensures.ranked c.self.inside.history c.self.invariant agrees)

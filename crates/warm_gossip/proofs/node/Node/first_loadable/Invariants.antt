@@ -1,5 +1,5 @@
 use Rattle.std.proofs.Common.{ℕ, ◌<◌}
-use Rattle.warm_gossip.specs.Clauses.{shown}
+use Rattle.warm_pool.specs.View.{view_of}
 use Rattle.warm_gossip.specs.Step.{IsLoadable, nth_page}
 use Rattle.warm_gossip.proofs.node.Node.first_loadable.Given as goal
 
@@ -7,5 +7,5 @@ use Rattle.warm_gossip.proofs.node.Node.first_loadable.Given as goal
 abbrev pub invariant-loop-page : goal.invariant-loop-page
 invariant-loop-page g l =
     (j : ℕ) → j < l.page-index
-    → IsLoadable (shown (λ b. (goal.PageDevice-dyn g (b.vtable, b.value)).state b.value) l.self).pool (nth_page l.pages j)
+    → IsLoadable (view_of l.self.pool) (nth_page l.pages j)
     → ⊥

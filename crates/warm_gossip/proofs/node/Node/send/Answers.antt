@@ -5,15 +5,17 @@ use Rattle.warm_history.proofs.JoinLemmas.{history_of_own_references}
 use Rattle.warm_frames.specs.declared.entries.TheConstants.{MAX_ENTRIES}
 use Rattle.warm_frames.specs.declared.frame.Frame.TheVariants.{Entries}
 use Rattle.warm_gossip.specs.Answers.{sent}
+use Rattle.warm_gossip.specs.State.{NodeState}
 use Rattle.warm_gossip.proofs.node.Node.send.Goals as goal
 
 pub returns : goal.returns
 returns g c =
     let h = c.history-history.result.now in
-    let id = c.args.self.now.id in
+    let id = c.self.inside.id in
     let own = sym (history_of_own_references h c.len-whole.ensures.whole) in (
       ap (Entries id c.horizon.result) (c.in-Ok-of.ensures.value ∙ c.in-Ok.ensures.carried (refs h) own)
           ∙ ap (λ (m : ℕ). Entries id m (entries_of (history (carried (refs h) c.args.bucket c.args.after MAX_ENTRIES)))) c.horizon.ensures.value
-          ∙ ap (λ (k : HistoryView). sent id k c.args.bucket c.args.after) c.history-history.ensures,
+          ∙ ap (λ (k : HistoryView). sent id k c.args.bucket c.args.after) c.history-history.ensures
+          ∙ ap (λ (s : NodeState). sent s.id s.history c.args.bucket c.args.after) c.self.view_is,
       refl,
     )
