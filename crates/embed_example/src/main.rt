@@ -5,14 +5,12 @@
 //! an orderly way.
 #![tactic(auto)]
 
-ghost use Rattle.std.specs.Prelude.{IfOk};
-
 use anyhow::{Result, bail};
 use std::alloc::Global;
 use std::io::Print;
-use warm_devices::{MemDevice, PageDevice};
+use warm_devices::MemDevice;
 use warm_frames::{Frame, decode, encode};
-use warm_gossip::{Node, NodeFault, Shown};
+use warm_gossip::{Node, NodeFault};
 use warm_pool::Pool;
 use warm_stamps::{PageId, Reference, ReplicaId, Stamp};
 
@@ -26,12 +24,11 @@ const MOST_ROUNDS: u32 = 3;
 
 // A page of device 0.
 const fn page(no: u32) -> PageId {
-    PageId { dev: 0, no }
+    PageId { dev: 0, no: no as u64 }
 }
 
 // A node that was told nothing, with a pool over the device.
-fn opened(alloc: Global, number: u16, device: Box<dyn PageDevice + Send>) -> Result<Node>
-    ensures { IfOk result (λ node. ⟦<Node as Shown>⟧.is_fit node) }
+fn opened(alloc: Global, number: u16, device: MemDevice) -> Result<Node<MemDevice>>
 {
     let Ok(id) = ReplicaId::new(number) else {
         bail!("no replica has the number {number}")
@@ -50,9 +47,7 @@ fn refused<T>(fault: NodeFault) -> Result<T> {
 }
 
 // Tells a node that these pages were referenced, one after the other, from a time on.
-fn refer(alloc: Global, node: &mut Node, from: u64, pages: &[u32]) -> Result<()>
-    requires { ⟦<Node as Shown>⟧.is_fit node.old }
-    ensures { ⟦<Node as Shown>⟧.is_fit node.new }
+fn refer(alloc: Global, node: &mut Node<MemDevice>, from: u64, pages: &[u32]) -> Result<()>
 {
     let replica = node.id();
     let mut batch = Vec::with_capacity(alloc, pages.len())?;
@@ -71,9 +66,7 @@ fn refer(alloc: Global, node: &mut Node, from: u64, pages: &[u32]) -> Result<()>
 }
 
 // What one replica sends another, as bytes: the sums of what it has heard of.
-fn offer(alloc: Global, node: &mut Node) -> Result<Vec<u8>>
-    requires { ⟦<Node as Shown>⟧.is_fit node.old }
-    ensures { ⟦<Node as Shown>⟧.is_fit node.new }
+fn offer(alloc: Global, node: &mut Node<MemDevice>) -> Result<Vec<u8>>
 {
     match node.offer() {
         Ok(frame) => Ok(encode(alloc, &frame)?),
@@ -82,9 +75,7 @@ fn offer(alloc: Global, node: &mut Node) -> Result<Vec<u8>>
 }
 
 // Hands a frame's bytes to a node, and gives those of the frames that it answers.
-fn deliver(alloc: Global, node: &mut Node, bytes: &[u8]) -> Result<Vec<Vec<u8>>>
-    requires { ⟦<Node as Shown>⟧.is_fit node.old }
-    ensures { ⟦<Node as Shown>⟧.is_fit node.new }
+fn deliver(alloc: Global, node: &mut Node<MemDevice>, bytes: &[u8]) -> Result<Vec<Vec<u8>>>
 {
     let frame = match decode(alloc, bytes) {
         Ok(frame) => frame,
@@ -105,9 +96,7 @@ fn spelled(alloc: Global, frames: &[Frame]) -> Result<Vec<Vec<u8>>> {
 }
 
 // Hands each of these frames to a node, and gives the bytes of all that it answers.
-fn deliver_all(alloc: Global, node: &mut Node, sent: &[Vec<u8>]) -> Result<Vec<Vec<u8>>>
-    requires { ⟦<Node as Shown>⟧.is_fit node.old }
-    ensures { ⟦<Node as Shown>⟧.is_fit node.new }
+fn deliver_all(alloc: Global, node: &mut Node<MemDevice>, sent: &[Vec<u8>]) -> Result<Vec<Vec<u8>>>
 {
     let mut answered = Vec::new(alloc);
     for bytes in sent {
@@ -117,11 +106,7 @@ fn deliver_all(alloc: Global, node: &mut Node, sent: &[Vec<u8>]) -> Result<Vec<V
 }
 
 // Rounds of gossip until the second has nothing to answer to the sums of the first: then both hold the same. Gives how many it took.
-fn make_equal(alloc: Global, first: &mut Node, second: &mut Node) -> Result<u32>
-    requires first { ⟦<Node as Shown>⟧.is_fit first.old }
-    requires second { ⟦<Node as Shown>⟧.is_fit second.old }
-    ensures first { ⟦<Node as Shown>⟧.is_fit first.new }
-    ensures second { ⟦<Node as Shown>⟧.is_fit second.new }
+fn make_equal(alloc: Global, first: &mut Node<MemDevice>, second: &mut Node<MemDevice>) -> Result<u32>
 {
     for round in 0..MOST_ROUNDS {
         let sums = offer(alloc, first)?;
@@ -136,9 +121,7 @@ fn make_equal(alloc: Global, first: &mut Node, second: &mut Node) -> Result<u32>
 }
 
 // Loads the hottest pages, and says which.
-fn warm(rt: &impl Print, node: &mut Node) -> Result<()>
-    requires { ⟦<Node as Shown>⟧.is_fit node.old }
-    ensures { ⟦<Node as Shown>⟧.is_fit node.new }
+fn warm(rt: &impl Print, node: &mut Node<MemDevice>) -> Result<()>
 {
     for _ in 0..FRAMES {
         match node.warm_step() {
@@ -151,9 +134,7 @@ fn warm(rt: &impl Print, node: &mut Node) -> Result<()>
 }
 
 // Pins a page, writes to it, reads it again and unpins it.
-fn change(node: &mut Node, no: u32, text: &[u8]) -> Result<Vec<u8>, NodeFault>
-    requires { ⟦<Node as Shown>⟧.is_fit node.old }
-    ensures { ⟦<Node as Shown>⟧.is_fit node.new }
+fn change(node: &mut Node<MemDevice>, no: u32, text: &[u8]) -> Result<Vec<u8>, NodeFault>
 {
     let slot = node.pin(page(no))?;
     node.write(slot, 0, text)?;
@@ -163,10 +144,7 @@ fn change(node: &mut Node, no: u32, text: &[u8]) -> Result<Vec<u8>, NodeFault>
 }
 
 // What the two replicas live through, up to the orderly end of the standby.
-fn live(rt: &impl Print, alloc: Global, primary: &mut Node, standby: &mut Node) -> Result<()>
-    requires primary { ⟦<Node as Shown>⟧.is_fit primary.old }
-    requires standby { ⟦<Node as Shown>⟧.is_fit standby.old }
-    ensures standby { ⟦<Node as Shown>⟧.is_fit standby.new }
+fn live(rt: &impl Print, alloc: Global, primary: &mut Node<MemDevice>, standby: &mut Node<MemDevice>) -> Result<()>
 {
     refer(alloc, primary, 1, &[3, 5, 3, 9, 5, 7])?;
     let rounds = make_equal(alloc, primary, standby)?;
@@ -188,9 +166,9 @@ fn live(rt: &impl Print, alloc: Global, primary: &mut Node, standby: &mut Node) 
 
 fn main(rt: HostRuntime) -> Result<()> {
     let alloc = rt.alloc();
-    let device = Box::new(alloc, MemDevice::new(alloc, 64, PAGE_SIZE)?)?;
+    let device = MemDevice::new(alloc, 64, PAGE_SIZE)?;
     let mut primary = opened(alloc, 1, device)?;
-    let device = Box::new(alloc, MemDevice::new(alloc, 64, PAGE_SIZE)?)?;
+    let device = MemDevice::new(alloc, 64, PAGE_SIZE)?;
     let mut standby = opened(alloc, 2, device)?;
     live(&rt, alloc, &mut primary, &mut standby)?;
     match standby.into_pool().close() {
