@@ -1,8 +1,9 @@
 -- A frame comes to a replica.
-use Rattle.std.proofs.Common.{◌≡◌, ℕ, ◌+◌, ◌-◌, List, [], length, get_or, set, refl, ◌∙◌, ap, subst, arith}
+use Rattle.std.proofs.Common.{◌≡◌, ℕ, ◌+◌, ◌-◌, List, [], Some, None, length, get_or, set, refl, sym, ◌∙◌, ap, subst, arith}
 use Rattle.std.specs.Prelude.{◌==◌, if◌then◌else◌}
 use Rattle.std.proofs.lemmas.List.{length-append, length-map}
-use Rattle.warm_history.specs.Histories.{HistoryView, history}
+use Rattle.warm_history.specs.Histories.{HistoryView, history, refs}
+use Rattle.warm_history.specs.ReferenceSets.{since}
 use Rattle.warm_frames.specs.declared.frame.Frame.{Frame}
 use Rattle.warm_frames.specs.declared.frame.Frame.TheVariants.{Entries, Digest, Want}
 use Rattle.warm_gossip.specs.Answers.{IsAnswer, taught}
@@ -13,7 +14,7 @@ use Rattle.warm_world.specs.declared.event.Answer.TheVariants.{Took, Refused}
 use Rattle.warm_world.specs.declared.event.WorldFault.TheVariants.{Node}
 use Rattle.warm_gossip.specs.declared.fault.NodeFault.TheVariants.{Memory}
 use Rattle.warm_world.specs.Lists.{Pairwise, place}
-use Rattle.warm_world.specs.Replicas.{Encodes, KeepsAll, Takes}
+use Rattle.warm_world.specs.Replicas.{Encodes, KeepsAll, Takes, raised_to}
 use Rattle.warm_world.specs.Seen.{ReplicaSeen}
 use Rattle.warm_world.specs.States.{ModelState, ReplicaState, add_records, reach_of, record_at, replica, set_replica}
 use Rattle.warm_world.specs.Answered.{heard}
@@ -24,11 +25,23 @@ use Rattle.warm_world.proofs.Histories.{answer_records, taught_heard}
 use Rattle.warm_world.proofs.Pairs.{Pairwise-of}
 use Rattle.warm_world.proofs.Worlds.{named_too, place_in, replica_changes, replica_stays, stands_at, world}
 
--- entries are answered by nothing, and of a frame of anything else nothing is learnt
-pub unanswered_or_untaught : (id : ℕ) (h : HistoryView) (frame : Frame) (answers : List Frame) → IsAnswer id h frame answers → (answers ≡ [] → ⊥) → taught h frame ≡ h
-unanswered_or_untaught id h (Entries sender es) answers none some = absurd (some none)
-unanswered_or_untaught id h (Digest sender sums) answers answer some = refl
-unanswered_or_untaught id h (Want sender mask) answers answer some = refl
+-- entries are answered by nothing
+unanswered : (id : ℕ) (h : HistoryView) (frame : Frame) (answers : List Frame) → raised_to frame ≡ None → IsAnswer id h frame answers → answers ≡ []
+unanswered id h (Entries sender horizon es) answers none answer = answer
+unanswered id h (Digest sender horizon sums) answers none answer = absurd (cc)
+unanswered id h (Want sender horizon mask) answers none answer = absurd (cc)
+
+-- digests and a request teach their horizon alone
+pub taught_horizon : (h : HistoryView) (frame : Frame) (horizon : ℕ) → raised_to frame ≡ Some horizon → taught h frame ≡ history (since horizon (refs h))
+taught_horizon h (Entries sender time es) horizon is = absurd (cc)
+taught_horizon h (Digest sender time sums) horizon is = ap (λ t. history (since t (refs h))) (own is)
+  where
+    own : {a b : ℕ} → (Some a ≡ Some b) → a ≡ b
+    own same = cc
+taught_horizon h (Want sender time mask) horizon is = ap (λ t. history (since t (refs h))) (own is)
+  where
+    own : {a b : ℕ} → (Some a ≡ Some b) → a ≡ b
+    own same = cc
 
 module _ {A : Type 0} (f : A → ReplicaSeen) (xs : List A) (frames : List (List ℕ)) where
   pub delivered : (m : ModelState) (j k count first : ℕ) (x y : A) (frame : Frame) (answers : List Frame) (n : NodeView) (frames' : List (List ℕ))
@@ -78,20 +91,44 @@ module _ {A : Type 0} (f : A → ReplicaSeen) (xs : List A) (frames : List (List
         stands = rw keeps.2 (frames_join (world f xs frames (set xs p y)) (set_replica m p r) keeps.0 rs.added changed spell);
       }
 
-  -- what a frame was answered by is kept, or refused; a frame that is answered has taught nothing
+  -- entries come: their answer is none, which is kept without memory
   pub taken : (m : ModelState) (j k : ℕ) (x y : A) (frame : Frame) (answers : List Frame) (n : NodeView) (frames' : List (List ℕ)) (answer : Answer)
       → StandsFor (world f xs frames xs) m → IsNamed (seen_shape (world f xs frames xs)) (Deliver j k) → x ≡ get_or xs (place j) x
-      → frame ≡ frame_kept (record_at m (place k)) → IsAnswer (f x).node.id (f x).node.history frame answers → n ≡ record (f x).node { history = taught (f x).node.history frame }
+      → frame ≡ frame_kept (record_at m (place k)) → raised_to frame ≡ None → IsAnswer (f x).node.id (f x).node.history frame answers
+      → n ≡ record (f x).node { history = taught (f x).node.history frame }
       → f y ≡ record (f x) { node = n } → Takes frames answers answer frames'
       → Stepped m (Deliver j k) answer (record (world f xs frames (set xs (place j) y)) { frames = frames' })
-  taken m j k x y frame answers n frames' (Took count first) st named is spelled answered learns becomes takes =
+  taken m j k x y frame answers n frames' (Took count first) st named is spelled none answered learns becomes takes =
       delivered m j k count first x y frame answers n frames' st named is spelled answered learns becomes takes.0 takes.1 takes.2
-  taken m j k x y frame answers n frames' (Refused (Node Memory)) st named is spelled answered learns becomes takes =
-      let same : f y ≡ f x = becomes ∙ ap (λ (v : NodeView). let r : ReplicaSeen = record (f x) { node = v } in r)
-      (learns ∙ ap (λ (h : HistoryView). let v : NodeView = record (f x).node { history = h } in v) (unanswered_or_untaught (f x).node.id (f x).node.history frame answers answered takes.0)) in
-      record {
-        new = m;
-        next = (named_too (world f xs frames xs) m (Deliver j k) st named, refl);
-        stands = rw takes.1 (replica_stays f xs frames m (place j) x y st (place_in f xs frames (Deliver j k) named) is same);
-      }
-  taken m j k x y frame answers n frames' answer st named is spelled answered learns becomes takes = absurd takes
+  taken m j k x y frame answers n frames' (Refused (Node Memory)) st named is spelled none answered learns becomes takes =
+      absurd (takes.0 (unanswered (f x).node.id (f x).node.history frame answers none answered))
+  taken m j k x y frame answers n frames' answer st named is spelled none answered learns becomes takes = absurd takes
+
+  -- digests or a request come, and their answers are kept: then the horizon rises
+  pub raised_after : (m : ModelState) (j k horizon : ℕ) (x y z : A) (frame : Frame) (answers : List Frame) (frames' : List (List ℕ)) (answer : Answer) (count first : ℕ)
+      → StandsFor (world f xs frames xs) m → IsNamed (seen_shape (world f xs frames xs)) (Deliver j k) → x ≡ get_or xs (place j) x
+      → frame ≡ frame_kept (record_at m (place k)) → raised_to frame ≡ Some horizon → IsAnswer (f x).node.id (f x).node.history frame answers
+      → f y ≡ f x → f z ≡ record (f y) { node = record (f y).node { history = history (since horizon (refs (f y).node.history)) } }
+      → answer ≡ Took count first → Takes frames answers answer frames'
+      → Stepped m (Deliver j k) answer (record (world f xs frames (set (set xs (place j) y) (place j) z)) { frames = frames' })
+  raised_after m j k horizon x y z frame answers frames' answer count first st named is spelled rises answered same becomes took takes =
+      let n : NodeView = record (f x).node { history = taught (f x).node.history frame } in
+      let shows : f z ≡ record (f x) { node = n } =
+      becomes
+      ∙ ap (λ (r : ReplicaSeen). let s : ReplicaSeen = record r { node = record r.node { history = history (since horizon (refs r.node.history)) } } in s) same
+      ∙ ap (λ (h : HistoryView). let s : ReplicaSeen = record (f x) { node = record (f x).node { history = h } } in s) (sym (taught_horizon (f x).node.history frame horizon rises)) in
+      let kept : Takes frames answers (Took count first) frames' = subst (λ a. Takes frames answers a frames') took takes in
+      rw (set-set_same xs (place j) y z, took) (delivered m j k count first x z frame answers n frames' st named is spelled answered refl shows kept.0 kept.1 kept.2)
+
+  -- there is no memory for the answers, and nothing has changed
+  pub unkept : (m : ModelState) (j k : ℕ) (x y : A) (frames' : List (List ℕ)) (answers : List Frame) (answer : Answer)
+      → StandsFor (world f xs frames xs) m → IsNamed (seen_shape (world f xs frames xs)) (Deliver j k) → x ≡ get_or xs (place j) x → f y ≡ f x
+      → ((count first : ℕ) → answer ≡ Took count first → ⊥) → Takes frames answers answer frames'
+      → Stepped m (Deliver j k) answer (record (world f xs frames (set xs (place j) y)) { frames = frames' })
+  unkept m j k x y frames' answers (Took count first) st named is same other takes = absurd (other count first refl)
+  unkept m j k x y frames' answers (Refused (Node Memory)) st named is same other takes = record {
+    new = m;
+    next = (named_too (world f xs frames xs) m (Deliver j k) st named, refl);
+    stands = rw takes.1 (replica_stays f xs frames m (place j) x y st (place_in f xs frames (Deliver j k) named) is same);
+  }
+  unkept m j k x y frames' answers answer st named is same other takes = absurd takes

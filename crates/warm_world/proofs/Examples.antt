@@ -3,11 +3,11 @@ use Rattle.std.proofs.Common.{◌≡◌, ℕ, [], ◌∷◌, List, None, refl}
 use Rattle.warm_stamps.specs.declared.Reference.{Reference}
 use Rattle.warm_history.specs.declared.hist.Entry.{Entry}
 use Rattle.warm_history.specs.declared.hist.PageHist.TheVariants.{Once, Twice}
-use Rattle.warm_history.specs.ReferenceSets.{these}
-use Rattle.warm_history.specs.Histories.{holding, history}
+use Rattle.warm_history.specs.ReferenceSets.{these, since}
+use Rattle.warm_history.specs.Histories.{HistoryView, holding, history}
 use Rattle.warm_history.specs.Carried.{carried}
-use Rattle.warm_world.specs.States.{ReplicaState, no_pool, referred, flushed, restarted}
-use Rattle.warm_world.specs.States.{References, Mask}
+use Rattle.warm_world.specs.States.{ReplicaState, no_pool, raised, referred, flushed, restarted}
+use Rattle.warm_world.specs.States.{References, Mask, Sums}
 use Rattle.warm_world.specs.Answered.{bucket_records, heard}
 use Rattle.warm_world.specs.Next.{stamped}
 
@@ -66,9 +66,50 @@ empty_bucket_in_none : bucket_records 2 (these (at 10 1 ∷ [])) 3 ≡ []
 unfolding history
 empty_bucket_in_none = refl
 
--- a wish teaches nothing, and references are taken in
-wish_teaches_nothing : heard (these (at 10 1 ∷ [])) (Mask 2 6) ≡ these (at 10 1 ∷ [])
-wish_teaches_nothing = refl
+-- a request without a horizon teaches nothing, and references are taken in
+request_teaches_nothing : heard (these (at 10 1 ∷ [])) (Mask 2 0 6) ≡ these (at 10 1 ∷ [])
+request_teaches_nothing = refl
 
 references_are_heard : heard (these (at 10 1 ∷ [])) (References 2 (these (at 20 2 ∷ []))) ≡ these (at 10 1 ∷ at 20 2 ∷ [])
 references_are_heard = refl
+
+-- ---- horizons
+
+-- the history at a horizon
+abbrev since_then : ℕ → List Entry → HistoryView
+since_then horizon es = record { horizon = horizon; entries = es }
+
+abbrev once : Reference → Entry
+once last = record { page = record { dev = 0; no = 1 }; hist = Once last.stamp }
+
+-- a replica has the page at 10 and 20: its horizon rises to 15, and 20 alone is left
+raise_forgets : history (raised 15 (told (at 10 1 ∷ at 20 1 ∷ []) [])).reach ≡ since_then 15 (once (at 20 1) ∷ [])
+unfolding history
+raise_forgets = refl
+
+-- what waits with an older stamp is dropped as it reaches the replica
+older_is_dropped : history (flushed 0 (raised 15 (told (at 20 1 ∷ []) (at 12 1 ∷ [])))).reach ≡ since_then 15 (once (at 20 1) ∷ [])
+unfolding history
+older_is_dropped = refl
+
+-- a lower time changes nothing
+horizon_stays : raised 3 (raised 15 (told [] [])) ≡ raised 15 (told [] [])
+horizon_stays = refl
+
+-- a restart sets the horizon to 0
+restart_lowers : restarted no_pool (raised 15 (told (at 20 1 ∷ []) [])) ≡ told [] []
+restart_lowers = refl
+
+-- one replica has the page at 8 and 9, the other at 20 with horizon 9: its frame leaves 20 and 9
+frame_raises : history (heard (these (at 8 2 ∷ at 9 2 ∷ [])) (References 1 (since 9 (these (at 20 1 ∷ []))))) ≡ since_then 9 (known (at 20 1) (at 9 2) ∷ [])
+unfolding history
+frame_raises = refl
+
+-- digests and a request bring their sender's horizon
+digests_raise : history (heard (these (at 10 1 ∷ [])) (Sums 2 50 [])) ≡ since_then 50 []
+unfolding history
+digests_raise = refl
+
+request_raises : history (heard (these (at 10 1 ∷ [])) (Mask 2 50 2)) ≡ since_then 50 []
+unfolding history
+request_raises = refl

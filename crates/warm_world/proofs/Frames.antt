@@ -13,6 +13,7 @@ use Rattle.warm_world.specs.Lists.{IsNumber, Pairwise, place}
 use Rattle.warm_world.specs.Replicas.{Encodes, Keeps}
 use Rattle.warm_world.specs.Seen.{WorldSeen}
 use Rattle.warm_world.specs.States.{ModelState, FrameRecord, add_records, record_at, References}
+use Rattle.warm_history.specs.ReferenceSets.{these}
 use Rattle.warm_world.specs.Next.{Next}
 use Rattle.warm_world.specs.Stands.{SpellsRecord, StandsFor, Stepped, frame_kept}
 use Rattle.warm_world.proofs.Pairs.{Pairwise-append, Pairwise-nil, Pairwise-push}
@@ -36,7 +37,7 @@ frames_join w m added rs st spell = record { replicas = st.replicas; frames = Pa
 
 -- the frame at a place spells the record there
 pub frame_at : (w : WorldSeen) (m : ModelState) (k : ℕ) (bytes : List ℕ) → StandsFor w m → k < length w.frames → bytes ≡ get_or w.frames k bytes → SpellsRecord bytes (record_at m k)
-frame_at w m k bytes st lt is = subst (λ b. SpellsRecord b (record_at m k)) (sym is) (st.frames.each k bytes (References 0 []) lt)
+frame_at w m k bytes st lt is = subst (λ b. SpellsRecord b (record_at m k)) (sym is) (st.frames.each k bytes (References 0 (these [])) lt)
 
 -- the same of frames that are kept as vectors
 pub kept_at : (w : WorldSeen) (m : ModelState) (k : ℕ) (vs : List (Vec ℕ)) (v : Vec ℕ) → StandsFor w m → w.frames ≡ map (λ b. b.items) vs → IsNumber k (length w.frames) → v ≡ get_or vs (place k) v → SpellsRecord v.items (record_at m (place k))

@@ -7,10 +7,9 @@ use Rattle.std.proofs.lemmas.List.{get_or-map, get_or_append_left, length-append
 use Rattle.warm_devices.specs.Device.{DeviceState}
 use Rattle.warm_pool.specs.declared.TheConstants.{MAX_DEVICES}
 use Rattle.warm_pool.specs.DeviceCalls.{AreOfSize}
-use Rattle.warm_gossip.specs.State.{NodeState, IsNode}
 use Rattle.warm_world.specs.Lists.{Pairwise}
 use Rattle.warm_world.specs.Opening.{AreFew, AreSized, devices_at}
-use Rattle.warm_world.specs.Seen.{AreNodes, ReplicaSeen}
+use Rattle.warm_world.specs.Seen.{ReplicaSeen}
 use Rattle.warm_world.specs.Sizes.{Sizes}
 use Rattle.warm_world.specs.States.{opened_over}
 use Rattle.warm_world.specs.Stands.{ReplicaStands}
@@ -80,15 +79,3 @@ module _ {B : Type 0} (f : B → DeviceState) where
       rw (more, map-append g rs (r ∷ []), map-append (λ (ds : Vec B). map f ds.items) so_far (v ∷ []), map-append (opened_over s) (shown so_far) (map f v.items ∷ []))
       (Pairwise-push (ReplicaStands s.buffer) (map g rs) (map (opened_over s) (shown so_far)) (g r) (opened_over s (map f v.items)) stand
       (subst (λ n. ReplicaStands s.buffer n (g r) (opened_over s (map f v.items))) (sym (length-map rs g)) here))
-
--- ---- nodes
-
-pub node_more : {A : Type 0} (g : A → NodeState) (rs rs' : List A) (r : A) → rs' ≡ rs ++ r ∷ [] → AreNodes (map g rs) → IsNode (g r) → AreNodes (map g rs')
-node_more g rs rs' r more fit here = record {
-  each = λ k other low. elim (cases_lt k (length (map g rs))) [
-    | inl lt ↦ rw (more, map-append g rs (r ∷ []), get_or_append_left (map g rs) (g r ∷ []) other k lt) (fit.each k other lt)
-    | inr le ↦
-        let last : k ≡ length (map g rs) = omega (arith, low, le, ap length more, length-append rs (r ∷ []), length-map rs g, length-map rs' g) in
-        rw (more, map-append g rs (r ∷ []), last, get_or-append_seam (map g rs) (g r) [] other) here
-  ];
-}

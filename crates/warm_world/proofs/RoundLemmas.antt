@@ -4,48 +4,46 @@ use Rattle.std.specs.Prelude.{◌==◌, slice_index_or}
 use Rattle.std.specs.List.{AllByRecursion}
 use Rattle.std.proofs.lemmas.Bool.{cases_eq}
 use Rattle.std.proofs.lemmas.List.{append-nil, length-append, length-map, map-append, get_or-set_same, get_or-set_other, get_or-append-add}
-use Rattle.warm_history.specs.ReferenceSets.{ReferenceSet}
+use Rattle.warm_history.specs.ReferenceSets.{ReferenceSet, these, since}
 use Rattle.warm_history.specs.Histories.{HistoryView, entries_of, history, join}
-use Rattle.warm_history.proofs.HistoryLemmas.{IsHistory-history}
+use Rattle.warm_history.proofs.HistoryLemmas.{IsHistory-history, horizon-history}
 use Rattle.warm_history.proofs.JoinLemmas.{join_repeats}
 use Rattle.warm_frames.specs.declared.frame.Frame.{Frame}
-use Rattle.warm_frames.specs.declared.frame.Frame.TheVariants.{Want}
+use Rattle.warm_frames.specs.declared.frame.Frame.TheVariants.{Digest}
 use Rattle.warm_digest.specs.BucketSums.{sums_of}
 use Rattle.warm_digest.specs.Exchange.{Fits, IsCollision}
-use Rattle.warm_gossip.specs.Answers.{wanted_frames, IsAnswer, taught}
+use Rattle.warm_gossip.specs.Answers.{wanted_frames, AnswersSums, IsAnswer, taught}
 use Rattle.warm_gossip.specs.Round.{Hears, offer}
 use Rattle.warm_gossip.specs.Round as node
 use Rattle.warm_gossip.proofs.RoundLemmas.{own_sums_unanswered, entries_teach}
 use Rattle.warm_gossip.proofs.RoundLemmas as node_rounds
 use Rattle.warm_world.specs.declared.event.Event.TheVariants.{Offer, Deliver}
 use Rattle.warm_world.specs.declared.event.Answer.{Answer}
-use Rattle.warm_world.specs.declared.event.Answer.TheVariants.{Done, Shown, FrameNo, Took, Pinned, Bytes, Page, Pages, Loaded, Refused}
+use Rattle.warm_world.specs.declared.event.Answer.TheVariants.{Done, Shown, FrameNo, Took, Pinned, Bytes, Page, Pages, Loaded, Kept, Refused}
 use Rattle.warm_world.specs.Lists.{place}
 use Rattle.warm_world.specs.States.{ModelState, FrameRecord, References, Sums, Mask, ReplicaState, add_records, nobody, replica, reach_of, record_at}
 use Rattle.warm_world.specs.Answered.{wanted_records, AreAnswers, heard}
 use Rattle.warm_world.specs.Next.{Next, Run, Delivered, IsNamed, shape}
 use Rattle.warm_world.specs.Stands.{frame_kept}
-use Rattle.warm_world.proofs.Histories.{taught_heard, wanted_kept}
+use Rattle.warm_gossip.proofs.Ranks.{raised_to_no_later}
+use Rattle.std.proofs.Math.Nat.{le_refl}
+use Rattle.warm_world.proofs.Histories.{asking_or_none, taught_heard, wanted_kept}
 use Rattle.warm_world.proofs.WidthLemmas.{histories_fit}
 use Rattle.warm_world.specs.Rounds.{IsTaken, NoneRefused, deliveries, new_frames_to, GossipRound, known_to, AreJoined, GossipRoundJoins}
 
 -- ---- the records of an answer, as the frames that a node answers
 
-asking_kept : (i : ℕ) (S : ReferenceSet) (mask : ℕ) → map frame_kept (wanted_records i S mask ++ Mask i mask ∷ []) ≡ wanted_frames i (history S) mask ++ Want i mask ∷ []
-asking_kept i S mask =
-    map-append frame_kept (wanted_records i S mask) (Mask i mask ∷ [])
-    ∙ ap (λ (fs : List Frame). fs ++ Want i mask ∷ []) (sym (wanted_kept i S mask))
-
-asking_or_none : (i : ℕ) (S : ReferenceSet) (mask : ℕ) (none : Bool)
-    → map frame_kept (if none then [] else wanted_records i S mask ++ Mask i mask ∷ []) ≡ if none then [] else wanted_frames i (history S) mask ++ Want i mask ∷ []
-asking_or_none i S mask true = refl
-asking_or_none i S mask false = asking_kept i S mask
-
 -- the answers of the model are answers of the node
-pub answers_kept : (i : ℕ) (S : ReferenceSet) (kept : FrameRecord) (added : List FrameRecord) → AreAnswers i S kept added → IsAnswer i (history S) (frame_kept kept) (map frame_kept added)
+pub answers_kept : (i : ℕ) (S : ReferenceSet) (kept : FrameRecord) (added : List FrameRecord) → AreAnswers i (heard S kept) kept added → IsAnswer i (history S) (frame_kept kept) (map frame_kept added)
 answers_kept i S (References sender refs) added is = ap (map frame_kept) is
-answers_kept i S (Mask sender mask) added is = ap (map frame_kept) is ∙ sym (wanted_kept i S mask)
-answers_kept i S (Sums sender sums) added is = (is.0, is.1, is.2, ap (map frame_kept) is.3 ∙ asking_or_none i S is.0 (is.0 == 0))
+answers_kept i S (Mask sender horizon mask) added is =
+    let kept = Mask sender horizon mask in
+    ap (map frame_kept) is ∙ sym (wanted_kept i (heard S kept) mask) ∙ ap (λ (h : HistoryView). wanted_frames i h mask) (sym (taught_heard S kept))
+answers_kept i S (Sums sender horizon sums) added is =
+    let kept = Sums sender horizon sums in
+    let here : AnswersSums i (history (heard S kept)) sums (map frame_kept added) =
+    (is.0, is.1, is.2, ap (map frame_kept) is.3 ∙ sym (asking_or_none i (heard S kept) is.0 (is.0 == 0))) in
+    subst (λ (h : HistoryView). AnswersSums i h sums (map frame_kept added)) (sym (taught_heard S kept)) here
 
 -- ---- one delivery
 
@@ -67,15 +65,16 @@ delivery old j k (Bytes bytes) new taken next = absurd next.1
 delivery old j k (Page page) new taken next = absurd next.1
 delivery old j k (Pages pages) new taken next = absurd next.1
 delivery old j k (Loaded page) new taken next = absurd next.1
+delivery old j k (Kept horizon) new taken next = absurd next.1
 
 abbrev nth : List FrameRecord → ℕ → FrameRecord
-nth records k = slice_index_or records k (References 0 [])
+nth records k = slice_index_or records k (References 0 (these []))
 
 -- the record after the first ones
 next_record : (records before : List FrameRecord) (kept : FrameRecord) (after : List FrameRecord) → records ≡ before ++ kept ∷ after → nth records (place (length before + 1)) ≡ kept
 next_record records before kept after is =
     let at : place (length before + 1) ≡ length before + 0 = omega arith in
-    ap (nth records) at ∙ ap (λ (all : List FrameRecord). nth all (length before + 0)) is ∙ get_or-append-add before (kept ∷ after) 0 (References 0 [])
+    ap (nth records) at ∙ ap (λ (all : List FrameRecord). nth all (length before + 0)) is ∙ get_or-append-add before (kept ∷ after) 0 (References 0 (these []))
 
 -- what a delivery does to what reached the replicas, and to the records
 record IsHeard (j : ℕ) (kept : FrameRecord) (added : List FrameRecord) (old new : ModelState) : Type 0 where
@@ -153,7 +152,11 @@ hears_new j fs before after new is come =
 -- ---- the offer
 
 abbrev offer_record : ModelState → ℕ → FrameRecord
-offer_record m i = Sums i (sums_of (entries_of (known_to m i)))
+offer_record m i = Sums i (reach_of m i).horizon (sums_of (entries_of (known_to m i)))
+
+-- it is the offer of the node
+offer_is : (m : ModelState) (i : ℕ) → frame_kept (offer_record m i) ≡ offer i (known_to m i)
+offer_is m i = ap (λ (horizon : ℕ). Digest i horizon (sums_of (entries_of (known_to m i)))) (sym (horizon-history (reach_of m i)))
 
 offer_kept : (old : ModelState) (i : ℕ) (answer : Answer) (new : ModelState) → IsTaken answer → Next old (Offer i) answer new → new ≡ add_records old (offer_record old i ∷ [])
 offer_kept old i (FrameNo k) new taken next = next.1.1
@@ -166,6 +169,7 @@ offer_kept old i (Bytes bytes) new taken next = absurd next.1
 offer_kept old i (Page page) new taken next = absurd next.1
 offer_kept old i (Pages pages) new taken next = absurd next.1
 offer_kept old i (Loaded page) new taken next = absurd next.1
+offer_kept old i (Kept horizon) new taken next = absurd next.1
 
 offered_is : (old : ModelState) (i : ℕ) (answers : List Answer) (new : ModelState) → Run old (Offer i ∷ []) answers new → AllByRecursion IsTaken answers → new ≡ add_records old (offer_record old i ∷ [])
 offered_is old i [] new run taken = absurd run
@@ -185,12 +189,16 @@ hears_nothing j fs old new none all =
     subst (λ (rs : List FrameRecord). Hears j (known_to old j) (map frame_kept rs) (map frame_kept all.added) (known_to new j)) none all.hears in
     (none_mapped all.added hears.0, hears.1)
 
-round_joins : (i j : ℕ) (old new : ModelState) → Fits (known_to old i) → Fits (known_to old j) → GossipRound i j old new → AreJoined i j old new ⊎ IsCollision (known_to old i) (known_to old j)
+-- what the second replica knows once the offer came
+abbrev pub raised_by : ℕ → ℕ → ModelState → HistoryView
+raised_by i j m = history (since (reach_of m i).horizon (reach_of m j))
+
+round_joins : (i j : ℕ) (old new : ModelState) → Fits (known_to old i) → Fits (known_to old j) → (round : GossipRound i j old new) → AreJoined round ⊎ IsCollision (known_to old i) (raised_by i j old)
 round_joins i j old new fits others round = elim (cases_eq (place i) (place j)) [
   | inl same ↦ inl (own same)
   | inr other ↦ elim (node_rounds.gossip_round_joins i j h g (known_to new i) (known_to new j) (IsHistory-history (reach_of old i)) (IsHistory-history (reach_of old j)) fits others (between other)) [
-    | inl both ↦ inl (record { first = both.0; second = both.1 })
-    | inr collision ↦ inr collision
+    | inl both ↦ inl (record { first = both.0; second = both.1; raised = λ more. both.2 (λ none. more (no_more (none_mapped first.added none))) })
+    | inr collision ↦ inr (subst (IsCollision h) taught_it collision)
   ]
 ]
   where
@@ -199,6 +207,10 @@ round_joins i j old new fits others round = elim (cases_eq (place i) (place j)) 
 
     g : HistoryView
     g = known_to old j
+
+    -- the offer teaches its horizon
+    taught_it : taught g (offer i h) ≡ raised_by i j old
+    taught_it = ap (taught g) (sym (offer_is old i)) ∙ taught_heard (reach_of old j) (offer_record old i)
 
     offered_it : round.offered ≡ add_records old (offer_record old i ∷ [])
     offered_it = offered_is old i round.offers.answers round.offered round.offers.run round.offers.taken
@@ -215,21 +227,30 @@ round_joins i j old new fits others round = elim (cases_eq (place i) (place j)) 
     third : HeardAll j second.added round.given new
     third = hears_new j second.added round.asked round.given new second.records round.ends
 
-    -- what j answers to the sums of h, and that these taught it nothing
+    no_more : first.added ≡ [] → round.asked.records ≡ round.offered.records
+    no_more none = first.records ∙ ap (λ (rs : List FrameRecord). round.offered.records ++ rs) none ∙ append-nil round.offered.records
+
+    -- what j hears of the offer
+    offer_heard : Hears j g (offer i h ∷ []) (map frame_kept first.added) (known_to round.asked j)
+    offer_heard =
+        subst (λ (k : HistoryView). Hears j k (offer i h ∷ []) (map frame_kept first.added) (known_to round.asked j)) (knew j)
+        (subst (λ (f : Frame). Hears j (known_to round.offered j) (f ∷ []) (map frame_kept first.added) (known_to round.asked j)) (offer_is old i) first.hears)
+
+    -- what j answers to the digests of h, and that these taught it their horizon alone
     answered : IsAnswer j g (offer i h) (map frame_kept first.added)
     answered =
-        let whole : first.hears.0 ≡ map frame_kept first.added = sym (first.hears.4 ∙ ap (λ (fs : List Frame). first.hears.0 ++ fs) first.hears.3.0 ∙ append-nil first.hears.0) in
-        subst (λ (k : HistoryView). IsAnswer j k (offer i h) (map frame_kept first.added)) (knew j) (subst (IsAnswer j (known_to round.offered j) (offer i h)) whole first.hears.2)
+        let whole : offer_heard.0 ≡ map frame_kept first.added = sym (offer_heard.4 ∙ ap (λ (fs : List Frame). offer_heard.0 ++ fs) offer_heard.3.0 ∙ append-nil offer_heard.0) in
+        subst (IsAnswer j g (offer i h)) whole offer_heard.2
 
-    knows : known_to round.asked j ≡ g
-    knows = first.hears.3.1 ∙ knew j
+    knows : known_to round.asked j ≡ taught g (offer i h)
+    knows = offer_heard.3.1
 
     between : place i ≢ place j → node.GossipRound i j h g (known_to new i) (known_to new j)
     between other =
         let back : place j ≢ place i = λ same. other (sym same) in
         let before : known_to round.asked i ≡ h = ap history (first.others i other) ∙ knew i in
         let after : known_to round.given i ≡ known_to new i = sym (ap history (third.others i other)) in
-        let kept : known_to round.given j ≡ g = ap history (second.others j back) ∙ knows in
+        let kept : known_to round.given j ≡ taught g (offer i h) = ap history (second.others j back) ∙ knows in
         let heard_it : Hears i h (map frame_kept first.added) (map frame_kept second.added) (known_to new i) =
         subst (Hears i h (map frame_kept first.added) (map frame_kept second.added)) after
         (subst (λ (k : HistoryView). Hears i k (map frame_kept first.added) (map frame_kept second.added) (known_to round.given i)) before second.hears) in
@@ -243,16 +264,19 @@ round_joins i j old new fits others round = elim (cases_eq (place i) (place j)) 
         }
 
     -- a replica that gossips with itself hears of nothing
-    own : place i ≡ place j → AreJoined i j old new
+    own : place i ≡ place j → AreJoined round
     own same =
         let one : (m : ModelState) → known_to m i ≡ known_to m j = λ m. ap (λ (k : ℕ). history (replica m k).reach) same in
+        let whole = IsHistory-history (reach_of old i) in
         let none : first.added ≡ [] =
-        none_mapped first.added (own_sums_unanswered i j h (map frame_kept first.added) (subst (λ (k : HistoryView). IsAnswer j k (offer i h) (map frame_kept first.added)) (sym (one old)) answered)) in
+        none_mapped first.added (own_sums_unanswered i j h (map frame_kept first.added) whole (subst (λ (k : HistoryView). IsAnswer j k (offer i h) (map frame_kept first.added)) (sym (one old)) answered)) in
         let then_i = hears_nothing i first.added round.asked round.given none second in
         let then_j = hears_nothing j second.added round.given new then_i.0 third in
-        let unchanged : known_to new j ≡ g = then_j.1 ∙ sym (one round.given) ∙ then_i.1 ∙ one round.asked ∙ knows in
+        let still : known_to round.asked j ≡ g = knows ∙ ap (λ (k : HistoryView). taught k (offer i h)) (sym (one old)) ∙ raised_to_no_later h h.horizon whole (le_refl h.horizon) ∙ one old in
+        let unchanged : known_to new j ≡ g = then_j.1 ∙ sym (one round.given) ∙ then_i.1 ∙ one round.asked ∙ still in
         let joins : join h g ≡ g = ap (λ (k : HistoryView). join k g) (one old) ∙ join_repeats g (IsHistory-history (reach_of old j)) in
-        record { first = one new ∙ unchanged ∙ sym joins; second = unchanged ∙ sym joins }
+        let both : known_to new i ≡ join h g = one new ∙ unchanged ∙ sym joins in
+        record { first = ap entries_of both; second = unchanged ∙ sym joins; raised = λ more. both }
 
 pub gossip_round_joins : GossipRoundJoins
 gossip_round_joins i j old new fits round = round_joins i j old new (histories_fit old i fits) (histories_fit old j fits) round

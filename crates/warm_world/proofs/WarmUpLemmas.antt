@@ -16,10 +16,10 @@ use Rattle.warm_gossip.proofs.WarmUpLemmas.{pages_differ}
 use Rattle.warm_gossip.proofs.WarmUpLemmas as node_warm_ups
 use Rattle.warm_world.specs.declared.event.Event.TheVariants.{WarmStep}
 use Rattle.warm_world.specs.declared.event.Answer.{Answer}
-use Rattle.warm_world.specs.declared.event.Answer.TheVariants.{Done, Shown, FrameNo, Took, Pinned, Bytes, Page, Pages, Loaded, Refused}
+use Rattle.warm_world.specs.declared.event.Answer.TheVariants.{Done, Shown, FrameNo, Took, Pinned, Bytes, Page, Pages, Loaded, Kept, Refused}
 use Rattle.warm_world.specs.Lists.{place}
 use Rattle.warm_world.specs.States.{ModelState, ReplicaState, nobody, no_pool, node_of, pool_of, reach_of, replica, set_pool}
-use Rattle.warm_world.specs.Seen.{AreNodes, ReplicaSeen, WorldSeen}
+use Rattle.warm_world.specs.Seen.{ReplicaSeen, WorldSeen}
 use Rattle.warm_world.specs.Next.{Asked, IsNamed, Next, Run, shape}
 use Rattle.warm_world.specs.Stands.{ReplicaStands, StandsFor}
 use Rattle.warm_world.specs.Rounds.{IsTaken}
@@ -43,6 +43,7 @@ warm_step old i (Took count first) new taken next = absurd next.1
 warm_step old i (Pinned slot) new taken next = absurd next.1
 warm_step old i (Bytes bytes) new taken next = absurd next.1
 warm_step old i (Page page) new taken next = absurd next.1
+warm_step old i (Kept horizon) new taken next = absurd next.1
 warm_step old i (Pages pages) new taken next = absurd next.1
 
 -- it is a step of the replica's node

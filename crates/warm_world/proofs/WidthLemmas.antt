@@ -1,5 +1,5 @@
 -- Numbers stay within their widths.
-use Rattle.std.proofs.Common.{◌≡◌, ℕ, zero, suc, ◌≤◌, Bool, true, false, List, [], ◌∷◌, ◌++◌, length, map, Option, Some, None, sym, subst, arith, flat_map, if◌then◌else◌}
+use Rattle.std.proofs.Common.{◌≡◌, ℕ, zero, suc, ◌≤◌, ◌<◌, ◌^◌, max, Bool, true, false, List, [], ◌∷◌, ◌++◌, length, map, Option, Some, None, sym, subst, arith, flat_map, if◌then◌else◌}
 use Rattle.std.specs.Prelude.{◌==◌, nat_le, replicate, slice_index_or, slice_set}
 use Rattle.std.specs.List.{AllByRecursion, cons_option}
 use Rattle.std.specs.Option.{option_map}
@@ -13,14 +13,17 @@ use Rattle.warm_stamps.specs.declared.TheConstants.{MAX_REPLICAS}
 use Rattle.warm_stamps.specs.Bytes.{IsPage, IsStamp}
 use Rattle.warm_stamps.specs.Stamps.{stamp_cmp, page_cmp}
 use Rattle.warm_stamps.specs.Distinct.{insert_distinct, distinct, IsRising}
-use Rattle.warm_stamps.proofs.DistinctLemmas.{by_cases, all_filter, distinct_rises}
+use Rattle.warm_stamps.proofs.DistinctLemmas.{by_cases, all_append, all_filter, distinct_rises}
 use Rattle.warm_stamps.proofs.StampLemmas.{stamp_order, IsStrictOrder-flip}
 use Rattle.warm_history.specs.declared.hist.PageHist.{PageHist}
 use Rattle.warm_history.specs.declared.hist.Entry.{Entry}
-use Rattle.warm_history.specs.ReferenceSets.{ReferenceSet}
+use Rattle.warm_history.specs.ReferenceSets.{ReferenceSet, is_kept, references, these, ◌∪◌}
 use Rattle.warm_history.specs.Histories.{references_to, stamps, first_two, hist, pages, history}
-use Rattle.warm_history.specs.Carried.{carried}
-use Rattle.warm_history.proofs.HistoryLemmas.{entries, told}
+use Rattle.warm_history.specs.Carried.{carried, pages_carried}
+use Rattle.std.specs.List.{list_any}
+use Rattle.warm_history.proofs.CarriedLemmas.{references-those}
+use Rattle.warm_history.proofs.HistoryLemmas.{references-both}
+use Rattle.warm_history.proofs.ListHistoryLemmas.{entries}
 use Rattle.warm_frames.specs.declared.entries.TheConstants.{MAX_ENTRIES}
 use Rattle.warm_frames.specs.Entries.{IsEntry, IsHist}
 use Rattle.warm_digest.specs.Exchange.{Fits}
@@ -30,21 +33,17 @@ use Rattle.warm_gossip.specs.Pieces.{last_page}
 use Rattle.warm_gossip.specs.declared.fault.NodeFault.{NodeFault}
 use Rattle.warm_gossip.specs.declared.fault.NodeFault.TheVariants.{Memory}
 use Rattle.warm_world.specs.declared.event.Event.{Event}
-use Rattle.warm_world.specs.declared.event.Event.TheVariants.{Refer, Flush, Send, Offer, Deliver, Pin, Unpin, Put, Get, Victim, Warm, WarmStep, Restart, Show}
+use Rattle.warm_world.specs.declared.event.Event.TheVariants.{Refer, Flush, Send, Offer, Deliver, Pin, Unpin, Put, Get, Victim, Warm, WarmStep, Restart, Horizon, Show}
 use Rattle.warm_world.specs.declared.event.Answer.{Answer}
-use Rattle.warm_world.specs.declared.event.Answer.TheVariants.{Done, Shown, FrameNo, Took, Pinned, Bytes, Page, Pages, Loaded, Refused}
+use Rattle.warm_world.specs.declared.event.Answer.TheVariants.{Done, Shown, FrameNo, Took, Pinned, Bytes, Page, Pages, Loaded, Kept, Refused}
 use Rattle.warm_world.specs.declared.event.WorldFault.TheVariants.{Node, NoSuchReplica, NoSuchWorker, NoSuchFrame}
 use Rattle.warm_world.specs.Lists.{place}
-use Rattle.warm_world.specs.States.{ModelState, ReplicaState, FrameRecord, References, Sums, Mask, nobody, replica, reach_of, set_replica, set_pool, record_at, add_records, pending, flushed, put_last, referred, restarted, opened_over}
-use Rattle.warm_world.specs.Answered.{records_of, bucket_records, wanted_records, AreAnswers, heard}
+use Rattle.warm_world.specs.States.{ModelState, ReplicaState, FrameRecord, References, Sums, Mask, nobody, replica, reach_of, set_replica, set_pool, record_at, add_records, pending, flushed, put_last, raised, referred, restarted, opened_over}
+use Rattle.warm_world.specs.Answered.{records_of, bucket_records, wanted_records, AreAnswers, heard, refs_of}
 use Rattle.warm_world.specs.Next.{Next, Delivered, Effect, Refuses, IsNamed, shape, stamped}
-use Rattle.warm_world.specs.Widths.{IsReference, AreReferences, EventFits, ReplicaFits, RecordFits, ModelFits, OpeningFits, RunsFit, HistoriesFit}
+use Rattle.warm_world.specs.Widths.{IsReference, AreReferences, EventFits, ReachFits, ReplicaFits, RecordFits, ModelFits, OpeningFits, RunsFit, HistoriesFit}
 
 -- ---- lists
-
-all_append : {A : Type 0} (P : A → Type 0) (xs ys : List A) → AllByRecursion P xs → AllByRecursion P ys → AllByRecursion P (xs ++ ys)
-all_append P [] ys first second = second
-all_append P (x ∷ xs) ys first second = (first.0, all_append P xs ys first.1 second)
 
 all_get : {A : Type 0} (P : A → Type 0) (xs : List A) (k : ℕ) (d : A) → AllByRecursion P xs → P d → P (slice_index_or xs k d)
 all_get P [] k d all own = own
@@ -95,11 +94,12 @@ first_two_fit [] falls all = tt
 first_two_fit (a ∷ []) falls all = all.0
 first_two_fit (a ∷ b ∷ ss) falls all = (all.0, all.1.0, falls.0.0)
 
-hist_fits : (S : List Reference) (p : PageId) → AreReferences S → FitsIfAny (hist S p)
+hist_fits : (S : ReferenceSet) (p : PageId) → AreReferences (references S) → FitsIfAny (hist S p)
 hist_fits S p all =
     let falls = flip_args stamp_cmp in
-    first_two_fit (stamps S p) (distinct_rises falls (IsStrictOrder-flip stamp_cmp stamp_order) (told S p))
-    (all_distinct IsStamp falls (told S p) (all_stamps (references_to S p) (all_filter IsReference (λ r. is_eq (page_cmp r.page p)) S all)))
+    let told = map (λ (r : Reference). r.stamp) (references_to S p) in
+    first_two_fit (stamps S p) (distinct_rises falls (IsStrictOrder-flip stamp_cmp stamp_order) told)
+    (all_distinct IsStamp falls told (all_stamps (references_to S p) (all_filter IsReference (λ r. is_eq (page_cmp r.page p)) (references S) all)))
 
 entries_fit : (f : PageId → Option PageHist) (ps : List PageId) → ((p : PageId) → FitsIfAny (f p)) → AllByRecursion IsPage ps → AllByRecursion IsEntry (entries f ps)
 entries_fit f [] each all = tt
@@ -108,18 +108,31 @@ entries_fit f (p ∷ ps) each all = elim (f p) as (λ x. FitsIfAny x → AllByRe
   | Some h ↦ λ fit. (record { page = all.0; hist = fit }, entries_fit f ps each all.1)
 ] (each p)
 
-history_fits : (S : ReferenceSet) → AreReferences S → Fits (history S)
+history_fits : (S : ReferenceSet) → AreReferences (references S) → Fits (history S)
 unfolding history
-history_fits S all = entries_fit (hist S) (pages S) (λ p. hist_fits S p all) (all_distinct IsPage page_cmp (map (λ (r : Reference). r.page) S) (all_pages S all))
+history_fits S all = entries_fit (hist S) (pages S) (λ p. hist_fits S p all) (all_distinct IsPage page_cmp (map (λ (r : Reference). r.page) (references S)) (all_pages (references S) all))
+
+-- ---- reference sets that fit
+
+-- a list of references that fit, none of them forgotten
+these_fit : (rs : List Reference) → AreReferences rs → ReachFits (these rs)
+these_fit rs all = record { horizon = omega arith; references = all_filter IsReference (λ r. is_kept 0 r.stamp) rs all }
+
+both_fit : (S T : ReferenceSet) → ReachFits S → ReachFits T → ReachFits (S ∪ T)
+both_fit S T first second = record {
+  horizon = omega (arith, first.horizon, second.horizon);
+  references = rw (references-both S T) (all_filter IsReference (λ r. is_kept (max S.horizon T.horizon) r.stamp) (references S ++ references T)
+      (all_append IsReference (references S) (references T) first.references second.references));
+}
 
 nobody_fits : ReplicaFits nobody
-nobody_fits = record { reached = tt; waiting = tt }
+nobody_fits = record { reached = these_fit [] tt; waiting = tt }
 
 replica_fits : (m : ModelState) (k : ℕ) → ModelFits m → ReplicaFits (replica m k)
 replica_fits m k fits = all_get ReplicaFits m.replicas k nobody fits.replicas nobody_fits
 
 pub histories_fit : HistoriesFit
-histories_fit m i fits = history_fits (reach_of m i) (replica_fits m (place i) fits).reached
+histories_fit m i fits = history_fits (reach_of m i) (replica_fits m (place i) fits).reached.references
 
 -- ---- what each event makes
 
@@ -147,7 +160,7 @@ pending_fits r k fits = all_get AreReferences r.pending k [] fits.waiting tt
 
 flushed_fits : (k : ℕ) (r : ReplicaState) → ReplicaFits r → ReplicaFits (flushed k r)
 flushed_fits k r fits = record {
-  reached = all_append IsReference r.reach (pending r k) fits.reached (pending_fits r k fits);
+  reached = both_fit r.reach (these (pending r k)) fits.reached (these_fit (pending r k) (pending_fits r k fits));
   waiting = all_set AreReferences r.pending k [] fits.waiting tt;
 }
 
@@ -164,48 +177,54 @@ referred_fits room k x r own fits = elim (nat_le room (length (pending r k))) as
 ]
 
 restarted_fits : (pool : PoolView) (r : ReplicaState) → ReplicaFits (restarted pool r)
-restarted_fits pool r = record { reached = tt; waiting = all_map AreReferences (λ _. []) r.pending (λ _. tt) }
+restarted_fits pool r = record { reached = these_fit [] tt; waiting = all_map AreReferences (λ _. []) r.pending (λ _. tt) }
+
+raised_fits : (time : ℕ) (r : ReplicaState) → time < 2 ^ 64 → ReplicaFits r → ReplicaFits (raised time r)
+raised_fits time r low fits = record {
+  reached = both_fit r.reach (record { horizon = time; told = [] }) fits.reached (record { horizon = low; references = tt });
+  waiting = fits.waiting;
+}
 
 -- ---- answered records
 
-carried_fits : (S : ReferenceSet) (bucket : ℕ) (after : Option PageId) → AreReferences S → AreReferences (carried S bucket after MAX_ENTRIES)
-carried_fits S bucket after all = all_filter IsReference _ S all
+carried_fits : (S : ReferenceSet) (bucket : ℕ) (after : Option PageId) → ReachFits S → ReachFits (carried S bucket after MAX_ENTRIES)
+carried_fits S bucket after all = record {
+  horizon = all.horizon;
+  references = rw (references-those (λ r. list_any (λ p. is_eq (page_cmp p r.page)) (pages_carried S bucket after MAX_ENTRIES)) S) (all_filter IsReference _ (references S) all.references);
+}
 
-records_fit : (i : ℕ) (S : ReferenceSet) (bucket : ℕ) (after : Option PageId) (parts : List (List Entry)) → AreReferences S → AllByRecursion RecordFits (records_of i S bucket after parts)
+records_fit : (i : ℕ) (S : ReferenceSet) (bucket : ℕ) (after : Option PageId) (parts : List (List Entry)) → ReachFits S → AllByRecursion RecordFits (records_of i S bucket after parts)
 records_fit i S bucket after [] all = tt
 records_fit i S bucket after (part ∷ parts) all = (carried_fits S bucket after all, records_fit i S bucket (last_page part) parts all)
 
-buckets_fit : (i : ℕ) (S : ReferenceSet) (buckets : List ℕ) → AreReferences S → AllByRecursion RecordFits (flat_map (bucket_records i S) buckets)
+buckets_fit : (i : ℕ) (S : ReferenceSet) (buckets : List ℕ) → ReachFits S → AllByRecursion RecordFits (flat_map (bucket_records i S) buckets)
 buckets_fit i S [] all = tt
 buckets_fit i S (bucket ∷ buckets) all =
     all_append RecordFits (bucket_records i S bucket) (flat_map (bucket_records i S) buckets) (records_fit i S bucket None _ all) (buckets_fit i S buckets all)
 
-wanted_fit : (i : ℕ) (S : ReferenceSet) (mask : ℕ) → AreReferences S → AllByRecursion RecordFits (wanted_records i S mask)
+wanted_fit : (i : ℕ) (S : ReferenceSet) (mask : ℕ) → ReachFits S → AllByRecursion RecordFits (wanted_records i S mask)
 wanted_fit i S mask all = buckets_fit i S (buckets_in mask) all
 
-asking_fits : (i : ℕ) (S : ReferenceSet) (mask : ℕ) (none : Bool) → AreReferences S → AllByRecursion RecordFits (if none then [] else wanted_records i S mask ++ Mask i mask ∷ [])
+asking_fits : (i : ℕ) (S : ReferenceSet) (mask : ℕ) (none : Bool) → ReachFits S → AllByRecursion RecordFits (if none then [] else wanted_records i S mask ++ Mask i S.horizon mask ∷ [])
 asking_fits i S mask true all = tt
-asking_fits i S mask false all = all_append RecordFits (wanted_records i S mask) (Mask i mask ∷ []) (wanted_fit i S mask all) (tt, tt)
+asking_fits i S mask false all =
+    all_append RecordFits (wanted_records i S mask) (Mask i S.horizon mask ∷ []) (wanted_fit i S mask all) (record { horizon = all.horizon; references = tt }, tt)
 
-answers_fit : (i : ℕ) (S : ReferenceSet) (kept : FrameRecord) (added : List FrameRecord) → AreReferences S → AreAnswers i S kept added → AllByRecursion RecordFits added
+answers_fit : (i : ℕ) (S : ReferenceSet) (kept : FrameRecord) (added : List FrameRecord) → ReachFits S → AreAnswers i S kept added → AllByRecursion RecordFits added
 answers_fit i S (References sender refs) added all is = subst (AllByRecursion RecordFits) (sym is) tt
-answers_fit i S (Mask sender mask) added all is = subst (AllByRecursion RecordFits) (sym is) (wanted_fit i S mask all)
-answers_fit i S (Sums sender sums) added all is = subst (AllByRecursion RecordFits) (sym is.3) (asking_fits i S is.0 (is.0 == 0) all)
-
-heard_fits : (S : ReferenceSet) (kept : FrameRecord) → AreReferences S → RecordFits kept → AreReferences (heard S kept)
-heard_fits S (References sender refs) all own = all_append IsReference S refs all own
-heard_fits S (Sums sender sums) all own = all
-heard_fits S (Mask sender mask) all own = all
+answers_fit i S (Mask sender horizon mask) added all is = subst (AllByRecursion RecordFits) (sym is) (wanted_fit i S mask all)
+answers_fit i S (Sums sender horizon sums) added all is = subst (AllByRecursion RecordFits) (sym is.3) (asking_fits i S is.0 (is.0 == 0) all)
 
 delivered_fits : (old : ModelState) (j k count first : ℕ) (new : ModelState) → ModelFits old → Delivered old j (record_at old k) count first new → ModelFits new
 delivered_fits old j k count first new fits done =
     let own : ReplicaFits (replica old (place j)) = replica_fits old (place j) fits in
     let kept : FrameRecord = record_at old k in
-    let brings : RecordFits kept = all_get RecordFits old.records k (References 0 []) fits.records tt in
+    let brings : RecordFits kept = all_get RecordFits old.records k (References 0 (these [])) fits.records (these_fit [] tt) in
     let next : ReplicaState = record (replica old (place j)) { reach = heard (reach_of old j) kept } in
-    let told_it : ReplicaFits next = record { reached = heard_fits (reach_of old j) kept own.reached brings; waiting = own.waiting } in
+    let after : ReachFits (heard (reach_of old j) kept) = both_fit (reach_of old j) (refs_of kept) own.reached brings in
+    let told_it : ReplicaFits next = record { reached = after; waiting = own.waiting } in
     subst ModelFits (sym done.becomes) (records_added (set_replica old (place j) next) done.added
-    (replica_set old (place j) next fits told_it) (answers_fit j (reach_of old j) kept done.added own.reached done.answers))
+    (replica_set old (place j) next fits told_it) (answers_fit j (heard (reach_of old j) kept) kept done.added after done.answers))
 
 -- ---- each event, and each run
 
@@ -218,6 +237,7 @@ refused_fits old (Unpin i slot) why new fits r = same_fits _ new r.2 (pool_set o
 refused_fits old (Put i slot at bytes) why new fits r = same_fits _ new r.2 (pool_set old i r.0 fits)
 refused_fits old (Get i slot at len) why new fits r = same_fits _ new r.2 (pool_set old i r.0 fits)
 refused_fits old (Victim i) why new fits r = absurd r
+refused_fits old (Horizon i time) why new fits r = absurd r
 refused_fits old (WarmStep i) why new fits r = same_fits _ new r.2 (pool_set old i r.0 fits)
 refused_fits old (Restart i) why new fits r = same_fits _ new r.2 (pool_set old i r.0 fits)
 refused_fits old (Refer i w page time) Memory new fits r = same_fits old new r.1 fits
@@ -246,7 +266,7 @@ effect_fits old (Flush i w) _ new fits own named done = absurd done
 effect_fits old (Send i bucket after) (FrameNo k) new fits own named done =
     same_fits _ new done.1 (records_added old _ fits (carried_fits (reach_of old i) bucket after (replica_fits old (place i) fits).reached, tt))
 effect_fits old (Send i bucket after) _ new fits own named done = absurd done
-effect_fits old (Offer i) (FrameNo k) new fits own named done = same_fits _ new done.1 (records_added old _ fits (tt, tt))
+effect_fits old (Offer i) (FrameNo k) new fits own named done = same_fits _ new done.1 (records_added old _ fits (record { horizon = (replica_fits old (place i) fits).reached.horizon; references = tt }, tt))
 effect_fits old (Offer i) _ new fits own named done = absurd done
 effect_fits old (Deliver j k) (Took count first) new fits own named done = delivered_fits old j (place k) count first new fits done
 effect_fits old (Deliver j k) _ new fits own named done = absurd done
@@ -266,6 +286,9 @@ effect_fits old (Warm i n) (Pages pages) new fits own named done = same_fits old
 effect_fits old (Warm i n) _ new fits own named done = absurd done
 effect_fits old (Restart i) Done new fits own named done = same_fits _ new done.2 (replica_set old (place i) _ fits (restarted_fits done.0 (replica old (place i))))
 effect_fits old (Restart i) _ new fits own named done = absurd done
+effect_fits old (Horizon i time) (Kept horizon) new fits own named done =
+    same_fits _ new done.1 (replica_set old (place i) _ fits (raised_fits time (replica old (place i)) own (replica_fits old (place i) fits)))
+effect_fits old (Horizon i time) _ new fits own named done = absurd done
 effect_fits old (Show i) (Shown entries) new fits own named done = same_fits old new done.1 fits
 effect_fits old (Show i) _ new fits own named done = absurd done
 
@@ -283,6 +306,7 @@ step_fits old event (Bytes bytes) new fits own next = effect_fits old event (Byt
 step_fits old event (Page page) new fits own next = effect_fits old event (Page page) new fits own next.0 next.1
 step_fits old event (Pages pages) new fits own next = effect_fits old event (Pages pages) new fits own next.0 next.1
 step_fits old event (Loaded page) new fits own next = effect_fits old event (Loaded page) new fits own next.0 next.1
+step_fits old event (Kept horizon) new fits own next = effect_fits old event (Kept horizon) new fits own next.0 next.1
 
 pub runs_fit : RunsFit
 runs_fit old [] [] new fits all run = same_fits old new run fits
@@ -293,6 +317,6 @@ runs_fit old (event ∷ events) (answer ∷ answers) new fits all run = runs_fit
 pub opening_fits : OpeningFits
 opening_fits s devices few = record {
   few = omega (arith, few, length-map devices (opened_over s));
-  replicas = all_map ReplicaFits (opened_over s) devices (λ ds. record { reached = tt; waiting = all_replicate AreReferences s.workers [] tt });
+  replicas = all_map ReplicaFits (opened_over s) devices (λ ds. record { reached = these_fit [] tt; waiting = all_replicate AreReferences s.workers [] tt });
   records = tt;
 }

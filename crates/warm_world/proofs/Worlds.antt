@@ -3,13 +3,12 @@ use Rattle.std.proofs.Common.{◌≡◌, ℕ, ◌+◌, ◌<◌, List, length, ma
 use Rattle.std.proofs.Math.ListN.{set}
 use Rattle.std.proofs.lemmas.List.{get_or-map, set-get_or, length-map, length-set, map-set}
 use Rattle.warm_refbuffer.specs.Buffered.{Buffered}
-use Rattle.warm_pool.proofs.Slots.{at_set}
 use Rattle.warm_history.specs.Histories.{history}
 use Rattle.warm_gossip.specs.declared.call.Call.{Call}
 use Rattle.warm_gossip.specs.declared.call.Reply.{Reply}
 use Rattle.warm_gossip.specs.declared.fault.NodeFault.{NodeFault}
 use Rattle.warm_gossip.specs.declared.fault.NodeFault.TheVariants.{Memory}
-use Rattle.warm_gossip.specs.State.{NodeState, NodeView, IsNode}
+use Rattle.warm_gossip.specs.State.{NodeView}
 use Rattle.warm_gossip.specs.Step.{Step}
 use Rattle.warm_world.specs.declared.event.Event.{Event}
 use Rattle.warm_world.specs.declared.event.Answer.{Answer}
@@ -17,7 +16,7 @@ use Rattle.warm_world.specs.declared.event.Answer.TheVariants.{Refused}
 use Rattle.warm_world.specs.declared.event.WorldFault.{WorldFault}
 use Rattle.warm_world.specs.declared.event.WorldFault.TheVariants.{Node, NoSuchReplica, NoSuchWorker, NoSuchFrame}
 use Rattle.warm_world.specs.Lists.{IsNumber, Pairwise, place}
-use Rattle.warm_world.specs.Seen.{AreNodes, ReplicaSeen, WorldSeen}
+use Rattle.warm_world.specs.Seen.{ReplicaSeen, WorldSeen}
 use Rattle.warm_world.specs.States.{ModelState, ReplicaState, node_of, nobody, pool_of, replica, set_pool, set_replica}
 use Rattle.warm_world.specs.Next.{Asked, IsMissing, IsNamed, Next, Shape, replica_of, shape}
 use Rattle.warm_world.specs.Stands.{ReplicaStands, StandsFor, Stepped, buffered, seen_shape}
@@ -46,19 +45,6 @@ missing_too w m event NoSuchFrame st missing = let P : Shape → Type 0 = λ s. 
 -- memory is wanting, and nothing changes
 pub no_memory_still : (w : WorldSeen) (m : ModelState) (event : Event) (why : NodeFault) → StandsFor w m → why ≡ Memory → Next m event (Refused (Node Memory)) m → Stepped m event (Refused (Node why)) w
 no_memory_still w m event why st is next = record { new = m; next = subst (λ f. Next m event (Refused (Node f)) m) (sym is) next; stands = st }
-
--- ---- each node of a world is fit
-
-module _ {A : Type 0} (g : A → NodeState) (xs : List A) (k : ℕ) where
-  pub node_at : (x : A) → AreNodes (map g xs) → k < length xs → x ≡ get_or xs k x → IsNode (g x)
-  node_at x fit lt is =
-      let at : get_or (map g xs) k (g x) ≡ g x = get_or-map g xs k x (g x) lt ∙ ap g (sym is) in
-      subst IsNode at (fit.each k (g x) (subst (λ n. k < n) (sym (length-map xs g)) lt))
-
-  pub still_nodes : (y : A) → k < length xs → AreNodes (map g xs) → IsNode (g y) → AreNodes (map g (set xs k y))
-  still_nodes y lt fit node = subst AreNodes (sym (map-set g xs k y)) (record {
-    each = λ j other low. at_set other (λ i n. i < length (map g xs) → IsNode n) (map g xs) k (g y) (subst (λ n. k < n) (sym (length-map xs g)) lt) (λ _. node) (λ i ne. fit.each i other) j (subst (λ n. j < n) (length-set (map g xs) k (g y)) low);
-  })
 
 -- ---- what the replicas of a world show, with that of one of them changed
 

@@ -26,16 +26,20 @@ bucket_records i S bucket =
 abbrev pub wanted_records : ℕ → ReferenceSet → ℕ → List FrameRecord
 wanted_records i S mask = flat_map (bucket_records i S) (buckets_in mask)
 
--- What replica i, which S reached, answers to a frame: nothing to references; to a wish its references of these buckets; to
--- sums those of the buckets whose sums differ, and then a wish for these.
+-- the references that a frame brings, with its sender's horizon
+abbrev pub refs_of : FrameRecord → ReferenceSet
+refs_of (References sender refs) = refs
+refs_of (Sums sender horizon sums) = record { horizon = horizon; told = [] }
+refs_of (Mask sender horizon mask) = record { horizon = horizon; told = [] }
+
+-- what has reached a replica once a frame came: its horizon is then the greater one
+abbrev pub heard : ReferenceSet → FrameRecord → ReferenceSet
+heard S kept = S ∪ refs_of kept
+
+-- What replica i answers to a frame, where S has reached it once the frame came: nothing to references; to a request its
+-- references of these buckets; to digests those of the buckets whose digests differ, and then a request for these.
 abbrev pub AreAnswers : ℕ → ReferenceSet → FrameRecord → List FrameRecord → Type 0
 AreAnswers i S (References sender refs) added = added ≡ []
-AreAnswers i S (Mask sender mask) added = added ≡ wanted_records i S mask
-AreAnswers i S (Sums sender sums) added = (mask : ℕ) × (mask < 2 ^ 64) × IsDiffering sums (history S) mask
-    × (added ≡ if mask == 0 then [] else wanted_records i S mask ++ Mask i mask ∷ [])
-
--- what has reached a replica once a frame came
-abbrev pub heard : ReferenceSet → FrameRecord → ReferenceSet
-heard S (References sender refs) = S ∪ refs
-heard S (Sums sender sums) = S
-heard S (Mask sender mask) = S
+AreAnswers i S (Mask sender horizon mask) added = added ≡ wanted_records i S mask
+AreAnswers i S (Sums sender horizon sums) added = (mask : ℕ) × (mask < 2 ^ 64) × IsDiffering sums (history S) mask
+    × (added ≡ if mask == 0 then [] else wanted_records i S mask ++ Mask i S.horizon mask ∷ [])

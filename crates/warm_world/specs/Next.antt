@@ -17,13 +17,13 @@ use Rattle.warm_gossip.specs.declared.fault.NodeFault.{NodeFault}
 use Rattle.warm_gossip.specs.declared.fault.NodeFault.TheVariants.{Memory}
 use Rattle.warm_gossip.specs.Step.{Step}
 use Rattle.warm_world.specs.declared.event.Event.{Event}
-use Rattle.warm_world.specs.declared.event.Event.TheVariants.{Refer, Flush, Send, Offer, Deliver, Pin, Unpin, Put, Get, Victim, Warm, WarmStep, Restart, Show}
+use Rattle.warm_world.specs.declared.event.Event.TheVariants.{Refer, Flush, Send, Offer, Deliver, Pin, Unpin, Put, Get, Victim, Warm, WarmStep, Restart, Horizon, Show}
 use Rattle.warm_world.specs.declared.event.Answer.{Answer}
-use Rattle.warm_world.specs.declared.event.Answer.TheVariants.{Done, Shown, FrameNo, Took, Pinned, Bytes, Page, Pages, Loaded, Refused}
+use Rattle.warm_world.specs.declared.event.Answer.TheVariants.{Done, Shown, FrameNo, Took, Pinned, Bytes, Page, Pages, Loaded, Kept, Refused}
 use Rattle.warm_world.specs.declared.event.WorldFault.{WorldFault}
 use Rattle.warm_world.specs.declared.event.WorldFault.TheVariants.{Node, NoSuchReplica, NoSuchWorker, NoSuchFrame}
 use Rattle.warm_world.specs.Lists.{IsNumber, place}
-use Rattle.warm_world.specs.States.{ModelState, FrameRecord, References, Sums, replica, reach_of, pool_of, node_of, set_replica, set_pool, record_at, add_records, pending, flushed, referred, restarted}
+use Rattle.warm_world.specs.States.{ModelState, FrameRecord, References, Sums, replica, reach_of, pool_of, node_of, set_replica, set_pool, record_at, add_records, pending, flushed, raised, referred, restarted}
 use Rattle.warm_world.specs.Answered.{AreAnswers, heard}
 
 -- the replica that an event names
@@ -41,6 +41,7 @@ replica_of (Victim i) = i
 replica_of (Warm i n) = i
 replica_of (WarmStep i) = i
 replica_of (Restart i) = i
+replica_of (Horizon i time) = i
 replica_of (Show i) = i
 
 -- the worker that it names
@@ -97,6 +98,7 @@ Refuses old (Unpin i slot) why new = Asked old i (call.Unpin slot) (reply.Refuse
 Refuses old (Put i slot at bytes) why new = Asked old i (call.Write slot at bytes) (reply.Refused why) new
 Refuses old (Get i slot at len) why new = Asked old i (call.Read slot at len) (reply.Refused why) new
 Refuses old (Victim i) why new = ⊥
+Refuses old (Horizon i time) why new = ⊥
 Refuses old (WarmStep i) why new = Asked old i call.WarmStep (reply.Refused why) new
 Refuses old (Restart i) why new = Asked old i call.Restart (reply.Refused why) new
 Refuses old (Refer i w page time) Memory new = (old.room ≤ length (pending (replica old (place i)) (place w))) × (new ≡ old)
@@ -113,10 +115,10 @@ abbrev pub IsRefused : ModelState → Event → WorldFault → ModelState → Ty
 IsRefused old event (Node why) new = IsNamed (shape old) event × Refuses old event why new
 IsRefused old event fault new = IsMissing (shape old) event fault × (new ≡ old)
 
--- a frame comes to the replica j: it hears what the frame says, and its answers are numbered on from the frames so far
+-- a frame comes to the replica j: it takes in what the frame brings, and its answers to that are numbered on from the frames so far
 pub record Delivered (old : ModelState) (j : ℕ) (kept : FrameRecord) (count first : ℕ) (new : ModelState) : Type 0 where
   pub added : List FrameRecord
-  pub answers : AreAnswers j (reach_of old j) kept added
+  pub answers : AreAnswers j (heard (reach_of old j) kept) kept added
   pub many : count ≡ length added
   pub from : first ≡ if count == 0 then 0 else length old.records + 1
   pub becomes : new ≡ add_records (set_replica old (place j) (record (replica old (place j)) { reach = heard (reach_of old j) kept })) added
@@ -134,7 +136,7 @@ Effect old (Flush i w) Done new =
 Effect old (Send i bucket after) (FrameNo k) new =
     (k ≡ length new.records) × (new ≡ add_records old (References i (carried (reach_of old i) bucket after MAX_ENTRIES) ∷ []))
 Effect old (Offer i) (FrameNo k) new =
-    (k ≡ length new.records) × (new ≡ add_records old (Sums i (sums_of (entries_of (history (reach_of old i)))) ∷ []))
+    (k ≡ length new.records) × (new ≡ add_records old (Sums i (reach_of old i).horizon (sums_of (entries_of (history (reach_of old i)))) ∷ []))
 Effect old (Deliver j k) (Took count first) new =
     Delivered old j (record_at old (place k)) count first new
 Effect old (Pin i page) (Pinned slot) new = Asked old i (call.Pin page) (reply.Pinned slot) new
@@ -147,8 +149,10 @@ Effect old (Warm i n) (Pages pages) new =
     (pages ≡ warm (reach_of old i) n) × (new ≡ old)
 Effect old (Restart i) Done new =
     (pool : PoolView) × Emptied (pool_of old i) pool × (new ≡ set_replica old (place i) (restarted pool (replica old (place i))))
-Effect old (Show i) (Shown entries) new =
-    (entries ≡ history (reach_of old i)) × (new ≡ old)
+Effect old (Horizon i time) (Kept horizon) new =
+    (horizon ≡ (reach_of new i).horizon) × (new ≡ set_replica old (place i) (raised time (replica old (place i))))
+Effect old (Show i) (Shown shown) new =
+    (shown ≡ history (reach_of old i)) × (new ≡ old)
 Effect old event answer new = ⊥
 
 -- From old, the event may be answered so, and lead to new.

@@ -1,8 +1,9 @@
 -- What becomes of a replica, and of the frames that are kept.
-use Rattle.std.specs.Prelude.{◌≡◌, ◌≢◌, ◌==◌, ◌+◌, ◌-◌, if◌then◌else◌, ℕ, List, [], ◌∷◌, ◌++◌, length, map, Result, Ok, Err}
+use Rattle.std.specs.Prelude.{◌≡◌, ◌≢◌, ◌==◌, ◌+◌, ◌-◌, if◌then◌else◌, ℕ, List, [], ◌∷◌, ◌++◌, length, map, Option, Some, None, Result, Ok, Err}
 use Rattle.warm_history.specs.Histories.{holding}
 use Rattle.warm_refbuffer.specs.Buffered.{cleared}
 use Rattle.warm_frames.specs.declared.frame.Frame.{Frame}
+use Rattle.warm_frames.specs.declared.frame.Frame.TheVariants.{Entries, Digest, Want}
 use Rattle.warm_frames.specs.Spelling.{spelling, Spells}
 use Rattle.warm_pool.specs.View.{PoolView}
 use Rattle.warm_pool.specs.Retiring.{Emptied}
@@ -23,6 +24,12 @@ Restarts old (Ok done) new =
     (pool : PoolView) × Emptied old.node.pool pool
     × (new ≡ record { node = record old.node { history = holding []; pool = pool }; buffers = map cleared old.buffers })
 Restarts old (Err why) new = Step old.node call.Restart (reply.Refused why) new.node × (new.buffers ≡ old.buffers)
+
+-- the horizon to which digests or a request raise a replica; none for entries, which bring theirs along
+abbrev pub raised_to : Frame → Option ℕ
+raised_to (Entries sender horizon entries) = None
+raised_to (Digest sender horizon sums) = Some horizon
+raised_to (Want sender horizon mask) = Some horizon
 
 -- the bytes are the spelling of the frame, and can be read so
 pub record Encodes (bytes : List ℕ) (frame : Frame) : Type 0 where

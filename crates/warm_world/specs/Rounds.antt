@@ -1,7 +1,8 @@
 -- A round of gossip in a world, and what it comes to.
-use Rattle.std.specs.Prelude.{◌≡◌, ◌⊎◌, ℕ, ◌+◌, ◌-◌, List, [], ◌∷◌, length, map}
+use Rattle.std.specs.Prelude.{◌≡◌, ◌≢◌, ◌⊎◌, ℕ, ◌+◌, ◌-◌, List, [], ◌∷◌, length, map}
 use Rattle.std.specs.List.{AllByRecursion, range_with_len}
-use Rattle.warm_history.specs.Histories.{HistoryView, history, join}
+use Rattle.warm_history.specs.Histories.{HistoryView, entries_of, history, join}
+use Rattle.warm_history.specs.ReferenceSets.{since}
 use Rattle.warm_digest.specs.Exchange.{IsCollision}
 use Rattle.warm_world.specs.declared.event.Event.{Event}
 use Rattle.warm_world.specs.declared.event.Event.TheVariants.{Offer, Deliver}
@@ -44,12 +45,19 @@ pub record GossipRound (i j : ℕ) (old new : ModelState) : Type 0 where
 abbrev pub known_to : ModelState → ℕ → HistoryView
 known_to m i = history (reach_of m i)
 
--- both replicas have the join of their histories before
-pub record AreJoined (i j : ℕ) (old new : ModelState) : Type 0 where
-  pub first : known_to new i ≡ join (known_to old i) (known_to old j)
-  pub second : known_to new j ≡ join (known_to old i) (known_to old j)
+-- the join of the histories of both replicas
+abbrev pub joined : ℕ → ℕ → ModelState → HistoryView
+joined i j m = join (known_to m i) (known_to m j)
 
--- After a round both histories are the join of the two before, or two different texts of one bucket have one SHA-256.
+-- Both replicas have the entries of the join of their histories before. The second has its horizon too, the greater one, and so has
+-- the first if the second answered a frame.
+pub record AreJoined {i j : ℕ} {old new : ModelState} (round : GossipRound i j old new) : Type 0 where
+  pub first : entries_of (known_to new i) ≡ entries_of (joined i j old)
+  pub second : known_to new j ≡ joined i j old
+  pub raised : round.asked.records ≢ round.offered.records → known_to new i ≡ joined i j old
+
+-- After a round both histories are the join of the two before, or two different texts of one bucket have one SHA-256: one text of the
+-- first replica, and one of the second at the greater horizon.
 abbrev pub GossipRoundJoins : Type 0
-GossipRoundJoins = (i j : ℕ) (old new : ModelState) → ModelFits old → GossipRound i j old new
-    → AreJoined i j old new ⊎ IsCollision (known_to old i) (known_to old j)
+GossipRoundJoins = (i j : ℕ) (old new : ModelState) → ModelFits old → (round : GossipRound i j old new)
+    → AreJoined round ⊎ IsCollision (known_to old i) (history (since (reach_of old i).horizon (reach_of old j)))

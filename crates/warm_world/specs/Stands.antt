@@ -39,11 +39,12 @@ abbrev pub IsFull : ReplicaSeen → ℕ → Type 0
 IsFull r worker =
     (room place : ℕ) (m : ReplicaState) → ReplicaStands room place r m → room ≤ length (pending m worker)
 
--- the frame that a record is of: from its sender, the page histories of the references that it brings, or sums, or a wish
+-- the frame that a record is of: from its sender, with the horizon, the page histories of the references that it brings, or digests, or a
+-- request
 abbrev pub frame_kept : FrameRecord → Frame
-frame_kept (References sender refs) = Entries sender (entries_of (history refs))
-frame_kept (Sums sender sums) = Digest sender sums
-frame_kept (Mask sender mask) = Want sender mask
+frame_kept (References sender refs) = Entries sender refs.horizon (entries_of (history refs))
+frame_kept (Sums sender horizon sums) = Digest sender horizon sums
+frame_kept (Mask sender horizon mask) = Want sender horizon mask
 
 -- the bytes of a kept frame are the spelling of its record's frame, and can be read so
 pub record SpellsRecord (bytes : List ℕ) (kept : FrameRecord) : Type 0 where
@@ -76,17 +77,18 @@ Steps old event answer new = (m : ModelState) → StandsFor old m → Stepped m 
 abbrev pub history_of : WorldSeen → ℕ → HistoryView
 history_of w i = slice_index_or (map (λ r. r.node.history) w.replicas) (place i) (holding [])
 
--- each replica's history is exactly the two latest stamps of every page among the references that reached it
+-- each replica's history is exactly the two latest stamps, not older than its horizon, of every page among the references that
+-- reached it
 abbrev pub HistoriesAreExact : WorldSeen → ModelState → Type 0
 HistoriesAreExact w m = (i : ℕ) → IsNumber i (length m.replicas) → history_of w i ≡ history (reach_of m i)
 
--- two replicas have one history, and the references that reached them rank pages alike: any two pages leave in the same
--- order, and the warm-up lists of any length are the same
+-- two histories have the same entries, and the references that reached the replicas rank pages alike: any two pages leave in the
+-- same order, and the warm-up lists of any length are the same
 pub record Agree (w : WorldSeen) (m : ModelState) (i j : ℕ) : Type 0 where
   pub histories : entries_of (history_of w i) ≡ entries_of (history_of w j)
   pub ranking : RankAlike (reach_of m i) (reach_of m j)
 
--- replicas that the same references reached agree
+-- replicas that keep the same references agree
 abbrev pub ReplicasAgree : WorldSeen → ModelState → Type 0
 ReplicasAgree w m = (i j : ℕ) → IsNumber i (length m.replicas) → IsNumber j (length m.replicas)
     → HoldSame (reach_of m i) (reach_of m j) → Agree w m i j
@@ -121,7 +123,7 @@ EachVictim old [] (answer ∷ answers) new run = ⊥
 EachVictim old (event ∷ events) [] new run = ⊥
 
 -- The events were answered so, one after another, and led to a state that the world stands for; so each history is
--- exact, replicas that the same references reached agree, and each victim is a page of greatest backward 2-distance.
+-- exact, replicas that keep the same references agree, and each victim is a page of greatest backward 2-distance.
 pub record Ran (old : ModelState) (events : List Event) (answers : List Answer) (w : WorldSeen) : Type 0 where
   pub new : ModelState
   pub run : Run old events answers new

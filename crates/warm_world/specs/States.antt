@@ -1,7 +1,7 @@
 -- What replicas are told: every reference, for good, in plain lists. Beside it what each replica's pool shows.
 use Rattle.std.specs.Prelude.{ℕ, List, [], ◌∷◌, ◌++◌, length, map, nat_le, replicate, if◌then◌else◌, slice_index_or, slice_set}
 use Rattle.warm_stamps.specs.declared.Reference.{Reference}
-use Rattle.warm_history.specs.ReferenceSets.{ReferenceSet, these, ◌∪◌}
+use Rattle.warm_history.specs.ReferenceSets.{ReferenceSet, these, since, ◌∪◌}
 use Rattle.warm_history.specs.Histories.{history}
 use Rattle.warm_devices.specs.Device.{DeviceState}
 use Rattle.warm_pool.specs.State.{opened}
@@ -10,18 +10,18 @@ use Rattle.warm_gossip.specs.State.{NodeView}
 use Rattle.warm_world.specs.Lists.{place}
 use Rattle.warm_world.specs.Sizes.{Sizes}
 
--- of one replica: the references that reached it since its restart, for each worker those that wait in its buffer, and its pool
+-- of one replica: the references that reached it since its restart, and its horizon; for each worker those that wait in its buffer, and its pool
 pub record ReplicaState : Type 0 where
   pub reach : ReferenceSet
   pub pending : List (List Reference)
   pub pool : PoolView
 
--- what a kept frame stands for: its sender, and the references that it brings, or the sums of the sender's buckets, or which
--- buckets the sender asks for
+-- what a kept frame stands for: its sender and the sender's horizon, with the references that it brings, or the digests of the
+-- sender's buckets, or which buckets the sender requests
 pub data FrameRecord : Type 0 where
   References : (sender : ℕ) (refs : ReferenceSet) → FrameRecord
-  Sums : (sender : ℕ) (sums : List (List ℕ)) → FrameRecord
-  Mask : (sender mask : ℕ) → FrameRecord
+  Sums : (sender horizon : ℕ) (sums : List (List ℕ)) → FrameRecord
+  Mask : (sender horizon mask : ℕ) → FrameRecord
 
 -- of all replicas; room is how many references a buffer holds
 pub record ModelState : Type 0 where
@@ -82,6 +82,10 @@ put_last k x r = record r { pending = slice_set r.pending k (pending r k ++ x �
 -- the same, where a full buffer moves first
 abbrev pub referred : ℕ → ℕ → Reference → ReplicaState → ReplicaState
 referred room k x r = put_last k x (if nat_le room (length (pending r k)) then flushed k r else r)
+
+-- its horizon rises to this time, or stays
+abbrev pub raised : ℕ → ReplicaState → ReplicaState
+raised time r = record r { reach = since time r.reach }
 
 -- nothing reached it since, and nothing waits; its pool is left so
 abbrev pub restarted : PoolView → ReplicaState → ReplicaState

@@ -4,15 +4,16 @@ use Rattle.std.specs.List.{AllByRecursion}
 use Rattle.warm_stamps.specs.declared.Reference.{Reference}
 use Rattle.warm_stamps.specs.declared.TheConstants.{MAX_REPLICAS}
 use Rattle.warm_stamps.specs.Bytes.{IsPage, IsStamp}
-use Rattle.warm_history.specs.ReferenceSets.{references}
+use Rattle.warm_history.specs.ReferenceSets.{ReferenceSet, references}
 use Rattle.warm_history.specs.Histories.{history}
 use Rattle.warm_devices.specs.Device.{DeviceState}
 use Rattle.warm_digest.specs.Exchange.{Fits}
 use Rattle.warm_world.specs.declared.event.Event.{Event}
-use Rattle.warm_world.specs.declared.event.Event.TheVariants.{Refer}
+use Rattle.warm_world.specs.declared.event.Event.TheVariants.{Refer, Horizon}
 use Rattle.warm_world.specs.declared.event.Answer.{Answer}
 use Rattle.warm_world.specs.Sizes.{Sizes}
-use Rattle.warm_world.specs.States.{ModelState, ReplicaState, FrameRecord, References, Sums, Mask, reach_of, opening}
+use Rattle.warm_world.specs.States.{ModelState, ReplicaState, FrameRecord, reach_of, opening}
+use Rattle.warm_world.specs.Answered.{refs_of}
 use Rattle.warm_world.specs.Next.{Run}
 
 -- a page that there is, with a stamp that there is
@@ -26,18 +27,22 @@ AreReferences rs = AllByRecursion IsReference rs
 -- an event's page and time are within their widths
 abbrev pub EventFits : Event → Type 0
 EventFits (Refer i w page time) = IsPage page × (time < 2 ^ 64)
+EventFits (Horizon i time) = time < 2 ^ 64
 EventFits event = Unit {0}
+
+-- a horizon is, and all references that are not older
+pub record ReachFits (S : ReferenceSet) : Type 0 where
+  pub horizon : S.horizon < 2 ^ 64
+  pub references : AreReferences (references S)
 
 -- so are all references that reached a replica, and all that wait
 pub record ReplicaFits (r : ReplicaState) : Type 0 where
-  pub reached : AreReferences (references r.reach)
+  pub reached : ReachFits r.reach
   pub waiting : AllByRecursion AreReferences r.pending
 
 -- and all that a kept frame brings
 abbrev pub RecordFits : FrameRecord → Type 0
-RecordFits (References sender refs) = AreReferences (references refs)
-RecordFits (Sums sender sums) = Unit {0}
-RecordFits (Mask sender mask) = Unit {0}
+RecordFits kept = ReachFits (refs_of kept)
 
 -- and there are no more replicas than have numbers
 pub record ModelFits (m : ModelState) : Type 0 where

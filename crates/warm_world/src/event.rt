@@ -21,9 +21,10 @@ pub enum Event {
     Send(u16, Bucket, Option<PageId>),
     /// A replica sends the sums of all its buckets as a frame.
     Offer(u16),
-    /// A kept frame comes to a replica, its sender or another: replica, number of the frame. Entries are
-    /// joined into the replica's history, all of them or none. Sums and a wish are answered by frames,
-    /// which are kept after the others, all of them or none.
+    /// A kept frame comes to a replica, its sender or another: replica, number of the frame. The replica's
+    /// horizon becomes the frame's if that is greater. Entries are joined into the replica's history, all of
+    /// them or none. Sums and a wish are answered by frames, which are kept after the others, all of them or
+    /// none.
     Deliver(u16, u64),
     /// A replica's page is given a fix, and put into a frame of its pool where it is in none: replica,
     /// page. It is no reference.
@@ -42,8 +43,11 @@ pub enum Event {
     /// resident and that its devices have.
     WarmStep(u16),
     /// A replica writes its pages back, and then forgets its history, what waits in its buffers, and which
-    /// pages were resident.
+    /// pages were resident. Its horizon is 0 again.
     Restart(u16),
+    /// A replica forgets all stamps before a time, and keeps that time as its horizon: replica, time. A time
+    /// that is not greater than its horizon changes nothing.
+    Horizon(u16, u64),
     /// A replica's history is asked for.
     Show(u16),
 }
@@ -70,6 +74,8 @@ pub enum Answer {
     Pages(PageList),
     /// WarmStep: the page that was loaded; none where there was none to load.
     Loaded(Option<PageId>),
+    /// Horizon: the replica's horizon afterwards.
+    Kept(u64),
     /// The event was refused, and changed nothing but counts of devices' failures.
     Refused(WorldFault),
 }
@@ -79,8 +85,8 @@ pub enum Answer {
 #[derive(Clone, Copy, Debug, PartialEq, Eq)]
 pub enum WorldFault {
     /// 1 and 4 to 13: what the replica's node says. `Memory`, which is 1, also where a frame could not be
-    /// kept or a history not copied; of Refer only where the buffer is full, and of Pin, Unpin, Put, Victim
-    /// and Restart never.
+    /// kept or a history not copied; of Refer only where the buffer is full, and of Pin, Unpin, Put, Victim,
+    /// Restart and Horizon never.
     Node(NodeFault),
     /// 14: no replica has the number.
     NoSuchReplica,
@@ -170,6 +176,7 @@ impl Event {
             Event::Warm(i, _) => *i,
             Event::WarmStep(i) => *i,
             Event::Restart(i) => *i,
+            Event::Horizon(i, _) => *i,
             Event::Show(i) => *i,
         }
     }

@@ -2,13 +2,14 @@
 ghost use Rattle.std.specs.Prelude.{◌≡◌, [], map, OnOk, OnErr, IfOk, IsOk};
 ghost use Rattle.warm_world.specs.Next.{IsNamed};
 ghost use Rattle.warm_world.specs.Lists.{Pairwise};
-ghost use Rattle.warm_world.specs.Replicas.{Encodes, Keeps, KeepsAll, Takes};
-ghost use Rattle.warm_world.specs.Seen.{IsWorld, seen};
+ghost use Rattle.warm_world.specs.Replicas.{Encodes, Keeps, KeepsAll, Takes, raised_to};
+ghost use Rattle.warm_world.specs.Seen.{seen};
 ghost use Rattle.warm_world.specs.Stands.{seen_shape, Steps};
 
 use crate::event::{Answer, Event, WorldFault};
 use crate::world::World;
 use std::alloc::{AllocError, Global};
+use warm_devices::PageDevice;
 use warm_frames::{Frame, decode, encode};
 use warm_gossip::NodeFault;
 use warm_stamps::{Bucket, PageId};
@@ -59,12 +60,21 @@ fn took(alloc: Global, kept: &mut Vec<Vec<u8>>, frames: &[Frame]) -> Answer
     }
 }
 
-impl World {
+// The horizon to which sums or a wish raise who receives them; none for entries, which bring theirs along.
+fn horizon_raised(frame: &Frame) -> Option<u64>
+    ensures { result ≡ raised_to frame.now }
+{
+    match frame {
+        Frame::Entries { .. } => None,
+        Frame::Digest { horizon, .. } => Some(*horizon),
+        Frame::Want { horizon, .. } => Some(*horizon),
+    }
+}
+
+impl<D: PageDevice> World<D> {
     // Keeps a frame after the others.
     fn keep(&mut self, frame: &Frame) -> Answer
-        requires fit { IsWorld state self.old }
-        ensures fit { IsWorld state self.new }
-        ensures keeps { Keeps (seen state self.old) frame.now result (seen state self.new) }
+        ensures keeps { Keeps (seen self.old) frame.now result (seen self.new) }
     {
         let Ok(bytes) = encode(self.alloc, frame) else {
             return Answer::Refused(WorldFault::Node(NodeFault::Memory));
@@ -76,11 +86,9 @@ impl World {
     }
 
     pub(crate) fn send(&mut self, i: u16, bucket: Bucket, after: Option<PageId>) -> Answer
-        requires fit { IsWorld state self.old }
-        requires named { IsNamed (seen_shape (seen state self.old)) (Event.Send i bucket after) }
-        ensures fit { IsWorld state self.new }
-        ensures step { Steps (seen state self.old) (Event.Send i bucket after) result
-            (seen state self.new) }
+        requires named { IsNamed (seen_shape (seen self.old)) (Event.Send i bucket after) }
+        ensures step { Steps (seen self.old) (Event.Send i bucket after) result
+            (seen self.new) }
     {
         match self.replicas[i as usize - 1].node.send(bucket, after) {
             Ok(frame) => self.keep(&frame),
@@ -89,10 +97,8 @@ impl World {
     }
 
     pub(crate) fn offer(&mut self, i: u16) -> Answer
-        requires fit { IsWorld state self.old }
-        requires named { IsNamed (seen_shape (seen state self.old)) (Event.Offer i) }
-        ensures fit { IsWorld state self.new }
-        ensures step { Steps (seen state self.old) (Event.Offer i) result (seen state self.new) }
+        requires named { IsNamed (seen_shape (seen self.old)) (Event.Offer i) }
+        ensures step { Steps (seen self.old) (Event.Offer i) result (seen self.new) }
     {
         match self.replicas[i as usize - 1].node.offer() {
             Ok(frame) => self.keep(&frame),
@@ -101,27 +107,45 @@ impl World {
     }
 
     pub(crate) fn deliver(&mut self, j: u16, k: u64) -> Answer
-        requires fit { IsWorld state self.old }
-        requires named { IsNamed (seen_shape (seen state self.old)) (Event.Deliver j k) }
-        ensures fit { IsWorld state self.new }
-        ensures step { Steps (seen state self.old) (Event.Deliver j k) result
-            (seen state self.new) }
+        requires named { IsNamed (seen_shape (seen self.old)) (Event.Deliver j k) }
+        ensures step { Steps (seen self.old) (Event.Deliver j k) result
+            (seen self.new) }
     {
         // The bytes spell a frame, so nothing but memory can be wanting.
         let Ok(frame) = decode(self.alloc, &self.frames[k as usize - 1]) else {
             return Answer::Refused(WorldFault::Node(NodeFault::Memory));
         };
-        match self.replicas[j as usize - 1].node.receive(frame) {
-            // Only sums and a wish are answered, and neither has changed the node.
-            Ok(answers) => took(self.alloc, &mut self.frames, answers.as_slice()),
-            Err(why) => Answer::Refused(WorldFault::Node(why)),
-        }
+        let Some(horizon) = horizon_raised(&frame) else {
+            // Entries are answered by nothing, so there is nothing to keep.
+            return match self.replicas[j as usize - 1].node.receive(frame) {
+                Ok(answers) => took(self.alloc, &mut self.frames, answers.as_slice()),
+                Err(why) => Answer::Refused(WorldFault::Node(why)),
+            };
+        };
+        let answers = match self.replicas[j as usize - 1].node.answers(&frame) {
+            Ok(answers) => answers,
+            Err(why) => return Answer::Refused(WorldFault::Node(why)),
+        };
+        // The horizon rises only after the answers are kept, so nothing has happened where one cannot be.
+        let answer = took(self.alloc, &mut self.frames, answers.as_slice());
+        let Answer::Took { .. } = &answer else {
+            return answer;
+        };
+        self.replicas[j as usize - 1].node.raise(horizon);
+        answer
+    }
+
+    /// A replica's horizon rises to a time, or stays.
+    pub(crate) fn horizon(&mut self, i: u16, time: u64) -> Answer
+        requires named { IsNamed (seen_shape (seen self.old)) (Event.Horizon i time) }
+        ensures step { Steps (seen self.old) (Event.Horizon i time) result (seen self.new) }
+    {
+        Answer::Kept(self.replicas[i as usize - 1].node.raise(time))
     }
 
     pub(crate) fn show(&self, i: u16) -> Answer
-        requires fit { IsWorld state self.now }
-        requires named { IsNamed (seen_shape (seen state self.now)) (Event.Show i) }
-        ensures { Steps (seen state self.now) (Event.Show i) result (seen state self.now) }
+        requires named { IsNamed (seen_shape (seen self.now)) (Event.Show i) }
+        ensures { Steps (seen self.now) (Event.Show i) result (seen self.now) }
     {
         match self.replicas[i as usize - 1].node.history().copy() {
             Ok(history) => Answer::Shown(history),

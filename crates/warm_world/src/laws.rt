@@ -6,11 +6,12 @@ ghost use Rattle.std.specs.Prelude.{◌<◌, ◌^◌};
 ghost use Rattle.std.specs.List.{AllByRecursion};
 ghost use Rattle.warm_stamps.specs.Bytes.{IsPage};
 ghost use Rattle.warm_world.specs.Rounds.{GossipRoundJoins};
-ghost use Rattle.warm_world.specs.Seen.{IsWorld, seen};
+ghost use Rattle.warm_world.specs.Seen.{seen};
 ghost use Rattle.warm_world.specs.WarmUps.{ShowsPoolsDiffer, WarmUpLoads};
 ghost use Rattle.warm_world.specs.Widths.{EventFits, HistoriesFit, OpeningFits, RunsFit};
 
 use crate::{Event, World};
+use warm_devices::PageDevice;
 use warm_stamps::PageId;
 
 /// A round of gossip: a replica offers its sums to another, and all that is answered comes to whom it answers, with no
@@ -48,13 +49,19 @@ pub fn events_fit(events: &[Event])
 fn event_fits(event: &Event)
     ensures { EventFits event.now }
 {
-    if let Event::Refer(_, _, page, time) = event {
-        reference_fits(*page, *time);
+    match event {
+        Event::Refer(_, _, page, time) => reference_fits(*page, *time),
+        Event::Horizon(_, time) => time_fits(*time),
+        _ => {}
     }
 }
 
 fn reference_fits(page: PageId, time: u64)
     ensures { IsPage page × (time < 2 ^ 64) }
+{}
+
+fn time_fits(time: u64)
+    ensures { time < 2 ^ 64 }
 {}
 
 /// As many steps of a replica's warm-up as its pool has frames, none of them refused and no page of the replica fixed
@@ -65,7 +72,6 @@ pub fn warm_up_loads()
 {}
 
 /// No pool of a world has a page in two frames. Nothing is done.
-pub fn pools_differ(world: &World)
-    requires { IsWorld state world.now }
-    ensures { ShowsPoolsDiffer (seen state world.now) }
+pub fn pools_differ<D: PageDevice>(world: &World<D>)
+    ensures { ShowsPoolsDiffer (seen world.now) }
 {}

@@ -4,7 +4,6 @@ ghost use Rattle.std.specs.Prelude.{OnOk, OnErr, IfOk, IfErr, replicate};
 ghost use Rattle.warm_stamps.specs.declared.Reference.{Reference};
 ghost use Rattle.warm_refbuffer.specs.Buffered.{IsCapacity};
 ghost use Rattle.warm_pool.specs.declared.TheConstants.{MAX_DEVICES};
-ghost use Rattle.warm_gossip.specs.Clauses.{IsFit};
 ghost use Rattle.warm_gossip.specs.declared.fault.NodeFault.TheVariants.{Memory};
 ghost use Rattle.warm_world.specs.States.{ReplicaState, opened_over, pending};
 ghost use Rattle.warm_world.specs.States.{flushed, put_last, referred};
@@ -16,7 +15,6 @@ ghost use Rattle.warm_world.specs.Replicas.{Restarts};
 
 use crate::setup::Setup;
 use std::alloc::{AllocError, Global};
-use std::marker::PhantomData;
 use warm_devices::PageDevice;
 use warm_gossip::{Node, NodeFault};
 use warm_pool::Pool;
@@ -25,11 +23,9 @@ use warm_stamps::{PageId, Reference, ReplicaId, Stamp};
 
 /// A node, and the references that its workers have still to tell it.
 #[derive(Drop)]
-pub(crate) struct Replica {
-    pub(crate) node: Node,
+pub(crate) struct Replica<D: PageDevice> {
+    pub(crate) node: Node<D>,
     pub(crate) buffers: Vec<RefBuffer>,
-    // What holds of every boxed device is known where a type names the box.
-    pub(crate) boxes: PhantomData<Box<dyn PageDevice + Send>>,
 }
 
 // A buffer's capacity is within its limits, so only memory can be refused.
@@ -55,7 +51,7 @@ fn empty_buffers(alloc: Global, workers: u16, room: usize) -> Result<Vec<RefBuff
     Ok(buffers)
 }
 
-impl Replica {
+impl<D: PageDevice> Replica<D> {
     /// A replica that was told nothing, over a pool without a page. The devices' pages have the setup's
     /// size.
     ///
@@ -64,13 +60,12 @@ impl Replica {
         alloc: Global,
         id: ReplicaId,
         setup: Setup,
-        devices: Vec<Box<dyn PageDevice + Send>>,
+        devices: Vec<D>,
     ) -> Result<Self, AllocError>
         requires { length devices.items ≤ MAX_DEVICES }
-        ensures fit { IfOk result (λ r. IsFit state r.node) }
         ensures stands { (place : ℕ) → id ≡ place + 1
-            → IfOk result (λ r. ReplicaStands setup.buffer place (seen_replica state r)
-            (opened_over setup (map (λ b. state b) devices.items))) }
+            → IfOk result (λ r. ReplicaStands setup.buffer place (seen_replica r)
+            (opened_over setup (map D.state devices.items))) }
     {
         let frames = setup.frames() as usize;
         let page_size = setup.page_size() as usize;
@@ -81,19 +76,16 @@ impl Replica {
         Ok(Replica {
             node: Node::new(alloc, id, pool),
             buffers,
-            boxes: PhantomData,
         })
     }
 
     /// What waits in a worker's buffer reaches the node.
     pub(crate) fn flush(&mut self, worker: usize) -> Result<(), NodeFault>
-        requires fit { IsFit state self.old.node }
         requires there { worker < length self.old.buffers.items }
-        ensures fit { IsFit state self.new.node }
-        ensures ok { (room : ℕ) → OnOk result (Becomes room (seen_replica state self.old)
-            (seen_replica state self.new) (flushed worker)) }
+        ensures ok { (room : ℕ) → OnOk result (Becomes room (seen_replica self.old)
+            (seen_replica self.new) (flushed worker)) }
         ensures err { IfErr result (λ why. (why ≡ Memory)
-            × (seen_replica state self.new ≡ seen_replica state self.old)) }
+            × (seen_replica self.new ≡ seen_replica self.old)) }
         ensures same { length self.new.buffers.items ≡ length self.old.buffers.items }
     {
         self.node.absorb(self.buffers[worker].refs())?;
@@ -103,13 +95,11 @@ impl Replica {
 
     // Puts a reference into a buffer that has room.
     fn put(&mut self, worker: usize, reference: Reference)
-        requires fit { IsFit state self.old.node }
         requires there { worker < length self.old.buffers.items }
-        ensures fit { IsFit state self.new.node }
         ensures puts { (room place : ℕ) (m : ReplicaState)
-            → ReplicaStands room place (seen_replica state self.old) m
+            → ReplicaStands room place (seen_replica self.old) m
             → length (pending m worker) < room
-            → ReplicaStands room place (seen_replica state self.new)
+            → ReplicaStands room place (seen_replica self.new)
             (put_last worker reference m) }
     {
         let _ = self.buffers[worker].touch(reference);
@@ -117,15 +107,13 @@ impl Replica {
 
     /// A worker references a page: its buffer is flushed first if it is full.
     pub(crate) fn refer(&mut self, worker: usize, page: PageId, time: u64) -> Result<(), NodeFault>
-        requires fit { IsFit state self.old.node }
         requires there { worker < length self.old.buffers.items }
-        ensures fit { IsFit state self.new.node }
         ensures ok { (room : ℕ) (made : Reference) → made ≡ stamped self.old.node.id page time
-            → OnOk result (Becomes room (seen_replica state self.old)
-            (seen_replica state self.new) (referred room worker made)) }
+            → OnOk result (Becomes room (seen_replica self.old)
+            (seen_replica self.new) (referred room worker made)) }
         ensures err { IfErr result (λ why. (why ≡ Memory)
-            × (seen_replica state self.new ≡ seen_replica state self.old)) }
-        ensures full { OnErr result (IsFull (seen_replica state self.old) worker) }
+            × (seen_replica self.new ≡ seen_replica self.old)) }
+        ensures full { OnErr result (IsFull (seen_replica self.old) worker) }
     {
         let stamp = Stamp {
             time,
@@ -143,10 +131,8 @@ impl Replica {
 
     /// The node restarts, and nothing waits any more.
     pub(crate) fn restart(&mut self) -> Result<(), NodeFault>
-        requires fit { IsFit state self.old.node }
-        ensures fit { IsFit state self.new.node }
-        ensures restarts { Restarts (seen_replica state self.old) result
-            (seen_replica state self.new) }
+        ensures restarts { Restarts (seen_replica self.old) result
+            (seen_replica self.new) }
     {
         self.node.restart()?;
         clear_all(&mut self.buffers);

@@ -2,12 +2,11 @@
 ghost use Rattle.std.specs.Prelude.{◌≡◌, ◌+◌, ◌<◌, ◌≤◌, length, map, slice_index_or};
 ghost use Rattle.std.specs.Prelude.{OnOk, IfOk, IfErr, IsTrue, ◌↔◌};
 ghost use Rattle.warm_stamps.specs.declared.TheConstants.{MAX_REPLICAS};
-ghost use Rattle.warm_gossip.specs.Clauses.{node_state};
 ghost use Rattle.warm_world.specs.Lists.{IsNumber, Pairwise, place};
 ghost use Rattle.warm_world.specs.States.{opened_over, opening};
 ghost use Rattle.warm_world.specs.Opening.{AreFew, AreFitting, AreSized, FinishFails, NewRefused};
 ghost use Rattle.warm_world.specs.Next.{IsNamed, IsMissing};
-ghost use Rattle.warm_world.specs.Seen.{AreNodes, IsWorld, listed, seen, seen_replica};
+ghost use Rattle.warm_world.specs.Seen.{listed, seen, seen_replica};
 ghost use Rattle.warm_world.specs.Seen.{IsAtRest, IsSettledBefore};
 ghost use Rattle.warm_world.specs.Stands.{ReplicaStands, seen_shape, StandsFor, Steps, Runs};
 
@@ -15,7 +14,6 @@ use crate::event::{Answer, BadWorld, Event, WorldFault};
 use crate::replica::Replica;
 use crate::setup::Setup;
 use std::alloc::{AllocError, Global};
-use std::marker::PhantomData;
 use warm_devices::PageDevice;
 use warm_gossip::NodeFault;
 use warm_pool::all_sized;
@@ -25,26 +23,22 @@ use warm_stamps::{PageId, ReplicaId};
 ///
 /// Contracts tell of a world by the model states that it stands for (`StandsFor`): lists of all
 /// references that reached each replica, that wait in each buffer, and that each kept frame brings, and
-/// what each replica's pool shows. That a world is one, each pool ranked by its replica's history, is a
-/// condition that `new` gives and each call keeps.
+/// what each replica's pool shows.
 ///
 /// A kept frame stays for as long as the world does, so memory grows with what is sent.
-pub struct World {
+pub struct World<D: PageDevice> {
     pub(crate) alloc: Global,
-    pub(crate) replicas: Vec<Replica>,
+    pub(crate) replicas: Vec<Replica<D>>,
     pub(crate) frames: Vec<Vec<u8>>,
-    // What holds of every boxed device is known where a type names the box.
-    pub(crate) boxes: PhantomData<Box<dyn PageDevice + Send>>,
 }
 
 // By hand, so that an owner makes one call at each way out (see `History`).
-impl Drop for World {
+impl<D: PageDevice> Drop for World<D> {
     fn drop(mut self) {
         let Self {
             alloc: _,
             replicas,
             frames,
-            boxes: _,
         } = self;
         drop(replicas);
         drop(frames);
@@ -58,8 +52,8 @@ fn is_number(number: u64, count: usize) -> bool
 }
 
 /// Whether each device of each list has pages of this size: what [`World::new`] asks of its devices. Takes no memory.
-pub fn are_sized(devices: &[Vec<Box<dyn PageDevice + Send>>], page_size: usize) -> bool
-    ensures { IsTrue result ↔ AreSized page_size (listed state devices.now) }
+pub fn are_sized<D: PageDevice>(devices: &[Vec<D>], page_size: usize) -> bool
+    ensures { IsTrue result ↔ AreSized page_size (listed D.state devices.now) }
 {
     for list in devices {
         if !all_sized(list, page_size) {
@@ -70,17 +64,16 @@ pub fn are_sized(devices: &[Vec<Box<dyn PageDevice + Send>>], page_size: usize) 
 }
 
 // A replica over each list of devices, numbered from 1. Their pages have the setup's size.
-fn replicas_over(
+fn replicas_over<D: PageDevice>(
     alloc: Global,
     setup: Setup,
-    devices: Vec<Vec<Box<dyn PageDevice + Send>>>,
-) -> Result<Vec<Replica>, AllocError>
-    requires few { AreFew (listed state devices.items) }
+    devices: Vec<Vec<D>>,
+) -> Result<Vec<Replica<D>>, AllocError>
+    requires few { AreFew (listed D.state devices.items) }
     requires many { length devices.items ≤ MAX_REPLICAS }
-    ensures fit { IfOk result (λ made. AreNodes (map (λ r. node_state state r.node) made.items)) }
     ensures stand { IfOk result (λ made. Pairwise (ReplicaStands setup.buffer)
-        (map (seen_replica state) made.items)
-        (map (opened_over setup) (listed state devices.items))) }
+        (map seen_replica made.items)
+        (map (opened_over setup) (listed D.state devices.items))) }
 {
     let mut replicas = Vec::with_capacity(alloc, devices.len())?;
     for list in devices {
@@ -93,7 +86,7 @@ fn replicas_over(
     Ok(replicas)
 }
 
-impl World {
+impl<D: PageDevice> World<D> {
     /// A world in which nothing has happened, with a replica over each list of devices: no replica has
     /// heard of a page or has one in its pool, nothing waits, and no frame was sent. The room of every
     /// buffer and pool is taken here.
@@ -106,14 +99,13 @@ impl World {
     pub fn new(
         alloc: Global,
         setup: Setup,
-        devices: Vec<Vec<Box<dyn PageDevice + Send>>>,
-    ) -> Result<World, BadWorld>
-        requires few { AreFew (listed state devices.items) }
-        ensures fit { IfOk result (λ world. IsWorld state world) }
-        ensures stands { IfOk result (λ world. StandsFor (seen state world)
-            (opening setup (listed state devices.items))) }
-        ensures fitting { OnOk result (AreFitting setup (listed state devices.items)) }
-        ensures refused { IfErr result (λ why. NewRefused setup (listed state devices.items) why) }
+        devices: Vec<Vec<D>>,
+    ) -> Result<World<D>, BadWorld>
+        requires few { AreFew (listed D.state devices.items) }
+        ensures stands { IfOk result (λ world. StandsFor (seen world)
+            (opening setup (listed D.state devices.items))) }
+        ensures fitting { OnOk result (AreFitting setup (listed D.state devices.items)) }
+        ensures refused { IfErr result (λ why. NewRefused setup (listed D.state devices.items) why) }
     {
         if devices.len() != setup.replicas() as usize {
             return Err(BadWorld::DevicesDiffer);
@@ -126,7 +118,6 @@ impl World {
                 alloc,
                 replicas,
                 frames: Vec::new(alloc),
-                boxes: PhantomData,
             }),
             Err(_) => Err(BadWorld::Memory),
         }
@@ -134,31 +125,31 @@ impl World {
 
     // How many replicas there are.
     fn replica_count(&self) -> usize
-        ensures { result ≡ length (seen_shape (seen state self.now)).workers }
+        ensures { result ≡ length (seen_shape (seen self.now)).workers }
     {
         self.replicas.len()
     }
 
     // How many workers the replica of a number has.
     fn worker_count(&self, i: u16) -> usize
-        requires { IsNumber i (length (seen_shape (seen state self.now)).workers) }
-        ensures { result ≡ slice_index_or (seen_shape (seen state self.now)).workers (place i) 0 }
+        requires { IsNumber i (length (seen_shape (seen self.now)).workers) }
+        ensures { result ≡ slice_index_or (seen_shape (seen self.now)).workers (place i) 0 }
     {
         self.replicas[i as usize - 1].buffers.len()
     }
 
     // How many frames were sent.
     fn frame_count(&self) -> usize
-        ensures { result ≡ (seen_shape (seen state self.now)).frames }
+        ensures { result ≡ (seen_shape (seen self.now)).frames }
     {
         self.frames.len()
     }
 
     // Whether all that an event names is there.
     fn check(&self, event: &Event) -> Result<(), WorldFault>
-        ensures named { OnOk result (IsNamed (seen_shape (seen state self.now)) event.now) }
+        ensures named { OnOk result (IsNamed (seen_shape (seen self.now)) event.now) }
         ensures missing { IfErr result (λ fault.
-            IsMissing (seen_shape (seen state self.now)) event.now fault) }
+            IsMissing (seen_shape (seen self.now)) event.now fault) }
     {
         let i = event.replica();
         if !is_number(i as u64, self.replica_count()) {
@@ -178,11 +169,9 @@ impl World {
     }
 
     fn refer(&mut self, i: u16, w: u16, page: PageId, time: u64) -> Answer
-        requires fit { IsWorld state self.old }
-        requires named { IsNamed (seen_shape (seen state self.old)) (Event.Refer i w page time) }
-        ensures fit { IsWorld state self.new }
-        ensures step { Steps (seen state self.old) (Event.Refer i w page time) result
-            (seen state self.new) }
+        requires named { IsNamed (seen_shape (seen self.old)) (Event.Refer i w page time) }
+        ensures step { Steps (seen self.old) (Event.Refer i w page time) result
+            (seen self.new) }
     {
         let worker = w as usize - 1;
         match self.replicas[i as usize - 1].refer(worker, page, time) {
@@ -192,10 +181,8 @@ impl World {
     }
 
     fn flush(&mut self, i: u16, w: u16) -> Answer
-        requires fit { IsWorld state self.old }
-        requires named { IsNamed (seen_shape (seen state self.old)) (Event.Flush i w) }
-        ensures fit { IsWorld state self.new }
-        ensures step { Steps (seen state self.old) (Event.Flush i w) result (seen state self.new) }
+        requires named { IsNamed (seen_shape (seen self.old)) (Event.Flush i w) }
+        ensures step { Steps (seen self.old) (Event.Flush i w) result (seen self.new) }
     {
         let worker = w as usize - 1;
         match self.replicas[i as usize - 1].flush(worker) {
@@ -205,10 +192,8 @@ impl World {
     }
 
     fn restart(&mut self, i: u16) -> Answer
-        requires fit { IsWorld state self.old }
-        requires named { IsNamed (seen_shape (seen state self.old)) (Event.Restart i) }
-        ensures fit { IsWorld state self.new }
-        ensures step { Steps (seen state self.old) (Event.Restart i) result (seen state self.new) }
+        requires named { IsNamed (seen_shape (seen self.old)) (Event.Restart i) }
+        ensures step { Steps (seen self.old) (Event.Restart i) result (seen self.new) }
     {
         match self.replicas[i as usize - 1].restart() {
             Ok(()) => Answer::Done,
@@ -220,9 +205,7 @@ impl World {
     /// and its answer, to one that the world stands for afterwards. A refused event changes nothing but
     /// counts of devices' failures.
     pub fn step(&mut self, event: Event) -> Answer
-        requires fit { IsWorld state self.old }
-        ensures fit { IsWorld state self.new }
-        ensures step { Steps (seen state self.old) event result (seen state self.new) }
+        ensures step { Steps (seen self.old) event result (seen self.new) }
     {
         if let Err(fault) = self.check(&event) {
             return Answer::Refused(fault);
@@ -241,6 +224,7 @@ impl World {
             Event::Warm(i, n) => self.warm(i, n),
             Event::WarmStep(i) => self.warm_step(i),
             Event::Restart(i) => self.restart(i),
+            Event::Horizon(i, time) => self.horizon(i, time),
             Event::Show(i) => self.show(i),
         }
     }
@@ -248,19 +232,17 @@ impl World {
     /// Answers a list of events, one after another. Whatever model state the world stands for, `Run` leads
     /// from it, by the events and their answers, to one that the world stands for afterwards. In words:
     ///
-    /// After any list of references, buffer flushes, gossip sends, losses, repeats, reorderings, pins,
-    /// warm-ups and restarts, each replica's history is exactly the two latest stamps of every page among
-    /// all references that reached it, directly or through others, since its restart; replicas reached by
-    /// the same references agree on history, ranking and warm-up list; and each victim is an unfixed
-    /// resident page of greatest backward 2-distance over the references that reached its replica.
+    /// After any list of references, buffer flushes, gossip sends, losses, repeats, reorderings, horizons
+    /// and restarts, each replica's history is exactly the two latest stamps, not older than its horizon, of
+    /// every page among all references that reached it, directly or through others, since its restart;
+    /// replicas that keep the same references agree on history, ranking and warm-up list, and each victim is
+    /// an unfixed resident page of greatest backward 2-distance.
     ///
     /// Room for the answers is taken before the first event. Where there is none the events come back,
     /// and nothing has happened.
     pub fn run(&mut self, events: Vec<Event>) -> Result<Vec<Answer>, Vec<Event>>
-        requires fit { IsWorld state self.old }
-        ensures fit { IsWorld state self.new }
         ensures ran { IfOk result (λ answers.
-            Runs (seen state self.old) events.items answers.items (seen state self.new)) }
+            Runs (seen self.old) events.items answers.items (seen self.new)) }
         ensures refused { IfErr result (λ back. (back ≡ events) × (self.new ≡ self.old)) }
     {
         let Ok(mut answers) = Vec::with_capacity(self.alloc, events.len()) else {
@@ -280,12 +262,10 @@ impl World {
     /// `Pool(Fault)` at the first write or flush that fails. Of what the world shows, one count of failures
     /// alone has changed.
     pub fn finish(&mut self) -> Result<(), NodeFault>
-        requires fit { IsWorld state self.old }
-        ensures fit { IsWorld state self.new }
-        ensures same { OnOk result (seen state self.new ≡ seen state self.old) }
-        ensures settled { OnOk result (IsAtRest state self.new) }
-        ensures refused { IfErr result (λ why. FinishFails (seen state self.old) why
-            (seen state self.new)) }
+        ensures same { OnOk result (seen self.new ≡ seen self.old) }
+        ensures settled { OnOk result (IsAtRest self.new) }
+        ensures refused { IfErr result (λ why. FinishFails (seen self.old) why
+            (seen self.new)) }
     {
         for k in 0..self.replicas.len() {
             if let Err(why) = self.write_back(k) {
@@ -297,14 +277,12 @@ impl World {
 
     // Writes the pages of the replica at a place back.
     fn write_back(&mut self, k: usize) -> Result<(), NodeFault>
-        requires fit { IsWorld state self.old }
         requires there { k < length self.old.replicas.items }
-        ensures fit { IsWorld state self.new }
-        ensures same { OnOk result (seen state self.new ≡ seen state self.old) }
-        ensures settled { IsSettledBefore state k self.old
-            → OnOk result (IsSettledBefore state (k + 1) self.new) }
-        ensures refused { IfErr result (λ why. FinishFails (seen state self.old) why
-            (seen state self.new)) }
+        ensures same { OnOk result (seen self.new ≡ seen self.old) }
+        ensures settled { IsSettledBefore k self.old
+            → OnOk result (IsSettledBefore (k + 1) self.new) }
+        ensures refused { IfErr result (λ why. FinishFails (seen self.old) why
+            (seen self.new)) }
         ensures many { length self.new.replicas.items ≡ length self.old.replicas.items }
     {
         self.replicas[k].node.write_back()

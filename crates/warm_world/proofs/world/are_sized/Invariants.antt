@@ -7,5 +7,5 @@ use Rattle.warm_world.proofs.world.are_sized.Given as goal
 -- the lists so far have devices of the size
 abbrev pub invariant-loop-list : goal.invariant-loop-list
 invariant-loop-list g l = (k : ℕ) → k < l.list-index
-    → AreOfSize l.page_size (length (devices_at (listed (λ b. (goal.PageDevice-dyn g (b.vtable, b.value)).state b.value) l.devices) k))
-    (devices_at (listed (λ b. (goal.PageDevice-dyn g (b.vtable, b.value)).state b.value) l.devices) k)
+    → AreOfSize l.page_size (length (devices_at (listed g.D.PageDevice.state l.devices) k))
+    (devices_at (listed g.D.PageDevice.state l.devices) k)

@@ -1,6 +1,6 @@
 use Rattle.std.proofs.Common.{◌≡◌, ◌+◌, ◌++◌, ◌∷◌, [], length, append_assoc, ap, sym, ◌∙◌, arith}
 use Rattle.std.proofs.lemmas.List.{length-append}
-use Rattle.warm_world.proofs.Openings.{few_here, node_more, one_more}
+use Rattle.warm_world.proofs.Openings.{few_here, one_more}
 use Rattle.warm_world.proofs.world.replicas_over.Goals as goal
 
 pub new-requires-in-loop-list : goal.new-requires-in-loop-list
@@ -14,9 +14,8 @@ loop-list-preserved g c =
     let number : c.in-Ok.id ≡ length c.loop-list.replicas.items + 1 = omega (arith, c.in-Ok.ensures.value, c.len-in-loop-list.ensures, c.loop-list.replicas.ok.0) in
     record {
       rest = append_assoc so_far (list ∷ []) c.next.new.self.rest.items ∙ (ap (λ r. so_far ++ r) (sym c.in-Some.ensures.steps.0) ∙ c.loop-list.invariant.rest);
-      fit = node_more _ _ _ _ c.push_reserved.ensures.items c.loop-list.invariant.fit c.in_ok-replica.ensures.fit;
       stand = one_more _ _ c.args.setup c.loop-list.replicas.items _ c.in_ok-replica.replica so_far list c.push_reserved.ensures.items c.loop-list.invariant.stand
-          (c.in_ok-replica.ensures.stands (length c.loop-list.replicas.items) number);
+          (c.in_ok-replica.ensures (length c.loop-list.replicas.items) number);
       count = ap length c.push_reserved.ensures.items ∙ omega (arith, length-append c.loop-list.replicas.items (c.in_ok-replica.replica ∷ []), length-append so_far (list ∷ []), c.loop-list.invariant.count);
       room = omega (arith, c.push_reserved.ensures.capacity, c.loop-list.invariant.room);
     }

@@ -11,9 +11,8 @@ use Rattle.warm_world.proofs.world.replicas_over.Given as goal
 abbrev pub invariant-loop-list : goal.invariant-loop-list
 invariant-loop-list g l = record {
   rest : l.yielded ++ into_iter_items l.list-iterator ≡ l.fn.devices.items;
-  fit : AreNodes (map (λ r. node_state (λ b. (goal.PageDevice-dyn g (b.vtable, b.value)).state b.value) r.node) l.replicas.items);
-  stand : Pairwise (ReplicaStands l.fn.setup.buffer) (map (seen_replica (λ b. (goal.PageDevice-dyn g (b.vtable, b.value)).state b.value)) l.replicas.items)
-      (map (opened_over l.fn.setup) (listed (λ b. (goal.PageDevice-dyn g (b.vtable, b.value)).state b.value) l.yielded));
+  stand : Pairwise (ReplicaStands l.fn.setup.buffer) (map seen_replica l.replicas.items)
+      (map (opened_over l.fn.setup) (listed g.D.PageDevice.state l.yielded));
   count : length l.replicas.items ≡ length l.yielded;
   room : length l.fn.devices.items ≤ vec_capacity l.replicas;
 }

@@ -13,4 +13,4 @@ returns-clause-ok g c = λ room place m st.
     let written = buffer_at room bs m.pending c.args.worker c.index_mut.result.now st.buffers_are c.requires.there in
     let cap : c.index_mut.result.now.cap ≡ room = ap (λ (b : Buffered). b.cap) (c.index_mut.ensures.value ∙ written) in
     let emptied : c.clear.new.self ≡ buffered room [] = rw (c.clear.ensures, cap) refl in
-    flushes room place c.args.worker _ _ m c.refs.result.now st c.requires.there batch c.in_ok-absorb.ensures.step (rw emptied refl)
+    flushes room place c.args.worker _ _ m c.refs.result.now st c.requires.there batch c.in_ok-absorb.ensures (rw emptied refl)

@@ -10,17 +10,8 @@ use Rattle.warm_world.proofs.Alone.{receive_refused}
 use Rattle.warm_world.proofs.Delivers.{taken}
 use Rattle.warm_world.proofs.Frames.{kept_at}
 use Rattle.warm_world.proofs.Histories.{same_frame}
-use Rattle.warm_world.proofs.Worlds.{named_too, node_at, no_memory, place_in, still_nodes}
+use Rattle.warm_world.proofs.Worlds.{named_too, no_memory, place_in}
 use Rattle.warm_world.proofs.world.World.deliver.Goals as goal
-
-pub receive-requires : goal.receive-requires
-receive-requires g c = record { fit = node_at _ _ _ _ c.requires.fit (place_in _ _ _ (Deliver c.args.j c.args.k) c.requires.named) c.index_mut.ensures.value }
-
-pub returns-in-Ok-receive-clause-fit : goal.returns-in-Ok-receive-clause-fit
-returns-in-Ok-receive-clause-fit g c = still_nodes _ _ _ _ (place_in _ _ _ (Deliver c.args.j c.args.k) c.requires.named) c.requires.fit c.receive.ensures.fit
-
-pub returns-in-Err-clause-fit : goal.returns-in-Err-clause-fit
-returns-in-Err-clause-fit g c = still_nodes _ _ _ _ (place_in _ _ _ (Deliver c.args.j c.args.k) c.requires.named) c.requires.fit c.receive.ensures.fit
 
 pub returns-in-Ok-receive-clause-step : goal.returns-in-Ok-receive-clause-step
 returns-in-Ok-receive-clause-step g c = λ m st.
@@ -28,12 +19,12 @@ returns-in-Ok-receive-clause-step g c = λ m st.
     let found = same_frame c.decode.result _ c.in-Ok.frame (frame_kept (record_at m (c.args.k - 1))) c.in-Ok.is
     (c.decode.ensures.only (frame_kept (record_at m (c.args.k - 1))) (subst (λ b. Spells b (frame_kept (record_at m (c.args.k - 1)))) (sym c.deref.ensures.value) kept.spells)) in
     taken _ _ _ m c.args.j c.args.k _ _ c.in-Ok.frame c.as_slice.result.now _ _ c.took.result st c.requires.named c.index_mut.ensures.value found
-    (subst (λ fs. IsAnswer c.index_mut.result.now.node.id c.index_mut.result.now.node.history c.in-Ok.frame fs) (sym c.as_slice.ensures) c.in-Ok-receive.ensures.step.0)
-    c.in-Ok-receive.ensures.step.1 refl c.took.ensures
+    (subst (λ fs. IsAnswer c.index_mut.result.now.node.id c.index_mut.result.now.node.history c.in-Ok.frame fs) (sym c.as_slice.ensures) c.in-Ok-receive.ensures.0)
+    c.in-Ok-receive.ensures.1 refl c.took.ensures
 
 pub returns-in-Err-clause-step : goal.returns-in-Err-clause-step
 returns-in-Err-clause-step g c = λ m st.
     let event = Deliver c.args.j c.args.k in
-    let refused = receive_refused _ _ c.in-Ok.frame c.in-Err.why c.in-Err.ensures.step in
+    let refused = receive_refused _ _ c.in-Ok.frame c.in-Err.why c.in-Err.ensures in
     no_memory _ _ _ m event (c.args.j - 1) _ _ c.in-Err.why st (place_in _ _ _ event c.requires.named) c.index_mut.ensures.value
     (ap (λ (n : NodeView). let r : ReplicaSeen = record { node = n; buffers = c.index_mut.result.now.buffers.items } in r) refused.1) refused.0 (named_too _ m event st c.requires.named, refl)

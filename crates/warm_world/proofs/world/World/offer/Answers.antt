@@ -9,17 +9,8 @@ use Rattle.warm_world.specs.Stands.{frame_kept}
 use Rattle.warm_world.proofs.Alone.{offer_refused}
 use Rattle.warm_world.proofs.Frames.{kept_one}
 use Rattle.warm_world.proofs.Histories.{offered_kept}
-use Rattle.warm_world.proofs.Worlds.{named_too, no_memory, node_at, place_in, replica_stays, stands_at, still_nodes}
+use Rattle.warm_world.proofs.Worlds.{named_too, no_memory, place_in, replica_stays, stands_at}
 use Rattle.warm_world.proofs.world.World.offer.Goals as goal
-
-pub offer-requires : goal.offer-requires
-offer-requires g c = record { fit = node_at _ _ _ _ c.requires.fit (place_in _ _ _ (Offer c.args.i) c.requires.named) c.index_mut.ensures.value }
-
-pub keep-requires : goal.keep-requires
-keep-requires g c = record { fit = still_nodes _ _ _ _ (place_in _ _ _ (Offer c.args.i) c.requires.named) c.requires.fit c.offer.ensures.fit }
-
-pub returns-in-Err-clause-fit : goal.returns-in-Err-clause-fit
-returns-in-Err-clause-fit g c = still_nodes _ _ _ _ (place_in _ _ _ (Offer c.args.i) c.requires.named) c.requires.fit c.offer.ensures.fit
 
 pub returns-in-Ok-clause-step : goal.returns-in-Ok-clause-step
 returns-in-Ok-clause-step g c = λ m st.
@@ -31,16 +22,16 @@ returns-in-Ok-clause-step g c = λ m st.
     let number : k + 1 ≡ c.args.i = omega (arith, c.requires.named.replica_there.from_one) in
     let id : c.index_mut.result.now.node.id ≡ c.args.i = ap (λ (v : NodeView). v.id) here.node_is ∙ number in
     let holds : c.index_mut.result.now.node.history ≡ history (replica m k).reach = ap (λ (v : NodeView). v.history) here.node_is in
-    let kept = Sums c.args.i (sums_of (entries_of (history (replica m k).reach))) in
+    let kept = Sums c.args.i (replica m k).reach.horizon (sums_of (entries_of (history (replica m k).reach))) in
     let frame : c.in-Ok.frame ≡ frame_kept kept =
-    c.in-Ok.ensures.step.0 ∙ offered_kept _ _ _ (replica m k).reach id holds in
+    c.in-Ok.ensures.0 ∙ offered_kept _ _ _ (replica m k).reach id holds in
     let stays = replica_stays _ _ _ m k _ _ st lt c.index_mut.ensures.value
-    (ap (λ (n : NodeView). let r : ReplicaSeen = record { node = n; buffers = c.index_mut.result.now.buffers.items } in r) c.in-Ok.ensures.step.1) in
+    (ap (λ (n : NodeView). let r : ReplicaSeen = record { node = n; buffers = c.index_mut.result.now.buffers.items } in r) c.in-Ok.ensures.1) in
     kept_one _ _ m event c.in-Ok.frame c.keep.result kept stays frame c.keep.ensures.keeps (λ n new is becomes. (named, (is, becomes))) (named, refl)
 
 pub returns-in-Err-clause-step : goal.returns-in-Err-clause-step
 returns-in-Err-clause-step g c = λ m st.
     let event = Offer c.args.i in
     no_memory _ _ _ m event (c.args.i - 1) _ _ c.in-Err.why st (place_in _ _ _ event c.requires.named) c.index_mut.ensures.value
-    (ap (λ (n : NodeView). let r : ReplicaSeen = record { node = n; buffers = c.index_mut.result.now.buffers.items } in r) (offer_refused _ _ c.in-Err.why c.in-Err.ensures.step).1)
-    (offer_refused _ _ c.in-Err.why c.in-Err.ensures.step).0 (named_too _ m event st c.requires.named, refl)
+    (ap (λ (n : NodeView). let r : ReplicaSeen = record { node = n; buffers = c.index_mut.result.now.buffers.items } in r) (offer_refused _ _ c.in-Err.why c.in-Err.ensures).1)
+    (offer_refused _ _ c.in-Err.why c.in-Err.ensures).0 (named_too _ m event st c.requires.named, refl)

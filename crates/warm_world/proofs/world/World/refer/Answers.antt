@@ -4,22 +4,8 @@ use Rattle.warm_world.specs.declared.event.Event.TheVariants.{Refer}
 use Rattle.warm_world.specs.declared.event.Answer.TheVariants.{Done}
 use Rattle.warm_world.specs.States.{replica, referred}
 use Rattle.warm_world.specs.Next.{stamped}
-use Rattle.warm_world.proofs.Worlds.{changes, named_too, node_at, no_memory, place_in, stands_at, still_nodes, worker_in}
+use Rattle.warm_world.proofs.Worlds.{changes, named_too, no_memory, place_in, stands_at, worker_in}
 use Rattle.warm_world.proofs.world.World.refer.Goals as goal
-
-pub refer-requires : goal.refer-requires
-refer-requires g c =
-    let lt = place_in _ _ _ (Refer c.args.i c.args.w c.args.page c.args.time) c.requires.named in
-    record {
-      fit = node_at _ _ _ _ c.requires.fit lt c.index_mut.ensures.value;
-      there = worker_in _ _ [] c.args.i c.args.w c.index_mut.result.now lt c.index_mut.ensures.value c.requires.named.worker_there;
-    }
-
-pub returns-in-Ok-clause-fit : goal.returns-in-Ok-clause-fit
-returns-in-Ok-clause-fit g c = still_nodes _ _ _ _ (place_in _ _ _ (Refer c.args.i c.args.w c.args.page c.args.time) c.requires.named) c.requires.fit c.refer.ensures.fit
-
-pub returns-in-Err-clause-fit : goal.returns-in-Err-clause-fit
-returns-in-Err-clause-fit g c = still_nodes _ _ _ _ (place_in _ _ _ (Refer c.args.i c.args.w c.args.page c.args.time) c.requires.named) c.requires.fit c.refer.ensures.fit
 
 pub returns-in-Ok-clause-step : goal.returns-in-Ok-clause-step
 returns-in-Ok-clause-step g c = λ m st.

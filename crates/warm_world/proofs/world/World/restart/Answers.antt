@@ -9,17 +9,8 @@ use Rattle.warm_world.specs.declared.event.WorldFault.TheVariants.{Node}
 use Rattle.warm_world.specs.States.{replica, restarted}
 use Rattle.warm_world.proofs.Alone.{refused_alone}
 use Rattle.warm_world.proofs.Replicas.{restarts}
-use Rattle.warm_world.proofs.Worlds.{asked_as, changes, named_too, node_at, place_in, stands_at, still_nodes}
+use Rattle.warm_world.proofs.Worlds.{asked_as, changes, named_too, place_in, stands_at}
 use Rattle.warm_world.proofs.world.World.restart.Goals as goal
-
-pub restart-requires : goal.restart-requires
-restart-requires g c = record { fit = node_at _ _ _ _ c.requires.fit (place_in _ _ _ (Restart c.args.i) c.requires.named) c.index_mut.ensures.value }
-
-pub returns-in-Ok-clause-fit : goal.returns-in-Ok-clause-fit
-returns-in-Ok-clause-fit g c = still_nodes _ _ _ _ (place_in _ _ _ (Restart c.args.i) c.requires.named) c.requires.fit c.restart.ensures.fit
-
-pub returns-in-Err-clause-fit : goal.returns-in-Err-clause-fit
-returns-in-Err-clause-fit g c = still_nodes _ _ _ _ (place_in _ _ _ (Restart c.args.i) c.requires.named) c.requires.fit c.restart.ensures.fit
 
 pub returns-in-Ok-clause-step : goal.returns-in-Ok-clause-step
 returns-in-Ok-clause-step g c = λ m st.

@@ -8,9 +8,8 @@ use Rattle.warm_world.proofs.world.World.run.Given as goal
 -- the events so far led to what the world stands for, and there is room for all the answers
 abbrev pub invariant-loop-event : goal.invariant-loop-event
 invariant-loop-event g l = record {
-  fit : IsWorld (λ b. (goal.PageDevice-dyn g (b.vtable, b.value)).state b.value) l.self;
-  ran : (m : ModelState) → StandsFor (seen (λ b. (goal.PageDevice-dyn g (b.vtable, b.value)).state b.value) l.fn.self) m
-      → Ran m l.yielded l.answers.items (seen (λ b. (goal.PageDevice-dyn g (b.vtable, b.value)).state b.value) l.self);
+  ran : (m : ModelState) → StandsFor (seen l.fn.self) m
+      → Ran m l.yielded l.answers.items (seen l.self);
   rest : l.yielded ++ into_iter_items l.event-iterator ≡ l.fn.events.items;
   count : length l.answers.items ≡ length l.yielded;
   room : length l.fn.events.items ≤ vec_capacity l.answers;

@@ -2,11 +2,8 @@ use Rattle.warm_world.specs.declared.event.Event.TheVariants.{Victim}
 use Rattle.warm_gossip.specs.declared.call.Call.TheVariants as call
 use Rattle.warm_gossip.specs.declared.call.Reply.TheVariants as reply
 use Rattle.warm_world.specs.declared.event.Answer.TheVariants as answer
-use Rattle.warm_world.proofs.Worlds.{asked_still, node_at, place_in}
+use Rattle.warm_world.proofs.Worlds.{asked_still}
 use Rattle.warm_world.proofs.world.World.victim.Goals as goal
-
-pub victim-requires : goal.victim-requires
-victim-requires g c = record { fit = node_at _ _ _ _ c.requires.fit (place_in _ _ _ (Victim c.args.i) c.requires.named) c.index.ensures }
 
 pub returns : goal.returns
 returns g c = λ m st.
