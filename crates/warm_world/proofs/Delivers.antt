@@ -1,7 +1,7 @@
 -- A frame comes to a replica.
 use Rattle.std.proofs.Common.{◌≡◌, ℕ, ◌+◌, ◌-◌, List, [], Some, None, length, get_or, set, refl, sym, ◌∙◌, ap, subst, arith}
 use Rattle.std.specs.Prelude.{◌==◌, if◌then◌else◌}
-use Rattle.std.proofs.lemmas.List.{length-append, length-map}
+use Rattle.std.proofs.lemmas.List.{length-append, length-map, set-set}
 use Rattle.warm_history.specs.Histories.{HistoryView, history, refs}
 use Rattle.warm_history.specs.ReferenceSets.{since}
 use Rattle.warm_frames.specs.declared.frame.Frame.{Frame}
@@ -118,7 +118,7 @@ module _ {A : Type 0} (f : A → ReplicaSeen) (xs : List A) (frames : List (List
       ∙ ap (λ (r : ReplicaSeen). let s : ReplicaSeen = record r { node = record r.node { history = history (since horizon (refs r.node.history)) } } in s) same
       ∙ ap (λ (h : HistoryView). let s : ReplicaSeen = record (f x) { node = record (f x).node { history = h } } in s) (sym (taught_horizon (f x).node.history frame horizon rises)) in
       let kept : Takes frames answers (Took count first) frames' = subst (λ a. Takes frames answers a frames') took takes in
-      rw (set-set_same xs (place j) y z, took) (delivered m j k count first x z frame answers n frames' st named is spelled answered refl shows kept.0 kept.1 kept.2)
+      rw (set-set xs (place j) y z, took) (delivered m j k count first x z frame answers n frames' st named is spelled answered refl shows kept.0 kept.1 kept.2)
 
   -- there is no memory for the answers, and nothing has changed
   pub unkept : (m : ModelState) (j k : ℕ) (x y : A) (frames' : List (List ℕ)) (answers : List Frame) (answer : Answer)

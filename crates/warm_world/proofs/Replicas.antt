@@ -6,9 +6,10 @@ use Rattle.warm_stamps.specs.declared.Reference.{Reference}
 use Rattle.warm_refbuffer.specs.Buffered.{Buffered}
 use Rattle.std.proofs.lemmas.List.{get_or-set_same}
 use Rattle.std.proofs.lemmas.Bool.Decides.{nat_tests}
-use Rattle.warm_world.specs.States.{ReplicaState, pending, flushed, opened_over, put_last, referred, restarted}
-use Rattle.warm_history.specs.ReferenceSets.{these, ◌∪◌}
+use Rattle.warm_world.specs.States.{ReplicaState, pending, flushed, opened_over, put_last, raised, referred, restarted}
+use Rattle.warm_history.specs.ReferenceSets.{these, since, ◌∪◌}
 use Rattle.warm_history.specs.Histories.{HistoryView, history, holding, refs}
+use Rattle.warm_history.proofs.HistoryLemmas.{horizon-history}
 use Rattle.warm_history.proofs.JoinLemmas.{history_first}
 use Rattle.warm_devices.specs.Device.{DeviceState}
 use Rattle.warm_pool.specs.State.{PoolState}
@@ -64,7 +65,7 @@ flushes room place k old new m batch st lt is told emptied = record {
   has_room = st.has_room;
   node_is = told
       ∙ ap (λ (n : NodeView). let v : NodeView = record n { history = history (refs n.history ∪ these batch) } in v) st.node_is
-      ∙ ap (λ (h : HistoryView). let v : NodeView = record { id = place + 1; history = h; pool = m.pool } in v) (history_first m.reach batch ∙ ap (λ b. history (m.reach ∪ these b)) is);
+      ∙ ap (λ (h : HistoryView). let v : NodeView = record { id = place + 1; history = h; pool = m.pool } in v) (history_first m.reach (these batch) ∙ ap (λ b. history (m.reach ∪ these b)) is);
   buffers_are = emptied ∙ buffer_set room old.buffers m.pending k (buffered room []) [] st.buffers_are refl;
 }
 
@@ -85,6 +86,22 @@ opened_stands s devices place id room workers frames size n p bs some of_room of
       ∙ ap (λ (h : HistoryView). let v : NodeView = record { id = place + 1; history = h; pool = view_of (pools.opened s.frames s.page_size devices) } in v) (sym history_of_nothing);
   buffers_are = empty ∙ ap (λ k. replicate workers (buffered k [])) of_room ∙ ap (λ k. replicate k (buffered s.buffer [])) of_workers ∙ sym (empty_buffers_are s.buffer s.workers);
 }
+
+-- a replica whose horizon has risen, or stayed
+pub raises : (room place time : ℕ) (old new : ReplicaSeen) (m : ReplicaState) → ReplicaStands room place old m
+    → (let r : ReplicaSeen = record old { node = record old.node { history = history (since time (refs old.node.history)) } } in new ≡ r)
+    → ReplicaStands room place new (raised time m)
+raises room place time old new m st becomes = record {
+  has_room = st.has_room;
+  node_is = ap (λ (r : ReplicaSeen). r.node) becomes
+      ∙ ap (λ (n : NodeView). let v : NodeView = record n { history = history (since time (refs n.history)) } in v) st.node_is
+      ∙ ap (λ (h : HistoryView). let v : NodeView = record { id = place + 1; history = h; pool = m.pool } in v) (history_first m.reach (record { horizon = time; told = [] }));
+  buffers_are = ap (λ (r : ReplicaSeen). r.buffers) becomes ∙ st.buffers_are;
+}
+
+-- its horizon is that of what reached it
+pub horizon_seen : (room place : ℕ) (r : ReplicaSeen) (m : ReplicaState) → ReplicaStands room place r m → r.node.history.horizon ≡ m.reach.horizon
+horizon_seen room place r m st = ap (λ (n : NodeView). n.history.horizon) st.node_is ∙ horizon-history m.reach
 
 -- a replica whose node has restarted
 pub restarts : (room place : ℕ) (old new : ReplicaSeen) (m : ReplicaState) (pool : PoolView) → ReplicaStands room place old m

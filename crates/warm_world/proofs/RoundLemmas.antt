@@ -1,5 +1,5 @@
 -- Deliveries of a world are frames that a node hears.
-use Rattle.std.proofs.Common.{◌≡◌, ◌≢◌, ◌⊎◌, inl, inr, ℕ, ◌+◌, ◌-◌, ◌<◌, List, [], ◌∷◌, ◌++◌, length, map, refl, sym, ap, subst, ◌∙◌, append_assoc, arith, Bool, true, false, if◌then◌else◌}
+use Rattle.std.proofs.Common.{◌≡◌, ◌≢◌, ◌⊎◌, inl, inr, ℕ, ◌+◌, ◌-◌, ◌<◌, List, [], ◌∷◌, ◌++◌, length, map, refl, sym, ap, subst, ◌∙◌, append_assoc, arith}
 use Rattle.std.specs.Prelude.{◌==◌, slice_index_or}
 use Rattle.std.specs.List.{AllByRecursion}
 use Rattle.std.proofs.lemmas.Bool.{cases_eq}
@@ -22,7 +22,7 @@ use Rattle.warm_world.specs.declared.event.Answer.{Answer}
 use Rattle.warm_world.specs.declared.event.Answer.TheVariants.{Done, Shown, FrameNo, Took, Pinned, Bytes, Page, Pages, Loaded, Kept, Refused}
 use Rattle.warm_world.specs.Lists.{place}
 use Rattle.warm_world.specs.States.{ModelState, FrameRecord, References, Sums, Mask, ReplicaState, add_records, nobody, replica, reach_of, record_at}
-use Rattle.warm_world.specs.Answered.{wanted_records, AreAnswers, heard}
+use Rattle.warm_world.specs.Answered.{AreAnswers, heard}
 use Rattle.warm_world.specs.Next.{Next, Run, Delivered, IsNamed, shape}
 use Rattle.warm_world.specs.Stands.{frame_kept}
 use Rattle.warm_gossip.proofs.Ranks.{raised_to_no_later}

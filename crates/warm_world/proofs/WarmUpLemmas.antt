@@ -23,7 +23,7 @@ use Rattle.warm_world.specs.Seen.{ReplicaSeen, WorldSeen}
 use Rattle.warm_world.specs.Next.{Asked, IsNamed, Next, Run, shape}
 use Rattle.warm_world.specs.Stands.{ReplicaStands, StandsFor}
 use Rattle.warm_world.specs.Rounds.{IsTaken}
-use Rattle.warm_world.specs.WarmUps.{PoolsDiffer, WarmUpLoads}
+use Rattle.warm_world.specs.WarmUps.{ArePools, PoolsDiffer, WarmUpLoads}
 
 -- ---- one step
 
@@ -98,7 +98,7 @@ module _ {A : Type 0} (g : A → NodeState) (f : A → ReplicaSeen) (shown : (x 
       ∙ get_or-map node_view (map g xs) k no_node
 
   -- no page of its pools is in two frames
-  pub pools_differ : (xs : List A) (frames : List (List ℕ)) (m : ModelState) → AreNodes (map g xs) → (let w : WorldSeen = record { replicas = map f xs; frames = frames } in StandsFor w m) → PoolsDiffer m
+  pub pools_differ : (xs : List A) (frames : List (List ℕ)) (m : ModelState) → ArePools (map g xs) → (let w : WorldSeen = record { replicas = map f xs; frames = frames } in StandsFor w m) → PoolsDiffer m
   pools_differ xs frames m fit stands i =
       let k : ℕ = place i in
       elim (cases_lt k (length xs)) [
@@ -106,7 +106,7 @@ module _ {A : Type 0} (g : A → NodeState) (f : A → ReplicaSeen) (shown : (x 
             let low : k < length (map f xs) = omega (arith, there, length-map xs f) in
             let one : ReplicaStands m.room k (get_or (map f xs) k unseen) (replica m k) = stands.replicas.each k unseen nobody low in
             let pool : view_of (get_or (map g xs) k no_node).pool ≡ pool_of m i = ap (λ (n : NodeView). n.pool) (sym (node_shown xs k) ∙ one.node_is) in
-            subst PagesDiffer pool (pages_differ (get_or (map g xs) k no_node).pool (fit.each k no_node (omega (arith, there, length-map xs g))).0)
+            subst PagesDiffer pool (pages_differ (get_or (map g xs) k no_node).pool (fit k no_node (omega (arith, there, length-map xs g))))
         | inr beyond ↦
             let none : replica m k ≡ nobody = get_or_past m.replicas k nobody (omega (arith, beyond, stands.replicas.same_length, length-map xs f)) in
             subst PagesDiffer (ap (λ (r : ReplicaState). r.pool) (sym none)) bare_differs

@@ -1,7 +1,7 @@
 -- One replica of a world changes, or nothing does.
 use Rattle.std.proofs.Common.{◌≡◌, ℕ, ◌+◌, ◌<◌, List, length, map, get_or, refl, sym, ◌∙◌, ap, subst, arith}
 use Rattle.std.proofs.Math.ListN.{set}
-use Rattle.std.proofs.lemmas.List.{get_or-map, set-get_or, length-map, length-set, map-set}
+use Rattle.std.proofs.lemmas.List.{get_or-map, set-get_or, length-map, map-set}
 use Rattle.warm_refbuffer.specs.Buffered.{Buffered}
 use Rattle.warm_history.specs.Histories.{history}
 use Rattle.warm_gossip.specs.declared.call.Call.{Call}

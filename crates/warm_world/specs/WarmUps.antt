@@ -1,7 +1,9 @@
 -- Warming up a replica of a world, and what it comes to.
-use Rattle.std.specs.Prelude.{ℕ, List, length, replicate}
+use Rattle.std.specs.Prelude.{ℕ, ◌<◌, List, length, replicate, slice_index_or}
 use Rattle.warm_stamps.specs.declared.PageId.{PageId}
+use Rattle.warm_pool.specs.State.{IsPool}
 use Rattle.warm_pool.specs.View.{IsResident, IsUnfixed}
+use Rattle.warm_gossip.specs.State.{NodeState}
 use Rattle.warm_gossip.specs.WarmUps.{IsWarm, PagesDiffer}
 use Rattle.warm_world.specs.declared.event.Event.{Event}
 use Rattle.warm_world.specs.declared.event.Event.TheVariants.{WarmStep}
@@ -13,6 +15,10 @@ use Rattle.warm_world.specs.Rounds.{NoneRefused}
 -- as many steps of the warm-up of a replica as its pool has frames
 abbrev pub warm_up : ModelState → ℕ → List Event
 warm_up m i = replicate (length (pool_of m i).frames) (WarmStep i)
+
+-- each of the nodes has a pool that is one
+abbrev pub ArePools : List NodeState → Type 0
+ArePools nodes = (k : ℕ) (other : NodeState) → k < length nodes → IsPool (slice_index_or nodes k other).pool
 
 -- in no replica's pool is a page in two frames
 abbrev pub PoolsDiffer : ModelState → Type 0

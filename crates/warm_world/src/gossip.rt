@@ -74,7 +74,7 @@ fn horizon_raised(frame: &Frame) -> Option<u64>
 impl<D: PageDevice> World<D> {
     // Keeps a frame after the others.
     fn keep(&mut self, frame: &Frame) -> Answer
-        ensures keeps { Keeps (seen self.old) frame.now result (seen self.new) }
+        ensures { Keeps (seen self.old) frame.now result (seen self.new) }
     {
         let Ok(bytes) = encode(self.alloc, frame) else {
             return Answer::Refused(WorldFault::Node(NodeFault::Memory));
@@ -87,7 +87,7 @@ impl<D: PageDevice> World<D> {
 
     pub(crate) fn send(&mut self, i: u16, bucket: Bucket, after: Option<PageId>) -> Answer
         requires named { IsNamed (seen_shape (seen self.old)) (Event.Send i bucket after) }
-        ensures step { Steps (seen self.old) (Event.Send i bucket after) result
+        ensures { Steps (seen self.old) (Event.Send i bucket after) result
             (seen self.new) }
     {
         match self.replicas[i as usize - 1].node.send(bucket, after) {
@@ -98,7 +98,7 @@ impl<D: PageDevice> World<D> {
 
     pub(crate) fn offer(&mut self, i: u16) -> Answer
         requires named { IsNamed (seen_shape (seen self.old)) (Event.Offer i) }
-        ensures step { Steps (seen self.old) (Event.Offer i) result (seen self.new) }
+        ensures { Steps (seen self.old) (Event.Offer i) result (seen self.new) }
     {
         match self.replicas[i as usize - 1].node.offer() {
             Ok(frame) => self.keep(&frame),
@@ -108,7 +108,7 @@ impl<D: PageDevice> World<D> {
 
     pub(crate) fn deliver(&mut self, j: u16, k: u64) -> Answer
         requires named { IsNamed (seen_shape (seen self.old)) (Event.Deliver j k) }
-        ensures step { Steps (seen self.old) (Event.Deliver j k) result
+        ensures { Steps (seen self.old) (Event.Deliver j k) result
             (seen self.new) }
     {
         // The bytes spell a frame, so nothing but memory can be wanting.
@@ -138,7 +138,7 @@ impl<D: PageDevice> World<D> {
     /// A replica's horizon rises to a time, or stays.
     pub(crate) fn horizon(&mut self, i: u16, time: u64) -> Answer
         requires named { IsNamed (seen_shape (seen self.old)) (Event.Horizon i time) }
-        ensures step { Steps (seen self.old) (Event.Horizon i time) result (seen self.new) }
+        ensures { Steps (seen self.old) (Event.Horizon i time) result (seen self.new) }
     {
         Answer::Kept(self.replicas[i as usize - 1].node.raise(time))
     }

@@ -2,14 +2,15 @@
 //!
 //! Each function does nothing. What it ensures is a theorem, for the crates above to cite and for a reader to look up:
 //! `specs/Rounds.antt`, `specs/Widths.antt` and `specs/WarmUps.antt` say them in full.
-ghost use Rattle.std.specs.Prelude.{◌<◌, ◌^◌};
+ghost use Rattle.std.specs.Prelude.{◌<◌, ◌^◌, map};
 ghost use Rattle.std.specs.List.{AllByRecursion};
 ghost use Rattle.warm_stamps.specs.Bytes.{IsPage};
 ghost use Rattle.warm_world.specs.Rounds.{GossipRoundJoins};
 ghost use Rattle.warm_world.specs.Seen.{seen};
-ghost use Rattle.warm_world.specs.WarmUps.{ShowsPoolsDiffer, WarmUpLoads};
+ghost use Rattle.warm_world.specs.WarmUps.{ArePools, ShowsPoolsDiffer, WarmUpLoads};
 ghost use Rattle.warm_world.specs.Widths.{EventFits, HistoriesFit, OpeningFits, RunsFit};
 
+use crate::replica::Replica;
 use crate::{Event, World};
 use warm_devices::PageDevice;
 use warm_stamps::PageId;
@@ -74,4 +75,15 @@ pub fn warm_up_loads()
 /// No pool of a world has a page in two frames. Nothing is done.
 pub fn pools_differ<D: PageDevice>(world: &World<D>)
     ensures { ShowsPoolsDiffer (seen world.now) }
-{}
+{
+    are_pools(&world.replicas);
+}
+
+// Each of the pools is one: so its type says.
+fn are_pools<D: PageDevice>(replicas: &[Replica<D>])
+    ensures { ArePools (map (λ r. r.node) replicas.now) }
+{
+    for replica in replicas {
+        replica.node.pool().is_pool();
+    }
+}

@@ -12,7 +12,7 @@ use warm_stamps::PageId;
 impl<D: PageDevice> World<D> {
     pub(crate) fn pin(&mut self, i: u16, page: PageId) -> Answer
         requires named { IsNamed (seen_shape (seen self.old)) (Event.Pin i page) }
-        ensures step { Steps (seen self.old) (Event.Pin i page) result (seen self.new) }
+        ensures { Steps (seen self.old) (Event.Pin i page) result (seen self.new) }
     {
         match self.replicas[i as usize - 1].node.pin(page) {
             Ok(slot) => Answer::Pinned(slot),
@@ -22,7 +22,7 @@ impl<D: PageDevice> World<D> {
 
     pub(crate) fn unpin(&mut self, i: u16, slot: Slot) -> Answer
         requires named { IsNamed (seen_shape (seen self.old)) (Event.Unpin i slot) }
-        ensures step { Steps (seen self.old) (Event.Unpin i slot) result
+        ensures { Steps (seen self.old) (Event.Unpin i slot) result
             (seen self.new) }
     {
         match self.replicas[i as usize - 1].node.unpin(slot) {
@@ -34,7 +34,7 @@ impl<D: PageDevice> World<D> {
     pub(crate) fn put(&mut self, i: u16, slot: Slot, at: u32, bytes: &[u8]) -> Answer
         requires named { IsNamed (seen_shape (seen self.old))
             (Event.Put i slot at bytes.now) }
-        ensures step { Steps (seen self.old) (Event.Put i slot at bytes.now) result
+        ensures { Steps (seen self.old) (Event.Put i slot at bytes.now) result
             (seen self.new) }
     {
         let first = at as usize;
@@ -76,7 +76,7 @@ impl<D: PageDevice> World<D> {
 
     pub(crate) fn warm_step(&mut self, i: u16) -> Answer
         requires named { IsNamed (seen_shape (seen self.old)) (Event.WarmStep i) }
-        ensures step { Steps (seen self.old) (Event.WarmStep i) result (seen self.new) }
+        ensures { Steps (seen self.old) (Event.WarmStep i) result (seen self.new) }
     {
         match self.replicas[i as usize - 1].node.warm_step() {
             Ok(page) => Answer::Loaded(page),

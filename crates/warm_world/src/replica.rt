@@ -63,7 +63,7 @@ impl<D: PageDevice> Replica<D> {
         devices: Vec<D>,
     ) -> Result<Self, AllocError>
         requires { length devices.items ≤ MAX_DEVICES }
-        ensures stands { (place : ℕ) → id ≡ place + 1
+        ensures { (place : ℕ) → id ≡ place + 1
             → IfOk result (λ r. ReplicaStands setup.buffer place (seen_replica r)
             (opened_over setup (map D.state devices.items))) }
     {
@@ -96,7 +96,7 @@ impl<D: PageDevice> Replica<D> {
     // Puts a reference into a buffer that has room.
     fn put(&mut self, worker: usize, reference: Reference)
         requires there { worker < length self.old.buffers.items }
-        ensures puts { (room place : ℕ) (m : ReplicaState)
+        ensures { (room place : ℕ) (m : ReplicaState)
             → ReplicaStands room place (seen_replica self.old) m
             → length (pending m worker) < room
             → ReplicaStands room place (seen_replica self.new)
@@ -131,7 +131,7 @@ impl<D: PageDevice> Replica<D> {
 
     /// The node restarts, and nothing waits any more.
     pub(crate) fn restart(&mut self) -> Result<(), NodeFault>
-        ensures restarts { Restarts (seen_replica self.old) result
+        ensures { Restarts (seen_replica self.old) result
             (seen_replica self.new) }
     {
         self.node.restart()?;

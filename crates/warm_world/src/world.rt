@@ -170,7 +170,7 @@ impl<D: PageDevice> World<D> {
 
     fn refer(&mut self, i: u16, w: u16, page: PageId, time: u64) -> Answer
         requires named { IsNamed (seen_shape (seen self.old)) (Event.Refer i w page time) }
-        ensures step { Steps (seen self.old) (Event.Refer i w page time) result
+        ensures { Steps (seen self.old) (Event.Refer i w page time) result
             (seen self.new) }
     {
         let worker = w as usize - 1;
@@ -182,7 +182,7 @@ impl<D: PageDevice> World<D> {
 
     fn flush(&mut self, i: u16, w: u16) -> Answer
         requires named { IsNamed (seen_shape (seen self.old)) (Event.Flush i w) }
-        ensures step { Steps (seen self.old) (Event.Flush i w) result (seen self.new) }
+        ensures { Steps (seen self.old) (Event.Flush i w) result (seen self.new) }
     {
         let worker = w as usize - 1;
         match self.replicas[i as usize - 1].flush(worker) {
@@ -193,7 +193,7 @@ impl<D: PageDevice> World<D> {
 
     fn restart(&mut self, i: u16) -> Answer
         requires named { IsNamed (seen_shape (seen self.old)) (Event.Restart i) }
-        ensures step { Steps (seen self.old) (Event.Restart i) result (seen self.new) }
+        ensures { Steps (seen self.old) (Event.Restart i) result (seen self.new) }
     {
         match self.replicas[i as usize - 1].restart() {
             Ok(()) => Answer::Done,
@@ -205,7 +205,7 @@ impl<D: PageDevice> World<D> {
     /// and its answer, to one that the world stands for afterwards. A refused event changes nothing but
     /// counts of devices' failures.
     pub fn step(&mut self, event: Event) -> Answer
-        ensures step { Steps (seen self.old) event result (seen self.new) }
+        ensures { Steps (seen self.old) event result (seen self.new) }
     {
         if let Err(fault) = self.check(&event) {
             return Answer::Refused(fault);

@@ -1,8 +1,7 @@
 use Rattle.std.proofs.Common.{◌≡◌, ◌≤◌, ◌++◌, length, map, vec_capacity}
 use Rattle.std.specs.Vec.Iter.{into_iter_items}
-use Rattle.warm_gossip.specs.Clauses.{node_state}
 use Rattle.warm_world.specs.Lists.{Pairwise}
-use Rattle.warm_world.specs.Seen.{AreNodes, listed, seen_replica}
+use Rattle.warm_world.specs.Seen.{listed, seen_replica}
 use Rattle.warm_world.specs.States.{opened_over}
 use Rattle.warm_world.specs.Stands.{ReplicaStands}
 use Rattle.warm_world.proofs.world.replicas_over.Given as goal

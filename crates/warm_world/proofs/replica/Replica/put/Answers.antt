@@ -4,8 +4,8 @@ use Rattle.warm_world.specs.Stands.{buffered}
 use Rattle.warm_world.proofs.Replicas.{buffer_at, buffer_set}
 use Rattle.warm_world.proofs.replica.Replica.put.Goals as goal
 
-pub returns-clause-puts : goal.returns-clause-puts
-returns-clause-puts g c = λ room place m st few.
+pub returns : goal.returns
+returns g c = λ room place m st few.
     let bs = c.args.self.now.buffers.items in
     let was : c.index_mut.result.now ≡ buffered room (get_or m.pending c.args.worker []) =
     c.index_mut.ensures.value ∙ buffer_at room bs m.pending c.args.worker c.index_mut.result.now st.buffers_are c.requires.there in

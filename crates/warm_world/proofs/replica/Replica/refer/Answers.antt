@@ -19,7 +19,7 @@ returns-then-is_full-clause-ok g c = λ room made is place m st.
     let empty : length (pending (flushed c.args.worker m) c.args.worker) ≡ 0 =
     ap length (flushed_is_empty room k c.args.self.now.buffers.items m st.buffers_are c.requires.there) in
     let few : length (pending (flushed c.args.worker m) c.args.worker) < room = omega (arith, empty, st.has_room) in
-    let here = c.put.ensures.puts room place (flushed k m) (c.in_ok-flush.ensures.ok room place m st) few in
+    let here = c.put.ensures room place (flushed k m) (c.in_ok-flush.ensures.ok room place m st) few in
     rw is (rw (← c.id.ensures) (rw (referred_when_full room k (stamped c.id.result c.args.page c.args.time) m full) here))
 
 pub returns-clause-ok : goal.returns-clause-ok
@@ -37,4 +37,4 @@ returns-clause-ok g c = λ room made is place m st.
           let never : false ≡ true = c.if-is_full.ensures.1 seen in
           cc
     ] in
-    rw is (rw (← c.id.ensures) (rw (referred_with_room room k (stamped c.id.result c.args.page c.args.time) m few) (c.put-2.ensures.puts room place m st few)))
+    rw is (rw (← c.id.ensures) (rw (referred_with_room room k (stamped c.id.result c.args.page c.args.time) m few) (c.put-2.ensures room place m st few)))

@@ -1,5 +1,5 @@
 use Rattle.std.proofs.Common.{◌≡◌, length}
-use Rattle.warm_world.specs.Seen.{IsSettledBefore, IsWorld, seen}
+use Rattle.warm_world.specs.Seen.{IsSettledBefore, seen}
 use Rattle.warm_world.proofs.world.World.finish.Given as goal
 
 -- nothing that the world shows has changed so far

@@ -5,8 +5,13 @@ use Rattle.warm_world.specs.States.{replica, flushed}
 use Rattle.warm_world.proofs.Worlds.{changes, named_too, no_memory, place_in, stands_at, worker_in}
 use Rattle.warm_world.proofs.world.World.flush.Goals as goal
 
-pub returns-in-Ok-clause-step : goal.returns-in-Ok-clause-step
-returns-in-Ok-clause-step g c = λ m st.
+pub flush-requires : goal.flush-requires
+flush-requires g c = record {
+  there = worker_in _ _ [] c.args.i c.args.w c.index_mut.result.now (place_in _ _ _ (Flush c.args.i c.args.w) c.requires.named) c.index_mut.ensures.value c.requires.named.worker_there;
+}
+
+pub returns-in-Ok : goal.returns-in-Ok
+returns-in-Ok g c = λ m st.
     let k = c.args.i - 1 in
     let event = Flush c.args.i c.args.w in
     let lt = place_in _ _ _ event c.requires.named in
@@ -15,8 +20,8 @@ returns-in-Ok-clause-step g c = λ m st.
     (c.in-Ok.ensures.ok m.room k (replica m k) here)
     (named_too _ m event st c.requires.named, refl)
 
-pub returns-in-Err-clause-step : goal.returns-in-Err-clause-step
-returns-in-Err-clause-step g c = λ m st.
+pub returns-in-Err : goal.returns-in-Err
+returns-in-Err g c = λ m st.
     let k = c.args.i - 1 in
     let event = Flush c.args.i c.args.w in
     let lt = place_in _ _ _ event c.requires.named in

@@ -12,8 +12,8 @@ use Rattle.warm_world.proofs.Histories.{offered_kept}
 use Rattle.warm_world.proofs.Worlds.{named_too, no_memory, place_in, replica_stays, stands_at}
 use Rattle.warm_world.proofs.world.World.offer.Goals as goal
 
-pub returns-in-Ok-clause-step : goal.returns-in-Ok-clause-step
-returns-in-Ok-clause-step g c = λ m st.
+pub returns-in-Ok : goal.returns-in-Ok
+returns-in-Ok g c = λ m st.
     let k = c.args.i - 1 in
     let event = Offer c.args.i in
     let named = named_too _ m event st c.requires.named in
@@ -27,10 +27,10 @@ returns-in-Ok-clause-step g c = λ m st.
     c.in-Ok.ensures.0 ∙ offered_kept _ _ _ (replica m k).reach id holds in
     let stays = replica_stays _ _ _ m k _ _ st lt c.index_mut.ensures.value
     (ap (λ (n : NodeView). let r : ReplicaSeen = record { node = n; buffers = c.index_mut.result.now.buffers.items } in r) c.in-Ok.ensures.1) in
-    kept_one _ _ m event c.in-Ok.frame c.keep.result kept stays frame c.keep.ensures.keeps (λ n new is becomes. (named, (is, becomes))) (named, refl)
+    kept_one _ _ m event c.in-Ok.frame c.keep.result kept stays frame c.keep.ensures (λ n new is becomes. (named, (is, becomes))) (named, refl)
 
-pub returns-in-Err-clause-step : goal.returns-in-Err-clause-step
-returns-in-Err-clause-step g c = λ m st.
+pub returns-in-Err : goal.returns-in-Err
+returns-in-Err g c = λ m st.
     let event = Offer c.args.i in
     no_memory _ _ _ m event (c.args.i - 1) _ _ c.in-Err.why st (place_in _ _ _ event c.requires.named) c.index_mut.ensures.value
     (ap (λ (n : NodeView). let r : ReplicaSeen = record { node = n; buffers = c.index_mut.result.now.buffers.items } in r) (offer_refused _ _ c.in-Err.why c.in-Err.ensures).1)

@@ -8,12 +8,12 @@ use Rattle.warm_world.proofs.Alone.{refused_alone}
 use Rattle.warm_world.proofs.Worlds.{asked}
 use Rattle.warm_world.proofs.world.World.pin.Goals as goal
 
-pub returns-in-Ok-clause-step : goal.returns-in-Ok-clause-step
-returns-in-Ok-clause-step g c = λ m st.
+pub returns-in-Ok : goal.returns-in-Ok
+returns-in-Ok g c = λ m st.
     asked _ _ _ m (Pin c.args.i c.args.page) (call.Pin c.args.page) (reply.Pinned c.in-Ok.slot) (answer.Pinned c.in-Ok.slot) _ _ _ st c.requires.named c.index_mut.ensures.value refl
     (c.in-Ok.ensures.0) c.in-Ok.ensures (λ new named asks. (named, asks))
 
-pub returns-in-Err-clause-step : goal.returns-in-Err-clause-step
-returns-in-Err-clause-step g c = λ m st.
+pub returns-in-Err : goal.returns-in-Err
+returns-in-Err g c = λ m st.
     asked _ _ _ m (Pin c.args.i c.args.page) (call.Pin c.args.page) (reply.Refused c.in-Err.why) (answer.Refused (Node c.in-Err.why)) _ _ _ st c.requires.named c.index_mut.ensures.value refl
     (refused_alone _ _ (call.Pin c.args.page) c.in-Err.why c.in-Err.ensures) c.in-Err.ensures (λ new named asks. (named, asks))

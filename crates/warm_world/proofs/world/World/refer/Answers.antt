@@ -7,8 +7,13 @@ use Rattle.warm_world.specs.Next.{stamped}
 use Rattle.warm_world.proofs.Worlds.{changes, named_too, no_memory, place_in, stands_at, worker_in}
 use Rattle.warm_world.proofs.world.World.refer.Goals as goal
 
-pub returns-in-Ok-clause-step : goal.returns-in-Ok-clause-step
-returns-in-Ok-clause-step g c = λ m st.
+pub refer-requires : goal.refer-requires
+refer-requires g c = record {
+  there = worker_in _ _ [] c.args.i c.args.w c.index_mut.result.now (place_in _ _ _ (Refer c.args.i c.args.w c.args.page c.args.time) c.requires.named) c.index_mut.ensures.value c.requires.named.worker_there;
+}
+
+pub returns-in-Ok : goal.returns-in-Ok
+returns-in-Ok g c = λ m st.
     let k = c.args.i - 1 in
     let event = Refer c.args.i c.args.w c.args.page c.args.time in
     let lt = place_in _ _ _ event c.requires.named in
@@ -22,8 +27,8 @@ returns-in-Ok-clause-step g c = λ m st.
     (c.in-Ok.ensures.ok m.room made is k (replica m k) here)
     (named_too _ m event st c.requires.named, refl)
 
-pub returns-in-Err-clause-step : goal.returns-in-Err-clause-step
-returns-in-Err-clause-step g c = λ m st.
+pub returns-in-Err : goal.returns-in-Err
+returns-in-Err g c = λ m st.
     let k = c.args.i - 1 in
     let event = Refer c.args.i c.args.w c.args.page c.args.time in
     let lt = place_in _ _ _ event c.requires.named in

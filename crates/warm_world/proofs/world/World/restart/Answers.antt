@@ -12,18 +12,18 @@ use Rattle.warm_world.proofs.Replicas.{restarts}
 use Rattle.warm_world.proofs.Worlds.{asked_as, changes, named_too, place_in, stands_at}
 use Rattle.warm_world.proofs.world.World.restart.Goals as goal
 
-pub returns-in-Ok-clause-step : goal.returns-in-Ok-clause-step
-returns-in-Ok-clause-step g c = λ m st.
+pub returns-in-Ok : goal.returns-in-Ok
+returns-in-Ok g c = λ m st.
     let k = c.args.i - 1 in
     let event = Restart c.args.i in
     let lt = place_in _ _ _ event c.requires.named in
     let here = stands_at _ _ _ m k c.index_mut.result.now st lt c.index_mut.ensures.value in
-    let did = c.in-Ok.ensures.restarts in
+    let did = c.in-Ok.ensures in
     changes _ _ _ m event answer.Done k _ (restarted did.0 (replica m k)) st lt
     (restarts m.room k _ _ (replica m k) did.0 here did.2)
     (named_too _ m event st c.requires.named, (did.0, subst (λ (v : NodeView). Emptied v.pool did.0) here.node_is did.1, refl))
 
-pub returns-in-Err-clause-step : goal.returns-in-Err-clause-step
-returns-in-Err-clause-step g c = λ m st.
+pub returns-in-Err : goal.returns-in-Err
+returns-in-Err g c = λ m st.
     asked_as _ _ _ m (Restart c.args.i) call.Restart (reply.Refused c.in-Err.why) (answer.Refused (Node c.in-Err.why)) _ _ st c.requires.named c.index_mut.ensures.value
-    c.in-Err.ensures.restarts.1 (refused_alone _ _ call.Restart c.in-Err.why c.in-Err.ensures.restarts.0) c.in-Err.ensures.restarts.0 (λ new named asks. (named, asks))
+    c.in-Err.ensures.1 (refused_alone _ _ call.Restart c.in-Err.why c.in-Err.ensures.0) c.in-Err.ensures.0 (λ new named asks. (named, asks))

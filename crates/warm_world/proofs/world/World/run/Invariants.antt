@@ -1,6 +1,6 @@
 use Rattle.std.proofs.Common.{◌≡◌, ◌≤◌, ◌++◌, length, vec_capacity}
 use Rattle.std.specs.Vec.Iter.{into_iter_items}
-use Rattle.warm_world.specs.Seen.{IsWorld, seen}
+use Rattle.warm_world.specs.Seen.{seen}
 use Rattle.warm_world.specs.States.{ModelState}
 use Rattle.warm_world.specs.Stands.{StandsFor, Ran}
 use Rattle.warm_world.proofs.world.World.run.Given as goal

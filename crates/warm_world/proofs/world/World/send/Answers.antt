@@ -12,8 +12,8 @@ use Rattle.warm_world.proofs.Histories.{sent_kept}
 use Rattle.warm_world.proofs.Worlds.{named_too, no_memory_still, place_in, stands_at}
 use Rattle.warm_world.proofs.world.World.send.Goals as goal
 
-pub returns-in-Ok-clause-step : goal.returns-in-Ok-clause-step
-returns-in-Ok-clause-step g c = λ m st.
+pub returns-in-Ok : goal.returns-in-Ok
+returns-in-Ok g c = λ m st.
     let k = c.args.i - 1 in
     let event = Send c.args.i c.args.bucket c.args.after in
     let named = named_too _ m event st c.requires.named in
@@ -25,9 +25,9 @@ returns-in-Ok-clause-step g c = λ m st.
     let kept = References c.args.i (carried (replica m k).reach c.args.bucket c.args.after MAX_ENTRIES) in
     let frame : c.in-Ok.frame ≡ frame_kept kept =
     c.in-Ok.ensures.0 ∙ sent_kept _ _ _ (replica m k).reach c.args.bucket c.args.after id holds in
-    kept_one _ _ m event c.in-Ok.frame c.keep.result kept st frame c.keep.ensures.keeps (λ n new is becomes. (named, (is, becomes))) (named, refl)
+    kept_one _ _ m event c.in-Ok.frame c.keep.result kept st frame c.keep.ensures (λ n new is becomes. (named, (is, becomes))) (named, refl)
 
-pub returns-in-Err-clause-step : goal.returns-in-Err-clause-step
-returns-in-Err-clause-step g c = λ m st.
+pub returns-in-Err : goal.returns-in-Err
+returns-in-Err g c = λ m st.
     let event = Send c.args.i c.args.bucket c.args.after in
     no_memory_still _ m event c.in-Err.why st (send_refused _ _ c.args.bucket c.args.after c.in-Err.why c.in-Err.ensures) (named_too _ m event st c.requires.named, refl)

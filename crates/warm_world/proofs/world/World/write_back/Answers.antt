@@ -1,5 +1,4 @@
 use Rattle.std.proofs.Common.{refl}
-use Rattle.warm_world.proofs.Worlds.{node_at}
 use Rattle.warm_world.proofs.Endings.{fails_if, same_if, settled_if}
 use Rattle.warm_world.proofs.world.World.write_back.Goals as goal
 
