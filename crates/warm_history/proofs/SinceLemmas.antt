@@ -1,12 +1,12 @@
 -- What a horizon leaves of a bucket, read from a history that isn't raised to it.
-use Rattle.std.proofs.Common.{◌≡◌, ◌↔◌, ◌≤◌, ℕ, max, Bool, true, false, not, cond, IsTrue, List, [], ◌∷◌, ◌++◌, Some, None, refl, sym, ap, subst, ◌∙◌, arith}
+use Rattle.std.proofs.Common.{◌≡◌, ◌≤◌, ℕ, max, Bool, true, false, cond, List, [], ◌∷◌, ◌++◌, Some, None, refl, sym, ap, subst, ◌∙◌, arith}
 use Rattle.std.specs.Prelude.{◌==◌}
 use Rattle.warm_stamps.specs.Buckets.{page_bucket}
 use Rattle.warm_history.specs.declared.hist.Entry.{Entry}
 use Rattle.warm_history.specs.Carried.{bucket_entries}
 use Rattle.warm_history.specs.Histories.{HistoryView, IsHistory, IsKept, NoneOlder, entries_of, history, refs}
 use Rattle.warm_history.specs.KeptEntries.{is_recent, shortened, shortened_entry, kept_entries}
-use Rattle.warm_history.specs.Losses.{LosesIn}
+use Rattle.warm_history.specs.Losses.{KeepsIn, LosesIn, bucket_since}
 use Rattle.warm_history.specs.ReferenceSets.{since}
 use Rattle.warm_history.proofs.KeptLemmas.{none_older, entries_recent}
 use Rattle.warm_history.proofs.RaiseLemmas.{raised_to}
@@ -60,20 +60,24 @@ one_of_all m before after all e is none = one before (subst (NoneOlder m) (sym i
     one (x ∷ before) none = one before none.1
 
 -- at a horizon that is not past the own one nothing is lost
-pub loses_nothing : (h : HistoryView) (time bucket : ℕ) → IsHistory h → time ≤ h.horizon → LosesIn time bucket h → IsTrue false
-loses_nothing h time bucket whole le loses =
+pub keeps_all : (h : HistoryView) (time bucket : ℕ) → IsHistory h → time ≤ h.horizon → KeepsIn time bucket h
+keeps_all h time bucket whole le =
     let own : max h.horizon time ≡ h.horizon = omega arith in
-    let left : kept_entries h.horizon (bucket_entries bucket (entries_of h)) ≡ bucket_entries bucket (entries_of h) = entries_recent h.horizon _ (none_in_bucket h.horizon bucket (entries_of h) whole.none_older) in
-    absurd (loses (sym (raised_bucket h time bucket whole) ∙ ap (λ m. kept_entries m (bucket_entries bucket (entries_of h))) own ∙ left))
+    sym (raised_bucket h time bucket whole)
+    ∙ ap (λ m. kept_entries m (bucket_entries bucket (entries_of h))) own
+    ∙ entries_recent h.horizon _ (none_in_bucket h.horizon bucket (entries_of h) whole.none_older)
 
--- past it a bucket loses something exactly where it has a stamp that is older
-pub loses_older : (h : HistoryView) (time bucket : ℕ) (none : Bool) → IsHistory h → h.horizon ≤ time → IsTrue none ↔ NoneOlder time (bucket_entries bucket (entries_of h)) → IsTrue (not none) ↔ LosesIn time bucket h
-loses_older h time bucket none whole le says = cases none says
-  where
-    here : List Entry
-    here = bucket_entries bucket (entries_of h)
-    left : kept_entries time here ≡ bucket_entries bucket (entries_of (history (since time (refs h))))
-    left = let past : max h.horizon time ≡ time = omega arith in ap (λ m. kept_entries m here) (sym past) ∙ raised_bucket h time bucket whole
-    cases : (none : Bool) → IsTrue none ↔ NoneOlder time here → IsTrue (not none) ↔ LosesIn time bucket h
-    cases true says = ((λ (no : IsTrue false). absurd (cc)), λ loses. absurd (loses (sym left ∙ entries_recent time here (says.0 refl))))
-    cases false says = ((λ yes same. let no : IsTrue false = says.1 (subst (NoneOlder time) (left ∙ same) (none_left_older time here)) in absurd (cc)), λ loses. refl)
+-- past it a bucket is what is left of it
+left_past : (h : HistoryView) (time bucket : ℕ) → IsHistory h → h.horizon ≤ time → kept_entries time (bucket_entries bucket (entries_of h)) ≡ bucket_since time bucket h
+left_past h time bucket whole le =
+    let past : max h.horizon time ≡ time = omega arith in
+    ap (λ m. kept_entries m (bucket_entries bucket (entries_of h))) (sym past) ∙ raised_bucket h time bucket whole
+
+-- it keeps all where it has no older stamp, and else loses something
+pub keeps_recent : (h : HistoryView) (time bucket : ℕ) → IsHistory h → h.horizon ≤ time → NoneOlder time (bucket_entries bucket (entries_of h)) → KeepsIn time bucket h
+keeps_recent h time bucket whole le none = sym (left_past h time bucket whole le) ∙ entries_recent time _ none
+
+pub loses_older : (h : HistoryView) (time bucket : ℕ) → IsHistory h → h.horizon ≤ time → (NoneOlder time (bucket_entries bucket (entries_of h)) → ⊥) → LosesIn time bucket h
+loses_older h time bucket whole le older same =
+    let here = bucket_entries bucket (entries_of h) in
+    older (subst (NoneOlder time) (left_past h time bucket whole le ∙ same) (none_left_older time here))

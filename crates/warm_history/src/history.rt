@@ -1,9 +1,9 @@
 //! Histories, as maps from places: the entries of a bucket lie together.
-ghost use Rattle.std.specs.Prelude.{◌≡◌, ◌≤◌, ◌↔◌, [], length, max, OnOk, OnErr, IfOk, IsPermutation, IsTrue, slice_get, take};
+ghost use Rattle.std.specs.Prelude.{◌≡◌, ◌≤◌, [], false, length, max, OnOk, OnErr, IfOk, IsPermutation, IsTrue, slice_get, take};
 ghost use Rattle.warm_history.specs.ReferenceSets.{ReferenceSet, these, since, ◌∪◌};
 ghost use Rattle.warm_history.specs.Histories.{entries_of, holding, holding_since, hist, refs, history, join, StandsFor, TakesIn, IsHistory};
 ghost use Rattle.warm_history.specs.Carried.{AreCarried, bucket_entries};
-ghost use Rattle.warm_history.specs.Losses.{LosesIn};
+ghost use Rattle.warm_history.specs.Losses.{KeepsIn, LosesIn, bucket_since};
 ghost use Rattle.warm_history.specs.Merges.{later_of_bucket};
 
 use crate::bucket_maps::{BucketMaps, EachPair};
@@ -132,16 +132,17 @@ impl History {
     ///
     /// To begin costs a look-up, and each entry of the bucket a step: what is older is skipped as it is read.
     pub fn bucket_since(&self, bucket: Bucket, horizon: u64) -> EntriesSince<'_>
-        ensures { result ≡ bucket_entries bucket (entries_of (history (since horizon (refs self.now)))) }
+        ensures { result ≡ bucket_since horizon bucket self.now }
     {
         EntriesSince::new(self.bucket(bucket), later(self.horizon, horizon))
     }
 
-    /// Whether the history raised to a horizon has other entries of a bucket: one of them has a stamp that is older. Takes no memory.
+    /// Whether a bucket would have other entries at a horizon: one of them has a stamp that is older. Takes no memory.
     ///
     /// It costs nothing where the horizon is not greater than the own one, and else reads the bucket up to its first older stamp.
     pub fn loses(&self, bucket: Bucket, horizon: u64) -> bool
-        ensures { IsTrue result ↔ LosesIn horizon bucket self.now }
+        ensures loses { IsTrue result → LosesIn horizon bucket self.now }
+        ensures keeps { result ≡ false → KeepsIn horizon bucket self.now }
     {
         if horizon <= self.horizon {
             return false;
