@@ -20,7 +20,6 @@ use Rattle.warm_history.specs.declared.hist.Entry.{Entry}
 use Rattle.warm_history.specs.Carried.{bucket_entries}
 use Rattle.warm_history.specs.ReferenceSets.{ReferenceSet, recent, references, ◌∪◌}
 use Rattle.warm_history.specs.ListHistories.{references_to, first_two, hist}
-use Rattle.warm_history.specs.ListHistories as list
 use Rattle.warm_history.specs.Histories.{HistoryView, entries_of, history}
 use Rattle.warm_history.proofs.KeptLemmas.{kept_alike}
 use Rattle.warm_history.proofs.ListJoinLemmas.{hist_repeat}

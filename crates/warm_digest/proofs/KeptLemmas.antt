@@ -1,14 +1,13 @@
 -- Buckets that a history's growth does not touch, and sums that are renewed bucket by bucket.
-use Rattle.std.proofs.Common.{◌≡◌, ◌≢◌, inl, inr, ℕ, suc, ◌<◌, ◌≤◌, ◌*◌, ◌%◌, ◌^◌, Bool, true, false, cond, List, [], ◌∷◌, ◌++◌, length, max, None, refl, sym, ap, subst, ◌∙◌, arith}
-use Rattle.std.specs.Prelude.{◌==◌, bit_or}
-use Rattle.std.specs.Int.{bit_at, w64}
+use Rattle.std.proofs.Common.{◌≡◌, ◌≢◌, inl, inr, ℕ, suc, ◌<◌, ◌*◌, ◌%◌, ◌^◌, Bool, true, false, cond, List, [], ◌∷◌, ◌++◌, length, max, min, ◌-◌, None, Result, Ok, Err, IfOk, refl, sym, ap, subst, ◌∙◌, arith}
+use Rattle.std.specs.Prelude.{◌==◌, bit_and, bit_or}
+use Rattle.std.specs.Int.{bit_at, bit_not, w64}
 use Rattle.std.specs.List.{All}
 use Rattle.std.specs.Option.{option_and_then}
 use Rattle.std.specs.Ordering.{is_eq, on, flip_args}
 use Rattle.std.proofs.lemmas.Bool.{cases_eq, eqb-true}
-use Rattle.std.proofs.lemmas.List.{append-nil}
 use Rattle.std.proofs.lemmas.List.FromFn.{fill_by_all, get_or-map-range_with_len}
-use Rattle.std.proofs.lemmas.Nat.Bits.{bit_at-lt, bit_at_ones, bit_at_set_same, bit_at_set_other}
+use Rattle.std.proofs.lemmas.Nat.Bits.{bit_at-lt, bit_at_and, bit_at_not, bit_at_or, bit_at_ones, bit_at_set_same, bit_at_set_other}
 use Rattle.warm_stamps.specs.declared.PageId.{PageId}
 use Rattle.warm_stamps.specs.declared.Reference.{Reference}
 use Rattle.warm_stamps.specs.declared.TheConstants.{BUCKETS}
@@ -20,18 +19,20 @@ use Rattle.warm_stamps.proofs.StampLemmas.{page_order}
 use Rattle.warm_history.specs.declared.hist.Entry.{Entry}
 use Rattle.warm_history.specs.Carried.{bucket_entries}
 use Rattle.warm_history.specs.KeptEntries.{kept_hist}
-use Rattle.warm_history.specs.ReferenceSets.{ReferenceSet, recent, references, these, ◌∪◌}
+use Rattle.warm_history.specs.ReferenceSets.{ReferenceSet, references, since, these, ◌∪◌}
+use Rattle.warm_history.specs.Losses.{bucket_since}
 use Rattle.warm_history.specs.ListHistories as list
 use Rattle.warm_history.specs.ListHistories.{PagesRise}
 use Rattle.warm_history.specs.Histories.{HistoryView, IsHistory, entries_of, first_two, history, holding, holding_since, entry_refs, refs}
-use Rattle.warm_history.proofs.KeptLemmas.{hist-kept, kept_refs}
+use Rattle.warm_history.proofs.KeptLemmas.{hist-kept}
 use Rattle.warm_history.proofs.HistoryLemmas.{entries-history}
-use Rattle.warm_history.proofs.ListHistoryLemmas.{IsHistory-history, get, get-history, hist-refs, same_gets, told, told-append, told_entry}
+use Rattle.warm_history.proofs.JoinLemmas.{raised_to_no_later}
+use Rattle.warm_history.proofs.ListHistoryLemmas.{IsHistory-history, get, get-history, same_gets, told, told-append, told_entry}
 use Rattle.warm_frames.specs.Entries.{entries_bytes}
 use Rattle.warm_frames.specs.Sums.{sum_at}
 use Rattle.sha2.specs.Sha256.{sha256}
 use Rattle.warm_digest.specs.BucketSums.{bucket_sum, sums_of}
-use Rattle.warm_digest.specs.KeptSums.{HasSumsOf, SameSumsOutside, IsKept, Marks, MarksJoined}
+use Rattle.warm_digest.specs.KeptSums.{HasSumsOf, SameSumsOutside, IsKept, Marks, MarksLosing}
 use Rattle.warm_digest.proofs.ExchangeLemmas.{get-bucket}
 
 -- ---- buckets that are not touched
@@ -80,23 +81,21 @@ untold_entries (e ∷ es) p away =
     ∙ ap (λ ss. ss ++ told (list.refs es) p) (told_entry e.page e.hist p)
     ∙ rw (apart e.page p (away 0 e (omega arith))) (untold_entries es p (λ k d low. away (suc k) d (omega (arith, low))))
 
--- a history that takes in what tells nothing of a bucket's pages, and no later horizon, has the same entries in the bucket
-untouched : (h : HistoryView) (T : ReferenceSet) (bucket : ℕ) → IsHistory h → T.horizon ≤ h.horizon → ((p : PageId) → page_bucket p ≡ bucket → told T.told p ≡ []) → bucket_entries bucket (entries_of (history (refs h ∪ T))) ≡ bucket_entries bucket (entries_of h)
-untouched h T bucket whole le none =
+-- what tells nothing of a bucket's pages changes nothing in it but what its horizon does
+untouched : (h : HistoryView) (T : ReferenceSet) (bucket : ℕ) → ((p : PageId) → page_bucket p ≡ bucket → told T.told p ≡ []) → bucket_entries bucket (entries_of (history (refs h ∪ T))) ≡ bucket_since T.horizon bucket h
+untouched h T bucket none =
     let es = entries_of h in
     let m = max h.horizon T.horizon in
-    let own : m ≡ h.horizon = omega (arith, le) in
-    let listed : list.IsHistory es = record { pages_rise = whole.pages_rise; stamps_fall = whole.stamps_fall } in
-    let all = references (refs h ∪ T) in
+    let both = references (refs h ∪ T) in
+    let alone = references (since T.horizon (refs h)) in
     ap (bucket_entries bucket) (entries-history (refs h ∪ T))
-    ∙ same_bucket bucket (list.history all) es (IsHistory-history all).pages_rise whole.pages_rise (λ p there.
-    get-history all p
+    ∙ same_bucket bucket (list.history both) (list.history alone) (IsHistory-history both).pages_rise (IsHistory-history alone).pages_rise (λ p there.
+    get-history both p
     ∙ hist-kept m (list.refs es ++ T.told) p
-    ∙ ap (λ ss. option_and_then (kept_hist m) (first_two (distinct (flip_args stamp_cmp) ss))) (told-append (list.refs es) T.told p ∙ ap (λ ss. told (list.refs es) p ++ ss) (none p there) ∙ append-nil (told (list.refs es) p))
-    ∙ sym (hist-kept m (list.refs es) p)
-    ∙ ap (λ k. list.hist (recent k (list.refs es)) p) own
-    ∙ ap (λ rs. list.hist rs p) (kept_refs h.horizon es whole.none_older)
-    ∙ hist-refs es listed p)
+    ∙ ap (λ ss. option_and_then (kept_hist m) (first_two (distinct (flip_args stamp_cmp) ss))) (told-append (list.refs es) T.told p ∙ ap (λ ss. told (list.refs es) p ++ ss) (none p there) ∙ sym (told-append (list.refs es) [] p))
+    ∙ sym (hist-kept m (list.refs es ++ []) p)
+    ∙ sym (get-history alone p))
+    ∙ ap (bucket_entries bucket) (sym (entries-history (since T.horizon (refs h))))
 
 abbrev sum_from : List Entry → List ℕ
 sum_from es = sha256 (entries_bytes es)
@@ -107,22 +106,33 @@ pub kept_with_references : (h g : HistoryView) (batch : List Reference) (old new
 kept_with_references h g batch old new sums whole is kept marks bucket low clear =
     let same : bucket_entries bucket (entries_of g) ≡ bucket_entries bucket (entries_of h) =
     ap (λ (k : HistoryView). bucket_entries bucket (entries_of k)) is
-    ∙ untouched h (these batch) bucket whole (omega arith) (λ p there. untold batch p (subst (λ b. All (λ r. page_bucket r.page ≢ b) batch) (sym there) (marks bucket clear).1)) in
+    ∙ untouched h (these batch) bucket (λ p there. untold batch p (subst (λ b. All (λ r. page_bucket r.page ≢ b) batch) (sym there) (marks bucket clear).1))
+    ∙ ap (λ (k : HistoryView). bucket_entries bucket (entries_of k)) (raised_to_no_later h 0 whole (omega arith)) in
     kept bucket low (marks bucket clear).0 ∙ sym (ap sum_from same)
 
--- and when entries are
-pub kept_with_entries : (h g : HistoryView) (horizon : ℕ) (more : List Entry) (old new : ℕ) (sums : List (List ℕ)) → IsHistory h → g ≡ history (refs h ∪ refs (holding_since horizon more))
-    → IsKept old (entries_of h) sums → MarksJoined h.horizon horizon old more new → IsKept new (entries_of g) sums
-kept_with_entries h g horizon more old new sums whole is kept marks bucket low clear =
-    let marked = marks bucket low clear in
+-- a bit of two masks together is clear where both are
+pub both_clear : (a b i : ℕ) → bit_at (bit_or a b) i ≡ 0 → (bit_at a i ≡ 0) × (bit_at b i ≡ 0)
+both_clear a b i clear = let is = bit_at_or a b i in (omega (arith, is, clear), omega (arith, is, clear))
+
+-- when a history is raised they do where the buckets are marked that lose something
+pub kept_raised : (h g : HistoryView) (time old lost : ℕ) (sums : List (List ℕ)) → g ≡ history (since time (refs h))
+    → IsKept old (entries_of h) sums → MarksLosing time h lost → IsKept (bit_or old lost) (entries_of g) sums
+kept_raised h g time old lost sums is kept marks bucket low clear =
+    let both = both_clear old lost bucket clear in
+    let same : bucket_entries bucket (entries_of g) ≡ bucket_entries bucket (entries_of h) =
+    ap (λ (k : HistoryView). bucket_entries bucket (entries_of k)) is ∙ (marks bucket low).1 both.1 in
+    kept bucket low both.0 ∙ sym (ap sum_from same)
+
+-- and when entries are taken in, where theirs are marked too
+pub kept_with_entries : (h g : HistoryView) (horizon : ℕ) (more : List Entry) (old lost new : ℕ) (sums : List (List ℕ)) → g ≡ history (refs h ∪ refs (holding_since horizon more))
+    → IsKept old (entries_of h) sums → MarksLosing horizon h lost → Marks (λ e. e.page) (bit_or old lost) more new → IsKept new (entries_of g) sums
+kept_with_entries h g horizon more old lost new sums is kept loses marks bucket low clear =
+    let both = both_clear old lost bucket (marks bucket clear).0 in
     let same : bucket_entries bucket (entries_of g) ≡ bucket_entries bucket (entries_of h) =
     ap (λ (k : HistoryView). bucket_entries bucket (entries_of k)) is
-    ∙ untouched h (refs (holding_since horizon more)) bucket whole marked.0 (λ p there. untold_entries more p (subst (λ b. All (λ e. page_bucket e.page ≢ b) more) (sym there) marked.2)) in
-    kept bucket low marked.1 ∙ sym (ap sum_from same)
-
--- where all bits are set none is clear
-pub all_marked : (own horizon old : ℕ) (more : List Entry) → MarksJoined own horizon old more 18446744073709551615
-all_marked own horizon old more bucket low clear = absurd (omega (arith, clear, bit_at_ones 64 bucket low))
+    ∙ untouched h (refs (holding_since horizon more)) bucket (λ p there. untold_entries more p (subst (λ b. All (λ e. page_bucket e.page ≢ b) more) (sym there) (marks bucket clear).1))
+    ∙ (loses bucket low).1 both.1 in
+    kept bucket low both.0 ∙ sym (ap sum_from same)
 
 -- ---- renewed sums
 
@@ -147,6 +157,37 @@ all_right changed h old new count kept has same = all_done new h count (λ bucke
 -- sums that were all renewed are all right
 pub all_renewed : (h : List Entry) (sums : List (List ℕ)) → length sums ≡ BUCKETS → HasSumsOf 18446744073709551615 h sums → sums ≡ sums_of h
 all_renewed h sums count has = all_done sums h count (λ bucket low. has bucket low (bit_at_ones 64 bucket low))
+
+-- ---- sums at a horizon
+
+-- of the changed buckets those are renewed that lose nothing: the others stay marked
+pub others_right : (changed lost : ℕ) (h : List Entry) (old new : List (List ℕ)) → lost < 2 ^ 64 → IsKept changed h old → HasSumsOf (bit_and changed (bit_not w64 lost)) h new → SameSumsOutside (bit_and changed (bit_not w64 lost)) old new
+    → IsKept (bit_and changed lost) h new
+others_right changed lost h old new fits kept has same bucket low clear =
+    let mask = bit_and changed (bit_not w64 lost) in
+    let not_lost : bit_at (bit_not w64 lost) bucket ≡ 1 - bit_at lost bucket = bit_at_not w64 lost bucket fits low in
+    let chosen : bit_at mask bucket ≡ min (bit_at changed bucket) (1 - bit_at lost bucket) = bit_at_and changed (bit_not w64 lost) bucket ∙ ap (min (bit_at changed bucket)) not_lost in
+    let left : min (bit_at changed bucket) (bit_at lost bucket) ≡ 0 = sym (bit_at_and changed lost bucket) ∙ clear in
+    elim (cases_eq (bit_at changed bucket) 0) [
+      | inl unchanged ↦ (let out : bit_at mask bucket ≡ 0 = omega (arith, chosen, unchanged) in same bucket low out ∙ kept bucket low unchanged)
+      | inr marked ↦ (let in_it : bit_at mask bucket ≡ 1 = omega (arith, chosen, left, marked, bit_at-lt changed bucket, bit_at-lt lost bucket) in has bucket low in_it)
+    ]
+
+-- sums of a history, with those that it would have at a horizon of the buckets that lose something there
+all_since : (changed lost horizon : ℕ) (h : HistoryView) (own table : List (List ℕ)) → length table ≡ BUCKETS → IsKept (bit_and changed lost) (entries_of h) own → MarksLosing horizon h lost
+    → HasSumsOf lost (entries_of (history (since horizon (refs h)))) table → SameSumsOutside lost own table → table ≡ sums_of (entries_of (history (since horizon (refs h))))
+all_since changed lost horizon h own table count kept loses has same = all_done table (entries_of (history (since horizon (refs h)))) count (λ bucket low. elim (cases_eq (bit_at lost bucket) 1) [
+  | inl set ↦ has bucket low set
+  | inr clear ↦ (let zero_is : bit_at lost bucket ≡ 0 = omega (arith, bit_at-lt lost bucket, clear) in
+      let both : bit_at (bit_and changed lost) bucket ≡ 0 = bit_at_and changed lost bucket ∙ omega (arith, zero_is) in
+      same bucket low zero_is ∙ kept bucket low both ∙ sym (ap sum_from ((loses bucket low).1 zero_is)))
+])
+
+-- the same of a table that is there where memory was
+pub right_since : {E : Type 0} (r : Result (List (List ℕ)) E) (changed lost horizon : ℕ) (h : HistoryView) (own : List (List ℕ)) → IsKept (bit_and changed lost) (entries_of h) own → MarksLosing horizon h lost
+    → IfOk r (HasSumsOf lost (entries_of (history (since horizon (refs h))))) → IfOk r (SameSumsOutside lost own) → IfOk r (λ table. length table ≡ BUCKETS) → IfOk r (λ table. table ≡ sums_of (entries_of (history (since horizon (refs h)))))
+right_since (Ok table) changed lost horizon h own kept loses has same count = all_since changed lost horizon h own table count kept loses has same
+right_since (Err why) changed lost horizon h own kept loses has same count = tt
 
 -- ---- marks
 

@@ -1,9 +1,8 @@
 -- A mask to which one bit more is given.
-use Rattle.std.proofs.Common.{◌≡◌, ◌≢◌, ◌↔◌, ◌<◌, ◌≤◌, ◌+◌, ◌*◌, ◌%◌, ◌^◌, ℕ, Bool, true, false, not, List, max, refl, sym, ap, ◌∙◌, arith, true≢false, zero-mul, below_more}
+use Rattle.std.proofs.Common.{◌≡◌, ◌≢◌, ◌↔◌, ◌<◌, ◌≤◌, ◌+◌, ◌*◌, ◌%◌, ◌^◌, ℕ, Bool, true, false, not, List, max, refl, sym, ap, subst, ◌∙◌, arith, true≢false, zero-mul, below_more}
 use Rattle.std.specs.Int.{bit_at, from_bool, w64}
 use Rattle.std.specs.Prelude.{bit_or, bytes_eq}
 use Rattle.std.proofs.lemmas.Slice.Eq.{bytes_eq-Decides}
-use Rattle.warm_frames.specs.Sums.{sum_at}
 use Rattle.std.proofs.lemmas.Nat.Bits.{bit_at_or, bit_at-zero, bit_at_set_same, bit_at_set_other}
 
 -- no bit is given by 0
@@ -22,24 +21,22 @@ same_set true mask i low clear = bit_at_set_same w64 mask i low
 same_set false mask i low clear = nothing_set mask i i ∙ clear
 
 -- a bit is given exactly where two sums differ
-is_set : (x y : List ℕ) (n : ℕ) → n ≡ from_bool (not (bytes_eq x y)) → (n ≡ 1) ↔ (x ≢ y)
+pub is_set : (x y : List ℕ) (n : ℕ) → n ≡ from_bool (not (bytes_eq x y)) → (n ≡ 1) ↔ (x ≢ y)
 is_set x y n is = go (bytes_eq x y) refl is
   where
     go : (b : Bool) → bytes_eq x y ≡ b → n ≡ from_bool (not b) → (n ≡ 1) ↔ (x ≢ y)
     go true e is = ((λ one same. absurd (omega (arith, one, is))), (λ differ. absurd (differ ((bytes_eq-Decides x y).0 e))))
     go false e is = ((λ one same. true≢false (sym ((bytes_eq-Decides x y).1 same) ∙ e)), (λ differ. is))
 
-abbrev pub IsRight : List (List ℕ) → List (List ℕ) → ℕ → ℕ → Type 0
-IsRight left right mask b = (bit_at mask b ≡ 1) ↔ (sum_at left b ≢ sum_at right b)
-
-pub seen_more : (left right : List (List ℕ)) (mask i given : ℕ) (x y : List ℕ) → i < 64 → x ≡ sum_at left i → y ≡ sum_at right i → given ≡ from_bool (not (bytes_eq x y)) → bit_at mask i ≡ 0
-    → ((b : ℕ) → b < i → IsRight left right mask b) → (b : ℕ) → b < i + 1 → IsRight left right (bit_or mask (given * 2 ^ i % 2 ^ 64)) b
-seen_more left right mask i given x y low l r is clear seen =
+-- what is said of the bits so far, and of the bit that is given, is said of the bits that follow
+pub seen_more : (Says : ℕ → ℕ → Type 0) (mask i given : ℕ) (d : Bool) → i < 64 → given ≡ from_bool d → bit_at mask i ≡ 0 → Says i given
+    → ((b : ℕ) → b < i → Says b (bit_at mask b)) → (b : ℕ) → b < i + 1 → Says b (bit_at (bit_or mask (given * 2 ^ i % 2 ^ 64)) b)
+seen_more Says mask i given d low is clear says seen =
     let more = bit_or mask (given * 2 ^ i % 2 ^ 64) in
-    let bit : bit_at more i ≡ given = rw is (same_set (not (bytes_eq x y)) mask i low clear) in
-    let here : IsRight left right more i = rw (bit, ← l, ← r) (is_set x y given is) in
-    let kept : (b : ℕ) → b < i → bit_at more b ≡ bit_at mask b = λ b before. rw is (other_kept (not (bytes_eq x y)) mask i b low (λ same. omega (arith, same, before))) in
-    below_more (IsRight left right more) i (λ b before. rw (kept b before) (seen b before)) here
+    let bit : bit_at more i ≡ given = rw is (same_set d mask i low clear) in
+    let here : Says i (bit_at more i) = subst (Says i) (sym bit) says in
+    let kept : (b : ℕ) → b < i → bit_at more b ≡ bit_at mask b = λ b before. rw is (other_kept d mask i b low (λ same. omega (arith, same, before))) in
+    below_more (λ b. Says b (bit_at more b)) i (λ b before. subst (Says b) (sym (kept b before)) (seen b before)) here
 
 pub rest_more : (mask i given : ℕ) (d : Bool) → i < 64 → given ≡ from_bool d → ((b : ℕ) → i ≤ b → bit_at mask b ≡ 0) → (b : ℕ) → i + 1 ≤ b → bit_at (bit_or mask (given * 2 ^ i % 2 ^ 64)) b ≡ 0
 rest_more mask i given d low is rest b above =

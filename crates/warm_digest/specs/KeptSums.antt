@@ -1,11 +1,13 @@
 -- Sums that are kept while a history grows, and renewed bucket by bucket.
-use Rattle.std.specs.Prelude.{◌≡◌, ◌≢◌, ℕ, ◌<◌, ◌≤◌, List}
+use Rattle.std.specs.Prelude.{◌≡◌, ◌≢◌, ℕ, ◌<◌, List}
 use Rattle.std.specs.Int.{bit_at}
 use Rattle.std.specs.List.{All}
 use Rattle.warm_stamps.specs.declared.PageId.{PageId}
 use Rattle.warm_stamps.specs.declared.TheConstants.{BUCKETS}
 use Rattle.warm_stamps.specs.Buckets.{page_bucket}
 use Rattle.warm_history.specs.declared.hist.Entry.{Entry}
+use Rattle.warm_history.specs.Histories.{HistoryView}
+use Rattle.warm_history.specs.Losses.{KeepsIn, LosesIn}
 use Rattle.warm_frames.specs.Sums.{sum_at}
 use Rattle.warm_digest.specs.BucketSums.{bucket_sum}
 
@@ -25,10 +27,14 @@ IsKept changed h sums = (bucket : ℕ) → bucket < BUCKETS → bit_at changed b
 abbrev pub MarksPage : ℕ → PageId → ℕ → Type 0
 MarksPage old page new = (bucket : ℕ) → bit_at new bucket ≡ 0 → (bit_at old bucket ≡ 0) × (page_bucket page ≢ bucket)
 
--- the same of entries that came with a horizon; where that is later than the own one, no bit is clear
-abbrev pub MarksJoined : ℕ → ℕ → ℕ → List Entry → ℕ → Type 0
-MarksJoined own horizon old more new = (bucket : ℕ) → bucket < BUCKETS → bit_at new bucket ≡ 0 → (horizon ≤ own) × (bit_at old bucket ≡ 0) × All (λ e. page_bucket e.page ≢ bucket) more
-
 -- the same of a list of items that each have a page
 abbrev pub Marks : {A : Type 0} → (A → PageId) → ℕ → List A → ℕ → Type 0
 Marks page old items new = (bucket : ℕ) → bit_at new bucket ≡ 0 → (bit_at old bucket ≡ 0) × All (λ x. page_bucket (page x) ≢ bucket) items
+
+-- the bit of a bucket is set exactly where the history would have other entries of it at the horizon
+abbrev pub TellsLoss : ℕ → HistoryView → ℕ → ℕ → Type 0
+TellsLoss horizon h bucket bit = (bit ≡ 1 → LosesIn horizon bucket h) × (bit ≡ 0 → KeepsIn horizon bucket h)
+
+-- and so each bit of the mask
+abbrev pub MarksLosing : ℕ → HistoryView → ℕ → Type 0
+MarksLosing horizon h mask = (bucket : ℕ) → bucket < BUCKETS → TellsLoss horizon h bucket (bit_at mask bucket)

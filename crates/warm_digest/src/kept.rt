@@ -2,7 +2,9 @@
 ghost use Rattle.std.specs.Prelude.{◌≡◌, [], length, IfOk, OnOk, OnErr};
 ghost use Rattle.sha2.specs.Sha256.{sha256};
 ghost use Rattle.warm_stamps.specs.declared.TheConstants.{BUCKETS};
-ghost use Rattle.warm_history.specs.Histories.{entries_of};
+ghost use Rattle.warm_history.specs.Histories.{entries_of, refs};
+ghost use Rattle.warm_history.specs.Histories as known;
+ghost use Rattle.warm_history.specs.ReferenceSets.{since};
 ghost use Rattle.warm_frames.specs.Entries.{entry_bytes, entries_bytes};
 ghost use Rattle.warm_digest.specs.BucketSums.{sums_of};
 ghost use Rattle.warm_digest.specs.Hashing.{TakesBytes};
@@ -12,7 +14,7 @@ use sha2::{Digest, Sha256};
 use std::alloc::{AllocError, Global};
 use std::marker::Model;
 use warm_frames::{MAX_ENTRY_SIZE, SUM_SIZE, SumTable, put_entry};
-use warm_history::{BucketEntries, Entry, History};
+use warm_history::{EntriesSince, Entry, History};
 use warm_stamps::{BUCKETS, Bucket};
 
 /// The sums of a history's buckets as they were when each was last taken.
@@ -68,8 +70,28 @@ impl Sums {
         if mask == 0 {
             return Ok(());
         }
-        self.sums = renewed(self.alloc, self.sums, history, mask)?;
+        // Asked for what holds of every history: none of its stamps is older than its horizon.
+        let _whole = history.len();
+        self.sums = renewed(self.alloc, self.sums, history, 0, mask)?;
         Ok(())
+    }
+
+    // These sums, but those of the wanted buckets as they would be of the history raised to the horizon. A mask of 0 costs nothing.
+    pub(crate) fn table_since(
+        &self,
+        history: &History,
+        horizon: u64,
+        mask: u64,
+    ) -> Result<SumTable, AllocError>
+        ensures wanted { IfOk result (HasSumsOf mask (entries_of (known.history (since horizon (refs history.now))))) }
+        ensures others { IfOk result (SameSumsOutside mask self.now) }
+        ensures count { IfOk result (λ table. length table ≡ BUCKETS) }
+    {
+        if mask == 0 {
+            return Ok(self.table());
+        }
+        let sums = renewed(self.alloc, self.sums, history, horizon, mask)?;
+        Ok(SumTable::of(sums))
     }
 }
 
@@ -84,7 +106,7 @@ fn take_entry(hasher: &mut Sha256, text: &mut Vec<u8>, entry: Entry) -> Result<(
 }
 
 // The sum of entries. The text is room for the bytes of one of them, and is written over.
-fn sum_of(entries: BucketEntries<'_>, text: &mut Vec<u8>) -> Result<[u8; SUM_SIZE], AllocError>
+fn sum_of(entries: EntriesSince<'_>, text: &mut Vec<u8>) -> Result<[u8; SUM_SIZE], AllocError>
     ensures { IfOk result (λ sum. sum ≡ sha256 (entries_bytes entries.entry)) }
 {
     let mut hasher = Sha256::new();
@@ -94,14 +116,16 @@ fn sum_of(entries: BucketEntries<'_>, text: &mut Vec<u8>) -> Result<[u8; SUM_SIZ
     Ok(hasher.finalize())
 }
 
-// The sums, of which those of the wanted buckets are taken anew from the history.
+// The sums, of which those of the wanted buckets are taken again, from the history as it would be at the horizon: what is older is
+// skipped as it is read.
 fn renewed(
     alloc: Global,
     mut sums: [[u8; SUM_SIZE]; BUCKETS as usize],
     history: &History,
+    horizon: u64,
     mask: u64,
 ) -> Result<[[u8; SUM_SIZE]; BUCKETS as usize], AllocError>
-    ensures wanted { IfOk result (HasSumsOf mask (entries_of history.now)) }
+    ensures wanted { IfOk result (HasSumsOf mask (entries_of (known.history (since horizon (refs history.now))))) }
     ensures others { IfOk result (SameSumsOutside mask sums) }
 {
     let mut text = Vec::with_capacity(alloc, MAX_ENTRY_SIZE)?;
@@ -110,7 +134,7 @@ fn renewed(
             let Some(bucket) = Bucket::new(index) else {
                 unreachable!()
             };
-            sums[usize::from(index)] = sum_of(history.bucket(bucket), &mut text)?;
+            sums[usize::from(index)] = sum_of(history.bucket_since(bucket, horizon), &mut text)?;
         }
     }
     Ok(sums)

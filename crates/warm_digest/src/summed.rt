@@ -3,14 +3,14 @@ ghost use Rattle.std.specs.Prelude.{◌≡◌, [], IfOk, OnOk, OnErr};
 ghost use Rattle.warm_history.specs.ReferenceSets.{these, since, ◌∪◌};
 ghost use Rattle.warm_history.specs.Histories.{entries_of, history, holding, holding_since, join, refs};
 ghost use Rattle.warm_digest.specs.BucketSums.{sums_of};
-ghost use Rattle.warm_digest.specs.KeptSums.{Marks, MarksJoined, MarksPage};
+ghost use Rattle.warm_digest.specs.KeptSums.{Marks, MarksLosing, MarksPage};
 
 use crate::kept::Sums;
 use std::alloc::{AllocError, Global};
 use std::marker::Model;
 use warm_frames::SumTable;
 use warm_history::{Entry, History};
-use warm_stamps::{PageId, Reference, bucket_of};
+use warm_stamps::{BUCKETS, Bucket, PageId, Reference, bucket_of};
 
 /// A history whose bucket sums are kept: what it takes in marks buckets, which takes no memory, and
 /// [`SummedHistory::sums`] takes anew only the sums of the marked ones.
@@ -90,9 +90,9 @@ impl SummedHistory {
     {
         // Asked for what holds of every history: its pages rise.
         let _whole = self.history.len();
-        let own = self.history.horizon();
+        let lost = losing(&self.history, horizon);
         self.history.join_entries(horizon, more)?;
-        self.changed = mark_joined(self.changed, own, horizon, more);
+        self.changed = mark_entries(self.changed | lost, more);
         Ok(())
     }
 
@@ -105,15 +105,14 @@ impl SummedHistory {
 
     /// Forgets all stamps before this time, as [`History::raise`] does.
     ///
-    /// Where the time is past the horizon, the next sums are all taken anew.
+    /// Where the time is past the horizon, the next sums of the buckets that lost a stamp are taken again, and of no other. To know
+    /// them each bucket is gone over once more, up to its first older stamp.
     pub fn raise(&mut self, time: u64)
         ensures exact { self.new ≡ history (since time (refs self.old)) }
     {
-        // Asked for what holds of every history: its pages rise.
-        let _whole = self.history.len();
-        let own = self.history.horizon();
+        let lost = losing(&self.history, time);
         self.history.raise(time);
-        self.changed = mark_joined(self.changed, own, time, &[]);
+        self.changed |= lost;
     }
 
     /// Forgets everything. Takes no memory.
@@ -138,6 +137,21 @@ impl SummedHistory {
         self.changed = 0;
         Ok(self.sums.table())
     }
+
+    /// The sums that its buckets would have, were the history raised to a horizon: what [`SummedHistory::sums`] would give then.
+    ///
+    /// Nothing is forgotten. Where the horizon is not past the own one, it costs what [`SummedHistory::sums`] does. Else each bucket
+    /// is gone over up to its first older stamp. Only the buckets that have one, and those changed since the last call, are hashed:
+    /// their entries as they are read, without what is older. `AllocError` comes only where room for the bytes of one entry was refused.
+    pub fn sums_since(&mut self, horizon: u64) -> Result<SumTable, AllocError>
+        ensures table { IfOk result (λ table. table ≡ sums_of (entries_of (history (since horizon (refs self.old))))) }
+        ensures same { self.new ≡ self.old }
+    {
+        let lost = losing(&self.history, horizon);
+        self.sums.renew(&self.history, self.changed & !lost)?;
+        self.changed &= lost;
+        self.sums.table_since(&self.history, horizon, lost)
+    }
 }
 
 // The mask with the bit of the page's bucket.
@@ -158,14 +172,18 @@ fn mark_references(changed: u64, batch: &[Reference]) -> u64
     mask
 }
 
-// The mask with the buckets that entries may change which came with a horizon: all, where it is later than the own.
-fn mark_joined(changed: u64, own: u64, horizon: u64, more: &[Entry]) -> u64
-    ensures { MarksJoined own horizon changed more.now result }
+// The buckets that would lose a stamp at the horizon, as a mask: bit b, of value 2^b, stands for bucket b.
+fn losing(history: &History, horizon: u64) -> u64
+    ensures { MarksLosing horizon history.now result }
 {
-    if own < horizon {
-        return u64::MAX;
+    let mut mask: u64 = 0;
+    for index in 0..BUCKETS {
+        let Some(bucket) = Bucket::new(index) else {
+            unreachable!()
+        };
+        mask |= u64::from(history.loses(bucket, horizon)) << index;
     }
-    mark_entries(changed, more)
+    mask
 }
 
 // The mask with the buckets of the entries' pages.

@@ -12,13 +12,12 @@ use Rattle.warm_stamps.proofs.DistinctLemmas.{by_cases}
 use Rattle.warm_stamps.proofs.StampLemmas.{page_order}
 use Rattle.warm_history.specs.declared.hist.Entry.{Entry}
 use Rattle.warm_history.specs.KeptEntries.{kept_hist}
-use Rattle.warm_history.specs.ReferenceSets.{ReferenceSet, recent, these, since, ◌∪◌}
+use Rattle.warm_history.specs.ReferenceSets.{ReferenceSet, recent, these, ◌∪◌}
 use Rattle.warm_history.specs.ListHistories as list
-use Rattle.warm_history.specs.Histories.{HistoryView, IsHistory, holding_since, first_two, hist, history, entry_refs, refs}
+use Rattle.warm_history.specs.Histories.{HistoryView, holding_since, first_two, hist, history, entry_refs, refs}
 use Rattle.warm_history.proofs.KeptLemmas.{hist-kept}
 use Rattle.warm_history.proofs.ListHistoryLemmas.{told, told-append, told_entry}
 use Rattle.warm_history.proofs.HistoryLemmas.{hist_refs-history}
-use Rattle.warm_history.proofs.JoinLemmas.{history_of_own_references}
 use Rattle.warm_pool.specs.Refreshing.{AgreeOutside}
 
 differs : (q p : PageId) → (q ≡ p → ⊥) → is_eq (page_cmp q p) ≡ false
@@ -64,9 +63,3 @@ absorbed_agrees_as h batch ps g is becomes = subst (λ qs. AgreeOutside qs h g) 
 
 pub joined_agrees_as : (h : HistoryView) (horizon : ℕ) (es : List Entry) (ps : List PageId) (g : HistoryView) → horizon ≤ h.horizon → ps ≡ map (λ e. e.page) es → g ≡ history (refs h ∪ refs (holding_since horizon es)) → AgreeOutside ps h g
 joined_agrees_as h horizon es ps g le is becomes = subst (λ qs. AgreeOutside qs h g) (sym is) (subst (λ k. AgreeOutside (map (λ e. e.page) es) h k) (sym becomes) (joined_agrees h horizon es le))
-
--- a history raised to no later time is itself
-pub raised_to_no_later : (h : HistoryView) (time : ℕ) → IsHistory h → time ≤ h.horizon → history (since time (refs h)) ≡ h
-raised_to_no_later h time whole le =
-    let same : since time (refs h) ≡ refs h = λ i. record { horizon = no_greater h.horizon time le i; told = append-nil (list.refs h.entries) i } in
-    ap history same ∙ history_of_own_references h whole

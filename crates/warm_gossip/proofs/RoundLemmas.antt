@@ -28,7 +28,7 @@ use Rattle.warm_history.proofs.CarriedLemmas.{references-those}
 use Rattle.warm_history.proofs.ListHistoryLemmas.{joined, hist-append, hist_swap, hist_refs-history}
 use Rattle.warm_history.proofs.ListJoinLemmas as join_list
 use Rattle.warm_history.proofs.HistoryLemmas.{IsHistory-history, horizon-history, entries-history, kept-references, never_older, same_hists}
-use Rattle.warm_history.proofs.JoinLemmas.{both_assoc, history_alike, history_first, history_second, history_received, history_of_own_references, history_swap}
+use Rattle.warm_history.proofs.JoinLemmas.{both_assoc, history_alike, history_first, history_second, history_received, history_of_own_references, history_swap, raised_to_no_later}
 use Rattle.warm_frames.specs.declared.entries.TheConstants.{MAX_ENTRIES}
 use Rattle.warm_frames.specs.declared.frame.Frame.{Frame}
 use Rattle.warm_frames.specs.declared.frame.Frame.TheVariants.{Entries, Digest, Want}
@@ -39,7 +39,7 @@ use Rattle.warm_digest.specs.Exchange.{Fits, IsCollision, IsDifferenceOf, in_buc
 use Rattle.warm_digest.proofs.ExchangeLemmas.{kept, hist-kept, joined_same, joined_none, exchange_joins}
 use Rattle.warm_gossip.specs.Answers.{pieces_of, pieces, entry_frames, bucket_frames, buckets_in, wanted_frames, IsDiffering, refs_in, taught}
 use Rattle.warm_gossip.specs.Round.{Hears, GossipRound, GossipRoundEnds, GossipRoundJoins, OwnSumsUnanswered, EntriesTeach, offer}
-use Rattle.warm_gossip.proofs.Ranks.{no_greater, raised_to_no_later}
+use Rattle.warm_gossip.proofs.Ranks.{no_greater}
 
 -- ---- what frames bring
 

@@ -1,7 +1,7 @@
 //! What a node answers to sums and to a wish.
 ghost use Rattle.std.specs.Prelude.{◌≡◌, ◌==◌, ◌≤◌, ◌++◌, length, IfOk, OnOk};
 ghost use Rattle.std.specs.Int.{bit_at};
-ghost use Rattle.warm_history.specs.Carried.{bucket_entries};
+ghost use Rattle.warm_history.specs.Losses.{bucket_since};
 ghost use Rattle.warm_history.specs.Histories.{PagesRise, entries_of, refs};
 ghost use Rattle.warm_history.specs.Histories as known;
 ghost use Rattle.warm_history.specs.ReferenceSets.{since};
@@ -60,27 +60,40 @@ fn is_wanted(mask: u64, bucket: Bucket) -> bool
     (mask >> bucket.get()) % 2 == 1
 }
 
-// The entries of a bucket.
-fn listed(alloc: Global, history: &History, bucket: Bucket) -> Result<Vec<Entry>, AllocError>
-    ensures { IfOk result (λ es. es.items ≡ bucket_entries bucket (entries_of history.now)) }
+// The greater of the history's horizon and this one.
+fn greater(history: &History, horizon: u64) -> u64
+    ensures { result ≡ (known.history (since horizon (refs history.now))).horizon }
 {
-    history.bucket(bucket).collect(alloc)
+    history.horizon().max(horizon)
 }
 
-/// The entries of the buckets whose bit is set in the mask, bucket by bucket in rising order and
-/// each in page order, in frames of up to 1000. It costs what the wanted buckets cost.
+// What is left of the entries of a bucket at a horizon.
+fn listed(
+    alloc: Global,
+    history: &History,
+    horizon: u64,
+    bucket: Bucket,
+) -> Result<Vec<Entry>, AllocError>
+    ensures { IfOk result (λ es. es.items ≡ bucket_since horizon bucket history.now) }
+{
+    history.bucket_since(bucket, horizon).collect(alloc)
+}
+
+/// The entries of the buckets whose bit is set in the mask, at the greater of the horizon and the history's own, bucket by bucket in
+/// rising order and each in page order, in frames of up to 1000. It costs what the wanted buckets cost: what is older is skipped as
+/// it is read.
 ///
 /// `AllocError` comes only where room was refused.
 pub(crate) fn wanted_frames(
     alloc: Global,
     id: ReplicaId,
     history: &History,
+    horizon: u64,
     mask: u64,
 ) -> Result<Vec<Frame>, AllocError>
-    ensures { IfOk result (λ frames. frames.items ≡ wanted_frames id history.now mask) }
+    ensures { IfOk result (λ frames. frames.items ≡ wanted_frames id (known.history (since horizon (refs history.now))) mask) }
 {
-    // Asked for what holds of every history: its pages rise.
-    let _whole = history.len();
+    let kept_from = greater(history, horizon);
     let mut frames = Vec::new(alloc);
     for index in 0..BUCKETS {
         let Some(bucket) = Bucket::new(index) else {
@@ -89,44 +102,36 @@ pub(crate) fn wanted_frames(
         if !is_wanted(mask, bucket) {
             continue;
         }
-        let entries = listed(alloc, history, bucket)?;
-        push_frames(alloc, &mut frames, id, history.horizon(), &entries)?;
+        let entries = listed(alloc, history, horizon, bucket)?;
+        push_frames(alloc, &mut frames, id, kept_from, &entries)?;
     }
     Ok(frames)
 }
 
-// What is answered to the sums of another replica by a history with these sums.
+// What is answered to the sums of another replica, at the greater horizon, by a history with these sums there.
 fn answer_given(
     alloc: Global,
     id: ReplicaId,
     history: &History,
+    horizon: u64,
     own: &SumTable,
     sums: &SumTable,
 ) -> Result<Vec<Frame>, AllocError>
-    requires { own.now ≡ sums_of (entries_of history.now) }
-    ensures { IfOk result (λ frames. AnswersSums id history.now sums.now frames.items) }
+    requires { own.now ≡ sums_of (entries_of (known.history (since horizon (refs history.now)))) }
+    ensures { IfOk result (λ frames. AnswersSums id (known.history (since horizon (refs history.now))) sums.now frames.items) }
 {
     let mask = differing(sums, own);
     if mask == 0 {
         return Ok(Vec::new(alloc));
     }
-    let mut frames = wanted_frames(alloc, id, history, mask)?;
-    let horizon = history.horizon();
+    let mut frames = wanted_frames(alloc, id, history, horizon, mask)?;
+    let horizon = greater(history, horizon);
     frames.push(Frame::Want {
         sender: id,
         horizon,
         mask,
     })?;
     Ok(frames)
-}
-
-// A second history, raised.
-fn raised_copy(history: &History, horizon: u64) -> Result<History, AllocError>
-    ensures { IfOk result (λ copy. copy ≡ known.history (since horizon (refs history.now))) }
-{
-    let mut copy = history.copy()?;
-    copy.raise(horizon);
-    Ok(copy)
 }
 
 /// What a node with this history answers to the sums of another replica, at the greater horizon: its own
@@ -143,36 +148,8 @@ pub(crate) fn answer_to_sums(
     ensures answer { IfOk result (λ frames. AnswersSums id (known.history (since horizon (refs history.old))) sums.now frames.items) }
     ensures same { history.new ≡ history.old }
 {
-    if history.horizon() < horizon {
-        let raised = raised_copy(history.history(), horizon)?;
-        let own = warm_digest::sums(alloc, &raised)?;
-        return answer_given(alloc, id, &raised, &own, sums);
-    }
-    // Asked for what holds of every history: none of its stamps is older than its horizon.
-    let _whole = history.history().len();
-    let own = history.sums()?;
-    answer_given(alloc, id, history.history(), &own, sums)
-}
-
-/// What a node with this history answers to a wish, at the greater horizon.
-///
-/// `AllocError` comes only where room was refused.
-pub(crate) fn answer_to_wish(
-    alloc: Global,
-    id: ReplicaId,
-    history: &History,
-    horizon: u64,
-    mask: u64,
-) -> Result<Vec<Frame>, AllocError>
-    ensures { IfOk result (λ frames. frames.items ≡ wanted_frames id (known.history (since horizon (refs history.now))) mask) }
-{
-    if history.horizon() < horizon {
-        let raised = raised_copy(history, horizon)?;
-        return wanted_frames(alloc, id, &raised, mask);
-    }
-    // Asked for what holds of every history: none of its stamps is older than its horizon.
-    let _whole = history.len();
-    wanted_frames(alloc, id, history, mask)
+    let own = history.sums_since(horizon)?;
+    answer_given(alloc, id, history.history(), horizon, &own, sums)
 }
 
 /// The horizon of a frame.

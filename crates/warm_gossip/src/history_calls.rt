@@ -6,7 +6,7 @@ ghost use Rattle.warm_gossip.specs.declared.fault.NodeFault.TheVariants.{Memory}
 ghost use Rattle.warm_gossip.specs.Answers.{IsAnswer};
 ghost use Rattle.warm_gossip.specs.Clauses.{Answered, Goes, Learns, SameShown, done};
 
-use crate::answers::{answer_to_sums, answer_to_wish, horizon_of};
+use crate::answers::{answer_to_sums, horizon_of, wanted_frames};
 use crate::fault::NodeFault;
 use crate::node::Node;
 use std::alloc::{AllocError, Global};
@@ -65,6 +65,10 @@ impl<D: PageDevice> Node<D> {
 
     /// The frames that the node would answer to this one, with nothing changed that a caller sees.
     ///
+    /// At a greater horizon than the own one the history is not copied: what is older is skipped as it is read. A request costs what
+    /// the wanted buckets cost. Sums cost what [`Node::offer`] does, and at a greater horizon a pass over each bucket up to its first
+    /// older stamp, and the hashing of the buckets that have one.
+    ///
     /// # Errors
     /// `Memory`: room was refused.
     pub fn answers(&mut self, frame: &Frame) -> Result<FrameList, NodeFault>
@@ -81,7 +85,7 @@ impl<D: PageDevice> Node<D> {
                 }
             }
             Frame::Want { horizon, mask, .. } => {
-                match answer_to_wish(self.alloc, self.id, self.history.history(), *horizon, *mask) {
+                match wanted_frames(self.alloc, self.id, self.history.history(), *horizon, *mask) {
                     Ok(frames) => Ok(FrameList::of(frames)),
                     Err(_) => Err(NodeFault::Memory),
                 }

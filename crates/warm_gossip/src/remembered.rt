@@ -114,6 +114,15 @@ impl Remembered {
         Ok(table)
     }
 
+    /// The sums that the history's buckets would have at a horizon, at the cost of [`SummedHistory::sums_since`]: nothing is forgotten.
+    pub(crate) fn sums_since(&mut self, horizon: u64) -> Result<SumTable, AllocError>
+        ensures table { IfOk result (λ table. table ≡ sums_of (entries_of (history (since horizon (refs self.old))))) }
+        ensures same { self.new ≡ self.old }
+    {
+        let table = self.summed.sums_since(horizon)?;
+        Ok(table)
+    }
+
     /// So many of the hottest pages. Takes no memory where this list was kept, and else makes it, at the cost of [`warm_list`].
     /// It is kept no more: [`Remembered::keep`] takes it back.
     pub(crate) fn take_hottest(&mut self, n: usize) -> Result<Hottest, AllocError>

@@ -1,12 +1,11 @@
 -- What is left of pairs at a horizon keeps what is left of their history.
-use Rattle.std.proofs.Common.{◌≡◌, ℕ, Bool, true, false, cond, List, [], ◌∷◌, ◌++◌, length, zero, suc, get_or, slice_set, map, take, drop, sym, ap, refl, ◌∙◌, subst, Option, Some, None, arith, ◌+◌, ◌*◌, ◌≤◌, ◌<◌}
-use Rattle.std.specs.List.{AllByRecursion, cons_option, filter_map}
+use Rattle.std.proofs.Common.{◌≡◌, ℕ, Bool, true, false, cond, List, [], ◌∷◌, ◌++◌, length, zero, suc, get_or, slice_set, map, take, drop, sym, ap, refl, ◌∙◌, subst, Option, Some, None, arith, ◌+◌, ◌≤◌, ◌<◌}
+use Rattle.std.specs.List.{AllByRecursion, cons_option}
 use Rattle.std.specs.Option.{option_map, option_and_then}
 use Rattle.std.specs.Ordering.{is_eq, nat_cmp}
 use Rattle.std.specs.Map.Calls.{RetainsPairs}
 use Rattle.std.specs.BTreeMap.{BTreeMap}
 use Rattle.std.specs.declared.cmp.Ordering.TheVariants.{Less}
-use Rattle.std.proofs.lemmas.List.{length-append}
 use Rattle.std.proofs.lemmas.List.Elements.{filter_map-append}
 use Rattle.warm_stamps.specs.declared.PageId.{PageId}
 use Rattle.warm_stamps.specs.Stamps.{page_cmp}
@@ -14,7 +13,6 @@ use Rattle.warm_stamps.proofs.DistinctLemmas.{is_equal}
 use Rattle.warm_stamps.proofs.StampLemmas.{page_order}
 use Rattle.warm_history.specs.declared.hist.PageHist.{PageHist}
 use Rattle.warm_history.specs.declared.hist.PageHist.TheVariants.{Once, Twice}
-use Rattle.warm_history.specs.declared.hist.Entry.{Entry}
 use Rattle.warm_history.specs.ReferenceSets.{is_kept, recent}
 use Rattle.warm_history.specs.KeptEntries.{is_recent, shortened, kept_hist, kept_entries}
 use Rattle.warm_history.specs.ListHistories.{history, refs, IsFalling}

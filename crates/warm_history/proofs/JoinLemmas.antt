@@ -1,11 +1,12 @@
 -- The laws of histories and of their join.
-use Rattle.std.proofs.Common.{◌≡◌, ℕ, arith, List, ◌++◌, max, refl, sym, ap, ◌∙◌, append_assoc}
+use Rattle.std.proofs.Common.{◌≡◌, ◌≤◌, ℕ, arith, List, ◌++◌, max, refl, sym, ap, ◌∙◌, append_assoc}
+use Rattle.std.proofs.lemmas.List.{append-nil}
 use Rattle.std.proofs.Math.Nat.{max_comm, le_refl, max-eq_left}
 use Rattle.warm_stamps.specs.declared.PageId.{PageId}
-use Rattle.warm_history.specs.ReferenceSets.{ReferenceSet, recent, references, ◌∪◌}
+use Rattle.warm_history.specs.ReferenceSets.{ReferenceSet, recent, references, since, ◌∪◌}
 use Rattle.warm_history.specs.ListHistories as list
 use Rattle.warm_history.specs.declared.hist.Entry.{Entry}
-use Rattle.warm_history.specs.Histories.{entries_of, history, hist, refs}
+use Rattle.warm_history.specs.Histories.{HistoryView, IsHistory, entries_of, history, hist, refs}
 use Rattle.warm_history.specs.Laws.{HistoriesTellBoth, HistoryOfOwnReferences, JoinCommutes, JoinAssociates, JoinRepeats, JoinIsLeast, TakingInMovesUp}
 use Rattle.warm_history.proofs.KeptLemmas.{kept_alike}
 use Rattle.warm_history.proofs.ListHistoryLemmas as of_list
@@ -32,6 +33,12 @@ history_of_own_references h whole =
     let entries : list.history (references (refs h)) ≡ h.entries = ap list.history (references-refs h whole) ∙ join_list.history_of_own_references h.entries (record { pages_rise = whole.pages_rise; stamps_fall = whole.stamps_fall }) in
     let same : view h.horizon (references (refs h)) ≡ h = λ i. record { horizon = h.horizon; entries = entries i } in
     history-is (refs h) ∙ same
+
+-- a history raised to no later time is itself
+pub raised_to_no_later : (h : HistoryView) (time : ℕ) → IsHistory h → time ≤ h.horizon → history (since time (refs h)) ≡ h
+raised_to_no_later h time whole le =
+    let same : since time (refs h) ≡ refs h = λ i. record { horizon = max-eq_left le i; told = append-nil (list.refs h.entries) i } in
+    ap history same ∙ history_of_own_references h whole
 
 hist_both_swap : (S T : ReferenceSet) (p : PageId) → hist (S ∪ T) p ≡ hist (T ∪ S) p
 hist_both_swap S T p =

@@ -1,5 +1,5 @@
 -- What a list keeps beyond a horizon depends on the two latest stamps of each page alone.
-use Rattle.std.proofs.Common.{◌≡◌, ℕ, zero, suc, ◌+◌, add-one, ◌≤◌, ◌<◌, length, get_or, set, take, drop, Bool, true, false, cond, is_some, List, [], ◌∷◌, ◌++◌, map, sym, ap, refl, ◌∙◌, subst, Option, Some, None, inl, inr, arith}
+use Rattle.std.proofs.Common.{◌≡◌, ℕ, ◌≤◌, Bool, true, false, cond, is_some, List, [], ◌∷◌, ◌++◌, map, sym, ap, refl, ◌∙◌, subst, Option, Some, None, inl, inr, arith}
 use Rattle.std.specs.List.{filter, cons_option, AllByRecursion}
 use Rattle.std.specs.Option.{option_map, option_and_then}
 use Rattle.std.specs.Ordering.{is_eq, flip_args, nat_cmp}

@@ -9,6 +9,7 @@ pub mod KeptLemmas
 pub mod RaiseLemmas
 pub mod CutLemmas
 pub mod RecentLemmas
+pub mod SinceLemmas
 pub mod HistoryLemmas
 pub mod JoinLemmas
 pub mod MergeLemmas

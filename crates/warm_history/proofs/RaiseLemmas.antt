@@ -1,17 +1,17 @@
 -- What entries become that take references in, and are cut at a horizon.
-use Rattle.std.proofs.Common.{◌≡◌, ℕ, List, [], ◌∷◌, ◌++◌, max, refl, sym, ap, subst, ◌∙◌, arith, ◌≤◌}
+use Rattle.std.proofs.Common.{◌≡◌, ℕ, List, [], ◌++◌, max, sym, ap, subst, ◌∙◌, arith, ◌≤◌}
 use Rattle.std.proofs.lemmas.List.{append-nil}
-use Rattle.std.proofs.Math.Nat.{max-zero, le_refl, le-max_left, le-max_right}
+use Rattle.std.proofs.Math.Nat.{max-zero, le_refl}
 use Rattle.warm_stamps.specs.declared.Reference.{Reference}
 use Rattle.warm_history.specs.declared.hist.Entry.{Entry}
-use Rattle.warm_history.specs.ReferenceSets.{ReferenceSet, recent, references, these, since, ◌∪◌}
+use Rattle.warm_history.specs.ReferenceSets.{ReferenceSet, recent, these, since, ◌∪◌}
 use Rattle.warm_history.specs.KeptEntries.{kept_entries}
 use Rattle.warm_history.specs.ListHistories as list
-use Rattle.warm_history.specs.Histories.{HistoryView, entries_of, holding_since, history, refs, IsHistory, NoneOlder}
+use Rattle.warm_history.specs.Histories.{entries_of, holding_since, history, refs, IsHistory, NoneOlder}
 use Rattle.warm_history.specs.Tree.{Pairs, kept, AreKept}
 use Rattle.warm_history.proofs.KeptLemmas.{history-kept, kept-append, kept_within, kept_after, kept_refs}
 use Rattle.warm_history.proofs.ListJoinLemmas as join_list
-use Rattle.warm_history.proofs.HistoryLemmas.{view, history-is, IsHistory-history, entries-history}
+use Rattle.warm_history.proofs.HistoryLemmas.{history-is, IsHistory-history, entries-history}
 use Rattle.warm_history.proofs.TreeLemmas.{IsHistory-kept}
 
 -- what pairs keep, none of it older than the horizon, is a history

@@ -1,12 +1,11 @@
 -- What is taken in of what isn't older than a horizon.
-use Rattle.std.proofs.Common.{◌≡◌, ℕ, List, [], ◌∷◌, ◌++◌, filter, map, refl, sym, ap, ◌∙◌}
+use Rattle.std.proofs.Common.{◌≡◌, ℕ, List, [], ◌++◌, filter, map, refl, sym, ap, ◌∙◌}
 use Rattle.std.proofs.lemmas.List.{append-nil}
 use Rattle.warm_stamps.specs.declared.Stamp.{Stamp}
 use Rattle.warm_stamps.specs.declared.Reference.{Reference}
 use Rattle.warm_history.specs.declared.hist.PageHist.{PageHist}
-use Rattle.warm_history.specs.declared.hist.Entry.{Entry}
 use Rattle.warm_history.specs.ReferenceSets.{is_kept, recent}
-use Rattle.warm_history.specs.ListHistories.{stamps_held, entry_refs, refs, history}
+use Rattle.warm_history.specs.ListHistories.{stamps_held, refs, history}
 use Rattle.warm_history.specs.Places.{page_at}
 use Rattle.warm_history.specs.Tree.{Pairs, as_entries, kept, AreKept, told_at, TakesStamps, TakesRecent}
 use Rattle.warm_history.proofs.KeptLemmas.{recent_entry, kept-append, kept_alike}

@@ -1,5 +1,5 @@
 -- What is left of pairs at a horizon.
-use Rattle.std.specs.Prelude.{◌≡◌, ℕ, max, ◌++◌, Option, Some, None}
+use Rattle.std.specs.Prelude.{ℕ, Option}
 use Rattle.std.specs.List.{filter_map}
 use Rattle.std.specs.Option.{option_map}
 use Rattle.warm_history.specs.declared.hist.PageHist.{PageHist}

@@ -1,7 +1,8 @@
 //! The history of one page: its latest stamp, or its two latest.
-ghost use Rattle.std.specs.Prelude.{◌≡◌, [], ◌∷◌, ◌++◌, filter, cond};
+ghost use Rattle.std.specs.Prelude.{◌≡◌, ◌↔◌, [], ◌∷◌, ◌++◌, filter, cond, IsTrue};
 ghost use Rattle.warm_history.specs.ListHistories.{latest_of, stamps_held, held};
 ghost use Rattle.warm_history.specs.ReferenceSets.{is_kept};
+ghost use Rattle.warm_history.specs.Histories.{IsKept};
 ghost use Rattle.warm_history.specs.KeptEntries.{kept_hist};
 ghost use Rattle.warm_stamps.specs.Stamps.{stamp_cmp};
 
@@ -126,6 +127,16 @@ impl PageHist {
                 Some(PageHist::Once(last))
             }
             PageHist::Twice(two) => since_both(two, horizon),
+        }
+    }
+
+    // Whether none of these stamps is older than the horizon: the stamp before the latest is the older one.
+    pub(crate) fn is_since(self, horizon: u64) -> bool
+        ensures { IsTrue result ↔ IsKept horizon self }
+    {
+        match self {
+            PageHist::Once(last) => horizon <= last.time,
+            PageHist::Twice(two) => horizon <= two.prev().time,
         }
     }
 }

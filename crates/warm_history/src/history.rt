@@ -1,8 +1,9 @@
 //! Histories, as maps from places: the entries of a bucket lie together.
-ghost use Rattle.std.specs.Prelude.{◌≡◌, ◌≤◌, [], length, max, OnOk, OnErr, IfOk, IsPermutation, slice_get, take};
+ghost use Rattle.std.specs.Prelude.{◌≡◌, ◌≤◌, [], false, length, max, OnOk, OnErr, IfOk, IsPermutation, IsTrue, slice_get, take};
 ghost use Rattle.warm_history.specs.ReferenceSets.{ReferenceSet, these, since, ◌∪◌};
 ghost use Rattle.warm_history.specs.Histories.{entries_of, holding, holding_since, hist, refs, history, join, StandsFor, TakesIn, IsHistory};
 ghost use Rattle.warm_history.specs.Carried.{AreCarried, bucket_entries};
+ghost use Rattle.warm_history.specs.Losses.{KeepsIn, LosesIn, bucket_since};
 ghost use Rattle.warm_history.specs.Merges.{later_of_bucket};
 
 use crate::bucket_maps::{BucketMaps, EachPair};
@@ -10,6 +11,7 @@ use crate::hist::{Entry, PageHist};
 use crate::merges::{AllParts, Source, all_parts};
 use crate::parts::{later_pairs, next_entry};
 use crate::place::page_at;
+use crate::since::{EntriesSince, none_older};
 use crate::tree::{known_of, raise, take_entries, take_pairs, take_references};
 use std::alloc::{AllocError, Global};
 use std::collections::btree_map::Range;
@@ -123,6 +125,29 @@ impl History {
         ensures { result ≡ bucket_entries bucket (entries_of self.now) }
     {
         self.later(bucket, None)
+    }
+
+    /// What is left of the entries of a bucket at a horizon, in rising page order: the entries that [`History::bucket`] would give
+    /// of the history raised to it. At a horizon that is not greater than the own one these are all of them. Takes no memory.
+    ///
+    /// To begin costs a look-up, and each entry of the bucket a step: what is older is skipped as it is read.
+    pub fn bucket_since(&self, bucket: Bucket, horizon: u64) -> EntriesSince<'_>
+        ensures { result ≡ bucket_since horizon bucket self.now }
+    {
+        EntriesSince::new(self.bucket(bucket), later(self.horizon, horizon))
+    }
+
+    /// Whether a bucket would have other entries at a horizon: one of them has a stamp that is older. Takes no memory.
+    ///
+    /// It costs nothing where the horizon is not greater than the own one, and else reads the bucket up to its first older stamp.
+    pub fn loses(&self, bucket: Bucket, horizon: u64) -> bool
+        ensures loses { IsTrue result → LosesIn horizon bucket self.now }
+        ensures keeps { result ≡ false → KeepsIn horizon bucket self.now }
+    {
+        if horizon <= self.horizon {
+            return false;
+        }
+        !none_older(self.bucket(bucket), horizon)
     }
 
     /// The entries, in no order that is promised: sooner than [`History::iter`]. Takes no memory.

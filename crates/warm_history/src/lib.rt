@@ -18,8 +18,10 @@ mod merges;
 mod order;
 mod parts;
 mod place;
+mod since;
 mod tree;
 
 pub use hist::{Entry, PageHist, Two, join_hist};
 pub use history::{BucketEntries, Entries, History, Unordered};
 pub use order::pages_rise;
+pub use since::EntriesSince;

@@ -1,4 +1,3 @@
-use Rattle.std.proofs.Common.{ap, sym, ◌∙◌}
 use Rattle.warm_history.proofs.RecentLemmas.{takes_none, takes_some}
 use Rattle.warm_history.proofs.tree.take_recent.Goals as goal
 

@@ -1,4 +1,4 @@
-use Rattle.std.proofs.Common.{◌≡◌, ◌≤◌, ◌*◌, ap, sym, length, arith, ◌∙◌}
+use Rattle.std.proofs.Common.{◌≡◌, ◌≤◌, ◌*◌, ap, length, arith, ◌∙◌}
 use Rattle.warm_history.specs.BucketMaps.{pairs_of, joined}
 use Rattle.warm_history.proofs.BucketCounts.{few_joined}
 use Rattle.warm_history.proofs.BucketSteps.{length-pairs_of}

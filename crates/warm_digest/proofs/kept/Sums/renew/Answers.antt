@@ -1,0 +1,10 @@
+use Rattle.std.proofs.Common.{subst, arith}
+use Rattle.warm_history.specs.Histories.{HistoryView, entries_of}
+use Rattle.warm_history.proofs.JoinLemmas.{raised_to_no_later}
+use Rattle.warm_digest.specs.KeptSums.{HasSumsOf}
+use Rattle.warm_digest.proofs.kept.Sums.renew.Goals as goal
+
+-- nothing is older than time 0
+pub returns-clause-wanted : goal.returns-clause-wanted
+returns-clause-wanted c =
+    subst (λ (h : HistoryView). HasSumsOf c.args.mask (entries_of h) c.in_ok-self-inside.field-0) (raised_to_no_later c.args.history.now 0 c.len-whole.ensures.whole (omega arith)) c.in_ok-self-inside.ensures.wanted

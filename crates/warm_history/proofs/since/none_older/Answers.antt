@@ -1,0 +1,12 @@
+use Rattle.std.proofs.Common.{IsTrue, false, ◌++◌, ap, sym, ◌∙◌}
+use Rattle.warm_history.proofs.SinceLemmas.{one_of_all}
+use Rattle.warm_history.proofs.since.none_older.Goals as goal
+
+-- the entry at hand has a stamp that is older, so not all have none
+pub returns-then-not-is_since : goal.returns-then-not-is_since
+returns-then-not-is_since c =
+    let so_far = c.loop-entry.yielded in
+    let entry = c.in-Some.entry in (
+      (λ (no : IsTrue false). absurd (cc)),
+      λ all. c.if-not-is_since.ensures.1 (one_of_all c.args.horizon so_far _ c.args.entries entry (ap (λ es. so_far ++ es) (sym c.in-Some.ensures.steps) ∙ c.loop-entry.invariant.split) all),
+    )

@@ -1,0 +1,18 @@
+-- What a history would lose at a horizon.
+use Rattle.std.specs.Prelude.{◌≡◌, ◌≢◌, ℕ, List}
+use Rattle.warm_history.specs.declared.hist.Entry.{Entry}
+use Rattle.warm_history.specs.Carried.{bucket_entries}
+use Rattle.warm_history.specs.Histories.{HistoryView, entries_of, history, refs}
+use Rattle.warm_history.specs.ReferenceSets.{since}
+
+-- the entries that a bucket of the history would have, were it raised to the horizon
+abbrev pub bucket_since : ℕ → ℕ → HistoryView → List Entry
+bucket_since horizon bucket h = bucket_entries bucket (entries_of (history (since horizon (refs h))))
+
+-- they would be others than it has
+abbrev pub LosesIn : ℕ → ℕ → HistoryView → Type 0
+LosesIn horizon bucket h = bucket_since horizon bucket h ≢ bucket_entries bucket (entries_of h)
+
+-- they would be the same
+abbrev pub KeepsIn : ℕ → ℕ → HistoryView → Type 0
+KeepsIn horizon bucket h = bucket_since horizon bucket h ≡ bucket_entries bucket (entries_of h)
