@@ -2,8 +2,9 @@
 //!
 //! Each line of standard input is a number and bytes in hexadecimal. For each a line is printed: what `decode` answers to the
 //! bytes; then, behind `|`, what a `Decoder` answers that is fed pieces of so many bytes, and what it says of the end. A frame is
-//! printed with its fields, and with `same` where `encode` gives the bytes that it was read from. `examples/damaged-frames/check`
-//! compares with a reader of its own.
+//! printed with its fields except the horizon, and with `same` where `encode` gives the bytes that it was read from, horizon included:
+//! those of a frame of the format `L2G2`. A frame of `L2G1`, which is only read, is `other`. `examples/damaged-frames/check` compares
+//! with a reader of its own.
 #![tactic(auto)]
 
 use anyhow::{Context, Result, bail};
@@ -42,17 +43,21 @@ fn put_sums<W: Write>(alloc: Global, writer: &mut W, sums: &SumTable) -> Result<
 // A frame's fields, and whether these bytes are how it is spelled.
 fn put_frame<W: Write>(alloc: Global, writer: &mut W, frame: &Frame, bytes: &[u8]) -> Result<()> {
     match frame {
-        Frame::Entries { sender, entries } => {
+        Frame::Entries {
+            sender,
+            entries,
+            ..
+        } => {
             write!(writer, " entries {}", sender.get())?;
             for entry in entries.as_slice() {
                 put_entry(writer, entry)?;
             }
         }
-        Frame::Digest { sender, sums } => {
+        Frame::Digest { sender, sums, .. } => {
             write!(writer, " digest {} ", sender.get())?;
             put_sums(alloc, writer, sums)?;
         }
-        Frame::Want { sender, mask } => write!(writer, " want {} {}", sender.get(), mask)?,
+        Frame::Want { sender, mask, .. } => write!(writer, " want {} {}", sender.get(), mask)?,
     }
     if encode(alloc, frame)?.as_slice() == bytes {
         write!(writer, " same")?;

@@ -7,39 +7,42 @@ use std::process::Abort;
 use warm_history::{Entries, Entry, History, PageHist, Two, join_hist};
 use warm_stamps::{BUCKETS, Bucket, PageId, Reference, ReplicaId, Stamp, bucket_of};
 
-fn page(dev: u16, no: u32) -> PageId {
+pub(crate) fn page(dev: u16, no: u64) -> PageId {
     PageId { dev, no }
 }
 
-fn stamp(rt: &impl Abort, time: u64, replica: u16) -> Stamp {
+pub(crate) fn stamp(rt: &impl Abort, time: u64, replica: u16) -> Stamp {
     let replica = ReplicaId::new(replica).expect(rt, "a replica");
     Stamp { time, replica }
 }
 
-fn seen(rt: &impl Abort, page: PageId, time: u64, replica: u16) -> Reference {
+pub(crate) fn seen(rt: &impl Abort, page: PageId, time: u64, replica: u16) -> Reference {
     let stamp = stamp(rt, time, replica);
     Reference { page, stamp }
 }
 
-fn once(rt: &impl Abort, time: u64, replica: u16) -> PageHist {
+pub(crate) fn once(rt: &impl Abort, time: u64, replica: u16) -> PageHist {
     PageHist::Once(stamp(rt, time, replica))
 }
 
-fn entry(page: PageId, hist: PageHist) -> Entry {
+pub(crate) fn entry(page: PageId, hist: PageHist) -> Entry {
     Entry { page, hist }
 }
 
 // What is kept of a page: its last stamp and the last but one, each given by time and replica.
-fn twice(rt: &impl Abort, last: (u64, u16), prev: (u64, u16)) -> PageHist {
+pub(crate) fn twice(rt: &impl Abort, last: (u64, u16), prev: (u64, u16)) -> PageHist {
     let last = stamp(rt, last.0, last.1);
     let prev = stamp(rt, prev.0, prev.1);
     assert!(rt; prev < last);
     PageHist::Twice(Two::new(last, prev))
 }
 
-// Whether two histories hold the same entries: bucket by bucket, since what goes over one bucket is
+// Whether two histories have one horizon and the same entries: bucket by bucket, since what goes over one bucket is
 // cheaper to prove than what goes over all in page order.
-fn are_equal(rt: &impl Abort, a: &History, b: &History) -> bool {
+pub(crate) fn are_equal(rt: &impl Abort, a: &History, b: &History) -> bool {
+    if a.horizon() != b.horizon() {
+        return false;
+    }
     for number in 0..BUCKETS {
         let bucket = Bucket::new(number).expect(rt, "a bucket");
         if !a.bucket(bucket).eq(b.bucket(bucket)) {
@@ -49,11 +52,11 @@ fn are_equal(rt: &impl Abort, a: &History, b: &History) -> bool {
     true
 }
 
-fn is_known(history: &History, page: PageId, hist: PageHist) -> bool {
+pub(crate) fn is_known(history: &History, page: PageId, hist: PageHist) -> bool {
     history.get(page) == Some(hist)
 }
 
-fn is_at(history: &History, place: usize, entry: Entry) -> bool {
+pub(crate) fn is_at(history: &History, place: usize, entry: Entry) -> bool {
     history.at(place) == Some(entry)
 }
 
@@ -72,13 +75,13 @@ fn are_those_of(entries: &mut Entries<'_>, history: &History, count: usize) -> b
 }
 
 // Whether going over a history gives its entries in page order, so many of them.
-fn goes_over(history: &History, count: usize) -> bool {
+pub(crate) fn goes_over(history: &History, count: usize) -> bool {
     let mut entries = history.iter();
     are_those_of(&mut entries, history, count)
 }
 
 // Copies; where memory is refused, once more.
-fn copy_twice(rt: &impl Abort, history: &History) -> History {
+pub(crate) fn copy_twice(rt: &impl Abort, history: &History) -> History {
     match history.copy() {
         Ok(copied) => copied,
         Err(_) => history.copy().expect(rt, "room for a copy"),
@@ -86,7 +89,7 @@ fn copy_twice(rt: &impl Abort, history: &History) -> History {
 }
 
 // Takes references in; where memory is refused, sees that nothing changed, and tries again.
-fn absorb_twice(rt: &impl Abort, history: &mut History, batch: &[Reference]) {
+pub(crate) fn absorb_twice(rt: &impl Abort, history: &mut History, batch: &[Reference]) {
     let before = copy_twice(rt, history);
     if history.absorb(batch).is_err() {
         assert!(rt;
@@ -106,7 +109,12 @@ fn room_twice(rt: &impl Abort, alloc: Global, count: usize) -> Vec<Reference> {
 }
 
 // Takes references in at once, each given by the device and the number of its page, a time and a replica.
-fn see(rt: &impl Abort, alloc: Global, history: &mut History, given: &[(u16, u32, u64, u16)]) {
+pub(crate) fn see(
+    rt: &impl Abort,
+    alloc: Global,
+    history: &mut History,
+    given: &[(u16, u64, u64, u16)],
+) {
     let mut batch = room_twice(rt, alloc, given.len());
     for (dev, no, time, replica) in given {
         let reference = seen(rt, page(*dev, *no), *time, *replica);
@@ -116,13 +124,17 @@ fn see(rt: &impl Abort, alloc: Global, history: &mut History, given: &[(u16, u32
 }
 
 // The history of references that were taken in at once.
-fn history_of(rt: &impl Abort, alloc: Global, given: &[(u16, u32, u64, u16)]) -> History {
+pub(crate) fn history_of(
+    rt: &impl Abort,
+    alloc: Global,
+    given: &[(u16, u64, u64, u16)],
+) -> History {
     let mut history = History::new(alloc);
     see(rt, alloc, &mut history, given);
     history
 }
 
-const FIRST: PageId = PageId { dev: 0, no: 1 };
+pub(crate) const FIRST: PageId = PageId { dev: 0, no: 1 };
 
 #[test]
 fn keeps_the_two_latest_stamps(rt: HostRuntime) {
@@ -151,8 +163,8 @@ fn keeps_one_of_equal_stamps(rt: &impl Abort, alloc: Global) {
 // References to the pages 0:0 to 0:49,999 at the times 0 to 49,999, and again at the 50,000 next.
 fn every_page_twice(rt: &impl Abort, alloc: Global) -> Vec<Reference> {
     let mut batch = room_twice(rt, alloc, 100_000);
-    for time in 0..100_000u32 {
-        let reference = seen(rt, page(0, time % 50_000), u64::from(time), 1);
+    for time in 0..100_000u64 {
+        let reference = seen(rt, page(0, time % 50_000), time, 1);
         batch.push(reference).expect(rt, "room for a reference");
     }
     batch
@@ -164,9 +176,8 @@ fn takes_in_100_000_references_at_once_and_none(rt: HostRuntime) {
     let mut here = History::new(rt.alloc());
     absorb_twice(&rt, &mut here, &batch);
     assert!(rt; here.len() == 50_000);
-    for no in [0, 24_999, 49_999u32] {
-        let time = u64::from(no);
-        let latest = twice(&rt, (50_000 + time, 1), (time, 1));
+    for no in [0, 24_999, 49_999u64] {
+        let latest = twice(&rt, (50_000 + no, 1), (no, 1));
         assert!(rt; is_known(&here, page(0, no), latest));
     }
     let before = copy_twice(&rt, &here);
@@ -199,7 +210,7 @@ fn tells_replicas_apart(rt: HostRuntime) {
 }
 
 // Joins; where memory is refused, sees that nothing changed, and tries again.
-fn join_twice(rt: &impl Abort, history: &mut History, other: &History) {
+pub(crate) fn join_twice(rt: &impl Abort, history: &mut History, other: &History) {
     let before = copy_twice(rt, history);
     if history.join(other).is_err() {
         assert!(rt;
@@ -210,9 +221,9 @@ fn join_twice(rt: &impl Abort, history: &mut History, other: &History) {
     }
 }
 
-const HERE: [(u16, u32, u64, u16); 3] = [(0, 1, 10, 1), (0, 1, 20, 1), (0, 3, 1, 1)];
+const HERE: [(u16, u64, u64, u16); 3] = [(0, 1, 10, 1), (0, 1, 20, 1), (0, 3, 1, 1)];
 
-const THERE: [(u16, u32, u64, u16); 3] = [(0, 1, 15, 2), (0, 1, 30, 2), (0, 2, 2, 2)];
+const THERE: [(u16, u64, u64, u16); 3] = [(0, 1, 15, 2), (0, 1, 30, 2), (0, 2, 2, 2)];
 
 #[test]
 fn joins_the_two_latest_of_both(rt: HostRuntime) {
@@ -232,9 +243,9 @@ fn joins_the_two_latest_of_both(rt: HostRuntime) {
 // Joins entries to the empty history; where memory is refused, sees that it is still empty.
 fn joined_to_none(rt: &impl Abort, alloc: Global, more: &[Entry]) -> History {
     let mut here = History::new(alloc);
-    if here.join_entries(more).is_err() {
+    if here.join_entries(0, more).is_err() {
         assert!(rt; here.len() == 0, "refused entries left something");
-        here.join_entries(more).expect(rt, "room for entries");
+        here.join_entries(0, more).expect(rt, "room for entries");
     }
     here
 }
@@ -275,7 +286,7 @@ fn entries_twice(
     }
 }
 
-fn page_at(entries: &[Entry], place: usize) -> Option<(u16, u32)> {
+fn page_at(entries: &[Entry], place: usize) -> Option<(u16, u64)> {
     match entries.get(place) {
         Some(entry) => Some((entry.page.dev, entry.page.no)),
         None => None,
@@ -287,9 +298,9 @@ fn pages_of(
     rt: &impl Abort,
     history: &History,
     number: u8,
-    after: Option<(u16, u32)>,
+    after: Option<(u16, u64)>,
     limit: usize,
-) -> (Option<(u16, u32)>, Option<(u16, u32)>, usize) {
+) -> (Option<(u16, u64)>, Option<(u16, u64)>, usize) {
     let bucket = Bucket::new(number).expect(rt, "a bucket");
     let after = match after {
         Some((dev, no)) => Some(page(dev, no)),
@@ -304,9 +315,9 @@ fn pages_of(
 // The number of a bucket, a page, and the two pages after it.
 type Pair = (
     u8,
-    Option<(u16, u32)>,
-    Option<(u16, u32)>,
-    Option<(u16, u32)>,
+    Option<(u16, u64)>,
+    Option<(u16, u64)>,
+    Option<(u16, u64)>,
 );
 
 const PAIRS: [Pair; 4] = [
@@ -349,22 +360,22 @@ fn joins_what_is_kept_of_a_page(rt: HostRuntime) {
 }
 
 // One reference to each of the first hundred pages of even numbers.
-fn even_pages(rt: &impl Abort) -> [Reference; 100] {
+pub(crate) fn even_pages(rt: &impl Abort) -> [Reference; 100] {
     let mut batch = [seen(rt, page(0, 0), 10, 1); 100];
     for no in 0..100 {
-        batch[no].page.no = 2 * no as u32;
+        batch[no].page.no = 2 * no as u64;
     }
     batch
 }
 
 // One reference to each of the first hundred pages of odd numbers, and then to every fifth of the even ones.
-fn odd_pages(rt: &impl Abort) -> [Reference; 120] {
+pub(crate) fn odd_pages(rt: &impl Abort) -> [Reference; 120] {
     let mut batch = [seen(rt, page(0, 0), 20, 1); 120];
     for no in 0..100 {
-        batch[no].page.no = 2 * no as u32 + 1;
+        batch[no].page.no = 2 * no as u64 + 1;
     }
     for no in 0..20 {
-        batch[100 + no].page.no = 10 * no as u32;
+        batch[100 + no].page.no = 10 * no as u64;
     }
     batch
 }
@@ -382,24 +393,27 @@ fn a_refused_batch_leaves_the_hundred_pages(rt: HostRuntime) {
 }
 
 // Pages of several devices and buckets, in page order: each with the number of its bucket.
-const SPREAD: [(u16, u32, u8); 9] = [
+const SPREAD: [(u16, u64, u8); 12] = [
     (0, 0, 0),
     (0, 1, 1),
     (0, 63, 63),
     (0, 64, 0),
     (0, 4_294_967_295, 63),
+    (0, 4_294_967_296, 0),
+    (0, 18_446_744_073_709_551_615, 63),
     (1, 0, 1),
     (1, 63, 0),
     (65_535, 1, 0),
     (65_535, 4_294_967_295, 62),
+    (65_535, 18_446_744_073_709_551_615, 62),
 ];
 
 // The history of these pages, the last one first, each referenced at the time of its number in the list.
 fn spread(rt: &impl Abort, alloc: Global) -> History {
     let mut here = History::new(alloc);
-    for time in 0..9usize {
-        let (dev, no, _) = SPREAD[8 - time];
-        let reference = seen(rt, page(dev, no), 8 - time as u64, 1);
+    for time in 0..12usize {
+        let (dev, no, _) = SPREAD[11 - time];
+        let reference = seen(rt, page(dev, no), 11 - time as u64, 1);
         absorb_twice(rt, &mut here, &[reference]);
     }
     here
@@ -415,15 +429,15 @@ fn stands_at(rt: &impl Abort, history: &History, place: usize, page: PageId) -> 
 #[test]
 fn goes_over_devices_and_buckets_in_page_order(rt: HostRuntime) {
     let here = spread(&rt, rt.alloc());
-    assert!(rt; here.len() == 9);
-    assert!(rt; goes_over(&here, 9));
-    for place in 0..9usize {
+    assert!(rt; here.len() == 12);
+    assert!(rt; goes_over(&here, 12));
+    for place in 0..12usize {
         let (dev, no, number) = SPREAD[place];
         let page = page(dev, no);
         assert!(rt; bucket_of(page).get() == number);
         assert!(rt; stands_at(&rt, &here, place, page));
     }
-    assert!(rt; here.at(9) == None);
+    assert!(rt; here.at(12) == None);
     assert!(rt; here.get(page(65_535, 0)) == None);
 }
 
@@ -444,7 +458,7 @@ fn times_given(history: &History, page: PageId, hist: PageHist) -> Option<usize>
 #[test]
 fn goes_over_all_in_some_order(rt: HostRuntime) {
     let here = spread(&rt, rt.alloc());
-    for time in 0..9usize {
+    for time in 0..12usize {
         let (dev, no, _) = SPREAD[time];
         let hist = once(&rt, time as u64, 1);
         assert!(rt; times_given(&here, page(dev, no), hist) == Some(1));
@@ -452,17 +466,19 @@ fn goes_over_all_in_some_order(rt: HostRuntime) {
 }
 
 // The number of a bucket, a page, how many entries after it are asked for, the first of them, and how many come.
-type Row = (u8, (u16, u32), usize, Option<(u16, u32)>, usize);
+type Row = (u8, (u16, u64), usize, Option<(u16, u64)>, usize);
 
-const LATER: [Row; 14] = [
-    (0, (0, 0), 9, Some((0, 64)), 3),
-    (0, (0, 1), 9, Some((0, 64)), 3),
+const LATER: [Row; 20] = [
+    (0, (0, 0), 9, Some((0, 64)), 4),
+    (0, (0, 1), 9, Some((0, 64)), 4),
     (0, (0, 63), 2, Some((0, 64)), 2),
-    (0, (0, 4_294_967_295), 9, Some((1, 63)), 2),
+    (0, (0, 4_294_967_295), 9, Some((0, 4_294_967_296)), 3),
+    (0, (0, 4_294_967_296), 9, Some((1, 63)), 2),
+    (0, (0, 18_446_744_073_709_551_615), 9, Some((1, 63)), 2),
     (0, (1, 64), 9, Some((65_535, 1)), 1),
     (0, (65_535, 0), 9, Some((65_535, 1)), 1),
     (0, (65_535, 1), 9, None, 0),
-    (0, (65_535, 4_294_967_295), 9, None, 0),
+    (0, (65_535, 18_446_744_073_709_551_615), 9, None, 0),
     (0, (0, 0), 0, None, 0),
     (1, (0, 0), 1, Some((0, 1)), 1),
     (
@@ -470,10 +486,32 @@ const LATER: [Row; 14] = [
         (65_535, 4_294_967_294),
         9,
         Some((65_535, 4_294_967_295)),
+        2,
+    ),
+    (
+        62,
+        (65_535, 4_294_967_295),
+        9,
+        Some((65_535, 18_446_744_073_709_551_615)),
         1,
     ),
-    (63, (0, 0), 9, Some((0, 63)), 2),
-    (63, (0, 64), 9, Some((0, 4_294_967_295)), 1),
+    (
+        62,
+        (65_535, 18_446_744_073_709_551_614),
+        9,
+        Some((65_535, 18_446_744_073_709_551_615)),
+        1,
+    ),
+    (62, (65_535, 18_446_744_073_709_551_615), 9, None, 0),
+    (63, (0, 0), 9, Some((0, 63)), 3),
+    (63, (0, 64), 9, Some((0, 4_294_967_295)), 2),
+    (
+        63,
+        (0, 4_294_967_295),
+        9,
+        Some((0, 18_446_744_073_709_551_615)),
+        1,
+    ),
     (63, (1, 0), 9, None, 0),
 ];
 

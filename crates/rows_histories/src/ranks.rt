@@ -9,12 +9,12 @@ use warm_history::History;
 use warm_rank::{Contest, RankKey, key_of, leaving_order, warm_list};
 use warm_stamps::{PageId, PageList, Reference, ReplicaId, Stamp};
 
-const fn page(no: u32) -> PageId {
+const fn page(no: u64) -> PageId {
     PageId { dev: 0, no }
 }
 
 // A reference to a page of device 0, at replica 1.
-fn seen(rt: &impl Abort, no: u32, time: u64) -> Reference {
+fn seen(rt: &impl Abort, no: u64, time: u64) -> Reference {
     let replica = ReplicaId::new(1).expect(rt, "1 names a replica");
     Reference {
         page: page(no),
@@ -23,7 +23,7 @@ fn seen(rt: &impl Abort, no: u32, time: u64) -> Reference {
 }
 
 // The history of references to pages of device 0, given by number and time, at replica 1.
-fn history_of(rt: &impl Abort, alloc: Global, given: &[(u32, u64)]) -> History {
+fn history_of(rt: &impl Abort, alloc: Global, given: &[(u64, u64)]) -> History {
     let mut history = History::new(alloc);
     for (no, time) in given {
         history
@@ -34,9 +34,9 @@ fn history_of(rt: &impl Abort, alloc: Global, given: &[(u32, u64)]) -> History {
 }
 
 // A page that was referenced twice, and then a scan of two pages.
-const SCAN: [(u32, u64); 4] = [(1, 1), (1, 2), (5, 10), (6, 11)];
+const SCAN: [(u64, u64); 4] = [(1, 1), (1, 2), (5, 10), (6, 11)];
 
-fn leaves_first(history: &History, first: u32, second: u32) -> bool {
+fn leaves_first(history: &History, first: u64, second: u64) -> bool {
     match leaving_order(history, page(first), page(second)) {
         Ordering::Less => true,
         _ => false,
@@ -57,12 +57,50 @@ fn farther_page_leaves_though_referenced_last(rt: HostRuntime) {
     assert!(rt; leaves_first(&history, 1, 2));
 }
 
+// Which of two pages leaves first as the horizon rises: both were referenced twice, then once, and then never.
+#[test]
+fn a_raised_horizon_changes_which_page_leaves(rt: HostRuntime) {
+    let mut history = history_of(&rt, rt.alloc(), &[(1, 1), (1, 100), (2, 50), (2, 60)]);
+    assert!(rt; leaves_first(&history, 1, 2));
+    assert!(rt; are_hottest(&rt, rt.alloc(), &history, 2, &[page(2), page(1)]));
+    history.raise(60);
+    assert!(rt; leaves_first(&history, 2, 1));
+    assert!(rt; are_hottest(&rt, rt.alloc(), &history, 2, &[page(1), page(2)]));
+    history.raise(101);
+    assert!(rt; leaves_first(&history, 1, 2));
+    assert!(rt; are_hottest(&rt, rt.alloc(), &history, 2, &[]));
+}
+
+#[test]
+fn page_numbers_past_32_bits_keep_their_order(rt: HostRuntime) {
+    let numbers = [1, 4_294_967_295, 4_294_967_296, 18_446_744_073_709_551_615];
+    let once = [
+        (numbers[0], 5),
+        (numbers[1], 5),
+        (numbers[2], 5),
+        (numbers[3], 5),
+    ];
+    let none = History::new(rt.alloc());
+    let known = history_of(&rt, rt.alloc(), &once);
+    for at in 0..3usize {
+        assert!(rt; leaves_first(&none, numbers[at], numbers[at + 1]));
+        assert!(rt; leaves_first(&known, numbers[at], numbers[at + 1]));
+    }
+    let hottest = [
+        page(numbers[3]),
+        page(numbers[2]),
+        page(numbers[1]),
+        page(numbers[0]),
+    ];
+    assert!(rt; are_hottest(&rt, rt.alloc(), &known, 4, &hottest));
+}
+
 // Sets the key of a slot to that of a page in a history, or to none, and gives the slot of the least key then.
 fn least_after(
     contest: &mut Contest,
     slot: usize,
     history: &History,
-    no: Option<u32>,
+    no: Option<u64>,
 ) -> Option<usize>
     requires { slot < length contest.old }
     ensures { length contest.new ≡ length contest.old }
@@ -123,7 +161,7 @@ fn set_rising(contest: &mut Contest, slots: u32)
     ensures { length contest.new ≡ slots }
 {
     for slot in 0..slots {
-        contest.set(slot as usize, Some(key_of(page(slot), None)));
+        contest.set(slot as usize, Some(key_of(page(u64::from(slot)), None)));
     }
 }
 
@@ -167,11 +205,11 @@ fn key_keeps_its_page(rt: HostRuntime) {
 }
 
 // The history of the pages from 0 on, so many, each referenced once at the time of its number.
-fn long_history(rt: &impl Abort, alloc: Global, pages: u32) -> History {
+fn long_history(rt: &impl Abort, alloc: Global, pages: u64) -> History {
     let mut batch = Vec::new(alloc);
     for no in 0..pages {
         batch
-            .push(seen(rt, no, u64::from(no)))
+            .push(seen(rt, no, no))
             .expect(rt, "room for a reference");
     }
     let mut history = History::new(alloc);
@@ -180,7 +218,7 @@ fn long_history(rt: &impl Abort, alloc: Global, pages: u32) -> History {
 }
 
 // Whether the pages' numbers fall by one from the first page's on.
-fn fall_from(pages: &[PageId], first: u32) -> bool {
+fn fall_from(pages: &[PageId], first: u64) -> bool {
     let mut want = first;
     for listed in pages {
         if listed.no != want {

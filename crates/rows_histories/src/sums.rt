@@ -13,20 +13,32 @@ const OF_NOTHING: [u8; 32] = [
     0x27, 0xae, 0x41, 0xe4, 0x64, 0x9b, 0x93, 0x4c, 0xa4, 0x95, 0x99, 0x1b, 0x78, 0x52, 0xb8, 0x55,
 ];
 
-// SHA-256, by another program, of the 27 bytes
-// 0000 00000007 02 0000000000000014 0001 000000000000000A 0001.
+// SHA-256, by another program, of the 31 bytes
+// 0000 0000000000000007 02 0000000000000014 0001 000000000000000A 0001.
 const OF_0_7: [u8; 32] = [
-    0x7f, 0x8e, 0xd8, 0x72, 0x2a, 0x14, 0x37, 0x39, 0x39, 0x83, 0x3a, 0xa0, 0xf5, 0x45, 0xd0, 0xad,
-    0x2b, 0xb5, 0xda, 0xda, 0x04, 0xb5, 0x50, 0x84, 0x46, 0x47, 0x77, 0x1b, 0x69, 0x56, 0xf0, 0xb4,
+    0x57, 0x8d, 0x81, 0xdb, 0xdf, 0x5f, 0xd3, 0xe0, 0x07, 0x79, 0xc5, 0xbd, 0x08, 0xa0, 0x98, 0x30,
+    0xe3, 0x4a, 0xfd, 0x26, 0xf9, 0x02, 0xb2, 0x4c, 0x9e, 0xfa, 0x02, 0x1d, 0x20, 0x1e, 0xbb, 0x51,
 ];
 
 // The same of the entries of 0:1 with 5@1, 0:65 with 30@1 and 20@1, and 1:0 with 7@1.
 const OF_THREE_PAGES: [u8; 32] = [
-    0x45, 0x51, 0x4b, 0x6f, 0xb1, 0xdc, 0x66, 0xcc, 0x9d, 0x6c, 0x44, 0x21, 0xdc, 0x03, 0x41, 0x4b,
-    0x42, 0x29, 0x30, 0x2f, 0x8a, 0x48, 0x38, 0xda, 0xfe, 0xed, 0xc7, 0x59, 0x21, 0x5b, 0xa2, 0x03,
+    0xf4, 0x3b, 0x7d, 0x2e, 0x41, 0x05, 0xd1, 0x09, 0xca, 0x39, 0xe7, 0xbe, 0x2d, 0x6f, 0x42, 0xce,
+    0xe4, 0x2d, 0xeb, 0x54, 0x89, 0x33, 0x4c, 0x83, 0xed, 0xef, 0x3f, 0x6b, 0x75, 0x89, 0x69, 0x7f,
 ];
 
-fn reference(rt: &impl Abort, dev: u16, no: u32, time: u64) -> Reference {
+// The same of the entry of 0:7 with 20@1 alone.
+const OF_0_7_SINCE_20: [u8; 32] = [
+    0x69, 0x46, 0x2e, 0xf1, 0xae, 0x4a, 0x30, 0xd3, 0xfa, 0x8b, 0x54, 0x08, 0xfa, 0x58, 0x5f, 0x27,
+    0x7d, 0xfb, 0x7b, 0xa2, 0x3b, 0x44, 0x7b, 0xcd, 0x18, 0x43, 0x3b, 0x5d, 0xd1, 0xbf, 0xcf, 0x6c,
+];
+
+// The same of the entry of 0:65 with 30@1 and 20@1.
+const OF_0_65: [u8; 32] = [
+    0xc5, 0x6a, 0x45, 0x74, 0xe8, 0x32, 0xc2, 0x9c, 0x90, 0xeb, 0x69, 0x32, 0xdd, 0x49, 0xa5, 0xbb,
+    0x42, 0x54, 0x5b, 0xe3, 0x67, 0xbd, 0xc5, 0x6c, 0xfb, 0xd2, 0x3c, 0x44, 0x8a, 0x8f, 0x59, 0xbc,
+];
+
+fn reference(rt: &impl Abort, dev: u16, no: u64, time: u64) -> Reference {
     let replica = ReplicaId::new(1).expect(rt, "a replica");
     Reference {
         page: PageId { dev, no },
@@ -59,20 +71,23 @@ fn taken_anew(rt: &impl Abort, alloc: Global, history: &History) -> SumTable {
     sums(alloc, history).expect(rt, "room for the sums")
 }
 
-// Which of the four pages a table has sums of: those of bucket 1, that of bucket 7, or all. Each is named by a word, since a sum of
-// 32 bytes is dear to prove wherever it stands.
+// Which of the four pages a table has sums of: those of bucket 1, that of bucket 7, all, or all by what is kept of them since 20.
+// Each is named by a word, since a sum of 32 bytes is dear to prove wherever it stands.
 #[derive(Clone, Copy)]
 enum Pages {
     None,
     OfBucket1,
     OfBucket7,
     All,
+    Since20,
 }
 
 fn sum_of(index: u8, pages: Pages) -> [u8; 32] {
     match (index, pages) {
         (1, Pages::OfBucket1 | Pages::All) => OF_THREE_PAGES,
         (7, Pages::OfBucket7 | Pages::All) => OF_0_7,
+        (1, Pages::Since20) => OF_0_65,
+        (7, Pages::Since20) => OF_0_7_SINCE_20,
         _ => OF_NOTHING,
     }
 }
@@ -146,11 +161,11 @@ fn the_buckets_of_the_mask_are_renewed(rt: HostRuntime) {
 }
 
 // So many references to pages of device 0, each to its own.
-fn new_pages(rt: &impl Abort, alloc: Global, first: u32, count: u32) -> Vec<Reference> {
+fn new_pages(rt: &impl Abort, alloc: Global, first: u64, count: u64) -> Vec<Reference> {
     let mut batch = Vec::new(alloc);
     for i in 0..count {
         let no = first.wrapping_add(i.wrapping_mul(7));
-        let reference = reference(rt, 0, no, u64::from(i));
+        let reference = reference(rt, 0, no, i);
         batch.push(reference).expect(rt, "room for a reference");
     }
     batch
@@ -174,17 +189,19 @@ fn keeps_those_taken_anew(rt: &impl Abort, alloc: Global, summed: &mut SummedHis
 }
 
 // So many pages come as references.
-fn is_told(rt: &impl Abort, alloc: Global, summed: &mut SummedHistory, first: u32, count: u32) {
+fn is_told(rt: &impl Abort, alloc: Global, summed: &mut SummedHistory, first: u64, count: u64) {
     let batch = new_pages(rt, alloc, first, count);
     summed.absorb(&batch).expect(rt, "room for a batch");
     assert!(rt; keeps_those_taken_anew(rt, alloc, summed));
 }
 
 // So many pages come as entries.
-fn hears(rt: &impl Abort, alloc: Global, summed: &mut SummedHistory, first: u32, count: u32) {
+fn hears(rt: &impl Abort, alloc: Global, summed: &mut SummedHistory, first: u64, count: u64) {
     let batch = new_pages(rt, alloc, first, count);
     let entries = entries_of(rt, alloc, &batch);
-    summed.join_entries(&entries).expect(rt, "room for entries");
+    summed
+        .join_entries(0, &entries)
+        .expect(rt, "room for entries");
     assert!(rt; keeps_those_taken_anew(rt, alloc, summed));
 }
 
@@ -213,6 +230,44 @@ fn kept_sums_are_those_of_the_history(rt: HostRuntime) {
     hears(&rt, rt.alloc(), &mut summed, 2000, 100);
     assert!(rt; summed.history().len() == 205);
     assert!(rt; is_forgotten(&rt, &mut summed));
+}
+
+// The sums of the four pages are asked for, and then the horizon rises to 20, by itself or with a frame of no entries.
+#[derive(Clone, Copy)]
+enum Rise {
+    Alone,
+    WithEntries,
+}
+
+fn rises(rt: &impl Abort, summed: &mut SummedHistory, rise: Rise, time: u64) {
+    match rise {
+        Rise::Alone => summed.raise(time),
+        Rise::WithEntries => summed
+            .join_entries(time, &[])
+            .expect(rt, "no room is taken"),
+    }
+}
+
+// Whether the sums that are kept follow the horizon as it rises to 20, and stay as an earlier time comes.
+fn follow_the_horizon(rt: &impl Abort, alloc: Global, rise: Rise) {
+    let mut summed = SummedHistory::new(alloc);
+    told_of_four(rt, &mut summed);
+    rises(rt, &mut summed, rise, 20);
+    assert!(rt; summed.horizon() == 20);
+    assert!(rt; keeps(rt, &mut summed, Pages::Since20));
+    rises(rt, &mut summed, rise, 19);
+    assert!(rt; summed.horizon() == 20);
+    assert!(rt; keeps(rt, &mut summed, Pages::Since20));
+    rises(rt, &mut summed, rise, u64::MAX);
+    assert!(rt; keeps(rt, &mut summed, Pages::None));
+    assert!(rt; is_forgotten(rt, &mut summed));
+    assert!(rt; summed.horizon() == 0);
+}
+
+#[test]
+fn kept_sums_follow_the_horizon(rt: HostRuntime) {
+    follow_the_horizon(&rt, rt.alloc(), Rise::Alone);
+    follow_the_horizon(&rt, rt.alloc(), Rise::WithEntries);
 }
 
 // The sums of the history of these references.

@@ -101,8 +101,75 @@ fn a_file_keeps_a_dropped_devices_bytes(rt: HostRuntime) {
 fn a_file_that_cannot_be_opened(rt: HostRuntime) {
     let missing = FileDevice::open(&rt, "no-such-folder/pages", 8, 16);
     assert!(rt; missing.err() == Some(OpenFault::Open));
-    let too_large = FileDevice::open(&rt, "never-made.pages", u32::MAX, 1 << 40);
-    assert!(rt; too_large.err() == Some(OpenFault::Open));
+}
+
+// Pages that don't fit into 2^63 - 1 bytes are refused before the system is asked, also where their number of bytes has more
+// than 64 bits.
+#[test]
+fn a_file_that_would_be_too_large(rt: HostRuntime) {
+    let path = "never-made.pages";
+    for (pages, page_size) in [
+        (4_294_967_295, 1 << 40),
+        (1 << 63, 1),
+        (1 << 62, 2),
+        (1 << 33, 1 << 30),
+        (1 << 33, 1 << 31),
+        ((1 << 32) + 1, 1 << 32),
+        (u64::MAX, 1),
+        (u64::MAX, 65_536),
+        (u64::MAX, usize::MAX),
+    ] {
+        let refused = FileDevice::open(&rt, path, pages, page_size);
+        assert!(rt; refused.err() == Some(OpenFault::Open));
+    }
+    assert!(rt; fs::metadata(&rt, path).is_err());
+}
+
+#[test]
+fn memory_for_more_pages_than_any_is_refused(rt: HostRuntime) {
+    for (pages, page_size) in [(u64::MAX, 1), (1 << 59, 16), (1 << 60, 16), (1 << 63, 2)] {
+        assert!(rt; MemDevice::new(rt.alloc(), pages, page_size).is_err());
+    }
+}
+
+// 2^33 pages of one byte.
+const WIDE: u64 = 8_589_934_592;
+
+fn open_wide<R: Files<File = File> + Abort>(rt: &R, path: &str) -> FileDevice {
+    match FileDevice::open(rt, path, WIDE, 1) {
+        Ok(device) => device,
+        Err(_) => FileDevice::open(rt, path, WIDE, 1).expect(rt, "opened"),
+    }
+}
+
+// Writes a byte of the file as a page.
+fn write_byte<R: Files<File = File> + Abort>(rt: &R, path: &str, no: u64, byte: u8) -> bool {
+    let mut device = open_wide(rt, path);
+    no < device.pages() && device.page_size() == 1 && device.write(no, &[byte]) == Ok(())
+}
+
+// The byte of the file that is a page.
+fn byte_at<R: Files<File = File> + Abort>(rt: &R, path: &str, no: u64) -> Option<u8> {
+    let mut device = open_wide(rt, path);
+    let mut page = [0xFF; 1];
+    if no < device.pages() && device.page_size() == 1 && device.read(no, &mut page) == Ok(()) {
+        return Some(page[0]);
+    }
+    None
+}
+
+#[test]
+fn a_sparse_file_has_pages_past_32_bits(rt: HostRuntime) {
+    let path = "sparse.pages";
+    assert!(rt; write_byte(&rt, path, 4_294_967_296, 5));
+    assert!(rt; write_byte(&rt, path, 8_589_934_591, 6));
+    let file = fs::metadata(&rt, path).expect(&rt, "the file stands");
+    assert!(rt; file.len() == 8_589_934_592);
+    assert!(rt; byte_at(&rt, path, 4_294_967_296) == Some(5));
+    assert!(rt; byte_at(&rt, path, 8_589_934_591) == Some(6));
+    assert!(rt; byte_at(&rt, path, 0) == Some(0));
+    assert!(rt; byte_at(&rt, path, 8_589_934_592) == None);
+    fs::remove_file(&rt, path).expect(&rt, "the file goes");
 }
 
 #[test]

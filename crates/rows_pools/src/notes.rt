@@ -14,7 +14,7 @@ use warm_devices::{Flaky, MemDevice, PageDevice};
 fn noting(
     rt: &impl Abort,
     alloc: Global,
-    pages: u32,
+    pages: u64,
     page_size: usize,
 ) -> (Noting, Arc<Note, Global>)
     ensures { noting_state result.0 ≡ zeroed pages page_size }

@@ -7,19 +7,21 @@
 //! What must not fail ends the process where it does: a `?` would be one more way out, on which the drop of all that is owned
 //! is proved.
 ghost use Rattle.std.specs.Prelude.{◌≡◌, ◌≤◌, length, vec_capacity};
-ghost use Rattle.warm_pool.specs.State.{IsPool, IsRankedByAll, RankedBy};
+ghost use Rattle.warm_pool.specs.State.{IsRankedByAll, RankedBy};
 
+mod boxed;
 mod let_go;
 mod ranks;
+mod wide;
 
 use std::alloc::{AllocError, Global};
 use std::process::Abort;
 use warm_devices::{Flaky, MemDevice, PageDevice};
 use warm_history::History;
-use warm_pool::{Pool, PoolFault, Pooled, Slot, Unretired};
+use warm_pool::{Pool, PoolFault, Slot, Unretired};
 use warm_stamps::PageId;
 
-const fn page(no: u32) -> PageId {
+const fn page(no: u64) -> PageId {
     PageId { dev: 0, no }
 }
 
@@ -30,30 +32,26 @@ const fn slot(index: u32, generation: u64) -> Slot {
 // One growth alone is refused, so the next try has the memory.
 const ONE_REFUSED: &str = "one growth alone is refused";
 
-fn new_memory(alloc: Global, pages: u32) -> Result<Box<dyn PageDevice + Send>, AllocError> {
-    Ok(Box::new(alloc, MemDevice::new(alloc, pages, 16)?)?)
-}
-
-fn memory(rt: &impl Abort, alloc: Global, pages: u32) -> Box<dyn PageDevice + Send> {
-    match new_memory(alloc, pages) {
+fn memory(rt: &impl Abort, alloc: Global, pages: u64) -> MemDevice {
+    match MemDevice::new(alloc, pages, 16) {
         Ok(device) => device,
-        Err(_) => new_memory(alloc, pages).expect(rt, ONE_REFUSED),
+        Err(_) => MemDevice::new(alloc, pages, 16).expect(rt, ONE_REFUSED),
     }
 }
 
-fn new_flaky(alloc: Global, n: u64) -> Result<Box<dyn PageDevice + Send>, AllocError> {
-    Ok(Box::new(alloc, Flaky::new(MemDevice::new(alloc, 8, 16)?, n))?)
+fn new_flaky(alloc: Global, n: u64) -> Result<Flaky<MemDevice>, AllocError> {
+    Ok(Flaky::new(MemDevice::new(alloc, 8, 16)?, n))
 }
 
-fn flaky(rt: &impl Abort, alloc: Global, n: u64) -> Box<dyn PageDevice + Send> {
+fn flaky(rt: &impl Abort, alloc: Global, n: u64) -> Flaky<MemDevice> {
     match new_flaky(alloc, n) {
         Ok(device) => device,
         Err(_) => new_flaky(alloc, n).expect(rt, ONE_REFUSED),
     }
 }
 
-// An empty list with room for so many devices.
-fn room_for(rt: &impl Abort, alloc: Global, count: usize) -> Vec<Box<dyn PageDevice + Send>>
+// An empty list with room for a number of devices.
+fn room_for<D: PageDevice>(rt: &impl Abort, alloc: Global, count: usize) -> Vec<D>
     ensures room { count ≤ vec_capacity result }
     ensures empty { length result.items ≡ 0 }
 {
@@ -64,11 +62,7 @@ fn room_for(rt: &impl Abort, alloc: Global, count: usize) -> Vec<Box<dyn PageDev
 }
 
 // A list of one device.
-fn alone(
-    rt: &impl Abort,
-    alloc: Global,
-    device: Box<dyn PageDevice + Send>,
-) -> Vec<Box<dyn PageDevice + Send>>
+fn alone<D: PageDevice>(rt: &impl Abort, alloc: Global, device: D) -> Vec<D>
     ensures { length result.items ≡ 1 }
 {
     let mut devices = room_for(rt, alloc, 1);
@@ -77,12 +71,7 @@ fn alone(
 }
 
 // A list of two devices.
-fn both(
-    rt: &impl Abort,
-    alloc: Global,
-    first: Box<dyn PageDevice + Send>,
-    second: Box<dyn PageDevice + Send>,
-) -> Vec<Box<dyn PageDevice + Send>>
+fn both<D: PageDevice>(rt: &impl Abort, alloc: Global, first: D, second: D) -> Vec<D>
     ensures { length result.items ≡ 2 }
 {
     let mut devices = room_for(rt, alloc, 2);
@@ -91,23 +80,23 @@ fn both(
     devices
 }
 
-fn pool_of(
+fn pool_of<D: PageDevice>(
     rt: &impl Abort,
     alloc: Global,
     frames: usize,
-    devices: Vec<Box<dyn PageDevice + Send>>,
-) -> Pool
+    page_size: usize,
+    devices: Vec<D>,
+) -> Pool<D>
     requires { length devices.items ≤ 2 }
-    ensures pool { IsPool (⟦<Pool as Pooled>⟧.state result) }
-    ensures ranked { IsRankedByAll (⟦<Pool as Pooled>⟧.state result) }
+    ensures { IsRankedByAll result }
 {
     let count = devices.len();
-    match Pool::new(alloc, frames, 16, devices) {
+    match Pool::new(alloc, frames, page_size, devices) {
         Ok(pool) => pool,
         Err(unmade) => {
             let given = (unmade.fault, unmade.devices.len());
             assert!(rt; given == (PoolFault::Memory, count));
-            match Pool::new(alloc, frames, 16, unmade.devices) {
+            match Pool::new(alloc, frames, page_size, unmade.devices) {
                 Ok(pool) => pool,
                 Err(_) => panic!(rt; "no memory for the pool"),
             }
@@ -115,16 +104,10 @@ fn pool_of(
     }
 }
 
-fn pool_over(
-    rt: &impl Abort,
-    alloc: Global,
-    frames: usize,
-    device: Box<dyn PageDevice + Send>,
-) -> Pool
-    ensures pool { IsPool (⟦<Pool as Pooled>⟧.state result) }
-    ensures ranked { IsRankedByAll (⟦<Pool as Pooled>⟧.state result) }
+fn pool_over<D: PageDevice>(rt: &impl Abort, alloc: Global, frames: usize, device: D) -> Pool<D>
+    ensures { IsRankedByAll result }
 {
-    pool_of(rt, alloc, frames, alone(rt, alloc, device))
+    pool_of(rt, alloc, frames, 16, alone(rt, alloc, device))
 }
 
 // What a pool answers: that it is done, the index and the generation of a slot, or why it is refused.
@@ -151,30 +134,24 @@ fn done(found: Result<(), PoolFault>) -> Said {
     }
 }
 
-fn pinned(pool: &mut Pool, history: &History, no: u32) -> Said
-    requires pool { IsPool (⟦<Pool as Pooled>⟧.state pool.old) }
-    requires ranked { RankedBy (⟦<Pool as Pooled>⟧.state pool.old) history.now }
-    ensures pool { IsPool (⟦<Pool as Pooled>⟧.state pool.new) }
-    ensures ranked { RankedBy (⟦<Pool as Pooled>⟧.state pool.new) history.now }
+fn pinned<D: PageDevice>(pool: &mut Pool<D>, history: &History, no: u64) -> Said
+    requires { RankedBy pool.old history.now }
+    ensures { RankedBy pool.new history.now }
 {
     given(pool.pin(page(no), history))
 }
 
-fn loaded(pool: &mut Pool, history: &History, page: PageId) -> Said
-    requires pool { IsPool (⟦<Pool as Pooled>⟧.state pool.old) }
-    requires ranked { RankedBy (⟦<Pool as Pooled>⟧.state pool.old) history.now }
-    ensures pool { IsPool (⟦<Pool as Pooled>⟧.state pool.new) }
-    ensures ranked { RankedBy (⟦<Pool as Pooled>⟧.state pool.new) history.now }
+fn loaded<D: PageDevice>(pool: &mut Pool<D>, history: &History, page: PageId) -> Said
+    requires { RankedBy pool.old history.now }
+    ensures { RankedBy pool.new history.now }
 {
     given(pool.load(page, history))
 }
 
 // Takes a fix from a slot, whether it holds its page.
-fn unpin(pool: &mut Pool, history: &History, slot: Slot) -> bool
-    requires pool { IsPool (⟦<Pool as Pooled>⟧.state pool.old) }
-    requires ranked { RankedBy (⟦<Pool as Pooled>⟧.state pool.old) history.now }
-    ensures pool { IsPool (⟦<Pool as Pooled>⟧.state pool.new) }
-    ensures ranked { RankedBy (⟦<Pool as Pooled>⟧.state pool.new) history.now }
+fn unpin<D: PageDevice>(pool: &mut Pool<D>, history: &History, slot: Slot) -> bool
+    requires { RankedBy pool.old history.now }
+    ensures { RankedBy pool.new history.now }
 {
     if !pool.holds(slot) {
         return false;
@@ -183,11 +160,15 @@ fn unpin(pool: &mut Pool, history: &History, slot: Slot) -> bool
     true
 }
 
-fn write(pool: &mut Pool, history: &History, slot: Slot, at: usize, bytes: &[u8]) -> Said
-    requires pool { IsPool (⟦<Pool as Pooled>⟧.state pool.old) }
-    requires ranked { RankedBy (⟦<Pool as Pooled>⟧.state pool.old) history.now }
-    ensures pool { IsPool (⟦<Pool as Pooled>⟧.state pool.new) }
-    ensures ranked { RankedBy (⟦<Pool as Pooled>⟧.state pool.new) history.now }
+fn write<D: PageDevice>(
+    pool: &mut Pool<D>,
+    history: &History,
+    slot: Slot,
+    at: usize,
+    bytes: &[u8],
+) -> Said
+    requires { RankedBy pool.old history.now }
+    ensures { RankedBy pool.new history.now }
 {
     if !pool.holds(slot) {
         return Said::Unheld;
@@ -196,9 +177,7 @@ fn write(pool: &mut Pool, history: &History, slot: Slot, at: usize, bytes: &[u8]
 }
 
 // Whether the slot's page has these bytes.
-fn reads(pool: &Pool, slot: Slot, wanted: &[u8; 16]) -> bool
-    requires { IsPool (⟦<Pool as Pooled>⟧.state pool.now) }
-{
+fn reads<D: PageDevice>(pool: &Pool<D>, slot: Slot, wanted: &[u8; 16]) -> bool {
     if !pool.holds(slot) {
         return false;
     }
@@ -206,44 +185,36 @@ fn reads(pool: &Pool, slot: Slot, wanted: &[u8; 16]) -> bool
     pool.read(slot, 0, &mut bytes) == Ok(()) && bytes == *wanted
 }
 
-fn retire(
-    pool: &mut Pool,
+fn retire<D: PageDevice>(
+    pool: &mut Pool<D>,
     history: &History,
     dev: u16,
-    device: Box<dyn PageDevice + Send>,
-) -> Result<(), Unretired>
-    requires pool { IsPool (⟦<Pool as Pooled>⟧.state pool.old) }
-    requires ranked { RankedBy (⟦<Pool as Pooled>⟧.state pool.old) history.now }
-    ensures pool { IsPool (⟦<Pool as Pooled>⟧.state pool.new) }
-    ensures ranked { RankedBy (⟦<Pool as Pooled>⟧.state pool.new) history.now }
+    device: D,
+) -> Result<(), Unretired<D>>
+    requires { RankedBy pool.old history.now }
+    ensures { RankedBy pool.new history.now }
 {
     pool.retire(dev, device)
 }
 
-fn emptied(pool: &mut Pool, history: &History) -> Said
-    requires pool { IsPool (⟦<Pool as Pooled>⟧.state pool.old) }
-    requires ranked { RankedBy (⟦<Pool as Pooled>⟧.state pool.old) history.now }
-    ensures pool { IsPool (⟦<Pool as Pooled>⟧.state pool.new) }
-    ensures ranked { RankedBy (⟦<Pool as Pooled>⟧.state pool.new) history.now }
+fn emptied<D: PageDevice>(pool: &mut Pool<D>, history: &History) -> Said
+    requires { RankedBy pool.old history.now }
+    ensures { RankedBy pool.new history.now }
 {
     done(pool.empty())
 }
 
-fn written_back(pool: &mut Pool, history: &History) -> Said
-    requires pool { IsPool (⟦<Pool as Pooled>⟧.state pool.old) }
-    requires ranked { RankedBy (⟦<Pool as Pooled>⟧.state pool.old) history.now }
-    ensures pool { IsPool (⟦<Pool as Pooled>⟧.state pool.new) }
-    ensures ranked { RankedBy (⟦<Pool as Pooled>⟧.state pool.new) history.now }
+fn written_back<D: PageDevice>(pool: &mut Pool<D>, history: &History) -> Said
+    requires { RankedBy pool.old history.now }
+    ensures { RankedBy pool.new history.now }
 {
     done(pool.write_back_all())
 }
 
 // The pool, which a fixed page keeps from being closed.
-fn not_closed(rt: &impl Abort, pool: Pool, history: &History) -> Pool
-    requires pool { IsPool (⟦<Pool as Pooled>⟧.state pool) }
-    requires ranked { RankedBy (⟦<Pool as Pooled>⟧.state pool) history.now }
-    ensures pool { IsPool (⟦<Pool as Pooled>⟧.state result) }
-    ensures ranked { RankedBy (⟦<Pool as Pooled>⟧.state result) history.now }
+fn not_closed<D: PageDevice>(rt: &impl Abort, pool: Pool<D>, history: &History) -> Pool<D>
+    requires { RankedBy pool history.now }
+    ensures { RankedBy result history.now }
 {
     match pool.close() {
         Ok(()) => panic!(rt; "the pool is not closed"),
@@ -255,34 +226,28 @@ fn not_closed(rt: &impl Abort, pool: Pool, history: &History) -> Pool
 }
 
 // The pool is closed, which nothing hinders.
-fn closes(rt: &impl Abort, pool: Pool)
-    requires { IsPool (⟦<Pool as Pooled>⟧.state pool) }
-{
+fn closes<D: PageDevice>(rt: &impl Abort, pool: Pool<D>) {
     assert!(rt; pool.close().is_ok());
 }
 
 // The device takes the place of one, which nothing hinders.
-fn exchange(
+fn exchange<D: PageDevice>(
     rt: &impl Abort,
-    pool: &mut Pool,
+    pool: &mut Pool<D>,
     history: &History,
     dev: u16,
-    device: Box<dyn PageDevice + Send>,
+    device: D,
 )
-    requires pool { IsPool (⟦<Pool as Pooled>⟧.state pool.old) }
-    requires ranked { RankedBy (⟦<Pool as Pooled>⟧.state pool.old) history.now }
-    ensures pool { IsPool (⟦<Pool as Pooled>⟧.state pool.new) }
-    ensures ranked { RankedBy (⟦<Pool as Pooled>⟧.state pool.new) history.now }
+    requires { RankedBy pool.old history.now }
+    ensures { RankedBy pool.new history.now }
 {
     assert!(rt; retire(pool, history, dev, device).is_ok());
 }
 
 // The slot of a page that is given a fix.
-fn held(pool: &mut Pool, history: &History, no: u32) -> Option<Slot>
-    requires pool { IsPool (⟦<Pool as Pooled>⟧.state pool.old) }
-    requires ranked { RankedBy (⟦<Pool as Pooled>⟧.state pool.old) history.now }
-    ensures pool { IsPool (⟦<Pool as Pooled>⟧.state pool.new) }
-    ensures ranked { RankedBy (⟦<Pool as Pooled>⟧.state pool.new) history.now }
+fn held<D: PageDevice>(pool: &mut Pool<D>, history: &History, no: u64) -> Option<Slot>
+    requires { RankedBy pool.old history.now }
+    ensures { RankedBy pool.new history.now }
 {
     match pinned(pool, history, no) {
         Said::At(index, generation) => Some(slot(index, generation)),
@@ -291,11 +256,9 @@ fn held(pool: &mut Pool, history: &History, no: u32) -> Option<Slot>
 }
 
 // Pins a page, and takes the fix away again, whether both are done.
-fn visits(pool: &mut Pool, history: &History, no: u32) -> bool
-    requires pool { IsPool (⟦<Pool as Pooled>⟧.state pool.old) }
-    requires ranked { RankedBy (⟦<Pool as Pooled>⟧.state pool.old) history.now }
-    ensures pool { IsPool (⟦<Pool as Pooled>⟧.state pool.new) }
-    ensures ranked { RankedBy (⟦<Pool as Pooled>⟧.state pool.new) history.now }
+fn visits<D: PageDevice>(pool: &mut Pool<D>, history: &History, no: u64) -> bool
+    requires { RankedBy pool.old history.now }
+    ensures { RankedBy pool.new history.now }
 {
     match held(pool, history, no) {
         Some(slot) => unpin(pool, history, slot),
@@ -304,11 +267,9 @@ fn visits(pool: &mut Pool, history: &History, no: u32) -> bool
 }
 
 // Fills a page with AA, which goes to no device yet, whether that is done.
-fn fills(pool: &mut Pool, history: &History, no: u32) -> bool
-    requires pool { IsPool (⟦<Pool as Pooled>⟧.state pool.old) }
-    requires ranked { RankedBy (⟦<Pool as Pooled>⟧.state pool.old) history.now }
-    ensures pool { IsPool (⟦<Pool as Pooled>⟧.state pool.new) }
-    ensures ranked { RankedBy (⟦<Pool as Pooled>⟧.state pool.new) history.now }
+fn fills<D: PageDevice>(pool: &mut Pool<D>, history: &History, no: u64) -> bool
+    requires { RankedBy pool.old history.now }
+    ensures { RankedBy pool.new history.now }
 {
     match held(pool, history, no) {
         Some(slot) => {
@@ -320,11 +281,9 @@ fn fills(pool: &mut Pool, history: &History, no: u32) -> bool
 }
 
 // Pins a page, and takes the fix away again, whether both are done and it has these bytes.
-fn finds(pool: &mut Pool, history: &History, no: u32, wanted: &[u8; 16]) -> bool
-    requires pool { IsPool (⟦<Pool as Pooled>⟧.state pool.old) }
-    requires ranked { RankedBy (⟦<Pool as Pooled>⟧.state pool.old) history.now }
-    ensures pool { IsPool (⟦<Pool as Pooled>⟧.state pool.new) }
-    ensures ranked { RankedBy (⟦<Pool as Pooled>⟧.state pool.new) history.now }
+fn finds<D: PageDevice>(pool: &mut Pool<D>, history: &History, no: u64, wanted: &[u8; 16]) -> bool
+    requires { RankedBy pool.old history.now }
+    ensures { RankedBy pool.new history.now }
 {
     match held(pool, history, no) {
         Some(slot) => reads(pool, slot, wanted) && unpin(pool, history, slot),
@@ -338,28 +297,28 @@ fn finds(pool: &mut Pool, history: &History, no: u32, wanted: &[u8; 16]) -> bool
 #[derive(Clone, Copy)]
 enum Row<'a> {
     // A page is given a fix.
-    Pins(u32, Said),
+    Pins(u64, Said),
     // A page of a device is brought in, without a fix.
-    Loads(u16, u32, Said),
+    Loads(u16, u64, Said),
     // A fix is taken away.
     Unpins(u32, u64),
     // A page is given a fix, which is taken away again.
-    Visits(u32),
+    Visits(u64),
     // A page is filled with AA, which goes to no device yet.
-    Fills(u32),
+    Fills(u64),
     // A page has these bytes.
-    Finds(u32, &'a [u8; 16]),
+    Finds(u64, &'a [u8; 16]),
     // Bytes are written into the slot's page, from a place on.
     Writes(u32, u64, usize, &'a [u8], Said),
     // The page that leaves next, or that there is none.
-    Leaves(u32),
+    Leaves(u64),
     NoneLeaves,
     // Whether the slot holds its page.
     Holds(u32, u64, bool),
     // Whether the page of a device is in a frame.
-    Resident(u16, u32, bool),
+    Resident(u16, u64, bool),
     // Whether the page is on a device.
-    Has(u32, bool),
+    Has(u64, bool),
     // So many frames.
     Frames(usize),
     // What is dirty is written to its device.
@@ -369,9 +328,7 @@ enum Row<'a> {
 }
 
 // Whether what the row asks, and changes nothing for, is as it says.
-fn shows(rt: &impl Abort, pool: &Pool, row: Row<'_>) -> bool
-    requires { IsPool (⟦<Pool as Pooled>⟧.state pool.now) }
-{
+fn shows<D: PageDevice>(rt: &impl Abort, pool: &Pool<D>, row: Row<'_>) -> bool {
     match row {
         Row::Leaves(no) => pool.victim() == Some(page(no)),
         Row::NoneLeaves => pool.victim().is_none(),
@@ -384,11 +341,14 @@ fn shows(rt: &impl Abort, pool: &Pool, row: Row<'_>) -> bool
 }
 
 // Asks what the row says, and whether that comes of it.
-fn meets(rt: &impl Abort, pool: &mut Pool, history: &History, row: Row<'_>) -> bool
-    requires pool { IsPool (⟦<Pool as Pooled>⟧.state pool.old) }
-    requires ranked { RankedBy (⟦<Pool as Pooled>⟧.state pool.old) history.now }
-    ensures pool { IsPool (⟦<Pool as Pooled>⟧.state pool.new) }
-    ensures ranked { RankedBy (⟦<Pool as Pooled>⟧.state pool.new) history.now }
+fn meets<D: PageDevice>(
+    rt: &impl Abort,
+    pool: &mut Pool<D>,
+    history: &History,
+    row: Row<'_>,
+) -> bool
+    requires { RankedBy pool.old history.now }
+    ensures { RankedBy pool.new history.now }
 {
     match row {
         Row::Pins(no, wanted) => pinned(pool, history, no) == wanted,
@@ -407,11 +367,9 @@ fn meets(rt: &impl Abort, pool: &mut Pool, history: &History, row: Row<'_>) -> b
 }
 
 // Asks a pool what the rows say, in turn.
-fn runs(rt: &impl Abort, pool: &mut Pool, history: &History, rows: &[Row<'_>])
-    requires pool { IsPool (⟦<Pool as Pooled>⟧.state pool.old) }
-    requires ranked { RankedBy (⟦<Pool as Pooled>⟧.state pool.old) history.now }
-    ensures pool { IsPool (⟦<Pool as Pooled>⟧.state pool.new) }
-    ensures ranked { RankedBy (⟦<Pool as Pooled>⟧.state pool.new) history.now }
+fn runs<D: PageDevice>(rt: &impl Abort, pool: &mut Pool<D>, history: &History, rows: &[Row<'_>])
+    requires { RankedBy pool.old history.now }
+    ensures { RankedBy pool.new history.now }
 {
     for (at, row) in rows.iter().enumerate() {
         assert!(rt; meets(rt, pool, history, *row), "row {at}");
@@ -419,11 +377,11 @@ fn runs(rt: &impl Abort, pool: &mut Pool, history: &History, rows: &[Row<'_>])
 }
 
 // A fresh pool of so many frames over the device lives through the rows, by a history that was told nothing, and is closed.
-fn lives(
+fn lives<D: PageDevice>(
     rt: &impl Abort,
     alloc: Global,
     frames: usize,
-    device: Box<dyn PageDevice + Send>,
+    device: D,
     rows: &[Row<'_>],
 ) {
     let history = History::new(alloc);
@@ -433,18 +391,16 @@ fn lives(
 }
 
 // The device, which the pool refuses to exchange by this fault.
-fn unretired(
+fn unretired<D: PageDevice>(
     rt: &impl Abort,
-    pool: &mut Pool,
+    pool: &mut Pool<D>,
     history: &History,
     dev: u16,
-    device: Box<dyn PageDevice + Send>,
+    device: D,
     fault: PoolFault,
-) -> Box<dyn PageDevice + Send>
-    requires pool { IsPool (⟦<Pool as Pooled>⟧.state pool.old) }
-    requires ranked { RankedBy (⟦<Pool as Pooled>⟧.state pool.old) history.now }
-    ensures pool { IsPool (⟦<Pool as Pooled>⟧.state pool.new) }
-    ensures ranked { RankedBy (⟦<Pool as Pooled>⟧.state pool.new) history.now }
+) -> D
+    requires { RankedBy pool.old history.now }
+    ensures { RankedBy pool.new history.now }
 {
     match retire(pool, history, dev, device) {
         Ok(()) => panic!(rt; "the device is not exchanged"),
@@ -456,11 +412,9 @@ fn unretired(
 }
 
 // Pages that come into four frames are found there, one number on two devices, and one that left is not.
-fn come_in(rt: &impl Abort, pool: &mut Pool, history: &History)
-    requires pool { IsPool (⟦<Pool as Pooled>⟧.state pool.old) }
-    requires ranked { RankedBy (⟦<Pool as Pooled>⟧.state pool.old) history.now }
-    ensures pool { IsPool (⟦<Pool as Pooled>⟧.state pool.new) }
-    ensures ranked { RankedBy (⟦<Pool as Pooled>⟧.state pool.new) history.now }
+fn come_in<D: PageDevice>(rt: &impl Abort, pool: &mut Pool<D>, history: &History)
+    requires { RankedBy pool.old history.now }
+    ensures { RankedBy pool.new history.now }
 {
     let rows = [
         Row::Loads(1, 7, Said::At(0, 1)),
@@ -484,11 +438,9 @@ fn come_in(rt: &impl Abort, pool: &mut Pool, history: &History)
 }
 
 // The frames of the device that was retired are free, and taken in turn.
-fn stay_and_follow(rt: &impl Abort, pool: &mut Pool, history: &History)
-    requires pool { IsPool (⟦<Pool as Pooled>⟧.state pool.old) }
-    requires ranked { RankedBy (⟦<Pool as Pooled>⟧.state pool.old) history.now }
-    ensures pool { IsPool (⟦<Pool as Pooled>⟧.state pool.new) }
-    ensures ranked { RankedBy (⟦<Pool as Pooled>⟧.state pool.new) history.now }
+fn stay_and_follow<D: PageDevice>(rt: &impl Abort, pool: &mut Pool<D>, history: &History)
+    requires { RankedBy pool.old history.now }
+    ensures { RankedBy pool.new history.now }
 {
     let rows = [
         Row::Resident(1, 7, false),
@@ -504,43 +456,34 @@ fn stay_and_follow(rt: &impl Abort, pool: &mut Pool, history: &History)
     runs(rt, pool, history, &rows)
 }
 
-fn stand_and_leave(
-    rt: &impl Abort,
-    pool: &mut Pool,
-    history: &History,
-    device: Box<dyn PageDevice + Send>,
-)
-    requires pool { IsPool (⟦<Pool as Pooled>⟧.state pool.old) }
-    requires ranked { RankedBy (⟦<Pool as Pooled>⟧.state pool.old) history.now }
-    ensures pool { IsPool (⟦<Pool as Pooled>⟧.state pool.new) }
-    ensures ranked { RankedBy (⟦<Pool as Pooled>⟧.state pool.new) history.now }
-{
-    come_in(rt, pool, history);
-    exchange(rt, pool, history, 1, device);
-    stay_and_follow(rt, pool, history)
+// Pages of two devices are found where they stand, and then the second device is exchanged for another.
+fn stand_and_leave<D: PageDevice>(rt: &impl Abort, alloc: Global, first: D, second: D, next: D) {
+    let history = History::new(alloc);
+    let devices = both(rt, alloc, first, second);
+    let mut pool = pool_of(rt, alloc, 4, 16, devices);
+    come_in(rt, &mut pool, &history);
+    exchange(rt, &mut pool, &history, 1, next);
+    stay_and_follow(rt, &mut pool, &history);
+    closes(rt, pool);
 }
 
 #[test]
 fn pages_are_found_where_they_stand(rt: HostRuntime) {
     let alloc = rt.alloc();
-    let history = History::new(alloc);
-    let devices = both(&rt, alloc, memory(&rt, alloc, 16), memory(&rt, alloc, 128));
-    let mut pool = pool_of(&rt, alloc, 4, devices);
-    stand_and_leave(&rt, &mut pool, &history, memory(&rt, alloc, 8));
-    closes(&rt, pool);
+    let first = memory(&rt, alloc, 16);
+    let second = memory(&rt, alloc, 128);
+    stand_and_leave(&rt, alloc, first, second, memory(&rt, alloc, 8));
 }
 
 // Pages with a fix keep their device from being exchanged for another, which is handed back.
-fn kept_by_fixes(
+fn kept_by_fixes<D: PageDevice>(
     rt: &impl Abort,
-    pool: &mut Pool,
+    pool: &mut Pool<D>,
     history: &History,
-    device: Box<dyn PageDevice + Send>,
-) -> Box<dyn PageDevice + Send>
-    requires pool { IsPool (⟦<Pool as Pooled>⟧.state pool.old) }
-    requires ranked { RankedBy (⟦<Pool as Pooled>⟧.state pool.old) history.now }
-    ensures pool { IsPool (⟦<Pool as Pooled>⟧.state pool.new) }
-    ensures ranked { RankedBy (⟦<Pool as Pooled>⟧.state pool.new) history.now }
+    device: D,
+) -> D
+    requires { RankedBy pool.old history.now }
+    ensures { RankedBy pool.new history.now }
 {
     let rows = [
         Row::Pins(3, Said::At(0, 1)),
@@ -559,16 +502,9 @@ fn kept_by_fixes(
 }
 
 // Without a fix the device is exchanged for one of four pages.
-fn let_go_unfixed(
-    rt: &impl Abort,
-    pool: &mut Pool,
-    history: &History,
-    device: Box<dyn PageDevice + Send>,
-)
-    requires pool { IsPool (⟦<Pool as Pooled>⟧.state pool.old) }
-    requires ranked { RankedBy (⟦<Pool as Pooled>⟧.state pool.old) history.now }
-    ensures pool { IsPool (⟦<Pool as Pooled>⟧.state pool.new) }
-    ensures ranked { RankedBy (⟦<Pool as Pooled>⟧.state pool.new) history.now }
+fn let_go_unfixed<D: PageDevice>(rt: &impl Abort, pool: &mut Pool<D>, history: &History, device: D)
+    requires { RankedBy pool.old history.now }
+    ensures { RankedBy pool.new history.now }
 {
     let rows = [
         Row::Empties(Said::Refused(PoolFault::Fixed)),
@@ -597,12 +533,12 @@ fn two_frames_over_eight_pages(rt: HostRuntime) {
 }
 
 // Why no pool is made over the device, and how many devices come back.
-fn unmade(
+fn unmade<D: PageDevice>(
     rt: &impl Abort,
     alloc: Global,
     frames: usize,
     page_size: usize,
-    device: Box<dyn PageDevice + Send>,
+    device: D,
 ) -> (PoolFault, usize) {
     match Pool::new(alloc, frames, page_size, alone(rt, alloc, device)) {
         Ok(_) => panic!(rt; "the pool is made"),
@@ -636,16 +572,9 @@ fn a_dirty_victim_stays_where_its_write_fails(rt: HostRuntime) {
     lives(&rt, rt.alloc(), 1, flaky(&rt, rt.alloc(), 3), &rows)
 }
 
-fn stays_unflushed(
-    rt: &impl Abort,
-    pool: &mut Pool,
-    history: &History,
-    device: Box<dyn PageDevice + Send>,
-)
-    requires pool { IsPool (⟦<Pool as Pooled>⟧.state pool.old) }
-    requires ranked { RankedBy (⟦<Pool as Pooled>⟧.state pool.old) history.now }
-    ensures pool { IsPool (⟦<Pool as Pooled>⟧.state pool.new) }
-    ensures ranked { RankedBy (⟦<Pool as Pooled>⟧.state pool.new) history.now }
+fn stays_unflushed<D: PageDevice>(rt: &impl Abort, pool: &mut Pool<D>, history: &History, device: D)
+    requires { RankedBy pool.old history.now }
+    ensures { RankedBy pool.new history.now }
 {
     assert!(rt; fills(pool, history, 1));
     let device = unretired(rt, pool, history, 0, device, PoolFault::Fault);
@@ -655,13 +584,18 @@ fn stays_unflushed(
     assert!(rt; !pool.resident(page(1)));
 }
 
+// A pool of one frame over a device of which the third call fails, and the device that takes its place.
+fn exchanged_again<D: PageDevice>(rt: &impl Abort, alloc: Global, failing: D, next: D) {
+    let history = History::new(alloc);
+    let mut pool = pool_over(rt, alloc, 1, failing);
+    stays_unflushed(rt, &mut pool, &history, next);
+    closes(rt, pool);
+}
+
 #[test]
 fn a_device_stays_where_its_flush_fails(rt: HostRuntime) {
     let alloc = rt.alloc();
-    let history = History::new(alloc);
-    let mut pool = pool_over(&rt, alloc, 1, flaky(&rt, alloc, 3));
-    stays_unflushed(&rt, &mut pool, &history, memory(&rt, alloc, 8));
-    closes(&rt, pool);
+    exchanged_again(&rt, alloc, flaky(&rt, alloc, 3), flaky(&rt, alloc, 0));
 }
 
 #[test]

@@ -9,39 +9,42 @@ use warm_frames::{EntryList, Frame, FrameFault, SumTable, decode, encode, put_en
 use warm_history::{Entry, PageHist, Two};
 use warm_stamps::{Bucket, PageId, ReplicaId, Stamp};
 
-// Sender 1 says that 0:7 has 20@1 and 10@1.
-pub(crate) const TWICE: [u8; 42] = [
-    0x4C, 0x32, 0x47, 0x31, 1, 0, 1, 0, 0, 0, 0x1F, 0, 0, 0, 1, 0, 0, 0, 0, 0, 7, 2, 0, 0, 0, 0, 0,
-    0, 0, 0x14, 0, 1, 0, 0, 0, 0, 0, 0, 0, 0x0A, 0, 1,
+// Sender 1, whose horizon is 12, says that 0:7 has 20@1 and 10@1.
+pub(crate) const TWICE: [u8; 54] = [
+    0x4C, 0x32, 0x47, 0x32, 1, 0, 1, 0, 0, 0, 0, 0, 0, 0, 0x0C, 0, 0, 0, 0x23, 0, 0, 0, 1, 0, 0, 0,
+    0, 0, 0, 0, 0, 0, 7, 2, 0, 0, 0, 0, 0, 0, 0, 0x14, 0, 1, 0, 0, 0, 0, 0, 0, 0, 0x0A, 0, 1,
 ];
 
 // Sender 1 says that 0:7 and 0:8 each have 20@1.
-const RISING: [u8; 49] = [
-    0x4C, 0x32, 0x47, 0x31, 1, 0, 1, 0, 0, 0, 0x26, 0, 0, 0, 2, 0, 0, 0, 0, 0, 7, 1, 0, 0, 0, 0, 0,
-    0, 0, 0x14, 0, 1, 0, 0, 0, 0, 0, 8, 1, 0, 0, 0, 0, 0, 0, 0, 0x14, 0, 1,
+const RISING: [u8; 65] = [
+    0x4C, 0x32, 0x47, 0x32, 1, 0, 1, 0, 0, 0, 0, 0, 0, 0, 0, 0, 0, 0, 0x2E, 0, 0, 0, 2, 0, 0, 0, 0,
+    0, 0, 0, 0, 0, 7, 1, 0, 0, 0, 0, 0, 0, 0, 0x14, 0, 1, 0, 0, 0, 0, 0, 0, 0, 0, 0, 8, 1, 0, 0, 0,
+    0, 0, 0, 0, 0x14, 0, 1,
 ];
 
 // Sender 3 says nothing.
-const NOTHING: [u8; 15] = [0x4C, 0x32, 0x47, 0x31, 1, 0, 3, 0, 0, 0, 4, 0, 0, 0, 0];
-
-// Sender 2 asks for buckets 1 and 2.
-const WISH: [u8; 19] = [
-    0x4C, 0x32, 0x47, 0x31, 3, 0, 2, 0, 0, 0, 8, 0, 0, 0, 0, 0, 0, 0, 6,
+pub(crate) const NOTHING: [u8; 23] = [
+    0x4C, 0x32, 0x47, 0x32, 1, 0, 3, 0, 0, 0, 0, 0, 0, 0, 0, 0, 0, 0, 4, 0, 0, 0, 0,
 ];
 
-fn stamp(rt: &impl Abort, time: u64, replica: u16) -> Stamp {
+// Sender 2 asks for buckets 1 and 2.
+pub(crate) const WISH: [u8; 27] = [
+    0x4C, 0x32, 0x47, 0x32, 3, 0, 2, 0, 0, 0, 0, 0, 0, 0, 0, 0, 0, 0, 8, 0, 0, 0, 0, 0, 0, 0, 6,
+];
+
+pub(crate) fn stamp(rt: &impl Abort, time: u64, replica: u16) -> Stamp {
     let replica = ReplicaId::new(replica).expect(rt, "a replica");
     Stamp { time, replica }
 }
 
-fn once(rt: &impl Abort, no: u32) -> Entry {
+fn once(rt: &impl Abort, no: u64) -> Entry {
     Entry {
         page: PageId { dev: 0, no },
         hist: PageHist::Once(stamp(rt, 20, 1)),
     }
 }
 
-fn twice(rt: &impl Abort, last: Stamp, prev: Stamp) -> PageHist {
+pub(crate) fn twice(rt: &impl Abort, last: Stamp, prev: Stamp) -> PageHist {
     assert!(rt; prev < last);
     PageHist::Twice(Two::new(last, prev))
 }
@@ -67,33 +70,37 @@ pub(crate) fn encoded(rt: &impl Abort, alloc: Global, frame: &Frame) -> Vec<u8> 
     }
 }
 
-fn fault(alloc: Global, bytes: &[u8]) -> Option<FrameFault> {
+pub(crate) fn fault(alloc: Global, bytes: &[u8]) -> Option<FrameFault> {
     decoded(alloc, bytes).err()
 }
 
 // Whether the frame has this spelling.
-fn is_spelled(rt: &impl Abort, alloc: Global, frame: &Frame, bytes: &[u8]) -> bool {
+pub(crate) fn is_spelled(rt: &impl Abort, alloc: Global, frame: &Frame, bytes: &[u8]) -> bool {
     encoded(rt, alloc, frame).as_slice() == bytes
 }
 
 // The frame that has this spelling and no other.
-fn spelled_so(rt: &impl Abort, alloc: Global, bytes: &[u8]) -> Frame {
+pub(crate) fn spelled_so(rt: &impl Abort, alloc: Global, bytes: &[u8]) -> Frame {
     let frame = decoded(alloc, bytes).expect(rt, "a frame");
     assert!(rt; is_spelled(rt, alloc, &frame, bytes));
     frame
 }
 
 // The same, which takes no memory to decode.
-fn spelled_at_once(rt: &impl Abort, alloc: Global, bytes: &[u8]) -> Frame {
+pub(crate) fn spelled_at_once(rt: &impl Abort, alloc: Global, bytes: &[u8]) -> Frame {
     let frame = decode(alloc, bytes).expect(rt, "a frame");
     assert!(rt; is_spelled(rt, alloc, &frame, bytes));
     frame
 }
 
-// What a frame of entries says, and the number of its sender.
-fn said_in(rt: &impl Abort, frame: Frame) -> (u16, EntryList) {
+// A frame of entries: the number of its sender, the horizon, and the entries.
+pub(crate) fn said_in(rt: &impl Abort, frame: Frame) -> (u16, u64, EntryList) {
     match frame {
-        Frame::Entries { sender, entries } => (sender.get(), entries),
+        Frame::Entries {
+            sender,
+            horizon,
+            entries,
+        } => (sender.get(), horizon, entries),
         _ => panic!(rt; "another kind"),
     }
 }
@@ -102,42 +109,52 @@ fn said_in(rt: &impl Abort, frame: Frame) -> (u16, EntryList) {
 fn entries_have_one_spelling(rt: HostRuntime) {
     let page = PageId { dev: 0, no: 7 };
     let hist = twice(&rt, stamp(&rt, 20, 1), stamp(&rt, 10, 1));
-    let (sender, entries) = said_in(&rt, spelled_so(&rt, rt.alloc(), &TWICE));
+    let (sender, horizon, entries) = said_in(&rt, spelled_so(&rt, rt.alloc(), &TWICE));
     assert!(rt; sender == 1);
+    assert!(rt; horizon == 12);
     assert!(rt; entries.into_entries().as_slice() == [Entry { page, hist }].as_slice());
 }
 
 #[test]
 fn nothing_takes_no_memory(rt: HostRuntime) {
-    let (sender, entries) = said_in(&rt, spelled_at_once(&rt, rt.alloc(), &NOTHING));
+    let (sender, horizon, entries) = said_in(&rt, spelled_at_once(&rt, rt.alloc(), &NOTHING));
     assert!(rt; sender == 3);
+    assert!(rt; horizon == 0);
     assert!(rt; entries.as_slice().is_empty());
 }
 
-// What a wish asks for, and the number of its sender.
-fn wished_in(rt: &impl Abort, frame: Frame) -> (u16, u64) {
+// A frame that asks for buckets: the number of its sender, the horizon, and the mask.
+pub(crate) fn wished_in(rt: &impl Abort, frame: Frame) -> (u16, u64, u64) {
     match frame {
-        Frame::Want { sender, mask } => (sender.get(), mask),
+        Frame::Want {
+            sender,
+            horizon,
+            mask,
+        } => (sender.get(), horizon, mask),
         _ => panic!(rt; "another kind"),
     }
 }
 
 #[test]
 fn a_wish_takes_no_memory(rt: HostRuntime) {
-    let (sender, mask) = wished_in(&rt, spelled_at_once(&rt, rt.alloc(), &WISH));
+    let (sender, horizon, mask) = wished_in(&rt, spelled_at_once(&rt, rt.alloc(), &WISH));
     assert!(rt; sender == 2);
+    assert!(rt; horizon == 0);
     assert!(rt; mask == 6);
 }
 
-// The bytes of sender 64's table of sums.
+// The bytes of sender 64's table of sums, with the horizon 12.
 fn table_bytes(rt: &impl Abort, alloc: Global, sums: [[u8; 32]; 64]) -> Vec<u8> {
-    let sender = ReplicaId::new(64).expect(rt, "a replica");
-    let sums = SumTable::of(sums);
-    encoded(rt, alloc, &Frame::Digest { sender, sums })
+    let frame = Frame::Digest {
+        sender: ReplicaId::new(64).expect(rt, "a replica"),
+        horizon: 12,
+        sums: SumTable::of(sums),
+    };
+    encoded(rt, alloc, &frame)
 }
 
 // Sums of 0, except for those of the first bucket, and the last byte of the last.
-fn spread_sums() -> [[u8; 32]; 64] {
+pub(crate) fn spread_sums() -> [[u8; 32]; 64] {
     let mut sums = [[0; 32]; 64];
     sums[0] = [7; 32];
     sums[63][31] = 9;
@@ -146,19 +163,25 @@ fn spread_sums() -> [[u8; 32]; 64] {
 
 // Whether these are the bytes of sender 64's table of those sums.
 fn are_spread(bytes: &[u8]) -> bool {
-    let header = [0x4C, 0x32, 0x47, 0x31, 2, 0, 64, 0, 0, 8, 0];
-    bytes.len() == 2059
+    let header = [
+        0x4C, 0x32, 0x47, 0x32, 2, 0, 64, 0, 0, 0, 0, 0, 0, 0, 12, 0, 0, 8, 0,
+    ];
+    bytes.len() == 2067
         && bytes.starts_with(&header)
-        && bytes[11] == 7
-        && bytes[42] == 7
-        && bytes[43] == 0
-        && bytes[2058] == 9
+        && bytes[19] == 7
+        && bytes[50] == 7
+        && bytes[51] == 0
+        && bytes[2066] == 9
 }
 
-// The sums that a table has, and the number of its sender.
-fn sums_in(rt: &impl Abort, frame: Frame) -> (u16, SumTable) {
+// A frame of sums: the number of its sender, the horizon, and the sums.
+pub(crate) fn sums_in(rt: &impl Abort, frame: Frame) -> (u16, u64, SumTable) {
     match frame {
-        Frame::Digest { sender, sums } => (sender.get(), sums),
+        Frame::Digest {
+            sender,
+            horizon,
+            sums,
+        } => (sender.get(), horizon, sums),
         _ => panic!(rt; "another kind"),
     }
 }
@@ -170,16 +193,17 @@ fn sums_stand_bucket_0_first(rt: HostRuntime) {
     let bytes = table_bytes(&rt, rt.alloc(), sums);
     assert!(rt; are_spread(&bytes));
     let frame = decode(rt.alloc(), &bytes).expect(&rt, "a frame");
-    let (sender, read) = sums_in(&rt, frame);
+    let (sender, horizon, read) = sums_in(&rt, frame);
     assert!(rt; sender == 64);
+    assert!(rt; horizon == 12);
     assert!(rt; read.sum(first) == [7; 32]);
     assert!(rt; read == SumTable::of(sums));
 }
 
 // The frame TWICE with another byte at a place.
-fn changed(place: usize, value: u8) -> [u8; 42] {
+pub(crate) fn changed(place: usize, value: u8) -> [u8; 54] {
     let mut bytes = TWICE;
-    bytes[place % 42] = value;
+    bytes[place % 54] = value;
     bytes
 }
 
@@ -191,11 +215,11 @@ fn a_changed_byte_is_refused(rt: HostRuntime) {
         (4, 4, FrameFault::BadKind),
         (6, 0, FrameFault::BadSender),
         (6, 65, FrameFault::BadSender),
-        (14, 2, FrameFault::BadLength),
-        (21, 3, FrameFault::BadTag),
-        (31, 0, FrameFault::BadStamp),
-        (39, 20, FrameFault::BadStamp),
-        (41, 65, FrameFault::BadStamp),
+        (22, 2, FrameFault::BadLength),
+        (33, 3, FrameFault::BadTag),
+        (43, 0, FrameFault::BadStamp),
+        (51, 20, FrameFault::BadStamp),
+        (53, 65, FrameFault::BadStamp),
     ];
     for (place, value, want) in rows {
         let found = fault(rt.alloc(), &changed(place, value));
@@ -206,8 +230,8 @@ fn a_changed_byte_is_refused(rt: HostRuntime) {
 #[test]
 fn a_count_of_1001_is_refused(rt: HostRuntime) {
     let mut bytes = TWICE;
-    bytes[13] = 3;
-    bytes[14] = 0xE9;
+    bytes[21] = 3;
+    bytes[22] = 0xE9;
     assert!(rt; fault(rt.alloc(), &bytes) == Some(FrameFault::BadCount));
 }
 
@@ -217,15 +241,15 @@ fn a_part_is_truncated_and_a_byte_more_is_refused(rt: HostRuntime) {
         let found = fault(rt.alloc(), &TWICE[..len]);
         row_holds(&rt, len, found == Some(FrameFault::Truncated));
     }
-    let mut longer = [0; 43];
-    longer[..42].copy_from_slice(&TWICE);
+    let mut longer = [0; 55];
+    longer[..54].copy_from_slice(&TWICE);
     assert!(rt; fault(rt.alloc(), &longer) == Some(FrameFault::BadLength));
 }
 
 // Why RISING is refused where its second page has another number.
 fn fault_as_second_is(alloc: Global, no: u8) -> Option<FrameFault> {
     let mut bytes = RISING;
-    bytes[37] = no;
+    bytes[53] = no;
     fault(alloc, &bytes)
 }
 
@@ -248,7 +272,9 @@ pub(crate) fn room(rt: &impl Abort, alloc: Global, count: usize) -> Vec<Entry> {
 fn rising(rt: &impl Abort, alloc: Global, count: u32) -> Vec<Entry> {
     let mut entries = room(rt, alloc, count as usize);
     for no in 0..count {
-        entries.push(once(rt, no)).expect(rt, "room for an entry");
+        entries
+            .push(once(rt, u64::from(no)))
+            .expect(rt, "room for an entry");
     }
     entries
 }
@@ -274,23 +300,30 @@ fn a_list_has_at_most_1000_entries(rt: HostRuntime) {
 fn bytes_of_1000(rt: &impl Abort, alloc: Global) -> Vec<u8> {
     let sender = ReplicaId::new(1).expect(rt, "a replica");
     let entries = list_of_1000(rt, alloc);
-    encoded(rt, alloc, &Frame::Entries { sender, entries })
+    let frame = Frame::Entries {
+        sender,
+        horizon: 0,
+        entries,
+    };
+    encoded(rt, alloc, &frame)
 }
 
-// Whether these are the bytes of that frame: the header says 17,004 bytes and then 1000 entries, of which the last is that of
+// Whether these are the bytes of that frame: the header says 21,004 bytes and then 1000 entries, of which the last is that of
 // 0:999.
 fn are_of_1000(bytes: &[u8]) -> bool {
     let header = [
-        0x4C, 0x32, 0x47, 0x31, 1, 0, 1, 0, 0, 0x42, 0x6C, 0, 0, 3, 0xE8,
+        0x4C, 0x32, 0x47, 0x32, 1, 0, 1, 0, 0, 0, 0, 0, 0, 0, 0, 0, 0, 0x52, 0x0C, 0, 0, 3, 0xE8,
     ];
-    let last = [0, 0, 0, 0, 3, 0xE7, 1, 0, 0, 0, 0, 0, 0, 0, 20, 0, 1];
-    bytes.len() == 11 + 4 + 1000 * 17 && bytes.starts_with(&header) && bytes.ends_with(&last)
+    let last = [
+        0, 0, 0, 0, 0, 0, 0, 0, 3, 0xE7, 1, 0, 0, 0, 0, 0, 0, 0, 20, 0, 1,
+    ];
+    bytes.len() == 19 + 4 + 1000 * 21 && bytes.starts_with(&header) && bytes.ends_with(&last)
 }
 
 // What such bytes say is of sender 1, and those entries.
 fn say_1000(rt: &impl Abort, alloc: Global, bytes: &[u8]) {
     let frame = decoded(alloc, bytes).expect(rt, "a frame");
-    let (sender, entries) = said_in(rt, frame);
+    let (sender, _, entries) = said_in(rt, frame);
     assert!(rt; sender == 1);
     assert!(rt; entries.as_slice() == rising(rt, alloc, 1000).as_slice());
 }
@@ -303,24 +336,40 @@ fn a_frame_of_1000_entries_both_ways(rt: HostRuntime) {
 }
 
 // Room for bytes; where it is refused, asked for once more.
-fn byte_room(rt: &impl Abort, alloc: Global, count: usize) -> Vec<u8> {
+pub(crate) fn byte_room(rt: &impl Abort, alloc: Global, count: usize) -> Vec<u8> {
     match Vec::with_capacity(alloc, count) {
         Ok(text) => text,
         Err(_) => Vec::with_capacity(alloc, count).expect(rt, "room for bytes"),
     }
 }
 
+// Puts bytes behind a text; where memory is refused, once more.
+pub(crate) fn put(rt: &impl Abort, text: &mut Vec<u8>, bytes: &[u8]) {
+    if text.extend_from_slice(bytes).is_err() {
+        text.extend_from_slice(bytes).expect(rt, "room for bytes");
+    }
+}
+
+// The texts, one after the other.
+pub(crate) fn joined(rt: &impl Abort, alloc: Global, texts: &[&[u8]]) -> Vec<u8> {
+    let mut all = Vec::new(alloc);
+    for text in texts {
+        put(rt, &mut all, text);
+    }
+    all
+}
+
 // The bytes of two entries, one behind the other.
 fn bytes_of_two(rt: &impl Abort, alloc: Global, first: &Entry, second: &Entry) -> Vec<u8> {
-    let mut text = byte_room(rt, alloc, 44);
+    let mut text = byte_room(rt, alloc, 62);
     put_entry(&mut text, first).expect(rt, "room for an entry");
-    assert!(rt; text.len() == 17);
+    assert!(rt; text.len() == 21);
     put_entry(&mut text, second).expect(rt, "room for an entry");
     text
 }
 
 #[test]
-fn an_entry_has_17_or_27_bytes(rt: HostRuntime) {
+fn an_entry_has_21_or_31_bytes(rt: HostRuntime) {
     let page = PageId { dev: 258, no: 3 };
     let first = Entry {
         page,
@@ -331,15 +380,15 @@ fn an_entry_has_17_or_27_bytes(rt: HostRuntime) {
         hist: twice(&rt, stamp(&rt, 20, 1), stamp(&rt, 10, 2)),
     };
     let both = [
-        1, 2, 0, 0, 0, 3, 1, 0, 0, 0, 0, 0, 0, 0, 20, 0, 1, 1, 2, 0, 0, 0, 3, 2, 0, 0, 0, 0, 0, 0,
-        0, 20, 0, 1, 0, 0, 0, 0, 0, 0, 0, 10, 0, 2,
+        1, 2, 0, 0, 0, 0, 0, 0, 0, 3, 1, 0, 0, 0, 0, 0, 0, 0, 20, 0, 1, 1, 2, 0, 0, 0, 0, 0, 0, 0,
+        3, 2, 0, 0, 0, 0, 0, 0, 0, 20, 0, 1, 0, 0, 0, 0, 0, 0, 0, 10, 0, 2,
     ];
     let text = bytes_of_two(&rt, rt.alloc(), &first, &second);
     assert!(rt; text.as_slice() == both.as_slice());
 }
 
 // A list of two entries, the first of 0:7, which is refused.
-fn refused_with(rt: &impl Abort, alloc: Global, second: u32) -> Vec<Entry> {
+fn refused_with(rt: &impl Abort, alloc: Global, second: u64) -> Vec<Entry> {
     let mut entries = room(rt, alloc, 2);
     entries.push(once(rt, 7)).expect(rt, "room for an entry");
     entries

@@ -2,9 +2,10 @@
 //!
 //! With `rt try --test --fail-alloc N`, for N from 1 on, each growth is refused in turn: the same piece
 //! is then fed once more.
-ghost use Rattle.std.specs.Prelude.{◌<◌};
-
-use crate::frames::{TWICE, decoded, encoded, room, row_holds};
+use crate::formats::{NARROW, NARROW_NOTHING, NARROW_WISH, WIDENED, narrow_changed};
+use crate::frames::{
+    NOTHING, TWICE, WISH, changed, decoded, encoded, joined, put, room, row_holds,
+};
 use std::alloc::Global;
 use std::process::Abort;
 use warm_frames::{Decoder, EntryList, Fed, Frame, FrameFault, SUM_SIZE, SumTable};
@@ -19,37 +20,45 @@ fn fed(decoder: &mut Decoder, piece: &[u8]) -> Result<Fed, FrameFault> {
     }
 }
 
-// Puts bytes behind a text; where memory is refused, once more.
-fn put(rt: &impl Abort, text: &mut Vec<u8>, bytes: &[u8]) {
-    if text.extend_from_slice(bytes).is_err() {
-        text.extend_from_slice(bytes).expect(rt, "room for bytes");
-    }
-}
-
 // Whether two frames have the same fields.
 fn same(left: &Frame, right: &Frame) -> bool {
     match (left, right) {
         (
-            Frame::Entries { sender, entries },
+            Frame::Entries {
+                sender,
+                horizon,
+                entries,
+            },
             Frame::Entries {
                 sender: other,
+                horizon: time,
                 entries: more,
             },
-        ) => sender == other && entries.as_slice() == more.as_slice(),
+        ) => sender == other && horizon == time && entries.as_slice() == more.as_slice(),
         (
-            Frame::Digest { sender, sums },
+            Frame::Digest {
+                sender,
+                horizon,
+                sums,
+            },
             Frame::Digest {
                 sender: other,
+                horizon: time,
                 sums: more,
             },
-        ) => sender == other && sums == more,
+        ) => sender == other && horizon == time && sums == more,
         (
-            Frame::Want { sender, mask },
+            Frame::Want {
+                sender,
+                horizon,
+                mask,
+            },
             Frame::Want {
                 sender: other,
+                horizon: time,
                 mask: more,
             },
-        ) => sender == other && mask == more,
+        ) => sender == other && horizon == time && mask == more,
         _ => false,
     }
 }
@@ -107,26 +116,73 @@ fn frames_in(rt: &impl Abort, alloc: Global, pieces: &[&[u8]]) -> Vec<u8> {
     text
 }
 
-// Whether these pieces give the one frame.
-fn give_twice(rt: &impl Abort, alloc: Global, pieces: &[&[u8]]) -> bool {
-    frames_in(rt, alloc, pieces).as_slice() == TWICE.as_slice()
+// Whether these pieces give the frames that are spelled so.
+fn give(rt: &impl Abort, alloc: Global, pieces: &[&[u8]], want: &[u8]) -> bool {
+    frames_in(rt, alloc, pieces).as_slice() == want
 }
 
-// Whether the frame comes of three pieces, the first of so many bytes, and the second up to so many.
-fn comes_in_three(rt: &impl Abort, alloc: Global, first: usize, second: usize) -> bool {
-    let (front, end) = TWICE.split_at(second.min(42));
+// Whether the frames come of bytes cut in two, the first piece of so many bytes.
+fn come_in_two(rt: &impl Abort, alloc: Global, bytes: &[u8], want: &[u8], first: usize) -> bool {
+    let (begin, end) = bytes.split_at(first.min(bytes.len()));
+    give(rt, alloc, &[begin, end], want)
+}
+
+// Whether the frames come of three pieces, the first of so many bytes, and the second up to so many.
+fn come_in_three(
+    rt: &impl Abort,
+    alloc: Global,
+    bytes: &[u8],
+    want: &[u8],
+    first: usize,
+    second: usize,
+) -> bool {
+    let (front, end) = bytes.split_at(second.min(bytes.len()));
     let (begin, middle) = front.split_at(first.min(front.len()));
-    give_twice(rt, alloc, &[begin, middle, end])
+    give(rt, alloc, &[begin, middle, end], want)
+}
+
+// The frame comes of its bytes, however they are cut in two or in three.
+fn comes_of_cuts(rt: &impl Abort, alloc: Global, bytes: &[u8], want: &[u8]) {
+    for first in 0..=bytes.len() {
+        for second in first..=bytes.len() {
+            let comes = come_in_three(rt, alloc, bytes, want, first, second);
+            row_holds(rt, second, comes);
+        }
+        row_holds(rt, first, come_in_two(rt, alloc, bytes, want, first));
+    }
 }
 
 #[test]
 fn a_frame_cut_in_two_and_in_three(rt: HostRuntime) {
-    for first in 0..43 {
-        for second in first..43 {
-            row_holds(&rt, second, comes_in_three(&rt, rt.alloc(), first, second));
-        }
-        let (begin, end) = TWICE.split_at(first);
-        row_holds(&rt, first, give_twice(&rt, rt.alloc(), &[begin, end]));
+    comes_of_cuts(&rt, rt.alloc(), &TWICE, &TWICE);
+    comes_of_cuts(&rt, rt.alloc(), &NARROW, &WIDENED);
+}
+
+// A stream in which frames of both formats alternate: 180 bytes.
+fn mixed_stream(rt: &impl Abort, alloc: Global) -> Vec<u8> {
+    joined(
+        rt,
+        alloc,
+        &[
+            &NARROW,
+            &TWICE,
+            &NARROW_WISH,
+            &WISH,
+            &NARROW_NOTHING,
+            &NOTHING,
+        ],
+    )
+}
+
+#[test]
+fn both_formats_in_one_stream(rt: HostRuntime) {
+    let stream = mixed_stream(&rt, rt.alloc());
+    assert!(rt; stream.len() == 180);
+    let wide: [&[u8]; 6] = [&WIDENED, &TWICE, &WISH, &WISH, &NOTHING, &NOTHING];
+    let want = joined(&rt, rt.alloc(), &wide);
+    for first in 0..=stream.len() {
+        let comes = come_in_two(&rt, rt.alloc(), &stream, &want, first);
+        row_holds(&rt, first, comes);
     }
 }
 
@@ -148,27 +204,30 @@ fn fed_by(
     decoder: &mut Decoder,
     bytes: &[u8],
     size: usize,
-) -> Vec<u8>
-    requires { 0 < size }
-{
+) -> Vec<u8> {
     let mut text = Vec::new(alloc);
-    for piece in bytes.chunks(size) {
+    for piece in bytes.chunks(size.max(1)) {
         feed_all(rt, alloc, decoder, piece, &mut text);
     }
     text
 }
 
+// A frame comes twice of its bytes, twice over and in pieces of a size, and then bytes that begin no frame.
+fn comes_twice(rt: &impl Abort, alloc: Global, bytes: &[u8], want: &[u8], size: usize) {
+    let twice = joined(rt, alloc, &[bytes, bytes]);
+    let mut decoder = Decoder::new(alloc);
+    let text = fed_by(rt, alloc, &mut decoder, &twice, size);
+    let wanted = joined(rt, alloc, &[want, want]);
+    row_holds(rt, size, text.as_slice() == wanted.as_slice());
+    assert!(rt; decoder.finish() == Ok(()));
+    fails(rt, &mut decoder, &[0; 4], bytes);
+}
+
 #[test]
 fn a_frame_twice_over(rt: HostRuntime) {
-    let mut both = [0; 84];
-    both[..42].copy_from_slice(&TWICE);
-    both[42..].copy_from_slice(&TWICE);
-    for size in [1, 2, 41, 42, 43, 84] {
-        let mut decoder = Decoder::new(rt.alloc());
-        let text = fed_by(&rt, rt.alloc(), &mut decoder, &both, size);
-        row_holds(&rt, size, text.as_slice() == both.as_slice());
-        assert!(rt; decoder.finish() == Ok(()));
-        fails(&rt, &mut decoder, &[0; 4], &TWICE);
+    for size in [1, 2, 41, 42, 43, 53, 54, 55, 84, 108] {
+        comes_twice(&rt, rt.alloc(), &TWICE, &TWICE, size);
+        comes_twice(&rt, rt.alloc(), &NARROW, &WIDENED, size);
     }
 }
 
@@ -184,17 +243,22 @@ fn ended_in(
     (fed.taken, encoded(rt, alloc, frame.as_frame()))
 }
 
+// A frame and a byte of the next come in one piece, of which the frame's bytes are taken.
+fn ends_before_a_byte(rt: &impl Abort, alloc: Global, bytes: &[u8], want: &[u8]) {
+    let more = joined(rt, alloc, &[bytes, &[0x4D]]);
+    let mut decoder = Decoder::new(alloc);
+    let (taken, again) = ended_in(rt, alloc, &mut decoder, &more);
+    assert!(rt; taken == bytes.len());
+    assert!(rt; again.as_slice() == want);
+    begins(rt, &mut decoder, &[0x4D]);
+    assert!(rt; decoder.finish() == Err(FrameFault::Truncated));
+    fails(rt, &mut decoder, &[0; 3], &[]);
+}
+
 #[test]
 fn a_frame_and_a_byte(rt: HostRuntime) {
-    let mut bytes = [0x4D; 43];
-    bytes[..42].copy_from_slice(&TWICE);
-    let mut decoder = Decoder::new(rt.alloc());
-    let (taken, again) = ended_in(&rt, rt.alloc(), &mut decoder, &bytes);
-    assert!(rt; taken == 42);
-    assert!(rt; again.as_slice() == TWICE.as_slice());
-    begins(&rt, &mut decoder, &[0x4D]);
-    assert!(rt; decoder.finish() == Err(FrameFault::Truncated));
-    fails(&rt, &mut decoder, &[0; 3], &[]);
+    ends_before_a_byte(&rt, rt.alloc(), &TWICE, &TWICE);
+    ends_before_a_byte(&rt, rt.alloc(), &NARROW, &WIDENED);
 }
 
 // The piece is taken whole, and no frame ends with it.
@@ -203,13 +267,19 @@ fn begins(rt: &impl Abort, decoder: &mut Decoder, piece: &[u8]) {
     assert!(rt; begun.taken == piece.len() && begun.frame.is_none());
 }
 
+// Bytes of a frame without its last byte are no end of a stream.
+fn is_not_the_end(rt: &impl Abort, alloc: Global, part: &[u8]) {
+    let mut decoder = Decoder::new(alloc);
+    assert!(rt; decoder.finish() == Ok(()));
+    begins(rt, &mut decoder, part);
+    assert!(rt; decoder.finish() == Err(FrameFault::Truncated));
+    begins(rt, &mut decoder, &[]);
+}
+
 #[test]
 fn a_part_is_not_the_end(rt: HostRuntime) {
-    let mut decoder = Decoder::new(rt.alloc());
-    assert!(rt; decoder.finish() == Ok(()));
-    begins(&rt, &mut decoder, &TWICE[..41]);
-    assert!(rt; decoder.finish() == Err(FrameFault::Truncated));
-    begins(&rt, &mut decoder, &[]);
+    is_not_the_end(&rt, rt.alloc(), &TWICE[..53]);
+    is_not_the_end(&rt, rt.alloc(), &NARROW[..41]);
 }
 
 // How many bytes were taken, fed byte by byte, before the fault.
@@ -223,16 +293,34 @@ fn place_of_fault(alloc: Global, bytes: &[u8]) -> Option<(usize, FrameFault)> {
     None
 }
 
-// Whether the frame with another byte at a place is refused so at a place, and so where it comes as one piece.
-fn faults_at(alloc: Global, place: usize, value: u8, at: usize, fault: FrameFault) -> bool {
-    let mut bytes = TWICE;
-    bytes[place % 42] = value;
-    place_of_fault(alloc, &bytes) == Some((at, fault))
-        && fault_of(&mut Decoder::new(alloc), &bytes) == Some(fault)
+// Whether the bytes are refused so at a place, fed byte by byte, and so where they come as one piece.
+fn faults_at(alloc: Global, bytes: &[u8], at: usize, fault: FrameFault) -> bool {
+    place_of_fault(alloc, bytes) == Some((at, fault))
+        && fault_of(&mut Decoder::new(alloc), bytes) == Some(fault)
 }
 
 #[test]
 fn a_fault_comes_with_its_byte(rt: HostRuntime) {
+    let rows = [
+        (0, 0x4D, 3, FrameFault::BadMagic),
+        (4, 4, 4, FrameFault::BadKind),
+        (5, 1, 6, FrameFault::BadSender),
+        (6, 65, 6, FrameFault::BadSender),
+        (15, 1, 18, FrameFault::BadLength),
+        (19, 1, 53, FrameFault::BadCount),
+        (22, 2, 53, FrameFault::BadLength),
+        (33, 3, 53, FrameFault::BadTag),
+        (43, 0, 53, FrameFault::BadStamp),
+        (53, 65, 53, FrameFault::BadStamp),
+    ];
+    for (place, value, at, fault) in rows {
+        let is_found = faults_at(rt.alloc(), &changed(place, value), at, fault);
+        row_holds(&rt, place, is_found);
+    }
+}
+
+#[test]
+fn a_fault_of_a_narrow_frame_comes_with_its_byte(rt: HostRuntime) {
     let rows = [
         (0, 0x4D, 3, FrameFault::BadMagic),
         (4, 4, 4, FrameFault::BadKind),
@@ -246,17 +334,23 @@ fn a_fault_comes_with_its_byte(rt: HostRuntime) {
         (41, 65, 41, FrameFault::BadStamp),
     ];
     for (place, value, at, fault) in rows {
-        let is_found = faults_at(rt.alloc(), place, value, at, fault);
+        let is_found = faults_at(rt.alloc(), &narrow_changed(place, value), at, fault);
         row_holds(&rt, place, is_found);
     }
 }
 
 #[test]
 fn a_body_longer_than_any_is_refused(rt: HostRuntime) {
-    // It has 27,005 bytes.
-    let long = [0x4C, 0x32, 0x47, 0x31, 1, 0, 1, 0, 0, 0x69, 0x7D];
-    let found = place_of_fault(rt.alloc(), &long);
+    // Its header says 27,005 bytes.
+    let narrow = [0x4C, 0x32, 0x47, 0x31, 1, 0, 1, 0, 0, 0x69, 0x7D];
+    let found = place_of_fault(rt.alloc(), &narrow);
     assert!(rt; found == Some((10, FrameFault::BadLength)));
+    // Its header says 31,005 bytes.
+    let wide = [
+        0x4C, 0x32, 0x47, 0x32, 1, 0, 1, 0, 0, 0, 0, 0, 0, 0, 0, 0, 0, 0x79, 0x1D,
+    ];
+    let found = place_of_fault(rt.alloc(), &wide);
+    assert!(rt; found == Some((18, FrameFault::BadLength)));
 }
 
 // Numbers by a linear congruence, the same in each run.
@@ -272,6 +366,11 @@ impl Numbers {
             .wrapping_mul(0x5851_F42D_4C95_7F2D)
             .wrapping_add(0x1405_7B7E_F767_814F);
         self.state >> 33
+    }
+
+    // One of up to 62 bits.
+    fn wide(&mut self) -> u64 {
+        self.next() << 31 | self.next()
     }
 
     fn below(&mut self, n: usize) -> usize {
@@ -296,12 +395,12 @@ fn any_hist(rt: &impl Abort, numbers: &mut Numbers) -> PageHist {
     PageHist::Once(last)
 }
 
-// So many entries, whose pages are up to nine apart.
+// Entries of a number of pages, which are up to nine apart.
 fn any_entries(rt: &impl Abort, alloc: Global, numbers: &mut Numbers, count: usize) -> EntryList {
     let mut entries = room(rt, alloc, count);
-    let mut no = 0u32;
+    let mut no = numbers.wide();
     for _ in 0..count {
-        no = no.wrapping_add(1 + (numbers.next() % 9) as u32);
+        no = no.wrapping_add(1 + numbers.next() % 9);
         let page = PageId { dev: 7, no };
         let hist = any_hist(rt, numbers);
         entries
@@ -325,17 +424,21 @@ fn any_sums(numbers: &mut Numbers) -> SumTable {
 // A frame of up to four entries, a wish, or a table of sums.
 fn any_frame(rt: &impl Abort, alloc: Global, numbers: &mut Numbers) -> Frame {
     let sender = ReplicaId::new(1 + (numbers.next() % 64) as u16).expect(rt, "a replica");
+    let horizon = numbers.wide();
     match numbers.below(7) {
         5 => Frame::Want {
             sender,
+            horizon,
             mask: numbers.next() << 33 | numbers.next(),
         },
         6 => Frame::Digest {
             sender,
+            horizon,
             sums: any_sums(numbers),
         },
         count => Frame::Entries {
             sender,
+            horizon,
             entries: any_entries(rt, alloc, numbers, count),
         },
     }

@@ -1,8 +1,8 @@
 //! Numbers of replicas and buckets, lists, and the bytes of stamps and pages.
 
 use warm_stamps::{
-    BadReplica, Bucket, PageId, PageList, ReplicaId, bucket_of, page_bytes, page_from, stamp_bytes,
-    stamp_from,
+    BadReplica, Bucket, PageId, PageList, ReplicaId, bucket_of, page_bytes, page_from,
+    page_from_narrow, stamp_bytes, stamp_from,
 };
 
 fn replica_number(number: u16) -> Result<u16, BadReplica> {
@@ -30,7 +30,7 @@ fn buckets_are_numbered_from_0_to_63(rt: HostRuntime) {
     assert!(rt; bucket_number(64) == None);
 }
 
-fn page_bucket(dev: u16, no: u32) -> u8 {
+fn page_bucket(dev: u16, no: u64) -> u8 {
     bucket_of(PageId { dev, no }).get()
 }
 
@@ -40,6 +40,8 @@ fn a_page_falls_into_the_bucket_of_its_sum(rt: HostRuntime) {
     assert!(rt; page_bucket(0, 65) == 1);
     assert!(rt; page_bucket(1, 0) == 1);
     assert!(rt; page_bucket(65535, 4294967295) == 62);
+    assert!(rt; page_bucket(0, 18446744073709551615) == 63);
+    assert!(rt; page_bucket(65535, 18446744073709551615) == 62);
 }
 
 #[test]
@@ -65,13 +67,31 @@ fn stamps_have_ten_bytes(rt: HostRuntime) {
     assert!(rt; stamp_from(&[0; 10]) == Err(BadReplica));
 }
 
+// A page is spelled by these bytes, and read from them.
+fn is_page(bytes: [u8; 10], dev: u16, no: u64) -> bool {
+    let page = PageId { dev, no };
+    (page_bytes(page), page_from(&bytes)) == (bytes, page)
+}
+
 #[test]
-fn pages_have_six_bytes(rt: HostRuntime) {
-    // The bytes of 258:50462976 all differ.
+fn pages_have_ten_bytes(rt: HostRuntime) {
+    // The bytes of 258:217304205466536202 all differ.
+    let apart = [1, 2, 3, 4, 5, 6, 7, 8, 9, 10];
+    assert!(rt; is_page(apart, 258, 217304205466536202));
+    assert!(rt; is_page([0, 0, 0, 0, 0, 1, 0, 0, 0, 0], 0, 4294967296));
+    assert!(rt; is_page([255; 10], 65535, 18446744073709551615));
+}
+
+#[test]
+fn pages_had_six_bytes(rt: HostRuntime) {
     let page = PageId {
         dev: 258,
         no: 50462976,
     };
-    let bytes = [1, 2, 3, 2, 1, 0];
-    assert!(rt; (page_bytes(page), page_from(&bytes)) == (bytes, page));
+    assert!(rt; page_from_narrow(&[1, 2, 3, 2, 1, 0]) == page);
+    let last = PageId {
+        dev: 65535,
+        no: 4294967295,
+    };
+    assert!(rt; page_from_narrow(&[255; 6]) == last);
 }

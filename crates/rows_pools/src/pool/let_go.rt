@@ -1,9 +1,8 @@
 //! What a device holds as the pool lets it go: all that was written, and nothing waits.
-ghost use Rattle.warm_pool.specs.State.{IsPool, RankedBy};
+ghost use Rattle.warm_pool.specs.State.{RankedBy};
 
 use super::{
-    ONE_REFUSED, Said, closes, exchange, held, memory, not_closed, pool_over, unpin, unretired,
-    write,
+    ONE_REFUSED, Said, closes, exchange, held, not_closed, pool_over, unpin, unretired, write,
 };
 use noting_device::{Found, Note, Noting};
 use std::alloc::{AllocError, Global};
@@ -11,15 +10,13 @@ use std::process::Abort;
 use std::sync::Arc;
 use warm_devices::{MemDevice, PageDevice};
 use warm_history::History;
-use warm_pool::{Pool, PoolFault, Pooled, Slot};
+use warm_pool::{Pool, PoolFault, Slot};
 
 // What a device of eight pages holds before the pool writes to it.
 const STORED: [u8; 16] = [0x55; 16];
 
 // A device that notes what its drop sees, and the note.
-fn new_witness(
-    alloc: Global,
-) -> Result<(Box<dyn PageDevice + Send>, Arc<Note, Global>), AllocError> {
+fn new_witness(alloc: Global) -> Result<(Noting, Arc<Note, Global>), AllocError> {
     let note = Note::blank(alloc, 8, 16)?;
     let mut device = MemDevice::new(alloc, 8, 16)?;
     for no in 0..8 {
@@ -29,10 +26,10 @@ fn new_witness(
     }
     let _ = device.flush();
     let device = Noting::new(alloc, device, Arc::try_clone(&note)?)?;
-    Ok((Box::new(alloc, device)?, note))
+    Ok((device, note))
 }
 
-fn witness(rt: &impl Abort, alloc: Global) -> (Box<dyn PageDevice + Send>, Arc<Note, Global>) {
+fn witness(rt: &impl Abort, alloc: Global) -> (Noting, Arc<Note, Global>) {
     match new_witness(alloc) {
         Ok(made) => made,
         Err(_) => new_witness(alloc).expect(rt, ONE_REFUSED),
@@ -47,9 +44,12 @@ fn is_kept(note: &Note) -> bool {
 }
 
 // A pool over such a device. Its page 0:0 is filled with AA, and went to no device yet.
-fn noted_pool(rt: &impl Abort, alloc: Global, history: &History) -> (Pool, Slot, Arc<Note, Global>)
-    ensures pool { IsPool (⟦<Pool as Pooled>⟧.state result.0) }
-    ensures ranked { RankedBy (⟦<Pool as Pooled>⟧.state result.0) history.now }
+fn noted_pool(
+    rt: &impl Abort,
+    alloc: Global,
+    history: &History,
+) -> (Pool<Noting>, Slot, Arc<Note, Global>)
+    ensures { RankedBy result.0 history.now }
 {
     let (device, note) = witness(rt, alloc);
     let mut pool = pool_over(rt, alloc, 2, device);
@@ -60,16 +60,14 @@ fn noted_pool(rt: &impl Abort, alloc: Global, history: &History) -> (Pool, Slot,
 
 fn exchanged(
     rt: &impl Abort,
-    pool: &mut Pool,
+    pool: &mut Pool<Noting>,
     history: &History,
     held: Slot,
-    device: Box<dyn PageDevice + Send>,
+    device: Noting,
     note: &Note,
 )
-    requires pool { IsPool (⟦<Pool as Pooled>⟧.state pool.old) }
-    requires ranked { RankedBy (⟦<Pool as Pooled>⟧.state pool.old) history.now }
-    ensures pool { IsPool (⟦<Pool as Pooled>⟧.state pool.new) }
-    ensures ranked { RankedBy (⟦<Pool as Pooled>⟧.state pool.new) history.now }
+    requires { RankedBy pool.old history.now }
+    ensures { RankedBy pool.new history.now }
 {
     let device = unretired(rt, pool, history, 0, device, PoolFault::Fixed);
     assert!(rt; note.found() == Found::NoDrop);
@@ -83,8 +81,11 @@ fn a_retired_device_has_what_was_written(rt: HostRuntime) {
     let alloc = rt.alloc();
     let history = History::new(alloc);
     let (mut pool, held, note) = noted_pool(&rt, alloc, &history);
-    exchanged(&rt, &mut pool, &history, held, memory(&rt, alloc, 8), &note);
+    let (next, next_note) = witness(&rt, alloc);
+    exchanged(&rt, &mut pool, &history, held, next, &note);
+    assert!(rt; next_note.found() == Found::NoDrop);
     closes(&rt, pool);
+    assert!(rt; next_note.found() == Found::Settled);
 }
 
 #[test]

@@ -1,15 +1,16 @@
 //! Which page leaves, by what a history was told.
-ghost use Rattle.warm_pool.specs.State.{IsPool, RankedBy};
+ghost use Rattle.warm_pool.specs.State.{RankedBy};
 
 use super::{ONE_REFUSED, Row, Said, closes, loaded, memory, page, pool_over, runs};
 use std::alloc::Global;
 use std::process::Abort;
+use warm_devices::MemDevice;
 use warm_history::History;
-use warm_pool::{Pool, Pooled};
+use warm_pool::Pool;
 use warm_stamps::{PageId, Reference, ReplicaId, Stamp};
 
 // References to pages at times, all seen at one replica.
-fn history_of(rt: &impl Abort, alloc: Global, seen: &[(u32, u64)]) -> History {
+fn history_of(rt: &impl Abort, alloc: Global, seen: &[(u64, u64)]) -> History {
     let replica = ReplicaId::new(1).expect(rt, "1 is of a replica");
     let mut history = History::new(alloc);
     for &(no, time) in seen {
@@ -25,11 +26,9 @@ fn history_of(rt: &impl Abort, alloc: Global, seen: &[(u32, u64)]) -> History {
 }
 
 // Brings a page of device 0 in without a fix, which no fault hinders.
-fn load(rt: &impl Abort, pool: &mut Pool, history: &History, no: u32)
-    requires pool { IsPool (⟦<Pool as Pooled>⟧.state pool.old) }
-    requires ranked { RankedBy (⟦<Pool as Pooled>⟧.state pool.old) history.now }
-    ensures pool { IsPool (⟦<Pool as Pooled>⟧.state pool.new) }
-    ensures ranked { RankedBy (⟦<Pool as Pooled>⟧.state pool.new) history.now }
+fn load(rt: &impl Abort, pool: &mut Pool<MemDevice>, history: &History, no: u64)
+    requires { RankedBy pool.old history.now }
+    ensures { RankedBy pool.new history.now }
 {
     let given = loaded(pool, history, page(no));
     let is_in = matches!(given, Said::At(_, _));
@@ -37,11 +36,9 @@ fn load(rt: &impl Abort, pool: &mut Pool, history: &History, no: u32)
 }
 
 // The page that leaves for page 3, of two frames with the pages 1 and 2.
-fn leaving_of(rt: &impl Abort, pool: &mut Pool, history: &History) -> Option<PageId>
-    requires pool { IsPool (⟦<Pool as Pooled>⟧.state pool.old) }
-    requires ranked { RankedBy (⟦<Pool as Pooled>⟧.state pool.old) history.now }
-    ensures pool { IsPool (⟦<Pool as Pooled>⟧.state pool.new) }
-    ensures ranked { RankedBy (⟦<Pool as Pooled>⟧.state pool.new) history.now }
+fn leaving_of(rt: &impl Abort, pool: &mut Pool<MemDevice>, history: &History) -> Option<PageId>
+    requires { RankedBy pool.old history.now }
+    ensures { RankedBy pool.new history.now }
 {
     load(rt, pool, history, 1);
     load(rt, pool, history, 2);
@@ -53,7 +50,7 @@ fn leaving_of(rt: &impl Abort, pool: &mut Pool, history: &History) -> Option<Pag
 }
 
 // The page that leaves so, by what was seen.
-fn leaving(rt: &impl Abort, alloc: Global, seen: &[(u32, u64)]) -> Option<PageId> {
+fn leaving(rt: &impl Abort, alloc: Global, seen: &[(u64, u64)]) -> Option<PageId> {
     let history = history_of(rt, alloc, seen);
     let mut pool = pool_over(rt, alloc, 2, memory(rt, alloc, 8));
     let victim = leaving_of(rt, &mut pool, &history);
@@ -73,10 +70,7 @@ fn the_history_says_which_page_leaves(rt: HostRuntime) {
     assert!(rt; leaving(&rt, alloc, &[]) == Some(page(1)));
 }
 
-fn refresh(pool: &mut Pool, history: &History, no: u32)
-    requires { IsPool (⟦<Pool as Pooled>⟧.state pool.old) }
-    ensures { IsPool (⟦<Pool as Pooled>⟧.state pool.new) }
-{
+fn refresh(pool: &mut Pool<MemDevice>, history: &History, no: u64) {
     pool.refresh(history, &[page(no)]);
 }
 
@@ -94,5 +88,50 @@ fn a_refreshed_page_has_a_new_rank(rt: HostRuntime) {
     runs(&rt, &mut pool, &history, &rows);
     refresh(&mut pool, &later, 1);
     assert!(rt; pool.victim() == Some(page(2)));
+    closes(&rt, pool);
+}
+
+// Raises the horizon, and then renews all ranks.
+fn forget(pool: &mut Pool<MemDevice>, history: &mut History, time: u64)
+    ensures { RankedBy pool.new history.new }
+{
+    history.raise(time);
+    pool.refresh_all(history);
+}
+
+// Both pages were referenced twice. Since 60 page 1 was referenced at 100 and page 2 at 60, and since 101 neither was.
+#[test]
+fn all_ranks_follow_a_raised_horizon(rt: HostRuntime) {
+    let alloc = rt.alloc();
+    let mut history = history_of(&rt, alloc, &[(1, 1), (1, 100), (2, 50), (2, 60)]);
+    let mut pool = pool_over(&rt, alloc, 2, memory(&rt, alloc, 8));
+    let rows = [
+        Row::Loads(0, 1, Said::At(0, 1)),
+        Row::Loads(0, 2, Said::At(1, 1)),
+        Row::Leaves(1),
+    ];
+    runs(&rt, &mut pool, &history, &rows);
+    forget(&mut pool, &mut history, 60);
+    runs(&rt, &mut pool, &history, &[Row::Leaves(2)]);
+    forget(&mut pool, &mut history, 101);
+    let rows = [Row::Leaves(1), Row::Loads(0, 3, Said::At(0, 2))];
+    runs(&rt, &mut pool, &history, &rows);
+    closes(&rt, pool);
+}
+
+// A page with a fix doesn't leave, whatever its rank is, and has its new rank once the fix is taken away.
+#[test]
+fn a_fixed_page_has_its_new_rank_later(rt: HostRuntime) {
+    let alloc = rt.alloc();
+    let mut history = history_of(&rt, alloc, &[(1, 1), (1, 100), (2, 50), (2, 60)]);
+    let mut pool = pool_over(&rt, alloc, 2, memory(&rt, alloc, 8));
+    let rows = [
+        Row::Loads(0, 1, Said::At(0, 1)),
+        Row::Pins(2, Said::At(1, 1)),
+    ];
+    runs(&rt, &mut pool, &history, &rows);
+    forget(&mut pool, &mut history, 60);
+    let rows = [Row::Leaves(1), Row::Unpins(1, 1), Row::Leaves(2)];
+    runs(&rt, &mut pool, &history, &rows);
     closes(&rt, pool);
 }
