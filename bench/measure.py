@@ -1,7 +1,7 @@
 #!/usr/bin/env python3
 """Measures warmplay beside a plain Rust program of the same job, and prints the tables of docs/PERFORMANCE.md.
 
-usage: measure.py [CASE..]      the cases are: refs zipf orders longline gossip warm memory growth (all of them, where none is named)
+usage: measure.py [CASE..]      the cases are: refs zipf orders longline gossip warm memory window growth (all of them, where none is named)
 
 It wants the proved program (`rt run` in crates/warmplay leaves it as crates/warmplay/out/warmplay) and `rustc`.
 Every case runs all programs in turn, on one machine, and takes the least user time of five runs; their answers must be equal.
@@ -28,6 +28,7 @@ WARMPLAY = ROOT / "crates/warmplay/out/warmplay"
 ORDERS = ROOT / "examples/sqlite-orders"
 RUNS = 5
 REPLICAS = 64
+WINDOW, EVERY = 100_000, 10_000
 SIZES = [1_000, 10_000, 100_000, 1_000_000]
 OURS, PLAIN, UNDO = "warmplay", "plain", "plain with undo"
 
@@ -183,6 +184,26 @@ def memory(bench: Bench) -> None:
     print(f"| memory a page, of 1,000,000 | {shares} | {held[PLAIN] / held[OURS]:.2f} | {held[UNDO] / held[OURS]:.2f} | |", flush=True)
 
 
+def moving(pages: int, window: int, every: int) -> Iterable[str]:
+    """A reference to each of so many pages, out of their order; after each `every` of them those before the last `window` are forgotten."""
+    for at in range(pages):
+        yield f"ref 1 1 0:{at * 7919 % pages} {at}"
+        if (at + 1) % every == 0:
+            yield f"horizon 1 {max(0, at + 1 - window)}"
+
+
+def window(bench: Bench) -> None:
+    """What a replica holds that sees 10,000,000 pages through a window of 100,000, beside one that has seen as many as the window has."""
+    nothing, seen = bench.write("nothing", []), bench.write("seen", moving(WINDOW, WINDOW, EVERY))
+    wide = bench.write("moving", moving(100 * WINDOW, WINDOW, EVERY))
+    print("\n| memory of a replica, MB | " + " | ".join(bench.programs) + " |\n|---|" + "---|" * len(bench.programs))
+    kb = {name: [peak_kb(program, schedule) for schedule in (nothing, seen, wide)] for name, program in bench.programs.items()}
+    for what, at in ((f"of {WINDOW:,} pages", 1), (f"of {100 * WINDOW:,} through a window of {WINDOW:,}", 2)):
+        print(f"| {what} | " + " | ".join(f"{(peaks[at] - peaks[0]) * 1024 / 1e6:.2f}" for peaks in kb.values()) + " |", flush=True)
+    times = ((peaks[2] - peaks[0]) / (peaks[1] - peaks[0]) for peaks in kb.values())
+    print("| times as much | " + " | ".join(f"{it:.2f}" for it in times) + " |", flush=True)
+
+
 def growth(bench: Bench) -> None:
     """Nanoseconds a page, in as many replicas as hold a million pages, or all."""
     print("\n| a page of, in ns | " + " | ".join(f"{size:,}" for size in SIZES) + " |\n|---|" + "---|" * len(SIZES))
@@ -215,6 +236,7 @@ CASES: dict[str, Callable[[Bench], None]] = {
     "gossip": gossip,
     "warm": warm,
     "memory": memory,
+    "window": window,
     "growth": growth,
 }
 

@@ -1,7 +1,7 @@
 //! The same job as `warmplay play`, in plain Rust: the measure for docs/PERFORMANCE.md, and no part of the product.
 //!
-//! It reads a schedule from standard input and answers each line. A history is one BTreeMap by page and a frame is the bytes that go
-//! over the wire, as the product's are. It has no pool, and knows the lines of the measured schedules alone.
+//! It reads a schedule from standard input and answers each line. A history is one BTreeMap by page with a horizon, and a frame is the
+//! bytes that go over the wire, as the product's are. It has no pool, and knows the lines of the measured schedules alone.
 //!
 //!     plain REPLICAS [undo]
 //!
@@ -24,7 +24,14 @@ struct Stamp {
 #[derive(Clone, Copy, PartialEq, Eq, PartialOrd, Ord)]
 struct Page {
     dev: u16,
-    no: u32,
+    no: u64,
+}
+
+impl Page {
+    // The sum may wrap: 64 divides 2^64.
+    fn bucket(self) -> u64 {
+        u64::from(self.dev).wrapping_add(self.no) % 64
+    }
 }
 
 #[derive(Clone, Copy)]
@@ -48,6 +55,12 @@ impl Hist {
         if let Some(prev) = other.prev {
             self.take(prev);
         }
+    }
+
+    // Forgets the stamps before a time. Says whether one is left.
+    fn forget(&mut self, horizon: u64) -> bool {
+        self.prev = self.prev.filter(|prev| horizon <= prev.time);
+        horizon <= self.last.time
     }
 
     // The page of the lesser rank leaves the pool first.
@@ -82,12 +95,16 @@ impl<const UNDO: bool> Notes<UNDO> {
 }
 
 struct Replica {
+    horizon: u64,
     history: BTreeMap<Page, Hist>,
     buffers: Vec<Vec<(Page, Stamp)>>,
 }
 
 impl Replica {
-    fn take<const UNDO: bool>(&mut self, page: Page, more: Hist, notes: &mut Notes<UNDO>) {
+    fn take<const UNDO: bool>(&mut self, page: Page, mut more: Hist, notes: &mut Notes<UNDO>) {
+        if !more.forget(self.horizon) {
+            return;
+        }
         match self.history.entry(page) {
             Place::Vacant(place) => {
                 notes.note(page, None);
@@ -110,7 +127,15 @@ impl Replica {
         self.buffers[worker] = waiting;
     }
 
-    fn join<const UNDO: bool>(&mut self, more: &[(Page, Hist)]) {
+    fn raise(&mut self, time: u64) {
+        if time > self.horizon {
+            self.horizon = time;
+            self.history.retain(|_, hist| hist.forget(time));
+        }
+    }
+
+    fn join<const UNDO: bool>(&mut self, horizon: u64, more: &[(Page, Hist)]) {
+        self.raise(horizon);
         let mut notes = Notes::<UNDO>::with_room(more.len());
         for (page, hist) in more {
             self.take(*page, *hist, &mut notes);
@@ -122,7 +147,7 @@ impl Replica {
         let from = after.map_or(Bound::Unbounded, Bound::Excluded);
         let later = self.history.range((from, Bound::Unbounded));
         later
-            .filter(|(page, _)| (u64::from(page.dev) + u64::from(page.no)) % 64 == bucket)
+            .filter(|(page, _)| page.bucket() == bucket)
             .take(1000)
             .map(|(page, hist)| (*page, *hist))
             .collect()
@@ -141,18 +166,19 @@ impl Replica {
 
 // ---- frames of entries, as they go over the wire
 
-const HEADER: [u8; 5] = *b"L2G1\x01";
+const HEADER: [u8; 5] = *b"L2G2\x01";
 
 fn put_stamp(bytes: &mut Vec<u8>, stamp: Stamp) {
     bytes.extend_from_slice(&stamp.time.to_be_bytes());
     bytes.extend_from_slice(&stamp.replica.to_be_bytes());
 }
 
-fn encoded(sender: u16, entries: &[(Page, Hist)]) -> Vec<u8> {
-    let size: usize = entries.iter().map(|(_, hist)| if hist.prev.is_some() { 27 } else { 17 }).sum();
-    let mut bytes = Vec::with_capacity(15 + size);
+fn encoded(sender: u16, horizon: u64, entries: &[(Page, Hist)]) -> Vec<u8> {
+    let size: usize = entries.iter().map(|(_, hist)| if hist.prev.is_some() { 31 } else { 21 }).sum();
+    let mut bytes = Vec::with_capacity(23 + size);
     bytes.extend_from_slice(&HEADER);
     bytes.extend_from_slice(&sender.to_be_bytes());
+    bytes.extend_from_slice(&horizon.to_be_bytes());
     bytes.extend_from_slice(&(4 + size as u32).to_be_bytes());
     bytes.extend_from_slice(&(entries.len() as u32).to_be_bytes());
     for (page, hist) in entries {
@@ -178,9 +204,10 @@ fn stamp_of(bytes: &mut &[u8]) -> Option<Stamp> {
     (1..=64).contains(&stamp.replica).then_some(stamp)
 }
 
-// The entries of a frame: `None` where it spells none.
-fn decoded(mut bytes: &[u8]) -> Option<Vec<(Page, Hist)>> {
+// The horizon and the entries of a frame: `None` where it spells none.
+fn decoded(mut bytes: &[u8]) -> Option<(u64, Vec<(Page, Hist)>)> {
     let sender = (first(&mut bytes)? == HEADER).then(|| first(&mut bytes))??;
+    let horizon = u64::from_be_bytes(first(&mut bytes)?);
     let length = u32::from_be_bytes(first(&mut bytes)?);
     if !(1..=64).contains(&u16::from_be_bytes(sender)) || length as usize != bytes.len() {
         return None;
@@ -191,7 +218,7 @@ fn decoded(mut bytes: &[u8]) -> Option<Vec<(Page, Hist)>> {
     }
     let mut entries: Vec<(Page, Hist)> = Vec::with_capacity(count);
     for _ in 0..count {
-        let page = Page { dev: u16::from_be_bytes(first(&mut bytes)?), no: u32::from_be_bytes(first(&mut bytes)?) };
+        let page = Page { dev: u16::from_be_bytes(first(&mut bytes)?), no: u64::from_be_bytes(first(&mut bytes)?) };
         if entries.last().is_some_and(|(before, _)| *before >= page) {
             return None;
         }
@@ -207,7 +234,7 @@ fn decoded(mut bytes: &[u8]) -> Option<Vec<(Page, Hist)>> {
         }
         entries.push((page, Hist { last, prev }));
     }
-    bytes.is_empty().then_some(entries)
+    bytes.is_empty().then_some((horizon, entries))
 }
 
 // ---- lines
@@ -224,7 +251,7 @@ fn number(word: &[u8], most: u64) -> Option<u64> {
 
 fn page_of(word: &[u8]) -> Option<Page> {
     let colon = word.iter().position(|byte| *byte == b':')?;
-    Some(Page { dev: number(&word[..colon], 65535)? as u16, no: number(&word[colon + 1..], 4294967295)? as u32 })
+    Some(Page { dev: number(&word[..colon], 65535)? as u16, no: number(&word[colon + 1..], u64::MAX)? })
 }
 
 struct World<const UNDO: bool> {
@@ -238,7 +265,7 @@ const ROOM: usize = 64;
 impl<const UNDO: bool> World<UNDO> {
     fn new(replicas: usize) -> Self {
         let buffers = || (0..WORKERS).map(|_| Vec::with_capacity(ROOM)).collect();
-        let replica = || Replica { history: BTreeMap::new(), buffers: buffers() };
+        let replica = || Replica { horizon: 0, history: BTreeMap::new(), buffers: buffers() };
         World { replicas: (0..replicas).map(|_| replica()).collect(), frames: Vec::new() }
     }
 
@@ -289,6 +316,17 @@ impl<const UNDO: bool> World<UNDO> {
                 self.replicas[i - 1].flush::<UNDO>(w - 1);
                 Some(out.write_all(b"ok\n"))
             }
+            b"horizon" => {
+                let time = field(u64::MAX)?;
+                if words.next().is_some() {
+                    return None;
+                }
+                if !known {
+                    return refused(out, "14 NoSuchReplica");
+                }
+                self.replicas[i - 1].raise(time);
+                Some(writeln!(out, "horizon {}", self.replicas[i - 1].horizon))
+            }
             b"send" => {
                 let bucket = field(63)?;
                 let after = match words.next() {
@@ -301,8 +339,9 @@ impl<const UNDO: bool> World<UNDO> {
                 if !known {
                     return refused(out, "14 NoSuchReplica");
                 }
-                let carried = self.replicas[i - 1].carried(bucket, after);
-                self.frames.push(encoded(i as u16, &carried));
+                let replica = &self.replicas[i - 1];
+                let carried = replica.carried(bucket, after);
+                self.frames.push(encoded(i as u16, replica.horizon, &carried));
                 Some(writeln!(out, "frame {}", self.frames.len()))
             }
             b"deliver" => {
@@ -316,8 +355,8 @@ impl<const UNDO: bool> World<UNDO> {
                 if !there(k, self.frames.len()) {
                     return refused(out, "16 NoSuchFrame");
                 }
-                let entries = decoded(&self.frames[k - 1]).expect("a frame of entries");
-                self.replicas[i - 1].join::<UNDO>(&entries);
+                let (horizon, entries) = decoded(&self.frames[k - 1]).expect("a frame of entries");
+                self.replicas[i - 1].join::<UNDO>(horizon, &entries);
                 Some(out.write_all(b"took 0\n"))
             }
             b"warm" => {

@@ -15,8 +15,8 @@ from pathlib import Path
 HERE = Path(__file__).resolve().parent
 OURS = [HERE.parent.parent / "crates/benches/out/benches", "frames"]
 RUNS = 5
-FRAME = 27_015
-SUMMED = 2_700_000
+FRAME = 31_023
+SUMMED = 3_100_000
 # a stream has so many frames, and comes in pieces of so many bytes
 STREAM = 1000
 PIECES = [1, 64, 4_096, 65_536]

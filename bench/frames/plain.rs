@@ -22,7 +22,7 @@ fn entries_of(pages: u32, apart: u32) -> Vec<Entry> {
         .map(|i| {
             let stamp = |time| Stamp { time, replica: 1 };
             let hist = Hist::Twice { last: stamp(u64::from(i) + 7), prev: stamp(u64::from(i)) };
-            Entry { page: Page { dev: 0, no: i * apart }, hist }
+            Entry { page: Page { dev: 0, no: u64::from(i * apart) }, hist }
         })
         .collect()
 }
@@ -39,7 +39,7 @@ fn feed_in_pieces(stream: &[u8], size: usize) -> usize {
         let mut rest = piece;
         while !rest.is_empty() {
             let (taken, frame) = decoder.feed(rest).expect("the stream is one of frames");
-            count += frame.map_or(0, |entries| entries.len());
+            count += frame.map_or(0, |frame| frame.entries.len());
             rest = &rest[taken..];
         }
     }
@@ -55,13 +55,13 @@ fn main() {
     let start = Instant::now();
     let mut bytes = Vec::new();
     for _ in 0..rounds {
-        bytes = encode(1, black_box(&entries));
+        bytes = encode(1, 0, black_box(&entries));
     }
     let encoding = start.elapsed();
     let start = Instant::now();
     let mut count = 0;
     for _ in 0..rounds {
-        count += decode(black_box(&bytes)).expect("the frame is one of entries").len();
+        count += decode(black_box(&bytes)).expect("the frame is one of entries").entries.len();
     }
     let decoding = start.elapsed();
     let start = Instant::now();

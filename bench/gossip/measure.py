@@ -1,11 +1,12 @@
 #!/usr/bin/env python3
 """Measures gossip, warm-up and the room of a history beside the same in plain Rust, and prints tables for docs/PERFORMANCE.md.
 
-usage: measure.py [whole] [PAGES..]      how many pages there are (1000 10000 100000 1000000, where none is named)
+usage: measure.py [whole|raised] [PAGES..]      how many pages there are (1000 10000 100000 1000000, where none is named)
 
-With `whole` the warm-up is taken to its end instead, 4,096 steps over 500,000 pages, by each program. It wants the proved
-program (`rt run` in crates/benches leaves it as crates/benches/out/benches) and `rustc`. Both programs run in turn, five
-times, and the fastest run of each counts. Both must make the same.
+With `whole` the warm-up is taken to its end instead, 4,096 steps over 500,000 pages, by each program; with `raised` offers are
+measured alone that come after a raise of the horizon which dropped pages of one bucket. It wants the proved program (`rt run` in
+crates/benches leaves it as crates/benches/out/benches) and `rustc`. Both programs run in turn, five times, and the fastest run of
+each counts. Both must make the same.
 """
 
 import os
@@ -64,6 +65,15 @@ def whole_warm_up(plain: Path) -> None:
     row("4,096", "500,000", f"{ours.nanos / 1e9:.3f}", f"{other.nanos / 1e9:.3f}", f"{other.nanos / ours.nanos:.2f}")
 
 
+def raised(plain: Path, sizes: list[int]) -> None:
+    head("pages", "an offer after a raise, ours, ms", "plain Rust, ms", "plain time by ours")
+    for pages in sizes:
+        offers = max(1, 2_000_000 // pages)
+        ours, other = fastest(plain, RUNS, "raised", pages, offers)
+        each, others = (it.nanos / offers / 1e6 for it in (ours, other))
+        row(f"{pages:,}", f"{each:.4f}", f"{others:.4f}", f"{others / each:.2f}")
+
+
 def by_size(plain: Path, sizes: list[int]) -> None:
     head("pages", "buckets that differ", "a round, ours, ms", "plain Rust, ms", "plain time by ours")
     for pages in sizes:
@@ -101,14 +111,17 @@ def room(plain: Path) -> None:
 
 def main() -> None:
     words = sys.argv[1:]
+    sizes = [int(it) for it in words if it not in ("whole", "raised")] or [1_000, 10_000, 100_000, 1_000_000]
     with tempfile.TemporaryDirectory() as folder:
         plain = Path(folder) / "plain"
         subprocess.run(["rustc", "-O", "--edition", "2024", "-o", plain, HERE / "plain.rs"], check=True)
         if words[:1] == ["whole"]:
             whole_warm_up(plain)
             return
-        by_size(plain, [int(it) for it in words] or [1_000, 10_000, 100_000, 1_000_000])
-        room(plain)
+        if words[:1] != ["raised"]:
+            by_size(plain, sizes)
+            room(plain)
+        raised(plain, sizes)
 
 
 if __name__ == "__main__":

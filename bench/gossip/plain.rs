@@ -1,13 +1,19 @@
 //! The gossip and the warm-up of `benches gossip` in plain Rust, for the same measurements.
 //!
-//! A replica is a `BTreeMap`, and a pool that finds its pages by a `HashMap`. It keeps the sums of its buckets and its warm-up list
-//! until its history changes. Nothing is undone where memory runs out, as nothing is refused here. The arguments are those of the proved program.
+//! A replica is a `BTreeMap` with a horizon, and a pool that finds its pages by a `HashMap`. It keeps the sums of its buckets and its
+//! warm-up list until its history changes. Nothing is undone where memory runs out, as nothing is refused here. The arguments are those
+//! of the proved program, which has to take, beside `round`, `warm`, `offer` and `history`:
+//! - `raised PAGES OFFERS`: that many offers by a replica that knows so many pages by two stamps each, of the times 2^40 + i and
+//!   2^40 + i + 7 for page `scattered(i, PAGES)`, and made an offer. Before offer i, counted from 0, it hears in one batch of the 100
+//!   pages 0:N, 0:N + 64, .. at the time i + 1, where N is the least multiple of 64 that is not below PAGES; it makes an offer; and its
+//!   horizon is raised to i + 2, which drops these 100 pages of bucket 0 and nothing else. The offers after the raises alone are timed,
+//!   and the sum is over their bytes, as for `offer`.
 
 #[path = "../parts/mod.rs"]
 mod parts;
 
-use parts::frames::{decode, encode, renew};
-use parts::hist::{Entry, Hist, Page, Stamp, join};
+use parts::frames::{decode, encode, header, renew};
+use parts::hist::{Entry, Hist, Page, Stamp, forget, join, since};
 use std::collections::btree_map::Entry as Place;
 use std::collections::{BTreeMap, HashMap};
 use std::time::Instant;
@@ -15,25 +21,29 @@ use std::time::Instant;
 const WARMED: usize = 4_096;
 const PAGE_SIZE: usize = 16;
 const FULL: usize = 1000;
+const DROPPED: u64 = 100;
+const LATE: u64 = 1 << 40;
 
 /// How a page is ranked: what leaves first is least.
 #[derive(Clone, Copy, PartialEq, Eq, PartialOrd, Ord)]
 enum Rank {
+    Never(Page),
     Once(Stamp, Page),
     Twice { prev: Stamp, last: Stamp, page: Page },
 }
 
 impl Rank {
-    fn of(page: Page, hist: Hist) -> Rank {
+    fn of(page: Page, hist: Option<Hist>) -> Rank {
         match hist {
-            Hist::Once(last) => Rank::Once(last, page),
-            Hist::Twice { last, prev } => Rank::Twice { prev, last, page },
+            None => Rank::Never(page),
+            Some(Hist::Once(last)) => Rank::Once(last, page),
+            Some(Hist::Twice { last, prev }) => Rank::Twice { prev, last, page },
         }
     }
 
     fn page(&self) -> Page {
         match self {
-            Rank::Once(_, page) | Rank::Twice { page, .. } => *page,
+            Rank::Never(page) | Rank::Once(_, page) | Rank::Twice { page, .. } => *page,
         }
     }
 }
@@ -52,7 +62,7 @@ struct Pool {
 }
 
 impl Pool {
-    fn new(frames: usize, pages: u32) -> Pool {
+    fn new(frames: usize, pages: u64) -> Pool {
         let frame = || Frame { rank: None, generation: 0, bytes: vec![0; PAGE_SIZE] };
         Pool {
             device: (0..pages).map(|_| vec![0; PAGE_SIZE]).collect(),
@@ -75,13 +85,21 @@ impl Pool {
     /// The frame of a page whose history changed gets its new rank.
     fn refresh(&mut self, page: Page, hist: Hist) {
         if let Some(at) = self.index.get(&page) {
-            self.frames[*at].rank = Some(Rank::of(page, hist));
+            self.frames[*at].rank = Some(Rank::of(page, Some(hist)));
+        }
+    }
+
+    /// All pages in frames get their ranks anew.
+    fn refresh_all(&mut self, history: &BTreeMap<Page, Hist>) {
+        for (page, at) in &self.index {
+            self.frames[*at].rank = Some(Rank::of(*page, history.get(page).copied()));
         }
     }
 }
 
 struct Node {
     id: u16,
+    horizon: u64,
     history: BTreeMap<Page, Hist>,
     pool: Pool,
     sums: Vec<[u8; 32]>,
@@ -91,12 +109,14 @@ struct Node {
 }
 
 impl Node {
-    fn new(id: u16, frames: usize, pages: u32) -> Node {
-        Node { id, history: BTreeMap::new(), pool: Pool::new(frames, pages), sums: vec![[0; 32]; 64], changed: u64::MAX, hottest: None }
+    fn new(id: u16, frames: usize, pages: u64) -> Node {
+        let pool = Pool::new(frames, pages);
+        Node { id, horizon: 0, history: BTreeMap::new(), pool, sums: vec![[0; 32]; 64], changed: u64::MAX, hottest: None }
     }
 
     fn take(&mut self, page: Page, more: Hist) {
-        self.changed |= 1 << ((page.dev as usize + page.no as usize) % 64);
+        let Some(more) = since(more, self.horizon) else { return };
+        self.changed |= 1 << page.bucket();
         self.hottest = None;
         let known = match self.history.entry(page) {
             Place::Occupied(mut place) => {
@@ -107,6 +127,28 @@ impl Node {
             Place::Vacant(place) => *place.insert(more),
         };
         self.pool.refresh(page, known);
+    }
+
+    /// Forgets what is older, in one pass, where the horizon rises. Only the buckets of pages that lost a stamp have changed.
+    fn raise(&mut self, time: u64) {
+        if time <= self.horizon {
+            return;
+        }
+        self.horizon = time;
+        let mut lost = 0;
+        self.history.retain(|page, hist| {
+            let was_once = matches!(hist, Hist::Once(_));
+            let is_left = forget(hist, time);
+            if !is_left || matches!(hist, Hist::Once(_)) != was_once {
+                lost |= 1 << page.bucket();
+            }
+            is_left
+        });
+        if lost != 0 {
+            self.changed |= lost;
+            self.hottest = None;
+            self.pool.refresh_all(&self.history);
+        }
     }
 
     fn entries(&self) -> impl Iterator<Item = Entry> {
@@ -121,47 +163,56 @@ impl Node {
     }
 
     fn offer(&mut self) -> Vec<u8> {
-        framed(2, self.id, &self.renewed().concat())
+        let sums = self.renewed().concat();
+        self.framed(2, &sums)
+    }
+
+    fn framed(&self, kind: u8, body: &[u8]) -> Vec<u8> {
+        let mut bytes = header(kind, self.id, self.horizon, body.len());
+        bytes.extend_from_slice(body);
+        bytes
     }
 
     /// The entries of the buckets of a mask, in frames.
     fn wanted(&self, mask: u64) -> Vec<Vec<u8>> {
         let mut lists = vec![Vec::new(); 64];
         for entry in self.entries() {
-            let bucket = (entry.page.dev as usize + entry.page.no as usize) % 64;
+            let bucket = entry.page.bucket();
             if mask >> bucket & 1 == 1 {
                 lists[bucket].push(entry);
             }
         }
-        lists.iter().flat_map(|list| list.chunks(FULL)).map(|part| encode(self.id, part)).collect()
+        lists.iter().flat_map(|list| list.chunks(FULL)).map(|part| encode(self.id, self.horizon, part)).collect()
     }
 
     fn receive(&mut self, bytes: &[u8]) -> Vec<Vec<u8>> {
-        match bytes[4] {
-            1 => {
-                for entry in decode(bytes).expect("the frame is one of entries") {
-                    self.take(entry.page, entry.hist);
-                }
-                Vec::new()
+        if bytes[4] == 1 {
+            let frame = decode(bytes).expect("the frame is one of entries");
+            self.raise(frame.horizon);
+            for entry in frame.entries {
+                self.take(entry.page, entry.hist);
             }
-            2 => {
-                let own = self.renewed();
-                let differ = |b: &usize| bytes[11 + 32 * b..43 + 32 * b] != own[*b];
-                let mask = (0..64).filter(differ).fold(0u64, |mask, b| mask | 1 << b);
-                if mask == 0 {
-                    return Vec::new();
-                }
-                let mut answers = self.wanted(mask);
-                answers.push(framed(3, self.id, &mask.to_be_bytes()));
-                answers
-            }
-            _ => self.wanted(u64::from_be_bytes(bytes[11..19].try_into().expect("a mask"))),
+            return Vec::new();
         }
+        let (horizon, body) = horizon_and_body(bytes);
+        self.raise(horizon);
+        if bytes[4] == 3 {
+            return self.wanted(u64::from_be_bytes(body.try_into().expect("a mask")));
+        }
+        let own = self.renewed();
+        let differ = |b: &usize| body[32 * b..32 * b + 32] != own[*b];
+        let mask = (0..64).filter(differ).fold(0u64, |mask, b| mask | 1 << b);
+        if mask == 0 {
+            return Vec::new();
+        }
+        let mut answers = self.wanted(mask);
+        answers.push(self.framed(3, &mask.to_be_bytes()));
+        answers
     }
 
     /// The hottest pages, of as many as there are frames.
     fn warm_list(&self) -> Vec<Page> {
-        let mut ranks: Vec<Rank> = self.history.iter().map(|(page, hist)| Rank::of(*page, *hist)).collect();
+        let mut ranks: Vec<Rank> = self.history.iter().map(|(page, hist)| Rank::of(*page, Some(*hist))).collect();
         let hottest = match ranks.len().checked_sub(self.pool.frames.len() + 1) {
             Some(next) => ranks.select_nth_unstable(next).2,
             None => &mut ranks,
@@ -172,47 +223,46 @@ impl Node {
 
     fn warm_step(&mut self) -> Option<Page> {
         let hottest = self.hottest.take().unwrap_or_else(|| self.warm_list());
-        let is_loadable = |page: &&Page| (page.no as usize) < self.pool.device.len() && !self.pool.index.contains_key(*page);
+        let is_loadable = |page: &&Page| page.no < self.pool.device.len() as u64 && !self.pool.index.contains_key(*page);
         let next = hottest.iter().find(is_loadable).copied();
         self.hottest = Some(hottest);
         let page = next?;
-        self.pool.load(Rank::of(page, *self.history.get(&page)?))?;
+        self.pool.load(Rank::of(page, self.history.get(&page).copied()))?;
         Some(page)
     }
 }
 
-fn framed(kind: u8, sender: u16, body: &[u8]) -> Vec<u8> {
-    let mut bytes = Vec::with_capacity(11 + body.len());
-    bytes.extend_from_slice(b"L2G1");
-    bytes.push(kind);
-    bytes.extend_from_slice(&sender.to_be_bytes());
-    bytes.extend_from_slice(&(body.len() as u32).to_be_bytes());
-    bytes.extend_from_slice(body);
-    bytes
+/// The horizon and the body of a frame in either format; in the older one the horizon is 0.
+fn horizon_and_body(bytes: &[u8]) -> (u64, &[u8]) {
+    match &bytes[..4] {
+        b"L2G2" => (u64::from_be_bytes(bytes[7..15].try_into().expect("eight bytes")), &bytes[19..]),
+        _ => (0, &bytes[11..]),
+    }
 }
 
-fn scattered(i: u32, pages: u32) -> Page {
-    Page { dev: 0, no: (u64::from(i) * 7919 % u64::from(pages)) as u32 }
+fn scattered(i: u64, pages: u64) -> Page {
+    Page { dev: 0, no: i.wrapping_mul(7919) % pages }
 }
 
-fn remember(node: &mut Node, pages: u32) {
+/// Two references to each page, from a time on.
+fn remember(node: &mut Node, pages: u64, from: u64) {
     for i in 0..pages {
-        for time in [u64::from(i), u64::from(i) + 7] {
+        for time in [from + i, from + i + 7] {
             node.take(scattered(i, pages), Hist::Once(Stamp { time, replica: 1 }));
         }
     }
 }
 
-fn told(id: u16, frames: usize, pages: u32) -> Node {
+fn told(id: u16, frames: usize, pages: u64) -> Node {
     let mut node = Node::new(id, frames, pages);
-    remember(&mut node, pages);
+    remember(&mut node, pages, 0);
     node
 }
 
 fn sum_of(node: &Node) -> u64 {
     node.entries().fold(0u64, |sum, entry| {
         let (Hist::Once(last) | Hist::Twice { last, .. }) = entry.hist;
-        sum.wrapping_mul(31).wrapping_add(u64::from(entry.page.no)).wrapping_add(last.time)
+        sum.wrapping_mul(31).wrapping_add(entry.page.no).wrapping_add(last.time)
     })
 }
 
@@ -229,14 +279,14 @@ fn round(first: &mut Node, second: &mut Node) -> u64 {
     (sums.len() + sent) as u64
 }
 
-fn rounds(pages: u32, buckets: u32, rounds: u32) -> (u64, u128) {
+fn rounds(pages: u64, buckets: u64, rounds: u64) -> (u64, u128) {
     let mut first = told(1, 1, pages);
     let mut second = told(2, 1, pages);
     let start = Instant::now();
     let mut sent = 0u64;
     for i in 0..rounds {
         for no in 0..buckets {
-            let time = (1 << 40) + u64::from(i);
+            let time = LATE + i;
             first.take(Page { dev: 0, no }, Hist::Once(Stamp { time, replica: 1 }));
         }
         sent += round(&mut first, &mut second);
@@ -246,23 +296,23 @@ fn rounds(pages: u32, buckets: u32, rounds: u32) -> (u64, u128) {
     (sum_of(&second).wrapping_add(sent), nanos)
 }
 
-fn warmed(pages: u32, steps: u32) -> (u64, u128) {
+fn warmed(pages: u64, steps: u64) -> (u64, u128) {
     let mut node = told(1, WARMED, pages);
     let start = Instant::now();
     let loaded = (0..steps).map_while(|_| node.warm_step());
-    let sum = loaded.fold(0u64, |sum, page| sum.wrapping_mul(31).wrapping_add(u64::from(page.no)));
+    let sum = loaded.fold(0u64, |sum, page| sum.wrapping_mul(31).wrapping_add(page.no));
     let nanos = start.elapsed().as_nanos();
     (sum, nanos)
 }
 
 // So many offers. Before each the node hears of pages in so many buckets, which is not timed.
-fn offers(pages: u32, buckets: u32, offers: u32) -> (u64, u128) {
+fn offers(pages: u64, buckets: u64, offers: u64) -> (u64, u128) {
     let mut node = told(1, 1, pages);
     node.offer();
     let (mut sum, mut nanos) = (0u64, 0);
     for i in 0..offers {
         for no in 0..buckets {
-            let time = (1 << 40) + u64::from(i);
+            let time = LATE + i;
             node.take(Page { dev: 0, no }, Hist::Once(Stamp { time, replica: 1 }));
         }
         let start = Instant::now();
@@ -273,23 +323,46 @@ fn offers(pages: u32, buckets: u32, offers: u32) -> (u64, u128) {
     (sum, nanos)
 }
 
-fn remembered(pages: u32) -> (u64, u128) {
+// So many offers, each after a raise that dropped pages of one bucket. The offers alone are timed.
+fn raised_offers(pages: u64, offers: u64) -> (u64, u128) {
+    let mut node = Node::new(1, 1, pages);
+    remember(&mut node, pages, LATE);
+    node.offer();
+    let first = pages.next_multiple_of(64);
+    let (mut sum, mut nanos) = (0u64, 0);
+    for i in 0..offers {
+        for k in 0..DROPPED {
+            node.take(Page { dev: 0, no: first + 64 * k }, Hist::Once(Stamp { time: i + 1, replica: 1 }));
+        }
+        node.offer();
+        node.raise(i + 2);
+        assert!(node.changed == 1, "the raise changes bucket 0 alone");
+        let start = Instant::now();
+        let bytes = node.offer();
+        nanos += start.elapsed().as_nanos();
+        sum = bytes.iter().fold(sum, |sum, byte| sum.wrapping_mul(31).wrapping_add(u64::from(*byte)));
+    }
+    (sum, nanos)
+}
+
+fn remembered(pages: u64) -> (u64, u128) {
     let mut node = Node::new(1, 1, 1);
     let start = Instant::now();
-    remember(&mut node, pages);
+    remember(&mut node, pages, 0);
     let nanos = start.elapsed().as_nanos();
     (sum_of(&node), nanos)
 }
 
 fn main() {
     let words: Vec<String> = std::env::args().skip(1).collect();
-    let number = |i: usize| words.get(i).map_or(0, |word| word.parse().expect("a number"));
+    let number = |i: usize| words.get(i).map_or(0u64, |word| word.parse().expect("a number"));
     let (sum, nanos) = match words.first().map(String::as_str) {
         Some("round") => rounds(number(1), number(2), number(3)),
         Some("warm") => warmed(number(1), number(2)),
         Some("offer") => offers(number(1), number(2), number(3)),
+        Some("raised") => raised_offers(number(1), number(2)),
         Some("history") => remembered(number(1)),
-        _ => panic!("round, warm, offer or history"),
+        _ => panic!("round, warm, offer, raised or history"),
     };
     println!("{sum}");
     println!("{nanos} ns");

@@ -1,12 +1,19 @@
-//! The histories of `benches history` in plain Rust, as one BTreeMap, for the same measurements.
+//! The histories of `benches history` in plain Rust, as one BTreeMap and a horizon, for the same measurements.
 //!
 //! Prints what was made and the nanoseconds. Absorbing is done a second time with a list of what was
 //! there before, as all or nothing wants it.
+//!
+//! A raise of the horizon is measured over a history in which each page has one stamp: page `scattered(i, PAGES)` that of the time
+//! PAGES + i. `benches history PAGES` has to print, after all other lines and each for a copy of its own, the sum over the history
+//! afterwards, and the nanoseconds of the raise alone, without the copy, of
+//! - `raise, none dropped`: to the time PAGES, a pass that finds nothing to drop;
+//! - `raise, half dropped`: to PAGES + PAGES / 2;
+//! - `raise, all dropped`: to 2 * PAGES.
 
 #[path = "../parts/mod.rs"]
 mod parts;
 
-use parts::hist::{Hist, Page, Stamp, join};
+use parts::hist::{Hist, Page, Stamp, forget, join, since};
 use std::collections::BTreeMap;
 use std::collections::btree_map::Entry as Slot;
 use std::hint::black_box;
@@ -21,7 +28,12 @@ struct Reference {
     stamp: Stamp,
 }
 
-type History = BTreeMap<Page, Hist>;
+#[derive(Clone, Default)]
+struct History {
+    horizon: u64,
+    pages: BTreeMap<Page, Hist>,
+}
+
 type Undo = Vec<(Page, Option<Hist>)>;
 
 fn next(drawn: u64) -> u64 {
@@ -29,7 +41,7 @@ fn next(drawn: u64) -> u64 {
 }
 
 fn scattered(i: u64, pages: u64) -> Page {
-    Page { dev: 0, no: (i.wrapping_mul(7919) % pages) as u32 }
+    Page { dev: 0, no: i.wrapping_mul(7919) % pages }
 }
 
 fn zipf_page(drawn: u64, pages: u64) -> Page {
@@ -43,8 +55,10 @@ fn zipf_page(drawn: u64, pages: u64) -> Page {
     scattered(below + (drawn >> 40) % below, pages)
 }
 
+// What is older than the horizon is dropped.
 fn take(history: &mut History, page: Page, more: Hist) {
-    match history.entry(page) {
+    let Some(more) = since(more, history.horizon) else { return };
+    match history.pages.entry(page) {
         Slot::Occupied(mut slot) => {
             let known = slot.get_mut();
             *known = join(more, *known);
@@ -66,14 +80,15 @@ fn absorb(history: &mut History, batch: &[Reference]) {
 fn absorb_noted(history: &mut History, batch: &[Reference]) {
     let mut undo: Undo = Vec::with_capacity(batch.len());
     for seen in batch {
-        match history.entry(seen.page) {
+        let Some(more) = since(Hist::Once(seen.stamp), history.horizon) else { continue };
+        match history.pages.entry(seen.page) {
             Slot::Occupied(mut slot) => {
                 let known = *slot.get();
-                slot.insert(join(Hist::Once(seen.stamp), known));
+                slot.insert(join(more, known));
                 undo.push((seen.page, Some(known)));
             }
             Slot::Vacant(slot) => {
-                slot.insert(Hist::Once(seen.stamp));
+                slot.insert(more);
                 undo.push((seen.page, None));
             }
         }
@@ -81,10 +96,20 @@ fn absorb_noted(history: &mut History, batch: &[Reference]) {
     black_box(&undo);
 }
 
+// Forgets what is older, in one pass, where the horizon rises.
+#[inline(never)]
+fn raise(history: &mut History, time: u64) {
+    if time <= history.horizon {
+        return;
+    }
+    history.horizon = time;
+    history.pages.retain(|_, hist| forget(hist, time));
+}
+
 fn sum_of(history: &History) -> u64 {
     let mut sum = 0u64;
-    for (page, hist) in history {
-        sum = sum.wrapping_mul(31).wrapping_add(u64::from(page.no));
+    for (page, hist) in &history.pages {
+        sum = sum.wrapping_mul(31).wrapping_add(page.no);
         if let Hist::Once(stamp) = hist {
             sum = sum.wrapping_add(stamp.time);
         }
@@ -104,10 +129,28 @@ fn timed<T>(work: impl FnOnce() -> T) -> (T, Duration) {
 }
 
 fn absorbed(what: &str, all: &[Reference], one: fn(&mut History, &[Reference])) -> History {
-    let mut history = History::new();
+    let mut history = History::default();
     let ((), spent) = timed(|| all.chunks(BATCH).for_each(|batch| one(&mut history, batch)));
     told(what, sum_of(&history), spent);
     history
+}
+
+// A history of all pages, raised to a time.
+fn raised(what: &str, whole: &History, time: u64) {
+    let mut history = whole.clone();
+    let ((), spent) = timed(|| raise(&mut history, time));
+    told(what, sum_of(&history), spent);
+}
+
+fn raises(each: &[Reference], pages: u64) {
+    let mut whole = History::default();
+    for seen in each {
+        let stamp = Stamp { time: pages + seen.stamp.time, ..seen.stamp };
+        take(&mut whole, seen.page, Hist::Once(stamp));
+    }
+    raised("raise, none dropped", &whole, pages);
+    raised("raise, half dropped", &whole, pages + pages / 2);
+    raised("raise, all dropped", &whole, 2 * pages);
 }
 
 fn main() {
@@ -137,10 +180,10 @@ fn main() {
     told("join 1,000 entries", sum_of(&large), spent);
     let (copied, spent) = timed(|| large.clone());
     told("copy", sum_of(&copied), spent);
-    let ((), spent) = timed(|| copied.iter().for_each(|(page, hist)| take(&mut large, *page, *hist)));
+    let ((), spent) = timed(|| copied.pages.iter().for_each(|(page, hist)| take(&mut large, *page, *hist)));
     told("join all, known", sum_of(&large), spent);
-    let mut empty = History::new();
-    let ((), spent) = timed(|| large.iter().for_each(|(page, hist)| take(&mut empty, *page, *hist)));
+    let mut empty = History::default();
+    let ((), spent) = timed(|| large.pages.iter().for_each(|(page, hist)| take(&mut empty, *page, *hist)));
     told("join all, new", sum_of(&empty), spent);
     let (sum, spent) = timed(|| sum_of(black_box(&large)));
     told("go over all", sum, spent);
@@ -149,9 +192,10 @@ fn main() {
         (0..pages)
             .filter(|_| {
                 drawn = next(drawn);
-                large.contains_key(&scattered(drawn >> 33, pages))
+                large.pages.contains_key(&scattered(drawn >> 33, pages))
             })
             .count()
     });
     told("look up", found as u64, spent);
+    raises(&each, pages);
 }

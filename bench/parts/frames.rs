@@ -24,17 +24,39 @@ pub fn put_entry(bytes: &mut Vec<u8>, entry: &Entry) {
     }
 }
 
-pub fn encode(sender: u16, entries: &[Entry]) -> Vec<u8> {
-    let len: usize = entries.iter().map(|e| if let Hist::Once(_) = e.hist { 17 } else { 27 }).sum();
-    let mut bytes = Vec::with_capacity(15 + len);
-    bytes.extend_from_slice(b"L2G1\x01");
+/// The letters with which frames begin that are written, and those of an older format that are read too.
+const WIDE: [u8; 4] = *b"L2G2";
+const NARROW: [u8; 4] = *b"L2G1";
+
+/// The longest header: letters, kind, sender, horizon and length.
+const HEADER: usize = 19;
+const MOST: usize = 1000;
+
+/// The header of a frame, and room for its body.
+pub fn header(kind: u8, sender: u16, horizon: u64, len: usize) -> Vec<u8> {
+    let mut bytes = Vec::with_capacity(HEADER + len);
+    bytes.extend_from_slice(&WIDE);
+    bytes.push(kind);
     bytes.extend_from_slice(&sender.to_be_bytes());
-    bytes.extend_from_slice(&(4 + len as u32).to_be_bytes());
+    bytes.extend_from_slice(&horizon.to_be_bytes());
+    bytes.extend_from_slice(&(len as u32).to_be_bytes());
+    bytes
+}
+
+pub fn encode(sender: u16, horizon: u64, entries: &[Entry]) -> Vec<u8> {
+    let len: usize = entries.iter().map(|e| if let Hist::Once(_) = e.hist { 21 } else { 31 }).sum();
+    let mut bytes = header(1, sender, horizon, 4 + len);
     bytes.extend_from_slice(&(entries.len() as u32).to_be_bytes());
     for entry in entries {
         put_entry(&mut bytes, entry);
     }
     bytes
+}
+
+/// A frame of entries.
+pub struct Entries {
+    pub horizon: u64,
+    pub entries: Vec<Entry>,
 }
 
 fn stamp_at(bytes: &[u8]) -> Option<(Stamp, &[u8])> {
@@ -47,10 +69,19 @@ fn stamp_at(bytes: &[u8]) -> Option<(Stamp, &[u8])> {
     Some((Stamp { time: u64::from_be_bytes(*time), replica }, rest))
 }
 
-fn entry_at(bytes: &[u8]) -> Option<(Entry, &[u8])> {
+fn page_at(wide: bool, bytes: &[u8]) -> Option<(Page, &[u8])> {
     let (dev, rest) = bytes.split_first_chunk::<2>()?;
+    let dev = u16::from_be_bytes(*dev);
+    if wide {
+        let (no, rest) = rest.split_first_chunk::<8>()?;
+        return Some((Page { dev, no: u64::from_be_bytes(*no) }, rest));
+    }
     let (no, rest) = rest.split_first_chunk::<4>()?;
-    let page = Page { dev: u16::from_be_bytes(*dev), no: u32::from_be_bytes(*no) };
+    Some((Page { dev, no: u64::from(u32::from_be_bytes(*no)) }, rest))
+}
+
+fn entry_at(wide: bool, bytes: &[u8]) -> Option<(Entry, &[u8])> {
+    let (page, rest) = page_at(wide, bytes)?;
     let (tag, rest) = rest.split_first()?;
     let (last, rest) = stamp_at(rest)?;
     match tag {
@@ -63,24 +94,15 @@ fn entry_at(bytes: &[u8]) -> Option<(Entry, &[u8])> {
     }
 }
 
-pub fn decode(bytes: &[u8]) -> Option<Vec<Entry>> {
-    let rest = bytes.strip_prefix(b"L2G1\x01")?;
-    let (sender, rest) = rest.split_first_chunk::<2>()?;
-    if !(1..=64).contains(&u16::from_be_bytes(*sender)) {
-        return None;
-    }
-    let (len, body) = rest.split_first_chunk::<4>()?;
-    if u32::from_be_bytes(*len) as usize != body.len() {
-        return None;
-    }
+fn entries_in(wide: bool, body: &[u8]) -> Option<Vec<Entry>> {
     let (count, mut rest) = body.split_first_chunk::<4>()?;
-    let count = u32::from_be_bytes(*count);
-    if count > 1000 {
+    let count = u32::from_be_bytes(*count) as usize;
+    if count > MOST {
         return None;
     }
-    let mut entries: Vec<Entry> = Vec::with_capacity(count as usize);
+    let mut entries: Vec<Entry> = Vec::with_capacity(count);
     for _ in 0..count {
-        let (entry, after) = entry_at(rest)?;
+        let (entry, after) = entry_at(wide, rest)?;
         if entries.last().is_some_and(|before| before.page >= entry.page) {
             return None;
         }
@@ -88,6 +110,36 @@ pub fn decode(bytes: &[u8]) -> Option<Vec<Entry>> {
         rest = after;
     }
     rest.is_empty().then_some(entries)
+}
+
+/// Whether a frame of entries is in the wide format, and what follows its letters and its kind.
+fn format_of(bytes: &[u8]) -> Option<(bool, &[u8])> {
+    let (letters, rest) = bytes.split_first_chunk::<4>()?;
+    let rest = rest.strip_prefix(&[1])?;
+    match *letters {
+        WIDE => Some((true, rest)),
+        NARROW => Some((false, rest)),
+        _ => None,
+    }
+}
+
+pub fn decode(bytes: &[u8]) -> Option<Entries> {
+    let (wide, rest) = format_of(bytes)?;
+    let (sender, mut rest) = rest.split_first_chunk::<2>()?;
+    if !(1..=64).contains(&u16::from_be_bytes(*sender)) {
+        return None;
+    }
+    let mut horizon = 0;
+    if wide {
+        let (time, after) = rest.split_first_chunk::<8>()?;
+        horizon = u64::from_be_bytes(*time);
+        rest = after;
+    }
+    let (len, body) = rest.split_first_chunk::<4>()?;
+    if u32::from_be_bytes(*len) as usize != body.len() {
+        return None;
+    }
+    Some(Entries { horizon, entries: entries_in(wide, body)? })
 }
 
 /// Frames from a stream that comes in pieces. It holds the bytes of the frame that has begun, at most those of the longest, and decodes
@@ -99,12 +151,10 @@ pub struct Decoder {
     failed: bool,
 }
 
-const HEADER: usize = 11;
-
 impl Decoder {
     /// How many bytes of the piece were taken, and the frame that is whole now. `None` as soon as the byte is there that shows a fault,
     /// and from then on.
-    pub fn feed(&mut self, piece: &[u8]) -> Option<(usize, Option<Vec<Entry>>)> {
+    pub fn feed(&mut self, piece: &[u8]) -> Option<(usize, Option<Entries>)> {
         if self.failed {
             return None;
         }
@@ -113,7 +163,7 @@ impl Decoder {
         fed
     }
 
-    fn take(&mut self, piece: &[u8]) -> Option<(usize, Option<Vec<Entry>>)> {
+    fn take(&mut self, piece: &[u8]) -> Option<(usize, Option<Entries>)> {
         if self.size.is_none() {
             self.size = self.size_with(piece)?;
         }
@@ -148,20 +198,25 @@ impl Decoder {
 
 // The size that a header says, once it is whole. `None` for a fault.
 fn size_of(header: &[u8]) -> Option<Option<usize>> {
-    let magic = header.len().min(5);
-    if header[..magic] != b"L2G1\x01"[..magic] {
+    let letters = &header[..header.len().min(4)];
+    if !WIDE.starts_with(letters) && !NARROW.starts_with(letters) {
         return None;
     }
-    if let Some(sender) = header.get(5..7) {
-        if !(1..=64).contains(&u16::from_be_bytes([sender[0], sender[1]])) {
+    if header.len() < 5 {
+        return Some(None);
+    }
+    let (wide, rest) = format_of(header)?;
+    if let Some(sender) = rest.first_chunk::<2>() {
+        if !(1..=64).contains(&u16::from_be_bytes(*sender)) {
             return None;
         }
     }
-    let Some(len) = header.get(7..HEADER) else {
+    let (whole, longest) = if wide { (HEADER, 31) } else { (HEADER - 8, 27) };
+    let Some(len) = header.get(whole - 4..whole) else {
         return Some(None);
     };
     let len = u32::from_be_bytes(len.try_into().expect("four bytes")) as usize;
-    (4..=4 + 27 * 1000).contains(&len).then_some(Some(HEADER + len))
+    (4..=4 + longest * MOST).contains(&len).then_some(Some(whole + len))
 }
 
 /// Takes the sums of the buckets of a mask anew.
@@ -170,9 +225,9 @@ pub fn renew(sums: &mut [[u8; 32]], mask: u64, history: impl Iterator<Item = Ent
         return;
     }
     let mut hashers: Vec<Sha256> = (0..64).map(|_| Sha256::new()).collect();
-    let mut bytes = Vec::with_capacity(27);
+    let mut bytes = Vec::with_capacity(31);
     for entry in history {
-        let bucket = (entry.page.dev as usize + entry.page.no as usize) % 64;
+        let bucket = entry.page.bucket();
         if mask >> bucket & 1 == 1 {
             bytes.clear();
             put_entry(&mut bytes, &entry);

@@ -9,15 +9,18 @@ use std::collections::{BTreeMap, BTreeSet, HashMap};
 use std::hash::{BuildHasher, BuildHasherDefault, Hasher, RandomState};
 use std::hint::black_box;
 use std::mem;
+use std::ops::Range;
 use std::time::{Duration, Instant};
 
 const FRAMES: u32 = 65_536;
+// As many pages as there are frames.
+const PAGES: u64 = FRAMES as u64;
 const PAGE_SIZE: usize = 64;
 
 #[derive(Clone, Copy, PartialEq, Eq, PartialOrd, Ord, Hash)]
 struct Page {
     dev: u16,
-    no: u32,
+    no: u64,
 }
 
 /// A time and a replica.
@@ -165,10 +168,6 @@ impl Hasher for Mixed {
         self.write_u64(u64::from(number));
     }
 
-    fn write_u32(&mut self, number: u32) {
-        self.write_u64(u64::from(number));
-    }
-
     fn write_u64(&mut self, number: u64) {
         self.0 = (self.0.rotate_left(5) ^ number).wrapping_mul(0x9E37_79B9_7F4A_7C15);
     }
@@ -195,18 +194,18 @@ struct Device {
 }
 
 impl Device {
-    fn at(no: u32) -> std::ops::Range<usize> {
-        let from = no as usize * PAGE_SIZE;
-        from..from + PAGE_SIZE
+    fn at(no: u64) -> Option<Range<usize>> {
+        let from = usize::try_from(no).ok()?.checked_mul(PAGE_SIZE)?;
+        Some(from..from.checked_add(PAGE_SIZE)?)
     }
 
-    fn read(&self, no: u32, into: &mut [u8]) -> Option<()> {
-        into.copy_from_slice(self.bytes.get(Device::at(no))?);
+    fn read(&self, no: u64, into: &mut [u8]) -> Option<()> {
+        into.copy_from_slice(self.bytes.get(Device::at(no)?)?);
         Some(())
     }
 
-    fn write(&mut self, no: u32, bytes: &[u8]) -> Option<()> {
-        self.bytes.get_mut(Device::at(no))?.copy_from_slice(bytes);
+    fn write(&mut self, no: u64, bytes: &[u8]) -> Option<()> {
+        self.bytes.get_mut(Device::at(no)?)?.copy_from_slice(bytes);
         Some(())
     }
 }
@@ -222,7 +221,7 @@ struct Pool<H, C> {
 
 impl<H: BuildHasher + Default, C: Contest> Pool<H, C> {
     /// A pool over a device of so many pages, each of which is filled with the lowest byte of its number, or with zeros.
-    fn opened(pages: u32, numbered: bool) -> Pool<H, C> {
+    fn opened(pages: u64, numbered: bool) -> Pool<H, C> {
         let frame = || Frame {
             page: None,
             rank: None,
@@ -231,7 +230,7 @@ impl<H: BuildHasher + Default, C: Contest> Pool<H, C> {
             dirty: false,
             bytes: vec![0; PAGE_SIZE],
         };
-        let byte = |no: u32| if numbered { no as u8 } else { 0 };
+        let byte = |no: u64| if numbered { no as u8 } else { 0 };
         Pool {
             frames: (0..FRAMES).map(|_| frame()).collect(),
             free: (0..FRAMES).rev().collect(),
@@ -358,9 +357,9 @@ impl<H: BuildHasher + Default, C: Contest> Pool<H, C> {
 
 /// Makes so many visits to a pool with every page in a frame, and gives the sum of what was read, and how long it took.
 fn visit_often<H: BuildHasher + Default, C: Contest>(visits: u32) -> Option<(u64, Duration)> {
-    let mut pool = Pool::<H, C>::opened(FRAMES, false);
+    let mut pool = Pool::<H, C>::opened(PAGES, false);
     let history = History::new();
-    for no in 0..FRAMES {
+    for no in 0..PAGES {
         pool.load(Page { dev: 0, no }, 0, &history)?;
     }
     let pool = black_box(&mut pool);
@@ -371,7 +370,7 @@ fn visit_often<H: BuildHasher + Default, C: Contest>(visits: u32) -> Option<(u64
         drawn = drawn
             .wrapping_mul(6_364_136_223_846_793_005)
             .wrapping_add(1_442_695_040_888_963_407);
-        let no = (drawn >> 48) as u32;
+        let no = drawn >> 48;
         let byte = pool.visit(Page { dev: 0, no }, &history, (drawn >> 40) as u8)?;
         sum = sum.wrapping_mul(31).wrapping_add(u64::from(byte));
     }
@@ -381,21 +380,21 @@ fn visit_often<H: BuildHasher + Default, C: Contest>(visits: u32) -> Option<(u64
 /// Pins so many pages that are in no frame. Of each page two references are known, so that ranks rise with the pages; those that
 /// follow one another stand far apart in the frames.
 fn miss_often<H: BuildHasher + Default, C: Contest>(misses: u32) -> Option<(u64, Duration)> {
-    let pages = FRAMES + misses;
-    let seen = |no: u32| Seen::Twice((u64::from(no), 1), (u64::from(no) + (1 << 32), 1));
+    let pages = PAGES + u64::from(misses);
+    let seen = |no: u64| Seen::Twice((no, 1), (no + (1 << 32), 1));
     let mut history = History::new();
     for no in 0..pages {
         history.insert(Page { dev: 0, no }, seen(no));
     }
     let mut pool = Pool::<H, C>::opened(pages, true);
-    for frame in 0..FRAMES {
-        let no = frame * 40_503 % FRAMES;
+    for frame in 0..PAGES {
+        let no = frame * 40_503 % PAGES;
         pool.load(Page { dev: 0, no }, 0, &history)?;
     }
     let pool = black_box(&mut pool);
     let start = Instant::now();
     let mut sum = 0u64;
-    for no in FRAMES..pages {
+    for no in PAGES..pages {
         let byte = pool.look_at(Page { dev: 0, no }, &history)?;
         sum = sum.wrapping_mul(31).wrapping_add(u64::from(byte));
     }
@@ -404,9 +403,9 @@ fn miss_often<H: BuildHasher + Default, C: Contest>(misses: u32) -> Option<(u64,
 
 /// How long it takes to empty a pool of which each frame holds a page.
 fn emptied<H: BuildHasher + Default, C: Contest>() -> Option<(u64, Duration)> {
-    let mut pool = Pool::<H, C>::opened(FRAMES, false);
+    let mut pool = Pool::<H, C>::opened(PAGES, false);
     let history = History::new();
-    for no in 0..FRAMES {
+    for no in 0..PAGES {
         pool.load(Page { dev: 0, no }, 0, &history)?;
     }
     let pool = black_box(&mut pool);

@@ -8,7 +8,7 @@
 #[path = "../parts/mod.rs"]
 mod parts;
 
-use parts::hist::{Hist, Page, Stamp, join};
+use parts::hist::{Hist, Page, Stamp, join, since};
 use std::collections::btree_map::Entry as Slot;
 use std::collections::{BTreeMap, HashMap};
 use std::hint::black_box;
@@ -35,7 +35,7 @@ fn next(drawn: u64) -> u64 {
 }
 
 fn reference(load: Load, worker: u64, i: u64, drawn: u64) -> Reference {
-    let no = ((drawn >> 33) % load.pages) as u32;
+    let no = (drawn >> 33) % load.pages;
     Reference { page: Page { dev: 0, no }, stamp: Stamp { time: i * 4 + worker, replica: 1 } }
 }
 
@@ -46,24 +46,22 @@ trait Replica: Send {
 
 const BUCKETS: usize = 64;
 
-fn bucket_of(page: Page) -> usize {
-    (page.dev as usize + page.no as usize) % BUCKETS
-}
-
+/// A map, and the time before which references are dropped. It is 0, which the compiler is not to know: each is compared with it.
 struct Map {
+    horizon: u64,
     history: [BTreeMap<Page, Hist>; 1],
 }
 
 impl Map {
     fn new() -> Map {
-        Map { history: [BTreeMap::new()] }
+        Map { horizon: black_box(0), history: [BTreeMap::new()] }
     }
 }
 
 impl Replica for Map {
     fn absorb(&mut self, batch: &[Reference]) {
         for seen in batch {
-            let more = Hist::Once(seen.stamp);
+            let Some(more) = since(Hist::Once(seen.stamp), self.horizon) else { continue };
             match self.history[0].entry(seen.page) {
                 Slot::Occupied(mut slot) => {
                     let known = slot.get_mut();
@@ -83,6 +81,7 @@ impl Replica for Map {
 
 /// A node with one map, or with one for each bucket.
 struct Node<const MAPS: usize> {
+    horizon: u64,
     histories: [BTreeMap<Page, Hist>; MAPS],
     changed: u64,
     frames: HashMap<Page, usize>,
@@ -91,7 +90,8 @@ struct Node<const MAPS: usize> {
 
 impl<const MAPS: usize> Node<MAPS> {
     fn new() -> Self {
-        Node { histories: [const { BTreeMap::new() }; MAPS], changed: 0, frames: HashMap::new(), ranks: Vec::new() }
+        let histories = [const { BTreeMap::new() }; MAPS];
+        Node { horizon: black_box(0), histories, changed: 0, frames: HashMap::new(), ranks: Vec::new() }
     }
 }
 
@@ -99,8 +99,8 @@ impl<const MAPS: usize> Replica for Node<MAPS> {
     fn absorb(&mut self, batch: &[Reference]) {
         let mut undo: Vec<(Page, Option<Hist>)> = Vec::with_capacity(batch.len());
         for seen in batch {
-            let more = Hist::Once(seen.stamp);
-            match self.histories[bucket_of(seen.page) % MAPS].entry(seen.page) {
+            let Some(more) = since(Hist::Once(seen.stamp), self.horizon) else { continue };
+            match self.histories[seen.page.bucket() % MAPS].entry(seen.page) {
                 Slot::Occupied(mut slot) => {
                     let known = *slot.get();
                     slot.insert(join(more, known));
@@ -114,9 +114,9 @@ impl<const MAPS: usize> Replica for Node<MAPS> {
         }
         black_box(&undo);
         for seen in batch {
-            self.changed |= 1 << bucket_of(seen.page);
+            self.changed |= 1 << seen.page.bucket();
             if let Some(at) = self.frames.get(&seen.page) {
-                self.ranks[*at] = self.histories[bucket_of(seen.page) % MAPS][&seen.page];
+                self.ranks[*at] = self.histories[seen.page.bucket() % MAPS][&seen.page];
             }
         }
     }
@@ -156,7 +156,7 @@ fn heat(page: Page, hist: Hist) -> (Option<Stamp>, Stamp, Page) {
 fn sum_of(maps: &[BTreeMap<Page, Hist>]) -> u64 {
     let mut ranks: Vec<_> = maps.iter().flatten().map(|(page, hist)| heat(*page, *hist)).collect();
     ranks.sort_unstable();
-    ranks.iter().rev().take(HOTTEST).fold(0u64, |sum, rank| sum.wrapping_mul(31).wrapping_add(u64::from(rank.2.no)))
+    ranks.iter().rev().take(HOTTEST).fold(0u64, |sum, rank| sum.wrapping_mul(31).wrapping_add(rank.2.no))
 }
 
 fn run(replica: impl Replica, workers: u64, load: Load) {

@@ -29,7 +29,14 @@ struct Stamp {
 #[derive(Clone, Copy, PartialEq, Eq, PartialOrd, Ord)]
 struct Page {
     dev: u16,
-    no: u32,
+    no: u64,
+}
+
+impl Page {
+    // The sum may wrap: 64 divides 2^64.
+    fn bucket(self) -> usize {
+        (u64::from(self.dev).wrapping_add(self.no) % BUCKETS as u64) as usize
+    }
 }
 
 #[derive(Clone, Copy)]
@@ -88,7 +95,7 @@ fn number(word: &[u8], most: u64) -> Option<u64> {
 
 fn page(word: &[u8]) -> Option<Page> {
     let colon = word.iter().position(|byte| *byte == b':')?;
-    Some(Page { dev: number(&word[..colon], 65535)? as u16, no: number(&word[colon + 1..], 4294967295)? as u32 })
+    Some(Page { dev: number(&word[..colon], 65535)? as u16, no: number(&word[colon + 1..], u64::MAX)? })
 }
 
 // What a line asks of which worker of which replica, or nothing; `None` where it is bad.
@@ -147,8 +154,7 @@ fn put_stamp(out: &mut Vec<u8>, stamp: Stamp) {
 
 // The entries of a bucket as bytes, in pieces of at most 1000.
 fn frames(history: &History, bucket: usize) -> Vec<Vec<u8>> {
-    let of_bucket: Vec<(&Page, &Hist)> =
-        history.iter().filter(|(page, _)| (page.dev as usize + page.no as usize) % BUCKETS == bucket).collect();
+    let of_bucket: Vec<(&Page, &Hist)> = history.iter().filter(|(page, _)| page.bucket() == bucket).collect();
     let mut out = Vec::new();
     for piece in of_bucket.chunks(MOST_ENTRIES) {
         let mut bytes = (piece.len() as u32).to_be_bytes().to_vec();
@@ -179,14 +185,14 @@ fn join(history: &mut History, bytes: &[u8]) {
     for _ in 0..count {
         let page = Page {
             dev: u16::from_be_bytes(rest[..2].try_into().unwrap()),
-            no: u32::from_be_bytes(rest[2..6].try_into().unwrap()),
+            no: u64::from_be_bytes(rest[2..10].try_into().unwrap()),
         };
-        take(history, page, stamp_at(&rest[7..17]));
-        if rest[6] == 2 {
-            take(history, page, stamp_at(&rest[17..27]));
-            rest = &rest[27..];
+        take(history, page, stamp_at(&rest[11..21]));
+        if rest[10] == 2 {
+            take(history, page, stamp_at(&rest[21..31]));
+            rest = &rest[31..];
         } else {
-            rest = &rest[17..];
+            rest = &rest[21..];
         }
     }
 }

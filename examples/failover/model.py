@@ -81,7 +81,7 @@ def round_of(known: Known) -> list[Known]:
 
 def size(piece: Known) -> int:
     """The bytes of a frame with these entries: a header and a count, page and tag of each, ten for each time."""
-    return 15 + sum(7 + 10 * sum(time != NEVER for time in times) for times in piece.values())
+    return 23 + sum(11 + 10 * sum(time != NEVER for time in times) for times in piece.values())
 
 
 def heard(rounds: list[list[Known]], one_of: int) -> tuple[Known, int]:

@@ -6,12 +6,14 @@ usage: takeover.py setup                prints the setup of the two replicas
        takeover.py answer TRACE         prints what `warmplay play` must print for it
 
 Each line of the trace (`r PAGE` or `w PAGE`) is one access, and the number of its line its time. Up to TAKEOVER replica 1, the
-primary, makes all accesses: a reference, a pin, a read or a write of eight bytes, an unpin. After every ROUND accesses replica 2,
-the standby, hears of them by sums and wishes. At the takeover it lists the hottest pages and loads them; then it makes the accesses
-itself, while the primary restarts and hears the standby in its turn.
+primary, makes all accesses: a reference, a pin, a read or a write of eight bytes, an unpin. After every ROUND accesses it forgets
+all references before the last KEPT, and replica 2, the standby, hears of the others, and of that horizon, by sums and requests. At
+the takeover it lists the hottest pages and loads them; then it makes the accesses itself, while the primary restarts and hears the
+standby in its turn.
 
-The answers come from a model of the two replicas that shares no code with warmplay: page histories in a dictionary, the victim
-found by comparing all frames, and sums compared by comparing the entries themselves.
+The answers come from a model of the two replicas that shares no code with warmplay: page histories in a dictionary, a horizon
+before which each of them holds no stamp, the victim found by comparing all frames, and sums compared by comparing the entries
+themselves.
 """
 
 import sys
@@ -24,6 +26,7 @@ PAGES = 1310
 BUFFER = 64
 FLUSHED_AFTER = 25
 ROUND = 4000
+KEPT = 2000
 TAKEOVER = 20_000
 END = 24_000
 BUCKETS = 64
@@ -61,13 +64,24 @@ class Replica:
     """A replica: what it heard, what waits, and its pool over a device of its own. Nothing stays fixed between accesses."""
 
     number: int
+    horizon: int = 0
     history: History = field(default_factory=dict)
     waiting: list[tuple[int, Stamp]] = field(default_factory=list)
     frames: list[Frame] = field(default_factory=lambda: [Frame() for _ in range(FRAMES)])
     device: dict[int, bytes] = field(default_factory=dict)
 
     def hear(self, page: int, stamps: tuple[Stamp, ...]) -> None:
-        self.history[page] = latest_two({*self.history.get(page, ()), *stamps})
+        """Stamps of a page come to the replica, which drops those before its horizon."""
+        known = {*self.history.get(page, ()), *(stamp for stamp in stamps if stamp[0] >= self.horizon)}
+        if known:
+            self.history[page] = latest_two(known)
+
+    def forget(self, time: int) -> None:
+        """The horizon becomes this time, unless it is later: no stamp before it is known any more."""
+        self.horizon = max(self.horizon, time)
+        known, self.history = self.history, {}
+        for page, stamps in known.items():
+            self.hear(page, stamps)
 
     def flush(self) -> None:
         for page, stamp in self.waiting:
@@ -114,44 +128,48 @@ class Replica:
             if frame.page is not None:
                 self.device[frame.page] = frame.data
                 frame.page = None
+        self.horizon = 0
         self.history = {}
         self.waiting = []
 
 
 class World:
-    """Two replicas, and every frame that was sent: entries, sums or a wish."""
+    """Two replicas, and every frame that was sent: what it is, the sender's horizon, and entries, sums or the buckets that a request
+    names."""
 
     def __init__(self) -> None:
         self.replicas = {1: Replica(1), 2: Replica(2)}
-        self.sent: list[tuple[str, list]] = []
+        self.sent: list[tuple[str, int, list]] = []
 
-    def keep(self, kind: str, content: list) -> int:
-        self.sent.append((kind, content))
+    def keep(self, kind: str, replica: Replica, content: list) -> int:
+        self.sent.append((kind, replica.horizon, content))
         return len(self.sent)
 
     def answer_buckets(self, replica: Replica, wanted: list[int]) -> None:
         for bucket in wanted:
             entries = replica.bucket(bucket)
             for start in range(0, len(entries), ENTRIES_OF_A_FRAME):
-                self.keep("entries", entries[start : start + ENTRIES_OF_A_FRAME])
+                self.keep("entries", replica, entries[start : start + ENTRIES_OF_A_FRAME])
 
     def offer(self, i: int) -> Step:
-        return f"offer {i}", [f"frame {self.keep('sums', self.replicas[i].sums())}"]
+        replica = self.replicas[i]
+        return f"offer {i}", [f"frame {self.keep('sums', replica, replica.sums())}"]
 
     def deliver(self, j: int, number: int) -> Step:
         replica = self.replicas[j]
         before = len(self.sent)
-        kind, content = self.sent[number - 1]
+        kind, horizon, content = self.sent[number - 1]
+        replica.forget(horizon)
         if kind == "entries":
             for page, stamps in content:
                 replica.hear(page, stamps)
-        elif kind == "wish":
+        elif kind == "request":
             self.answer_buckets(replica, content)
         else:
             differing = [b for b, (mine, theirs) in enumerate(zip(replica.sums(), content)) if mine != theirs]
             if differing:
                 self.answer_buckets(replica, differing)
-                self.keep("wish", differing)
+                self.keep("request", replica, differing)
         count = len(self.sent) - before
         return f"deliver {j} {number}", [f"took {count} from {before + 1}" if count else "took 0"]
 
@@ -186,6 +204,10 @@ class World:
         else:
             yield f"get {i} {name} 0 8", [f"bytes {frame.data[:8].hex()}"]
         yield f"unpin {i} {name}", ["ok"]
+
+    def horizon(self, i: int, time: int) -> Step:
+        self.replicas[i].forget(time)
+        return f"horizon {i} {time}", [f"horizon {self.replicas[i].horizon}"]
 
     def flush(self, i: int) -> Step:
         self.replicas[i].flush()
@@ -234,6 +256,7 @@ def steps(path: str) -> Iterator[Step]:
             yield from world.access(1, time, kind, page)
             if time % ROUND == 0:
                 yield world.flush(1)
+                yield world.horizon(1, max(0, time - KEPT))
                 yield from world.gossip_round(1, 2)
         if time == TAKEOVER:
             yield world.victim(1)
@@ -245,12 +268,15 @@ def steps(path: str) -> Iterator[Step]:
         if time == END:
             break
     yield world.flush(2)
+    yield world.horizon(2, END - KEPT)
     yield world.victim(2)
     # the one that was the primary was told nothing since its restart
     yield world.show(1)
     yield from world.gossip_round(2, 1)
     yield world.show(1)
     yield world.show(2)
+    # a horizon never falls, and came with the frames
+    yield world.horizon(1, 0)
 
 
 def main() -> None:

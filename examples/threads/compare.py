@@ -35,11 +35,13 @@ class Setup:
 def schedule(draw: random.Random, setup: Setup) -> tuple[list[str], list[Reference]]:
     lines, references = [], []
     pages = draw.choice([1, 4, 40, 400])
+    # the least pages, those round the greatest number of 32 bits, or the greatest ones
+    first = draw.choice([0, 0, 2**32 - 2, 2**64 - pages])
     for _ in range(draw.choice([0, 1, 10, 100])):
         kind = draw.random()
         replica, worker = 1 + draw.randrange(setup.replicas), 1 + draw.randrange(setup.workers)
         if kind < 0.85:
-            device, page, time = draw.randrange(3), draw.randrange(pages), draw.randrange(60)
+            device, page, time = draw.randrange(3), first + draw.randrange(pages), draw.randrange(60)
             references.append((replica, worker, device, page, time))
             lines.append(f"ref {replica} {worker} {device}:{page} {time}")
         elif kind < 0.95:
@@ -104,7 +106,7 @@ class Program:
 def bad_line(draw: random.Random, setup: Setup) -> str:
     return draw.choice([
         "send 1 0", "offer 1", "deliver 1 1", "pin 1 0:1", "unpin 1 0.1", "put 1 0.1 0 AA", "get 1 0.1 0 1", "victim 1", "warm 1 2",
-        "warmstep 1", "restart 1", "show 1", "ref 1 1 0:1", "ref 0 1 0:1 1", "flush 1 0", "nothing of the kind", "ref 1 1 0:1 1 1",
+        "warmstep 1", "restart 1", "show 1", "horizon 1 0", "horizon 1 5", f"ref 1 1 0:{2**64} 1", "ref 1 1 0:1", "ref 0 1 0:1 1", "flush 1 0", "nothing of the kind", "ref 1 1 0:1 1 1",
         f"ref {setup.replicas + 1} 1 0:1 1", f"ref 1 {setup.workers + 1} 0:1 1", f"flush {setup.replicas + 1} 1",
         f"flush 1 {setup.workers + 1}", "#" + "x" * 262144, "flush 1 1" + " " * 262144,
     ])
