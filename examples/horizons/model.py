@@ -7,7 +7,7 @@ and `get` are left out, and a device is how many pages it has.
 
 from bisect import bisect_right
 from collections.abc import Callable
-from dataclasses import dataclass, field
+from dataclasses import dataclass
 
 BUCKETS = 64
 ENTRIES_OF_A_FRAME = 1000
@@ -46,10 +46,10 @@ class References:
     """A set of references: all that were given, and the time before which they are forgotten."""
 
     horizon: int = 0
-    given: list[Reference] = field(default_factory=list)
+    given: frozenset[Reference] = frozenset()
 
     def united(self, other: "References") -> "References":
-        return References(max(self.horizon, other.horizon), self.given + other.given)
+        return References(max(self.horizon, other.horizon), self.given | other.given)
 
     def kept(self) -> set[Reference]:
         return {(page, stamp) for page, stamp in self.given if stamp[0] >= self.horizon}
@@ -70,7 +70,7 @@ class References:
     def carried(self, bucket: int, after: Page | None) -> "References":
         """Those on the first pages of a bucket that come after this one, as many as a frame has."""
         pages = [page for page, _ in self.bucket(bucket) if after is None or page > after][:ENTRIES_OF_A_FRAME]
-        return References(self.horizon, [(page, stamp) for page, stamp in self.given if page in pages])
+        return References(self.horizon, frozenset((page, stamp) for page, stamp in self.given if page in pages))
 
     def leaving(self) -> Callable[[Page], tuple]:
         """Of two pages the lesser leaves first: the one of greater backward 2-distance, then of older latest stamp, then the lesser."""
@@ -123,7 +123,7 @@ class Replica:
         self.frames = [Frame() for _ in range(frames)]
 
     def flush(self, worker: int) -> None:
-        self.reach = self.reach.united(References(0, self.pending[worker]))
+        self.reach = self.reach.united(References(0, frozenset(self.pending[worker])))
         self.pending[worker] = []
 
     def victim(self) -> Page | None:
@@ -211,7 +211,7 @@ class World:
 
     def horizon(self, i: int, time: int) -> list[str]:
         replica = self.replica(i)
-        replica.reach = replica.reach.united(References(time, []))
+        replica.reach = replica.reach.united(References(time))
         return [f"horizon {replica.reach.horizon}"]
 
     def send(self, i: int, bucket: int, after: Page | None = None) -> list[str]:
@@ -228,7 +228,7 @@ class World:
         if not 1 <= k <= len(self.sent):
             raise Refused(16)
         frame = self.sent[k - 1]
-        brought = frame if isinstance(frame, References) else References(frame.horizon, [])
+        brought = frame if isinstance(frame, References) else References(frame.horizon)
         replica.reach = replica.reach.united(brought)
         answers = replica.answers(frame)
         self.sent += answers
