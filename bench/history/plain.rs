@@ -9,6 +9,8 @@
 //! - `raise, none dropped`: to the time PAGES, a pass that finds nothing to drop;
 //! - `raise, half dropped`: to PAGES + PAGES / 2;
 //! - `raise, all dropped`: to 2 * PAGES.
+//!
+//! Here a raise is done a second time over 64 maps, one for each bucket, as the proved history has them.
 
 #[path = "../parts/mod.rs"]
 mod parts;
@@ -142,15 +144,32 @@ fn raised(what: &str, whole: &History, time: u64) {
     told(what, sum_of(&history), spent);
 }
 
+// The same over a map for each bucket.
+fn raised_buckets(what: &str, whole: &History, time: u64) {
+    let mut buckets = vec![BTreeMap::new(); 64];
+    for (page, hist) in &whole.pages {
+        buckets[page.bucket()].insert(*page, *hist);
+    }
+    let retain = |pages: &mut BTreeMap<Page, Hist>| pages.retain(|_, hist| forget(hist, time));
+    let ((), spent) = timed(|| buckets.iter_mut().for_each(retain));
+    let joined = History { horizon: time, pages: buckets.into_iter().flatten().collect() };
+    told(&format!("{what}, of 64 maps"), sum_of(&joined), spent);
+}
+
 fn raises(each: &[Reference], pages: u64) {
     let mut whole = History::default();
     for seen in each {
         let stamp = Stamp { time: pages + seen.stamp.time, ..seen.stamp };
         take(&mut whole, seen.page, Hist::Once(stamp));
     }
-    raised("raise, none dropped", &whole, pages);
-    raised("raise, half dropped", &whole, pages + pages / 2);
-    raised("raise, all dropped", &whole, 2 * pages);
+    for (what, time) in [
+        ("raise, none dropped", pages),
+        ("raise, half dropped", pages + pages / 2),
+        ("raise, all dropped", 2 * pages),
+    ] {
+        raised(what, &whole, time);
+        raised_buckets(what, &whole, time);
+    }
 }
 
 fn main() {
