@@ -45,16 +45,15 @@ const GIVEN: [(u16, u64, u64, u16); 3] = [(0, 1, 10, 1), (0, 1, 20, 1), (0, 2, 5
 
 #[test]
 fn a_raise_forgets_what_is_older(rt: HostRuntime) {
-    let latest = once(&rt, 20, 1);
     let mut here = history_since(&rt, rt.alloc(), 15, &GIVEN);
     assert!(rt; here.horizon() == 15);
     assert!(rt; here.len() == 1);
-    assert!(rt; is_at(&here, 0, entry(FIRST, latest)));
+    assert!(rt; is_at(&here, 0, entry(FIRST, once(&rt, 20, 1))));
     assert!(rt; here.get(page(0, 2)) == None);
     see(&rt, rt.alloc(), &mut here, &[(0, 1, 12, 1), (0, 2, 14, 1)]);
     assert!(rt; here.horizon() == 15);
     assert!(rt; here.len() == 1);
-    assert!(rt; is_known(&here, FIRST, latest));
+    assert!(rt; is_known(&here, FIRST, once(&rt, 20, 1)));
 }
 
 #[test]
