@@ -20,7 +20,7 @@ use Rattle.warm_history.specs.declared.hist.Entry.{Entry}
 use Rattle.warm_history.specs.Carried.{bucket_entries}
 use Rattle.warm_history.specs.KeptEntries.{kept_hist}
 use Rattle.warm_history.specs.ReferenceSets.{ReferenceSet, references, since, these, ◌∪◌}
-use Rattle.warm_history.specs.Losses.{bucket_since}
+use Rattle.warm_history.specs.Losses.{bucket_since, raised}
 use Rattle.warm_history.specs.ListHistories as list
 use Rattle.warm_history.specs.ListHistories.{PagesRise}
 use Rattle.warm_history.specs.Histories.{HistoryView, IsHistory, entries_of, first_two, history, holding, holding_since, entry_refs, refs}
@@ -31,7 +31,7 @@ use Rattle.warm_history.proofs.ListHistoryLemmas.{IsHistory-history, get, get-hi
 use Rattle.warm_frames.specs.Entries.{entries_bytes}
 use Rattle.warm_frames.specs.Sums.{sum_at}
 use Rattle.sha2.specs.Sha256.{sha256}
-use Rattle.warm_digest.specs.BucketSums.{bucket_sum, sums_of}
+use Rattle.warm_digest.specs.BucketSums.{bucket_sum, sums_of, sums_since}
 use Rattle.warm_digest.specs.KeptSums.{HasSumsOf, SameSumsOutside, IsKept, Marks, MarksLosing}
 use Rattle.warm_digest.proofs.ExchangeLemmas.{get-bucket}
 
@@ -175,8 +175,8 @@ others_right changed lost h old new fits kept has same bucket low clear =
 
 -- sums of a history, with those that it would have at a horizon of the buckets that lose something there
 all_since : (changed lost horizon : ℕ) (h : HistoryView) (own table : List (List ℕ)) → length table ≡ BUCKETS → IsKept (bit_and changed lost) (entries_of h) own → MarksLosing horizon h lost
-    → HasSumsOf lost (entries_of (history (since horizon (refs h)))) table → SameSumsOutside lost own table → table ≡ sums_of (entries_of (history (since horizon (refs h))))
-all_since changed lost horizon h own table count kept loses has same = all_done table (entries_of (history (since horizon (refs h)))) count (λ bucket low. elim (cases_eq (bit_at lost bucket) 1) [
+    → HasSumsOf lost (entries_of (raised horizon h)) table → SameSumsOutside lost own table → table ≡ sums_since horizon h
+all_since changed lost horizon h own table count kept loses has same = all_done table (entries_of (raised horizon h)) count (λ bucket low. elim (cases_eq (bit_at lost bucket) 1) [
   | inl set ↦ has bucket low set
   | inr clear ↦ (let zero_is : bit_at lost bucket ≡ 0 = omega (arith, bit_at-lt lost bucket, clear) in
       let both : bit_at (bit_and changed lost) bucket ≡ 0 = bit_at_and changed lost bucket ∙ omega (arith, zero_is) in
@@ -185,7 +185,7 @@ all_since changed lost horizon h own table count kept loses has same = all_done 
 
 -- the same of a table that is there where memory was
 pub right_since : {E : Type 0} (r : Result (List (List ℕ)) E) (changed lost horizon : ℕ) (h : HistoryView) (own : List (List ℕ)) → IsKept (bit_and changed lost) (entries_of h) own → MarksLosing horizon h lost
-    → IfOk r (HasSumsOf lost (entries_of (history (since horizon (refs h))))) → IfOk r (SameSumsOutside lost own) → IfOk r (λ table. length table ≡ BUCKETS) → IfOk r (λ table. table ≡ sums_of (entries_of (history (since horizon (refs h)))))
+    → IfOk r (HasSumsOf lost (entries_of (raised horizon h))) → IfOk r (SameSumsOutside lost own) → IfOk r (λ table. length table ≡ BUCKETS) → IfOk r (λ table. table ≡ sums_since horizon h)
 right_since (Ok table) changed lost horizon h own kept loses has same count = all_since changed lost horizon h own table count kept loses has same
 right_since (Err why) changed lost horizon h own kept loses has same count = tt
 

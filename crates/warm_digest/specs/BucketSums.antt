@@ -6,6 +6,8 @@ use Rattle.sha2.specs.Sha256.{sha256}
 use Rattle.warm_stamps.specs.declared.TheConstants.{BUCKETS}
 use Rattle.warm_history.specs.declared.hist.Entry.{Entry}
 use Rattle.warm_history.specs.Carried.{bucket_entries}
+use Rattle.warm_history.specs.Histories.{HistoryView, entries_of}
+use Rattle.warm_history.specs.Losses.{raised}
 use Rattle.warm_frames.specs.Entries.{entries_bytes}
 use Rattle.warm_frames.specs.Sums.{sum_at}
 
@@ -16,6 +18,10 @@ bucket_sum h bucket = sha256 (entries_bytes (bucket_entries bucket h))
 -- the sums of a history, that of bucket 0 first
 abbrev pub sums_of : List Entry → List (List ℕ)
 sums_of h = map (bucket_sum h) (range_with_len 0 BUCKETS)
+
+-- the sums that a history would have, were it raised to the horizon
+abbrev pub sums_since : ℕ → HistoryView → List (List ℕ)
+sums_since horizon h = sums_of (entries_of (raised horizon h))
 
 -- a bit of the mask is set exactly where the sums of the bucket of its number differ
 abbrev pub MarksDiffering : ℕ → List (List ℕ) → List (List ℕ) → Type 0

@@ -2,9 +2,8 @@
 ghost use Rattle.std.specs.Prelude.{◌≡◌, [], length, IfOk, OnOk, OnErr};
 ghost use Rattle.sha2.specs.Sha256.{sha256};
 ghost use Rattle.warm_stamps.specs.declared.TheConstants.{BUCKETS};
-ghost use Rattle.warm_history.specs.Histories.{entries_of, refs};
-ghost use Rattle.warm_history.specs.Histories as known;
-ghost use Rattle.warm_history.specs.ReferenceSets.{since};
+ghost use Rattle.warm_history.specs.Histories.{entries_of};
+ghost use Rattle.warm_history.specs.Losses.{raised};
 ghost use Rattle.warm_frames.specs.Entries.{entry_bytes, entries_bytes};
 ghost use Rattle.warm_digest.specs.BucketSums.{sums_of};
 ghost use Rattle.warm_digest.specs.Hashing.{TakesBytes};
@@ -83,7 +82,7 @@ impl Sums {
         horizon: u64,
         mask: u64,
     ) -> Result<SumTable, AllocError>
-        ensures wanted { IfOk result (HasSumsOf mask (entries_of (known.history (since horizon (refs history.now))))) }
+        ensures wanted { IfOk result (HasSumsOf mask (entries_of (raised horizon history.now))) }
         ensures others { IfOk result (SameSumsOutside mask self.now) }
         ensures count { IfOk result (λ table. length table ≡ BUCKETS) }
     {
@@ -125,7 +124,7 @@ fn renewed(
     horizon: u64,
     mask: u64,
 ) -> Result<[[u8; SUM_SIZE]; BUCKETS as usize], AllocError>
-    ensures wanted { IfOk result (HasSumsOf mask (entries_of (known.history (since horizon (refs history.now))))) }
+    ensures wanted { IfOk result (HasSumsOf mask (entries_of (raised horizon history.now))) }
     ensures others { IfOk result (SameSumsOutside mask sums) }
 {
     let mut text = Vec::with_capacity(alloc, MAX_ENTRY_SIZE)?;

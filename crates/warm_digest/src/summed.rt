@@ -2,7 +2,7 @@
 ghost use Rattle.std.specs.Prelude.{◌≡◌, [], IfOk, OnOk, OnErr};
 ghost use Rattle.warm_history.specs.ReferenceSets.{these, since, ◌∪◌};
 ghost use Rattle.warm_history.specs.Histories.{entries_of, history, holding, holding_since, join, refs};
-ghost use Rattle.warm_digest.specs.BucketSums.{sums_of};
+ghost use Rattle.warm_digest.specs.BucketSums.{sums_of, sums_since};
 ghost use Rattle.warm_digest.specs.KeptSums.{Marks, MarksLosing, MarksPage};
 
 use crate::kept::Sums;
@@ -144,7 +144,7 @@ impl SummedHistory {
     /// is gone over up to its first older stamp. Only the buckets that have one, and those changed since the last call, are hashed:
     /// their entries as they are read, without what is older. `AllocError` comes only where room for the bytes of one entry was refused.
     pub fn sums_since(&mut self, horizon: u64) -> Result<SumTable, AllocError>
-        ensures table { IfOk result (λ table. table ≡ sums_of (entries_of (history (since horizon (refs self.old))))) }
+        ensures table { IfOk result (λ table. table ≡ sums_since horizon self.old) }
         ensures same { self.new ≡ self.old }
     {
         let lost = losing(&self.history, horizon);

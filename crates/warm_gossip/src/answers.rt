@@ -1,11 +1,9 @@
 //! What a node answers to sums and to a wish.
 ghost use Rattle.std.specs.Prelude.{◌≡◌, ◌==◌, ◌≤◌, ◌++◌, length, IfOk, OnOk};
 ghost use Rattle.std.specs.Int.{bit_at};
-ghost use Rattle.warm_history.specs.Losses.{bucket_since};
-ghost use Rattle.warm_history.specs.Histories.{PagesRise, entries_of, refs};
-ghost use Rattle.warm_history.specs.Histories as known;
-ghost use Rattle.warm_history.specs.ReferenceSets.{since};
-ghost use Rattle.warm_digest.specs.BucketSums.{sums_of};
+ghost use Rattle.warm_history.specs.Histories.{PagesRise};
+ghost use Rattle.warm_history.specs.Losses.{bucket_since, raised};
+ghost use Rattle.warm_digest.specs.BucketSums.{sums_since};
 ghost use Rattle.warm_gossip.specs.Answers.{AnswersSums, entry_frames, wanted_frames, refs_in};
 
 use crate::remembered::Remembered;
@@ -62,7 +60,7 @@ fn is_wanted(mask: u64, bucket: Bucket) -> bool
 
 // The greater of the history's horizon and this one.
 fn greater(history: &History, horizon: u64) -> u64
-    ensures { result ≡ (known.history (since horizon (refs history.now))).horizon }
+    ensures { result ≡ (raised horizon history.now).horizon }
 {
     history.horizon().max(horizon)
 }
@@ -91,7 +89,7 @@ pub(crate) fn wanted_frames(
     horizon: u64,
     mask: u64,
 ) -> Result<Vec<Frame>, AllocError>
-    ensures { IfOk result (λ frames. frames.items ≡ wanted_frames id (known.history (since horizon (refs history.now))) mask) }
+    ensures { IfOk result (λ frames. frames.items ≡ wanted_frames id (raised horizon history.now) mask) }
 {
     let kept_from = greater(history, horizon);
     let mut frames = Vec::new(alloc);
@@ -117,8 +115,8 @@ fn answer_given(
     own: &SumTable,
     sums: &SumTable,
 ) -> Result<Vec<Frame>, AllocError>
-    requires { own.now ≡ sums_of (entries_of (known.history (since horizon (refs history.now)))) }
-    ensures { IfOk result (λ frames. AnswersSums id (known.history (since horizon (refs history.now))) sums.now frames.items) }
+    requires { own.now ≡ sums_since horizon history.now }
+    ensures { IfOk result (λ frames. AnswersSums id (raised horizon history.now) sums.now frames.items) }
 {
     let mask = differing(sums, own);
     if mask == 0 {
@@ -145,7 +143,7 @@ pub(crate) fn answer_to_sums(
     horizon: u64,
     sums: &SumTable,
 ) -> Result<Vec<Frame>, AllocError>
-    ensures answer { IfOk result (λ frames. AnswersSums id (known.history (since horizon (refs history.old))) sums.now frames.items) }
+    ensures answer { IfOk result (λ frames. AnswersSums id (raised horizon history.old) sums.now frames.items) }
     ensures same { history.new ≡ history.old }
 {
     let own = history.sums_since(horizon)?;

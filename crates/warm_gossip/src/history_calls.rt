@@ -55,9 +55,17 @@ impl<D: PageDevice> Node<D> {
     }
 
     /// Forgets all stamps before this time, and tells the horizon from then on: the call `Horizon`. Takes no memory.
+    ///
+    /// A time that is not past the horizon costs nothing. Else the entries are gone over, and all resident pages are ranked again.
     pub fn raise(&mut self, time: u64) -> u64
         ensures { Goes self.old (Horizon time) (Kept result) self.new }
     {
+        let own = self.history.horizon();
+        if time <= own {
+            // Asked for what holds of every history: none of its stamps is older than its horizon.
+            let _whole = self.history.history().len();
+            return own;
+        }
         self.history.raise(time);
         self.pool.refresh_all(self.history.history());
         self.history.horizon()

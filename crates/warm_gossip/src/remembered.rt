@@ -2,7 +2,7 @@
 ghost use Rattle.std.specs.Prelude.{◌≡◌, [], IfOk, OnOk, OnErr};
 ghost use Rattle.warm_history.specs.ReferenceSets.{these, since, ◌∪◌};
 ghost use Rattle.warm_history.specs.Histories.{entries_of, history, holding, holding_since, join, refs};
-ghost use Rattle.warm_digest.specs.BucketSums.{sums_of};
+ghost use Rattle.warm_digest.specs.BucketSums.{sums_of, sums_since};
 ghost use Rattle.warm_gossip.specs.Remembered.{IsHottest};
 
 use std::alloc::{AllocError, Global};
@@ -116,7 +116,7 @@ impl Remembered {
 
     /// The sums that the history's buckets would have at a horizon, at the cost of [`SummedHistory::sums_since`]: nothing is forgotten.
     pub(crate) fn sums_since(&mut self, horizon: u64) -> Result<SumTable, AllocError>
-        ensures table { IfOk result (λ table. table ≡ sums_of (entries_of (history (since horizon (refs self.old))))) }
+        ensures table { IfOk result (λ table. table ≡ sums_since horizon self.old) }
         ensures same { self.new ≡ self.old }
     {
         let table = self.summed.sums_since(horizon)?;

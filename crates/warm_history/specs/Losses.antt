@@ -5,9 +5,13 @@ use Rattle.warm_history.specs.Carried.{bucket_entries}
 use Rattle.warm_history.specs.Histories.{HistoryView, entries_of, history, refs}
 use Rattle.warm_history.specs.ReferenceSets.{since}
 
--- the entries that a bucket of the history would have, were it raised to the horizon
+-- the history raised to the horizon, if that is greater than its own
+abbrev pub raised : ℕ → HistoryView → HistoryView
+raised horizon h = history (since horizon (refs h))
+
+-- the entries that a bucket would then have
 abbrev pub bucket_since : ℕ → ℕ → HistoryView → List Entry
-bucket_since horizon bucket h = bucket_entries bucket (entries_of (history (since horizon (refs h))))
+bucket_since horizon bucket h = bucket_entries bucket (entries_of (raised horizon h))
 
 -- they would be others than it has
 abbrev pub LosesIn : ℕ → ℕ → HistoryView → Type 0

@@ -7,7 +7,7 @@ use Rattle.std.proofs.lemmas.List.{append-nil, length-append, length-map, map-ap
 use Rattle.warm_history.specs.ReferenceSets.{ReferenceSet, these, since}
 use Rattle.warm_history.specs.Histories.{HistoryView, entries_of, history, join}
 use Rattle.warm_history.proofs.HistoryLemmas.{IsHistory-history, horizon-history}
-use Rattle.warm_history.proofs.JoinLemmas.{join_repeats}
+use Rattle.warm_history.proofs.JoinLemmas.{join_repeats, raised_to_no_later}
 use Rattle.warm_frames.specs.declared.frame.Frame.{Frame}
 use Rattle.warm_frames.specs.declared.frame.Frame.TheVariants.{Digest}
 use Rattle.warm_digest.specs.BucketSums.{sums_of}
@@ -25,7 +25,6 @@ use Rattle.warm_world.specs.States.{ModelState, FrameRecord, References, Sums, M
 use Rattle.warm_world.specs.Answered.{AreAnswers, heard}
 use Rattle.warm_world.specs.Next.{Next, Run, Delivered, IsNamed, shape}
 use Rattle.warm_world.specs.Stands.{frame_kept}
-use Rattle.warm_gossip.proofs.Ranks.{raised_to_no_later}
 use Rattle.std.proofs.Math.Nat.{le_refl}
 use Rattle.warm_world.proofs.Histories.{asking_or_none, taught_heard, wanted_kept}
 use Rattle.warm_world.proofs.WidthLemmas.{histories_fit}

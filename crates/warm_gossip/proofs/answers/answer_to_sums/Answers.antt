@@ -1,15 +1,15 @@
 use Rattle.std.proofs.Common.{IfOk, sym, ap, subst, ◌∙◌}
-use Rattle.warm_history.specs.ReferenceSets.{since}
-use Rattle.warm_history.specs.Histories.{HistoryView, entries_of, history, refs}
-use Rattle.warm_digest.specs.BucketSums.{sums_of}
+use Rattle.warm_history.specs.Histories.{HistoryView}
+use Rattle.warm_history.specs.Losses.{raised}
+use Rattle.warm_digest.specs.BucketSums.{sums_since}
 use Rattle.warm_gossip.specs.Answers.{AnswersSums}
 use Rattle.warm_gossip.proofs.answers.answer_to_sums.Goals as goal
 
 pub answer_given-requires : goal.answer_given-requires
 answer_given-requires c =
     c.in_ok-own.ensures.table
-    ∙ ap (λ (h : HistoryView). sums_of (entries_of (history (since c.args.horizon (refs h))))) (sym (c.history.ensures ∙ c.in_ok-own.ensures.same))
+    ∙ ap (sums_since c.args.horizon) (sym (c.history.ensures ∙ c.in_ok-own.ensures.same))
 
 pub returns-clause-answer : goal.returns-clause-answer
 returns-clause-answer c =
-    subst (λ (h : HistoryView). IfOk c.answer_given.result (λ frames. AnswersSums c.args.id (history (since c.args.horizon (refs h))) c.args.sums.now frames.items)) (c.history.ensures ∙ c.in_ok-own.ensures.same) c.answer_given.ensures
+    subst (λ (h : HistoryView). IfOk c.answer_given.result (λ frames. AnswersSums c.args.id (raised c.args.horizon h) c.args.sums.now frames.items)) (c.history.ensures ∙ c.in_ok-own.ensures.same) c.answer_given.ensures

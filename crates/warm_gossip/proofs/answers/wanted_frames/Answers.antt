@@ -5,6 +5,7 @@ use Rattle.warm_stamps.specs.declared.TheConstants.{BUCKETS}
 use Rattle.warm_history.specs.Carried.{bucket_entries}
 use Rattle.warm_history.specs.ReferenceSets.{since}
 use Rattle.warm_history.specs.Histories.{entries_of, history, refs}
+use Rattle.warm_history.specs.Losses.{raised}
 use Rattle.warm_history.proofs.HistoryLemmas.{IsHistory-history}
 use Rattle.warm_gossip.specs.Answers.{entry_frames}
 use Rattle.warm_gossip.proofs.AnswerLemmas.{all_below, bucket_rises, frames_below, unwanted_more, wanted_more}
@@ -13,7 +14,7 @@ use Rattle.warm_gossip.proofs.answers.wanted_frames.Goals as goal
 pub loop-index-preserved-then-not-is_wanted : goal.loop-index-preserved-then-not-is_wanted
 loop-index-preserved-then-not-is_wanted c =
     let clear = subst (λ b. (bit_at c.args.mask b == 1) ≡ false) c.in-Some.ensures.value (sym c.is_wanted.ensures ∙ c.if-not-is_wanted.true) in
-    c.loop-index.invariant ∙ unwanted_more c.args.id c.args.mask c.loop-index.index (history (since c.args.horizon (refs c.args.history.now))) clear
+    c.loop-index.invariant ∙ unwanted_more c.args.id c.args.mask c.loop-index.index (raised c.args.horizon c.args.history.now) clear
 
 pub push_frames-requires : goal.push_frames-requires
 push_frames-requires c =
@@ -23,7 +24,7 @@ push_frames-requires c =
 pub loop-index-preserved : goal.loop-index-preserved
 loop-index-preserved c =
     let id = c.args.id in
-    let h = history (since c.args.horizon (refs c.args.history.now)) in
+    let h = raised c.args.horizon c.args.history.now in
     let index = c.loop-index.index in
     let is = c.in-Some.ensures.value in
     let set = subst (λ b. (bit_at c.args.mask b == 1) ≡ true) is (sym c.is_wanted.ensures ∙ c.if-not-is_wanted.false) in
@@ -35,7 +36,7 @@ loop-index-preserved c =
 
 pub returns : goal.returns
 returns c =
-    let h = history (since c.args.horizon (refs c.args.history.now)) in
+    let h = raised c.args.horizon c.args.history.now in
     let last : c.loop-index.index ≡ BUCKETS = omega (arith, c.loop-index-test.false, c.loop-index.auto.index-end) in
     c.loop-index.invariant
     ∙ ap (frames_below c.args.id h c.args.mask) last

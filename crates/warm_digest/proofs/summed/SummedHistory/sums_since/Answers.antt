@@ -1,7 +1,6 @@
 use Rattle.std.proofs.Common.{◌≡◌, IfOk, subst, arith}
-use Rattle.warm_history.specs.ReferenceSets.{since}
-use Rattle.warm_history.specs.Histories.{HistoryView, entries_of, history, refs}
-use Rattle.warm_digest.specs.BucketSums.{sums_of}
+use Rattle.warm_history.specs.Histories.{HistoryView, entries_of}
+use Rattle.warm_digest.specs.BucketSums.{sums_since}
 use Rattle.warm_digest.proofs.KeptLemmas.{others_right, right_since}
 use Rattle.warm_digest.proofs.summed.SummedHistory.sums_since.Goals as goal
 
@@ -12,5 +11,5 @@ invariant_of-self-2 c =
 pub returns-clause-table : goal.returns-clause-table
 returns-clause-table c =
     let asked = c.table_since in
-    subst (λ (h : HistoryView). IfOk asked.result (λ table. table ≡ sums_of (entries_of (history (since c.args.horizon (refs h)))))) c.self.view_is
+    subst (λ (h : HistoryView). IfOk asked.result (λ table. table ≡ sums_since c.args.horizon h)) c.self.view_is
     (right_since asked.result c.self.inside.changed c.losing-lost.result c.args.horizon c.self.inside.history c.renew.new.self (invariant_of-self-2 c) c.losing-lost.ensures asked.ensures.wanted asked.ensures.others asked.ensures.count)
