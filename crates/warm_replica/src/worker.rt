@@ -8,6 +8,7 @@ use crate::fault::FlushFault;
 use std::alloc::{AllocError, Global};
 use std::marker::Model;
 use std::sync::Wait;
+use warm_devices::PageDevice;
 use warm_gossip::{Call, Node, Reply};
 use warm_refbuffer::{Full, RefBuffer};
 use warm_stamps::{RefList, Reference};
@@ -22,7 +23,7 @@ pub trait Absorbing: Machine<Call = Call, Reply = Reply> {
     ghost absorbs: { TakesBatches Self.Machine.goes };
 }
 
-impl Absorbing for Node {
+impl<D: PageDevice + Send> Absorbing for Node<D> {
     ghost use Rattle.warm_gossip.proofs.Batches.{batches_are_taken};
 
     ghost absorbs = { batches_are_taken };
