@@ -1,7 +1,7 @@
 use Rattle.std.proofs.Common.{◌≡◌, length, map, arith}
 use Rattle.std.proofs.lemmas.List.{length-map}
 use Rattle.warm_threads.proofs.Numberings.{triples_length}
-use Rattle.warm_threads.proofs.play.play_threads.Goals as goal
+use Rattle.warm_threads.proofs.play.play_over.Goals as goal
 
 pub returns-in-Ok-clause-each : goal.returns-in-Ok-clause-each
 returns-in-Ok-clause-each g c =
