@@ -1,10 +1,8 @@
 -- Nodes over lists of devices.
-use Rattle.std.proofs.Common.{◌≡◌, ℕ, zero, suc, ◌+◌, ◌<◌, ◌≤◌, List, [], ◌∷◌, ◌++◌, length, map, get_or, refl, sym, ap, subst, ◌∙◌, length-append, arith}
+use Rattle.std.proofs.Common.{◌≡◌, ℕ, zero, suc, ◌+◌, ◌≤◌, List, [], ◌∷◌, ◌++◌, length, map, refl, ap, subst, ◌∙◌, arith}
 use Rattle.std.specs.Global.{Vec}
 use Rattle.std.specs.List.{All}
-use Rattle.std.proofs.Math.Seq.{get_or-append_seam}
 use Rattle.std.proofs.lemmas.List.{length-map, map-append}
-use Rattle.std.proofs.lemmas.List.Elements.{All-append, All-cons, All-nil}
 use Rattle.warm_devices.specs.Device.{DeviceState}
 use Rattle.warm_pool.specs.declared.TheConstants.{MAX_DEVICES}
 use Rattle.warm_gossip.specs.State.{NodeState}
@@ -53,14 +51,10 @@ module _ {B : Type 0} (f : B → DeviceState) where
   are_usable s lists size many same sized few = ((length-map lists (λ (ds : Vec B). map f ds.items) ∙ many, subst (λ (n : ℕ). AreSized n (shown lists)) same sized), few_shown lists few)
 
   -- a node over one list more
-  pub node_more : {A : Type 0} (g : A → NodeState) (s : Sizes) (m : ℕ) (nodes nodes' : List A) (node : A) (so_far : List (Vec B)) (v : Vec B) → nodes' ≡ nodes ++ node ∷ [] → m ≡ 1 + length so_far
-      → g node ≡ opened_node s m (map f v.items) → map g nodes ≡ opened_nodes s 1 (shown so_far) → map g nodes' ≡ opened_nodes s 1 (shown (so_far ++ v ∷ []))
-  node_more g s m nodes nodes' node so_far v more number here before =
+  pub node_more : (s : Sizes) (m : ℕ) (nodes nodes' : List NodeState) (node : NodeState) (so_far : List (Vec B)) (v : Vec B) → nodes' ≡ nodes ++ node ∷ [] → m ≡ 1 + length so_far
+      → node ≡ opened_node s m (map f v.items) → nodes ≡ opened_nodes s 1 (shown so_far) → nodes' ≡ opened_nodes s 1 (shown (so_far ++ v ∷ []))
+  node_more s m nodes nodes' node so_far v more number here before =
       let many : m ≡ 1 + length (shown so_far) = omega (arith, number, length-map so_far (λ (ds : Vec B). map f ds.items)) in
       let all : opened_nodes s 1 (shown (so_far ++ v ∷ [])) ≡ opened_nodes s 1 (shown so_far) ++ opened_node s m (map f v.items) ∷ [] =
       ap (λ (lists : List (List DeviceState)). opened_nodes s 1 lists) (map-append (λ (ds : Vec B). map f ds.items) so_far (v ∷ [])) ∙ opened_more s 1 m (shown so_far) (map f v.items) many in
-      rw (more, map-append g nodes (node ∷ []), all, before, here) refl
-
--- what holds of each, and of one more
-pub all_more : {A : Type 0} (P : A → Type 0) (xs ys : List A) (x : A) → ys ≡ xs ++ x ∷ [] → All P xs → P x → All P ys
-all_more P xs ys x more all here = subst (λ (zs : List _). All P zs) (sym more) (All-append P xs (x ∷ []) all (All-cons P x [] here (All-nil P)))
+      rw (more, all, before, here) refl

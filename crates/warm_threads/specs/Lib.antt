@@ -5,3 +5,4 @@ pub mod Plans
 pub mod Works
 pub mod Opened
 pub mod Shown
+pub mod Played

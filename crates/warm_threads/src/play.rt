@@ -6,16 +6,17 @@ ghost use Rattle.std.specs.List.{All};
 ghost use Rattle.std.specs.Io.KnownBytes.{Appends, IsAtEnd};
 ghost use Rattle.warm_stamps.specs.declared.TheConstants.{MAX_REPLICAS};
 ghost use Rattle.warm_pool.specs.declared.TheConstants.{MAX_DEVICES};
-ghost use Rattle.warm_gossip.specs.Clauses.{IsFit, node_state};
+ghost use Rattle.warm_gossip.specs.State.{node_view};
 ghost use Rattle.warm_world.specs.Seen.{listed};
 ghost use Rattle.warm_schedule.specs.Answers.{Prints};
 ghost use Rattle.warm_schedule.specs.Text.{lines};
 ghost use Rattle.warm_replica.specs.declared.job.Job.{Job};
-ghost use Rattle.warm_play_fault.specs.declared.PlayFault.TheVariants.{BadDevices, BadLine, Memory};
+ghost use Rattle.warm_play_fault.specs.declared.PlayFault.TheVariants.{BadDevices, BadLine, Memory, WriteFault};
 ghost use Rattle.warm_threads.specs.Asks.{asks, first_bad};
 ghost use Rattle.warm_threads.specs.Opened.{opened_node, opened_nodes, AreUsable};
 ghost use Rattle.warm_threads.specs.Plans.{AreJobsOf};
 ghost use Rattle.warm_threads.specs.Shown.{replica_text, replicas_text};
+ghost use Rattle.warm_threads.specs.Played.{Played};
 ghost use Rattle.warm_threads.specs.Works.{Went};
 
 use crate::crews::run_all;
@@ -33,7 +34,6 @@ use warm_pool::{MAX_DEVICES, Pool};
 use warm_replica::Absorbing;
 use warm_schedule::print_history;
 use warm_stamps::ReplicaId;
-use warm_turn::Machine;
 use warm_world::{Setup, are_sized};
 
 // Prints what the replica of a number has heard of.
@@ -46,7 +46,7 @@ fn print_replica<W: Write>(writer: &mut W, number: u64, history: &History) -> io
 }
 
 // Whether no list is longer than a page can name.
-fn are_few(devices: &[Vec<Box<dyn PageDevice + Send>>]) -> bool
+fn are_few<D: PageDevice>(devices: &[Vec<D>]) -> bool
     ensures { IsTrue result
         ↔ All (λ list. length list.items ≤ MAX_DEVICES) devices.now }
 {
@@ -59,8 +59,8 @@ fn are_few(devices: &[Vec<Box<dyn PageDevice + Send>>]) -> bool
 }
 
 // Whether nodes of this setup can be made over these lists.
-fn are_usable(setup: Setup, devices: &[Vec<Box<dyn PageDevice + Send>>]) -> bool
-    ensures { IsTrue result ↔ AreUsable setup (listed state devices.now) }
+fn are_usable<D: PageDevice>(setup: Setup, devices: &[Vec<D>]) -> bool
+    ensures { IsTrue result ↔ AreUsable setup (listed D.state devices.now) }
 {
     if devices.len() != setup.replicas() as usize {
         return false;
@@ -72,16 +72,14 @@ fn are_usable(setup: Setup, devices: &[Vec<Box<dyn PageDevice + Send>>]) -> bool
 }
 
 // A node over a replica's devices, whose pages have the setup's size.
-fn node_over(
+fn node_over<D: PageDevice>(
     alloc: Global,
     id: ReplicaId,
     setup: Setup,
-    devices: Vec<Box<dyn PageDevice + Send>>,
-) -> Result<Node, PlayFault>
+    devices: Vec<D>,
+) -> Result<Node<D>, PlayFault>
     requires few { length devices.items ≤ MAX_DEVICES }
-    ensures fit { IfOk result (λ node. IsFit state node) }
-    ensures opened { IfOk result (λ node. node_state state node
-        ≡ opened_node setup id (map state devices.items)) }
+    ensures opened { IfOk result (λ node. node ≡ opened_node setup id (map D.state devices.items)) }
     ensures why { IfErr result (λ why. why ≡ Memory) }
 {
     let frames = setup.frames() as usize;
@@ -93,16 +91,15 @@ fn node_over(
 }
 
 // A node over each list of devices, numbered from 1.
-fn nodes_of(
+fn nodes_of<D: PageDevice>(
     alloc: Global,
     setup: Setup,
-    devices: Vec<Vec<Box<dyn PageDevice + Send>>>,
-) -> Result<Vec<Node>, PlayFault>
+    devices: Vec<Vec<D>>,
+) -> Result<Vec<Node<D>>, PlayFault>
     requires few { All (λ list. length list.items ≤ MAX_DEVICES) devices.items }
     requires many { length devices.items ≤ MAX_REPLICAS }
-    ensures fit { IfOk result (λ nodes. All (IsFit state) nodes.items) }
-    ensures opened { IfOk result (λ nodes. map (node_state state) nodes.items
-        ≡ opened_nodes setup 1 (listed state devices.items)) }
+    ensures opened { IfOk result (λ nodes. nodes.items
+        ≡ opened_nodes setup 1 (listed D.state devices.items)) }
     ensures count { IfOk result (λ nodes. length nodes.items ≡ length devices.items) }
     ensures why { IfErr result (λ why. why ≡ Memory) }
 {
@@ -120,23 +117,19 @@ fn nodes_of(
     Ok(nodes)
 }
 
-/// A node over each list of devices, numbered from 1: the replicas of a setup, which were told nothing.
-///
-/// # Errors
-/// `BadDevices`: the devices are not one list for each replica, each of at most [`warm_pool::MAX_DEVICES`], with pages of the
-/// setup's size. `Memory`. All devices are dropped; nothing was read from them or written to them.
-pub fn nodes_over(
+// The replicas of a setup over their devices. They are `BadDevices` if they are not one list for each replica, each of at most
+// `MAX_DEVICES`, with pages of the setup's size.
+fn nodes_over<D: PageDevice>(
     alloc: Global,
     setup: Setup,
-    devices: Vec<Vec<Box<dyn PageDevice + Send>>>,
-) -> Result<Vec<Node>, PlayFault>
-    ensures fit { IfOk result (λ nodes. All (IsFit state) nodes.items) }
-    ensures opened { IfOk result (λ nodes. map (node_state state) nodes.items
-        ≡ opened_nodes setup 1 (listed state devices.items)) }
+    devices: Vec<Vec<D>>,
+) -> Result<Vec<Node<D>>, PlayFault>
+    ensures opened { IfOk result (λ nodes. nodes.items
+        ≡ opened_nodes setup 1 (listed D.state devices.items)) }
     ensures count { IfOk result (λ nodes. length nodes.items ≡ setup.replicas) }
-    ensures misfit { (AreUsable setup (listed state devices.items) → ⊥)
+    ensures misfit { (AreUsable setup (listed D.state devices.items) → ⊥)
         → result ≡ Err BadDevices }
-    ensures usable { AreUsable setup (listed state devices.items)
+    ensures usable { AreUsable setup (listed D.state devices.items)
         → IfErr result (λ why. why ≡ Memory) }
 {
     if !are_usable(setup, &devices) {
@@ -145,12 +138,15 @@ pub fn nodes_over(
     nodes_of(alloc, setup, devices)
 }
 
-/// Prints `replica I` and what `show I` prints for each replica in turn, counted from 1, and flushes the writer.
-///
-/// The error is `WriteFault` alone. Nothing is said of how much was written by then.
-pub fn print_replicas<W: Write>(writer: &mut W, nodes: &[Node]) -> Result<(), PlayFault>
-    ensures { Prints result (W.contents writer.old) (W.contents writer.new)
-        (replicas_text 1 (map ⟦<Node as Machine>⟧.meaning nodes.now)) }
+// Prints `replica I` and what `show I` prints for each replica in turn, counted from 1, and flushes the writer. The error is
+// `WriteFault` alone. Nothing is said of how much was written by then.
+fn print_replicas<D: PageDevice, W: Write>(
+    writer: &mut W,
+    nodes: &[Node<D>],
+) -> Result<(), PlayFault>
+    ensures printed { Prints result (W.contents writer.old) (W.contents writer.new)
+        (replicas_text 1 (map node_view nodes.now)) }
+    ensures why { IfErr result (λ why. why ≡ WriteFault) }
 {
     let mut number = 1;
     for node in nodes {
@@ -165,20 +161,8 @@ pub fn print_replicas<W: Write>(writer: &mut W, nodes: &[Node]) -> Result<(), Pl
     }
 }
 
-/// Plays a schedule by threads, over these machines, one for each replica of the setup, and gives them back. What each then knows
-/// is printed by [`print_replicas`].
-///
-/// The schedule is read whole, and may hold `ref` and `flush` lines of the setup's replicas and workers; lines that say nothing
-/// are passed over. Each worker has a thread that does its own lines in their order: a full buffer is flushed before a further
-/// reference, and what a buffer holds at the end is flushed last. When all have ended, each replica sends every bucket whole to each
-/// other, and then a Stop; loops over mail, in threads of their own where these can be made, take what was sent, until a Stop of each
-/// other replica or 1,000,000 items came. It may wait.
-///
-/// # Errors
-/// - `ReadFault`: the reader failed, or 2^40 reads came to no end.
-/// - `BadLine` with the number of the first line that is none of these. No thread was started.
-/// - `Memory`: room was refused, wherever it was. `NoThread`: a worker had no thread.
-pub fn play_threads<M: Absorbing + Send + Drop, T: Threads + Wait + Sync, R: Read>(
+// Plays a schedule by threads, over these machines, one for each replica of the setup, and gives them back.
+fn play_over<M: Absorbing + Send + Drop, T: Threads + Wait + Sync, R: Read>(
     rt: &T,
     alloc: Global,
     reader: &mut R,
@@ -205,4 +189,50 @@ pub fn play_threads<M: Absorbing + Send + Drop, T: Threads + Wait + Sync, R: Rea
         Err(PlayFault::NoThread) => Err(PlayFault::NoThread),
         Err(_) => Err(PlayFault::Memory),
     }
+}
+
+/// Plays a schedule by threads over the devices of each replica, and prints what each replica knows in the end: `replica I` and
+/// what `show I` prints, for each in turn, counted from 1. The writer is flushed.
+///
+/// The schedule is read whole, and may hold `ref` and `flush` lines of the setup's replicas and workers; blank lines and comments
+/// are passed over. Each worker has a thread that does its own lines in their order: a full buffer is flushed before a further
+/// reference, and what a buffer holds at the end is flushed last. When all have ended, each replica sends every bucket whole to each
+/// other, and then a Stop; loops over mail, in threads of their own where these can be made, take what was sent, until a Stop of each
+/// other replica or 1,000,000 items came. It may wait.
+///
+/// # Errors
+/// - `BadDevices`: the devices are not one list for each replica, each of at most [`warm_pool::MAX_DEVICES`], with pages of the
+///   setup's size. Nothing was read.
+/// - `ReadFault`: the reader failed, or 2^40 reads came to no end.
+/// - `BadLine` with the number of the first line that is none of these. No thread was started.
+/// - `Memory`: an allocation failed. `NoThread`: a worker had no thread. `WriteFault`: the writer failed.
+///
+/// In each case all devices are dropped. Nothing is said of how much was written.
+pub fn play_threads<D, T, R, W>(
+    rt: &T,
+    alloc: Global,
+    reader: &mut R,
+    writer: &mut W,
+    setup: Setup,
+    devices: Vec<Vec<D>>,
+) -> Result<(), PlayFault>
+where
+    D: PageDevice + Send,
+    T: Threads + Wait + Sync,
+    R: Read,
+    W: Write,
+    ensures misfit { (AreUsable setup (listed D.state devices.items) → ⊥)
+        → result ≡ Err BadDevices }
+    ensures end { OnOk result (IsAtEnd (R.remaining reader.new)) }
+    ensures good { OnOk result (IfSome (R.remaining reader.old)
+        (λ text. first_bad setup (lines text) ≡ None)) }
+    ensures bad { (number : ℕ) → result ≡ Err (BadLine number)
+        → IfSome (R.remaining reader.old) (λ text. first_bad setup (lines text) ≡ Some number) }
+    ensures played { OnOk result (IfSome (R.remaining reader.old) (λ text. (out : List ℕ)
+        × Played setup (listed D.state devices.items) text out
+        × Appends (W.contents writer.old) (W.contents writer.new) out)) }
+{
+    let nodes = nodes_over(alloc, setup, devices)?;
+    let nodes = play_over(rt, alloc, reader, setup, nodes)?;
+    print_replicas(writer, &nodes)
 }

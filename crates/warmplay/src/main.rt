@@ -17,7 +17,7 @@ use warm_setup::{
     Cmd, CmdFault, DeviceSpec, PathText, RunFault, SetupFault, command_of, not_text, outcome_of,
     read_setup, read_setup_file,
 };
-use warm_threads::{nodes_over, play_threads, print_replicas};
+use warm_threads::play_threads;
 use warm_world::Setup;
 
 // How many bytes of answers are gathered before they are written.
@@ -73,7 +73,7 @@ fn no_memory() -> RunFault {
 
 // A device in memory.
 fn in_memory(alloc: Global, pages: u32, page_size: usize) -> Result<Made, RunFault> {
-    let Ok(device) = MemDevice::new(alloc, pages, page_size) else {
+    let Ok(device) = MemDevice::new(alloc, u64::from(pages), page_size) else {
         return Err(no_memory());
     };
     let Ok(device) = Box::new(alloc, device) else {
@@ -93,7 +93,7 @@ fn in_file(
     let Ok(name) = path.of_replica(rt.alloc(), replica) else {
         return Err(no_memory());
     };
-    match FileDevice::open(rt, name.as_str(), pages, page_size) {
+    match FileDevice::open(rt, name.as_str(), u64::from(pages), page_size) {
         Ok(device) => {
             let Ok(device) = Box::new(rt.alloc(), device) else {
                 return Err(no_memory());
@@ -154,13 +154,9 @@ fn play_over<T: Threads + Wait + Sync, R: Read>(
     };
     let played = match player {
         Player::Lines => play(rt.alloc(), reader, &mut buffered, setup, devices),
-        Player::Threads => match nodes_over(rt.alloc(), setup, devices) {
-            Ok(nodes) => match play_threads(threads, rt.alloc(), reader, setup, nodes) {
-                Ok(nodes) => print_replicas(&mut buffered, &nodes),
-                Err(fault) => Err(fault),
-            },
-            Err(fault) => Err(fault),
-        },
+        Player::Threads => {
+            play_threads(threads, rt.alloc(), reader, &mut buffered, setup, devices)
+        }
     };
     played.map_err(RunFault::Play)
 }

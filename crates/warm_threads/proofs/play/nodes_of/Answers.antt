@@ -1,6 +1,5 @@
 use Rattle.std.proofs.Common.{◌≡◌, ◌+◌, ◌++◌, ◌∷◌, [], length, append_assoc, length-append, ap, sym, ◌∙◌, arith}
-use Rattle.warm_gossip.specs.Clauses.{IsFit}
-use Rattle.warm_threads.proofs.Openings.{all_more, node_more}
+use Rattle.warm_threads.proofs.Openings.{node_more}
 use Rattle.warm_threads.proofs.play.nodes_of.Goals as goal
 
 pub loop-list-preserved : goal.loop-list-preserved
@@ -11,7 +10,6 @@ loop-list-preserved g c =
     record {
       rest = append_assoc so_far (list ∷ []) c.next.new.self.rest.items ∙ (ap (λ r. so_far ++ r) (sym c.in-Some.ensures.steps.0) ∙ c.loop-list.invariant.rest);
       count = omega (arith, ap length c.in-Ok-push.ensures.items, length-append c.loop-list.nodes.items (c.in_ok-node_over.field-0 ∷ []), length-append so_far (list ∷ []), c.loop-list.invariant.count);
-      fit = all_more (IsFit (λ b. (goal.PageDevice-dyn g (b.vtable, b.value)).state b.value)) c.loop-list.nodes.items c.push.new.self.items c.in_ok-node_over.field-0 c.in-Ok-push.ensures.items c.loop-list.invariant.fit c.in_ok-node_over.ensures.fit;
-      opened = node_more _ _ c.args.setup c.in-Ok-new.id c.loop-list.nodes.items c.push.new.self.items c.in_ok-node_over.field-0 so_far list c.in-Ok-push.ensures.items number c.in_ok-node_over.ensures.opened
+      opened = node_more _ c.args.setup c.in-Ok-new.id c.loop-list.nodes.items c.push.new.self.items c.in_ok-node_over.field-0 so_far list c.in-Ok-push.ensures.items number c.in_ok-node_over.ensures.opened
           c.loop-list.invariant.opened;
     }
