@@ -5,7 +5,7 @@ use Rattle.std.specs.Prelude.{codes}
 use Rattle.warm_stamps.specs.declared.PageId.{PageId}
 use Rattle.warm_stamps.specs.declared.Stamp.{Stamp}
 use Rattle.warm_stamps.specs.declared.Reference.{Reference}
-use Rattle.warm_history.specs.Histories.{history}
+use Rattle.warm_history.specs.Histories.{holding, history}
 use Rattle.warm_world.specs.Lists.{IsNumber}
 use Rattle.warm_history.specs.ReferenceSets.{these}
 use Rattle.warm_pool.specs.declared.slot.Slot.{Slot}
@@ -14,13 +14,14 @@ use Rattle.warm_gossip.specs.declared.fault.NodeFault.TheVariants.{Memory, Pool,
 use Rattle.warm_world.specs.States.{ModelState, no_pool}
 use Rattle.warm_schedule.specs.Printed.{Printed}
 use Rattle.warm_history.specs.declared.hist.PageHist.TheVariants.{Once, Twice}
-use Rattle.warm_world.specs.declared.event.Event.TheVariants.{Refer, Flush, Send, Offer, Deliver, Pin, Unpin, Put, Get, Victim, Warm, WarmStep, Restart, Show}
-use Rattle.warm_world.specs.declared.event.Answer.TheVariants.{Done, Shown, FrameNo, Took, Pinned, Bytes, Page, Pages, Loaded, Refused}
+use Rattle.warm_world.specs.declared.event.Event.TheVariants.{Refer, Flush, Send, Offer, Deliver, Pin, Unpin, Put, Get, Victim, Warm, WarmStep, Restart, Horizon, Show}
+use Rattle.warm_world.specs.declared.event.Answer.TheVariants.{Done, Shown, FrameNo, Took, Pinned, Bytes, Page, Pages, Loaded, Kept, Refused}
 use Rattle.warm_world.specs.declared.event.WorldFault.TheVariants.{Node, NoSuchReplica, NoSuchWorker, NoSuchFrame}
 use Rattle.warm_schedule.specs.declared.parse.Line.TheVariants.{Nothing, Act}
 use Rattle.warm_schedule.specs.Text.{lines, words}
 use Rattle.warm_schedule.specs.Fields.{number_up_to, page_of, slot_of, bytes_of, number_field, page_field, after_field, slot_field, bytes_field}
-use Rattle.warm_schedule.specs.Grammar.{line_of, meaning, refer_of, flush_of, send_of, offer_of, deliver_of, pin_of, unpin_of, put_of, get_of, victim_of, warm_of, warmstep_of, restart_of, show_of}
+use Rattle.warm_schedule.specs.Grammar.{line_of, meaning, refer_of, flush_of, send_of, offer_of, deliver_of, pin_of, unpin_of, put_of, get_of, victim_of, warm_of, warmstep_of, restart_of, horizon_of, show_of}
+use Rattle.warm_schedule.specs.Workers.{worker_line_in}
 use Rattle.warm_schedule.specs.Answers.{answer_text}
 
 abbrev page : ℕ → ℕ → PageId
@@ -70,6 +71,24 @@ restart_line : line_of (codes "restart 1") ≡ Some (Act (Restart 1))
 unfolding line_of words number_up_to number_field restart_of
 restart_line = refl
 
+horizon_line : line_of (codes "horizon 1 15") ≡ Some (Act (Horizon 1 15))
+unfolding line_of words number_up_to number_field horizon_of
+horizon_line = refl
+
+greatest_horizon : line_of (codes "horizon 65535 18446744073709551615") ≡ Some (Act (Horizon 65535 18446744073709551615))
+unfolding line_of words number_up_to number_field horizon_of
+greatest_horizon = refl
+
+-- a replica and a time out of range, no time, and a word too many
+no_horizons : (line_of (codes "horizon 65536 1") ≡ None) × (line_of (codes "horizon 1 18446744073709551616") ≡ None) × (line_of (codes "horizon 1") ≡ None) × (line_of (codes "horizon 1 15 1") ≡ None)
+unfolding line_of words number_up_to number_field horizon_of
+no_horizons = (refl, refl, refl, refl)
+
+-- a horizon asks something of no worker
+horizon_of_no_worker : worker_line_in (line_of (codes "horizon 1 15")) ≡ None
+unfolding line_of words number_up_to number_field horizon_of
+horizon_of_no_worker = refl
+
 show_line : line_of (codes "show 3") ≡ Some (Act (Show 3))
 unfolding line_of words number_up_to number_field show_of
 show_line = refl
@@ -81,6 +100,15 @@ offer_line = refl
 pin_line : line_of (codes "pin 1 0:255") ≡ Some (Act (Pin 1 (page 0 255)))
 unfolding line_of words number_up_to page_of number_field page_field pin_of
 pin_line = refl
+
+greatest_page : line_of (codes "pin 1 65535:18446744073709551615") ≡ Some (Act (Pin 1 (page 65535 18446744073709551615)))
+unfolding line_of words number_up_to page_of number_field page_field pin_of
+greatest_page = refl
+
+-- a page number and a device out of range
+no_such_pages : (line_of (codes "pin 1 0:18446744073709551616") ≡ None) × (line_of (codes "pin 1 65536:0") ≡ None)
+unfolding line_of words number_up_to page_of number_field page_field pin_of
+no_such_pages = (refl, refl)
 
 unpin_line : line_of (codes "unpin 1 4294967295.18446744073709551615") ≡ Some (Act (Unpin 1 (slot 4294967295 18446744073709551615)))
 unfolding line_of words number_up_to slot_of number_field slot_field unpin_of
@@ -138,13 +166,17 @@ two_lines = refl
 
 -- ---- answers
 
-shown : answer_text (Shown (record { page = page 0 1; hist = Twice (record { last = stamp 30 1; prev = stamp 20 1 }) } ∷ record { page = page 9 1; hist = Once (stamp 7 2) } ∷ [])) ≡ codes "0:1 last 30@1 prev 20@1\n9:1 last 7@2\nend 2\n"
+shown : answer_text (Shown (holding (record { page = page 0 1; hist = Twice (record { last = stamp 30 1; prev = stamp 20 1 }) } ∷ record { page = page 9 1; hist = Once (stamp 7 2) } ∷ []))) ≡ codes "0:1 last 30@1 prev 20@1\n9:1 last 7@2\nend 2\n"
 unfolding digits
 shown = refl
 
-shown_nothing : answer_text (Shown []) ≡ codes "end 0\n"
+shown_nothing : answer_text (Shown (holding [])) ≡ codes "end 0\n"
 unfolding digits
 shown_nothing = refl
+
+horizon_kept : (answer_text (Kept 15) ≡ codes "horizon 15\n") × (answer_text (Kept 18446744073709551615) ≡ codes "horizon 18446744073709551615\n")
+unfolding digits
+horizon_kept = (refl, refl)
 
 sent : answer_text (FrameNo 12) ≡ codes "frame 12\n"
 unfolding digits
@@ -270,7 +302,7 @@ reference = (
     codes "end 0\n",
     codes "ok\n0:1 last 10@1\nend 1\n",
     told [] (seen ∷ []),
-    inl (Shown [], (record { replica_there = first _ (omega arith); worker_there = tt; frame_there = tt }, (refl, refl)), refl),
+    inl (Shown (holding []), (record { replica_there = first _ (omega arith); worker_there = tt; frame_there = tt }, (refl, refl)), refl),
     (
       codes "ok\n",
       codes "0:1 last 10@1\nend 1\n",
@@ -280,7 +312,7 @@ reference = (
         codes "0:1 last 10@1\nend 1\n",
         [],
         told (seen ∷ []) [],
-        inl (Shown (record { page = page 0 1; hist = Once (stamp 10 1) } ∷ []), (record { replica_there = first _ (omega arith); worker_there = tt; frame_there = tt }, (refl, refl)), refl),
+        inl (Shown (holding (record { page = page 0 1; hist = Once (stamp 10 1) } ∷ [])), (record { replica_there = first _ (omega arith); worker_there = tt; frame_there = tt }, (refl, refl)), refl),
         ([], [], told (seen ∷ []) [], (refl, refl), (refl, refl), refl),
         refl,
       ),

@@ -6,3 +6,4 @@ pub mod Few
 mod Workers
 mod Runs
 mod Examples
+mod Rows

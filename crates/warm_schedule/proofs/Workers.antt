@@ -4,7 +4,7 @@ use Rattle.std.specs.Prelude.{option_and_then, option_map, bytes_eq, codes, if�
 use Rattle.warm_stamps.specs.declared.PageId.{PageId}
 use Rattle.warm_world.specs.declared.event.Event.{Event}
 use Rattle.warm_schedule.specs.Fields.{◌>>=◌, page_field, after_field, slot_field, bytes_field, replica_field, bucket_field, count_field, long_field}
-use Rattle.warm_schedule.specs.Grammar.{ends_with, refer_of, flush_of, send_of, offer_of, deliver_of, pin_of, unpin_of, put_of, get_of, victim_of, warm_of, warmstep_of, restart_of, show_of, alone_event_of, event_of}
+use Rattle.warm_schedule.specs.Grammar.{ends_with, refer_of, flush_of, send_of, offer_of, deliver_of, pin_of, unpin_of, put_of, get_of, victim_of, warm_of, warmstep_of, restart_of, horizon_of, show_of, alone_event_of, event_of}
 use Rattle.warm_schedule.specs.declared.worker.WorkerLine.{WorkerLine}
 use Rattle.warm_schedule.specs.Workers.{worker_line, worker_event, event_of_worker, asked_of_worker, worker_line_in}
 use Rattle.warm_schedule.specs.declared.parse.Line.TheVariants.{Act}
@@ -101,6 +101,10 @@ restart_none : (fields : List (List ℕ)) → AsksNone (restart_of fields)
 unfolding restart_of
 restart_none fields = then_none (replica_field fields) _ (λ i. end_none i.1 _ refl)
 
+horizon_none : (fields : List (List ℕ)) → AsksNone (horizon_of fields)
+unfolding horizon_of
+horizon_none fields = then_none (replica_field fields) _ (λ i. then_none (long_field i.1) _ (λ time. end_none time.1 _ refl))
+
 show_none : (fields : List (List ℕ)) → AsksNone (show_of fields)
 unfolding show_of
 show_none fields = then_none (replica_field fields) _ (λ i. end_none i.1 _ refl)
@@ -115,7 +119,8 @@ alone_none command fields =
     either_none _ _ _ (warm_none fields) (
     either_none _ _ _ (warmstep_none fields) (
     either_none _ _ _ (restart_none fields) (
-    either_none _ _ _ (show_none fields) no_event))))))))
+    either_none _ _ _ (horizon_none fields) (
+    either_none _ _ _ (show_none fields) no_event)))))))))
 
 -- a command that is neither of the two asks something of no worker
 pub other_none : (command : List ℕ) (fields : List (List ℕ)) → bytes_eq command (codes "ref") ≡ false → bytes_eq command (codes "flush") ≡ false → None ≡ option_and_then asked_of_worker (event_of command fields)

@@ -9,7 +9,7 @@ use Rattle.warm_history.specs.declared.hist.Entry.{Entry}
 use Rattle.warm_history.specs.declared.hist.PageHist.{PageHist}
 use Rattle.warm_history.specs.declared.hist.PageHist.TheVariants.{Once, Twice}
 use Rattle.warm_world.specs.declared.event.Answer.{Answer}
-use Rattle.warm_world.specs.declared.event.Answer.TheVariants.{Done, Shown, FrameNo, Took, Pinned, Bytes, Page, Pages, Loaded, Refused}
+use Rattle.warm_world.specs.declared.event.Answer.TheVariants.{Done, Shown, FrameNo, Took, Pinned, Bytes, Page, Pages, Loaded, Kept, Refused}
 use Rattle.warm_world.specs.declared.event.WorldFault.{WorldFault}
 use Rattle.warm_world.specs.Faults.{code_of, name_of}
 
@@ -89,6 +89,7 @@ answer_text (Bytes bytes) = codes "bytes" ++ bytes_text bytes ++ codes "\n"
 answer_text (Page page) = page_if_any (codes "page ") page
 answer_text (Pages pages) = codes "pages" ++ pages_text pages ++ codes "\n"
 answer_text (Loaded page) = page_if_any (codes "loaded ") page
+answer_text (Kept horizon) = codes "horizon " ++ decimal horizon ++ codes "\n"
 answer_text (Refused fault) = refused_text fault
 
 -- what is printed for a bad line

@@ -35,7 +35,7 @@ number_up_to limit word = up_to limit (number_of word)
 abbrev pub page_of_parts : List (List ℕ) → Option PageId
 page_of_parts (device ∷ number ∷ []) = do
   d ← number_up_to 65535 device
-  n ← number_up_to 4294967295 number
+  n ← number_up_to 18446744073709551615 number
   Some (record { dev = d; no = n })
 page_of_parts parts = None
 

@@ -1,7 +1,7 @@
 -- The lines of a schedule, each a command with its fields.
 use Rattle.std.specs.Prelude.{ℕ, List, [], ◌∷◌, Bool, false, ◌==◌, nat_lt, length, Option, Some, None, option_map, codes, bytes_eq, if◌then◌else◌}
 use Rattle.warm_world.specs.declared.event.Event.{Event}
-use Rattle.warm_world.specs.declared.event.Event.TheVariants.{Refer, Flush, Send, Offer, Deliver, Pin, Unpin, Put, Get, Victim, Warm, WarmStep, Restart, Show}
+use Rattle.warm_world.specs.declared.event.Event.TheVariants.{Refer, Flush, Send, Offer, Deliver, Pin, Unpin, Put, Get, Victim, Warm, WarmStep, Restart, Horizon, Show}
 use Rattle.warm_schedule.specs.Text.{words}
 use Rattle.warm_schedule.specs.Fields.{◌>>=◌, page_field, after_field, slot_field, bytes_field, replica_field, worker_field, bucket_field, count_field, long_field}
 use Rattle.warm_schedule.specs.declared.parse.Line.{Line}
@@ -109,6 +109,13 @@ restart_of fields = do
   i ← replica_field fields
   ends_with i.1 (Restart i.0)
 
+-- horizon REPLICA TIME
+unfoldable pub horizon_of : List (List ℕ) → Option Event
+horizon_of fields = do
+  i ← replica_field fields
+  time ← long_field i.1
+  ends_with time.1 (Horizon i.0 time.0)
+
 -- show REPLICA
 unfoldable pub show_of : List (List ℕ) → Option Event
 show_of fields = do
@@ -117,7 +124,7 @@ show_of fields = do
 
 -- ---- a whole line
 
--- the commands that name neither a worker nor a message: what a pool is asked, a restart, and a show
+-- the commands that name neither a worker nor a message: what a pool is asked, a restart, a horizon, and a show
 abbrev pub alone_event_of : List ℕ → List (List ℕ) → Option Event
 alone_event_of command fields = if bytes_eq command (codes "pin") then pin_of fields
     else (if bytes_eq command (codes "unpin") then unpin_of fields
@@ -127,7 +134,8 @@ alone_event_of command fields = if bytes_eq command (codes "pin") then pin_of fi
     else (if bytes_eq command (codes "warm") then warm_of fields
     else (if bytes_eq command (codes "warmstep") then warmstep_of fields
     else (if bytes_eq command (codes "restart") then restart_of fields
-    else (if bytes_eq command (codes "show") then show_of fields else None))))))))
+    else (if bytes_eq command (codes "horizon") then horizon_of fields
+    else (if bytes_eq command (codes "show") then show_of fields else None)))))))))
 
 abbrev pub event_of : List ℕ → List (List ℕ) → Option Event
 event_of command fields = if bytes_eq command (codes "ref") then refer_of fields

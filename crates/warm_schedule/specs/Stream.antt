@@ -1,8 +1,5 @@
 -- A schedule that is read piece by piece.
 use Rattle.std.specs.Prelude.{◌≡◌, ℕ, ◌+◌, List, [], ◌++◌, take}
-use Rattle.std.specs.declared.alloc.Global.{Global}
-use Rattle.std.specs.declared.dyn_box.DynBox.{DynBox}
-use Rattle.warm_devices.specs.Device.{DeviceState}
 use Rattle.warm_world.specs.States.{ModelState}
 use Rattle.warm_world.specs.Seen.{WorldSeen, seen}
 use Rattle.warm_world.specs.Stands.{StandsFor}
@@ -18,9 +15,9 @@ pub record SessionSeen : Type 0 where
   pub number : ℕ
   pub held : List ℕ
 
--- how it is read off a session; `state`, the ghost member of `PageDevice` that a clause has at hand, comes first
-abbrev pub session : {X : Type 0} {P : X → Type 0} → (DynBox X Global P → DeviceState) → Session X P → SessionSeen
-session state s = record { world = seen state s.world; number = s.number; held = s.line.items }
+-- how it is read off a session
+abbrev pub session : {D : Type 0} → Session D → SessionSeen
+session s = record { world = seen s.world; number = s.number; held = s.line.items }
 
 -- the line that has begun, of which no more is held than makes it too long
 pub record HoldsLine (held line : List ℕ) : Type 0 where

@@ -13,8 +13,6 @@ use warm_stamps::{ByteList, PageId};
 
 const MOST_DEVICE: u64 = 65535;
 
-const MOST_PAGE: u64 = 4294967295;
-
 const MOST_FRAME: u64 = 4294967295;
 
 fn digit(c: u8) -> Option<u8>
@@ -62,7 +60,7 @@ fn page(word: &[u8]) -> Option<PageId>
         return None;
     }
     let dev = number(dev, MOST_DEVICE)? as u16;
-    let no = number(no, MOST_PAGE)? as u32;
+    let no = number(no, u64::MAX)?;
     Some(PageId { dev, no })
 }
 

@@ -2,7 +2,7 @@
 ghost use Rattle.std.specs.Prelude.{◌≡◌, false, bytes_eq, codes, option_map, option_and_then, MatchOption, Some, None};
 ghost use Rattle.warm_schedule.specs.Text.{words};
 ghost use Rattle.warm_schedule.specs.Grammar.{send_of, offer_of, deliver_of, pin_of, unpin_of, put_of, get_of};
-ghost use Rattle.warm_schedule.specs.Grammar.{victim_of, warm_of, warmstep_of, restart_of, show_of};
+ghost use Rattle.warm_schedule.specs.Grammar.{victim_of, warm_of, warmstep_of, restart_of, horizon_of, show_of};
 ghost use Rattle.warm_schedule.specs.Grammar.{alone_event_of, event_of, meaning};
 ghost use Rattle.warm_world.specs.declared.event.Event.TheVariants.{Put};
 ghost use Rattle.warm_schedule.specs.Fields.{bytes_of};
@@ -216,6 +216,18 @@ fn restart(fields: &[u8]) -> Option<Event>
     Some(Event::Restart(replica as u16))
 }
 
+#[tactic(auto, unfolding(crate::specs::Grammar::horizon_of))]
+fn horizon(fields: &[u8]) -> Option<Event>
+    ensures { result ≡ horizon_of (words fields.now) }
+{
+    let (replica, rest) = number_at(fields, MOST_REPLICA)?;
+    let (time, rest) = number_at(rest, u64::MAX)?;
+    if next_word(rest).is_some() {
+        return None;
+    }
+    Some(Event::Horizon(replica as u16, time))
+}
+
 #[tactic(auto, unfolding(crate::specs::Grammar::show_of))]
 fn show(fields: &[u8]) -> Option<Event>
     ensures { result ≡ show_of (words fields.now) }
@@ -252,6 +264,9 @@ fn alone_event(command: &[u8], fields: &[u8]) -> Option<Event>
     }
     if command == b"restart".as_slice() {
         return restart(fields);
+    }
+    if command == b"horizon".as_slice() {
+        return horizon(fields);
     }
     if command == b"show".as_slice() {
         return show(fields);

@@ -4,7 +4,7 @@ ghost use Rattle.std.specs.Io.KnownBytes.{Appends, Keeps, Consumes, IsAtEnd};
 ghost use Rattle.warm_world.specs.States.{ModelState, opening};
 ghost use Rattle.warm_play_fault.specs.declared.PlayFault.TheVariants.{BadDevices};
 ghost use Rattle.warm_world.specs.Opening.{AreFew, AreFitting};
-ghost use Rattle.warm_world.specs.Seen.{IsAtRest, IsWorld, listed, seen};
+ghost use Rattle.warm_world.specs.Seen.{IsAtRest, listed, seen};
 ghost use Rattle.warm_world.specs.Stands.{StandsFor};
 ghost use Rattle.warm_schedule.specs.Text.{IsLine};
 ghost use Rattle.warm_schedule.specs.Printed.{Played};
@@ -15,7 +15,6 @@ use crate::printer::{print_answer, print_bad_line, print_end_refused, print_refu
 use crate::text::first_line;
 use std::alloc::Global;
 use std::io::{ErrorKind, Read, Write};
-use std::marker::PhantomData;
 use std::mem;
 use warm_devices::PageDevice;
 use warm_gossip::NodeFault;
@@ -24,29 +23,26 @@ use warm_world::{BadWorld, Setup, World, WorldFault};
 
 // A world, and the line that has begun: its bytes, no more of them than make it too long.
 #[derive(Drop)]
-struct Session {
+struct Session<D: PageDevice> {
     alloc: Global,
-    world: World,
+    world: World<D>,
     number: u64,
     line: Vec<u8>,
-    // What holds of every boxed device is known where a type names the box.
-    boxes: PhantomData<Box<dyn PageDevice + Send>>,
 }
 
-impl Session {
+impl<D: PageDevice> Session<D> {
     // A new world, before the first line.
     fn new(
         alloc: Global,
         setup: Setup,
-        devices: Vec<Vec<Box<dyn PageDevice + Send>>>,
-    ) -> Result<Session, PlayFault>
-        requires few { AreFew (listed state devices.items) }
-        ensures fit { IfOk result (λ s. IsWorld state s.world) }
-        ensures fresh { IfOk result (λ s. IsFresh (session state s)
-            (opening setup (listed state devices.items))) }
-        ensures fitting { OnOk result (AreFitting setup (listed state devices.items)) }
+        devices: Vec<Vec<D>>,
+    ) -> Result<Session<D>, PlayFault>
+        requires few { AreFew (listed D.state devices.items) }
+        ensures fresh { IfOk result (λ s. IsFresh (session s)
+            (opening setup (listed D.state devices.items))) }
+        ensures fitting { OnOk result (AreFitting setup (listed D.state devices.items)) }
         ensures refused { IfErr result (λ why.
-            (why ≡ BadDevices) ⊎ AreFitting setup (listed state devices.items)) }
+            (why ≡ BadDevices) ⊎ AreFitting setup (listed D.state devices.items)) }
     {
         let world = match World::new(alloc, setup, devices) {
             Ok(world) => world,
@@ -58,7 +54,6 @@ impl Session {
             world,
             number: 1,
             line: Vec::new(alloc),
-            boxes: PhantomData,
         })
     }
 
@@ -66,7 +61,7 @@ impl Session {
     fn add(&mut self, piece: &[u8]) -> Result<(), PlayFault>
         requires { IsLine piece.now }
         ensures adds { OnOk result
-            (AddsBytes (session state self.old) piece.now (session state self.new)) }
+            (AddsBytes (session self.old) piece.now (session self.new)) }
         ensures same { OnOk result (self.new.world ≡ self.old.world) }
         ensures number { OnOk result (self.new.number ≡ self.old.number) }
     {
@@ -80,12 +75,10 @@ impl Session {
 
     // Answers a line.
     fn answer<W: Write>(&mut self, line: &[u8], writer: &mut W) -> Result<(), PlayFault>
-        requires fit { IsWorld state self.old.world }
-        ensures fit { IsWorld state self.new.world }
         ensures answered { OnOk result ((out : List ℕ)
             × Appends (W.contents writer.old) (W.contents writer.new) out
-            × AnswersLine (seen state self.old.world) self.old.number line.now out
-            (seen state self.new.world)) }
+            × AnswersLine (seen self.old.world) self.old.number line.now out
+            (seen self.new.world)) }
         ensures number { self.new.number ≡ self.old.number }
         ensures held { self.new.line ≡ self.old.line }
     {
@@ -110,12 +103,10 @@ impl Session {
 
     // Answers the line that is held. It is held no longer, and its room is kept.
     fn answer_held<W: Write>(&mut self, writer: &mut W) -> Result<(), PlayFault>
-        requires fit { IsWorld state self.old.world }
-        ensures fit { OnOk result (IsWorld state self.new.world) }
         ensures answered { OnOk result ((out : List ℕ)
             × Appends (W.contents writer.old) (W.contents writer.new) out
-            × AnswersLine (seen state self.old.world) self.old.number self.old.line.items out
-            (seen state self.new.world)) }
+            × AnswersLine (seen self.old.world) self.old.number self.old.line.items out
+            (seen self.new.world)) }
         ensures number { self.new.number ≡ self.old.number }
         ensures none { OnOk result (self.new.line.items ≡ []) }
     {
@@ -130,12 +121,10 @@ impl Session {
     fn end_line<W: Write>(&mut self, piece: &[u8], writer: &mut W) -> Result<(), PlayFault>
         requires room { self.old.number + 1 < 2 ^ 64 }
         requires line { IsLine piece.now }
-        requires fit { IsWorld state self.old.world }
-        ensures fit { OnOk result (IsWorld state self.new.world) }
         ensures goes { OnOk result ((out : List ℕ)
             × Appends (W.contents writer.old) (W.contents writer.new) out
-            × Goes (session state self.old) (piece.now ++ 10 ∷ []) out
-            (session state self.new)) }
+            × Goes (session self.old) (piece.now ++ 10 ∷ []) out
+            (session self.new)) }
         ensures number { OnOk result (self.new.number ≡ self.old.number + 1) }
     {
         if self.line.is_empty() {
@@ -151,12 +140,10 @@ impl Session {
 
     // Takes the next bytes of the schedule, and answers each line that ends in them.
     fn feed<W: Write>(&mut self, bytes: &[u8], writer: &mut W) -> Result<(), PlayFault>
-        requires room { self.old.number + length bytes.now < 2 ^ 64 }
-        requires fit { IsWorld state self.old.world }
-        ensures fit { OnOk result (IsWorld state self.new.world) }
+        requires { self.old.number + length bytes.now < 2 ^ 64 }
         ensures goes { OnOk result ((out : List ℕ)
             × Appends (W.contents writer.old) (W.contents writer.new) out
-            × Goes (session state self.old) bytes.now out (session state self.new)) }
+            × Goes (session self.old) bytes.now out (session self.new)) }
         ensures number { OnOk result (self.new.number ≤ self.old.number + length bytes.now) }
     {
         let mut rest = bytes;
@@ -170,11 +157,10 @@ impl Session {
 
     // Gives the devices what waits for them, and prints where they don't take it.
     fn settle<W: Write>(&mut self, writer: &mut W) -> Result<(), PlayFault>
-        requires fit { IsWorld state self.old.world }
         ensures { OnOk result ((out : List ℕ)
             × Appends (W.contents writer.old) (W.contents writer.new) out
-            × Settles (seen state self.old.world) out
-            × (out ≡ [] → IsAtRest state self.new.world)) }
+            × Settles (seen self.old.world) out
+            × (out ≡ [] → IsAtRest self.new.world)) }
     {
         match self.world.finish() {
             Ok(()) => Ok(()),
@@ -187,10 +173,9 @@ impl Session {
 
     // Answers the last line, which no byte ended, settles the devices, and hands on what was printed.
     fn finish<W: Write>(&mut self, writer: &mut W) -> Result<(), PlayFault>
-        requires fit { IsWorld state self.old.world }
         ensures { OnOk result ((out : List ℕ)
             × Appends (W.contents writer.old) (W.contents writer.new) out
-            × Ends (session state self.old) out) }
+            × Ends (session self.old) out) }
     {
         self.answer_held(writer)?;
         self.settle(writer)?;
@@ -208,12 +193,10 @@ impl Session {
     ) -> Result<bool, PlayFault>
         requires room { 0 < length buffer.old }
         requires fits { self.old.number + length buffer.old < 2 ^ 64 }
-        requires fit { IsWorld state self.old.world }
-        ensures fit { OnOk result (IsWorld state self.new.world) }
         ensures goes { OnOk result ((bytes out : List ℕ)
             × Consumes (R.remaining reader.old) (R.remaining reader.new) bytes
             × Appends (W.contents writer.old) (W.contents writer.new) out
-            × Goes (session state self.old) bytes out (session state self.new)) }
+            × Goes (session self.old) bytes out (session self.new)) }
         ensures end { IfOk result (λ more. more ≡ false → IsAtEnd (R.remaining reader.new)) }
         ensures number { OnOk result (self.new.number ≤ self.old.number + length buffer.old) }
     {
@@ -267,21 +250,21 @@ pub const READ_SIZE: usize = 65_536;
 /// - Where the devices are not one list for each replica, with pages of the setup's size, it answers
 ///   [`PlayFault::BadDevices`], and nothing was read or written.
 /// - [`PlayFault`] says when each fault comes.
-pub fn play<R: Read, W: Write>(
+pub fn play<R: Read, W: Write, D: PageDevice>(
     alloc: Global,
     reader: &mut R,
     writer: &mut W,
     setup: Setup,
-    devices: Vec<Vec<Box<dyn PageDevice + Send>>>,
+    devices: Vec<Vec<D>>,
 ) -> Result<(), PlayFault>
-    requires few { AreFew (listed state devices.items) }
+    requires few { AreFew (listed D.state devices.items) }
     ensures end { OnOk result (IsAtEnd (R.remaining reader.new)) }
-    ensures misfit { (AreFitting setup (listed state devices.items) → ⊥)
+    ensures misfit { (AreFitting setup (listed D.state devices.items) → ⊥)
         → (result ≡ Err BadDevices)
         × (reader.new ≡ reader.old) × (writer.new ≡ writer.old) }
     ensures printed { OnOk result (IfSome (R.remaining reader.old) (λ text. (out : List ℕ)
         × Appends (W.contents writer.old) (W.contents writer.new) out
-        × Played (opening setup (listed state devices.items)) text out)) }
+        × Played (opening setup (listed D.state devices.items)) text out)) }
 {
     let mut session = Session::new(alloc, setup, devices)?;
     let Ok(mut buffer) = vec![in alloc; 0u8; READ_SIZE] else {

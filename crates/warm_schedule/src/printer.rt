@@ -188,6 +188,7 @@ pub fn print_answer<W: Write>(writer: &mut W, answer: &Answer) -> io::Result<()>
             writer.write_all(b"\n")
         }
         Answer::Loaded(page) => print_page_if_any(writer, "loaded ", *page),
+        Answer::Kept(horizon) => writeln!(writer, "horizon {horizon}"),
         Answer::Refused(fault) => print_refusal(writer, *fault),
     }
 }

@@ -6,7 +6,6 @@ use Rattle.warm_schedule.proofs.player.play.Goals as goal
 pub loop-init : goal.loop-init
 loop-init g c = record {
   goes = ([], [], Consumes-none _, Appends-none _, Goes-none _);
-  fit = c.in_ok-session.ensures.fit;
   number = omega (arith, c.in_ok-session.ensures.fresh.first);
   room = c.in-Ok.ensures.len;
   fresh = c.in_ok-session.ensures.fresh;
@@ -18,7 +17,6 @@ loop-preserved g c =
     let next = c.in_ok-read_some.ensures.goes in
     record {
       goes = (so_far.0 ++ next.0, so_far.1 ++ next.1, Consumes-then _ _ _ so_far.0 next.0 so_far.2 next.2, Appends-then _ _ _ so_far.1 next.1 so_far.3 next.3, Goes-then _ _ _ so_far.0 next.0 so_far.1 next.1 so_far.4 next.4);
-      fit = c.in_ok-read_some.ensures.fit;
       number = omega (arith, c.loop.invariant.number, c.in_ok-read_some.ensures.number, c.as_mut_slice.ensures.len, c.loop.invariant.room);
       room = c.loop.invariant.room;
       fresh = c.loop.invariant.fresh;

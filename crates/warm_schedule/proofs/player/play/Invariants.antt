@@ -1,7 +1,7 @@
 use Rattle.std.proofs.Common.{◌≡◌, ℕ, List, ◌+◌, ◌*◌, ◌≤◌, vec_len}
 use Rattle.std.specs.Io.KnownBytes.{Appends, Consumes}
 use Rattle.warm_world.specs.States.{opening}
-use Rattle.warm_world.specs.Seen.{IsWorld, listed}
+use Rattle.warm_world.specs.Seen.{listed}
 use Rattle.warm_schedule.specs.Stream.{session, Goes, IsFresh}
 use Rattle.warm_schedule.proofs.player.play.Given as goal
 
@@ -11,9 +11,8 @@ invariant-loop g l =
     let remaining = g.R.Read.remaining in
     record {
       goes : (seen out : List ℕ) × Consumes (remaining l.fn.reader) (remaining l.reader) seen × Appends (contents l.fn.writer) (contents l.writer) out
-          × Goes (session (λ b. (goal.PageDevice-dyn g (b.vtable, b.value)).state b.value) l.initial.session) seen out (session (λ b. (goal.PageDevice-dyn g (b.vtable, b.value)).state b.value) l.session);
-      fit : IsWorld (λ b. (goal.PageDevice-dyn g (b.vtable, b.value)).state b.value) l.session.world;
+          × Goes (session l.initial.session) seen out (session l.session);
       number : l.session.number ≤ 1 + l.counter * 65536;
       room : vec_len l.buffer ≡ 65536;
-      fresh : IsFresh (session (λ b. (goal.PageDevice-dyn g (b.vtable, b.value)).state b.value) l.initial.session) (opening l.fn.setup (listed (λ b. (goal.PageDevice-dyn g (b.vtable, b.value)).state b.value) l.fn.devices.items));
+      fresh : IsFresh (session l.initial.session) (opening l.fn.setup (listed g.D.PageDevice.state l.fn.devices.items));
     }

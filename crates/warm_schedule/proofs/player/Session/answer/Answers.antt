@@ -36,5 +36,5 @@ returns-in_ok-map_err-in-Ok-Act-clause-answered g c = (
   done c.print_answer.result c.in_ok-map_err-in-Ok-Act.ensures.variant c.print_answer.ensures,
   answers_event _ _ c.args.line.now c.in-Ok-Act.event c.step-answer.result _
       (was_line c.args.line.now c.parse_line.result c.parse_line.ensures (Act c.in-Ok-Act.event) (c.in-Ok-Act.is ∙ ap (λ (l : Line). Ok l) c.in-Ok-Act.field-0-is))
-      c.step-answer.ensures.step,
+      c.step-answer.ensures,
 )

@@ -10,9 +10,6 @@ returns-then-is_empty-clause-goes g c =
     let none : length line.items ≡ 0 = omega (arith, line.ok.0, eqb-true _ _ (sym c.is_empty.ensures ∙ c.if-is_empty.true)) in
     (a.0, a.1, Goes-end _ _ c.args.piece.now a.0 c.requires.line (answers_whole _ c.args.piece.now a.0 _ none a.2) (ap (λ (n : ℕ). n + 1) c.in_ok-answer.ensures.number) (rw c.in_ok-answer.ensures.held (nothing line.items none)))
 
-pub answer_held-requires : goal.answer_held-requires
-answer_held-requires g c = record { fit = rw c.in_ok-add.ensures.same c.requires.fit }
-
 pub returns-clause-goes : goal.returns-clause-goes
 returns-clause-goes g c =
     let a = c.in_ok-answer_held.ensures.answered in

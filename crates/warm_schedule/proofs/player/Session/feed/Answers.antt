@@ -6,7 +6,6 @@ use Rattle.warm_schedule.proofs.player.Session.feed.Goals as goal
 pub loop-piece-init : goal.loop-piece-init
 loop-piece-init g c = record {
   goes = ([], [], refl, Appends-none _, Goes-none _);
-  fit = c.requires.fit;
   number = omega arith;
 }
 
@@ -24,7 +23,6 @@ loop-piece-preserved g c =
         Appends-then _ _ _ so_far.1 next.0 so_far.3 next.1,
         Goes-then _ _ _ so_far.0 (piece ++ 10 ∷ []) so_far.1 next.0 so_far.4 next.2,
       );
-      fit = c.in_ok-end_line.ensures.fit;
       number = omega (arith, c.in_ok-end_line.ensures.number, c.loop-piece.invariant.number, ap (λ (xs : List ℕ). length xs) c.in-Some.ensures.parts, length-append piece (10 ∷ after));
     }
 
@@ -32,7 +30,6 @@ pub returns : goal.returns
 returns g c =
     let so_far = c.loop-piece.invariant.goes in
     record {
-      fit = rw c.in_ok-add.ensures.same c.loop-piece.invariant.fit;
       goes = (
         so_far.1 ++ [],
         Appends-then _ _ _ so_far.1 [] so_far.3 (Appends-none _),

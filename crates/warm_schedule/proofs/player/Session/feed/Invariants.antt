@@ -1,6 +1,5 @@
 use Rattle.std.proofs.Common.{◌≡◌, ℕ, List, ◌+◌, ◌≤◌, ◌++◌, length}
 use Rattle.std.specs.Io.KnownBytes.{Appends}
-use Rattle.warm_world.specs.Seen.{IsWorld}
 use Rattle.warm_schedule.specs.Stream.{session, Goes}
 use Rattle.warm_schedule.proofs.player.Session.feed.Given as goal
 
@@ -9,8 +8,7 @@ invariant-loop-piece g l =
     let contents = g.W.Write.contents in
     record {
       goes : (taken out : List ℕ) × (l.bytes ≡ taken ++ l.rest) × Appends (contents l.fn.writer) (contents l.writer) out
-          × Goes (session (λ b. (goal.PageDevice-dyn g (b.vtable, b.value)).state b.value) l.fn.self) taken out (session (λ b. (goal.PageDevice-dyn g (b.vtable, b.value)).state b.value) l.self);
-      fit : IsWorld (λ b. (goal.PageDevice-dyn g (b.vtable, b.value)).state b.value) l.self.world;
+          × Goes (session l.fn.self) taken out (session l.self);
       number : l.self.number + length l.rest ≤ l.fn.self.number + length l.bytes;
     }
 
