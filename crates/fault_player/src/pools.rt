@@ -24,12 +24,7 @@ pub type Failing = Flaky<MemDevice>;
 ///
 /// # Errors
 /// Where it is refused.
-pub fn opened(
-    alloc: Global,
-    frames: u32,
-    first: Failing,
-    second: Failing,
-) -> Result<Pool<Failing>>
+pub fn opened(alloc: Global, frames: u32, first: Failing, second: Failing) -> Result<Pool<Failing>>
     ensures { IfOk result (λ pool. IsRankedByAll pool) }
 {
     let Ok(mut devices) = Vec::with_capacity(alloc, 2) else {
@@ -144,8 +139,7 @@ fn write(
     tell(rt, pool.write(slot, at, &bytes[..len]))
 }
 
-fn read(rt: &impl Print, pool: &Pool<Failing>, slot: Slot) -> Result<()>
-{
+fn read(rt: &impl Print, pool: &Pool<Failing>, slot: Slot) -> Result<()> {
     if !pool.holds(slot) {
         return Ok(println!(rt; "stale")?);
     }
@@ -160,8 +154,7 @@ fn read(rt: &impl Print, pool: &Pool<Failing>, slot: Slot) -> Result<()>
     Ok(println!(rt; "")?)
 }
 
-fn show(rt: &impl Print, pool: &Pool<Failing>) -> Result<()>
-{
+fn show(rt: &impl Print, pool: &Pool<Failing>) -> Result<()> {
     print!(rt; "resident")?;
     for dev in 0..SHOWN.0 {
         for no in 0..SHOWN.1 {

@@ -11,8 +11,7 @@ use warm_refbuffer::RefBuffer;
 use warm_stamps::{ByteList, PageId, Reference, ReplicaId, Stamp};
 
 // A node of one frame over the device, which knows of 0:1 and 0:2.
-pub(crate) fn opened(alloc: Global, device: MemDevice) -> Result<Node<MemDevice>, Ended>
-{
+pub(crate) fn opened(alloc: Global, device: MemDevice) -> Result<Node<MemDevice>, Ended> {
     let Ok(id) = ReplicaId::new(1) else {
         return Err(Ended::Broken);
     };
@@ -36,8 +35,7 @@ fn reference(replica: ReplicaId, no: u64) -> Reference {
     }
 }
 
-fn is_pinned(node: &mut Node<MemDevice>, no: u64, generation: u64) -> bool
-{
+fn is_pinned(node: &mut Node<MemDevice>, no: u64, generation: u64) -> bool {
     let page = PageId { dev: 0, no };
     let slot = Slot {
         index: 0,
@@ -46,8 +44,7 @@ fn is_pinned(node: &mut Node<MemDevice>, no: u64, generation: u64) -> bool
     matches!(node.call(Call::Pin(page)), Reply::Pinned(found) if found == slot)
 }
 
-fn is_unpinned(node: &mut Node<MemDevice>, generation: u64) -> bool
-{
+fn is_unpinned(node: &mut Node<MemDevice>, generation: u64) -> bool {
     let slot = Slot {
         index: 0,
         generation,
@@ -61,8 +58,11 @@ fn is_raised(node: &mut Node<MemDevice>, time: u64) -> bool {
 }
 
 // A page is pinned, written to and unpinned; another takes its place; the horizon rises past one of them, and the node restarts.
-pub(crate) fn rows(met: &mut Met, node: &mut Node<MemDevice>, bytes: ByteList) -> Result<(), Ended>
-{
+pub(crate) fn rows(
+    met: &mut Met,
+    node: &mut Node<MemDevice>,
+    bytes: ByteList,
+) -> Result<(), Ended> {
     met.holds(is_pinned(node, 1, 1), "a pin is refused")?;
     let slot = Slot {
         index: 0,
@@ -130,6 +130,9 @@ impl Made {
         met.holds(key.page() == first.page, "a key is of its page")?;
         history.raise(2);
         let forgets = history.horizon() == 2 && history.get(first.page) == None;
-        met.holds(forgets, "a history remembers what is older than its horizon")
+        met.holds(
+            forgets,
+            "a history remembers what is older than its horizon",
+        )
     }
 }

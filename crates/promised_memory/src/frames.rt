@@ -41,7 +41,10 @@ fn is_sums(alloc: Global, bytes: &[u8], since: u64) -> bool {
 }
 
 fn narrow(met: &mut Met, alloc: Global) -> Result<(), Ended> {
-    met.holds(is_nothing(alloc, &NARROW_NOTHING, 0), "no narrow entries are refused")?;
+    met.holds(
+        is_nothing(alloc, &NARROW_NOTHING, 0),
+        "no narrow entries are refused",
+    )?;
     met.holds(is_wish(alloc, &NARROW_WISH, 0), "a narrow wish is refused")?;
     let mut bytes = [7u8; 2059];
     bytes[..11].copy_from_slice(&NARROW_SUMS);

@@ -20,7 +20,10 @@ const FIRST: Slot = Slot {
 
 // Whether what is said of the events of a place says that these take no memory: of a `Refer` into a buffer that has room.
 pub(crate) fn is_free(place: usize) -> bool {
-    matches!(place, 0 | 1 | 7 | 14 | 15 | 17 | 18 | 22 | 26 | 30 | 32 | 36)
+    matches!(
+        place,
+        0 | 1 | 7 | 14 | 15 | 17 | 18 | 22 | 26 | 30 | 32 | 36
+    )
 }
 
 fn first_bucket() -> Result<Bucket, Ended> {

@@ -57,8 +57,7 @@ fn over(
 }
 
 // How a world answers an event. What is known of its answers is left here, so that it is read once and not by each caller.
-fn asked(world: &mut World<MemDevice>, event: Event) -> Answer
-{
+fn asked(world: &mut World<MemDevice>, event: Event) -> Answer {
     world.step(event)
 }
 
@@ -74,8 +73,7 @@ fn look_at(place: usize) -> Event {
 }
 
 // Whether two worlds show the same.
-fn look_same(world: &mut World<MemDevice>, other: &mut World<MemDevice>) -> bool
-{
+fn look_same(world: &mut World<MemDevice>, other: &mut World<MemDevice>) -> bool {
     let mut same = true;
     for place in 0..5usize {
         let seen = asked(world, look_at(place));
@@ -91,8 +89,7 @@ fn step_up_to(
     alloc: Global,
     world: &mut World<MemDevice>,
     end: usize,
-) -> Result<Option<usize>, Ended>
-{
+) -> Result<Option<usize>, Ended> {
     for place in 0..end {
         let answer = asked(world, event_at(alloc, place)?);
         met.holds(!is_misnamed(&answer), "an event names what is not there")?;
@@ -111,8 +108,7 @@ fn step_both(
     world: &mut World<MemDevice>,
     twin: &mut World<MemDevice>,
     place: usize,
-) -> Result<(), Ended>
-{
+) -> Result<(), Ended> {
     let answer = asked(world, event_at(alloc, place)?);
     met.holds(!is_memory(&answer), "an event is refused again")?;
     let others = asked(twin, event_at(alloc, place)?);
@@ -126,8 +122,7 @@ fn go_on(
     world: &mut World<MemDevice>,
     twin: &mut World<MemDevice>,
     refused: usize,
-) -> Result<(), Ended>
-{
+) -> Result<(), Ended> {
     let stopped = step_up_to(met, alloc, twin, refused)?;
     met.holds(stopped.is_none(), "an event of another world is refused")?;
     met.refuse(look_same(world, twin), "a refused event changes nothing")?;
@@ -144,8 +139,7 @@ fn step_as(
     twin: &mut World<MemDevice>,
     place: usize,
     answer: &Answer,
-) -> Result<(), Ended>
-{
+) -> Result<(), Ended> {
     if is_memory(answer) {
         return met.refuse(!is_free(place), "an event that takes no memory is refused");
     }
@@ -159,8 +153,7 @@ fn step_along(
     alloc: Global,
     twin: &mut World<MemDevice>,
     answers: &[Answer],
-) -> Result<Option<usize>, Ended>
-{
+) -> Result<Option<usize>, Ended> {
     let mut refused = None;
     for place in 0..answers.len() {
         step_as(met, alloc, twin, place, &answers[place])?;
@@ -178,8 +171,7 @@ fn go_along(
     world: &mut World<MemDevice>,
     twin: &mut World<MemDevice>,
     answers: &[Answer],
-) -> Result<(), Ended>
-{
+) -> Result<(), Ended> {
     let refused = step_along(met, alloc, twin, answers)?;
     met.holds(look_same(world, twin), "a run leaves something else")?;
     match refused {
@@ -200,8 +192,11 @@ enum Refusal {
 }
 
 // Steps a world through all events, up to one that is refused.
-fn step_all(met: &mut Met, alloc: Global, world: &mut World<MemDevice>) -> Result<Option<Refusal>, Ended>
-{
+fn step_all(
+    met: &mut Met,
+    alloc: Global,
+    world: &mut World<MemDevice>,
+) -> Result<Option<Refusal>, Ended> {
     match step_up_to(met, alloc, world, EVENTS)? {
         Some(place) => Ok(Some(Refusal::Event(place))),
         None => Ok(None),
@@ -209,8 +204,11 @@ fn step_all(met: &mut Met, alloc: Global, world: &mut World<MemDevice>) -> Resul
 }
 
 // Runs a world through all events.
-fn run_all(met: &mut Met, alloc: Global, world: &mut World<MemDevice>) -> Result<Option<Refusal>, Ended>
-{
+fn run_all(
+    met: &mut Met,
+    alloc: Global,
+    world: &mut World<MemDevice>,
+) -> Result<Option<Refusal>, Ended> {
     let answers = match world.run(all_events(alloc)?) {
         Ok(answers) => answers,
         Err(back) => return Ok(Some(Refusal::Run(back))),
@@ -229,8 +227,7 @@ fn run_again(
     world: &mut World<MemDevice>,
     twin: &mut World<MemDevice>,
     back: Vec<Event>,
-) -> Result<(), Ended>
-{
+) -> Result<(), Ended> {
     let same = look_same(world, twin);
     met.refuse(same && back.len() == EVENTS, "a refused run does something")?;
     let Ok(answers) = world.run(back) else {
@@ -247,8 +244,7 @@ fn compare(
     world: &mut World<MemDevice>,
     twin: &mut World<MemDevice>,
     refusal: Refusal,
-) -> Result<(), Ended>
-{
+) -> Result<(), Ended> {
     match refusal {
         Refusal::Event(place) => go_on(met, alloc, world, twin, place),
         Refusal::Run(back) => run_again(met, alloc, world, twin, back),
@@ -268,8 +264,7 @@ fn play(
     alloc: Global,
     world: &mut World<MemDevice>,
     life: Life,
-) -> Result<Option<Refusal>, Ended>
-{
+) -> Result<Option<Refusal>, Ended> {
     match life {
         Life::Steps => step_all(met, alloc, world),
         Life::Runs => run_all(met, alloc, world),
@@ -277,8 +272,7 @@ fn play(
 }
 
 // Finishes a world, which takes no memory.
-fn finish(met: &mut Met, world: &mut World<MemDevice>) -> Result<bool, Ended>
-{
+fn finish(met: &mut Met, world: &mut World<MemDevice>) -> Result<bool, Ended> {
     met.holds(world.finish().is_ok(), "a finish is refused")?;
     Ok(true)
 }

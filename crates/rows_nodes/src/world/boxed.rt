@@ -17,21 +17,19 @@ fn lives_over<D: PageDevice>(rt: &impl Abort, alloc: Global, devices: Vec<D>, ro
     runs(rt, alloc, &mut world, rows)
 }
 
-// A device in memory, and one whose first call fails.
-fn both_kinds(rt: &impl Abort, alloc: Global) -> Vec<Box<dyn PageDevice + Send>> {
-    let memory = MemDevice::new(alloc, 8, 16).expect(rt, "room for its pages");
-    let steady: Box<dyn PageDevice + Send> = Box::new(alloc, memory).expect(rt, "room for it");
-    let memory = MemDevice::new(alloc, 8, 16).expect(rt, "room for its pages");
-    let failing: Box<dyn PageDevice + Send> = Box::new(alloc, Flaky::new(memory, 1)).expect(
-        rt,
-        "room for it",
-    );
+// Two devices, of which the caller may make boxes.
+fn both<D: PageDevice>(rt: &impl Abort, alloc: Global, first: D, second: D) -> Vec<D> {
     let mut devices = Vec::with_capacity(alloc, 2).expect(rt, "room for two devices");
-    devices.push_reserved(steady);
-    devices.push_reserved(failing);
+    devices.push_reserved(first);
+    devices.push_reserved(second);
     devices
 }
 
+fn memory(rt: &impl Abort, alloc: Global) -> MemDevice {
+    MemDevice::new(alloc, 8, 16).expect(rt, "room for its pages")
+}
+
+// Replica 2 has a device whose first call fails.
 #[test]
 fn replicas_live_over_boxed_devices(rt: HostRuntime) {
     let hottest = [page(1)];
@@ -54,5 +52,10 @@ fn replicas_live_over_boxed_devices(rt: HostRuntime) {
         Row::Knows(2, &[]),
         Row::Finishes(DONE),
     ];
-    lives_over(&rt, rt.alloc(), both_kinds(&rt, rt.alloc()), &rows)
+    let alloc = rt.alloc();
+    let steady = Box::new(alloc, memory(&rt, alloc)).expect(&rt, "room for it");
+    let steady: Box<dyn PageDevice + Send> = steady;
+    let failing = Box::new(alloc, Flaky::new(memory(&rt, alloc), 1)).expect(&rt, "room for it");
+    let failing: Box<dyn PageDevice + Send> = failing;
+    lives_over(&rt, alloc, both(&rt, alloc, steady, failing), &rows)
 }

@@ -1,9 +1,12 @@
 //! Horizons of replicas, and pages whose numbers have more than 32 bits.
 
-use super::{DONE, NO_REPLICA, NOT_ANSWERED, Row, Said, lives, page};
+use super::{DONE, NO_REPLICA, NOT_ANSWERED, Row, Said, fresh, lives, page, runs, said_in};
+use std::alloc::Global;
+use std::process::Abort;
+use warm_devices::MemDevice;
 use warm_gossip::NodeFault;
 use warm_pool::PoolFault;
-use warm_world::WorldFault;
+use warm_world::{Answer, Event, World, WorldFault};
 
 const NO_PAGE: Said = Said::Refused(WorldFault::Node(NodeFault::Pool(PoolFault::NoPage)));
 
@@ -113,6 +116,43 @@ fn no_replica_has_the_horizon(rt: HostRuntime) {
         Row::Forgets(2, 0, Said::Kept(0)),
     ];
     lives(&rt, rt.alloc(), 2, 4, &rows)
+}
+
+// A page, and horizons of replicas 1 and 3.
+fn events(rt: &impl Abort, alloc: Global) -> Vec<Event> {
+    let mut events = Vec::with_capacity(alloc, 5).expect(rt, "room for the events");
+    events.push_reserved(Event::Refer(1, 1, page(1), 10));
+    events.push_reserved(Event::Flush(1, 1));
+    events.push_reserved(Event::Horizon(1, 15));
+    events.push_reserved(Event::Horizon(3, 99));
+    events.push_reserved(Event::Horizon(1, 3));
+    events
+}
+
+fn are_said(answers: Vec<Answer>, wanted: &[Said]) -> bool {
+    let count = answers.len();
+    for (place, answer) in answers.into_iter().enumerate() {
+        if wanted.get(place).copied() != Some(said_in(answer)) {
+            return false;
+        }
+    }
+    count == wanted.len()
+}
+
+fn runs_at_once(rt: &impl Abort, alloc: Global, world: &mut World<MemDevice>) {
+    let answers = world
+        .run(events(rt, alloc))
+        .ok()
+        .expect(rt, "memory is ample");
+    let wanted = [DONE, DONE, Said::Kept(15), NO_REPLICA, Said::Kept(15)];
+    assert!(rt; are_said(answers, &wanted));
+    runs(rt, alloc, world, &[Row::Knows(1, &[])]);
+}
+
+#[test]
+fn a_run_answers_horizons(rt: HostRuntime) {
+    let mut world = fresh(&rt, rt.alloc(), 2, 4);
+    runs_at_once(&rt, rt.alloc(), &mut world)
 }
 
 // Replica 1 offers the sums of nothing, with the horizon 15. Before its raise replica 2 would also answer with bucket 2.
