@@ -32,11 +32,7 @@ struct Session<D: PageDevice> {
 
 impl<D: PageDevice> Session<D> {
     // A new world, before the first line.
-    fn new(
-        alloc: Global,
-        setup: Setup,
-        devices: Vec<Vec<D>>,
-    ) -> Result<Session<D>, PlayFault>
+    fn new(alloc: Global, setup: Setup, devices: Vec<Vec<D>>) -> Result<Session<D>, PlayFault>
         requires few { AreFew (listed D.state devices.items) }
         ensures fresh { IfOk result (λ s. IsFresh (session s)
             (opening setup (listed D.state devices.items))) }
@@ -236,8 +232,9 @@ pub const MAX_READS: u64 = 1 << 40;
 pub const READ_SIZE: usize = 65_536;
 
 /// Reads a schedule to its end, and answers it line by line in a new world of this setup, whose replicas have these devices, a
-/// list for each. Then the devices get what waits for them ([`World::finish`]); where that is refused, the last line is
-/// `end refused 12 Fault`. The devices are dropped before it returns.
+/// list for each. All devices have one type, which may be a box of any device. Then the devices get what waits for them
+/// ([`World::finish`]); where that is refused, the last line is `end refused 12 Fault`. The devices are dropped before it
+/// returns.
 ///
 /// It reads pieces of at most 65,536 bytes and keeps at most one line, so a schedule of any length, or of one line of
 /// any length, takes no more memory than its world. Each line is answered before the bytes after it are looked at. The
