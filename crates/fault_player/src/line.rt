@@ -39,7 +39,7 @@ pub enum Asked {
 #[derive(Clone, Copy, Debug)]
 pub struct Made {
     /// How many pages it has.
-    pub pages: u32,
+    pub pages: u64,
     /// The number of the call that fails, counted from 1, or 0 where none does.
     pub call: u64,
 }
@@ -58,7 +58,7 @@ pub fn opening_in(alloc: Global, line: &str) -> Result<(u32, Vec<Made>)> {
             break;
         };
         devices.push(Made {
-            pages: small(number(Some(pages))?)?,
+            pages: number(Some(pages))?,
             call: number(words.next())?,
         })?;
     }
@@ -123,7 +123,7 @@ fn device(number: u64) -> Result<u16> {
 fn page(numbers: &[u64; MOST]) -> Result<PageId> {
     Ok(PageId {
         dev: device(numbers[0])?,
-        no: small(numbers[1])?,
+        no: numbers[1],
     })
 }
 

@@ -12,17 +12,17 @@ mod pools;
 
 use anyhow::{Context, Result, bail};
 use line::{Made, opening_in};
-use pools::{PAGE_SIZE, ask_all, opened};
+use pools::{Failing, PAGE_SIZE, ask_all, opened};
 use std::alloc::Global;
 use std::{env, io};
-use warm_devices::{Flaky, MemDevice, PageDevice};
+use warm_devices::{Flaky, MemDevice};
 use warm_history::History;
 use warm_schedule::play;
 use warm_stamps::{PageId, Reference, ReplicaId, Stamp};
 use warm_world::Setup;
 
 // What is known of pages: device, page and time of each reference.
-const KNOWN: [(u16, u32, u64); 9] = [
+const KNOWN: [(u16, u64, u64); 9] = [
     (0, 3, 1),
     (0, 3, 9),
     (1, 2, 2),
@@ -35,14 +35,11 @@ const KNOWN: [(u16, u32, u64); 9] = [
 ];
 
 // A device in memory, of whose calls one fails.
-fn failing(alloc: Global, made: Made) -> Result<Box<Flaky<MemDevice>>> {
+fn failing(alloc: Global, made: Made) -> Result<Failing> {
     let Ok(memory) = MemDevice::new(alloc, made.pages, PAGE_SIZE) else {
         bail!("no memory")
     };
-    let Ok(device) = Box::new(alloc, Flaky::new(memory, made.call)) else {
-        bail!("no memory")
-    };
-    Ok(device)
+    Ok(Flaky::new(memory, made.call))
 }
 
 fn known(alloc: Global) -> Result<History> {
@@ -71,7 +68,7 @@ fn ask_pool(rt: &HostRuntime, history: &History, text: &str) -> Result<()> {
         bail!("a pool has two devices")
     };
     let (first, second) = (failing(alloc, *first)?, failing(alloc, *second)?);
-    let mut spare: Vec<Box<dyn PageDevice + Send>> = Vec::new(alloc);
+    let mut spare = Vec::new(alloc);
     for made in others {
         spare.push(failing(alloc, *made)?)?;
     }
@@ -85,9 +82,9 @@ fn play_over(rt: &HostRuntime, call: u64, frames: u32) -> Result<()> {
     let Ok(setup) = Setup::new(1, 1, 4, frames, PAGE_SIZE as u32) else {
         bail!("a pool has 1 to 65536 frames")
     };
-    let mut list: Vec<Box<dyn PageDevice + Send>> = Vec::with_capacity(alloc, 1)?;
+    let mut list = Vec::with_capacity(alloc, 1)?;
     list.push_reserved(failing(alloc, Made { pages: 8, call })?);
-    let mut devices: Vec<Vec<Box<dyn PageDevice + Send>>> = Vec::with_capacity(alloc, 1)?;
+    let mut devices = Vec::with_capacity(alloc, 1)?;
     devices.push_reserved(list);
     match play(alloc, &mut rt.stdin(), &mut rt.stdout(), setup, devices) {
         Ok(()) => Ok(()),

@@ -1,35 +1,31 @@
-//! Calls of a pool, each in a function of its own that keeps what a pool is and by which history it is ranked, and prints what
-//! came of it.
+//! Calls of a pool, each in a function of its own that keeps by which history it is ranked, and prints what came of it.
 ghost use Rattle.std.specs.Prelude.{IfOk, IfSome};
-ghost use Rattle.warm_pool.specs.State.{IsPool, IsRankedByAll, RankedBy};
+ghost use Rattle.warm_pool.specs.State.{IsRankedByAll, RankedBy};
 
 use crate::line::{Asked, asked_in};
 use anyhow::{Result, bail};
 use std::alloc::Global;
 use std::io::Print;
-use warm_devices::PageDevice;
+use warm_devices::{Flaky, MemDevice};
 use warm_history::History;
-use warm_pool::{Pool, PoolFault, Pooled, Slot};
+use warm_pool::{Pool, PoolFault, Slot};
 use warm_stamps::PageId;
 
 /// How many bytes a page has.
 pub const PAGE_SIZE: usize = 16;
 
 /// The number of devices of a pool, and of pages of each that `show` looks for.
-const SHOWN: (u16, u32) = (2, 8);
+const SHOWN: (u16, u64) = (2, 8);
+
+/// A device in memory, of whose calls one fails.
+pub type Failing = Flaky<MemDevice>;
 
 /// A pool over two devices, without a page.
 ///
 /// # Errors
 /// Where it is refused.
-pub fn opened(
-    alloc: Global,
-    frames: u32,
-    first: Box<dyn PageDevice + Send>,
-    second: Box<dyn PageDevice + Send>,
-) -> Result<Pool>
-    ensures pool { IfOk result (λ pool. IsPool (⟦<Pool as Pooled>⟧.state pool)) }
-    ensures ranked { IfOk result (λ pool. IsRankedByAll (⟦<Pool as Pooled>⟧.state pool)) }
+pub fn opened(alloc: Global, frames: u32, first: Failing, second: Failing) -> Result<Pool<Failing>>
+    ensures { IfOk result (λ pool. IsRankedByAll pool) }
 {
     let Ok(mut devices) = Vec::with_capacity(alloc, 2) else {
         bail!("no memory")
@@ -49,13 +45,12 @@ pub fn opened(
 /// Where a line says nothing, or nothing can be printed.
 pub fn ask_all(
     rt: &impl Print,
-    pool: Pool,
+    pool: Pool<Failing>,
     history: &History,
-    mut spare: Vec<Box<dyn PageDevice + Send>>,
+    mut spare: Vec<Failing>,
     lines: &str,
 ) -> Result<()>
-    requires pool { IsPool (⟦<Pool as Pooled>⟧.state pool) }
-    requires ranked { RankedBy (⟦<Pool as Pooled>⟧.state pool) history.now }
+    requires { RankedBy pool history.now }
 {
     let mut pool = pool;
     for line in lines.lines() {
@@ -73,15 +68,13 @@ pub fn ask_all(
 // Asks a pool what a line says, which does not close it.
 fn ask(
     rt: &impl Print,
-    pool: &mut Pool,
+    pool: &mut Pool<Failing>,
     history: &History,
     asked: Asked,
-    spare: &mut Vec<Box<dyn PageDevice + Send>>,
+    spare: &mut Vec<Failing>,
 ) -> Result<()>
-    requires pool { IsPool (⟦<Pool as Pooled>⟧.state pool.old) }
-    requires ranked { RankedBy (⟦<Pool as Pooled>⟧.state pool.old) history.now }
-    ensures pool { IsPool (⟦<Pool as Pooled>⟧.state pool.new) }
-    ensures ranked { RankedBy (⟦<Pool as Pooled>⟧.state pool.new) history.now }
+    requires { RankedBy pool.old history.now }
+    ensures { RankedBy pool.new history.now }
 {
     match asked {
         Asked::Retires(dev) => retire(rt, pool, history, dev, spare),
@@ -115,11 +108,9 @@ fn tell_slot(rt: &impl Print, slot: Result<Slot, PoolFault>) -> Result<()> {
     }
 }
 
-fn unpin(rt: &impl Print, pool: &mut Pool, history: &History, slot: Slot) -> Result<()>
-    requires pool { IsPool (⟦<Pool as Pooled>⟧.state pool.old) }
-    requires ranked { RankedBy (⟦<Pool as Pooled>⟧.state pool.old) history.now }
-    ensures pool { IsPool (⟦<Pool as Pooled>⟧.state pool.new) }
-    ensures ranked { RankedBy (⟦<Pool as Pooled>⟧.state pool.new) history.now }
+fn unpin(rt: &impl Print, pool: &mut Pool<Failing>, history: &History, slot: Slot) -> Result<()>
+    requires { RankedBy pool.old history.now }
+    ensures { RankedBy pool.new history.now }
 {
     if !pool.holds(slot) {
         return Ok(println!(rt; "stale")?);
@@ -130,17 +121,15 @@ fn unpin(rt: &impl Print, pool: &mut Pool, history: &History, slot: Slot) -> Res
 
 fn write(
     rt: &impl Print,
-    pool: &mut Pool,
+    pool: &mut Pool<Failing>,
     history: &History,
     slot: Slot,
     at: usize,
     len: usize,
     byte: u8,
 ) -> Result<()>
-    requires pool { IsPool (⟦<Pool as Pooled>⟧.state pool.old) }
-    requires ranked { RankedBy (⟦<Pool as Pooled>⟧.state pool.old) history.now }
-    ensures pool { IsPool (⟦<Pool as Pooled>⟧.state pool.new) }
-    ensures ranked { RankedBy (⟦<Pool as Pooled>⟧.state pool.new) history.now }
+    requires { RankedBy pool.old history.now }
+    ensures { RankedBy pool.new history.now }
 {
     if !pool.holds(slot) {
         return Ok(println!(rt; "stale")?);
@@ -150,9 +139,7 @@ fn write(
     tell(rt, pool.write(slot, at, &bytes[..len]))
 }
 
-fn read(rt: &impl Print, pool: &Pool, slot: Slot) -> Result<()>
-    requires { IsPool (⟦<Pool as Pooled>⟧.state pool.now) }
-{
+fn read(rt: &impl Print, pool: &Pool<Failing>, slot: Slot) -> Result<()> {
     if !pool.holds(slot) {
         return Ok(println!(rt; "stale")?);
     }
@@ -167,9 +154,7 @@ fn read(rt: &impl Print, pool: &Pool, slot: Slot) -> Result<()>
     Ok(println!(rt; "")?)
 }
 
-fn show(rt: &impl Print, pool: &Pool) -> Result<()>
-    requires { IsPool (⟦<Pool as Pooled>⟧.state pool.now) }
-{
+fn show(rt: &impl Print, pool: &Pool<Failing>) -> Result<()> {
     print!(rt; "resident")?;
     for dev in 0..SHOWN.0 {
         for no in 0..SHOWN.1 {
@@ -187,15 +172,13 @@ fn show(rt: &impl Print, pool: &Pool) -> Result<()>
 // A spare device that is refused stays the next.
 fn retire(
     rt: &impl Print,
-    pool: &mut Pool,
+    pool: &mut Pool<Failing>,
     history: &History,
     dev: u16,
-    spare: &mut Vec<Box<dyn PageDevice + Send>>,
+    spare: &mut Vec<Failing>,
 ) -> Result<()>
-    requires pool { IsPool (⟦<Pool as Pooled>⟧.state pool.old) }
-    requires ranked { RankedBy (⟦<Pool as Pooled>⟧.state pool.old) history.now }
-    ensures pool { IsPool (⟦<Pool as Pooled>⟧.state pool.new) }
-    ensures ranked { RankedBy (⟦<Pool as Pooled>⟧.state pool.new) history.now }
+    requires { RankedBy pool.old history.now }
+    ensures { RankedBy pool.new history.now }
 {
     let Some(device) = spare.pop() else {
         return Ok(println!(rt; "none spare")?);
@@ -211,13 +194,9 @@ fn retire(
 }
 
 // Closes the pool, or gives it back where that is refused.
-fn closed(rt: &impl Print, pool: Pool, history: &History) -> Result<Option<Pool>>
-    requires pool { IsPool (⟦<Pool as Pooled>⟧.state pool) }
-    requires ranked { RankedBy (⟦<Pool as Pooled>⟧.state pool) history.now }
-    ensures pool { IfOk result (λ kept. IfSome kept
-        (λ pool. IsPool (⟦<Pool as Pooled>⟧.state pool))) }
-    ensures ranked { IfOk result (λ kept. IfSome kept
-        (λ pool. RankedBy (⟦<Pool as Pooled>⟧.state pool) history.now)) }
+fn closed(rt: &impl Print, pool: Pool<Failing>, history: &History) -> Result<Option<Pool<Failing>>>
+    requires { RankedBy pool history.now }
+    ensures { IfOk result (λ kept. IfSome kept (λ pool. RankedBy pool history.now)) }
 {
     match pool.close() {
         Ok(()) => {

@@ -1,10 +1,9 @@
 //! A node's calls that take no memory, and those of a buffer and a contest.
-ghost use Rattle.std.specs.Prelude.{IfOk};
 
 use refused_rows::{Ended, Met};
 use std::alloc::Global;
-use warm_devices::PageDevice;
-use warm_gossip::{Call, Node, Reply, Shown};
+use warm_devices::MemDevice;
+use warm_gossip::{Call, Node, Reply};
 use warm_history::{History, PageHist};
 use warm_pool::{Pool, Slot};
 use warm_rank::{Contest, key_of};
@@ -12,9 +11,7 @@ use warm_refbuffer::RefBuffer;
 use warm_stamps::{ByteList, PageId, Reference, ReplicaId, Stamp};
 
 // A node of one frame over the device, which knows of 0:1 and 0:2.
-pub(crate) fn opened(alloc: Global, device: Box<dyn PageDevice + Send>) -> Result<Node, Ended>
-    ensures { IfOk result (λ node. ⟦<Node as Shown>⟧.is_fit node) }
-{
+pub(crate) fn opened(alloc: Global, device: MemDevice) -> Result<Node<MemDevice>, Ended> {
     let Ok(id) = ReplicaId::new(1) else {
         return Err(Ended::Broken);
     };
@@ -31,18 +28,14 @@ pub(crate) fn opened(alloc: Global, device: Box<dyn PageDevice + Send>) -> Resul
 }
 
 // A reference to page `no` of device 0, at the time of its number.
-fn reference(replica: ReplicaId, no: u32) -> Reference {
-    let time = u64::from(no);
+fn reference(replica: ReplicaId, no: u64) -> Reference {
     Reference {
         page: PageId { dev: 0, no },
-        stamp: Stamp { time, replica },
+        stamp: Stamp { time: no, replica },
     }
 }
 
-fn is_pinned(node: &mut Node, no: u32, generation: u64) -> bool
-    requires { ⟦<Node as Shown>⟧.is_fit node.old }
-    ensures { ⟦<Node as Shown>⟧.is_fit node.new }
-{
+fn is_pinned(node: &mut Node<MemDevice>, no: u64, generation: u64) -> bool {
     let page = PageId { dev: 0, no };
     let slot = Slot {
         index: 0,
@@ -51,10 +44,7 @@ fn is_pinned(node: &mut Node, no: u32, generation: u64) -> bool
     matches!(node.call(Call::Pin(page)), Reply::Pinned(found) if found == slot)
 }
 
-fn is_unpinned(node: &mut Node, generation: u64) -> bool
-    requires { ⟦<Node as Shown>⟧.is_fit node.old }
-    ensures { ⟦<Node as Shown>⟧.is_fit node.new }
-{
+fn is_unpinned(node: &mut Node<MemDevice>, generation: u64) -> bool {
     let slot = Slot {
         index: 0,
         generation,
@@ -62,11 +52,17 @@ fn is_unpinned(node: &mut Node, generation: u64) -> bool
     matches!(node.call(Call::Unpin(slot)), Reply::Done)
 }
 
-// A page is pinned, written to and unpinned; another takes its place, and the node restarts.
-pub(crate) fn rows(met: &mut Met, node: &mut Node, bytes: ByteList) -> Result<(), Ended>
-    requires { ⟦<Node as Shown>⟧.is_fit node.old }
-    ensures { ⟦<Node as Shown>⟧.is_fit node.new }
-{
+fn is_raised(node: &mut Node<MemDevice>, time: u64) -> bool {
+    let kept = node.call(Call::Horizon(time));
+    matches!(kept, Reply::Kept(horizon) if horizon == time) && node.raise(0) == time
+}
+
+// A page is pinned, written to and unpinned; another takes its place; the horizon rises past one of them, and the node restarts.
+pub(crate) fn rows(
+    met: &mut Met,
+    node: &mut Node<MemDevice>,
+    bytes: ByteList,
+) -> Result<(), Ended> {
     met.holds(is_pinned(node, 1, 1), "a pin is refused")?;
     let slot = Slot {
         index: 0,
@@ -79,6 +75,7 @@ pub(crate) fn rows(met: &mut Met, node: &mut Node, bytes: ByteList) -> Result<()
     met.holds(matches!(left, Reply::Page(Some(_))), "a victim is refused")?;
     met.holds(is_pinned(node, 2, 2), "a pin over a dirty page is refused")?;
     met.holds(is_unpinned(node, 2), "an unpin is refused")?;
+    met.holds(is_raised(node, 2), "a horizon is refused")?;
     let ended = node.call(Call::Restart);
     met.holds(matches!(ended, Reply::Done), "a restart is refused")
 }
@@ -111,13 +108,13 @@ impl Made {
         })
     }
 
-    // Touches up to the buffer's capacity, reads of the history, and ranks.
+    // Touches up to the buffer's capacity, reads of the history, ranks, and a raise of the history's horizon.
     pub(crate) fn rows(self, met: &mut Met) -> Result<(), Ended> {
         let Made {
             replica,
             mut buffer,
             contest: _,
-            history,
+            mut history,
         } = self;
         let first = reference(replica, 1);
         let touched = buffer.touch(first).is_ok() && buffer.touch(first).is_ok();
@@ -130,6 +127,12 @@ impl Made {
         let known = Some(PageHist::Once(first.stamp));
         met.holds(history.get(first.page) == known, "a history forgets")?;
         let key = key_of(first.page, known);
-        met.holds(key.page() == first.page, "a key is of its page")
+        met.holds(key.page() == first.page, "a key is of its page")?;
+        history.raise(2);
+        let forgets = history.horizon() == 2 && history.get(first.page) == None;
+        met.holds(
+            forgets,
+            "a history remembers what is older than its horizon",
+        )
     }
 }

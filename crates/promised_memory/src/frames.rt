@@ -3,30 +3,59 @@ use refused_rows::{Ended, Met};
 use std::alloc::Global;
 use warm_frames::{Frame, decode};
 
-// Sender 3 says nothing.
-const NOTHING: [u8; 15] = [0x4C, 0x32, 0x47, 0x31, 1, 0, 3, 0, 0, 0, 4, 0, 0, 0, 0];
+// Sender 3 says nothing, and has horizon 5.
+const NOTHING: [u8; 23] = [
+    0x4C, 0x32, 0x47, 0x32, 1, 0, 3, 0, 0, 0, 0, 0, 0, 0, 5, 0, 0, 0, 4, 0, 0, 0, 0,
+];
 
-// Sender 2 asks for buckets 1 and 2.
-const WISH: [u8; 19] = [
+// Sender 2 asks for buckets 1 and 2, and has horizon 5.
+const WISH: [u8; 27] = [
+    0x4C, 0x32, 0x47, 0x32, 3, 0, 2, 0, 0, 0, 0, 0, 0, 0, 5, 0, 0, 0, 8, 0, 0, 0, 0, 0, 0, 0, 6,
+];
+
+// How a frame of sums by sender 1 with horizon 5 begins. It has 2,067 bytes.
+const SUMS: [u8; 19] = [
+    0x4C, 0x32, 0x47, 0x32, 2, 0, 1, 0, 0, 0, 0, 0, 0, 0, 5, 0, 0, 8, 0,
+];
+
+// The same in the narrow format, which has no horizon and is only read.
+const NARROW_NOTHING: [u8; 15] = [0x4C, 0x32, 0x47, 0x31, 1, 0, 3, 0, 0, 0, 4, 0, 0, 0, 0];
+
+const NARROW_WISH: [u8; 19] = [
     0x4C, 0x32, 0x47, 0x31, 3, 0, 2, 0, 0, 0, 8, 0, 0, 0, 0, 0, 0, 0, 6,
 ];
 
-// How a frame of sums by sender 1 begins. It has 2,059 bytes.
-const SUMS: [u8; 11] = [0x4C, 0x32, 0x47, 0x31, 2, 0, 1, 0, 0, 8, 0];
+const NARROW_SUMS: [u8; 11] = [0x4C, 0x32, 0x47, 0x31, 2, 0, 1, 0, 0, 8, 0];
+
+// Whether the bytes are a frame of no entries, with this horizon.
+fn is_nothing(alloc: Global, bytes: &[u8], since: u64) -> bool {
+    matches!(decode(alloc, bytes), Ok(Frame::Entries { horizon, .. }) if horizon == since)
+}
+
+fn is_wish(alloc: Global, bytes: &[u8], since: u64) -> bool {
+    matches!(decode(alloc, bytes), Ok(Frame::Want { horizon, mask: 6, .. }) if horizon == since)
+}
+
+fn is_sums(alloc: Global, bytes: &[u8], since: u64) -> bool {
+    matches!(decode(alloc, bytes), Ok(Frame::Digest { horizon, .. }) if horizon == since)
+}
+
+fn narrow(met: &mut Met, alloc: Global) -> Result<(), Ended> {
+    met.holds(
+        is_nothing(alloc, &NARROW_NOTHING, 0),
+        "no narrow entries are refused",
+    )?;
+    met.holds(is_wish(alloc, &NARROW_WISH, 0), "a narrow wish is refused")?;
+    let mut bytes = [7u8; 2059];
+    bytes[..11].copy_from_slice(&NARROW_SUMS);
+    met.holds(is_sums(alloc, &bytes, 0), "narrow sums are refused")
+}
 
 pub(crate) fn rows(met: &mut Met, alloc: Global) -> Result<(), Ended> {
-    let nothing = decode(alloc, &NOTHING);
-    met.holds(
-        matches!(nothing, Ok(Frame::Entries { .. })),
-        "no entries are refused",
-    )?;
-    let wish = decode(alloc, &WISH);
-    met.holds(
-        matches!(wish, Ok(Frame::Want { mask: 6, .. })),
-        "a wish is refused",
-    )?;
-    let mut bytes = [7u8; 2059];
-    bytes[..11].copy_from_slice(&SUMS);
-    let sums = decode(alloc, &bytes);
-    met.holds(matches!(sums, Ok(Frame::Digest { .. })), "sums are refused")
+    met.holds(is_nothing(alloc, &NOTHING, 5), "no entries are refused")?;
+    met.holds(is_wish(alloc, &WISH, 5), "a wish is refused")?;
+    let mut bytes = [7u8; 2067];
+    bytes[..19].copy_from_slice(&SUMS);
+    met.holds(is_sums(alloc, &bytes, 5), "sums are refused")?;
+    narrow(met, alloc)
 }

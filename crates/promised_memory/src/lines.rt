@@ -3,10 +3,11 @@ use refused_rows::{Ended, Met};
 use std::alloc::Global;
 use warm_schedule::{LineFault, parse_line};
 
-const LINES: [&str; 16] = [
+const LINES: [&str; 18] = [
     "",
     "  # said to nobody",
     "ref 1 2 3:4 5",
+    "ref 1 2 3:18446744073709551615 5",
     "flush 1 2",
     "send 1 63",
     "send 1 0 3:4",
@@ -19,6 +20,7 @@ const LINES: [&str; 16] = [
     "warm 1 2",
     "warmstep 1",
     "restart 1",
+    "horizon 1 2",
     "show 1",
 ];
 

@@ -16,10 +16,7 @@ use warm_devices::MemDevice;
 use warm_stamps::ByteList;
 
 fn play(met: &mut Met, alloc: Global) -> Result<(), Ended> {
-    let Ok(device) = Box::new(alloc, MemDevice::new(alloc, 8, 16)?) else {
-        return Err(Ended::NoRoom);
-    };
-    let mut node = calls::opened(alloc, device)?;
+    let mut node = calls::opened(alloc, MemDevice::new(alloc, 8, 16)?)?;
     let mut bytes = Vec::new(alloc);
     bytes.extend_from_slice(b"warm")?;
     let made = Made::new(alloc)?;

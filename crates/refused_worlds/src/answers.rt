@@ -8,8 +8,15 @@ pub(crate) fn is_memory(answer: &Answer) -> bool {
     matches!(answer, Answer::Refused(WorldFault::Node(NodeFault::Memory)))
 }
 
+// Whether it was refused for something else.
+pub(crate) fn is_misnamed(answer: &Answer) -> bool {
+    matches!(answer, Answer::Refused(_)) && !is_memory(answer)
+}
+
 fn is_same_history(left: &History, right: &History) -> bool {
-    left.len() == right.len() && (0..left.len()).all(|place| left.at(place) == right.at(place))
+    left.horizon() == right.horizon()
+        && left.len() == right.len()
+        && (0..left.len()).all(|place| left.at(place) == right.at(place))
 }
 
 // Whether two answers say the same.
@@ -30,6 +37,7 @@ pub(crate) fn is_same(left: &Answer, right: &Answer) -> bool {
         (Answer::Page(left), Answer::Page(right)) => left == right,
         (Answer::Pages(left), Answer::Pages(right)) => left.as_slice() == right.as_slice(),
         (Answer::Loaded(left), Answer::Loaded(right)) => left == right,
+        (Answer::Kept(left), Answer::Kept(right)) => left == right,
         (Answer::Refused(left), Answer::Refused(right)) => left == right,
         _ => false,
     }

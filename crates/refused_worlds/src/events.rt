@@ -6,9 +6,9 @@ use warm_stamps::{Bucket, ByteList, PageId};
 use warm_world::Event;
 
 // How many events there are. Replica 1 tells 2 of its pages, and 2 tells it of its own.
-pub(crate) const EVENTS: usize = 26;
+pub(crate) const EVENTS: usize = 41;
 
-fn page(no: u32) -> PageId {
+fn page(no: u64) -> PageId {
     PageId { dev: 0, no }
 }
 
@@ -20,7 +20,10 @@ const FIRST: Slot = Slot {
 
 // Whether what is said of the events of a place says that these take no memory: of a `Refer` into a buffer that has room.
 pub(crate) fn is_free(place: usize) -> bool {
-    matches!(place, 0 | 1 | 7 | 14 | 15 | 17 | 18 | 22)
+    matches!(
+        place,
+        0 | 1 | 7 | 14 | 15 | 17 | 18 | 22 | 26 | 30 | 32 | 36
+    )
 }
 
 fn first_bucket() -> Result<Bucket, Ended> {
@@ -76,12 +79,39 @@ fn pool_at(alloc: Global, place: usize) -> Result<Event, Ended> {
     })
 }
 
+// Those by which horizons rise. Replica 1 was restarted, and 7 frames were sent.
+fn horizon_at(place: usize) -> Event {
+    match place {
+        26 => Event::Horizon(1, 25),
+        27 => Event::Offer(1),
+        // sums with a greater horizon: of pages 2 and 3, which are not older, frames 9 and 10, and frame 11 is a wish
+        28 => Event::Deliver(2, 8),
+        29 => Event::Show(2),
+        30 => Event::Horizon(2, 35),
+        31 => Event::Deliver(1, 9),
+        32 => Event::Refer(1, 1, page(4), 50),
+        33 => Event::Flush(1, 1),
+        34 => Event::Offer(2),
+        // page 2 is older than the horizon of these sums: frame 13 has page 4, and frame 14 is a wish
+        35 => Event::Deliver(1, 12),
+        36 => Event::Horizon(2, 45),
+        37 => Event::Deliver(2, 13),
+        // sums without a horizon: frame 15 has page 4, and frame 16 is a wish with the horizon 45
+        38 => Event::Deliver(2, 2),
+        39 => Event::Deliver(1, 16),
+        _ => Event::Show(1),
+    }
+}
+
 // The event of a place.
 pub(crate) fn event_at(alloc: Global, place: usize) -> Result<Event, Ended> {
     if place < 14 {
         return gossip_at(place);
     }
-    pool_at(alloc, place)
+    if place < 26 {
+        return pool_at(alloc, place);
+    }
+    Ok(horizon_at(place))
 }
 
 // All events, in their order.

@@ -1,38 +1,23 @@
 //! Worlds of two replicas, made, stepped and run. What was refused is compared with a world that was never refused: one growth alone
 //! is refused, so that a world that is made after it is one.
-ghost use Rattle.std.specs.Prelude.{◌≡◌, IfOk, IfSome, length};
+ghost use Rattle.std.specs.Prelude.{◌≡◌, IfOk, length};
 ghost use Rattle.warm_world.specs.Opening.{AreFew};
-ghost use Rattle.warm_world.specs.Seen.{IsWorld, listed};
+ghost use Rattle.warm_world.specs.Seen.{listed};
 
-use crate::answers::{is_memory, is_same};
+use crate::answers::{is_memory, is_misnamed, is_same};
 use crate::events::{EVENTS, all_events, event_at, is_free};
 use refused_rows::{Ended, Met};
 use std::alloc::Global;
-use std::marker::PhantomData;
 use warm_devices::{MemDevice, PageDevice};
 use warm_world::{Answer, BadWorld, Event, Setup, World};
 
-// A world.
-#[derive(Drop)]
-struct Lived {
-    world: World,
-    // What holds of every boxed device is known where a type names the box.
-    boxes: PhantomData<Box<dyn PageDevice + Send>>,
-}
-
 // A device of 80 pages.
-fn device(alloc: Global) -> Result<Box<MemDevice>, Ended> {
-    let Ok(device) = Box::new(alloc, MemDevice::new(alloc, 80, 16)?) else {
-        return Err(Ended::NoRoom);
-    };
-    Ok(device)
+fn device(alloc: Global) -> Result<MemDevice, Ended> {
+    Ok(MemDevice::new(alloc, 80, 16)?)
 }
 
 // A list of one device.
-fn list_of(
-    alloc: Global,
-    device: Box<dyn PageDevice + Send>,
-) -> Result<Vec<Box<dyn PageDevice + Send>>, Ended>
+fn list_of<D: PageDevice>(alloc: Global, device: D) -> Result<Vec<D>, Ended>
     ensures { IfOk result (λ list. length list.items ≡ 1) }
 {
     let mut list = Vec::with_capacity(alloc, 1)?;
@@ -41,12 +26,8 @@ fn list_of(
 }
 
 // A device for each of two replicas.
-fn lists_of(
-    alloc: Global,
-    first: Box<dyn PageDevice + Send>,
-    second: Box<dyn PageDevice + Send>,
-) -> Result<Vec<Vec<Box<dyn PageDevice + Send>>>, Ended>
-    ensures { IfOk result (λ lists. AreFew (listed state lists.items)) }
+fn lists_of<D: PageDevice>(alloc: Global, first: D, second: D) -> Result<Vec<Vec<D>>, Ended>
+    ensures { IfOk result (λ lists. AreFew (listed D.state lists.items)) }
 {
     let first = list_of(alloc, first)?;
     let second = list_of(alloc, second)?;
@@ -60,19 +41,14 @@ fn lists_of(
 fn over(
     met: &mut Met,
     alloc: Global,
-    first: Box<dyn PageDevice + Send>,
-    second: Box<dyn PageDevice + Send>,
-) -> Result<Option<Lived>, Ended>
-    ensures { IfOk result (λ made. IfSome made (λ lived. IsWorld state lived.world)) }
-{
+    first: MemDevice,
+    second: MemDevice,
+) -> Result<Option<World<MemDevice>>, Ended> {
     let Ok(setup) = Setup::new(2, 1, 2, 2, 16) else {
         return Err(met.broken("the setup is within its limits"));
     };
     match World::new(alloc, setup, lists_of(alloc, first, second)?) {
-        Ok(world) => Ok(Some(Lived {
-            world,
-            boxes: PhantomData,
-        })),
+        Ok(world) => Ok(Some(world)),
         Err(fault) => {
             met.refuse(fault == BadWorld::Memory, "the devices fit")?;
             Ok(None)
@@ -81,11 +57,8 @@ fn over(
 }
 
 // How a world answers an event. What is known of its answers is left here, so that it is read once and not by each caller.
-fn asked(world: &mut Lived, event: Event) -> Answer
-    requires { IsWorld state world.old.world }
-    ensures { IsWorld state world.new.world }
-{
-    world.world.step(event)
+fn asked(world: &mut World<MemDevice>, event: Event) -> Answer {
+    world.step(event)
 }
 
 // What a world shows without a change.
@@ -100,12 +73,7 @@ fn look_at(place: usize) -> Event {
 }
 
 // Whether two worlds show the same.
-fn look_same(world: &mut Lived, other: &mut Lived) -> bool
-    requires first { IsWorld state world.old.world }
-    requires second { IsWorld state other.old.world }
-    ensures first { IsWorld state world.new.world }
-    ensures second { IsWorld state other.new.world }
-{
+fn look_same(world: &mut World<MemDevice>, other: &mut World<MemDevice>) -> bool {
     let mut same = true;
     for place in 0..5usize {
         let seen = asked(world, look_at(place));
@@ -119,14 +87,12 @@ fn look_same(world: &mut Lived, other: &mut Lived) -> bool
 fn step_up_to(
     met: &mut Met,
     alloc: Global,
-    world: &mut Lived,
+    world: &mut World<MemDevice>,
     end: usize,
-) -> Result<Option<usize>, Ended>
-    requires { IsWorld state world.old.world }
-    ensures { IsWorld state world.new.world }
-{
+) -> Result<Option<usize>, Ended> {
     for place in 0..end {
         let answer = asked(world, event_at(alloc, place)?);
+        met.holds(!is_misnamed(&answer), "an event names what is not there")?;
         if is_memory(&answer) {
             met.holds(!is_free(place), "an event that takes no memory is refused")?;
             return Ok(Some(place));
@@ -139,15 +105,10 @@ fn step_up_to(
 fn step_both(
     met: &mut Met,
     alloc: Global,
-    world: &mut Lived,
-    twin: &mut Lived,
+    world: &mut World<MemDevice>,
+    twin: &mut World<MemDevice>,
     place: usize,
-) -> Result<(), Ended>
-    requires first { IsWorld state world.old.world }
-    requires second { IsWorld state twin.old.world }
-    ensures first { IsWorld state world.new.world }
-    ensures second { IsWorld state twin.new.world }
-{
+) -> Result<(), Ended> {
     let answer = asked(world, event_at(alloc, place)?);
     met.holds(!is_memory(&answer), "an event is refused again")?;
     let others = asked(twin, event_at(alloc, place)?);
@@ -158,15 +119,10 @@ fn step_both(
 fn go_on(
     met: &mut Met,
     alloc: Global,
-    world: &mut Lived,
-    twin: &mut Lived,
+    world: &mut World<MemDevice>,
+    twin: &mut World<MemDevice>,
     refused: usize,
-) -> Result<(), Ended>
-    requires first { IsWorld state world.old.world }
-    requires second { IsWorld state twin.old.world }
-    ensures first { IsWorld state world.new.world }
-    ensures second { IsWorld state twin.new.world }
-{
+) -> Result<(), Ended> {
     let stopped = step_up_to(met, alloc, twin, refused)?;
     met.holds(stopped.is_none(), "an event of another world is refused")?;
     met.refuse(look_same(world, twin), "a refused event changes nothing")?;
@@ -180,13 +136,10 @@ fn go_on(
 fn step_as(
     met: &mut Met,
     alloc: Global,
-    twin: &mut Lived,
+    twin: &mut World<MemDevice>,
     place: usize,
     answer: &Answer,
-) -> Result<(), Ended>
-    requires { IsWorld state twin.old.world }
-    ensures { IsWorld state twin.new.world }
-{
+) -> Result<(), Ended> {
     if is_memory(answer) {
         return met.refuse(!is_free(place), "an event that takes no memory is refused");
     }
@@ -198,12 +151,9 @@ fn step_as(
 fn step_along(
     met: &mut Met,
     alloc: Global,
-    twin: &mut Lived,
+    twin: &mut World<MemDevice>,
     answers: &[Answer],
-) -> Result<Option<usize>, Ended>
-    requires { IsWorld state twin.old.world }
-    ensures { IsWorld state twin.new.world }
-{
+) -> Result<Option<usize>, Ended> {
     let mut refused = None;
     for place in 0..answers.len() {
         step_as(met, alloc, twin, place, &answers[place])?;
@@ -218,15 +168,10 @@ fn step_along(
 fn go_along(
     met: &mut Met,
     alloc: Global,
-    world: &mut Lived,
-    twin: &mut Lived,
+    world: &mut World<MemDevice>,
+    twin: &mut World<MemDevice>,
     answers: &[Answer],
-) -> Result<(), Ended>
-    requires first { IsWorld state world.old.world }
-    requires second { IsWorld state twin.old.world }
-    ensures first { IsWorld state world.new.world }
-    ensures second { IsWorld state twin.new.world }
-{
+) -> Result<(), Ended> {
     let refused = step_along(met, alloc, twin, answers)?;
     met.holds(look_same(world, twin), "a run leaves something else")?;
     match refused {
@@ -247,10 +192,11 @@ enum Refusal {
 }
 
 // Steps a world through all events, up to one that is refused.
-fn step_all(met: &mut Met, alloc: Global, world: &mut Lived) -> Result<Option<Refusal>, Ended>
-    requires { IsWorld state world.old.world }
-    ensures { IsWorld state world.new.world }
-{
+fn step_all(
+    met: &mut Met,
+    alloc: Global,
+    world: &mut World<MemDevice>,
+) -> Result<Option<Refusal>, Ended> {
     match step_up_to(met, alloc, world, EVENTS)? {
         Some(place) => Ok(Some(Refusal::Event(place))),
         None => Ok(None),
@@ -258,11 +204,12 @@ fn step_all(met: &mut Met, alloc: Global, world: &mut Lived) -> Result<Option<Re
 }
 
 // Runs a world through all events.
-fn run_all(met: &mut Met, alloc: Global, world: &mut Lived) -> Result<Option<Refusal>, Ended>
-    requires { IsWorld state world.old.world }
-    ensures { IsWorld state world.new.world }
-{
-    let answers = match world.world.run(all_events(alloc)?) {
+fn run_all(
+    met: &mut Met,
+    alloc: Global,
+    world: &mut World<MemDevice>,
+) -> Result<Option<Refusal>, Ended> {
+    let answers = match world.run(all_events(alloc)?) {
         Ok(answers) => answers,
         Err(back) => return Ok(Some(Refusal::Run(back))),
     };
@@ -277,18 +224,13 @@ fn run_all(met: &mut Met, alloc: Global, world: &mut Lived) -> Result<Option<Ref
 fn run_again(
     met: &mut Met,
     alloc: Global,
-    world: &mut Lived,
-    twin: &mut Lived,
+    world: &mut World<MemDevice>,
+    twin: &mut World<MemDevice>,
     back: Vec<Event>,
-) -> Result<(), Ended>
-    requires first { IsWorld state world.old.world }
-    requires second { IsWorld state twin.old.world }
-    ensures first { IsWorld state world.new.world }
-    ensures second { IsWorld state twin.new.world }
-{
+) -> Result<(), Ended> {
     let same = look_same(world, twin);
     met.refuse(same && back.len() == EVENTS, "a refused run does something")?;
-    let Ok(answers) = world.world.run(back) else {
+    let Ok(answers) = world.run(back) else {
         return Err(met.broken("a run is refused again"));
     };
     met.holds(answers.len() == EVENTS, "each event is answered again")?;
@@ -299,15 +241,10 @@ fn run_again(
 fn compare(
     met: &mut Met,
     alloc: Global,
-    world: &mut Lived,
-    twin: &mut Lived,
+    world: &mut World<MemDevice>,
+    twin: &mut World<MemDevice>,
     refusal: Refusal,
-) -> Result<(), Ended>
-    requires first { IsWorld state world.old.world }
-    requires second { IsWorld state twin.old.world }
-    ensures first { IsWorld state world.new.world }
-    ensures second { IsWorld state twin.new.world }
-{
+) -> Result<(), Ended> {
     match refusal {
         Refusal::Event(place) => go_on(met, alloc, world, twin, place),
         Refusal::Run(back) => run_again(met, alloc, world, twin, back),
@@ -325,12 +262,9 @@ enum Life {
 fn play(
     met: &mut Met,
     alloc: Global,
-    world: &mut Lived,
+    world: &mut World<MemDevice>,
     life: Life,
-) -> Result<Option<Refusal>, Ended>
-    requires { IsWorld state world.old.world }
-    ensures { IsWorld state world.new.world }
-{
+) -> Result<Option<Refusal>, Ended> {
     match life {
         Life::Steps => step_all(met, alloc, world),
         Life::Runs => run_all(met, alloc, world),
@@ -338,10 +272,8 @@ fn play(
 }
 
 // Finishes a world, which takes no memory.
-fn finish(met: &mut Met, world: &mut Lived) -> Result<bool, Ended>
-    requires { IsWorld state world.old.world }
-{
-    met.holds(world.world.finish().is_ok(), "a finish is refused")?;
+fn finish(met: &mut Met, world: &mut World<MemDevice>) -> Result<bool, Ended> {
+    met.holds(world.finish().is_ok(), "a finish is refused")?;
     Ok(true)
 }
 

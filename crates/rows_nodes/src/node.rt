@@ -1,8 +1,10 @@
-//! Rows of a node's life, run. Each call stands in a function of its own, which keeps that the node is fit: what is proved of a
-//! test does not grow with its rows. What must not fail ends the process where it does: a `?` would be one more way out, on which
-//! the drop of all that is owned is proved.
+//! Rows of a node's life, run. Each call stands in a function of its own, so that what is proved of a test does not grow with its
+//! rows. What must not fail ends the process where it does: a `?` would be one more way out, on which the drop of all that is
+//! owned is proved.
 
+mod boxed;
 mod growths;
+mod horizons;
 mod kept;
 
 use std::alloc::{AllocError, Global};
@@ -10,12 +12,12 @@ use std::process::Abort;
 use warm_devices::{Flaky, MemDevice, PageDevice};
 use warm_digest::{differing, sums};
 use warm_frames::{EntryList, Frame, SumTable, encode};
-use warm_gossip::{Call, Node, NodeFault, Reply, Shown};
-use warm_history::History;
+use warm_gossip::{Call, Node, NodeFault, Reply};
+use warm_history::{History, PageHist};
 use warm_pool::{Pool, PoolFault, Slot};
 use warm_stamps::{Bucket, ByteList, PageId, PageList, RefList, Reference, ReplicaId, Stamp};
 
-const fn page(no: u32) -> PageId {
+const fn page(no: u64) -> PageId {
     PageId { dev: 0, no }
 }
 
@@ -24,15 +26,14 @@ const fn slot(index: u32, generation: u64) -> Slot {
 }
 
 // A node of so many frames over a device whose pages have 16 bytes.
-fn over(
+fn over<D: PageDevice>(
     rt: &impl Abort,
     alloc: Global,
-    id: ReplicaId,
+    id: u16,
     frames: usize,
-    device: Box<dyn PageDevice + Send>,
-) -> Node
-    ensures { ⟦<Node as Shown>⟧.is_fit result }
-{
+    device: D,
+) -> Node<D> {
+    let id = ReplicaId::new(id).expect(rt, "the number is of a replica");
     let mut devices = Vec::with_capacity(alloc, 1).expect(rt, "room for a device");
     devices.push_reserved(device);
     match Pool::new(alloc, frames, 16, devices) {
@@ -42,33 +43,22 @@ fn over(
 }
 
 // A node of so many frames over a device of 256 pages.
-fn fresh(rt: &impl Abort, alloc: Global, id: u16, frames: usize) -> Node
-    ensures { ⟦<Node as Shown>⟧.is_fit result }
-{
-    let id = ReplicaId::new(id).expect(rt, "the number is of a replica");
+fn fresh(rt: &impl Abort, alloc: Global, id: u16, frames: usize) -> Node<MemDevice> {
     let memory = MemDevice::new(alloc, 256, 16).expect(rt, "room for its pages");
-    let device: Box<dyn PageDevice + Send> = Box::new(alloc, memory).expect(rt, "room for it");
-    over(rt, alloc, id, frames, device)
+    over(rt, alloc, id, frames, memory)
 }
 
-// A node of one frame over a device of 8 pages, whose first call fails.
-fn flaky(rt: &impl Abort, alloc: Global) -> Node
-    ensures { ⟦<Node as Shown>⟧.is_fit result }
-{
-    let id = ReplicaId::new(1).expect(rt, "the number is of a replica");
-    let memory = Flaky::new(
-        MemDevice::new(alloc, 8, 16).expect(rt, "room for its pages"),
-        1,
-    );
-    let device: Box<dyn PageDevice + Send> = Box::new(alloc, memory).expect(rt, "room for it");
-    over(rt, alloc, id, 1, device)
+// A device of 8 pages, whose first call fails.
+fn flaky(rt: &impl Abort, alloc: Global) -> Flaky<MemDevice> {
+    let memory = MemDevice::new(alloc, 8, 16).expect(rt, "room for its pages");
+    Flaky::new(memory, 1)
 }
 
 // References of a replica to pages of device 0.
 fn batch_of(
     alloc: Global,
     replica: ReplicaId,
-    references: &[(u32, u64)],
+    references: &[(u64, u64)],
 ) -> Result<RefList, AllocError> {
     let mut batch = Vec::new(alloc);
     for (no, time) in references {
@@ -85,10 +75,7 @@ fn batch_of(
 }
 
 // The one place where a node is called: what else is asked of it need not know what a call promises.
-fn answer(node: &mut Node, call: Call) -> Reply
-    requires { ⟦<Node as Shown>⟧.is_fit node.old }
-    ensures { ⟦<Node as Shown>⟧.is_fit node.new }
-{
+fn answer<D: PageDevice>(node: &mut Node<D>, call: Call) -> Reply {
     node.call(call)
 }
 
@@ -100,11 +87,13 @@ enum Said {
     // The index and the generation of the slot of a page with a fix.
     Pinned(u32, u64),
     // The page that leaves next, or that there is none.
-    Leaves(u16, u32),
+    Leaves(u16, u64),
     NoneLeaves,
     // The page that a step of the warm-up loads, or that there is none.
-    Loaded(u16, u32),
+    Loaded(u16, u64),
     NoneLoaded,
+    // The time before which stamps are forgotten.
+    Kept(u64),
     // How many frames answer one that was received.
     Answered(usize),
     // A frame, pages or bytes.
@@ -132,15 +121,13 @@ fn said_in(reply: Reply) -> Said {
         Reply::Pinned(slot) => Said::Pinned(slot.index, slot.generation),
         Reply::Page(page) => leaves(page),
         Reply::Loaded(page) => loaded(page),
+        Reply::Kept(horizon) => Said::Kept(horizon),
         Reply::Answers(frames) => Said::Answered(frames.as_slice().len()),
         _ => Said::Long,
     }
 }
 
-fn says(node: &mut Node, call: Call) -> Said
-    requires { ⟦<Node as Shown>⟧.is_fit node.old }
-    ensures { ⟦<Node as Shown>⟧.is_fit node.new }
-{
+fn says<D: PageDevice>(node: &mut Node<D>, call: Call) -> Said {
     said_in(answer(node, call))
 }
 
@@ -166,25 +153,16 @@ fn frames_in(rt: &impl Abort, reply: Reply) -> Vec<Frame> {
 }
 
 // The frame of the first entries of bucket 1.
-fn sent(rt: &impl Abort, node: &mut Node, after: Option<PageId>) -> Frame
-    requires { ⟦<Node as Shown>⟧.is_fit node.old }
-    ensures { ⟦<Node as Shown>⟧.is_fit node.new }
-{
+fn sent<D: PageDevice>(rt: &impl Abort, node: &mut Node<D>, after: Option<PageId>) -> Frame {
     let bucket = Bucket::new(1).expect(rt, "a bucket");
     frame_in(rt, answer(node, Call::Send { bucket, after }))
 }
 
-fn answers(rt: &impl Abort, node: &mut Node, frame: Frame) -> Vec<Frame>
-    requires { ⟦<Node as Shown>⟧.is_fit node.old }
-    ensures { ⟦<Node as Shown>⟧.is_fit node.new }
-{
+fn answers<D: PageDevice>(rt: &impl Abort, node: &mut Node<D>, frame: Frame) -> Vec<Frame> {
     frames_in(rt, answer(node, Call::Receive(frame)))
 }
 
-fn offered(rt: &impl Abort, node: &mut Node) -> Frame
-    requires { ⟦<Node as Shown>⟧.is_fit node.old }
-    ensures { ⟦<Node as Shown>⟧.is_fit node.new }
-{
+fn offered<D: PageDevice>(rt: &impl Abort, node: &mut Node<D>) -> Frame {
     frame_in(rt, answer(node, Call::Offer))
 }
 
@@ -193,17 +171,17 @@ fn offered(rt: &impl Abort, node: &mut Node) -> Frame
 #[derive(Clone, Copy)]
 enum Row<'a> {
     // References to pages of device 0, at times of its own, are taken in.
-    Told(&'a [(u32, u64)]),
+    Told(&'a [(u64, u64)]),
     // So many pages are in its history.
     Knows(usize),
     // A page is given a fix.
-    Pins(u32, Said),
+    Pins(u64, Said),
     // The same of a page of device 1.
-    PinsElsewhere(u32, Said),
+    PinsElsewhere(u64, Said),
     // A fix is taken away.
     Unpins(u32, u64),
     // A page is given a fix, which is taken away again.
-    Visits(u32),
+    Visits(u64),
     // Bytes are written into the slot's page, from a place on.
     Writes(u32, u64, usize, &'a [u8]),
     // The slot's page has these bytes from a place on.
@@ -213,15 +191,26 @@ enum Row<'a> {
     // The page that leaves next.
     Victim(Said),
     // So many of the hottest pages.
-    Hottest(usize, &'a [u32]),
+    Hottest(usize, &'a [u64]),
     // A step of the warm-up.
     Loads(Said),
     // The node is restarted.
     Restarts(Said),
+    // The node is to forget all stamps before a time, and has this horizon afterwards.
+    Forgets(u64, u64),
+    // It has just this horizon, and knows just these pages so: the number, the time of the last stamp, and that of the one before,
+    // or 0.
+    Remembers(u64, &'a [(u64, u64, u64)]),
     // All that a history of such references knows is received.
-    Hears(&'a [(u32, u64)]),
+    Hears(&'a [(u64, u64)]),
+    // The same in a frame with a horizon, older references too.
+    HearsSince(u64, &'a [(u64, u64)]),
+    // The sums of a history of such references, with a horizon, are received, and answered by so many frames.
+    HearsSums(u64, &'a [(u64, u64)], usize),
+    // A wish for the buckets of a mask, with a horizon, is received, and answered by so many frames.
+    HearsWish(u64, u64, usize),
     // The sums offered are of such references, and not those of nothing in the buckets of the mask.
-    Offers(&'a [(u32, u64)], u64),
+    Offers(&'a [(u64, u64)], u64),
 }
 
 fn write(rt: &impl Abort, alloc: Global, slot: Slot, at: usize, text: &[u8]) -> Call {
@@ -234,7 +223,7 @@ fn history_of(
     rt: &impl Abort,
     alloc: Global,
     replica: ReplicaId,
-    references: &[(u32, u64)],
+    references: &[(u64, u64)],
 ) -> History {
     let batch = batch_of(alloc, replica, references).expect(rt, "room for the batch");
     let mut history = History::new(alloc);
@@ -244,25 +233,76 @@ fn history_of(
     history
 }
 
-// The frame of all that such a history knows.
-fn frame_of(rt: &impl Abort, alloc: Global, sender: ReplicaId, references: &[(u32, u64)]) -> Frame {
+// The frame, with a horizon, of all that such a history without one knows.
+fn frame_of(
+    rt: &impl Abort,
+    alloc: Global,
+    sender: ReplicaId,
+    horizon: u64,
+    references: &[(u64, u64)],
+) -> Frame {
     let history = history_of(rt, alloc, sender, references);
     let entries = history.iter().collect(alloc).expect(rt, "room for entries");
     let entries = EntryList::of(entries).ok().expect(rt, "the pages rise");
-    Frame::Entries { sender, entries }
+    Frame::Entries {
+        sender,
+        horizon,
+        entries,
+    }
 }
 
-// The call that a row makes to the node of a number, and what is to be said to it.
-fn asked(rt: &impl Abort, alloc: Global, id: ReplicaId, row: Row<'_>) -> (Call, Said) {
+// The frame, with a horizon, of the sums of such a history.
+fn digest_of(
+    rt: &impl Abort,
+    alloc: Global,
+    sender: ReplicaId,
+    horizon: u64,
+    references: &[(u64, u64)],
+) -> Frame {
+    let history = history_of(rt, alloc, sender, references);
+    let sums = sums(alloc, &history).expect(rt, "room for the sums");
+    Frame::Digest {
+        sender,
+        horizon,
+        sums,
+    }
+}
+
+// The call that a row makes to the history of the node of a number, and what is to be said to it.
+fn asked_of_history(rt: &impl Abort, alloc: Global, id: ReplicaId, row: Row<'_>) -> (Call, Said) {
     match row {
         Row::Told(references) => {
             let batch = batch_of(alloc, id, references).expect(rt, "room for the batch");
             (Call::Absorb(batch), Said::Done)
         }
+        Row::Forgets(time, horizon) => (Call::Horizon(time), Said::Kept(horizon)),
         Row::Hears(references) => {
-            let frame = frame_of(rt, alloc, id, references);
+            let frame = frame_of(rt, alloc, id, 0, references);
             (Call::Receive(frame), Said::Answered(0))
         }
+        Row::HearsSince(horizon, references) => {
+            let frame = frame_of(rt, alloc, id, horizon, references);
+            (Call::Receive(frame), Said::Answered(0))
+        }
+        Row::HearsSums(horizon, references, frames) => {
+            let frame = digest_of(rt, alloc, id, horizon, references);
+            (Call::Receive(frame), Said::Answered(frames))
+        }
+        Row::HearsWish(horizon, mask, frames) => {
+            let frame = Frame::Want {
+                sender: id,
+                horizon,
+                mask,
+            };
+            (Call::Receive(frame), Said::Answered(frames))
+        }
+        _ => panic!(rt; "no such row"),
+    }
+}
+
+// The call that a row makes to the node of a number, and what is to be said to it.
+fn asked(rt: &impl Abort, alloc: Global, id: ReplicaId, row: Row<'_>) -> (Call, Said) {
+    match row {
         Row::Pins(no, wanted) => (Call::Pin(page(no)), wanted),
         Row::PinsElsewhere(no, wanted) => (Call::Pin(PageId { dev: 1, no }), wanted),
         Row::Unpins(index, generation) => (Call::Unpin(slot(index, generation)), Said::Done),
@@ -277,24 +317,23 @@ fn asked(rt: &impl Abort, alloc: Global, id: ReplicaId, row: Row<'_>) -> (Call, 
         Row::Victim(wanted) => (Call::Victim, wanted),
         Row::Loads(wanted) => (Call::WarmStep, wanted),
         Row::Restarts(wanted) => (Call::Restart, wanted),
-        _ => panic!(rt; "no such row"),
+        of_history => asked_of_history(rt, alloc, id, of_history),
     }
 }
 
 // Whether the call that a row makes is answered as it says.
-fn is_said(rt: &impl Abort, alloc: Global, node: &mut Node, row: Row<'_>) -> bool
-    requires { ⟦<Node as Shown>⟧.is_fit node.old }
-    ensures { ⟦<Node as Shown>⟧.is_fit node.new }
-{
+fn is_said<D: PageDevice>(
+    rt: &impl Abort,
+    alloc: Global,
+    node: &mut Node<D>,
+    row: Row<'_>,
+) -> bool {
     let (call, wanted) = asked(rt, alloc, node.id(), row);
     says(node, call) == wanted
 }
 
 // Pins a page and takes the fix away again, whether both are done.
-fn visits(node: &mut Node, no: u32) -> bool
-    requires { ⟦<Node as Shown>⟧.is_fit node.old }
-    ensures { ⟦<Node as Shown>⟧.is_fit node.new }
-{
+fn visits<D: PageDevice>(node: &mut Node<D>, no: u64) -> bool {
     match says(node, Call::Pin(page(no))) {
         Said::Pinned(index, generation) => {
             says(node, Call::Unpin(slot(index, generation))) == Said::Done
@@ -311,16 +350,13 @@ fn has_bytes(reply: Reply, wanted: &[u8]) -> bool {
     }
 }
 
-fn reads(node: &mut Node, slot: Slot, at: usize, wanted: &[u8]) -> bool
-    requires { ⟦<Node as Shown>⟧.is_fit node.old }
-    ensures { ⟦<Node as Shown>⟧.is_fit node.new }
-{
+fn reads<D: PageDevice>(node: &mut Node<D>, slot: Slot, at: usize, wanted: &[u8]) -> bool {
     let len = wanted.len();
     has_bytes(answer(node, Call::Read { slot, at, len }), wanted)
 }
 
 // Whether pages are those of these numbers on device 0.
-fn are_pages(pages: &[PageId], wanted: &[u32]) -> bool {
+fn are_pages(pages: &[PageId], wanted: &[u64]) -> bool {
     for (place, no) in wanted.iter().enumerate() {
         if pages.get(place).copied() != Some(page(*no)) {
             return false;
@@ -329,10 +365,12 @@ fn are_pages(pages: &[PageId], wanted: &[u32]) -> bool {
     pages.len() == wanted.len()
 }
 
-fn are_hottest(rt: &impl Abort, node: &mut Node, pages: usize, wanted: &[u32]) -> bool
-    requires { ⟦<Node as Shown>⟧.is_fit node.old }
-    ensures { ⟦<Node as Shown>⟧.is_fit node.new }
-{
+fn are_hottest<D: PageDevice>(
+    rt: &impl Abort,
+    node: &mut Node<D>,
+    pages: usize,
+    wanted: &[u64],
+) -> bool {
     are_pages(
         pages_in(rt, answer(node, Call::WarmList(pages))).as_slice(),
         wanted,
@@ -354,28 +392,48 @@ fn are_of(rt: &impl Abort, alloc: Global, offer: &SumTable, history: &History, m
 }
 
 // Whether the node offers the sums of these references.
-fn offers(
+fn offers<D: PageDevice>(
     rt: &impl Abort,
     alloc: Global,
-    node: &mut Node,
-    references: &[(u32, u64)],
+    node: &mut Node<D>,
+    references: &[(u64, u64)],
     mask: u64,
-) -> bool
-    requires { ⟦<Node as Shown>⟧.is_fit node.old }
-    ensures { ⟦<Node as Shown>⟧.is_fit node.new }
-{
+) -> bool {
     let history = history_of(rt, alloc, node.id(), references);
     are_of(rt, alloc, &sums_in(rt, offered(rt, node)), &history, mask)
 }
 
+// The times of a page's stamps, the last first; 0 where there is one alone.
+fn times_in(hist: PageHist) -> (u64, u64) {
+    match hist {
+        PageHist::Once(last) => (last.time, 0),
+        PageHist::Twice(two) => {
+            let last = two.last();
+            let prev = two.prev();
+            (last.time, prev.time)
+        }
+    }
+}
+
+// Whether a history has this horizon, and just these pages of device 0 with stamps of these times.
+fn remembers(history: &History, horizon: u64, wanted: &[(u64, u64, u64)]) -> bool {
+    for (place, (no, last, prev)) in wanted.iter().enumerate() {
+        let Some(entry) = history.at(place) else {
+            return false;
+        };
+        if entry.page != page(*no) || times_in(entry.hist) != (*last, *prev) {
+            return false;
+        }
+    }
+    history.len() == wanted.len() && history.horizon() == horizon
+}
+
 // Asks what the row says, and whether that comes of it.
-fn meets(rt: &impl Abort, alloc: Global, node: &mut Node, row: Row<'_>) -> bool
-    requires { ⟦<Node as Shown>⟧.is_fit node.old }
-    ensures { ⟦<Node as Shown>⟧.is_fit node.new }
-{
+fn meets<D: PageDevice>(rt: &impl Abort, alloc: Global, node: &mut Node<D>, row: Row<'_>) -> bool {
     match row {
         Row::Offers(references, mask) => offers(rt, alloc, node, references, mask),
         Row::Knows(pages) => node.history().len() == pages,
+        Row::Remembers(horizon, wanted) => remembers(node.history(), horizon, wanted),
         Row::Visits(no) => visits(node, no),
         Row::Reads(index, generation, from, wanted) => {
             reads(node, slot(index, generation), from, wanted)
@@ -386,10 +444,7 @@ fn meets(rt: &impl Abort, alloc: Global, node: &mut Node, row: Row<'_>) -> bool
 }
 
 // Asks a node what the rows say, in turn.
-fn runs(rt: &impl Abort, alloc: Global, node: &mut Node, rows: &[Row<'_>])
-    requires { ⟦<Node as Shown>⟧.is_fit node.old }
-    ensures { ⟦<Node as Shown>⟧.is_fit node.new }
-{
+fn runs<D: PageDevice>(rt: &impl Abort, alloc: Global, node: &mut Node<D>, rows: &[Row<'_>]) {
     for (at, row) in rows.iter().enumerate() {
         assert!(rt; meets(rt, alloc, node, *row), "row {at}");
     }
@@ -526,15 +581,12 @@ fn pages_that_cannot_come_in_are_refused(rt: HostRuntime) {
         Row::Loads(Said::Loaded(0, 1)),
         Row::Loads(Said::NoneLoaded),
     ];
-    let mut node = flaky(&rt, rt.alloc());
+    let mut node = over(&rt, rt.alloc(), 1, 1, flaky(&rt, rt.alloc()));
     runs(&rt, rt.alloc(), &mut node, &rows)
 }
 
 // The frame of all that the node knows of bucket 1, before it forgets everything.
-fn sent_before_a_restart(rt: &impl Abort, alloc: Global, node: &mut Node) -> Frame
-    requires { ⟦<Node as Shown>⟧.is_fit node.old }
-    ensures { ⟦<Node as Shown>⟧.is_fit node.new }
-{
+fn sent_before_a_restart(rt: &impl Abort, alloc: Global, node: &mut Node<MemDevice>) -> Frame {
     let frame = sent(rt, node, None);
     let rest = sent(rt, node, Some(page(1)));
     let are_parts = entries_in(&frame) == 1 && entries_in(&rest) == 0;
@@ -543,10 +595,7 @@ fn sent_before_a_restart(rt: &impl Abort, alloc: Global, node: &mut Node) -> Fra
     frame
 }
 
-fn comes_back(rt: &impl Abort, alloc: Global, node: &mut Node)
-    requires { ⟦<Node as Shown>⟧.is_fit node.old }
-    ensures { ⟦<Node as Shown>⟧.is_fit node.new }
-{
+fn comes_back(rt: &impl Abort, alloc: Global, node: &mut Node<MemDevice>) {
     runs(rt, alloc, node, &[Row::Told(&[(1, 10), (1, 20)])]);
     let known = node.history().at(0);
     let frame = sent_before_a_restart(rt, alloc, node);
@@ -562,8 +611,8 @@ fn what_was_sent_comes_back_after_a_restart(rt: HostRuntime) {
 }
 
 // The wish for buckets 1 and 2 of replica 2, as the format has it.
-const WANT: [u8; 19] = [
-    0x4C, 0x32, 0x47, 0x31, 3, 0, 2, 0, 0, 0, 8, 0, 0, 0, 0, 0, 0, 0, 6,
+const WANT: [u8; 27] = [
+    0x4C, 0x32, 0x47, 0x32, 3, 0, 2, 0, 0, 0, 0, 0, 0, 0, 0, 0, 0, 0, 8, 0, 0, 0, 0, 0, 0, 0, 6,
 ];
 
 // Two frames, the later one first.
@@ -585,14 +634,9 @@ fn is_the_wish(alloc: Global, frame: &Frame) -> bool {
 fn answered_to_sums(
     rt: &impl Abort,
     alloc: Global,
-    first: &mut Node,
-    second: &mut Node,
-) -> (Frame, Frame)
-    requires first { ⟦<Node as Shown>⟧.is_fit first.old }
-    requires second { ⟦<Node as Shown>⟧.is_fit second.old }
-    ensures first { ⟦<Node as Shown>⟧.is_fit first.new }
-    ensures second { ⟦<Node as Shown>⟧.is_fit second.new }
-{
+    first: &mut Node<MemDevice>,
+    second: &mut Node<MemDevice>,
+) -> (Frame, Frame) {
     let sums = offered(rt, first);
     let (want, entries) = two_of(rt, answers(rt, second, sums));
     assert!(rt; is_the_wish(alloc, &want));
@@ -600,27 +644,19 @@ fn answered_to_sums(
 }
 
 // The node takes a frame, and answers nothing.
-fn takes(rt: &impl Abort, node: &mut Node, frame: Frame)
-    requires { ⟦<Node as Shown>⟧.is_fit node.old }
-    ensures { ⟦<Node as Shown>⟧.is_fit node.new }
-{
+fn takes<D: PageDevice>(rt: &impl Abort, node: &mut Node<D>, frame: Frame) {
     assert!(rt; says(node, Call::Receive(frame)) == Said::Answered(0));
 }
 
 // The first answers the wish with its entries of two buckets, which the second takes, the later ones first.
-fn grants(rt: &impl Abort, first: &mut Node, second: &mut Node, want: Frame)
-    requires first { ⟦<Node as Shown>⟧.is_fit first.old }
-    requires second { ⟦<Node as Shown>⟧.is_fit second.old }
-    ensures first { ⟦<Node as Shown>⟧.is_fit first.new }
-    ensures second { ⟦<Node as Shown>⟧.is_fit second.new }
-{
+fn grants(rt: &impl Abort, first: &mut Node<MemDevice>, second: &mut Node<MemDevice>, want: Frame) {
     let (later, earlier) = two_of(rt, answers(rt, first, want));
     takes(rt, second, later);
     takes(rt, second, earlier);
 }
 
 // Whether both nodes know the same two pages.
-fn know_the_same(first: &Node, second: &Node) -> bool {
+fn know_the_same(first: &Node<MemDevice>, second: &Node<MemDevice>) -> bool {
     let (known, others) = (first.history(), second.history());
     known.len() == 2
         && others.len() == 2
@@ -629,10 +665,12 @@ fn know_the_same(first: &Node, second: &Node) -> bool {
 }
 
 // Each node is told of a page, and then both of what the other knows.
-fn become_equal(rt: &impl Abort, alloc: Global, first: &mut Node, second: &mut Node)
-    requires first { ⟦<Node as Shown>⟧.is_fit first.old }
-    requires second { ⟦<Node as Shown>⟧.is_fit second.old }
-{
+fn become_equal(
+    rt: &impl Abort,
+    alloc: Global,
+    first: &mut Node<MemDevice>,
+    second: &mut Node<MemDevice>,
+) {
     runs(rt, alloc, first, &[Row::Told(&[(1, 10)])]);
     runs(rt, alloc, second, &[Row::Told(&[(2, 11)])]);
     let (want, entries) = answered_to_sums(rt, alloc, first, second);
@@ -658,7 +696,7 @@ fn entries_in(frame: &Frame) -> usize {
 }
 
 // So many references to pages of bucket 0, each to its own.
-fn of_one_bucket(rt: &impl Abort, alloc: Global, replica: ReplicaId, pages: u32) -> RefList {
+fn of_one_bucket(rt: &impl Abort, alloc: Global, replica: ReplicaId, pages: u64) -> RefList {
     let mut batch = Vec::new(alloc);
     for i in 0..pages {
         let stamp = Stamp { time: 5, replica };
@@ -669,12 +707,17 @@ fn of_one_bucket(rt: &impl Abort, alloc: Global, replica: ReplicaId, pages: u32)
 }
 
 // The frames by which a node answers a wish for the buckets of a mask.
-fn wanted_frames(rt: &impl Abort, node: &mut Node, mask: u64) -> Vec<Frame>
-    requires { ⟦<Node as Shown>⟧.is_fit node.old }
-    ensures { ⟦<Node as Shown>⟧.is_fit node.new }
-{
+fn wanted_frames(rt: &impl Abort, node: &mut Node<MemDevice>, mask: u64) -> Vec<Frame> {
     let sender = ReplicaId::new(3).expect(rt, "the number is of a replica");
-    answers(rt, node, Frame::Want { sender, mask })
+    answers(
+        rt,
+        node,
+        Frame::Want {
+            sender,
+            horizon: 0,
+            mask,
+        },
+    )
 }
 
 fn are_in_thousands(frames: &[Frame]) -> bool {
@@ -684,10 +727,7 @@ fn are_in_thousands(frames: &[Frame]) -> bool {
         && entries_in(&frames[2]) == 1
 }
 
-fn answers_in_thousands(rt: &impl Abort, alloc: Global, node: &mut Node)
-    requires { ⟦<Node as Shown>⟧.is_fit node.old }
-    ensures { ⟦<Node as Shown>⟧.is_fit node.new }
-{
+fn answers_in_thousands(rt: &impl Abort, alloc: Global, node: &mut Node<MemDevice>) {
     let batch = of_one_bucket(rt, alloc, node.id(), 2001);
     assert!(rt; says(node, Call::Absorb(batch)) == Said::Done);
     assert!(rt; are_in_thousands(&wanted_frames(rt, node, 1)));

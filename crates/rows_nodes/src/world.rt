@@ -1,17 +1,18 @@
-//! Rows of a world's life, run. Each event stands in a function of its own, which keeps that the world is one: what is
-//! proved of a test does not grow with its rows. What must not fail ends the process where it does: a `?` would be one
-//! more way out, on which the drop of all that is owned is proved.
+//! Rows of a world's life, run. Each event stands in a function of its own, so that what is proved of a test does not grow
+//! with its rows. What must not fail ends the process where it does: a `?` would be one more way out, on which the drop of all
+//! that is owned is proved.
 ghost use Rattle.std.specs.Prelude.{◌≡◌, IfOk, OnOk, length};
 ghost use Rattle.warm_world.specs.Opening.{AreFew};
-ghost use Rattle.warm_world.specs.Seen.{IsWorld, listed};
+ghost use Rattle.warm_world.specs.Seen.{listed};
 
+mod boxed;
 mod gossip;
 mod growths;
+mod horizons;
 mod pools;
 mod setups;
 
 use std::alloc::{AllocError, Global};
-use std::marker::PhantomData;
 use std::process::Abort;
 use warm_devices::{MemDevice, PageDevice};
 use warm_history::{History, PageHist};
@@ -19,7 +20,7 @@ use warm_pool::Slot;
 use warm_stamps::{Bucket, ByteList, PageId, PageList};
 use warm_world::{Answer, Event, Setup, World, WorldFault};
 
-const fn page(no: u32) -> PageId {
+const fn page(no: u64) -> PageId {
     PageId { dev: 0, no }
 }
 
@@ -27,90 +28,74 @@ const fn slot(index: u32, generation: u64) -> Slot {
     Slot { index, generation }
 }
 
-// A list of one device in memory, whose pages have so many bytes.
-fn one_device(
-    alloc: Global,
-    pages: u32,
-    page_size: usize,
-) -> Result<Vec<Box<dyn PageDevice + Send>>, AllocError>
-    ensures { IfOk result (λ list. length list.items ≡ 1) }
-{
-    let memory = MemDevice::new(alloc, pages, page_size)?;
-    let device: Box<dyn PageDevice + Send> = Box::new(alloc, memory)?;
-    let mut list = Vec::with_capacity(alloc, 1)?;
-    list.push_reserved(device);
-    Ok(list)
-}
-
 // Adds a list of one device.
-fn add_list(
-    lists: &mut Vec<Vec<Box<dyn PageDevice + Send>>>,
-    list: Vec<Box<dyn PageDevice + Send>>,
-) -> Result<(), AllocError>
-    requires few { AreFew (listed state lists.old.items) }
+fn add_list<D: PageDevice>(lists: &mut Vec<Vec<D>>, list: Vec<D>) -> Result<(), AllocError>
+    requires few { AreFew (listed D.state lists.old.items) }
     requires one { length list.items ≡ 1 }
-    ensures { OnOk result (AreFew (listed state lists.new.items)) }
+    ensures { OnOk result (AreFew (listed D.state lists.new.items)) }
 {
     lists.push(list)?;
     Ok(())
 }
 
-// So many lists of one device of 256 pages each.
-fn devices_for(
-    alloc: Global,
-    replicas: u16,
-    page_size: usize,
-) -> Result<Vec<Vec<Box<dyn PageDevice + Send>>>, AllocError>
-    ensures { IfOk result (λ lists. AreFew (listed state lists.items)) }
+// A device in a list of its own.
+fn alone<D: PageDevice>(alloc: Global, device: D) -> Result<Vec<D>, AllocError>
+    ensures { IfOk result (λ list. length list.items ≡ 1) }
+{
+    let mut list = Vec::with_capacity(alloc, 1)?;
+    list.push_reserved(device);
+    Ok(list)
+}
+
+// Each device in a list of its own.
+fn each_alone<D: PageDevice>(alloc: Global, devices: Vec<D>) -> Result<Vec<Vec<D>>, AllocError>
+    ensures { IfOk result (λ lists. AreFew (listed D.state lists.items)) }
 {
     let mut lists = Vec::new(alloc);
-    for _replica in 0..replicas {
-        add_list(&mut lists, one_device(alloc, 256, page_size)?)?;
+    for device in devices {
+        add_list(&mut lists, alone(alloc, device)?)?;
     }
     Ok(lists)
 }
 
-// A world that is tried.
-#[derive(Drop)]
-struct Live {
-    world: World,
-    // What holds of every boxed device is known where a type names the box.
-    boxes: PhantomData<Box<dyn PageDevice + Send>>,
+// So many devices of 256 pages each.
+fn devices_for(
+    alloc: Global,
+    replicas: u16,
+    page_size: usize,
+) -> Result<Vec<MemDevice>, AllocError> {
+    let mut devices = Vec::new(alloc);
+    for _replica in 0..replicas {
+        devices.push(MemDevice::new(alloc, 256, page_size)?)?;
+    }
+    Ok(devices)
 }
 
-fn made(
-    rt: &impl Abort,
-    alloc: Global,
-    setup: Setup,
-    devices: Vec<Vec<Box<dyn PageDevice + Send>>>,
-) -> Live
-    requires { AreFew (listed state devices.items) }
-    ensures { IsWorld state result.world }
-{
-    match World::new(alloc, setup, devices) {
-        Ok(world) => Live {
-            world,
-            boxes: PhantomData,
-        },
+// A world whose replicas have one device each.
+fn made<D: PageDevice>(rt: &impl Abort, alloc: Global, setup: Setup, devices: Vec<D>) -> World<D> {
+    let lists = each_alone(alloc, devices).expect(rt, "room for the lists");
+    match World::new(alloc, setup, lists) {
+        Ok(world) => world,
         Err(_) => panic!(rt; "no world"),
     }
 }
 
-// Replicas with two workers each, whose buffers hold 64 references, and whose pools have so many frames over a device
-// of 256 pages of 16 bytes.
-fn fresh(rt: &impl Abort, alloc: Global, replicas: u16, frames: u32) -> Live
-    ensures { IsWorld state result.world }
-{
-    let setup = Setup::new(replicas, 2, 64, frames, 16).expect(rt, "it is within its limits");
+// Two workers each, whose buffers hold 64 references, and pools of so many frames whose pages have 16 bytes.
+fn setup_of(rt: &impl Abort, replicas: u16, frames: u32) -> Setup {
+    Setup::new(replicas, 2, 64, frames, 16).expect(rt, "it is within its limits")
+}
+
+// A world of so many such replicas, over a device of 256 pages each.
+fn fresh(rt: &impl Abort, alloc: Global, replicas: u16, frames: u32) -> World<MemDevice> {
     let devices = devices_for(alloc, replicas, 16).expect(rt, "room for the devices");
-    made(rt, alloc, setup, devices)
+    made(rt, alloc, setup_of(rt, replicas, frames), devices)
 }
 
 // What is known of a page of device 0: its number, the time and the replica of its last stamp, and those of the one before, or 0
 // and 0, which is of no replica.
-type Known = (u32, u64, u16, u64, u16);
+type Known = (u64, u64, u16, u64, u16);
 
-fn known_in(no: u32, hist: PageHist) -> Known {
+fn known_in(no: u64, hist: PageHist) -> Known {
     match hist {
         PageHist::Once(last) => (no, last.time, last.replica.get(), 0, 0),
         PageHist::Twice(two) => {
@@ -139,11 +124,13 @@ enum Said {
     // The index and the generation of the slot of a page with a fix.
     Pinned(u32, u64),
     // The page that leaves next, or that there is none.
-    Leaves(u16, u32),
+    Leaves(u16, u64),
     NoneLeaves,
     // The page that a step of the warm-up loads, or that there is none.
-    Loaded(u16, u32),
+    Loaded(u16, u64),
     NoneLoaded,
+    // The time before which stamps are forgotten.
+    Kept(u64),
     // A history, pages or bytes.
     Long,
 }
@@ -161,7 +148,7 @@ const NO_REPLICA: Said = Said::Refused(WorldFault::NoSuchReplica);
 #[derive(Clone, Copy)]
 enum Row<'a> {
     // A worker of a replica references a page at a time.
-    Refers(u16, u16, u32, u64, Said),
+    Refers(u16, u16, u64, u64, Said),
     // A worker's buffer is flushed.
     Flushes(u16, u16, Said),
     // A replica sends the first entries of a bucket.
@@ -172,6 +159,8 @@ enum Row<'a> {
     Hears(u16, u64, Said),
     // A replica is restarted.
     Restarts(u16, Said),
+    // It forgets all stamps before a time.
+    Forgets(u16, u64, Said),
     // A replica knows just these pages so.
     Knows(u16, &'a [Known]),
     // So many of the replica's hottest pages.
@@ -179,13 +168,13 @@ enum Row<'a> {
     // All pages are written back.
     Finishes(Said),
     // A page of a replica's pool is given a fix.
-    Pins(u16, u32, Said),
+    Pins(u16, u64, Said),
     // The same of a page of device 1.
-    PinsElsewhere(u16, u32, Said),
+    PinsElsewhere(u16, u64, Said),
     // A fix is taken away.
     Unpins(u16, u32, u64, Said),
     // A page is given a fix, which is taken away again.
-    Visits(u16, u32),
+    Visits(u16, u64),
     // Bytes are written into the slot's page, from a place on.
     Puts(u16, u32, u64, u32, &'a [u8], Said),
     // The slot's page has these bytes from a place on.
@@ -199,11 +188,8 @@ enum Row<'a> {
 }
 
 // The one place where a world is stepped: what else is asked of it need not know what a step promises.
-fn answer(live: &mut Live, event: Event) -> Answer
-    requires { IsWorld state live.old.world }
-    ensures { IsWorld state live.new.world }
-{
-    live.world.step(event)
+fn answer<D: PageDevice>(world: &mut World<D>, event: Event) -> Answer {
+    world.step(event)
 }
 
 fn leaves(page: Option<PageId>) -> Said {
@@ -229,15 +215,13 @@ fn said_in(answer: Answer) -> Said {
         Answer::Pinned(slot) => Said::Pinned(slot.index, slot.generation),
         Answer::Page(page) => leaves(page),
         Answer::Loaded(page) => loaded(page),
+        Answer::Kept(horizon) => Said::Kept(horizon),
         Answer::Shown(_) | Answer::Pages(_) | Answer::Bytes(_) => Said::Long,
     }
 }
 
-fn says(live: &mut Live, event: Event) -> Said
-    requires { IsWorld state live.old.world }
-    ensures { IsWorld state live.new.world }
-{
-    said_in(answer(live, event))
+fn says<D: PageDevice>(world: &mut World<D>, event: Event) -> Said {
+    said_in(answer(world, event))
 }
 
 fn shown_in(rt: &impl Abort, answer: Answer) -> History {
@@ -247,11 +231,8 @@ fn shown_in(rt: &impl Abort, answer: Answer) -> History {
     }
 }
 
-fn shown(rt: &impl Abort, live: &mut Live, i: u16) -> History
-    requires { IsWorld state live.old.world }
-    ensures { IsWorld state live.new.world }
-{
-    shown_in(rt, answer(live, Event::Show(i)))
+fn shown<D: PageDevice>(rt: &impl Abort, world: &mut World<D>, i: u16) -> History {
+    shown_in(rt, answer(world, Event::Show(i)))
 }
 
 // Whether a history has just these entries.
@@ -278,11 +259,8 @@ fn pages_in(rt: &impl Abort, answer: Answer) -> PageList {
 }
 
 // So many of the replica's hottest pages.
-fn warm_list(rt: &impl Abort, live: &mut Live, i: u16, pages: u32) -> PageList
-    requires { IsWorld state live.old.world }
-    ensures { IsWorld state live.new.world }
-{
-    pages_in(rt, answer(live, Event::Warm(i, pages)))
+fn warm_list<D: PageDevice>(rt: &impl Abort, world: &mut World<D>, i: u16, pages: u32) -> PageList {
+    pages_in(rt, answer(world, Event::Warm(i, pages)))
 }
 
 // Whether an answer has just these bytes.
@@ -293,32 +271,30 @@ fn has_bytes(answer: Answer, wanted: &[u8]) -> bool {
     }
 }
 
-fn reads(rt: &impl Abort, live: &mut Live, i: u16, slot: Slot, from: u32, wanted: &[u8]) -> bool
-    requires { IsWorld state live.old.world }
-    ensures { IsWorld state live.new.world }
-{
+fn reads<D: PageDevice>(
+    rt: &impl Abort,
+    world: &mut World<D>,
+    i: u16,
+    slot: Slot,
+    from: u32,
+    wanted: &[u8],
+) -> bool {
     let count = u32::try_from(wanted.len()).expect(rt, "a row wants few bytes");
-    has_bytes(answer(live, Event::Get(i, slot, from, count)), wanted)
+    has_bytes(answer(world, Event::Get(i, slot, from, count)), wanted)
 }
 
 // Pins a page and takes the fix away again, whether both are done.
-fn visits(live: &mut Live, i: u16, no: u32) -> bool
-    requires { IsWorld state live.old.world }
-    ensures { IsWorld state live.new.world }
-{
-    match says(live, Event::Pin(i, page(no))) {
+fn visits<D: PageDevice>(world: &mut World<D>, i: u16, no: u64) -> bool {
+    match says(world, Event::Pin(i, page(no))) {
         Said::Pinned(index, generation) => {
-            says(live, Event::Unpin(i, slot(index, generation))) == DONE
+            says(world, Event::Unpin(i, slot(index, generation))) == DONE
         }
         _ => false,
     }
 }
 
-fn finished(live: &mut Live) -> Said
-    requires { IsWorld state live.old.world }
-    ensures { IsWorld state live.new.world }
-{
-    match live.world.finish() {
+fn finished<D: PageDevice>(world: &mut World<D>) -> Said {
+    match world.finish() {
         Ok(()) => Said::Done,
         Err(fault) => Said::Refused(WorldFault::Node(fault)),
     }
@@ -363,48 +339,50 @@ fn asked(rt: &impl Abort, alloc: Global, row: Row<'_>) -> (Event, Said) {
         Row::Offers(i, wanted) => (Event::Offer(i), wanted),
         Row::Hears(j, k, wanted) => (Event::Deliver(j, k), wanted),
         Row::Restarts(i, wanted) => (Event::Restart(i), wanted),
+        Row::Forgets(i, time, wanted) => (Event::Horizon(i, time), wanted),
         other => asked_of_pool(rt, alloc, other),
     }
 }
 
 // Whether the event that a row asks for is answered as it says.
-fn is_said(rt: &impl Abort, alloc: Global, live: &mut Live, row: Row<'_>) -> bool
-    requires { IsWorld state live.old.world }
-    ensures { IsWorld state live.new.world }
-{
+fn is_said<D: PageDevice>(
+    rt: &impl Abort,
+    alloc: Global,
+    world: &mut World<D>,
+    row: Row<'_>,
+) -> bool {
     let (event, wanted) = asked(rt, alloc, row);
-    says(live, event) == wanted
+    says(world, event) == wanted
 }
 
 // Asks what the row says, and whether that comes of it.
-fn meets(rt: &impl Abort, alloc: Global, live: &mut Live, row: Row<'_>) -> bool
-    requires { IsWorld state live.old.world }
-    ensures { IsWorld state live.new.world }
-{
+fn meets<D: PageDevice>(
+    rt: &impl Abort,
+    alloc: Global,
+    world: &mut World<D>,
+    row: Row<'_>,
+) -> bool {
     match row {
-        Row::Knows(i, wanted) => has_entries(&shown(rt, live, i), wanted),
-        Row::Hottest(i, pages, wanted) => warm_list(rt, live, i, pages).as_slice() == wanted,
-        Row::Finishes(wanted) => finished(live) == wanted,
-        Row::Visits(i, no) => visits(live, i, no),
+        Row::Knows(i, wanted) => has_entries(&shown(rt, world, i), wanted),
+        Row::Hottest(i, pages, wanted) => warm_list(rt, world, i, pages).as_slice() == wanted,
+        Row::Finishes(wanted) => finished(world) == wanted,
+        Row::Visits(i, no) => visits(world, i, no),
         Row::Has(i, index, generation, from, wanted) => {
-            reads(rt, live, i, slot(index, generation), from, wanted)
+            reads(rt, world, i, slot(index, generation), from, wanted)
         }
-        event => is_said(rt, alloc, live, event),
+        event => is_said(rt, alloc, world, event),
     }
 }
 
 // Asks a world what the rows say, in turn.
-fn runs(rt: &impl Abort, alloc: Global, live: &mut Live, rows: &[Row<'_>])
-    requires { IsWorld state live.old.world }
-    ensures { IsWorld state live.new.world }
-{
+fn runs<D: PageDevice>(rt: &impl Abort, alloc: Global, world: &mut World<D>, rows: &[Row<'_>]) {
     for (at, row) in rows.iter().enumerate() {
-        assert!(rt; meets(rt, alloc, live, *row), "row {at}");
+        assert!(rt; meets(rt, alloc, world, *row), "row {at}");
     }
 }
 
 // A fresh world of so many replicas, with pools of so many frames, lives through the rows.
 fn lives(rt: &impl Abort, alloc: Global, replicas: u16, frames: u32, rows: &[Row<'_>]) {
-    let mut live = fresh(rt, alloc, replicas, frames);
-    runs(rt, alloc, &mut live, rows)
+    let mut world = fresh(rt, alloc, replicas, frames);
+    runs(rt, alloc, &mut world, rows)
 }

@@ -1,13 +1,13 @@
 //! What a refused growth leaves. Run with each growth refused in turn, the test shows that a refusal changes nothing, and that the
 //! same call then succeeds.
-ghost use Rattle.std.specs.Prelude.{IfOk};
 
 use super::{Said, batch_of, page, says, slot};
 use std::alloc::{AllocError, Global};
+use std::ops::Range;
 use std::process::Abort;
-use warm_devices::{MemDevice, PageDevice};
+use warm_devices::MemDevice;
 use warm_frames::Frame;
-use warm_gossip::{Call, Node, NodeFault, Shown};
+use warm_gossip::{Call, Node, NodeFault};
 use warm_pool::Pool;
 use warm_stamps::{Bucket, RefList, ReplicaId};
 
@@ -15,13 +15,10 @@ use warm_stamps::{Bucket, RefList, ReplicaId};
 const ONE_REFUSED: &str = "one growth alone is refused";
 
 // A node of two frames over a device of 8 pages.
-fn opened(alloc: Global, id: ReplicaId) -> Result<Node, AllocError>
-    ensures { IfOk result (λ node. ⟦<Node as Shown>⟧.is_fit node) }
-{
+fn opened(alloc: Global, id: ReplicaId) -> Result<Node<MemDevice>, AllocError> {
     let memory = MemDevice::new(alloc, 8, 16)?;
-    let device: Box<dyn PageDevice + Send> = Box::new(alloc, memory)?;
     let mut devices = Vec::with_capacity(alloc, 1)?;
-    devices.push_reserved(device);
+    devices.push_reserved(memory);
     match Pool::new(alloc, 2, 16, devices) {
         Ok(pool) => Ok(Node::new(alloc, id, pool)),
         Err(_) => Err(AllocError),
@@ -29,9 +26,7 @@ fn opened(alloc: Global, id: ReplicaId) -> Result<Node, AllocError>
 }
 
 // Opens a node. Where one growth is refused, the next try has the memory.
-fn opened_again(rt: &impl Abort, alloc: Global, number: u16) -> Node
-    ensures { ⟦<Node as Shown>⟧.is_fit result }
-{
+fn opened_again(rt: &impl Abort, alloc: Global, number: u16) -> Node<MemDevice> {
     let id = ReplicaId::new(number).expect(rt, "the number is of a replica");
     match opened(alloc, id) {
         Ok(node) => node,
@@ -39,16 +34,25 @@ fn opened_again(rt: &impl Abort, alloc: Global, number: u16) -> Node
     }
 }
 
-const CALLS: usize = 11;
+const CALLS: usize = 14;
+
+// The place of the first of the calls by which horizons rise.
+const RAISES: usize = 11;
 
 // The place of the call by which replica 2 comes to know a page of bucket 1 and one of bucket 2.
-const TELLING: usize = 11;
+const TELLING: usize = 14;
 
-// Each kind of call that takes room, one after the other; `None` where room for the call itself was refused.
-fn call_at(alloc: Global, other: &mut Node, place: usize) -> Option<Call>
-    requires { ⟦<Node as Shown>⟧.is_fit other.old }
-    ensures { ⟦<Node as Shown>⟧.is_fit other.new }
-{
+// A wish for buckets 1 and 2, with a horizon.
+fn wish(sender: ReplicaId, horizon: u64) -> Frame {
+    Frame::Want {
+        sender,
+        horizon,
+        mask: 6,
+    }
+}
+
+// Each kind of call that takes room, and what raises a horizon, one after the other; `None` where room for the call itself was refused.
+fn call_at(alloc: Global, other: &mut Node<MemDevice>, place: usize) -> Option<Call> {
     let bucket = Bucket::new(1)?;
     let references = [(1, 10), (1, 20), (65, 30)];
     match place {
@@ -60,10 +64,7 @@ fn call_at(alloc: Global, other: &mut Node, place: usize) -> Option<Call>
         2 => Some(Call::Offer),
         3 => Some(Call::Receive(other.send(bucket, None).ok()?)),
         4 => Some(Call::Receive(other.offer().ok()?)),
-        5 => Some(Call::Receive(Frame::Want {
-            sender: other.id(),
-            mask: 6,
-        })),
+        5 => Some(Call::Receive(wish(other.id(), 0))),
         6 => Some(Call::WarmList(2)),
         7 => Some(Call::WarmStep),
         8 => Some(Call::Pin(page(7))),
@@ -72,6 +73,13 @@ fn call_at(alloc: Global, other: &mut Node, place: usize) -> Option<Call>
             at: 0,
             len: 4,
         }),
+        RAISES => {
+            // Its sums have a greater horizon.
+            other.raise(15);
+            Some(Call::Receive(other.offer().ok()?))
+        }
+        12 => Some(Call::Receive(wish(other.id(), 25))),
+        13 => Some(Call::Horizon(35)),
         TELLING => {
             let two = ReplicaId::new(2).ok()?;
             Some(Call::Absorb(batch_of(alloc, two, &[(129, 5), (2, 7)]).ok()?))
@@ -80,21 +88,15 @@ fn call_at(alloc: Global, other: &mut Node, place: usize) -> Option<Call>
     }
 }
 
-fn call_again(rt: &impl Abort, alloc: Global, other: &mut Node, place: usize) -> Call
-    requires { ⟦<Node as Shown>⟧.is_fit other.old }
-    ensures { ⟦<Node as Shown>⟧.is_fit other.new }
-{
+fn call_again(rt: &impl Abort, alloc: Global, other: &mut Node<MemDevice>, place: usize) -> Call {
     match call_at(alloc, other, place) {
         Some(call) => call,
         None => call_at(alloc, other, place).expect(rt, ONE_REFUSED),
     }
 }
 
-// Whether all that a node knows, and what would leave its pool, is as in another.
-fn is_same(node: &Node, twin: &Node) -> bool
-    requires node { ⟦<Node as Shown>⟧.is_fit node.now }
-    requires twin { ⟦<Node as Shown>⟧.is_fit twin.now }
-{
+// Whether all that a node knows, its horizon, and what would leave its pool, is as in another.
+fn is_same(node: &Node<MemDevice>, twin: &Node<MemDevice>) -> bool {
     let known = node.history();
     let others = twin.history();
     for at in 0..known.len() {
@@ -102,7 +104,9 @@ fn is_same(node: &Node, twin: &Node) -> bool
             return false;
         }
     }
-    known.len() == others.len() && node.victim() == twin.victim()
+    known.len() == others.len()
+        && known.horizon() == others.horizon()
+        && node.victim() == twin.victim()
 }
 
 // What is said where a growth was refused.
@@ -116,17 +120,11 @@ fn is_refused(said: Said) -> bool {
 fn ask_again(
     rt: &impl Abort,
     alloc: Global,
-    node: &mut Node,
-    twin: &Node,
-    other: &mut Node,
+    node: &mut Node<MemDevice>,
+    twin: &Node<MemDevice>,
+    other: &mut Node<MemDevice>,
     place: usize,
-) -> bool
-    requires node { ⟦<Node as Shown>⟧.is_fit node.old }
-    requires twin { ⟦<Node as Shown>⟧.is_fit twin.now }
-    requires other { ⟦<Node as Shown>⟧.is_fit other.old }
-    ensures node { ⟦<Node as Shown>⟧.is_fit node.new }
-    ensures other { ⟦<Node as Shown>⟧.is_fit other.new }
-{
+) -> bool {
     let first = says(node, call_again(rt, alloc, other, place));
     if first != NO_ROOM {
         return !is_refused(first);
@@ -134,29 +132,67 @@ fn ask_again(
     is_same(node, twin) && !is_refused(says(node, call_again(rt, alloc, other, place)))
 }
 
-fn ask_twin(rt: &impl Abort, alloc: Global, twin: &mut Node, other: &mut Node, place: usize)
-    requires twin { ⟦<Node as Shown>⟧.is_fit twin.old }
-    requires other { ⟦<Node as Shown>⟧.is_fit other.old }
-    ensures twin { ⟦<Node as Shown>⟧.is_fit twin.new }
-    ensures other { ⟦<Node as Shown>⟧.is_fit other.new }
-{
+fn ask_twin(
+    rt: &impl Abort,
+    alloc: Global,
+    twin: &mut Node<MemDevice>,
+    other: &mut Node<MemDevice>,
+    place: usize,
+) {
     if is_refused(says(twin, call_again(rt, alloc, other, place))) {
         let _ = says(twin, call_again(rt, alloc, other, place));
     }
 }
 
-fn stay_same(rt: &impl Abort, alloc: Global, node: &mut Node, twin: &mut Node, other: &mut Node)
-    requires node { ⟦<Node as Shown>⟧.is_fit node.old }
-    requires twin { ⟦<Node as Shown>⟧.is_fit twin.old }
-    requires other { ⟦<Node as Shown>⟧.is_fit other.old }
-{
-    ask_twin(rt, alloc, other, node, TELLING);
-    assert!(rt; other.history().len() == 2);
-    for place in 0..CALLS {
+// Asks both nodes the calls of these places, in turn.
+fn ask_both(
+    rt: &impl Abort,
+    alloc: Global,
+    node: &mut Node<MemDevice>,
+    twin: &mut Node<MemDevice>,
+    other: &mut Node<MemDevice>,
+    places: Range<usize>,
+) {
+    for place in places {
         let is_answered = ask_again(rt, alloc, node, twin, other, place);
         ask_twin(rt, alloc, twin, other, place);
         assert!(rt; is_answered && is_same(node, twin), "call {place}");
     }
+}
+
+// How many frames a node would answer to a wish with a greater horizon; none where a growth is refused.
+fn answered(node: &mut Node<MemDevice>) -> Option<usize> {
+    let sender = node.id();
+    match node.answers(&wish(sender, 25)) {
+        Ok(frames) => Some(frames.as_slice().len()),
+        Err(_) => None,
+    }
+}
+
+// What a node would answer, and whether that is refused, changes nothing: of buckets 1 and 2 page 65 alone is not older than 25.
+fn would_answer(rt: &impl Abort, node: &mut Node<MemDevice>, twin: &Node<MemDevice>) {
+    let mut frames = answered(node);
+    assert!(rt; is_same(node, twin));
+    if frames.is_none() {
+        frames = answered(node);
+    }
+    assert!(rt; frames == Some(1));
+    assert!(rt; is_same(node, twin));
+}
+
+fn stay_same(
+    rt: &impl Abort,
+    alloc: Global,
+    node: &mut Node<MemDevice>,
+    twin: &mut Node<MemDevice>,
+    other: &mut Node<MemDevice>,
+) {
+    ask_twin(rt, alloc, other, node, TELLING);
+    assert!(rt; other.history().len() == 2);
+    ask_both(rt, alloc, node, twin, other, 0..RAISES);
+    would_answer(rt, node, twin);
+    ask_both(rt, alloc, node, twin, other, RAISES..CALLS);
+    assert!(rt; node.history().horizon() == 35);
 }
 
 // With ample memory two nodes of the same calls are the same.

@@ -1,13 +1,10 @@
-//! What a refused growth leaves. Run with each growth refused in turn, the test shows that a refusal changes nothing.
-ghost use Rattle.std.specs.Prelude.{IfSome};
-ghost use Rattle.warm_world.specs.Opening.{AreFew};
-ghost use Rattle.warm_world.specs.Seen.{IsWorld, listed};
+//! What a refused growth leaves. Run with each growth refused in turn, the test shows that a refusal changes nothing, a
+//! horizon included.
 
-use super::{Live, Said, answer, devices_for, page, says, slot};
+use super::{Said, answer, devices_for, each_alone, page, says, slot};
 use std::alloc::Global;
-use std::marker::PhantomData;
 use std::process::Abort;
-use warm_devices::PageDevice;
+use warm_devices::MemDevice;
 use warm_gossip::NodeFault;
 use warm_history::History;
 use warm_stamps::Bucket;
@@ -24,81 +21,75 @@ fn shown_in(answer: Answer) -> Option<History> {
 }
 
 // A copy of what a replica knows. Where one growth is refused, the next try has the memory.
-fn known(rt: &impl Abort, live: &mut Live, i: u16) -> History
-    requires { IsWorld state live.old.world }
-    ensures { IsWorld state live.new.world }
-{
-    match shown_in(answer(live, Event::Show(i))) {
+fn known(rt: &impl Abort, world: &mut World<MemDevice>, i: u16) -> History {
+    match shown_in(answer(world, Event::Show(i))) {
         Some(history) => history,
-        None => shown_in(answer(live, Event::Show(i))).expect(rt, ONE_REFUSED),
+        None => shown_in(answer(world, Event::Show(i))).expect(rt, ONE_REFUSED),
     }
 }
 
-fn have_same_entries(known: &History, others: &History) -> bool {
+fn are_same(known: &History, others: &History) -> bool {
     for at in 0..known.len() {
         if known.at(at) != others.at(at) {
             return false;
         }
     }
-    known.len() == others.len()
+    known.len() == others.len() && known.horizon() == others.horizon()
 }
 
 // Whether all that the replica of a number knows is as in another world.
-fn knows_same(rt: &impl Abort, live: &mut Live, twin: &mut Live, i: u16) -> bool
-    requires first { IsWorld state live.old.world }
-    requires second { IsWorld state twin.old.world }
-    ensures first { IsWorld state live.new.world }
-    ensures second { IsWorld state twin.new.world }
-{
-    have_same_entries(&known(rt, live, i), &known(rt, twin, i))
+fn knows_same(
+    rt: &impl Abort,
+    world: &mut World<MemDevice>,
+    twin: &mut World<MemDevice>,
+    i: u16,
+) -> bool {
+    are_same(&known(rt, world, i), &known(rt, twin, i))
 }
 
 // Whether both replicas know the same as in another world.
-fn know_same(rt: &impl Abort, live: &mut Live, twin: &mut Live) -> bool
-    requires first { IsWorld state live.old.world }
-    requires second { IsWorld state twin.old.world }
-    ensures first { IsWorld state live.new.world }
-    ensures second { IsWorld state twin.new.world }
-{
-    knows_same(rt, live, twin, 1) && knows_same(rt, live, twin, 2)
+fn know_same(rt: &impl Abort, world: &mut World<MemDevice>, twin: &mut World<MemDevice>) -> bool {
+    knows_same(rt, world, twin, 1) && knows_same(rt, world, twin, 2)
 }
 
-// Devices for two replicas. Where one growth is refused, the next try has the memory.
-fn devices_again(rt: &impl Abort, alloc: Global) -> Vec<Vec<Box<dyn PageDevice + Send>>>
-    ensures { AreFew (listed state result.items) }
-{
-    match devices_for(alloc, 2, 16) {
-        Ok(devices) => devices,
-        Err(_) => devices_for(alloc, 2, 16).expect(rt, ONE_REFUSED),
-    }
-}
-
-fn opened(rt: &impl Abort, alloc: Global) -> Option<Live>
-    ensures { IfSome result (λ live. IsWorld state live.world) }
-{
+// A world of two replicas over a device each, or none where a growth is refused.
+fn opened(rt: &impl Abort, alloc: Global) -> Option<World<MemDevice>> {
     let setup = Setup::new(2, 1, 2, 4, 16).expect(rt, "it is within its limits");
-    match World::new(alloc, setup, devices_again(rt, alloc)) {
-        Ok(world) => Some(Live {
-            world,
-            boxes: PhantomData,
-        }),
-        Err(_) => None,
-    }
+    let lists = each_alone(alloc, devices_for(alloc, 2, 16).ok()?).ok()?;
+    World::new(alloc, setup, lists).ok()
 }
 
 // Opens a world. Where one growth is refused, the next try has the memory.
-fn opened_again(rt: &impl Abort, alloc: Global) -> Live
-    ensures { IsWorld state result.world }
-{
+fn opened_again(rt: &impl Abort, alloc: Global) -> World<MemDevice> {
     match opened(rt, alloc) {
-        Some(live) => live,
+        Some(world) => world,
         None => opened(rt, alloc).expect(rt, ONE_REFUSED),
     }
 }
 
-const EVENTS: usize = 21;
+const EVENTS: usize = 33;
 
-// Each kind of event, one after the other. By the last of them what waits in buffers reaches the histories, and each frame
+// Replicas that know different things get horizons, and hear of the greater one by sums, by a wish and by entries.
+fn horizon_at(one: Bucket, place: usize) -> Event {
+    match place {
+        21 => Event::Refer(2, 1, page(66), 50),
+        22 => Event::Flush(2, 1),
+        23 => Event::Horizon(1, 15),
+        24 => Event::Offer(1),
+        // The sums are of page 2 in bucket 2: frame 7 has pages 2 and 66, and frame 8 is a wish.
+        25 => Event::Deliver(2, 6),
+        26 => Event::Deliver(1, 8),
+        27 => Event::Horizon(2, 25),
+        // Of bucket 1 page 1 is now forgotten: frames 10 and 11 have buckets 1 and 2, and frame 12 is a wish for both.
+        28 => Event::Deliver(2, 6),
+        29 => Event::Deliver(1, 12),
+        30 => Event::Horizon(1, 35),
+        31 => Event::Send(1, one, None),
+        _ => Event::Deliver(2, 15),
+    }
+}
+
+// Each kind of event, one after the other. By the first 21 of them what waits in buffers reaches the histories, and each frame
 // that was kept has come to a replica.
 fn event_at(rt: &impl Abort, place: usize) -> Event {
     let one = Bucket::new(1).expect(rt, "1 is a bucket");
@@ -123,42 +114,37 @@ fn event_at(rt: &impl Abort, place: usize) -> Event {
         17 => Event::Deliver(1, 3),
         18 => Event::Deliver(1, 4),
         19 => Event::Deliver(2, 5),
-        _ => Event::Deliver(2, 1),
+        20 => Event::Deliver(2, 1),
+        later => horizon_at(one, later),
     }
 }
 
 // What is told where a growth was refused.
 const NO_ROOM: Said = Said::Refused(WorldFault::Node(NodeFault::Memory));
 
-fn answered(rt: &impl Abort, live: &mut Live, place: usize) -> Said
-    requires { IsWorld state live.old.world }
-    ensures { IsWorld state live.new.world }
-{
-    says(live, event_at(rt, place))
+fn answered(rt: &impl Abort, world: &mut World<MemDevice>, place: usize) -> Said {
+    says(world, event_at(rt, place))
 }
 
 // Steps a world whose twin is as it was; a refusal leaves it so, and the next try has the memory.
-fn step_again(rt: &impl Abort, live: &mut Live, twin: &mut Live, place: usize) -> Said
-    requires first { IsWorld state live.old.world }
-    requires second { IsWorld state twin.old.world }
-    ensures first { IsWorld state live.new.world }
-    ensures second { IsWorld state twin.new.world }
-{
-    let first = answered(rt, live, place);
+fn step_again(
+    rt: &impl Abort,
+    world: &mut World<MemDevice>,
+    twin: &mut World<MemDevice>,
+    place: usize,
+) -> Said {
+    let first = answered(rt, world, place);
     if first != NO_ROOM {
         return first;
     }
     assert!(rt;
-        know_same(rt, live, twin),
+        know_same(rt, world, twin),
         "after event {place} was refused"
     );
-    answered(rt, live, place)
+    answered(rt, world, place)
 }
 
-fn step_twin(rt: &impl Abort, twin: &mut Live, place: usize) -> Said
-    requires { IsWorld state twin.old.world }
-    ensures { IsWorld state twin.new.world }
-{
+fn step_twin(rt: &impl Abort, twin: &mut World<MemDevice>, place: usize) -> Said {
     let first = answered(rt, twin, place);
     if first != NO_ROOM {
         return first;
@@ -171,25 +157,20 @@ fn is_refused(told: Said) -> bool {
 }
 
 // Whether both worlds answer an event alike, without a refusal in the end, and then know the same.
-fn step_alike(rt: &impl Abort, live: &mut Live, twin: &mut Live, place: usize) -> bool
-    requires first { IsWorld state live.old.world }
-    requires second { IsWorld state twin.old.world }
-    ensures first { IsWorld state live.new.world }
-    ensures second { IsWorld state twin.new.world }
-{
-    let told = step_again(rt, live, twin, place);
+fn step_alike(
+    rt: &impl Abort,
+    world: &mut World<MemDevice>,
+    twin: &mut World<MemDevice>,
+    place: usize,
+) -> bool {
+    let told = step_again(rt, world, twin, place);
     let other = step_twin(rt, twin, place);
-    !is_refused(told) && told == other && know_same(rt, live, twin)
+    !is_refused(told) && told == other && know_same(rt, world, twin)
 }
 
-fn step_both(rt: &impl Abort, live: &mut Live, twin: &mut Live)
-    requires first { IsWorld state live.old.world }
-    requires second { IsWorld state twin.old.world }
-    ensures first { IsWorld state live.new.world }
-    ensures second { IsWorld state twin.new.world }
-{
+fn step_both(rt: &impl Abort, world: &mut World<MemDevice>, twin: &mut World<MemDevice>) {
     for place in 0..EVENTS {
-        assert!(rt; step_alike(rt, live, twin, place), "at event {place}");
+        assert!(rt; step_alike(rt, world, twin, place), "at event {place}");
     }
 }
 
@@ -199,11 +180,8 @@ fn is_back(events: &[Event]) -> bool {
 }
 
 // Runs an event, whether there was room for its answer; else the event comes back.
-fn is_run(rt: &impl Abort, live: &mut Live, events: Vec<Event>) -> bool
-    requires { IsWorld state live.old.world }
-    ensures { IsWorld state live.new.world }
-{
-    match live.world.run(events) {
+fn is_run(rt: &impl Abort, world: &mut World<MemDevice>, events: Vec<Event>) -> bool {
+    match world.run(events) {
         Ok(answers) => {
             assert!(rt; answers.len() == 1);
             true
@@ -223,32 +201,35 @@ fn one_event(alloc: Global) -> Option<Vec<Event>> {
 }
 
 // A run whose answers have no room gives the events back, and nothing has happened.
-fn run_again(rt: &impl Abort, alloc: Global, live: &mut Live, twin: &mut Live)
-    requires first { IsWorld state live.old.world }
-    requires second { IsWorld state twin.old.world }
-    ensures first { IsWorld state live.new.world }
-{
+fn run_again(
+    rt: &impl Abort,
+    alloc: Global,
+    world: &mut World<MemDevice>,
+    twin: &mut World<MemDevice>,
+) {
     let Some(events) = one_event(alloc) else {
         return;
     };
-    if is_run(rt, live, events) {
+    if is_run(rt, world, events) {
         return;
     }
-    assert!(rt; know_same(rt, live, twin));
+    assert!(rt; know_same(rt, world, twin));
 }
 
-fn stay_same(rt: &impl Abort, alloc: Global, live: &mut Live, twin: &mut Live)
-    requires first { IsWorld state live.old.world }
-    requires second { IsWorld state twin.old.world }
-{
-    step_both(rt, live, twin);
-    run_again(rt, alloc, live, twin);
+fn stay_same(
+    rt: &impl Abort,
+    alloc: Global,
+    world: &mut World<MemDevice>,
+    twin: &mut World<MemDevice>,
+) {
+    step_both(rt, world, twin);
+    run_again(rt, alloc, world, twin);
 }
 
 // With ample memory two worlds of the same events are the same.
 #[test]
 fn a_refused_growth_changes_nothing(rt: HostRuntime) {
-    let mut live = opened_again(&rt, rt.alloc());
+    let mut world = opened_again(&rt, rt.alloc());
     let mut twin = opened_again(&rt, rt.alloc());
-    stay_same(&rt, rt.alloc(), &mut live, &mut twin);
+    stay_same(&rt, rt.alloc(), &mut world, &mut twin);
 }

@@ -1,13 +1,11 @@
 //! Pages of replicas' pools: fixes, victims, bytes, warming up, and restarts.
-ghost use Rattle.warm_world.specs.Seen.{IsWorld};
-
-use super::{DONE, Live, NO_REPLICA, NOT_ANSWERED, Row, Said, add_list, lives, made, page, runs};
+use super::{DONE, NO_REPLICA, NOT_ANSWERED, Row, Said, alone, lives, made, page, runs};
 use std::alloc::Global;
 use std::process::Abort;
-use warm_devices::{Flaky, MemDevice, PageDevice};
+use warm_devices::{Flaky, MemDevice};
 use warm_gossip::NodeFault;
 use warm_pool::PoolFault;
-use warm_world::{Setup, WorldFault};
+use warm_world::{Setup, World, WorldFault};
 
 // Why what is asked of a pool is refused: constants, since a call among the rows of a test is dear to prove.
 const STALE: Said = Said::Refused(WorldFault::Node(NodeFault::StaleSlot));
@@ -178,20 +176,11 @@ fn a_restart_waits_for_fixes(rt: HostRuntime) {
 }
 
 // A world of one replica, with one frame over 8 pages; of the calls of its device this one fails.
-fn failing(rt: &impl Abort, alloc: Global, call: u64) -> Live
-    ensures { IsWorld state result.world }
-{
+fn failing(rt: &impl Abort, alloc: Global, call: u64) -> World<Flaky<MemDevice>> {
     let setup = Setup::new(1, 1, 64, 1, 16).expect(rt, "it is within its limits");
     let memory = MemDevice::new(alloc, 8, 16).expect(rt, "room for its pages");
-    let device: Box<dyn PageDevice + Send> = Box::new(alloc, Flaky::new(memory, call)).expect(
-        rt,
-        "room for it",
-    );
-    let mut list = Vec::with_capacity(alloc, 1).expect(rt, "room for a device");
-    list.push_reserved(device);
-    let mut lists = Vec::new(alloc);
-    add_list(&mut lists, list).expect(rt, "room for a list");
-    made(rt, alloc, setup, lists)
+    let devices = alone(alloc, Flaky::new(memory, call)).expect(rt, "room for a device");
+    made(rt, alloc, setup, devices)
 }
 
 #[test]
@@ -203,8 +192,8 @@ fn a_page_that_was_not_read_comes_in_later(rt: HostRuntime) {
         Row::Loads(1, Said::Loaded(0, 1)),
         Row::Loads(1, Said::NoneLoaded),
     ];
-    let mut live = failing(&rt, rt.alloc(), 1);
-    runs(&rt, rt.alloc(), &mut live, &rows)
+    let mut world = failing(&rt, rt.alloc(), 1);
+    runs(&rt, rt.alloc(), &mut world, &rows)
 }
 
 // The page is read by the first call, and its write, the second, fails.
@@ -224,8 +213,8 @@ fn a_restart_that_fails_forgets_nothing(rt: HostRuntime) {
         Row::Pins(1, 1, Said::Pinned(0, 2)),
         Row::Has(1, 0, 2, 0, &[7]),
     ];
-    let mut live = failing(&rt, rt.alloc(), 2);
-    runs(&rt, rt.alloc(), &mut live, &rows)
+    let mut world = failing(&rt, rt.alloc(), 2);
+    runs(&rt, rt.alloc(), &mut world, &rows)
 }
 
 #[test]
@@ -238,6 +227,6 @@ fn a_world_that_could_not_be_finished_is_finished_later(rt: HostRuntime) {
         Row::Finishes(DONE),
         Row::Has(1, 0, 1, 3, &[9]),
     ];
-    let mut live = failing(&rt, rt.alloc(), 2);
-    runs(&rt, rt.alloc(), &mut live, &rows)
+    let mut world = failing(&rt, rt.alloc(), 2);
+    runs(&rt, rt.alloc(), &mut world, &rows)
 }

@@ -1,11 +1,8 @@
 //! Setups, faults, and worlds that are not made.
-ghost use Rattle.warm_world.specs.Opening.{AreFew};
-ghost use Rattle.warm_world.specs.Seen.{listed};
-
-use super::{add_list, devices_for, one_device};
+use super::{devices_for, each_alone, setup_of};
 use std::alloc::Global;
 use std::process::Abort;
-use warm_devices::PageDevice;
+use warm_devices::MemDevice;
 use warm_gossip::NodeFault;
 use warm_pool::PoolFault;
 use warm_world::{BadSetup, BadWorld, Setup, World, WorldFault};
@@ -55,17 +52,15 @@ fn faults_have_numbers_and_names(rt: HostRuntime) {
     assert!(rt; are_so);
 }
 
-// Why no world is made: of so many replicas, whose pages have 16 bytes.
+// Why no world is made: of so many replicas, whose pages have 16 bytes, over lists of one device each.
 fn refused(
     rt: &impl Abort,
     alloc: Global,
     replicas: u16,
-    devices: Vec<Vec<Box<dyn PageDevice + Send>>>,
-) -> Option<BadWorld>
-    requires { AreFew (listed state devices.items) }
-{
-    let setup = Setup::new(replicas, 2, 64, 4, 16).expect(rt, "it is within its limits");
-    World::new(alloc, setup, devices).err()
+    devices: Vec<MemDevice>,
+) -> Option<BadWorld> {
+    let lists = each_alone(alloc, devices).expect(rt, "room for the lists");
+    World::new(alloc, setup_of(rt, replicas, 4), lists).err()
 }
 
 // The same over so many lists of one device, whose pages have so many bytes.
@@ -95,8 +90,8 @@ fn every_device_has_pages_of_one_size(rt: HostRuntime) {
     let alloc = rt.alloc();
     let differ = Some(BadWorld::SizeDiffers);
     assert!(rt; refused_over(&rt, alloc, 2, 2, 32) == differ);
-    let mut lists = devices_for(alloc, 1, 16).expect(&rt, "room for the devices");
-    let list = one_device(alloc, 8, 8).expect(&rt, "room for a device");
-    add_list(&mut lists, list).expect(&rt, "room for a list");
-    assert!(rt; refused(&rt, alloc, 2, lists) == differ);
+    let mut devices = devices_for(alloc, 1, 16).expect(&rt, "room for the devices");
+    let other = MemDevice::new(alloc, 8, 8).expect(&rt, "room for its pages");
+    devices.push(other).expect(&rt, "room for a device");
+    assert!(rt; refused(&rt, alloc, 2, devices) == differ);
 }

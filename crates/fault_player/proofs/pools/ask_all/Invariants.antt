@@ -1,10 +1,6 @@
-use Rattle.std.proofs.Common.{length}
-use Rattle.warm_pool.specs.State.{IsPool, RankedBy, pool_of}
+use Rattle.warm_pool.specs.State.{RankedBy}
 use Rattle.fault_player.proofs.pools.ask_all.Given as goal
 
--- it stays a pool, ranked by the history
+-- it stays ranked by the history
 abbrev pub invariant-loop-line : goal.invariant-loop-line
-invariant-loop-line g l = record {
-  pool : IsPool (pool_of (λ b. (goal.PageDevice-dyn g (b.vtable, b.value)).state b.value) l.pool.frames (length l.pool.spare.items) l.pool.devices.items);
-  ranked : RankedBy (pool_of (λ b. (goal.PageDevice-dyn g (b.vtable, b.value)).state b.value) l.pool.frames (length l.pool.spare.items) l.pool.devices.items) l.history;
-}
+invariant-loop-line g l = RankedBy l.pool l.history

@@ -1,6 +1,0 @@
-use Rattle.warm_world.specs.Seen.{IsWorld}
-use Rattle.refused_worlds.proofs.worlds.step_along.Given as goal
-
--- the world stays one
-abbrev pub invariant-loop-place : goal.invariant-loop-place
-invariant-loop-place g l = IsWorld (λ b. (goal.PageDevice-dyn g (b.vtable, b.value)).state b.value) l.twin.world
