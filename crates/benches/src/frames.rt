@@ -32,7 +32,7 @@ fn history_of(alloc: Global, replica: ReplicaId, pages: u32, apart: u32) -> Resu
     for i in 0..pages {
         let page = PageId {
             dev: 0,
-            no: i.wrapping_mul(apart),
+            no: u64::from(i.wrapping_mul(apart)),
         };
         for reference in twice(page, replica, [u64::from(i), u64::from(i) + 7]) {
             if batch.push(reference).is_err() {
@@ -57,7 +57,11 @@ fn full_frame(alloc: Global, sender: ReplicaId) -> Result<Frame> {
         bail!("no memory")
     };
     match EntryList::of(entries) {
-        Ok(entries) => Ok(Frame::Entries { sender, entries }),
+        Ok(entries) => Ok(Frame::Entries {
+            sender,
+            horizon: history.horizon(),
+            entries,
+        }),
         Err(_) => bail!("the pages rise"),
     }
 }

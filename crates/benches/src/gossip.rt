@@ -7,23 +7,27 @@
 //!   buckets before each round. Frames go as bytes.
 //! - `offer PAGES BUCKETS OFFERS`: that many offers by a replica that knows so many pages, before each of which it hears
 //!   of a page in each of so many buckets, which is not timed.
+//! - `raised PAGES OFFERS`: that many offers by a replica that knows so many pages, each right after a raise of its horizon that
+//!   drops 100 pages of one bucket and nothing else. The offers alone are timed.
 //! - `warm PAGES STEPS`: that many steps of the warm-up of a replica that knows so many pages, into 4,096 frames.
 //! - `history PAGES`: a replica is told of so many pages.
-ghost use Rattle.std.specs.Prelude.{IfOk};
-
-use crate::parts::{
-    NODE_PAGE_SIZE, added, added_bytes, device, node_over, replica, scattered, twice,
-};
+use crate::parts::{added, added_bytes, node_over, replica, scattered, twice};
 use anyhow::{Context, Result, bail};
 use std::alloc::Global;
 use std::time::{Clock, Instant};
-use warm_devices::{MemDevice, PageDevice};
+use warm_devices::MemDevice;
 use warm_frames::{Frame, decode, encode};
-use warm_gossip::{Node, NodeFault, Shown};
+use warm_gossip::{Node, NodeFault};
 use warm_history::{History, PageHist};
 use warm_stamps::{PageId, Reference, ReplicaId, Stamp};
 
 const WARMED: usize = 4_096;
+
+// The time from which on replicas hear of what they differ in.
+const LATE: u64 = 1 << 40;
+
+// How many pages a raise drops.
+const DROPPED: u64 = 100;
 
 // What came out, and how long it took.
 #[derive(Clone, Copy)]
@@ -32,28 +36,26 @@ struct Made {
     nanos: u128,
 }
 
+const NOTHING: Made = Made { sum: 0, nanos: 0 };
+
 // A refusal as an error of this program.
 fn refused<T>(fault: NodeFault) -> Result<T> {
     bail!("refused {} {}", fault.code(), fault.name())
 }
 
-// A device of so many pages for a node.
-fn paged(alloc: Global, pages: u32) -> Result<Box<MemDevice>> {
-    device(alloc, pages, NODE_PAGE_SIZE)
-}
-
-// Two references to one page in turn of so many, a little apart.
-fn two_in_turn(i: u32, pages: u32, replica: ReplicaId) -> [Reference; 2] {
+// Two references to one page in turn of so many, a little apart, from a time on.
+fn two_in_turn(i: u32, pages: u32, from: u64, replica: ReplicaId) -> [Reference; 2] {
     let page = scattered(u64::from(i), u64::from(pages));
-    twice(page, replica, [u64::from(i), u64::from(i) + 7])
+    let first = from.wrapping_add(u64::from(i));
+    twice(page, replica, [first, first.wrapping_add(7)])
 }
 
-// Two references to each page, by replica 1.
-fn references(alloc: Global, pages: u32) -> Result<Vec<Reference>> {
+// Two references to each page from a time on, by replica 1.
+fn references(alloc: Global, pages: u32, from: u64) -> Result<Vec<Reference>> {
     let replica = replica(1)?;
     let mut batch = Vec::with_capacity(alloc, 2 * pages as usize)?;
     for i in 0..pages {
-        for reference in two_in_turn(i, pages, replica) {
+        for reference in two_in_turn(i, pages, from, replica) {
             batch.push(reference)?;
         }
     }
@@ -69,17 +71,37 @@ fn in_buckets(
 ) -> Result<Vec<Reference>> {
     let mut batch = Vec::with_capacity(alloc, buckets as usize)?;
     for no in 0..buckets {
-        let page = PageId { dev: 0, no };
+        let page = PageId {
+            dev: 0,
+            no: u64::from(no),
+        };
         let stamp = Stamp { time, replica };
         batch.push(Reference { page, stamp })?;
     }
     Ok(batch)
 }
 
-fn absorbed(node: &mut Node, batch: &[Reference]) -> Result<()>
-    requires { ⟦<Node as Shown>⟧.is_fit node.old }
-    ensures { ⟦<Node as Shown>⟧.is_fit node.new }
-{
+// References to pages of bucket 0 beyond so many pages, at a time.
+fn dropped_next(
+    alloc: Global,
+    replica: ReplicaId,
+    pages: u32,
+    time: u64,
+) -> Result<Vec<Reference>> {
+    let first = (u64::from(pages) + 63) / 64 * 64;
+    let mut batch = Vec::with_capacity(alloc, DROPPED as usize)?;
+    for k in 0..DROPPED {
+        let page = PageId {
+            dev: 0,
+            no: first + 64 * k,
+        };
+        let stamp = Stamp { time, replica };
+        batch.push(Reference { page, stamp })?;
+    }
+    Ok(batch)
+}
+
+fn absorbed(node: &mut Node<MemDevice>, batch: &[Reference]) -> Result<()> {
     match node.absorb(batch) {
         Ok(()) => Ok(()),
         Err(fault) => refused(fault),
@@ -87,10 +109,7 @@ fn absorbed(node: &mut Node, batch: &[Reference]) -> Result<()>
 }
 
 // The bytes of a node's sums.
-fn offered(alloc: Global, node: &mut Node) -> Result<Vec<u8>>
-    requires { ⟦<Node as Shown>⟧.is_fit node.old }
-    ensures { ⟦<Node as Shown>⟧.is_fit node.new }
-{
+fn offered(alloc: Global, node: &mut Node<MemDevice>) -> Result<Vec<u8>> {
     match node.offer() {
         Ok(frame) => Ok(encode(alloc, &frame)?),
         Err(fault) => refused(fault),
@@ -107,10 +126,7 @@ fn encoded(alloc: Global, frames: &[Frame]) -> Result<Vec<Vec<u8>>> {
 }
 
 // What a node answers to the bytes of a frame.
-fn answered(alloc: Global, node: &mut Node, bytes: &[u8]) -> Result<Vec<Vec<u8>>>
-    requires { ⟦<Node as Shown>⟧.is_fit node.old }
-    ensures { ⟦<Node as Shown>⟧.is_fit node.new }
-{
+fn answered(alloc: Global, node: &mut Node<MemDevice>, bytes: &[u8]) -> Result<Vec<Vec<u8>>> {
     let Ok(frame) = decode(alloc, bytes) else {
         bail!("the bytes are of a frame")
     };
@@ -121,10 +137,7 @@ fn answered(alloc: Global, node: &mut Node, bytes: &[u8]) -> Result<Vec<Vec<u8>>
 }
 
 // What a node answers to all of these, one after the other.
-fn answers(alloc: Global, node: &mut Node, sent: &[Vec<u8>]) -> Result<Vec<Vec<u8>>>
-    requires { ⟦<Node as Shown>⟧.is_fit node.old }
-    ensures { ⟦<Node as Shown>⟧.is_fit node.new }
-{
+fn answers(alloc: Global, node: &mut Node<MemDevice>, sent: &[Vec<u8>]) -> Result<Vec<Vec<u8>>> {
     let mut all = Vec::new(alloc);
     for bytes in sent {
         all.append(&mut answered(alloc, node, bytes)?)?;
@@ -141,12 +154,7 @@ fn length_of(sent: &[Vec<u8>]) -> u64 {
 }
 
 // A round: the first offers its sums, and all that is answered comes to whom it answers. Gives how many bytes went.
-fn round(alloc: Global, first: &mut Node, second: &mut Node) -> Result<u64>
-    requires first { ⟦<Node as Shown>⟧.is_fit first.old }
-    requires second { ⟦<Node as Shown>⟧.is_fit second.old }
-    ensures first { ⟦<Node as Shown>⟧.is_fit first.new }
-    ensures second { ⟦<Node as Shown>⟧.is_fit second.new }
-{
+fn round(alloc: Global, first: &mut Node<MemDevice>, second: &mut Node<MemDevice>) -> Result<u64> {
     let sums = offered(alloc, first)?;
     let entries_and_wish = answered(alloc, second, &sums)?;
     let wanted = answers(alloc, first, &entries_and_wish)?;
@@ -158,20 +166,15 @@ fn round(alloc: Global, first: &mut Node, second: &mut Node) -> Result<u64>
 // So many rounds. Before each the first hears of pages in so many buckets.
 fn rounds_of(
     alloc: Global,
-    first: &mut Node,
-    second: &mut Node,
+    first: &mut Node<MemDevice>,
+    second: &mut Node<MemDevice>,
     buckets: u32,
     rounds: u32,
-) -> Result<u64>
-    requires first { ⟦<Node as Shown>⟧.is_fit first.old }
-    requires second { ⟦<Node as Shown>⟧.is_fit second.old }
-    ensures first { ⟦<Node as Shown>⟧.is_fit first.new }
-    ensures second { ⟦<Node as Shown>⟧.is_fit second.new }
-{
+) -> Result<u64> {
     let replica = first.id();
     let mut sent = 0u64;
     for i in 0..rounds {
-        let time = (1u64 << 40).wrapping_add(u64::from(i));
+        let time = LATE.wrapping_add(u64::from(i));
         absorbed(first, &in_buckets(alloc, replica, buckets, time)?)?;
         sent = sent.wrapping_add(round(alloc, first, second)?);
     }
@@ -189,7 +192,7 @@ fn last_time(hist: PageHist) -> u64 {
 fn sum_of(history: &History) -> u64 {
     let mut sum = 0u64;
     for entry in history.iter() {
-        sum = added(sum, u64::from(entry.page.no)).wrapping_add(last_time(entry.hist));
+        sum = added(sum, entry.page.no).wrapping_add(last_time(entry.hist));
     }
     sum
 }
@@ -197,14 +200,11 @@ fn sum_of(history: &History) -> u64 {
 fn gossiped(
     clock: &impl Clock,
     alloc: Global,
-    first: &mut Node,
-    second: &mut Node,
+    first: &mut Node<MemDevice>,
+    second: &mut Node<MemDevice>,
     buckets: u32,
     rounds: u32,
-) -> Result<Made>
-    requires first { ⟦<Node as Shown>⟧.is_fit first.old }
-    requires second { ⟦<Node as Shown>⟧.is_fit second.old }
-{
+) -> Result<Made> {
     let start = Instant::now(clock)?;
     let sent = rounds_of(alloc, first, second, buckets, rounds)?;
     let nanos = start.elapsed(clock)?.as_nanos();
@@ -215,18 +215,16 @@ fn gossiped(
     Ok(Made { sum, nanos })
 }
 
-// A node of the number, over this device, that was told of so many pages.
+// A node of the number, over a device of so many pages, that knows two references to each from a time on.
 fn told(
     alloc: Global,
     number: u16,
     frames: usize,
-    device: Box<dyn PageDevice + Send>,
     pages: u32,
-) -> Result<Node>
-    ensures { IfOk result (λ node. ⟦<Node as Shown>⟧.is_fit node) }
-{
-    let mut node = node_over(alloc, number, frames, device)?;
-    absorbed(&mut node, &references(alloc, pages)?)?;
+    from: u64,
+) -> Result<Node<MemDevice>> {
+    let mut node = node_over(alloc, number, frames, u64::from(pages))?;
+    absorbed(&mut node, &references(alloc, pages, from)?)?;
     Ok(node)
 }
 
@@ -237,34 +235,43 @@ fn rounds_over(
     buckets: u32,
     rounds: u32,
 ) -> Result<Made> {
-    let mut first = told(alloc, 1, 1, paged(alloc, pages)?, pages)?;
-    let mut second = told(alloc, 2, 1, paged(alloc, pages)?, pages)?;
+    let mut first = told(alloc, 1, 1, pages, 0)?;
+    let mut second = told(alloc, 2, 1, pages, 0)?;
     gossiped(clock, alloc, &mut first, &mut second, buckets, rounds)
+}
+
+// What was made by then, and one more offer: a sum over its bytes, and how long it took.
+fn one_more(
+    clock: &impl Clock,
+    alloc: Global,
+    node: &mut Node<MemDevice>,
+    made: Made,
+) -> Result<Made> {
+    let start = Instant::now(clock)?;
+    let bytes = offered(alloc, node)?;
+    let spent = start.elapsed(clock)?.as_nanos();
+    Ok(Made {
+        sum: added_bytes(made.sum, &bytes),
+        nanos: made.nanos.wrapping_add(spent),
+    })
 }
 
 // So many offers of a node that hears of a page in each of so many buckets before each.
 fn offers_of(
     clock: &impl Clock,
     alloc: Global,
-    node: &mut Node,
+    node: &mut Node<MemDevice>,
     buckets: u32,
     offers: u32,
-) -> Result<Made>
-    requires { ⟦<Node as Shown>⟧.is_fit node.old }
-    ensures { ⟦<Node as Shown>⟧.is_fit node.new }
-{
+) -> Result<Made> {
     let replica = node.id();
-    let mut sum = 0u64;
-    let mut nanos = 0u128;
+    let mut made = NOTHING;
     for i in 0..offers {
-        let time = (1u64 << 40).wrapping_add(u64::from(i));
+        let time = LATE.wrapping_add(u64::from(i));
         absorbed(node, &in_buckets(alloc, replica, buckets, time)?)?;
-        let start = Instant::now(clock)?;
-        let bytes = offered(alloc, node)?;
-        nanos = nanos.wrapping_add(start.elapsed(clock)?.as_nanos());
-        sum = added_bytes(sum, &bytes);
+        made = one_more(clock, alloc, node, made)?;
     }
-    Ok(Made { sum, nanos })
+    Ok(made)
 }
 
 fn offers_over(
@@ -274,22 +281,47 @@ fn offers_over(
     buckets: u32,
     offers: u32,
 ) -> Result<Made> {
-    let mut node = told(alloc, 1, 1, paged(alloc, pages)?, pages)?;
+    let mut node = told(alloc, 1, 1, pages, 0)?;
     // The first takes all sums.
     let _first = offered(alloc, &mut node)?;
     offers_of(clock, alloc, &mut node, buckets, offers)
 }
 
+// So many offers of a node that knows so many pages by late references. Before each it hears early ones to pages of bucket 0, makes an
+// offer, and forgets them.
+fn raised_offers_of(
+    clock: &impl Clock,
+    alloc: Global,
+    node: &mut Node<MemDevice>,
+    pages: u32,
+    offers: u32,
+) -> Result<Made> {
+    let replica = node.id();
+    let mut made = NOTHING;
+    for i in 0..offers {
+        let time = u64::from(i) + 1;
+        absorbed(node, &dropped_next(alloc, replica, pages, time)?)?;
+        let _before = offered(alloc, node)?;
+        node.raise(time + 1);
+        made = one_more(clock, alloc, node, made)?;
+    }
+    Ok(made)
+}
+
+fn raised_offers_over(clock: &impl Clock, alloc: Global, pages: u32, offers: u32) -> Result<Made> {
+    let mut node = told(alloc, 1, 1, pages, LATE)?;
+    // The first takes all sums.
+    let _first = offered(alloc, &mut node)?;
+    raised_offers_of(clock, alloc, &mut node, pages, offers)
+}
+
 // So many steps of a node's warm-up, and a sum over the pages that came in, in their order.
-fn warm_steps(node: &mut Node, steps: u32) -> Result<u64>
-    requires { ⟦<Node as Shown>⟧.is_fit node.old }
-    ensures { ⟦<Node as Shown>⟧.is_fit node.new }
-{
+fn warm_steps(node: &mut Node<MemDevice>, steps: u32) -> Result<u64> {
     let mut sum = 0u64;
     for _ in 0..steps {
         match node.warm_step() {
             Ok(Some(page)) => {
-                sum = added(sum, u64::from(page.no));
+                sum = added(sum, page.no);
             }
             Ok(None) => return Ok(sum),
             Err(fault) => return refused(fault),
@@ -299,7 +331,7 @@ fn warm_steps(node: &mut Node, steps: u32) -> Result<u64>
 }
 
 fn warmed(clock: &impl Clock, alloc: Global, pages: u32, steps: u32) -> Result<Made> {
-    let mut node = told(alloc, 1, WARMED, paged(alloc, pages)?, pages)?;
+    let mut node = told(alloc, 1, WARMED, pages, 0)?;
     let start = Instant::now(clock)?;
     let sum = warm_steps(&mut node, steps)?;
     let nanos = start.elapsed(clock)?.as_nanos();
@@ -307,19 +339,16 @@ fn warmed(clock: &impl Clock, alloc: Global, pages: u32, steps: u32) -> Result<M
 }
 
 // A node is told of so many pages, a batch at a time, so that nothing but its history takes much room.
-fn remember(node: &mut Node, pages: u32) -> Result<()>
-    requires { ⟦<Node as Shown>⟧.is_fit node.old }
-    ensures { ⟦<Node as Shown>⟧.is_fit node.new }
-{
+fn remember(node: &mut Node<MemDevice>, pages: u32) -> Result<()> {
     let replica = node.id();
     for i in 0..pages {
-        absorbed(node, &two_in_turn(i, pages, replica))?;
+        absorbed(node, &two_in_turn(i, pages, 0, replica))?;
     }
     Ok(())
 }
 
 fn remembered(clock: &impl Clock, alloc: Global, pages: u32) -> Result<Made> {
-    let mut node = node_over(alloc, 1, 1, paged(alloc, 1)?)?;
+    let mut node = node_over(alloc, 1, 1, 1)?;
     let start = Instant::now(clock)?;
     remember(&mut node, pages)?;
     let nanos = start.elapsed(clock)?.as_nanos();
@@ -338,6 +367,10 @@ enum Case {
     Offer {
         pages: u32,
         buckets: u32,
+        offers: u32,
+    },
+    Raised {
+        pages: u32,
         offers: u32,
     },
     Warm {
@@ -361,6 +394,7 @@ fn measured(clock: &impl Clock, alloc: Global, case: Case) -> Result<Made> {
             buckets,
             offers,
         } => offers_over(clock, alloc, pages, buckets, offers),
+        Case::Raised { pages, offers } => raised_offers_over(clock, alloc, pages, offers),
         Case::Warm { pages, steps } => warmed(clock, alloc, pages, steps),
         Case::History { pages } => remembered(clock, alloc, pages),
     }
@@ -385,16 +419,20 @@ fn case_of(words: &[String]) -> Result<Case> {
             buckets: second.min(64),
             offers: third,
         }),
+        Some("raised") => Ok(Case::Raised {
+            pages,
+            offers: second,
+        }),
         Some("warm") => Ok(Case::Warm {
             pages,
             steps: second,
         }),
         Some("history") => Ok(Case::History { pages }),
-        _ => bail!("round, offer, warm or history"),
+        _ => bail!("round, offer, raised, warm or history"),
     }
 }
 
-const SMALL: [(&str, Case); 6] = [
+const SMALL: [(&str, Case); 7] = [
     (
         "round, 1 bucket",
         Case::Round {
@@ -424,6 +462,13 @@ const SMALL: [(&str, Case); 6] = [
         Case::Offer {
             pages: 1_000,
             buckets: 1,
+            offers: 2,
+        },
+    ),
+    (
+        "two offers after raises",
+        Case::Raised {
+            pages: 1_000,
             offers: 2,
         },
     ),

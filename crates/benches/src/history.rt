@@ -1,7 +1,10 @@
-//! Measures histories: absorbing, joining, copying, looking up and going over.
+//! Measures histories: absorbing, joining, copying, looking up, going over and raising the horizon.
 //!
 //! With no word it runs with 1,000 pages and prints what came out. With a number of pages it
 //! runs with so many, and prints the nanoseconds too, for `bench/history/measure.py`.
+//!
+//! A raise is measured over a history in which each page has one stamp, of the times from the number of pages to below twice that. It
+//! is raised to the first of these times, to the middle one and past the last, each time in a copy, which is not timed.
 use crate::parts::{added, asked_number, next, replica, scattered};
 use anyhow::{Result, bail};
 use std::alloc::Global;
@@ -50,11 +53,12 @@ fn drawn_references(alloc: Global, pages: u64, replica: ReplicaId) -> Result<Vec
     Ok(all)
 }
 
-// A reference to each page, in a scattered order.
-fn each_page(alloc: Global, pages: u64, replica: ReplicaId) -> Result<Vec<Reference>> {
+// A reference to each page, in a scattered order, from a time on.
+fn each_page(alloc: Global, pages: u64, replica: ReplicaId, from: u64) -> Result<Vec<Reference>> {
     let mut all = Vec::new(alloc);
-    for time in 0..pages {
-        let page = scattered(time, pages);
+    for i in 0..pages {
+        let page = scattered(i, pages);
+        let time = from.wrapping_add(i);
         let stamp = Stamp { time, replica };
         if all.push(Reference { page, stamp }).is_err() {
             bail!("no memory")
@@ -89,7 +93,7 @@ fn absorb_all(history: &mut History, all: &[Reference]) -> Result<()> {
 fn sum_of(history: &History) -> u64 {
     let mut sum = 0u64;
     for entry in history.iter() {
-        sum = added(sum, u64::from(entry.page.no));
+        sum = added(sum, entry.page.no);
         if let PageHist::Once(stamp) = entry.hist {
             sum = sum.wrapping_add(stamp.time);
         }
@@ -139,13 +143,13 @@ fn absorb_timed(
 fn absorb(rt: &HostRuntime, timed: bool, pages: u64, replica: ReplicaId) -> Result<History> {
     let drawn = drawn_references(rt.alloc(), pages, replica)?;
     absorb_timed(rt, timed, "absorb by Zipf's law", &drawn)?;
-    let each = each_page(rt.alloc(), pages, replica)?;
+    let each = each_page(rt.alloc(), pages, replica, 0)?;
     absorb_timed(rt, timed, "absorb new pages", &each)
 }
 
 fn join_some(rt: &HostRuntime, timed: bool, large: &mut History, more: &[Entry]) -> Result<()> {
     let start = Instant::now(rt)?;
-    large.join_entries(more)?;
+    large.join_entries(0, more)?;
     let spent = start.elapsed(rt)?;
     told(rt, timed, "join 1,000 entries", sum_of(large), spent)
 }
@@ -189,6 +193,26 @@ fn look_up(rt: &HostRuntime, timed: bool, large: &History, pages: u64) -> Result
     told(rt, timed, "look up", found, spent)
 }
 
+// Raises the horizon of a copy of a history. The raise alone is timed.
+fn raise(rt: &HostRuntime, timed: bool, what: &str, whole: &History, time: u64) -> Result<()> {
+    let mut raised = whole.copy()?;
+    let start = Instant::now(rt)?;
+    raised.raise(time);
+    let spent = start.elapsed(rt)?;
+    told(rt, timed, what, sum_of(&raised), spent)
+}
+
+fn raises(rt: &HostRuntime, timed: bool, pages: u64, replica: ReplicaId) -> Result<()> {
+    let each = each_page(rt.alloc(), pages, replica, pages)?;
+    let mut whole = History::new(rt.alloc());
+    absorb_all(&mut whole, &each)?;
+    let middle = pages.saturating_add(pages / 2);
+    raise(rt, timed, "raise, none dropped", &whole, pages)?;
+    raise(rt, timed, "raise, half dropped", &whole, middle)?;
+    let end = pages.saturating_mul(2);
+    raise(rt, timed, "raise, all dropped", &whole, end)
+}
+
 pub(crate) fn play(rt: &HostRuntime, words: &[String]) -> Result<()> {
     let asked = asked_number(words, "the number of pages")?;
     let timed = asked.is_some();
@@ -198,5 +222,6 @@ pub(crate) fn play(rt: &HostRuntime, words: &[String]) -> Result<()> {
     let mut large = absorb(rt, timed, pages, replica)?;
     join_some(rt, timed, &mut large, &more)?;
     join_all(rt, timed, &mut large)?;
-    look_up(rt, timed, &large, pages)
+    look_up(rt, timed, &large, pages)?;
+    raises(rt, timed, pages, replica)
 }

@@ -1,16 +1,13 @@
-//! What several benches are made of: numbers that are asked for or drawn, sums over what came out, pages, references, devices in
-//! memory and nodes.
-ghost use Rattle.std.specs.Prelude.{IfOk};
-
+//! What several benches are made of: numbers that are asked for or drawn, sums over what came out, pages, references and nodes.
 use anyhow::{Context, Result, bail};
 use std::alloc::Global;
-use warm_devices::{MemDevice, PageDevice};
-use warm_gossip::{Node, Shown};
+use warm_devices::MemDevice;
+use warm_gossip::Node;
 use warm_pool::Pool;
 use warm_stamps::{PageId, Reference, ReplicaId, Stamp};
 
 // How many bytes the pages of a node have.
-pub(crate) const NODE_PAGE_SIZE: usize = 16;
+const NODE_PAGE_SIZE: usize = 16;
 
 // The number that is the only word, where there is one.
 pub(crate) fn asked_number(words: &[String], what: &'static str) -> Result<Option<u64>> {
@@ -43,10 +40,7 @@ pub(crate) fn added_bytes(mut sum: u64, bytes: &[u8]) -> u64 {
 // One page in turn of so many, so that all come, in a scattered order.
 pub(crate) fn scattered(i: u64, pages: u64) -> PageId {
     let no = i.wrapping_mul(7919).checked_rem(pages).unwrap_or(0);
-    PageId {
-        dev: 0,
-        no: u32::try_from(no).unwrap_or(0),
-    }
+    PageId { dev: 0, no }
 }
 
 pub(crate) fn replica(number: u16) -> Result<ReplicaId> {
@@ -64,23 +58,16 @@ pub(crate) fn twice(page: PageId, replica: ReplicaId, times: [u64; 2]) -> [Refer
     })
 }
 
-pub(crate) fn device(alloc: Global, pages: u32, page_size: usize) -> Result<Box<MemDevice>> {
-    let memory = MemDevice::new(alloc, pages, page_size)?;
-    Ok(Box::new(alloc, memory)?)
-}
-
-// A node that was told nothing, with a pool of so many frames over the device.
+// A node that knows no reference, with a pool of so many frames over a device of so many pages.
 pub(crate) fn node_over(
     alloc: Global,
     number: u16,
     frames: usize,
-    device: Box<dyn PageDevice + Send>,
-) -> Result<Node>
-    ensures { IfOk result (λ node. ⟦<Node as Shown>⟧.is_fit node) }
-{
+    pages: u64,
+) -> Result<Node<MemDevice>> {
     let id = replica(number)?;
     let mut devices = Vec::with_capacity(alloc, 1)?;
-    devices.push_reserved(device);
+    devices.push_reserved(MemDevice::new(alloc, pages, NODE_PAGE_SIZE)?);
     match Pool::new(alloc, frames, NODE_PAGE_SIZE, devices) {
         Ok(pool) => Ok(Node::new(alloc, id, pool)),
         Err(unmade) => bail!("no pool: {}", unmade.fault.name()),

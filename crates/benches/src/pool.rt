@@ -9,18 +9,18 @@
 //!
 //! With no word a little of each is done.
 ghost use Rattle.std.specs.Prelude.{IfOk};
-ghost use Rattle.warm_pool.specs.State.{IsPool, IsRankedByAll, RankedBy};
+ghost use Rattle.warm_pool.specs.State.{IsRankedByAll, RankedBy};
 
-use crate::parts::{added, device, next, replica, twice};
+use crate::parts::{added, next, replica, twice};
 use anyhow::{Context, Result, bail};
 use std::alloc::Global;
 use std::time::{Clock, Duration, Instant};
 use warm_devices::{MemDevice, PageDevice};
 use warm_history::History;
-use warm_pool::{Pool, PoolFault, Pooled};
+use warm_pool::{Pool, PoolFault};
 use warm_stamps::PageId;
 
-const FRAMES: u32 = 65_536;
+const FRAMES: u64 = 65_536;
 
 const PAGE_SIZE: usize = 64;
 
@@ -57,11 +57,9 @@ impl Held {
 }
 
 // Pins, reads, writes and unpins a page, and gives the first byte that was read.
-fn visit(pool: &mut Pool, history: &History, no: u32, byte: u8) -> Result<u8, PoolFault>
-    requires pool { IsPool (⟦<Pool as Pooled>⟧.state pool.old) }
-    requires ranked { RankedBy (⟦<Pool as Pooled>⟧.state pool.old) history.now }
-    ensures pool { IsPool (⟦<Pool as Pooled>⟧.state pool.new) }
-    ensures ranked { RankedBy (⟦<Pool as Pooled>⟧.state pool.new) history.now }
+fn visit(pool: &mut Pool<MemDevice>, history: &History, no: u64, byte: u8) -> Result<u8, PoolFault>
+    requires { RankedBy pool.old history.now }
+    ensures { RankedBy pool.new history.now }
 {
     let slot = pool.pin(PageId { dev: 0, no }, history)?;
     let mut bytes = [0u8; 8];
@@ -72,11 +70,14 @@ fn visit(pool: &mut Pool, history: &History, no: u32, byte: u8) -> Result<u8, Po
 }
 
 // Brings so many pages of a device into frames.
-fn load_pages(pool: &mut Pool, history: &History, dev: u16, pages: u32) -> Result<(), PoolFault>
-    requires pool { IsPool (⟦<Pool as Pooled>⟧.state pool.old) }
-    requires ranked { RankedBy (⟦<Pool as Pooled>⟧.state pool.old) history.now }
-    ensures pool { IsPool (⟦<Pool as Pooled>⟧.state pool.new) }
-    ensures ranked { RankedBy (⟦<Pool as Pooled>⟧.state pool.new) history.now }
+fn load_pages(
+    pool: &mut Pool<MemDevice>,
+    history: &History,
+    dev: u16,
+    pages: u64,
+) -> Result<(), PoolFault>
+    requires { RankedBy pool.old history.now }
+    ensures { RankedBy pool.new history.now }
 {
     for no in 0..pages {
         pool.load(PageId { dev, no }, history)?;
@@ -85,11 +86,9 @@ fn load_pages(pool: &mut Pool, history: &History, dev: u16, pages: u32) -> Resul
 }
 
 // Pins, reads and unpins a page, and gives the first byte that was read.
-fn look_at(pool: &mut Pool, history: &History, no: u32) -> Result<u8, PoolFault>
-    requires pool { IsPool (⟦<Pool as Pooled>⟧.state pool.old) }
-    requires ranked { RankedBy (⟦<Pool as Pooled>⟧.state pool.old) history.now }
-    ensures pool { IsPool (⟦<Pool as Pooled>⟧.state pool.new) }
-    ensures ranked { RankedBy (⟦<Pool as Pooled>⟧.state pool.new) history.now }
+fn look_at(pool: &mut Pool<MemDevice>, history: &History, no: u64) -> Result<u8, PoolFault>
+    requires { RankedBy pool.old history.now }
+    ensures { RankedBy pool.new history.now }
 {
     let slot = pool.pin(PageId { dev: 0, no }, history)?;
     let mut bytes = [0u8; 8];
@@ -99,11 +98,9 @@ fn look_at(pool: &mut Pool, history: &History, no: u32) -> Result<u8, PoolFault>
 }
 
 // Brings the first pages of device 0 into all frames, so that pages that follow one another stand far apart.
-fn load_apart(pool: &mut Pool, history: &History) -> Result<(), PoolFault>
-    requires pool { IsPool (⟦<Pool as Pooled>⟧.state pool.old) }
-    requires ranked { RankedBy (⟦<Pool as Pooled>⟧.state pool.old) history.now }
-    ensures pool { IsPool (⟦<Pool as Pooled>⟧.state pool.new) }
-    ensures ranked { RankedBy (⟦<Pool as Pooled>⟧.state pool.new) history.now }
+fn load_apart(pool: &mut Pool<MemDevice>, history: &History) -> Result<(), PoolFault>
+    requires { RankedBy pool.old history.now }
+    ensures { RankedBy pool.new history.now }
 {
     for frame in 0..FRAMES {
         let no = frame * 40_503 % FRAMES;
@@ -114,11 +111,9 @@ fn load_apart(pool: &mut Pool, history: &History) -> Result<(), PoolFault>
 
 // Looks at the pages from the number of frames up to another, and gives the sum of what was read. Where the first pages are in
 // the frames and ranks rise, none of these is, and the page of the least number leaves.
-fn miss_often(pool: &mut Pool, history: &History, pages: u32) -> Result<u64, PoolFault>
-    requires pool { IsPool (⟦<Pool as Pooled>⟧.state pool.old) }
-    requires ranked { RankedBy (⟦<Pool as Pooled>⟧.state pool.old) history.now }
-    ensures pool { IsPool (⟦<Pool as Pooled>⟧.state pool.new) }
-    ensures ranked { RankedBy (⟦<Pool as Pooled>⟧.state pool.new) history.now }
+fn miss_often(pool: &mut Pool<MemDevice>, history: &History, pages: u64) -> Result<u64, PoolFault>
+    requires { RankedBy pool.old history.now }
+    ensures { RankedBy pool.new history.now }
 {
     let mut sum = 0u64;
     for no in FRAMES..pages {
@@ -129,17 +124,15 @@ fn miss_often(pool: &mut Pool, history: &History, pages: u32) -> Result<u64, Poo
 }
 
 // Makes so many visits to pages that a linear congruence draws, and gives the sum of what was read.
-fn visit_often(pool: &mut Pool, history: &History, visits: u64) -> Result<u64, PoolFault>
-    requires pool { IsPool (⟦<Pool as Pooled>⟧.state pool.old) }
-    requires ranked { RankedBy (⟦<Pool as Pooled>⟧.state pool.old) history.now }
-    ensures pool { IsPool (⟦<Pool as Pooled>⟧.state pool.new) }
-    ensures ranked { RankedBy (⟦<Pool as Pooled>⟧.state pool.new) history.now }
+fn visit_often(pool: &mut Pool<MemDevice>, history: &History, visits: u64) -> Result<u64, PoolFault>
+    requires { RankedBy pool.old history.now }
+    ensures { RankedBy pool.new history.now }
 {
     let mut drawn = 1u64;
     let mut sum = 0u64;
     for _ in 0..visits {
         drawn = next(drawn);
-        let no = (drawn >> 48) as u32;
+        let no = drawn >> 48;
         let byte = visit(pool, history, no, ((drawn >> 40) % 256) as u8)?;
         sum = added(sum, u64::from(byte));
     }
@@ -147,19 +140,18 @@ fn visit_often(pool: &mut Pool, history: &History, visits: u64) -> Result<u64, P
 }
 
 // A device of so many pages for a pool.
-fn paged(alloc: Global, pages: u32) -> Result<Box<MemDevice>> {
-    device(alloc, pages, PAGE_SIZE)
+fn paged(alloc: Global, pages: u64) -> Result<MemDevice> {
+    Ok(MemDevice::new(alloc, pages, PAGE_SIZE)?)
 }
 
 // A pool over two devices, without a page.
 fn opened(
     alloc: Global,
-    frames: u32,
-    first: Box<dyn PageDevice + Send>,
-    second: Box<dyn PageDevice + Send>,
-) -> Result<Pool>
-    ensures pool { IfOk result (λ pool. IsPool (⟦<Pool as Pooled>⟧.state pool)) }
-    ensures ranked { IfOk result (λ pool. IsRankedByAll (⟦<Pool as Pooled>⟧.state pool)) }
+    frames: u64,
+    first: MemDevice,
+    second: MemDevice,
+) -> Result<Pool<MemDevice>>
+    ensures { IfOk result (λ pool. IsRankedByAll pool) }
 {
     let Ok(mut devices) = Vec::with_capacity(alloc, 2) else {
         bail!("no memory")
@@ -175,12 +167,11 @@ fn opened(
 // The sum of what so many visits read, and the time that they took.
 fn visits_of(
     clock: &impl Clock,
-    pool: &mut Pool,
+    pool: &mut Pool<MemDevice>,
     history: &History,
     visits: u64,
 ) -> Result<(u64, Duration)>
-    requires pool { IsPool (⟦<Pool as Pooled>⟧.state pool.old) }
-    requires ranked { RankedBy (⟦<Pool as Pooled>⟧.state pool.old) history.now }
+    requires { RankedBy pool.old history.now }
 {
     let Ok(()) = load_pages(pool, history, 0, FRAMES) else {
         bail!("a page was not loaded")
@@ -200,13 +191,12 @@ fn visited(clock: &impl Clock, alloc: Global, visits: u64) -> Result<(u64, Durat
 }
 
 // What is known of so many pages: of each two references, so that ranks rise with the pages.
-fn references(alloc: Global, pages: u32) -> Result<History> {
+fn references(alloc: Global, pages: u64) -> Result<History> {
     let replica = replica(1)?;
     let mut history = History::new(alloc);
     for no in 0..pages {
         let page = PageId { dev: 0, no };
-        let first = u64::from(no);
-        let seen = twice(page, replica, [first, first + (1 << 32)]);
+        let seen = twice(page, replica, [no, no.wrapping_add(1 << 32)]);
         if history.absorb(&seen).is_err() {
             bail!("no memory")
         }
@@ -215,7 +205,7 @@ fn references(alloc: Global, pages: u32) -> Result<History> {
 }
 
 // Fills a page of a device with the lowest byte of its number, where it has such a page.
-fn fill(device: &mut MemDevice, no: u32) -> Result<()> {
+fn fill(device: &mut MemDevice, no: u64) -> Result<()> {
     if no >= device.pages() || device.page_size() != PAGE_SIZE {
         bail!("there is no such page")
     }
@@ -226,7 +216,7 @@ fn fill(device: &mut MemDevice, no: u32) -> Result<()> {
 }
 
 // A device of so many pages, all of them filled.
-fn numbered(alloc: Global, pages: u32) -> Result<Box<MemDevice>> {
+fn numbered(alloc: Global, pages: u64) -> Result<MemDevice> {
     let mut device = paged(alloc, pages)?;
     for no in 0..pages {
         fill(&mut device, no)?;
@@ -237,12 +227,11 @@ fn numbered(alloc: Global, pages: u32) -> Result<Box<MemDevice>> {
 // The sum of what so many pins with misses read, and the time that they took.
 fn misses_of(
     clock: &impl Clock,
-    pool: &mut Pool,
+    pool: &mut Pool<MemDevice>,
     history: &History,
-    pages: u32,
+    pages: u64,
 ) -> Result<(u64, Duration)>
-    requires pool { IsPool (⟦<Pool as Pooled>⟧.state pool.old) }
-    requires ranked { RankedBy (⟦<Pool as Pooled>⟧.state pool.old) history.now }
+    requires { RankedBy pool.old history.now }
 {
     let Ok(()) = load_apart(pool, history) else {
         bail!("a page was not loaded")
@@ -254,7 +243,7 @@ fn misses_of(
     Ok((sum, start.elapsed(clock)?))
 }
 
-fn missed(clock: &impl Clock, alloc: Global, misses: u32) -> Result<(u64, Duration)> {
+fn missed(clock: &impl Clock, alloc: Global, misses: u64) -> Result<(u64, Duration)> {
     let pages = FRAMES.saturating_add(misses);
     let (first, second) = (numbered(alloc, pages)?, paged(alloc, 1)?);
     let mut pool = opened(alloc, FRAMES, first, second)?;
@@ -281,10 +270,8 @@ impl Call {
 
 // Brings a page of device 0 into each frame of the lower half, and one of device 1 into each of the upper half, as far as these
 // are to hold pages or to have held some.
-fn load_halves(pool: &mut Pool, history: &History, half: u32, held: Held) -> Result<()>
-    requires pool { IsPool (⟦<Pool as Pooled>⟧.state pool.old) }
-    requires ranked { RankedBy (⟦<Pool as Pooled>⟧.state pool.old) history.now }
-    ensures { IsPool (⟦<Pool as Pooled>⟧.state pool.new) }
+fn load_halves(pool: &mut Pool<MemDevice>, history: &History, half: u64, held: Held) -> Result<()>
+    requires { RankedBy pool.old history.now }
 {
     let (lower, upper) = match held {
         Held::None => (0, 0),
@@ -301,10 +288,7 @@ fn load_halves(pool: &mut Pool, history: &History, half: u32, held: Held) -> Res
 }
 
 // Takes every page out of its frame.
-fn empty(pool: &mut Pool) -> Result<()>
-    requires { IsPool (⟦<Pool as Pooled>⟧.state pool.old) }
-    ensures { IsPool (⟦<Pool as Pooled>⟧.state pool.new) }
-{
+fn empty(pool: &mut Pool<MemDevice>) -> Result<()> {
     match pool.empty() {
         Ok(()) => Ok(()),
         Err(_) => bail!("the pool was not emptied"),
@@ -312,10 +296,7 @@ fn empty(pool: &mut Pool) -> Result<()>
 }
 
 // Takes the pages of a device out of their frames, as another device takes its place.
-fn retire(pool: &mut Pool, dev: u16, another: Box<dyn PageDevice + Send>) -> Result<()>
-    requires { IsPool (⟦<Pool as Pooled>⟧.state pool.old) }
-    ensures { IsPool (⟦<Pool as Pooled>⟧.state pool.new) }
-{
+fn retire(pool: &mut Pool<MemDevice>, dev: u16, another: MemDevice) -> Result<()> {
     match pool.retire(dev, another) {
         Ok(()) => Ok(()),
         Err(_) => bail!("the device was not retired"),
@@ -336,13 +317,11 @@ fn write_beside(alloc: Global) -> Result<()> {
 fn call_timed(
     clock: &impl Clock,
     alloc: Global,
-    pool: &mut Pool,
+    pool: &mut Pool<MemDevice>,
     held: Held,
     call: Call,
-    another: Box<dyn PageDevice + Send>,
-) -> Result<Duration>
-    requires { IsPool (⟦<Pool as Pooled>⟧.state pool.old) }
-{
+    another: MemDevice,
+) -> Result<Duration> {
     write_beside(alloc)?;
     let start = Instant::now(clock)?;
     match call {
@@ -357,14 +336,12 @@ fn call_timed(
 fn filled_and_timed(
     clock: &impl Clock,
     alloc: Global,
-    pool: &mut Pool,
+    pool: &mut Pool<MemDevice>,
     held: Held,
     call: Call,
-    another: Box<dyn PageDevice + Send>,
-    yet_another: Box<dyn PageDevice + Send>,
-) -> Result<Duration>
-    requires { IsPool (⟦<Pool as Pooled>⟧.state pool.old) }
-{
+    another: MemDevice,
+    yet_another: MemDevice,
+) -> Result<Duration> {
     if let Held::UpperHalf = held {
         retire(pool, 0, another)?;
     }
@@ -375,7 +352,7 @@ fn filled_and_timed(
 fn timed(
     clock: &impl Clock,
     alloc: Global,
-    frames: u32,
+    frames: u64,
     held: Held,
     call: Call,
 ) -> Result<Duration> {
@@ -414,13 +391,13 @@ fn play_visits(rt: &HostRuntime, visits: &str) -> Result<()> {
 }
 
 fn play_misses(rt: &HostRuntime, misses: &str) -> Result<()> {
-    let misses = misses.parse::<u32>().context("the number of misses")?;
+    let misses = misses.parse::<u64>().context("the number of misses")?;
     let read = missed(rt, rt.alloc(), misses)?;
-    tell(rt, u64::from(misses), "misses", read)
+    tell(rt, misses, "misses", read)
 }
 
 fn play_call(rt: &HostRuntime, call: Call, frames: &str, held: &str) -> Result<()> {
-    let frames = frames.parse::<u32>().context("the number of frames")?;
+    let frames = frames.parse::<u64>().context("the number of frames")?;
     let spent = timed(rt, rt.alloc(), frames, Held::from_word(held)?, call)?;
     println!(rt; "{} ns", spent.as_nanos())?;
     Ok(())

@@ -6,15 +6,15 @@
 ghost use Rattle.std.specs.Prelude.{◌≡◌};
 ghost use Rattle.std.specs.Thread.{IsSend, IsSync};
 
-use crate::parts::{NODE_PAGE_SIZE, added, device, next, node_over};
+use crate::parts::{added, next, node_over};
 use anyhow::{Context, Result, bail};
 use std::alloc::Global;
 use std::io::Print;
 use std::sync::Wait;
 use std::thread::{Threads, join};
 use std::time::{Clock, Duration, Instant};
-use warm_devices::PageDevice;
-use warm_gossip::{Call, Reply};
+use warm_devices::MemDevice;
+use warm_gossip::{Call, Node, Reply};
 use warm_refbuffer::{Full, RefBuffer};
 use warm_replica::{Absorbing, Worker};
 use warm_stamps::{PageId, Reference, ReplicaId, Stamp};
@@ -27,12 +27,11 @@ const BUFFER: usize = 64;
 const HOTTEST: usize = 1_000;
 
 // How many pages the device has that the node stands over.
-const DEVICE_PAGES: u32 = 8;
+const DEVICE_PAGES: u64 = 8;
 
 // The reference of a worker's `i`th turn, to the page drawn.
 fn reference(replica: ReplicaId, worker: u64, i: u64, drawn: u64, pages: u64) -> Reference {
     let no = (drawn >> 33).checked_rem(pages).unwrap_or(0);
-    let no = u32::try_from(no).unwrap_or(0);
     let time = i.wrapping_mul(4).wrapping_add(worker);
     Reference {
         page: PageId { dev: 0, no },
@@ -172,23 +171,21 @@ fn bring_four<M: Absorbing + Send, R: Threads + Wait + AllocGlobal + Sync>(
 fn sum_of(pages: &[PageId]) -> u64 {
     let mut sum = 0u64;
     for page in pages {
-        sum = added(sum, u64::from(page.no));
+        sum = added(sum, page.no);
     }
     sum
 }
 
 // The sum of the hottest pages after so many workers brought their references, and how long they took.
-fn brought<M: Absorbing + Drop + Send, R: Threads + Wait + Clock + AllocGlobal + Sync>(
+fn brought<R: Threads + Wait + Clock + AllocGlobal + Sync>(
     rt: &R,
-    machine: M,
+    node: Node<MemDevice>,
     workers: u64,
     references: u64,
     pages: u64,
-) -> Result<(u64, Duration)>
-    requires { M.is_fit machine }
-{
+) -> Result<(u64, Duration)> {
     let start = Instant::now(rt)?;
-    let Ok((replica, pass)) = Turn::new(rt.alloc(), machine) else {
+    let Ok((replica, pass)) = Turn::new(rt.alloc(), node) else {
         bail!("no memory for a turn")
     };
     let (mut pass, refused) = match workers {
@@ -204,15 +201,14 @@ fn brought<M: Absorbing + Drop + Send, R: Threads + Wait + Clock + AllocGlobal +
     }
 }
 
-// One run, with a node of two frames over this device.
+// One run, with a node of two frames.
 fn run<R: Threads + Wait + Clock + AllocGlobal + Sync>(
     rt: &R,
-    device: Box<dyn PageDevice + Send>,
     workers: u64,
     references: u64,
     pages: u64,
 ) -> Result<(u64, Duration)> {
-    let node = node_over(rt.alloc(), 1, 2, device)?;
+    let node = node_over(rt.alloc(), 1, 2, DEVICE_PAGES)?;
     brought(rt, node, workers, references, pages)
 }
 
@@ -226,8 +222,7 @@ pub(crate) fn play<R: Threads + Wait + Clock + Print + AllocGlobal + Sync>(
         asked.push(word.parse::<u64>().context("a number")?)?;
     }
     if let [workers, references, pages] = asked.as_slice() {
-        let device = device(alloc, DEVICE_PAGES, NODE_PAGE_SIZE)?;
-        let (sum, spent) = run(rt, device, *workers, *references, *pages)?;
+        let (sum, spent) = run(rt, *workers, *references, *pages)?;
         println!(rt; "workers {workers}: {sum} in {} ns", spent.as_nanos())?;
         return Ok(());
     }
@@ -235,8 +230,7 @@ pub(crate) fn play<R: Threads + Wait + Clock + Print + AllocGlobal + Sync>(
         bail!("replica takes three numbers, of workers, of the references of each and of pages")
     }
     for workers in [1, 2, 4] {
-        let device = device(alloc, DEVICE_PAGES, NODE_PAGE_SIZE)?;
-        let (sum, _) = run(rt, device, workers, 1_000, 100)?;
+        let (sum, _) = run(rt, workers, 1_000, 100)?;
         println!(rt; "workers {workers}: {sum}")?;
     }
     Ok(())

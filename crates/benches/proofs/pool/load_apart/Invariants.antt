@@ -1,10 +1,6 @@
-use Rattle.std.proofs.Common.{length}
-use Rattle.warm_pool.specs.State.{IsPool, RankedBy, pool_of}
+use Rattle.warm_pool.specs.State.{RankedBy}
 use Rattle.benches.proofs.pool.load_apart.Given as goal
 
--- it stays a pool, ranked by the history
+-- the history ranks it still
 abbrev pub invariant-loop-frame : goal.invariant-loop-frame
-invariant-loop-frame g l = record {
-  pool : IsPool (pool_of (λ b. (goal.PageDevice-dyn g (b.vtable, b.value)).state b.value) l.pool.frames (length l.pool.spare.items) l.pool.devices.items);
-  ranked : RankedBy (pool_of (λ b. (goal.PageDevice-dyn g (b.vtable, b.value)).state b.value) l.pool.frames (length l.pool.spare.items) l.pool.devices.items) l.history;
-}
+invariant-loop-frame l = RankedBy l.pool l.history
