@@ -36,7 +36,7 @@ pub(crate) const NARROW_NOTHING: [u8; 15] = [
 ];
 
 // Sender 2 asks for buckets 1 and 2, in the narrow format.
-pub(crate) const NARROW_WISH: [u8; 19] = [
+pub(crate) const NARROW_WANT: [u8; 19] = [
     0x4C, 0x32, 0x47, 0x31, 3, 0, 2, 0, 0, 0, 8, 0, 0, 0, 0, 0, 0, 0, 6,
 ];
 
@@ -88,7 +88,7 @@ fn a_narrow_frame_of_nothing_takes_no_memory(rt: HostRuntime) {
 
 #[test]
 fn a_narrow_request_takes_no_memory(rt: HostRuntime) {
-    let frame = decode(rt.alloc(), &NARROW_WISH).expect(&rt, "a frame");
+    let frame = decode(rt.alloc(), &NARROW_WANT).expect(&rt, "a frame");
     let (sender, horizon, mask) = wished_in(&rt, frame);
     assert!(rt; sender == 2);
     assert!(rt; horizon == 0);
@@ -119,7 +119,7 @@ fn a_changed_byte_of_a_narrow_frame_is_refused(rt: HostRuntime) {
         (0, 0x4D, FrameFault::BadMagic),
         (3, 0x30, FrameFault::BadMagic),
         (3, 0x33, FrameFault::BadMagic),
-        // The letters are those of the wide format, whose length would stand four bytes before the page's number ends.
+        // These are the letters of the wide format, where zeros of the page stand in the place of the length.
         (3, 0x32, FrameFault::BadLength),
         (4, 0, FrameFault::BadKind),
         (4, 4, FrameFault::BadKind),

@@ -2,7 +2,7 @@
 //!
 //! With `rt try --test --fail-alloc N`, for N from 1 on, each growth is refused in turn: the same piece
 //! is then fed once more.
-use crate::formats::{NARROW, NARROW_NOTHING, NARROW_WISH, WIDENED, narrow_changed};
+use crate::formats::{NARROW, NARROW_NOTHING, NARROW_WANT, WIDENED, narrow_changed};
 use crate::frames::{
     NOTHING, TWICE, WISH, changed, decoded, encoded, joined, put, room, row_holds,
 };
@@ -121,13 +121,13 @@ fn give(rt: &impl Abort, alloc: Global, pieces: &[&[u8]], want: &[u8]) -> bool {
     frames_in(rt, alloc, pieces).as_slice() == want
 }
 
-// Whether the frames come of bytes cut in two, the first piece of so many bytes.
+// Whether the frames come of bytes that are cut in two; `first` is the size of the first piece.
 fn come_in_two(rt: &impl Abort, alloc: Global, bytes: &[u8], want: &[u8], first: usize) -> bool {
     let (begin, end) = bytes.split_at(first.min(bytes.len()));
     give(rt, alloc, &[begin, end], want)
 }
 
-// Whether the frames come of three pieces, the first of so many bytes, and the second up to so many.
+// Whether the frames come of three pieces; the first ends at `first`, the second at `second`.
 fn come_in_three(
     rt: &impl Abort,
     alloc: Global,
@@ -166,7 +166,7 @@ fn mixed_stream(rt: &impl Abort, alloc: Global) -> Vec<u8> {
         &[
             &NARROW,
             &TWICE,
-            &NARROW_WISH,
+            &NARROW_WANT,
             &WISH,
             &NARROW_NOTHING,
             &NOTHING,
