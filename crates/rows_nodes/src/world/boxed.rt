@@ -29,7 +29,12 @@ fn memory(rt: &impl Abort, alloc: Global) -> MemDevice {
     MemDevice::new(alloc, 8, 16).expect(rt, "room for its pages")
 }
 
-// Replica 2 has a device whose first call fails.
+// A device whose first call fails.
+fn failing(rt: &impl Abort, alloc: Global) -> Flaky<MemDevice> {
+    let memory = MemDevice::new(alloc, 8, 16).expect(rt, "room for its pages");
+    Flaky::new(memory, 1)
+}
+
 #[test]
 fn replicas_live_over_boxed_devices(rt: HostRuntime) {
     let hottest = [page(1)];
@@ -55,7 +60,7 @@ fn replicas_live_over_boxed_devices(rt: HostRuntime) {
     let alloc = rt.alloc();
     let steady = Box::new(alloc, memory(&rt, alloc)).expect(&rt, "room for it");
     let steady: Box<dyn PageDevice + Send> = steady;
-    let failing = Box::new(alloc, Flaky::new(memory(&rt, alloc), 1)).expect(&rt, "room for it");
+    let failing = Box::new(alloc, failing(&rt, alloc)).expect(&rt, "room for it");
     let failing: Box<dyn PageDevice + Send> = failing;
     lives_over(&rt, alloc, both(&rt, alloc, steady, failing), &rows)
 }
