@@ -5,3 +5,4 @@ mod Plannings
 mod Askings
 mod Openings
 mod Showings
+mod Playings

@@ -11,7 +11,7 @@ ghost use Rattle.warm_world.specs.Seen.{listed};
 ghost use Rattle.warm_schedule.specs.Answers.{Prints};
 ghost use Rattle.warm_schedule.specs.Text.{lines};
 ghost use Rattle.warm_replica.specs.declared.job.Job.{Job};
-ghost use Rattle.warm_play_fault.specs.declared.PlayFault.TheVariants.{BadDevices, BadLine, Memory};
+ghost use Rattle.warm_play_fault.specs.declared.PlayFault.TheVariants.{BadDevices, BadLine, Memory, WriteFault};
 ghost use Rattle.warm_threads.specs.Asks.{asks, first_bad};
 ghost use Rattle.warm_threads.specs.Opened.{opened_node, opened_nodes, AreUsable};
 ghost use Rattle.warm_threads.specs.Plans.{AreJobsOf};
@@ -144,8 +144,9 @@ fn print_replicas<D: PageDevice, W: Write>(
     writer: &mut W,
     nodes: &[Node<D>],
 ) -> Result<(), PlayFault>
-    ensures { Prints result (W.contents writer.old) (W.contents writer.new)
+    ensures printed { Prints result (W.contents writer.old) (W.contents writer.new)
         (replicas_text 1 (map node_view nodes.now)) }
+    ensures why { IfErr result (λ why. why ≡ WriteFault) }
 {
     let mut number = 1;
     for node in nodes {

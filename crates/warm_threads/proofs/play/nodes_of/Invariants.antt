@@ -1,5 +1,4 @@
 use Rattle.std.proofs.Common.{◌≡◌, ◌++◌, length}
-use Rattle.std.specs.List.{All}
 use Rattle.std.specs.Vec.Iter.{into_iter_items}
 use Rattle.warm_world.specs.Seen.{listed}
 use Rattle.warm_threads.specs.Opened.{opened_nodes}
