@@ -8,6 +8,8 @@
 #[cfg(test)]
 mod command;
 #[cfg(test)]
+mod horizons;
+#[cfg(test)]
 mod lines;
 #[cfg(test)]
 mod outcome;
@@ -17,3 +19,5 @@ mod player;
 mod random;
 #[cfg(test)]
 mod setup;
+#[cfg(test)]
+mod wide;

@@ -49,6 +49,16 @@ fn a_line_asks_something_of_a_worker(rt: HostRuntime) {
         reference: Some((page, 5)),
     };
     assert!(rt; asks(b"ref 1 2 3:4 5", touches));
+    let last = PageId {
+        dev: 65535,
+        no: 18446744073709551615,
+    };
+    let touches_last = WorkerLine {
+        replica: 1,
+        worker: 2,
+        reference: Some((last, 5)),
+    };
+    assert!(rt; asks(b"ref 1 2 65535:18446744073709551615 5", touches_last));
     let flushes = WorkerLine {
         replica: 65535,
         worker: 0,
@@ -62,7 +72,7 @@ fn a_line_asks_something_of_a_worker(rt: HostRuntime) {
 }
 
 // Lines that ask nothing of a worker.
-const OTHERS: [&str; 25] = [
+const OTHERS: [&str; 27] = [
     "flush",
     "flush 1",
     "flush 1 2 3",
@@ -73,6 +83,7 @@ const OTHERS: [&str; 25] = [
     "ref 1 2 34 5",
     "ref 65536 2 3:4 5",
     "ref 1 2 3:4 18446744073709551616",
+    "ref 1 2 3:18446744073709551616 5",
     "Ref 1 2 3:4 5",
     "ref#",
     "word",
@@ -87,6 +98,7 @@ const OTHERS: [&str; 25] = [
     "warm 1 2",
     "warmstep 1",
     "restart 1",
+    "horizon 1 5",
     "show 1",
 ];
 

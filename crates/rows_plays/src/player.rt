@@ -1,6 +1,6 @@
 //! Whole schedules through `play`, over readers and writers of the tests' own. The expected answers were worked out by
 //! hand from the definition of a page's history; none was taken from the player.
-ghost use Rattle.std.specs.Prelude.{IfOk};
+ghost use Rattle.std.specs.Prelude.{◌≡◌, IfOk, OnOk, length};
 ghost use Rattle.warm_world.specs.Opening.{AreFew};
 ghost use Rattle.warm_world.specs.Seen.{listed};
 
@@ -16,19 +16,34 @@ fn default_setup() -> Setup {
     Setup::new(3, 2, 64, 4, 16).unwrap()
 }
 
-type Devices = Vec<Vec<Box<dyn PageDevice + Send>>>;
-
-// For each replica a device in memory, of 256 pages of 16 bytes.
-fn in_memory(alloc: Global, replicas: u16) -> Result<Devices, AllocError>
-    ensures { IfOk result (λ devices. AreFew (listed state devices.items)) }
+// A device in memory, of 256 pages of 16 bytes, in a list of its own.
+fn one_in_memory(alloc: Global) -> Result<Vec<MemDevice>, AllocError>
+    ensures { IfOk result (λ list. length list.items ≡ 1) }
 {
-    let mut devices: Devices = Vec::new(alloc);
-    for _ in 0..replicas {
-        let mut list: Vec<Box<dyn PageDevice + Send>> = Vec::with_capacity(alloc, 1)?;
-        list.push_reserved(Box::new(alloc, MemDevice::new(alloc, 256, 16)?)?);
-        devices.push(list)?;
+    let mut list = Vec::with_capacity(alloc, 1)?;
+    list.push_reserved(MemDevice::new(alloc, 256, 16)?);
+    Ok(list)
+}
+
+// Adds a list of one device.
+fn add_list<D: PageDevice>(lists: &mut Vec<Vec<D>>, list: Vec<D>) -> Result<(), AllocError>
+    requires few { AreFew (listed D.state lists.old.items) }
+    requires one { length list.items ≡ 1 }
+    ensures { OnOk result (AreFew (listed D.state lists.new.items)) }
+{
+    lists.push(list)?;
+    Ok(())
+}
+
+// Such a list for each replica.
+fn in_memory(alloc: Global, replicas: u16) -> Result<Vec<Vec<MemDevice>>, AllocError>
+    ensures { IfOk result (λ lists. AreFew (listed (λ d. d) lists.items)) }
+{
+    let mut lists = Vec::new(alloc);
+    for _replica in 0..replicas {
+        add_list(&mut lists, one_in_memory(alloc)?)?;
     }
-    Ok(devices)
+    Ok(lists)
 }
 
 // Plays over devices in memory.
@@ -59,7 +74,7 @@ fn prints(rt: &impl Abort, alloc: Global, setup: Setup, schedule: &str, want: &s
 }
 
 // Each of these schedules prints what stands beside it.
-fn each_prints(rt: &impl Abort, alloc: Global, rows: &[(&str, &str)]) {
+pub(crate) fn each_prints(rt: &impl Abort, alloc: Global, rows: &[(&str, &str)]) {
     for (schedule, want) in rows {
         prints(rt, alloc, default_setup(), schedule, want);
     }
@@ -321,13 +336,13 @@ fn devices_of_another_size_are_refused(rt: HostRuntime) {
     refuses_devices(&rt, rt.alloc(), setup, 1);
 }
 
-// For one replica a device of 8 pages of 16 bytes, whose second call fails.
-fn failing(alloc: Global) -> Result<Devices, AllocError>
+// For one replica a boxed device of 8 pages of 16 bytes, whose second call fails.
+fn failing(alloc: Global) -> Result<Vec<Vec<Box<dyn PageDevice + Send>>>, AllocError>
     ensures { IfOk result (λ devices. AreFew (listed state devices.items)) }
 {
     let mut list: Vec<Box<dyn PageDevice + Send>> = Vec::with_capacity(alloc, 1)?;
     list.push_reserved(Box::new(alloc, Flaky::new(MemDevice::new(alloc, 8, 16)?, 2))?);
-    let mut devices: Devices = Vec::with_capacity(alloc, 1)?;
+    let mut devices = Vec::with_capacity(alloc, 1)?;
     devices.push_reserved(list);
     Ok(devices)
 }
@@ -364,12 +379,12 @@ const LANGUAGE: [(&str, &str); 7] = [
     ),
     // a number has digits alone, and fits its range
     (
-        "show +1\nshow -1\nshow 1.0\nshow 0x1\nshow 65536\nwarm 1 4294967296\nref 1 1 0:1 18446744073709551616\nref 1 1 65536:0 1\nref 1 1 0:4294967296 1",
+        "show +1\nshow -1\nshow 1.0\nshow 0x1\nshow 65536\nwarm 1 4294967296\nref 1 1 0:1 18446744073709551616\nref 1 1 65536:0 1\nref 1 1 0:18446744073709551616 1",
         "bad line 1\nbad line 2\nbad line 3\nbad line 4\nbad line 5\nbad line 6\nbad line 7\nbad line 8\nbad line 9\n",
     ),
     (
-        "deliver 65535 18446744073709551615\nwarm 1 4294967295\nref 1 1 65535:4294967295 1\nflush 1 1\nshow 1",
-        "refused 14 NoSuchReplica\npages\nok\nok\n65535:4294967295 last 1@1\nend 1\n",
+        "deliver 65535 18446744073709551615\nwarm 1 4294967295\nref 1 1 65535:18446744073709551615 1\nflush 1 1\nshow 1",
+        "refused 14 NoSuchReplica\npages\nok\nok\n65535:18446744073709551615 last 1@1\nend 1\n",
     ),
     // a page has one colon, and digits on both sides
     (

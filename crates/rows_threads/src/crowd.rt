@@ -39,7 +39,7 @@ fn answered<M: Absorbing + Drop + Send, R: Threads + Wait + Abort + Sync>(
 // A machine that tells of each call which one it is, counted from 1, and takes all batches.
 #[derive(Drop)]
 struct Tally {
-    calls: u32,
+    calls: u64,
 }
 
 impl Machine for Tally {
@@ -52,7 +52,7 @@ impl Machine for Tally {
 
     type Reply = Reply;
 
-    type State = u32;
+    type State = u64;
 
     ghost meaning = { λ tally. tally.calls };
 
@@ -161,7 +161,7 @@ fn push_round(rt: &impl Abort, alloc: Global, steps: &mut Vec<Step>, touch: Refe
 // are in bucket 0. The stamp of a touch tells the round, counted from 1.
 fn flushing(rt: &impl Abort, alloc: Global, job: u32) -> Job {
     let bucket = Bucket::new(0).expect(rt, "0 is a bucket");
-    let no = u32::wrapping_mul(job, 64);
+    let no = u64::from(job) * 64;
     let mut steps = Vec::new(alloc);
     for round in 1..=ROUNDS {
         let time = u64::from(round) * 8 + u64::from(job);

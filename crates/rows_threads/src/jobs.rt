@@ -121,11 +121,10 @@ pub(crate) fn ran<M: Absorbing + Drop + Send, R: Threads + Wait + Abort + Sync, 
 }
 
 // A job with a buffer of two: three touches of its page, a flush and a call.
-fn job_of(rt: &impl Abort, alloc: Global, no: u32) -> Job {
-    let later = u64::from(no);
+fn job_of(rt: &impl Abort, alloc: Global, no: u64) -> Job {
     let touches = [
-        reference(rt, no, u64::wrapping_add(10, later)),
-        reference(rt, no, u64::wrapping_add(20, later)),
+        reference(rt, no, u64::wrapping_add(10, no)),
+        reference(rt, no, u64::wrapping_add(20, no)),
         reference(rt, no, 30),
     ];
     let mut steps = Vec::with_capacity(alloc, 5).expect(rt, "room for steps");
@@ -146,7 +145,7 @@ fn push_call(rt: &impl Abort, alloc: Global, steps: &mut Vec<Step>) {
 }
 
 // Two references fit, the third comes back, and no page is resident.
-fn is_answered(replies: &[StepReply], no: u32) -> bool {
+fn is_answered(replies: &[StepReply], no: u64) -> bool {
     let [
         StepReply::Touched,
         StepReply::Touched,
@@ -175,7 +174,7 @@ fn four_jobs(rt: &impl Abort, alloc: Global) -> Vec<Job> {
 
 // Whether each of the four jobs is answered.
 fn are_answered(all: &[Vec<StepReply>]) -> bool {
-    for no in 0..4u32 {
+    for no in 0..4u64 {
         let Some(replies) = all.get(no as usize) else {
             return false;
         };

@@ -8,14 +8,14 @@ use std::process::Abort;
 use std::sync::Wait;
 use std::thread::Threads;
 use warm_digest::sums;
-use warm_frames::{Frame, decode, encode};
+use warm_frames::{Frame, encode};
 use warm_gossip::{Call, Reply};
 use warm_history::History;
 use warm_replica::{
     Absorbing, Mail, MailIter, MailReport, MemPost, Outbox, Outboxes, Post, Station, Worker,
     mail_loop, run_stations,
 };
-use warm_stamps::{ByteList, RefList, ReplicaId};
+use warm_stamps::{Bucket, ByteList, RefList, ReplicaId};
 use warm_turn::Turn;
 
 // Mail of these bytes.
@@ -39,20 +39,51 @@ fn mailed<R: Wait + Abort>(rt: &R, alloc: Global, texts: &[&[u8]]) -> Receiver<M
     receiver
 }
 
+// Entries of replica 1 in the narrow format: 0:7 with 20@1 and 10@1.
 const ENTRIES: [u8; 42] = [
     0x4C, 0x32, 0x47, 0x31, 1, 0, 1, 0, 0, 0, 0x1F, 0, 0, 0, 1, 0, 0, 0, 0, 0, 7, 2, 0, 0, 0, 0, 0,
     0, 0, 0x14, 0, 1, 0, 0, 0, 0, 0, 0, 0, 0x0A, 0, 1,
 ];
 
-// The bytes of a digest of the empty history, from replica 9.
-fn digest(rt: &impl Abort, alloc: Global) -> Vec<u8> {
-    let sender = replica_of(rt, 9);
-    let sums = sums(alloc, &History::new(alloc)).expect(rt, "room for sums");
-    encode(alloc, &Frame::Digest { sender, sums }).expect(rt, "room for a frame")
+// The same in the wide format, at horizon 12.
+const LATE_ENTRIES: [u8; 54] = [
+    0x4C, 0x32, 0x47, 0x32, 1, 0, 1, 0, 0, 0, 0, 0, 0, 0, 12, 0, 0, 0, 0x23, 0, 0, 0, 1, 0, 0, 0, 0,
+    0, 0, 0, 0, 0, 7, 2, 0, 0, 0, 0, 0, 0, 0, 0x14, 0, 1, 0, 0, 0, 0, 0, 0, 0, 0x0A, 0, 1,
+];
+
+// Replica 1 at this horizon sends one entry: this page of device 0, with one stamp of replica 1 at this time.
+const fn entry_at(horizon: u8, no: u8, time: u8) -> [u8; 44] {
+    [
+        0x4C, 0x32, 0x47, 0x32, 1, 0, 1, 0, 0, 0, 0, 0, 0, 0, horizon, 0, 0, 0, 0x19, 0, 0, 0, 1, 0,
+        0, 0, 0, 0, 0, 0, 0, 0, no, 1, 0, 0, 0, 0, 0, 0, 0, time, 0, 1,
+    ]
 }
 
-fn is_wish_of_bucket_one(alloc: Global, bytes: &[u8]) -> bool {
-    matches!(decode(alloc, bytes), Ok(Frame::Want { mask: 2, .. }))
+// Replica 1 at this horizon sends no entry.
+const fn nothing_at(horizon: u8) -> [u8; 23] {
+    [
+        0x4C, 0x32, 0x47, 0x32, 1, 0, 1, 0, 0, 0, 0, 0, 0, 0, horizon, 0, 0, 0, 4, 0, 0, 0, 0,
+    ]
+}
+
+// Replica 1 at this horizon asks for bucket 1.
+const fn wish_at(horizon: u8) -> [u8; 27] {
+    [
+        0x4C, 0x32, 0x47, 0x32, 3, 0, 1, 0, 0, 0, 0, 0, 0, 0, horizon, 0, 0, 0, 8, 0, 0, 0, 0, 0, 0,
+        0, 2,
+    ]
+}
+
+// The bytes of a digest of the empty history at a horizon, from replica 9.
+fn digest(rt: &impl Abort, alloc: Global, horizon: u64) -> Vec<u8> {
+    let sender = replica_of(rt, 9);
+    let sums = sums(alloc, &History::new(alloc)).expect(rt, "room for sums");
+    let frame = Frame::Digest {
+        sender,
+        horizon,
+        sums,
+    };
+    encode(alloc, &frame).expect(rt, "room for a frame")
 }
 
 // How long a loop goes on, and how many items its channel gives.
@@ -86,11 +117,27 @@ fn listened<M: Absorbing + Drop, P: Post, R: Wait + Abort>(
 {
     let (replica, mut worker) = opened(rt, alloc, machine, 2);
     tell(rt, alloc, &replica, &mut worker);
+    hear(rt, alloc, &replica, &mut worker, receiver, post, bounds)
+}
+
+// What a replica does with the mail.
+fn hear<M: Absorbing, P: Post, R: Wait>(
+    rt: &R,
+    alloc: Global,
+    replica: &Turn<M>,
+    worker: &mut Worker<M>,
+    receiver: Receiver<Mail>,
+    post: &mut P,
+    bounds: Bounds,
+) -> MailReport
+    requires { worker.old.pass.table ≡ replica.now.table }
+    ensures { worker.new.pass.table ≡ replica.now.table }
+{
     mail_loop(
         rt,
         alloc,
-        &replica,
-        &mut worker,
+        replica,
+        worker,
         MailIter::new(rt, receiver, bounds.most),
         post,
         bounds.stops,
@@ -145,7 +192,7 @@ fn listened_alone<R: Wait + Abort>(
 
 // What it does with a digest of the empty history from sender 9, and a Stop.
 fn listened_to_digest<P: Post, R: Wait + Abort>(rt: &R, alloc: Global, post: &mut P) -> MailReport {
-    let text = digest(rt, alloc);
+    let text = digest(rt, alloc, 0);
     let mail = mailed(rt, alloc, &[text.as_slice()]);
     listened(rt, alloc, fresh(rt, alloc), mail, post, ONE_STOP)
 }
@@ -213,29 +260,104 @@ fn a_stop_too_many_is_left(rt: HostRuntime) {
     assert!(rt; heard == report(0, 0, 0) && brings_a_stop(&rt, &again) && !brings(&rt, &again));
 }
 
+// What a machine sends of a bucket, after what it counts of the mail.
+fn heard_then_sent<M: Absorbing + Drop, P: Post, R: Wait + Abort>(
+    rt: &R,
+    alloc: Global,
+    machine: M,
+    mail: Receiver<Mail>,
+    post: &mut P,
+    number: u8,
+) -> (MailReport, Vec<u8>)
+    requires { M.is_fit machine }
+{
+    let (replica, mut worker) = opened(rt, alloc, machine, 2);
+    let heard = hear(rt, alloc, &replica, &mut worker, mail, post, ONE_STOP);
+    let bucket = Bucket::new(number).expect(rt, "the number is of a bucket");
+    let call = Call::Send {
+        bucket,
+        after: None,
+    };
+    let answer = worker.call(rt, &replica, call);
+    (heard, text_of(rt, alloc, answer))
+}
+
+// The bytes of the frame that is sent.
+fn text_of(rt: &impl Abort, alloc: Global, answer: Result<Reply, Call>) -> Vec<u8> {
+    match answer {
+        Ok(Reply::Sent(frame)) => encode(alloc, &frame).expect(rt, "room for a frame"),
+        _ => panic!(rt; "nothing is sent"),
+    }
+}
+
+// Of the entries that come at horizon 12, the stamp at 10 is older and is dropped.
+#[test]
+fn entries_bring_their_horizon(rt: HostRuntime) {
+    let alloc = rt.alloc();
+    let mail = mailed(&rt, alloc, &[&LATE_ENTRIES, &[0]]);
+    let mut post = MemPost::new(alloc);
+    let (heard, sent) = heard_then_sent(&rt, alloc, fresh(&rt, alloc), mail, &mut post, 7);
+    assert!(rt; heard == report(1, 1, 0));
+    assert!(rt; sent.as_slice() == entry_at(12, 7, 20).as_slice());
+}
+
+// What replica 1, which holds 0:1 with 10@1, counts of a digest of the empty history at a horizon, and what it sends of bucket 1
+// then.
+fn raised_by<P: Post, R: Wait + Abort>(
+    rt: &R,
+    alloc: Global,
+    horizon: u8,
+    post: &mut P,
+) -> (MailReport, Vec<u8>) {
+    let text = digest(rt, alloc, u64::from(horizon));
+    let mail = mailed(rt, alloc, &[&entry_at(0, 1, 10), text.as_slice()]);
+    heard_then_sent(rt, alloc, fresh(rt, alloc), mail, post, 1)
+}
+
+// Whether these are counted, and this is sent, where no answer finds an outbox.
+fn is_raised<R: Wait + Abort>(
+    rt: &R,
+    alloc: Global,
+    horizon: u8,
+    want: MailReport,
+    sends: &[u8],
+) -> bool {
+    let mut post = Outboxes::new(rt, Vec::new(alloc));
+    let (heard, sent) = raised_by(rt, alloc, horizon, &mut post);
+    heard == want && sent.as_slice() == sends
+}
+
+// The stamp at 10 is older than 11: nothing is left to answer with, and nothing is lost.
+#[test]
+fn a_digest_raises_the_horizon(rt: HostRuntime) {
+    let alloc = rt.alloc();
+    assert!(rt; is_raised(&rt, alloc, 0, report(2, 0, 2), &entry_at(0, 1, 10)));
+    assert!(rt; is_raised(&rt, alloc, 10, report(2, 0, 2), &entry_at(10, 1, 10)));
+    assert!(rt; is_raised(&rt, alloc, 11, report(2, 0, 0), &nothing_at(11)));
+}
+
+#[test]
+fn answers_have_the_raised_horizon(rt: HostRuntime) {
+    let mut post = MemPost::new(rt.alloc());
+    let (heard, _) = raised_by(&rt, rt.alloc(), 5, &mut post);
+    assert!(rt; heard == report(2, 0, 0) && are_for_nine(5, post.given()));
+}
+
 #[test]
 fn answers_are_lost_without_an_outbox(rt: HostRuntime) {
     let boxes = Vec::new(rt.alloc());
     assert!(rt; listened_over(&rt, rt.alloc(), boxes) == report(1, 0, 2));
 }
 
-// Whether these are a frame of one entry.
-fn are_one_entry(alloc: Global, bytes: &[u8]) -> bool {
-    match decode(alloc, bytes) {
-        Ok(Frame::Entries { entries, .. }) => entries.as_slice().len() == 1,
-        _ => false,
-    }
-}
-
-// Whether these are a frame of one entry and a wish of bucket 1, both for replica 9.
-fn are_for_nine(alloc: Global, given: &[(ReplicaId, ByteList)]) -> bool {
+// Whether these are 0:1 with 10@1 and a wish of bucket 1, both at this horizon and for replica 9.
+fn are_for_nine(horizon: u8, given: &[(ReplicaId, ByteList)]) -> bool {
     let [(first, entries), (second, wish)] = given else {
         return false;
     };
     first.get() == 9
         && second.get() == 9
-        && are_one_entry(alloc, entries.as_slice())
-        && is_wish_of_bucket_one(alloc, wish.as_slice())
+        && entries.as_slice() == entry_at(horizon, 1, 10).as_slice()
+        && wish.as_slice() == wish_at(horizon).as_slice()
 }
 
 #[test]
@@ -243,7 +365,7 @@ fn answers_are_kept_for_their_sender(rt: HostRuntime) {
     let alloc = rt.alloc();
     let mut post = MemPost::new(alloc);
     let heard = listened_to_digest(&rt, alloc, &mut post);
-    assert!(rt; heard == report(1, 0, 0) && are_for_nine(alloc, post.given()));
+    assert!(rt; heard == report(1, 0, 0) && are_for_nine(0, post.given()));
 }
 
 // The end of a channel for replica 9, as its only outbox, and the other end.
@@ -278,12 +400,12 @@ fn next_bytes<R: Wait>(rt: &R, receiver: &Receiver<Mail>) -> Option<ByteList> {
 }
 
 // Whether bytes come out of a channel, then a wish of bucket 1, and nothing more.
-fn brings_a_wish<R: Wait>(rt: &R, alloc: Global, receiver: &Receiver<Mail>) -> bool {
+fn brings_a_wish<R: Wait>(rt: &R, receiver: &Receiver<Mail>) -> bool {
     let first = next_bytes(rt, receiver).is_some();
     let Some(wish) = next_bytes(rt, receiver) else {
         return false;
     };
-    first && is_wish_of_bucket_one(alloc, wish.as_slice()) && !brings(rt, receiver)
+    first && wish.as_slice() == wish_at(0).as_slice() && !brings(rt, receiver)
 }
 
 #[test]
@@ -291,7 +413,7 @@ fn answers_reach_the_outbox(rt: HostRuntime) {
     let alloc = rt.alloc();
     let (boxes, receiver) = outbox_of_nine(&rt, alloc);
     let heard = listened_over(&rt, alloc, boxes);
-    assert!(rt; heard == report(1, 0, 0) && brings_a_wish(&rt, alloc, &receiver));
+    assert!(rt; heard == report(1, 0, 0) && brings_a_wish(&rt, &receiver));
 }
 
 // Two outboxes for replica 9, and their other ends in the same order.
@@ -362,7 +484,7 @@ fn heard_by_two_nodes<R: Threads + Wait + Abort + Sync>(
     alloc: Global,
     boxes: Vec<Outbox>,
 ) -> (MailReport, MailReport) {
-    let text = digest(rt, alloc);
+    let text = digest(rt, alloc, 0);
     let to_first = mailed(rt, alloc, &[&ENTRIES, &[0]]);
     let to_second = mailed(rt, alloc, &[&ENTRIES, text.as_slice()]);
     let first = fresh(rt, alloc);

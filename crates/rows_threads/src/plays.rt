@@ -1,12 +1,12 @@
-//! Rows of schedules played by threads, worked out by hand.
-use std::alloc::{AllocError, Global};
+//! Rows of schedules played by threads, worked out by hand from docs/FORMATS.md.
+use std::alloc::Global;
 use std::io::Write;
 use std::process::Abort;
 use std::sync::Wait;
 use std::thread::Threads;
-use warm_devices::{MemDevice, PageDevice};
+use warm_devices::{Flaky, MemDevice, PageDevice};
 use warm_play_fault::PlayFault;
-use warm_threads::{nodes_over, play_threads, print_replicas};
+use warm_threads::play_threads;
 use warm_world::Setup;
 
 // How large a world is, but for its pools.
@@ -27,16 +27,11 @@ fn setup_of(rt: &impl Abort, size: Size) -> Setup {
     Setup::new(size.replicas, size.workers, size.buffer, 4, 16).expect(rt, "a setup")
 }
 
-fn new_memory(alloc: Global, page_size: usize) -> Result<Box<MemDevice>, AllocError> {
-    let memory = MemDevice::new(alloc, 256, page_size)?;
-    Ok(Box::new(alloc, memory)?)
-}
-
 // A device with pages of this size; where memory is refused, once more.
-fn memory_of(rt: &impl Abort, alloc: Global, page_size: usize) -> Box<MemDevice> {
-    match new_memory(alloc, page_size) {
+fn memory_of(rt: &impl Abort, alloc: Global, page_size: usize) -> MemDevice {
+    match MemDevice::new(alloc, 256, page_size) {
         Ok(memory) => memory,
-        Err(_) => new_memory(alloc, page_size).expect(rt, "room for a device"),
+        Err(_) => MemDevice::new(alloc, 256, page_size).expect(rt, "room for a device"),
     }
 }
 
@@ -60,27 +55,13 @@ fn ended<R: Threads + Wait + Abort + Sync, W: Write>(
 ) -> Result<(), PlayFault> {
     let mut devices = room(rt, alloc, lists as usize);
     for _ in 0..lists {
-        let mut list: Vec<Box<dyn PageDevice + Send>> = room(rt, alloc, 1);
+        let mut list = room(rt, alloc, 1);
         list.push(memory_of(rt, alloc, page_size))
             .expect(rt, "there is room");
         devices.push(list).expect(rt, "there is room");
     }
-    ended_over(rt, alloc, setup, devices, text, out)
-}
-
-// Plays the text over these devices, and prints.
-fn ended_over<R: Threads + Wait + Sync, W: Write>(
-    rt: &R,
-    alloc: Global,
-    setup: Setup,
-    devices: Vec<Vec<Box<dyn PageDevice + Send>>>,
-    text: &[u8],
-    out: &mut W,
-) -> Result<(), PlayFault> {
     let mut reader = text;
-    let nodes = nodes_over(alloc, setup, devices)?;
-    let nodes = play_threads(rt, alloc, &mut reader, setup, nodes)?;
-    print_replicas(out, &nodes)
+    play_threads(rt, alloc, &mut reader, out, setup, devices)
 }
 
 // What is played over so many lists of devices with pages of this size, and what is printed.
@@ -129,6 +110,55 @@ fn three_references_reach_all_replicas(rt: HostRuntime) {
         "replica 1\n0:1 last 30@2 prev 20@1\nend 1\nreplica 2\n0:1 last 30@2 prev 20@1\nend 1\n\
         replica 3\n0:1 last 30@2 prev 20@1\nend 1\n";
     assert!(rt; is_printed(&got, want));
+}
+
+// The greatest page number of the greatest device, in the last bucket but one.
+#[test]
+fn the_last_page_reaches_all_replicas(rt: HostRuntime) {
+    let two = Size {
+        replicas: 2,
+        workers: 1,
+        buffer: 1,
+    };
+    let text = b"ref 1 1 65535:18446744073709551615 7\nref 2 1 65535:18446744073709551615 6\n";
+    let got = played_by(&rt, rt.alloc(), two, text);
+    let want = "replica 1\n65535:18446744073709551615 last 7@1 prev 6@2\nend 1\n\
+        replica 2\n65535:18446744073709551615 last 7@1 prev 6@2\nend 1\n";
+    assert!(rt; is_printed(&got, want));
+}
+
+// For each of two replicas a boxed device: one in memory, and one whose first call fails.
+fn both_kinds(rt: &impl Abort, alloc: Global) -> Vec<Vec<Box<dyn PageDevice + Send>>> {
+    let memory = memory_of(rt, alloc, 16);
+    let steady: Box<dyn PageDevice + Send> = Box::new(alloc, memory).expect(rt, "room for it");
+    let flaky = Flaky::new(memory_of(rt, alloc, 16), 1);
+    let failing: Box<dyn PageDevice + Send> = Box::new(alloc, flaky).expect(rt, "room for it");
+    let mut devices = Vec::with_capacity(alloc, 2).expect(rt, "room for two lists");
+    for device in [steady, failing] {
+        let mut list = Vec::with_capacity(alloc, 1).expect(rt, "room for a device");
+        list.push_reserved(device);
+        devices.push(list).expect(rt, "there is room");
+    }
+    devices
+}
+
+// Devices of different kinds are boxed, and the play is made for the box.
+#[test]
+fn devices_may_be_boxed(rt: HostRuntime) {
+    let two = Size {
+        replicas: 2,
+        workers: 1,
+        buffer: 64,
+    };
+    let mut reader: &[u8] = b"ref 1 1 0:1 10\nref 2 1 0:1 30\n";
+    let mut shown = Vec::new(rt.alloc());
+    let setup = setup_of(&rt, two);
+    let devices = both_kinds(&rt, rt.alloc());
+    let ended = play_threads(&rt, rt.alloc(), &mut reader, &mut shown, setup, devices);
+    assert!(rt; ended == Ok(()));
+    let want = "replica 1\n0:1 last 30@2 prev 10@1\nend 1\n\
+        replica 2\n0:1 last 30@2 prev 10@1\nend 1\n";
+    assert!(rt; shown.as_slice() == want.as_bytes());
 }
 
 #[test]
@@ -214,11 +244,14 @@ const BAD_LINES: &[&str] = &[
     "warm 1 1",
     "warmstep 1",
     "restart 1",
+    "horizon 1 0",
+    "horizon 1 18446744073709551615",
     "ref 0 1 0:1 1",
     "ref 4 1 0:1 1",
     "ref 1 0 0:1 1",
     "ref 1 3 0:1 1",
     "ref 1 1 0:1",
+    "ref 1 1 0:18446744073709551616 1",
     "flush 4 1",
     "flush 1 3",
     "flush 0 1",

@@ -9,17 +9,15 @@ use warm_pool::Pool;
 use warm_refbuffer::RefBuffer;
 use warm_replica::{Absorbing, Replies, StepReply, Worker};
 use warm_stamps::{PageId, PageList, Reference, ReplicaId, Stamp};
-use warm_turn::{Machine, Pass, Turn};
+use warm_turn::{Pass, Turn};
 
 // A node of so many frames over a device with pages of 16 bytes.
-pub(crate) fn over(
+pub(crate) fn over<D: PageDevice>(
     rt: &impl Abort,
     alloc: Global,
     frames: usize,
-    device: Box<dyn PageDevice + Send>,
-) -> Node
-    ensures { ⟦<Node as Machine>⟧.is_fit result }
-{
+    device: D,
+) -> Node<D> {
     let id = replica_of(rt, 1);
     let mut devices = Vec::with_capacity(alloc, 1).expect(rt, "room for a device");
     devices.push_reserved(device);
@@ -30,12 +28,9 @@ pub(crate) fn over(
 }
 
 // A node of two frames over a device of 8 pages.
-pub(crate) fn fresh(rt: &impl Abort, alloc: Global) -> Node
-    ensures { ⟦<Node as Machine>⟧.is_fit result }
-{
+pub(crate) fn fresh(rt: &impl Abort, alloc: Global) -> Node<MemDevice> {
     let memory = MemDevice::new(alloc, 8, 16).expect(rt, "room for its pages");
-    let device: Box<dyn PageDevice + Send> = Box::new(alloc, memory).expect(rt, "room for it");
-    over(rt, alloc, 2, device)
+    over(rt, alloc, 2, memory)
 }
 
 // A replica over this machine, and its first pass.
@@ -71,7 +66,7 @@ pub(crate) fn replica_of(rt: &impl Abort, number: u16) -> ReplicaId {
 }
 
 // Page `no` of device 0, touched by replica 1 at this time.
-pub(crate) fn reference(rt: &impl Abort, no: u32, time: u64) -> Reference {
+pub(crate) fn reference(rt: &impl Abort, no: u64, time: u64) -> Reference {
     Reference {
         page: PageId { dev: 0, no },
         stamp: Stamp {

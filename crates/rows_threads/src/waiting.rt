@@ -57,7 +57,7 @@ struct Slow {
 impl PageDevice for Slow {
     ghost state = { λ d. d.inner };
 
-    fn pages(&self) -> u32 {
+    fn pages(&self) -> u64 {
         self.inner.pages()
     }
 
@@ -73,13 +73,13 @@ impl PageDevice for Slow {
         self.inner.failures()
     }
 
-    fn read(&mut self, no: u32, into: &mut [u8]) -> Result<(), DeviceFault> {
+    fn read(&mut self, no: u64, into: &mut [u8]) -> Result<(), DeviceFault> {
         self.flags.reading.store(1, Ordering::SeqCst);
         self.flags.wait(&self.clock, &self.flags.touched);
         self.inner.read(no, into)
     }
 
-    fn write(&mut self, no: u32, bytes: &[u8]) -> Result<(), DeviceFault> {
+    fn write(&mut self, no: u64, bytes: &[u8]) -> Result<(), DeviceFault> {
         self.inner.write(no, bytes)
     }
 
@@ -200,8 +200,7 @@ fn are_answered<R: Clock + Threads + Wait + Abort + Sync>(
     flags: &Arc<Flags, Global>,
 ) -> bool {
     let slow = slow_device(rt, alloc, clock, flags);
-    let device: Box<dyn PageDevice + Send> = Box::new(alloc, slow).expect(rt, "room for it");
-    let node = over(rt, alloc, 1, device);
+    let node = over(rt, alloc, 1, slow);
     let gate = WhileRead { clock: rt, flags };
     let (pinned, touched) = pins_and_touches(rt, alloc, node, &gate);
     let pinned = list_of(rt, alloc, pinned);
