@@ -24,12 +24,14 @@ const MOST_ROUNDS: u32 = 3;
 
 // A page of device 0.
 const fn page(no: u32) -> PageId {
-    PageId { dev: 0, no: no as u64 }
+    PageId {
+        dev: 0,
+        no: no as u64,
+    }
 }
 
 // A node that was told nothing, with a pool over the device.
-fn opened(alloc: Global, number: u16, device: MemDevice) -> Result<Node<MemDevice>>
-{
+fn opened(alloc: Global, number: u16, device: MemDevice) -> Result<Node<MemDevice>> {
     let Ok(id) = ReplicaId::new(number) else {
         bail!("no replica has the number {number}")
     };
@@ -47,8 +49,7 @@ fn refused<T>(fault: NodeFault) -> Result<T> {
 }
 
 // Tells a node that these pages were referenced, one after the other, from a time on.
-fn refer(alloc: Global, node: &mut Node<MemDevice>, from: u64, pages: &[u32]) -> Result<()>
-{
+fn refer(alloc: Global, node: &mut Node<MemDevice>, from: u64, pages: &[u32]) -> Result<()> {
     let replica = node.id();
     let mut batch = Vec::with_capacity(alloc, pages.len())?;
     let mut time = from;
@@ -66,8 +67,7 @@ fn refer(alloc: Global, node: &mut Node<MemDevice>, from: u64, pages: &[u32]) ->
 }
 
 // What one replica sends another, as bytes: the sums of what it has heard of.
-fn offer(alloc: Global, node: &mut Node<MemDevice>) -> Result<Vec<u8>>
-{
+fn offer(alloc: Global, node: &mut Node<MemDevice>) -> Result<Vec<u8>> {
     match node.offer() {
         Ok(frame) => Ok(encode(alloc, &frame)?),
         Err(fault) => refused(fault),
@@ -75,8 +75,7 @@ fn offer(alloc: Global, node: &mut Node<MemDevice>) -> Result<Vec<u8>>
 }
 
 // Hands a frame's bytes to a node, and gives those of the frames that it answers.
-fn deliver(alloc: Global, node: &mut Node<MemDevice>, bytes: &[u8]) -> Result<Vec<Vec<u8>>>
-{
+fn deliver(alloc: Global, node: &mut Node<MemDevice>, bytes: &[u8]) -> Result<Vec<Vec<u8>>> {
     let frame = match decode(alloc, bytes) {
         Ok(frame) => frame,
         Err(fault) => bail!("no frame: {}", fault.name()),
@@ -96,8 +95,11 @@ fn spelled(alloc: Global, frames: &[Frame]) -> Result<Vec<Vec<u8>>> {
 }
 
 // Hands each of these frames to a node, and gives the bytes of all that it answers.
-fn deliver_all(alloc: Global, node: &mut Node<MemDevice>, sent: &[Vec<u8>]) -> Result<Vec<Vec<u8>>>
-{
+fn deliver_all(
+    alloc: Global,
+    node: &mut Node<MemDevice>,
+    sent: &[Vec<u8>],
+) -> Result<Vec<Vec<u8>>> {
     let mut answered = Vec::new(alloc);
     for bytes in sent {
         answered.append(&mut deliver(alloc, node, bytes)?)?;
@@ -106,8 +108,11 @@ fn deliver_all(alloc: Global, node: &mut Node<MemDevice>, sent: &[Vec<u8>]) -> R
 }
 
 // Rounds of gossip until the second has nothing to answer to the sums of the first: then both hold the same. Gives how many it took.
-fn make_equal(alloc: Global, first: &mut Node<MemDevice>, second: &mut Node<MemDevice>) -> Result<u32>
-{
+fn make_equal(
+    alloc: Global,
+    first: &mut Node<MemDevice>,
+    second: &mut Node<MemDevice>,
+) -> Result<u32> {
     for round in 0..MOST_ROUNDS {
         let sums = offer(alloc, first)?;
         let entries_and_wish = deliver(alloc, second, &sums)?;
@@ -121,8 +126,7 @@ fn make_equal(alloc: Global, first: &mut Node<MemDevice>, second: &mut Node<MemD
 }
 
 // Loads the hottest pages, and says which.
-fn warm(rt: &impl Print, node: &mut Node<MemDevice>) -> Result<()>
-{
+fn warm(rt: &impl Print, node: &mut Node<MemDevice>) -> Result<()> {
     for _ in 0..FRAMES {
         match node.warm_step() {
             Ok(Some(page)) => println!(rt; "loaded page {}", page.no)?,
@@ -134,8 +138,7 @@ fn warm(rt: &impl Print, node: &mut Node<MemDevice>) -> Result<()>
 }
 
 // Pins a page, writes to it, reads it again and unpins it.
-fn change(node: &mut Node<MemDevice>, no: u32, text: &[u8]) -> Result<Vec<u8>, NodeFault>
-{
+fn change(node: &mut Node<MemDevice>, no: u32, text: &[u8]) -> Result<Vec<u8>, NodeFault> {
     let slot = node.pin(page(no))?;
     node.write(slot, 0, text)?;
     let bytes = node.read(slot, 0, text.len())?;
@@ -144,8 +147,12 @@ fn change(node: &mut Node<MemDevice>, no: u32, text: &[u8]) -> Result<Vec<u8>, N
 }
 
 // What the two replicas live through, up to the orderly end of the standby.
-fn live(rt: &impl Print, alloc: Global, primary: &mut Node<MemDevice>, standby: &mut Node<MemDevice>) -> Result<()>
-{
+fn live(
+    rt: &impl Print,
+    alloc: Global,
+    primary: &mut Node<MemDevice>,
+    standby: &mut Node<MemDevice>,
+) -> Result<()> {
     refer(alloc, primary, 1, &[3, 5, 3, 9, 5, 7])?;
     let rounds = make_equal(alloc, primary, standby)?;
     println!(rt;

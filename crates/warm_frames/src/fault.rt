@@ -10,7 +10,7 @@ pub enum FrameFault {
     Memory,
     /// 2: the bytes end inside the header or the body.
     Truncated,
-    /// 3: the first four bytes are not `L2G1`.
+    /// 3: the first four bytes are neither `L2G2` nor `L2G1`.
     BadMagic,
     /// 4: the kind is none of 1, 2 and 3.
     BadKind,

@@ -73,18 +73,20 @@ pub fn encode(alloc: Global, frame: &Frame) -> Result<Vec<u8>, AllocError>
     }
 }
 
-/// The frame that the bytes spell, all of them.
+/// The frame that the bytes spell, all of them, in the format `L2G2` or in the older `L2G1`, which is read with horizon 0.
 ///
 /// Refused by the first fault from left to right:
-/// - `Truncated`: fewer than 4 bytes, then `BadMagic`: others than `L2G1`;
+/// - `Truncated`: fewer than 4 bytes, then `BadMagic`: neither `L2G2` nor `L2G1`;
 /// - `Truncated`: no byte for the kind, then `BadKind`: none of 1, 2 and 3;
 /// - `Truncated`: fewer than 2 bytes for the sender, then `BadSender`: no number of a replica;
+/// - in `L2G2` `Truncated`: fewer than 8 bytes for the horizon;
 /// - `Truncated`: fewer than 4 bytes for the length, then `BadLength`: not one of the kind. Entries
-///   have 4 to 27,004 bytes (a count, and 27 for each of the most), sums 2048 and a wish 8;
+///   have 4 to 31,004 bytes (a count, and 31 for each of the most; in `L2G1` 4 to 27,004, and 27), digests
+///   2048 and a request 8;
 /// - `Truncated`: fewer bytes follow than the length says, then `BadLength`: more;
 /// - `BadCount`: more entries than [`crate::MAX_ENTRIES`];
 /// - `Memory`: room for the entries was refused. It is taken here, once, only where there are any;
-/// - for each entry `BadLength`: fewer than 6 bytes for the page, `BadOrder`: a page not above the
+/// - for each entry `BadLength`: fewer than 10 bytes for the page (6 in `L2G1`), `BadOrder`: a page not above the
 ///   one before, `BadLength`: no byte for the tag, `BadTag`: neither 1 nor 2, `BadLength`: fewer
 ///   than 10 or 20 bytes for the stamps, `BadStamp`: no number of a replica, or a second stamp that
 ///   isn't older;

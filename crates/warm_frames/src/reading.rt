@@ -260,7 +260,8 @@ fn entries_at<'a>(
 ) -> Result<&'a [u8], FrameFault>
     requires empty { entries.old.items ≡ [] }
     requires room { count ≤ vec_capacity entries.old }
-    ensures { Reads (λ rest. (entries.new.items, rest.now)) result (entries_from format count bytes.now) }
+    ensures { Reads (λ rest. (entries.new.items, rest.now)) result
+        (entries_from format count bytes.now) }
 {
     let mut before = None;
     let mut rest = bytes;

@@ -108,7 +108,8 @@ pub(crate) fn entries_text(
     horizon: u64,
     entries: &EntryList,
 ) -> Result<Vec<u8>, AllocError>
-    ensures { IfOk result (λ text. SpellsIn Wide text.items (frames.Entries sender horizon entries.now)) }
+    ensures { IfOk result (λ text. SpellsIn Wide text.items
+        (frames.Entries sender horizon entries.now)) }
 {
     let entries = entries.as_slice();
     let mut text = header(alloc, 1, sender, horizon, 4 + entries_len(entries))?;
@@ -125,7 +126,8 @@ pub(crate) fn digest_text(
     horizon: u64,
     sums: &SumTable,
 ) -> Result<Vec<u8>, AllocError>
-    ensures { IfOk result (λ text. SpellsIn Wide text.items (frames.Digest sender horizon sums.now)) }
+    ensures { IfOk result (λ text. SpellsIn Wide text.items
+        (frames.Digest sender horizon sums.now)) }
 {
     let mut text = header(alloc, 2, sender, horizon, TABLE_SIZE as u32)?;
     text.extend_from_slice(sums.as_bytes())?;

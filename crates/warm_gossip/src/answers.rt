@@ -39,7 +39,8 @@ fn push_frames(
     entries: &[Entry],
 ) -> Result<(), AllocError>
     requires { PagesRise entries.now }
-    ensures { OnOk result (frames.new.items ≡ frames.old.items ++ entry_frames id horizon entries.now) }
+    ensures { OnOk result (frames.new.items
+        ≡ frames.old.items ++ entry_frames id horizon entries.now) }
 {
     let mut rest = entries;
     while !rest.is_empty() {
@@ -89,7 +90,8 @@ pub(crate) fn wanted_frames(
     horizon: u64,
     mask: u64,
 ) -> Result<Vec<Frame>, AllocError>
-    ensures { IfOk result (λ frames. frames.items ≡ wanted_frames id (raised horizon history.now) mask) }
+    ensures { IfOk result (λ frames. frames.items
+        ≡ wanted_frames id (raised horizon history.now) mask) }
 {
     let kept_from = greater(history, horizon);
     let mut frames = Vec::new(alloc);
@@ -116,7 +118,8 @@ fn answer_given(
     sums: &SumTable,
 ) -> Result<Vec<Frame>, AllocError>
     requires { own.now ≡ sums_since horizon history.now }
-    ensures { IfOk result (λ frames. AnswersSums id (raised horizon history.now) sums.now frames.items) }
+    ensures { IfOk result (λ frames.
+        AnswersSums id (raised horizon history.now) sums.now frames.items) }
 {
     let mask = differing(sums, own);
     if mask == 0 {
@@ -143,7 +146,8 @@ pub(crate) fn answer_to_sums(
     horizon: u64,
     sums: &SumTable,
 ) -> Result<Vec<Frame>, AllocError>
-    ensures answer { IfOk result (λ frames. AnswersSums id (raised horizon history.old) sums.now frames.items) }
+    ensures answer { IfOk result (λ frames.
+        AnswersSums id (raised horizon history.old) sums.now frames.items) }
     ensures same { history.new ≡ history.old }
 {
     let own = history.sums_since(horizon)?;

@@ -47,7 +47,8 @@ impl Model for BucketMaps {
 
     ghost view = { λ b. joined (pairs_of b.maps) };
 
-    ghost invariant = { λ b. (length b.maps ≡ BUCKETS) × AreBuckets 0 (pairs_of b.maps) × AreSmall (pairs_of b.maps) };
+    ghost invariant = { λ b. (length b.maps ≡ BUCKETS)
+        × AreBuckets 0 (pairs_of b.maps) × AreSmall (pairs_of b.maps) };
 }
 
 impl BucketMaps {

@@ -83,7 +83,8 @@ impl History {
     ///
     /// Where the time is past the horizon, all entries are gone over once.
     pub fn raise(&mut self, time: u64)
-        ensures raised { (S : ReferenceSet) → StandsFor self.old S → StandsFor self.new (since time S) }
+        ensures raised { (S : ReferenceSet) → StandsFor self.old S
+            → StandsFor self.new (since time S) }
         ensures exact { self.new ≡ history (since time (refs self.old)) }
     {
         self.horizon = raise(&mut self.maps, self.horizon, time);
@@ -203,7 +204,8 @@ impl History {
     /// The entries are gone over once, and each page is looked up here. `AllocError` comes only where
     /// room for what was known of these pages, or for a new page, was refused, and changes nothing.
     pub fn join_entries(&mut self, horizon: u64, more: &[Entry]) -> Result<(), AllocError>
-        ensures ok { OnOk result (TakesIn self.old (refs (holding_since horizon more.now)) self.new) }
+        ensures ok { OnOk result
+            (TakesIn self.old (refs (holding_since horizon more.now)) self.new) }
         ensures exact { OnOk result (self.new ≡ join self.old (holding_since horizon more.now)) }
         ensures err { OnErr result (self.new ≡ self.old) }
     {

@@ -64,7 +64,8 @@ impl<D: PageDevice> Model for Pool<D> {
 
     ghost view = { λ p. pool_of D.state p.frames (length p.spare.items) p.devices.items };
 
-    ghost invariant = { λ p. IsPool (pool_of D.state p.frames (length p.spare.items) p.devices.items) };
+    ghost invariant = { λ p.
+        IsPool (pool_of D.state p.frames (length p.spare.items) p.devices.items) };
 }
 
 impl<D: PageDevice> Pool<D> {

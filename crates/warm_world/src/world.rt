@@ -96,16 +96,13 @@ impl<D: PageDevice> World<D> {
     /// # Errors
     /// `DevicesDiffer`: there is another number of lists than of replicas. `SizeDiffers`: the pages of a
     /// device have another size than the setup says. `Memory`. All devices are dropped.
-    pub fn new(
-        alloc: Global,
-        setup: Setup,
-        devices: Vec<Vec<D>>,
-    ) -> Result<World<D>, BadWorld>
+    pub fn new(alloc: Global, setup: Setup, devices: Vec<Vec<D>>) -> Result<World<D>, BadWorld>
         requires few { AreFew (listed D.state devices.items) }
         ensures stands { IfOk result (λ world. StandsFor (seen world)
             (opening setup (listed D.state devices.items))) }
         ensures fitting { OnOk result (AreFitting setup (listed D.state devices.items)) }
-        ensures refused { IfErr result (λ why. NewRefused setup (listed D.state devices.items) why) }
+        ensures refused { IfErr result (λ why.
+            NewRefused setup (listed D.state devices.items) why) }
     {
         if devices.len() != setup.replicas() as usize {
             return Err(BadWorld::DevicesDiffer);

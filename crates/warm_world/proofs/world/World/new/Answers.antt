@@ -13,4 +13,3 @@ pub returns-in-Err-clause-refused : goal.returns-in-Err-clause-refused
 returns-in-Err-clause-refused g c =
     let same : length c.args.devices.items ≡ c.args.setup.replicas = omega (arith, c.if-len-replicas.false, c.len.ensures, c.args.devices.ok.0, c.replicas.ensures.value) in
     (counted _ _ _ same, sized_as _ _ _ _ _ c.page_size.ensures.value c.deref.ensures.value (c.are_sized.ensures.0 c.if-not-are_sized.false))
-
