@@ -3,18 +3,24 @@ use refused_rows::{Ended, Met};
 use std::alloc::Global;
 use warm_frames::{BoxedFrame, Decoder, Fed, Frame, FrameFault, decode, encode};
 
-// Sender 1 says that 0:7 has 20@1 and 10@1.
-const TWICE: [u8; 42] = [
+// Sender 1, whose horizon is 12, says that 0:7 has 20@1 and 10@1.
+const WIDE: [u8; 54] = [
+    0x4C, 0x32, 0x47, 0x32, 1, 0, 1, 0, 0, 0, 0, 0, 0, 0, 0x0C, 0, 0, 0, 0x23, 0, 0, 0, 1, 0, 0, 0,
+    0, 0, 0, 0, 0, 0, 7, 2, 0, 0, 0, 0, 0, 0, 0, 0x14, 0, 1, 0, 0, 0, 0, 0, 0, 0, 0x0A, 0, 1,
+];
+
+// The same in the older format, which has no horizon: it is 0.
+const NARROW: [u8; 42] = [
     0x4C, 0x32, 0x47, 0x31, 1, 0, 1, 0, 0, 0, 0x1F, 0, 0, 0, 1, 0, 0, 0, 0, 0, 7, 2, 0, 0, 0, 0, 0,
     0, 0, 0x14, 0, 1, 0, 0, 0, 0, 0, 0, 0, 0x0A, 0, 1,
 ];
 
-fn decoded(met: &mut Met, alloc: Global) -> Result<Frame, Ended> {
-    match decode(alloc, &TWICE) {
+fn decoded(met: &mut Met, alloc: Global, bytes: &[u8]) -> Result<Frame, Ended> {
+    match decode(alloc, bytes) {
         Ok(frame) => Ok(frame),
         Err(fault) => {
             met.refuse(fault == FrameFault::Memory, "the bytes spell a frame")?;
-            match decode(alloc, &TWICE) {
+            match decode(alloc, bytes) {
                 Ok(frame) => Ok(frame),
                 Err(_) => Err(met.broken("decode is refused again")),
             }
@@ -22,7 +28,7 @@ fn decoded(met: &mut Met, alloc: Global) -> Result<Frame, Ended> {
     }
 }
 
-fn spelled(met: &mut Met, alloc: Global, frame: &Frame) -> Result<(), Ended> {
+fn spelled(met: &mut Met, alloc: Global, frame: &Frame, wanted: &[u8]) -> Result<(), Ended> {
     let bytes = match encode(alloc, frame) {
         Ok(bytes) => bytes,
         Err(_) => {
@@ -33,10 +39,7 @@ fn spelled(met: &mut Met, alloc: Global, frame: &Frame) -> Result<(), Ended> {
             bytes
         }
     };
-    met.holds(
-        bytes.as_slice() == TWICE.as_slice(),
-        "a frame has one spelling",
-    )
+    met.holds(bytes.as_slice() == wanted, "a frame is written in one way")
 }
 
 // Feeds a piece, all of which the frame needs. A refusal takes nothing, so that the same piece is fed again.
@@ -57,18 +60,22 @@ fn fed(met: &mut Met, decoder: &mut Decoder, piece: &[u8]) -> Result<Option<Boxe
 
 fn pieces(met: &mut Met, alloc: Global) -> Result<(), Ended> {
     let mut decoder = Decoder::new(alloc);
-    let first = fed(met, &mut decoder, &TWICE[..20])?;
+    let first = fed(met, &mut decoder, &WIDE[..20])?;
     met.holds(first.is_none(), "20 bytes are no frame")?;
-    let second = fed(met, &mut decoder, &TWICE[20..41])?;
-    met.holds(second.is_none(), "41 bytes are no frame")?;
-    let Some(frame) = fed(met, &mut decoder, &TWICE[41..])? else {
-        return Err(met.broken("42 bytes are a frame"));
+    let second = fed(met, &mut decoder, &WIDE[20..53])?;
+    met.holds(second.is_none(), "53 bytes are no frame")?;
+    let Some(frame) = fed(met, &mut decoder, &WIDE[53..])? else {
+        return Err(met.broken("54 bytes are a frame"));
     };
-    spelled(met, alloc, frame.as_frame())
+    spelled(met, alloc, frame.as_frame(), &WIDE)
 }
 
 pub(crate) fn rows(met: &mut Met, alloc: Global) -> Result<(), Ended> {
-    let frame = decoded(met, alloc)?;
-    spelled(met, alloc, &frame)?;
+    let frame = decoded(met, alloc, &WIDE)?;
+    spelled(met, alloc, &frame, &WIDE)?;
+    let older = decoded(met, alloc, &NARROW)?;
+    let mut widened = WIDE;
+    widened[14] = 0;
+    spelled(met, alloc, &older, &widened)?;
     pieces(met, alloc)
 }

@@ -6,43 +6,58 @@ use std::alloc::Global;
 use warm_history::{Entry, History, PageHist};
 use warm_stamps::Bucket;
 
-const PAGES: u32 = 100;
+const PAGES: u64 = 100;
 
-const MORE: u32 = 200;
+const MORE: u64 = 200;
 
-const OLD: u32 = 80;
+const OLD: u64 = 80;
 
 // When the pages were referenced first, and when once more.
 const FIRST: u64 = 10;
 
 const LATER: u64 = 20;
 
+// A horizon that drops the first references, and keeps the later ones.
+const BETWEEN: u64 = 15;
+
 // A history that knows the pages from `first` up to below `end` once.
-pub(crate) fn told(alloc: Global, first: u32, end: u32, time: u64) -> Result<History, Ended> {
+pub(crate) fn told(alloc: Global, first: u64, end: u64, time: u64) -> Result<History, Ended> {
     let mut history = History::new(alloc);
     history.absorb(&references(alloc, first, end, time)?)?;
     Ok(history)
 }
 
-// Whether it is what a history of the 100 pages was. Here and below entries are asked for by number: a loop over all of them at once
-// takes long to prove, since it holds an iterator of each bucket.
-fn is_told(history: &History) -> Result<bool, Ended> {
-    for no in 0..PAGES {
-        let first = reference(no, FIRST)?;
+// Whether it has this horizon, and knows the pages from `first` up to below `end` once, and no other. Here and below entries are asked
+// for by number: a loop over all of them at once takes long to prove, since it holds an iterator of each bucket.
+fn knows(history: &History, horizon: u64, first: u64, end: u64, time: u64) -> Result<bool, Ended> {
+    let mut place = 0usize;
+    for no in first..end {
+        let seen = reference(no, time)?;
         let known = Entry {
-            page: first.page,
-            hist: PageHist::Once(first.stamp),
+            page: seen.page,
+            hist: PageHist::Once(seen.stamp),
         };
-        if history.at(no as usize) != Some(known) {
+        if history.at(place) != Some(known) {
             return Ok(false);
         }
+        place = place.wrapping_add(1);
     }
-    Ok(history.len() == PAGES as usize)
+    Ok(history.horizon() == horizon && history.len() == place)
+}
+
+// Whether it is what a history of the 100 pages was.
+fn is_told(history: &History) -> Result<bool, Ended> {
+    knows(history, 0, 0, PAGES, FIRST)
+}
+
+// Whether it has taken in the others, and forgotten what is older than they are.
+fn has_later_alone(history: &History) -> Result<bool, Ended> {
+    knows(history, BETWEEN, OLD, MORE, LATER)
 }
 
 // Whether it has taken in the others: 200 pages, of which 20 are known twice.
 fn has_more(history: &History) -> bool {
-    let mut twice = 0u32;
+    let mut twice = 0u64;
     for place in 0..history.len() {
         if let Some(entry) = history.at(place) {
             if let PageHist::Twice(_) = entry.hist {
@@ -73,6 +88,18 @@ fn join(met: &mut Met, alloc: Global) -> Result<(), Ended> {
     met.holds(has_more(&history), "join takes the other in")
 }
 
+// The other has a greater horizon, and what is older is forgotten here too.
+fn join_raised(met: &mut Met, alloc: Global) -> Result<(), Ended> {
+    let mut history = told(alloc, 0, PAGES, FIRST)?;
+    let mut other = told(alloc, OLD, MORE, LATER)?;
+    other.raise(BETWEEN);
+    if history.join(&other).is_err() {
+        met.refuse(is_told(&history)?, "a refused join raises nothing")?;
+        met.holds(history.join(&other).is_ok(), "join is refused again")?;
+    }
+    met.holds(has_later_alone(&history)?, "join takes the horizon over")
+}
+
 // The entries of a history, in the order of its pages.
 pub(crate) fn entries_of(alloc: Global, history: &History) -> Result<Vec<Entry>, Ended> {
     let mut entries = Vec::new(alloc);
@@ -87,14 +114,30 @@ pub(crate) fn entries_of(alloc: Global, history: &History) -> Result<Vec<Entry>,
 fn join_entries(met: &mut Met, alloc: Global) -> Result<(), Ended> {
     let mut history = told(alloc, 0, PAGES, FIRST)?;
     let entries = entries_of(alloc, &told(alloc, OLD, MORE, LATER)?)?;
-    if history.join_entries(&entries).is_err() {
+    if history.join_entries(0, &entries).is_err() {
         met.refuse(is_told(&history)?, "a refused join_entries changes nothing")?;
         met.holds(
-            history.join_entries(&entries).is_ok(),
+            history.join_entries(0, &entries).is_ok(),
             "join_entries is refused again",
         )?;
     }
     met.holds(has_more(&history), "join_entries takes the entries in")
+}
+
+fn join_entries_raised(met: &mut Met, alloc: Global) -> Result<(), Ended> {
+    let mut history = told(alloc, 0, PAGES, FIRST)?;
+    let entries = entries_of(alloc, &told(alloc, OLD, MORE, LATER)?)?;
+    if history.join_entries(BETWEEN, &entries).is_err() {
+        met.refuse(is_told(&history)?, "a refused join_entries raises nothing")?;
+        met.holds(
+            history.join_entries(BETWEEN, &entries).is_ok(),
+            "join_entries is refused again",
+        )?;
+    }
+    met.holds(
+        has_later_alone(&history)?,
+        "join_entries takes the horizon over",
+    )
 }
 
 fn copy(met: &mut Met, alloc: Global) -> Result<(), Ended> {
@@ -133,7 +176,9 @@ fn entries(met: &mut Met, alloc: Global) -> Result<(), Ended> {
 pub(crate) fn rows(met: &mut Met, alloc: Global) -> Result<(), Ended> {
     absorb(met, alloc)?;
     join(met, alloc)?;
+    join_raised(met, alloc)?;
     join_entries(met, alloc)?;
+    join_entries_raised(met, alloc)?;
     copy(met, alloc)?;
     entries(met, alloc)
 }

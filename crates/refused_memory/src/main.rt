@@ -13,32 +13,21 @@ mod sizes;
 mod summed;
 mod turns;
 
-use nodes::{list_of, opened};
-use references::replica;
+use nodes::opened;
 use refused_rows::{Ended, Met, report};
 use std::alloc::Global;
 use std::process::ExitCode;
 use std::sync::Wait;
 use std::thread::Threads;
-use warm_devices::MemDevice;
-
-// A device of 8 pages.
-fn device(alloc: Global) -> Result<Box<MemDevice>, Ended> {
-    let Ok(device) = Box::new(alloc, MemDevice::new(alloc, 8, 16)?) else {
-        return Err(Ended::NoRoom);
-    };
-    Ok(device)
-}
 
 fn play_nodes(met: &mut Met, alloc: Global) -> Result<(), Ended> {
-    let (first, second) = (replica(1)?, replica(2)?);
-    let mut node = opened(met, alloc, first, list_of(alloc, device(alloc)?)?)?;
-    let mut other = opened(met, alloc, second, list_of(alloc, device(alloc)?)?)?;
+    let mut node = opened(met, alloc, 1)?;
+    let mut other = opened(met, alloc, 2)?;
     nodes::rows(met, alloc, &mut node, &mut other)
 }
 
 fn play_turns<R: Threads + Wait + Sync>(met: &mut Met, rt: &R, alloc: Global) -> Result<(), Ended> {
-    let node = opened(met, alloc, replica(1)?, list_of(alloc, device(alloc)?)?)?;
+    let node = opened(met, alloc, 1)?;
     turns::rows(met, rt, alloc, node)
 }
 

@@ -1,38 +1,19 @@
-//! A pool over a device that is handed in, and a node over that pool, which is asked for each kind of call.
-ghost use Rattle.std.specs.Prelude.{◌≡◌, IfOk, length};
-
+//! A pool over a device in memory, and a node over that pool, which is asked for each kind of call.
 use crate::references::{reference, references, replica};
 use refused_rows::{Ended, Met};
 use std::alloc::Global;
-use warm_devices::PageDevice;
+use warm_devices::MemDevice;
 use warm_frames::{Frame, SUM_SIZE, SumTable};
-use warm_gossip::{Call, Node, NodeFault, Reply, Shown};
+use warm_gossip::{Call, Node, NodeFault, Reply};
 use warm_history::PageHist;
 use warm_pool::{MAX_DEVICES, Pool, PoolFault, Slot};
-use warm_stamps::{BUCKETS, Bucket, ByteList, PageId, RefList, ReplicaId};
+use warm_stamps::{BUCKETS, Bucket, ByteList, PageId, RefList};
 
-// One device.
-pub(crate) fn list_of(
-    alloc: Global,
-    device: Box<dyn PageDevice + Send>,
-) -> Result<Vec<Box<dyn PageDevice + Send>>, Ended>
-    ensures { IfOk result (λ devices. length devices.items ≡ 1) }
-{
+// A node of two frames over a device of 8 pages. A pool that is refused hands the device back, over which it is asked for once more.
+pub(crate) fn opened(met: &mut Met, alloc: Global, number: u16) -> Result<Node<MemDevice>, Ended> {
+    let id = replica(number)?;
     let mut devices = Vec::with_capacity(alloc, 1)?;
-    devices.push_reserved(device);
-    Ok(devices)
-}
-
-// A node of two frames over the device. A pool that is refused hands the device back, over which it is asked for once more.
-pub(crate) fn opened(
-    met: &mut Met,
-    alloc: Global,
-    id: ReplicaId,
-    devices: Vec<Box<dyn PageDevice + Send>>,
-) -> Result<Node, Ended>
-    requires { length devices.items ≡ 1 }
-    ensures { IfOk result (λ node. ⟦<Node as Shown>⟧.is_fit node) }
-{
+    devices.push_reserved(MemDevice::new(alloc, 8, 16)?);
     let unmade = match Pool::new(alloc, 2, 16, devices) {
         Ok(pool) => return Ok(Node::new(alloc, id, pool)),
         Err(unmade) => unmade,
@@ -62,25 +43,37 @@ fn time_of(hist: PageHist) -> u64 {
     }
 }
 
-// What can be seen of a node without memory: how many pages it knows, a sum over what it knows of them, and the page that leaves next.
-fn face(node: &Node) -> (usize, u64, Option<PageId>)
-    requires { ⟦<Node as Shown>⟧.is_fit node.now }
-{
+// What can be seen of a node without memory: its horizon, how many pages it knows, a sum over what it knows of them, and the page that
+// leaves next.
+#[derive(Clone, Copy, PartialEq, Eq)]
+struct Face {
+    horizon: u64,
+    pages: usize,
+    sum: u64,
+    victim: Option<PageId>,
+}
+
+fn face_of(node: &Node<MemDevice>) -> Face {
     let history = node.history();
     let mut sum = 0u64;
     for place in 0..history.len() {
         if let Some(entry) = history.at(place) {
             sum = sum
                 .wrapping_mul(31)
-                .wrapping_add(u64::from(entry.page.no))
+                .wrapping_add(entry.page.no)
                 .wrapping_mul(31)
                 .wrapping_add(time_of(entry.hist));
         }
     }
-    (history.len(), sum, node.victim())
+    Face {
+        horizon: history.horizon(),
+        pages: history.len(),
+        sum,
+        victim: node.victim(),
+    }
 }
 
-fn page(no: u32) -> PageId {
+fn page(no: u64) -> PageId {
     PageId { dev: 0, no }
 }
 
@@ -90,7 +83,7 @@ const FIRST: Slot = Slot {
     generation: 1,
 };
 
-const CALLS: usize = 14;
+const CALLS: usize = 19;
 
 // A write to the page that is at `FIRST`.
 fn write_call(alloc: Global) -> Result<Call, Ended> {
@@ -103,12 +96,33 @@ fn write_call(alloc: Global) -> Result<Call, Ended> {
     })
 }
 
-// Calls of each kind, one after the other, on a node of replica 1.
+// Sums of which none is that of a bucket, by replica 2 with this horizon.
+fn digest(horizon: u64) -> Result<Frame, Ended> {
+    let sender = replica(2)?;
+    let sums = SumTable::of([[0; SUM_SIZE]; BUCKETS as usize]);
+    Ok(Frame::Digest {
+        sender,
+        horizon,
+        sums,
+    })
+}
+
+// A request for buckets 1 and 2, by replica 2 with this horizon.
+fn request(horizon: u64) -> Result<Frame, Ended> {
+    let sender = replica(2)?;
+    let mask = 6;
+    Ok(Frame::Want {
+        sender,
+        horizon,
+        mask,
+    })
+}
+
+// Calls of each kind, one after the other, on a node of replica 1. The horizons 8, 12 and 21 drop what is known at 5, 10 and 20.
 fn call_at(alloc: Global, place: usize) -> Result<Call, Ended> {
     let Some(bucket) = Bucket::new(1) else {
         return Err(Ended::Broken);
     };
-    let sender = replica(2)?;
     Ok(match place {
         0 => Call::Pin(page(7)),
         1 => Call::Absorb(RefList::of(references(alloc, 0, 6, 10)?)),
@@ -118,36 +132,40 @@ fn call_at(alloc: Global, place: usize) -> Result<Call, Ended> {
             after: None,
         },
         4 => Call::Offer,
-        5 => Call::Receive(Frame::Digest {
-            sender,
-            sums: SumTable::of([[0; SUM_SIZE]; BUCKETS as usize]),
-        }),
-        6 => Call::Receive(Frame::Want { sender, mask: 6 }),
+        5 => Call::Receive(digest(0)?),
+        6 => Call::Receive(request(0)?),
         7 => Call::WarmList(2),
         8 => Call::WarmStep,
-        9 => Call::Read {
+        9 => Call::Receive(digest(8)?),
+        10 => Call::Horizon(12),
+        11 => Call::Offer,
+        12 => Call::Absorb(RefList::of(references(alloc, 32, 70, 30)?)),
+        13 => Call::Receive(request(21)?),
+        14 => Call::Read {
             slot: FIRST,
             at: 0,
             len: 4,
         },
-        10 => write_call(alloc)?,
-        11 => Call::Unpin(FIRST),
-        12 => Call::Victim,
+        15 => write_call(alloc)?,
+        16 => Call::Unpin(FIRST),
+        17 => Call::Victim,
         _ => Call::Restart,
     })
 }
 
 // Whether this call is documented to take no memory.
 fn is_free(place: usize) -> bool {
-    place == 0 || place >= 10
+    place == 0 || place == 10 || place >= 15
 }
 
 // Asks a node for a call. A refusal changes nothing, and the same call is then asked for once more.
-fn ask(met: &mut Met, alloc: Global, node: &mut Node, place: usize) -> Result<(), Ended>
-    requires { ⟦<Node as Shown>⟧.is_fit node.old }
-    ensures { ⟦<Node as Shown>⟧.is_fit node.new }
-{
-    let before = face(node);
+fn ask(
+    met: &mut Met,
+    alloc: Global,
+    node: &mut Node<MemDevice>,
+    place: usize,
+) -> Result<(), Ended> {
+    let before = face_of(node);
     let Reply::Refused(fault) = node.call(call_at(alloc, place)?) else {
         return Ok(());
     };
@@ -156,7 +174,7 @@ fn ask(met: &mut Met, alloc: Global, node: &mut Node, place: usize) -> Result<()
         fault == NodeFault::Memory,
         "a call is refused otherwise than for memory",
     )?;
-    met.refuse(face(node) == before, "a refused call changes nothing")?;
+    met.refuse(face_of(node) == before, "a refused call changes nothing")?;
     let Reply::Refused(_) = node.call(call_at(alloc, place)?) else {
         return Ok(());
     };
@@ -164,65 +182,91 @@ fn ask(met: &mut Met, alloc: Global, node: &mut Node, place: usize) -> Result<()
 }
 
 // A frame of entries, by another node, comes to this one.
-fn tell(met: &mut Met, node: &mut Node, other: &mut Node) -> Result<(), Ended>
-    requires node { ⟦<Node as Shown>⟧.is_fit node.old }
-    requires other { ⟦<Node as Shown>⟧.is_fit other.old }
-    ensures node { ⟦<Node as Shown>⟧.is_fit node.new }
-    ensures other { ⟦<Node as Shown>⟧.is_fit other.new }
-{
+fn tell(
+    met: &mut Met,
+    node: &mut Node<MemDevice>,
+    other: &mut Node<MemDevice>,
+) -> Result<(), Ended> {
     if other.absorb(&[reference(1, 5)?]).is_err() {
         return Err(Ended::NoRoom);
     }
     let Some(bucket) = Bucket::new(1) else {
         return Err(met.broken("1 is a bucket"));
     };
-    let before = face(node);
+    let before = face_of(node);
     let Ok(frame) = other.send(bucket, None) else {
         return Err(Ended::NoRoom);
     };
     if node.receive(frame).is_ok() {
         return Ok(());
     }
-    met.refuse(face(node) == before, "a refused frame changes nothing")?;
+    met.refuse(face_of(node) == before, "a refused frame changes nothing")?;
     let Ok(frame) = other.send(bucket, None) else {
         return Err(met.broken("a send is refused later"));
     };
     met.holds(node.receive(frame).is_ok(), "a frame is refused again")
 }
 
-// Asks a node for the call of a place, and behind the third has another tell it of a page.
+// Asks what a node would answer to a frame, which changes nothing, whether it is refused or not.
+fn answered(
+    met: &mut Met,
+    node: &mut Node<MemDevice>,
+    frame: &Frame,
+    wanted: usize,
+) -> Result<(), Ended> {
+    let before = face_of(node);
+    let answers = match node.answers(frame) {
+        Ok(answers) => answers,
+        Err(fault) => {
+            let same = fault == NodeFault::Memory && face_of(node) == before;
+            met.refuse(same, "refused answers change nothing")?;
+            let Ok(answers) = node.answers(frame) else {
+                return Err(met.broken("answers are refused again"));
+            };
+            answers
+        }
+    };
+    met.holds(face_of(node) == before, "answers change nothing")?;
+    met.holds(
+        answers.as_slice().len() == wanted,
+        "answers are of what the horizon leaves",
+    )
+}
+
+// At the horizon 12 each bucket has an entry, and at 21 none has.
+fn answer(met: &mut Met, node: &mut Node<MemDevice>) -> Result<(), Ended> {
+    answered(met, node, &digest(12)?, 65)?;
+    answered(met, node, &digest(21)?, 1)?;
+    answered(met, node, &request(12)?, 2)?;
+    answered(met, node, &request(21)?, 0)
+}
+
+// Asks a node for the call of a place. Behind the third another tells it of a page, and it is asked for answers.
 fn ask_at(
     met: &mut Met,
     alloc: Global,
-    node: &mut Node,
-    other: &mut Node,
+    node: &mut Node<MemDevice>,
+    other: &mut Node<MemDevice>,
     place: usize,
-) -> Result<(), Ended>
-    requires node { ⟦<Node as Shown>⟧.is_fit node.old }
-    requires other { ⟦<Node as Shown>⟧.is_fit other.old }
-    ensures node { ⟦<Node as Shown>⟧.is_fit node.new }
-    ensures other { ⟦<Node as Shown>⟧.is_fit other.new }
-{
+) -> Result<(), Ended> {
     ask(met, alloc, node, place)?;
     if place != 2 {
         return Ok(());
     }
     tell(met, node, other)?;
-    Ok(())
+    answer(met, node)
 }
 
 // All calls on one node, one after the other.
 pub(crate) fn rows(
     met: &mut Met,
     alloc: Global,
-    node: &mut Node,
-    other: &mut Node,
-) -> Result<(), Ended>
-    requires node { ⟦<Node as Shown>⟧.is_fit node.old }
-    requires other { ⟦<Node as Shown>⟧.is_fit other.old }
-{
+    node: &mut Node<MemDevice>,
+    other: &mut Node<MemDevice>,
+) -> Result<(), Ended> {
     for place in 0..CALLS {
         ask_at(met, alloc, node, other, place)?;
     }
-    met.holds(node.history().len() == 0, "a restart forgets all")
+    let is_empty = node.history().len() == 0 && node.history().horizon() == 0;
+    met.holds(is_empty, "a restart forgets all")
 }

@@ -11,7 +11,7 @@ pub(crate) fn replica(number: u16) -> Result<ReplicaId, Ended> {
 }
 
 // A reference to page `no` of device 0 by replica 1.
-pub(crate) fn reference(no: u32, time: u64) -> Result<Reference, Ended> {
+pub(crate) fn reference(no: u64, time: u64) -> Result<Reference, Ended> {
     let replica = replica(1)?;
     Ok(Reference {
         page: PageId { dev: 0, no },
@@ -22,8 +22,8 @@ pub(crate) fn reference(no: u32, time: u64) -> Result<Reference, Ended> {
 // References to the pages from `first` up to below `end`.
 pub(crate) fn references(
     alloc: Global,
-    first: u32,
-    end: u32,
+    first: u64,
+    end: u64,
     time: u64,
 ) -> Result<Vec<Reference>, Ended> {
     let mut batch = Vec::new(alloc);

@@ -5,14 +5,15 @@ use refused_rows::{Ended, Met};
 use std::alloc::Global;
 use warm_digest::{SummedHistory, Sums, sums};
 use warm_frames::SumTable;
+use warm_history::History;
 
-fn taken(met: &mut Met, alloc: Global) -> Result<SumTable, Ended> {
-    let history = told(alloc, 0, 9, 10)?;
-    match sums(alloc, &history) {
+fn taken(met: &mut Met, alloc: Global, history: &History) -> Result<SumTable, Ended> {
+    let len = history.len();
+    match sums(alloc, history) {
         Ok(table) => Ok(table),
         Err(_) => {
-            met.refuse(history.len() == 9, "refused sums change nothing")?;
-            match sums(alloc, &history) {
+            met.refuse(history.len() == len, "refused sums change nothing")?;
+            match sums(alloc, history) {
                 Ok(table) => Ok(table),
                 Err(_) => Err(met.broken("sums are refused again")),
             }
@@ -75,13 +76,13 @@ fn absorbed(met: &mut Met, alloc: Global, whole: &SumTable) -> Result<(), Ended>
 fn joined(met: &mut Met, alloc: Global, whole: &SumTable) -> Result<(), Ended> {
     let mut history = SummedHistory::new(alloc);
     let entries = entries_of(alloc, &told(alloc, 0, 9, 10)?)?;
-    if history.join_entries(&entries).is_err() {
+    if history.join_entries(0, &entries).is_err() {
         met.refuse(
             history.history().len() == 0,
             "a refused join changes nothing",
         )?;
         met.holds(
-            history.join_entries(&entries).is_ok(),
+            history.join_entries(0, &entries).is_ok(),
             "a kept join is refused again",
         )?;
     }
@@ -89,9 +90,69 @@ fn joined(met: &mut Met, alloc: Global, whole: &SumTable) -> Result<(), Ended> {
     met.holds(now == *whole, "joined sums are those of the history")
 }
 
+// A history of nine pages at 10, which keeps its sums.
+fn first_known(alloc: Global) -> Result<SummedHistory, Ended> {
+    let mut history = SummedHistory::new(alloc);
+    history.absorb(&references(alloc, 0, 9, 10)?)?;
+    Ok(history)
+}
+
+// Entries at 20 come with the horizon 15, and what was known before is forgotten.
+fn joined_later(met: &mut Met, alloc: Global, later: &SumTable) -> Result<(), Ended> {
+    let mut history = first_known(alloc)?;
+    let before = kept(met, &mut history)?;
+    let entries = entries_of(alloc, &told(alloc, 4, 12, 20)?)?;
+    if history.join_entries(15, &entries).is_err() {
+        let horizon = history.horizon();
+        let now = kept(met, &mut history)?;
+        let same = horizon == 0 && now == before;
+        met.refuse(same, "a refused join raises nothing")?;
+        met.holds(
+            history.join_entries(15, &entries).is_ok(),
+            "a join at a horizon is refused again",
+        )?;
+    }
+    let now = kept(met, &mut history)?;
+    met.holds(
+        history.horizon() == 15 && now == *later,
+        "the sums are of what the horizon leaves",
+    )
+}
+
+// The sums at the horizon 15, which change nothing.
+fn kept_since(met: &mut Met, history: &mut SummedHistory) -> Result<SumTable, Ended> {
+    let len = history.history().len();
+    match history.sums_since(15) {
+        Ok(table) => Ok(table),
+        Err(_) => {
+            let same = history.horizon() == 0 && history.history().len() == len;
+            met.refuse(same, "refused sums at a horizon raise nothing")?;
+            match history.sums_since(15) {
+                Ok(table) => Ok(table),
+                Err(_) => Err(met.broken("sums at a horizon are refused again")),
+            }
+        }
+    }
+}
+
+// Sums at a horizon, and those after a raise to it.
+fn raised(met: &mut Met, alloc: Global, later: &SumTable) -> Result<(), Ended> {
+    let mut history = first_known(alloc)?;
+    history.absorb(&references(alloc, 4, 12, 20)?)?;
+    let then = kept_since(met, &mut history)?;
+    met.holds(then == *later, "the sums are those at the horizon")?;
+    let _before = kept(met, &mut history)?;
+    history.raise(15);
+    let now = kept(met, &mut history)?;
+    met.holds(now == *later, "the sums are those after the raise")
+}
+
 pub(crate) fn rows(met: &mut Met, alloc: Global) -> Result<(), Ended> {
-    let whole = taken(met, alloc)?;
+    let whole = taken(met, alloc, &told(alloc, 0, 9, 10)?)?;
     renewed(met, alloc, &whole)?;
     absorbed(met, alloc, &whole)?;
-    joined(met, alloc, &whole)
+    joined(met, alloc, &whole)?;
+    let later = taken(met, alloc, &told(alloc, 4, 12, 20)?)?;
+    joined_later(met, alloc, &later)?;
+    raised(met, alloc, &later)
 }

@@ -1,4 +1,4 @@
-//! A machine that is shared by turns, a worker of it, jobs in threads of their own, and mail.
+//! A node that is shared by turns, a worker of it, jobs in threads of their own, and mail.
 ghost use Rattle.std.specs.Prelude.{◌≡◌, IfOk};
 
 use crate::references::reference;
@@ -6,42 +6,44 @@ use refused_rows::{Ended, Met};
 use std::alloc::Global;
 use std::sync::Wait;
 use std::thread::Threads;
+use warm_devices::MemDevice;
 use warm_frames::{Frame, SUM_SIZE, SumTable, encode};
-use warm_gossip::{Call, NodeFault, Reply};
+use warm_gossip::{Call, Node, NodeFault, Reply};
 use warm_refbuffer::RefBuffer;
 use warm_replica::{
-    Absorbing, BoxedCall, FlushFault, Gate, Job, MAX_JOBS, Mail, MemPost, Post, Replies, RunFault,
+    BoxedCall, FlushFault, Gate, Job, MAX_JOBS, Mail, MemPost, Post, Replica, Replies, RunFault,
     Step, StepReply, Worker, mail_loop, run_workers,
 };
 use warm_stamps::{BUCKETS, ByteList, PageId, ReplicaId};
-use warm_turn::{Machine, Memory, Pass, Turn};
+use warm_turn::{Memory, Pass, Turn};
 
-// A turn over the machine. Where it is refused the machine comes back, and is shared at the second try.
-fn shared<M: Machine>(met: &mut Met, alloc: Global, machine: M) -> Result<(Turn<M>, Pass<M>), Ended>
-where
-    M: Drop,
-    requires { M.is_fit machine }
+// A turn over the node. Where it is refused the node comes back, and is shared at the second try.
+fn shared(
+    met: &mut Met,
+    alloc: Global,
+    node: Node<MemDevice>,
+) -> Result<(Replica<MemDevice>, Pass<Node<MemDevice>>), Ended>
     ensures { IfOk result (λ made. made.1.table ≡ made.0.table) }
 {
-    let machine = match Turn::new(alloc, machine) {
+    let node = match Turn::new(alloc, node) {
         Ok(made) => return Ok(made),
         Err(Memory { machine }) => machine,
     };
     met.refuse(true, "")?;
-    match Turn::new(alloc, machine) {
+    match Turn::new(alloc, node) {
         Ok(made) => Ok(made),
         Err(_) => Err(met.broken("a turn is refused again")),
     }
 }
 
 // Fills a worker's buffer of two, and flushes it. A refused flush keeps the two, and the next is taken.
-fn flush<M: Absorbing + Drop, R: Wait>(
+fn flush<R: Wait>(
     met: &mut Met,
     rt: &R,
     alloc: Global,
-    replica: &Turn<M>,
-    mut worker: Worker<M>,
-) -> Result<Worker<M>, Ended>
+    replica: &Replica<MemDevice>,
+    mut worker: Worker<Node<MemDevice>>,
+) -> Result<Worker<Node<MemDevice>>, Ended>
     requires { worker.pass.table ≡ replica.now.table }
     ensures { IfOk result (λ w. w.pass.table ≡ replica.now.table) }
 {
@@ -66,11 +68,11 @@ fn flush<M: Absorbing + Drop, R: Wait>(
 }
 
 // Asks by a worker for the hottest page, which is that of its flush.
-fn list<M: Absorbing, R: Wait>(
+fn list<R: Wait>(
     met: &mut Met,
     rt: &R,
-    replica: &Turn<M>,
-    worker: &mut Worker<M>,
+    replica: &Replica<MemDevice>,
+    worker: &mut Worker<Node<MemDevice>>,
 ) -> Result<(), Ended>
     requires { worker.old.pass.table ≡ replica.now.table }
     ensures { worker.new.pass.table ≡ replica.now.table }
@@ -103,7 +105,7 @@ impl Gate for Open {
 // Two jobs: a touch, a flush and a list.
 fn jobs(alloc: Global) -> Result<Vec<Job>, Ended> {
     let mut all = Vec::new(alloc);
-    for no in 2..4u32 {
+    for no in 2..4u64 {
         let mut steps = Vec::with_capacity(alloc, 3)?;
         steps.push_reserved(Step::Touch(reference(no, 30)?));
         steps.push_reserved(Step::Flush);
@@ -117,11 +119,11 @@ fn jobs(alloc: Global) -> Result<Vec<Job>, Ended> {
 }
 
 // The replies of the jobs, each in a thread of its own.
-fn replies_to<M: Absorbing + Send, R: Threads + Wait + Sync>(
+fn replies_to<R: Threads + Wait + Sync>(
     rt: &R,
     alloc: Global,
-    replica: &Turn<M>,
-    pass: &mut Pass<M>,
+    replica: &Replica<MemDevice>,
+    pass: &mut Pass<Node<MemDevice>>,
 ) -> Result<Result<Vec<Replies>, RunFault>, Ended>
     requires { pass.old.table ≡ replica.now.table }
     ensures { pass.new.table ≡ replica.now.table }
@@ -168,12 +170,12 @@ fn refused_in(met: &mut Met, alloc: Global, replies: Vec<Replies>) -> Result<usi
 }
 
 // Runs the jobs; where one is refused, or a thread is not to be had, once more.
-fn run<M: Absorbing + Send, R: Threads + Wait + Sync>(
+fn run<R: Threads + Wait + Sync>(
     met: &mut Met,
     rt: &R,
     alloc: Global,
-    replica: &Turn<M>,
-    pass: &mut Pass<M>,
+    replica: &Replica<MemDevice>,
+    pass: &mut Pass<Node<MemDevice>>,
 ) -> Result<(), Ended>
     requires { pass.old.table ≡ replica.now.table }
     ensures { pass.new.table ≡ replica.now.table }
@@ -197,13 +199,20 @@ fn run<M: Absorbing + Send, R: Threads + Wait + Sync>(
     }
 }
 
-// The sums of a history of which nobody has heard, from replica 9, as mail.
+// The sums of a history of which nobody has heard, from replica 9, as mail. The horizon drops the first of the two references to 0:1.
 fn mail(alloc: Global) -> Result<Vec<Mail>, Ended> {
     let Ok(sender) = ReplicaId::new(9) else {
         return Err(Ended::Broken);
     };
     let sums = SumTable::of([[0; SUM_SIZE]; BUCKETS as usize]);
-    let text = encode(alloc, &Frame::Digest { sender, sums })?;
+    let text = encode(
+        alloc,
+        &Frame::Digest {
+            sender,
+            horizon: 15,
+            sums,
+        },
+    )?;
     let mut items = Vec::with_capacity(alloc, 2)?;
     items.push_reserved(Mail::Bytes(ByteList::of(text)));
     items.push_reserved(Mail::Stop);
@@ -211,12 +220,12 @@ fn mail(alloc: Global) -> Result<Vec<Mail>, Ended> {
 }
 
 // A replica takes mail, and what it answers is kept. What is refused for memory is counted.
-fn listen<M: Absorbing, R: Wait>(
+fn listen<R: Wait>(
     met: &mut Met,
     rt: &R,
     alloc: Global,
-    replica: &Turn<M>,
-    worker: &mut Worker<M>,
+    replica: &Replica<MemDevice>,
+    worker: &mut Worker<Node<MemDevice>>,
 ) -> Result<(), Ended>
     requires { worker.old.pass.table ≡ replica.now.table }
     ensures { worker.new.pass.table ≡ replica.now.table }
@@ -266,19 +275,17 @@ fn posted(met: &mut Met, alloc: Global) -> Result<(), Ended> {
     met.holds(post.given().len() == 1, "the bytes are kept")
 }
 
-pub(crate) fn rows<M: Absorbing + Drop + Send, R: Threads + Wait + Sync>(
+pub(crate) fn rows<R: Threads + Wait + Sync>(
     met: &mut Met,
     rt: &R,
     alloc: Global,
-    machine: M,
-) -> Result<(), Ended>
-    requires { M.is_fit machine }
-{
+    node: Node<MemDevice>,
+) -> Result<(), Ended> {
     posted(met, alloc)?;
     let Ok(buffer) = RefBuffer::new(alloc, 2) else {
         return Err(Ended::NoRoom);
     };
-    let (replica, pass) = shared(met, alloc, machine)?;
+    let (replica, pass) = shared(met, alloc, node)?;
     let mut worker = flush(met, rt, alloc, &replica, Worker::new(pass, buffer))?;
     list(met, rt, &replica, &mut worker)?;
     let (mut pass, buffer) = worker.into_parts();
