@@ -6,6 +6,7 @@ use crate::frames::{
     TWICE, byte_room, changed, decoded, encoded, fault, is_spelled, joined, put, row_holds,
     said_in, spelled_so, spread_sums, stamp, sums_in, twice, wished_in,
 };
+use crate::pieces::fed;
 use std::alloc::Global;
 use std::process::Abort;
 use warm_frames::{Decoder, Frame, FrameFault, SumTable, decode};
@@ -256,8 +257,8 @@ fn narrow_frames_at(rt: &impl Abort, alloc: Global, place: usize) -> usize {
     count
 }
 
-// Of the sender's number 63 other values spell a frame, and so of each replica's in a stamp. Of the later stamp's time, which is 20,
-// each that leaves it above 10 does, and of the earlier one's, which is 10, each that leaves it below 20.
+// How many other values of each byte of the two stamps spell a frame: 63 of a replica's low byte; of the later stamp's time, which
+// is 20, those that leave it above 10; of the earlier one's, which is 10, those that leave it below 20.
 const STAMPS: [usize; 20] = [
     255, 255, 255, 255, 255, 255, 255, 244, 0, 63, 0, 0, 0, 0, 0, 0, 0, 19, 0, 63,
 ];
@@ -342,7 +343,7 @@ fn wide_header(kind: u8, sender: u16, horizon: u64, len: u32) -> [u8; 19] {
 
 // Whether a header without a body is refused so. A decoder refuses it too, but where it only lacks the body.
 fn is_refused(alloc: Global, header: &[u8], want: FrameFault) -> bool {
-    let fed = Decoder::new(alloc).feed(header);
+    let fed = fed(&mut Decoder::new(alloc), header);
     let is_fed_so = match want {
         FrameFault::Truncated => fed.is_ok(),
         _ => fed.err() == Some(want),

@@ -13,7 +13,7 @@ use warm_history::{Entry, PageHist, Two};
 use warm_stamps::{PageId, ReplicaId, Stamp};
 
 // Feeds a piece; where memory is refused, once more.
-fn fed(decoder: &mut Decoder, piece: &[u8]) -> Result<Fed, FrameFault> {
+pub(crate) fn fed(decoder: &mut Decoder, piece: &[u8]) -> Result<Fed, FrameFault> {
     match decoder.feed(piece) {
         Err(FrameFault::Memory) => decoder.feed(piece),
         answer => answer,
