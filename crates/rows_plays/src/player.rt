@@ -16,15 +16,6 @@ fn default_setup() -> Setup {
     Setup::new(3, 2, 64, 4, 16).unwrap()
 }
 
-// A device in memory, of 256 pages of 16 bytes, in a list of its own.
-fn one_in_memory(alloc: Global) -> Result<Vec<MemDevice>, AllocError>
-    ensures { IfOk result (λ list. length list.items ≡ 1) }
-{
-    let mut list = Vec::with_capacity(alloc, 1)?;
-    list.push_reserved(MemDevice::new(alloc, 256, 16)?);
-    Ok(list)
-}
-
 // Adds a list of one device.
 fn add_list<D: PageDevice>(lists: &mut Vec<Vec<D>>, list: Vec<D>) -> Result<(), AllocError>
     requires few { AreFew (listed D.state lists.old.items) }
@@ -35,28 +26,60 @@ fn add_list<D: PageDevice>(lists: &mut Vec<Vec<D>>, list: Vec<D>) -> Result<(), 
     Ok(())
 }
 
-// Such a list for each replica.
-fn in_memory(alloc: Global, replicas: u16) -> Result<Vec<Vec<MemDevice>>, AllocError>
-    ensures { IfOk result (λ lists. AreFew (listed (λ d. d) lists.items)) }
+// A device in a list of its own.
+fn alone<D: PageDevice>(alloc: Global, device: D) -> Result<Vec<D>, AllocError>
+    ensures { IfOk result (λ list. length list.items ≡ 1) }
+{
+    let mut list = Vec::with_capacity(alloc, 1)?;
+    list.push_reserved(device);
+    Ok(list)
+}
+
+// Each device in a list of its own.
+fn each_alone<D: PageDevice>(alloc: Global, devices: Vec<D>) -> Result<Vec<Vec<D>>, AllocError>
+    ensures { IfOk result (λ lists. AreFew (listed D.state lists.items)) }
 {
     let mut lists = Vec::new(alloc);
-    for _replica in 0..replicas {
-        add_list(&mut lists, one_in_memory(alloc)?)?;
+    for device in devices {
+        add_list(&mut lists, alone(alloc, device)?)?;
     }
     Ok(lists)
 }
 
-// Plays over devices in memory.
+// So many devices in memory, of 256 pages of 16 bytes each.
+fn in_memory(alloc: Global, replicas: u16) -> Result<Vec<MemDevice>, AllocError> {
+    let mut devices = Vec::new(alloc);
+    for _replica in 0..replicas {
+        devices.push(MemDevice::new(alloc, 256, 16)?)?;
+    }
+    Ok(devices)
+}
+
+// Plays over a device in memory for each of so many replicas.
+fn ended_over<R: Read, W: Write>(
+    alloc: Global,
+    reader: &mut R,
+    writer: &mut W,
+    setup: Setup,
+    replicas: u16,
+) -> Result<(), PlayFault> {
+    let Ok(devices) = in_memory(alloc, replicas) else {
+        return Err(PlayFault::Memory);
+    };
+    let Ok(lists) = each_alone(alloc, devices) else {
+        return Err(PlayFault::Memory);
+    };
+    play(alloc, reader, writer, setup, lists)
+}
+
+// The same for as many replicas as the setup has.
 fn ended<R: Read, W: Write>(
     alloc: Global,
     reader: &mut R,
     writer: &mut W,
     setup: Setup,
 ) -> Result<(), PlayFault> {
-    let Ok(devices) = in_memory(alloc, setup.replicas()) else {
-        return Err(PlayFault::Memory);
-    };
-    play(alloc, reader, writer, setup, devices)
+    ended_over(alloc, reader, writer, setup, setup.replicas())
 }
 
 // What is printed for a schedule in ample memory.
@@ -317,8 +340,7 @@ fn a_put_of_the_longest_line_is_past_the_page(rt: HostRuntime) {
 fn refuses_devices(rt: &impl Abort, alloc: Global, setup: Setup, replicas: u16) {
     let mut reader: &[u8] = b"show 1\n";
     let mut answers = Vec::new(alloc);
-    let devices = in_memory(alloc, replicas).expect(rt, "devices");
-    let played = play(alloc, &mut reader, &mut answers, setup, devices);
+    let played = ended_over(alloc, &mut reader, &mut answers, setup, replicas);
     assert!(rt; played == Err(PlayFault::BadDevices));
     assert!(rt; answers.is_empty());
 }
@@ -337,13 +359,9 @@ fn devices_of_another_size_are_refused(rt: HostRuntime) {
 }
 
 // For one replica a boxed device of 8 pages of 16 bytes, whose second call fails.
-fn failing(alloc: Global) -> Result<Vec<Vec<Box<dyn PageDevice + Send>>>, AllocError>
-    ensures { IfOk result (λ devices. AreFew (listed state devices.items)) }
-{
-    let mut list: Vec<Box<dyn PageDevice + Send>> = Vec::with_capacity(alloc, 1)?;
-    list.push_reserved(Box::new(alloc, Flaky::new(MemDevice::new(alloc, 8, 16)?, 2))?);
-    let mut devices = Vec::with_capacity(alloc, 1)?;
-    devices.push_reserved(list);
+fn failing(alloc: Global) -> Result<Vec<Box<dyn PageDevice + Send>>, AllocError> {
+    let mut devices: Vec<Box<dyn PageDevice + Send>> = Vec::with_capacity(alloc, 1)?;
+    devices.push_reserved(Box::new(alloc, Flaky::new(MemDevice::new(alloc, 8, 16)?, 2))?);
     Ok(devices)
 }
 
@@ -353,8 +371,9 @@ fn a_refused_end_is_the_last_line(rt: HostRuntime) {
     let mut reader: &[u8] = b"pin 1 0:1\nput 1 0.1 0 AA";
     let mut answers = Vec::new(rt.alloc());
     let setup = Setup::new(1, 1, 1, 1, 16).expect(&rt, "a setup");
-    let devices = failing(rt.alloc()).expect(&rt, "a device");
-    let played = play(rt.alloc(), &mut reader, &mut answers, setup, devices);
+    let device = failing(rt.alloc()).expect(&rt, "a device");
+    let lists = each_alone(rt.alloc(), device).expect(&rt, "a list");
+    let played = play(rt.alloc(), &mut reader, &mut answers, setup, lists);
     assert!(rt; played == Ok(()));
     assert!(rt; answers.as_slice() == b"slot 0.1\nok\nend refused 12 Fault\n".as_slice());
 }

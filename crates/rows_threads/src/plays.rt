@@ -129,9 +129,10 @@ fn the_last_page_reaches_all_replicas(rt: HostRuntime) {
 
 // For each of two replicas a boxed device: one in memory, and one whose first call fails.
 fn both_kinds(rt: &impl Abort, alloc: Global) -> Vec<Vec<Box<dyn PageDevice + Send>>> {
-    let memory = memory_of(rt, alloc, 16);
+    let memory = MemDevice::new(alloc, 8, 16).expect(rt, "room for its pages");
     let steady: Box<dyn PageDevice + Send> = Box::new(alloc, memory).expect(rt, "room for it");
-    let flaky = Flaky::new(memory_of(rt, alloc, 16), 1);
+    let memory = MemDevice::new(alloc, 8, 16).expect(rt, "room for its pages");
+    let flaky = Flaky::new(memory, 1);
     let failing: Box<dyn PageDevice + Send> = Box::new(alloc, flaky).expect(rt, "room for it");
     let mut devices = Vec::with_capacity(alloc, 2).expect(rt, "room for two lists");
     for device in [steady, failing] {
