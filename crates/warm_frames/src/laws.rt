@@ -1,4 +1,4 @@
-//! The laws of spellings and of streams: each frame has one spelling, which says where it ends, and a
+//! The laws of spellings and of streams: a spelling is that of one frame and says where it ends, and a
 //! stream has one reading, however it is cut into pieces.
 ghost use Rattle.warm_frames.specs.Laws.{OneSpelling, NoPrefix, InPieces, FaultInPieces, OneReading, OneFault, PartOrFault, FaultForGood, PartIsShort};
 

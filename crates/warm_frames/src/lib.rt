@@ -1,8 +1,8 @@
 //! Gossip frames: what replicas send each other, as bytes with an exact grammar.
 //!
 //! A [`Frame`] carries entries of a history, the sums of all buckets, or the set of buckets that
-//! are asked for. `specs/Spelling.antt` says which bytes spell a frame: each frame has one spelling,
-//! and no two frames share one. `specs/Reading.antt` says how bytes are read, and which fault is the
+//! are asked for. `specs/Spelling.antt` says which bytes spell a frame: each frame has one spelling
+//! in each format that can hold it, and no two frames share one. `specs/Reading.antt` says how bytes are read, and which fault is the
 //! first. A [`Decoder`] takes frames from a stream that comes in pieces: `specs/Pieces.antt`.
 #![tactic(auto)]
 

@@ -21,8 +21,9 @@ use warm_stamps::{Bucket, PageId, Reference};
 
 /// The two latest stamps of every page that was referenced.
 ///
-/// Contracts see a history as the list of its entries, in rising page order. What it is worth is
-/// said over references: it *stands for* each list of references whose history it is.
+/// Contracts see a history as its horizon and the list of its entries, in rising page order. What it is
+/// worth is said over references: it *stands for* each set of references whose history it is. No stamp is
+/// older than the horizon.
 ///
 /// The entries of a bucket lie together, so what is asked of a bucket costs that bucket alone.
 ///
