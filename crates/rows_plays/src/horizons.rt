@@ -39,14 +39,12 @@ fn horizons_cut_histories(rt: HostRuntime) {
 
 // The distances are 2 and 3, and 0:2 leaves first. Before 45 both pages have one stamp less, and 0:1 was referenced last the longer
 // ago; before 55 nothing is known of it.
-const RANKS: [(&str, &str); 1] = [
-    (
-        "ref 1 1 0:1 40\nref 1 1 0:1 50\nref 1 1 0:2 30\nref 1 1 0:2 60\nflush 1 1\npin 1 0:1\npin 1 0:2\nunpin 1 0.1\nunpin 1 1.1\n\
+const RANKS: [(&str, &str); 1] = [(
+    "ref 1 1 0:1 40\nref 1 1 0:1 50\nref 1 1 0:2 30\nref 1 1 0:2 60\nflush 1 1\npin 1 0:1\npin 1 0:2\nunpin 1 0.1\nunpin 1 1.1\n\
          victim 1\nwarm 1 9\nhorizon 1 45\nvictim 1\nwarm 1 9\nhorizon 1 55\nwarm 1 9\n",
-        "ok\nok\nok\nok\nok\nslot 0.1\nslot 1.1\nok\nok\n\
+    "ok\nok\nok\nok\nok\nslot 0.1\nslot 1.1\nok\nok\n\
          page 0:2\npages 0:1 0:2\nhorizon 45\npage 0:1\npages 0:2 0:1\nhorizon 55\npages 0:2\n",
-    ),
-];
+)];
 
 #[test]
 fn pages_are_ranked_again(rt: HostRuntime) {

@@ -47,15 +47,15 @@ const ENTRIES: [u8; 42] = [
 
 // The same in the wide format, at horizon 12.
 const LATE_ENTRIES: [u8; 54] = [
-    0x4C, 0x32, 0x47, 0x32, 1, 0, 1, 0, 0, 0, 0, 0, 0, 0, 12, 0, 0, 0, 0x23, 0, 0, 0, 1, 0, 0, 0, 0,
-    0, 0, 0, 0, 0, 7, 2, 0, 0, 0, 0, 0, 0, 0, 0x14, 0, 1, 0, 0, 0, 0, 0, 0, 0, 0x0A, 0, 1,
+    0x4C, 0x32, 0x47, 0x32, 1, 0, 1, 0, 0, 0, 0, 0, 0, 0, 12, 0, 0, 0, 0x23, 0, 0, 0, 1, 0, 0, 0,
+    0, 0, 0, 0, 0, 0, 7, 2, 0, 0, 0, 0, 0, 0, 0, 0x14, 0, 1, 0, 0, 0, 0, 0, 0, 0, 0x0A, 0, 1,
 ];
 
 // Replica 1 at this horizon sends one entry: this page of device 0, with one stamp of replica 1 at this time.
 const fn entry_at(horizon: u8, no: u8, time: u8) -> [u8; 44] {
     [
-        0x4C, 0x32, 0x47, 0x32, 1, 0, 1, 0, 0, 0, 0, 0, 0, 0, horizon, 0, 0, 0, 0x19, 0, 0, 0, 1, 0,
-        0, 0, 0, 0, 0, 0, 0, 0, no, 1, 0, 0, 0, 0, 0, 0, 0, time, 0, 1,
+        0x4C, 0x32, 0x47, 0x32, 1, 0, 1, 0, 0, 0, 0, 0, 0, 0, horizon, 0, 0, 0, 0x19, 0, 0, 0, 1,
+        0, 0, 0, 0, 0, 0, 0, 0, 0, no, 1, 0, 0, 0, 0, 0, 0, 0, time, 0, 1,
     ]
 }
 
@@ -69,8 +69,8 @@ const fn nothing_at(horizon: u8) -> [u8; 23] {
 // Replica 1 at this horizon asks for bucket 1.
 const fn wish_at(horizon: u8) -> [u8; 27] {
     [
-        0x4C, 0x32, 0x47, 0x32, 3, 0, 1, 0, 0, 0, 0, 0, 0, 0, horizon, 0, 0, 0, 8, 0, 0, 0, 0, 0, 0,
-        0, 2,
+        0x4C, 0x32, 0x47, 0x32, 3, 0, 1, 0, 0, 0, 0, 0, 0, 0, horizon, 0, 0, 0, 8, 0, 0, 0, 0, 0,
+        0, 0, 2,
     ]
 }
 

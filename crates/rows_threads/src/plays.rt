@@ -139,14 +139,18 @@ fn failing(rt: &impl Abort, alloc: Global) -> Box<Flaky<MemDevice>> {
     Box::new(alloc, Flaky::new(memory, 1)).expect(rt, "room for it")
 }
 
+// A device in a list of its own.
+fn alone<D: PageDevice>(rt: &impl Abort, alloc: Global, device: D) -> Vec<D> {
+    let mut list = Vec::with_capacity(alloc, 1).expect(rt, "room for a device");
+    list.push_reserved(device);
+    list
+}
+
 // Two devices, each in a list of its own.
 fn each_alone<D: PageDevice>(rt: &impl Abort, alloc: Global, first: D, second: D) -> Vec<Vec<D>> {
     let mut lists = Vec::with_capacity(alloc, 2).expect(rt, "room for two lists");
-    for device in [first, second] {
-        let mut list = Vec::with_capacity(alloc, 1).expect(rt, "room for a device");
-        list.push_reserved(device);
-        lists.push(list).expect(rt, "there is room");
-    }
+    lists.push_reserved(alone(rt, alloc, first));
+    lists.push_reserved(alone(rt, alloc, second));
     lists
 }
 
