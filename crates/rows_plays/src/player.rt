@@ -358,21 +358,21 @@ fn devices_of_another_size_are_refused(rt: HostRuntime) {
     refuses_devices(&rt, rt.alloc(), setup, 1);
 }
 
-// For one replica a boxed device of 8 pages of 16 bytes, whose second call fails.
-fn failing(alloc: Global) -> Result<Vec<Box<dyn PageDevice + Send>>, AllocError> {
-    let mut devices: Vec<Box<dyn PageDevice + Send>> = Vec::with_capacity(alloc, 1)?;
-    devices.push_reserved(Box::new(alloc, Flaky::new(MemDevice::new(alloc, 8, 16)?, 2))?);
-    Ok(devices)
+// A device of 8 pages of 16 bytes, whose second call fails.
+fn failing(alloc: Global) -> Result<Flaky<MemDevice>, AllocError> {
+    Ok(Flaky::new(MemDevice::new(alloc, 8, 16)?, 2))
 }
 
-// The device's second call fails: the first reads the page, the second is the write at the end.
+// The boxed device's second call fails: the first reads the page, the second is the write at the end.
 #[test]
 fn a_refused_end_is_the_last_line(rt: HostRuntime) {
     let mut reader: &[u8] = b"pin 1 0:1\nput 1 0.1 0 AA";
     let mut answers = Vec::new(rt.alloc());
     let setup = Setup::new(1, 1, 1, 1, 16).expect(&rt, "a setup");
-    let device = failing(rt.alloc()).expect(&rt, "a device");
-    let lists = each_alone(rt.alloc(), device).expect(&rt, "a list");
+    let flaky = failing(rt.alloc()).expect(&rt, "a device");
+    let device: Box<dyn PageDevice + Send> = Box::new(rt.alloc(), flaky).expect(&rt, "a box");
+    let devices = alone(rt.alloc(), device).expect(&rt, "a list");
+    let lists = each_alone(rt.alloc(), devices).expect(&rt, "a list");
     let played = play(rt.alloc(), &mut reader, &mut answers, setup, lists);
     assert!(rt; played == Ok(()));
     assert!(rt; answers.as_slice() == b"slot 0.1\nok\nend refused 12 Fault\n".as_slice());

@@ -127,20 +127,31 @@ fn the_last_page_reaches_all_replicas(rt: HostRuntime) {
     assert!(rt; is_printed(&got, want));
 }
 
-// For each of two replicas a boxed device: one in memory, and one whose first call fails.
-fn both_kinds(rt: &impl Abort, alloc: Global) -> Vec<Vec<Box<dyn PageDevice + Send>>> {
+// A device of 8 pages in memory.
+fn small(rt: &impl Abort, alloc: Global) -> Box<MemDevice> {
     let memory = MemDevice::new(alloc, 8, 16).expect(rt, "room for its pages");
-    let steady: Box<dyn PageDevice + Send> = Box::new(alloc, memory).expect(rt, "room for it");
+    Box::new(alloc, memory).expect(rt, "room for it")
+}
+
+// One whose first call fails.
+fn failing(rt: &impl Abort, alloc: Global) -> Box<Flaky<MemDevice>> {
     let memory = MemDevice::new(alloc, 8, 16).expect(rt, "room for its pages");
-    let flaky = Flaky::new(memory, 1);
-    let failing: Box<dyn PageDevice + Send> = Box::new(alloc, flaky).expect(rt, "room for it");
-    let mut devices = Vec::with_capacity(alloc, 2).expect(rt, "room for two lists");
-    for device in [steady, failing] {
-        let mut list = Vec::with_capacity(alloc, 1).expect(rt, "room for a device");
-        list.push_reserved(device);
-        devices.push(list).expect(rt, "there is room");
-    }
-    devices
+    Box::new(alloc, Flaky::new(memory, 1)).expect(rt, "room for it")
+}
+
+// A device in a list of its own.
+fn alone<D: PageDevice>(rt: &impl Abort, alloc: Global, device: D) -> Vec<D> {
+    let mut list = Vec::with_capacity(alloc, 1).expect(rt, "room for a device");
+    list.push_reserved(device);
+    list
+}
+
+// Two devices, each in a list of its own.
+fn each_alone<D: PageDevice>(rt: &impl Abort, alloc: Global, first: D, second: D) -> Vec<Vec<D>> {
+    let mut lists = Vec::with_capacity(alloc, 2).expect(rt, "room for two lists");
+    lists.push_reserved(alone(rt, alloc, first));
+    lists.push_reserved(alone(rt, alloc, second));
+    lists
 }
 
 // Devices of different kinds are boxed, and the play is made for the box.
@@ -154,7 +165,9 @@ fn devices_may_be_boxed(rt: HostRuntime) {
     let mut reader: &[u8] = b"ref 1 1 0:1 10\nref 2 1 0:1 30\n";
     let mut shown = Vec::new(rt.alloc());
     let setup = setup_of(&rt, two);
-    let devices = both_kinds(&rt, rt.alloc());
+    let first: Box<dyn PageDevice + Send> = small(&rt, rt.alloc());
+    let second: Box<dyn PageDevice + Send> = failing(&rt, rt.alloc());
+    let devices = each_alone(&rt, rt.alloc(), first, second);
     let ended = play_threads(&rt, rt.alloc(), &mut reader, &mut shown, setup, devices);
     assert!(rt; ended == Ok(()));
     let want = "replica 1\n0:1 last 30@2 prev 10@1\nend 1\n\
