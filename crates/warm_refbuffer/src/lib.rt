@@ -6,7 +6,7 @@
 #![tactic(auto)]
 
 ghost use Rattle.std.specs.Prelude.{◌≡◌, ◌≤◌, ◌<◌, [], length, IsOk, IfOk, IsTrue, ◌↔◌, codes};
-ghost use Rattle.warm_refbuffer.specs.Buffered.{IsCapacity, with_last, code_of, name_of};
+ghost use Rattle.warm_refbuffer.specs.Buffered.{IsCapacity, cleared, with_last, code_of, name_of};
 
 use std::alloc::Global;
 use std::marker::Model;
@@ -162,5 +162,14 @@ impl RefBuffer {
         ensures { self.new ≡ record self.old { refs = [] } }
     {
         self.refs.clear();
+    }
+
+    /// Empties the buffer, keeps its room, and puts this reference in as the first. Any capacity has room for one, so nothing is
+    /// refused. It takes no memory.
+    pub fn start_with(&mut self, reference: Reference)
+        ensures { self.new ≡ with_last (cleared self.old) reference }
+    {
+        self.clear();
+        self.refs.push_reserved(reference);
     }
 }

@@ -1,15 +1,22 @@
 -- Worked rows: what events do to the lists of references, computed.
-use Rattle.std.proofs.Common.{◌≡◌, ℕ, [], ◌∷◌, List, None, refl}
+use Rattle.std.proofs.Common.{◌≡◌, ℕ, [], ◌∷◌, List, Option, None, refl}
 use Rattle.warm_stamps.specs.declared.Reference.{Reference}
 use Rattle.warm_history.specs.declared.hist.Entry.{Entry}
 use Rattle.warm_history.specs.declared.hist.PageHist.TheVariants.{Once, Twice}
 use Rattle.warm_history.specs.ReferenceSets.{these, since}
 use Rattle.warm_history.specs.Histories.{HistoryView, holding, history}
 use Rattle.warm_history.specs.Carried.{carried}
-use Rattle.warm_world.specs.States.{ReplicaState, no_pool, raised, referred, flushed, restarted}
+use Rattle.warm_world.specs.States.{ModelState, ReplicaState, no_pool, raised, referred, flushed, restarted}
 use Rattle.warm_world.specs.States.{References, Mask, Sums}
 use Rattle.warm_world.specs.Answered.{bucket_records, heard}
-use Rattle.warm_world.specs.Next.{stamped}
+use Rattle.warm_world.specs.Next.{Asked, Effect, Refuses, stamped}
+use Rattle.warm_world.specs.declared.event.Event.TheVariants.{Pin, Unpin, Put, Get, Victim, WarmStep, Horizon}
+use Rattle.warm_world.specs.declared.event.Answer.TheVariants.{Done, Pinned, Bytes, Page, Loaded}
+use Rattle.warm_gossip.specs.declared.call.Call.TheVariants as call
+use Rattle.warm_gossip.specs.declared.call.Reply.TheVariants as reply
+use Rattle.warm_gossip.specs.declared.fault.NodeFault.{NodeFault}
+use Rattle.warm_pool.specs.declared.slot.Slot.{Slot}
+use Rattle.warm_stamps.specs.declared.PageId.{PageId}
 
 -- the page 0:1, referenced at a time at a replica
 abbrev at : ℕ → ℕ → Reference
@@ -113,3 +120,36 @@ digests_raise = refl
 request_raises : history (heard (these (at 10 1 ∷ [])) (Mask 2 50 2)) ≡ since_then 50 []
 unfolding history
 request_raises = refl
+
+-- ---- events of a pool: each row of an effect and of a refusal, as the node's step
+
+module _ (old new : ModelState) (i : ℕ) where
+  pin_row : (page : PageId) (slot : Slot) → Effect old (Pin i page) (Pinned slot) new ≡ Asked old i (call.Pin page) (reply.Pinned slot) new
+  pin_row page slot = refl
+
+  unpin_row : (slot : Slot) → Effect old (Unpin i slot) Done new ≡ Asked old i (call.Unpin slot) reply.Done new
+  unpin_row slot = refl
+
+  put_row : (slot : Slot) (first : ℕ) (bytes : List ℕ) → Effect old (Put i slot first bytes) Done new ≡ Asked old i (call.Write slot first bytes) reply.Done new
+  put_row slot first bytes = refl
+
+  get_row : (slot : Slot) (first len : ℕ) (bytes : List ℕ) → Effect old (Get i slot first len) (Bytes bytes) new ≡ Asked old i (call.Read slot first len) (reply.Bytes bytes) new
+  get_row slot first len bytes = refl
+
+  victim_row : (victim : Option PageId) → Effect old (Victim i) (Page victim) new ≡ Asked old i call.Victim (reply.Page victim) new
+  victim_row victim = refl
+
+  warm_step_row : (page : Option PageId) → Effect old (WarmStep i) (Loaded page) new ≡ Asked old i call.WarmStep (reply.Loaded page) new
+  warm_step_row page = refl
+
+  pin_refused : (page : PageId) (why : NodeFault) → Refuses old (Pin i page) why new ≡ Asked old i (call.Pin page) (reply.Refused why) new
+  pin_refused page why = refl
+
+  victim_never_refused : (why : NodeFault) → Refuses old (Victim i) why new → ⊥
+  victim_never_refused why r = r.1
+
+  horizon_never_refused : (time : ℕ) (why : NodeFault) → Refuses old (Horizon i time) why new → ⊥
+  horizon_never_refused time why r = r
+
+  pin_gives_no_page : (page : PageId) (victim : Option PageId) → Effect old (Pin i page) (Page victim) new → ⊥
+  pin_gives_no_page page victim r = r.1

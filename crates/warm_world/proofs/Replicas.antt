@@ -1,11 +1,14 @@
 -- What the buffers of a replica hold.
-use Rattle.std.proofs.Common.{◌≡◌, ℕ, ◌+◌, ◌<◌, ◌≤◌, List, [], ◌∷◌, length, get_or, replicate, zero, suc, refl, sym, ◌∙◌, ap, map, arith}
+use Rattle.std.proofs.Common.{◌≡◌, ℕ, ◌+◌, ◌<◌, ◌≤◌, List, [], ◌∷◌, ◌++◌, Result, Ok, Err, inl, inr, true, false, length, get_or, replicate, zero, suc, refl, subst, sym, ◌∙◌, ap, map, arith}
 use Rattle.std.proofs.Math.ListN.{set}
 use Rattle.std.proofs.lemmas.List.{get_or-map, map-set, length-map}
 use Rattle.warm_stamps.specs.declared.Reference.{Reference}
 use Rattle.warm_refbuffer.specs.Buffered.{Buffered}
 use Rattle.std.proofs.lemmas.List.{get_or-set_same}
+use Rattle.std.proofs.lemmas.Bool.{cases_lt}
 use Rattle.std.proofs.lemmas.Bool.Decides.{nat_tests}
+use Rattle.std.specs.Prelude.{IsOk}
+use Rattle.std.specs.Result.{IfErr, IsErrAnd, is_ok}
 use Rattle.warm_world.specs.States.{ReplicaState, pending, flushed, opened_over, put_last, raised, referred, restarted}
 use Rattle.warm_history.specs.ReferenceSets.{these, since, ◌∪◌}
 use Rattle.warm_history.specs.Histories.{HistoryView, history, holding, refs}
@@ -18,7 +21,8 @@ use Rattle.warm_pool.specs.View.{PoolView, view_of}
 use Rattle.warm_gossip.specs.State.{NodeState, NodeView, node_view, opened}
 use Rattle.warm_world.specs.Sizes.{Sizes}
 use Rattle.warm_world.specs.Seen.{ReplicaSeen}
-use Rattle.warm_refbuffer.specs.Buffered.{cleared}
+use Rattle.warm_refbuffer.specs.declared.Full.{Full}
+use Rattle.warm_refbuffer.specs.Buffered.{cleared, with_last}
 use Rattle.warm_world.specs.Stands.{ReplicaStands, buffered}
 
 pub buffer_at : (room : ℕ) (bs : List Buffered) (ps : List (List Reference)) (w : ℕ) (d : Buffered) → bs ≡ map (buffered room) ps → w < length bs → get_or bs w d ≡ buffered room (get_or ps w [])
@@ -43,6 +47,39 @@ referred_when_full room k x m full = grind (arith, nat_tests)
 
 pub referred_with_room : (room k : ℕ) (x : Reference) (m : ReplicaState) → length (pending m k) < room → referred room k x m ≡ put_last k x m
 referred_with_room room k x m few = grind (arith, nat_tests)
+
+-- a buffer that took a reference had room for it
+pub took_one : (b b' : Buffered) (x : Reference) (result : Result Unit Full) (done : Unit) → result ≡ Ok done
+    → (b.cap ≤ length b.refs → (result ≡ Err (record { 0 = x })) × (b' ≡ b)) → length b.refs < b.cap
+took_one b b' x result done is full = elim (cases_lt (length b.refs) b.cap) [
+  | inl few ↦ few
+  | inr many ↦ let never : is_ok result ≡ false = ap is_ok (full many).0 in let ok : is_ok result ≡ true = ap is_ok is in absurd (cc)
+]
+
+-- and one that gave a reference back was full, and is as it was
+pub gave_back : (b b' : Buffered) (x y : Reference) (result : Result Unit Full) → result ≡ Err (record { 0 = y })
+    → (length b.refs < b.cap → IsOk result × (b' ≡ with_last b x)) → (b.cap ≤ length b.refs → (result ≡ Err (record { 0 = x })) × (b' ≡ b))
+    → (b.cap ≤ length b.refs) × (b' ≡ b) × (y ≡ x)
+gave_back b b' x y result is taken full = elim (cases_lt (length b.refs) b.cap) [
+  | inl few ↦ let ok : is_ok result ≡ true = (taken few).0 in let never : is_ok result ≡ false = ap is_ok is in absurd (cc)
+  | inr many ↦
+      let given : Result Unit Full → Reference = λ r. elim r [ Ok done ↦ y | Err back ↦ back.0 ] in
+      (many, (full many).1, ap given (sym is ∙ (full many).0))
+]
+
+-- what holds at a fault holds where a `?` hands the fault on
+pub handed_on : {T E : Type 0} (r : Result T E) (e : E) (P : E → Type 0) → IsErrAnd r (λ y. y ≡ e) → P e → IfErr r P
+handed_on (Ok x) e P is p = tt
+handed_on (Err y) e P is p = subst P (sym is) p
+
+-- a reference is put last in a buffer
+pub puts : (room place k : ℕ) (old new : ReplicaSeen) (m : ReplicaState) (x : Reference) (b : Buffered) → ReplicaStands room place old m
+    → b ≡ buffered room (pending m k ++ x ∷ []) → (let r : ReplicaSeen = record old { buffers = set old.buffers k b } in new ≡ r) → ReplicaStands room place new (put_last k x m)
+puts room place k old new m x b st is becomes = record {
+  has_room = st.has_room;
+  node_is = ap (λ (r : ReplicaSeen). r.node) becomes ∙ st.node_is;
+  buffers_are = ap (λ (r : ReplicaSeen). r.buffers) becomes ∙ buffer_set room old.buffers m.pending k b (pending m k ++ x ∷ []) st.buffers_are is;
+}
 
 -- nothing waits in a buffer that was flushed
 pub flushed_is_empty : (room k : ℕ) (bs : List Buffered) (m : ReplicaState) → bs ≡ map (buffered room) m.pending → k < length bs → pending (flushed k m) k ≡ []

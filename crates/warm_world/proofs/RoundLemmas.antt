@@ -19,7 +19,7 @@ use Rattle.warm_gossip.proofs.RoundLemmas.{own_sums_unanswered, entries_teach}
 use Rattle.warm_gossip.proofs.RoundLemmas as node_rounds
 use Rattle.warm_world.specs.declared.event.Event.TheVariants.{Offer, Deliver}
 use Rattle.warm_world.specs.declared.event.Answer.{Answer}
-use Rattle.warm_world.specs.declared.event.Answer.TheVariants.{Done, Shown, FrameNo, Took, Pinned, Bytes, Page, Pages, Loaded, Kept, Refused}
+use Rattle.warm_world.specs.declared.event.Answer.TheVariants.{FrameNo, Took, Refused}
 use Rattle.warm_world.specs.Lists.{place}
 use Rattle.warm_world.specs.States.{ModelState, FrameRecord, References, Sums, Mask, ReplicaState, add_records, nobody, replica, reach_of, record_at}
 use Rattle.warm_world.specs.Answered.{AreAnswers, heard}
@@ -56,15 +56,7 @@ record IsDelivery (old : ModelState) (j k : ℕ) (new : ModelState) : Type 0 whe
 delivery : (old : ModelState) (j k : ℕ) (answer : Answer) (new : ModelState) → IsTaken answer → Next old (Deliver j k) answer new → IsDelivery old j k new
 delivery old j k (Took count first) new taken next = record { named = next.0; count = count; first = first; done = next.1 }
 delivery old j k (Refused fault) new taken next = absurd taken
-delivery old j k Done new taken next = absurd next.1
-delivery old j k (Shown h) new taken next = absurd next.1
-delivery old j k (FrameNo n) new taken next = absurd next.1
-delivery old j k (Pinned slot) new taken next = absurd next.1
-delivery old j k (Bytes bytes) new taken next = absurd next.1
-delivery old j k (Page page) new taken next = absurd next.1
-delivery old j k (Pages pages) new taken next = absurd next.1
-delivery old j k (Loaded page) new taken next = absurd next.1
-delivery old j k (Kept horizon) new taken next = absurd next.1
+delivery old j k answer new taken next = absurd next.1
 
 abbrev nth : List FrameRecord → ℕ → FrameRecord
 nth records k = slice_index_or records k (References 0 (these []))
@@ -160,15 +152,7 @@ offer_is m i = ap (λ (horizon : ℕ). Digest i horizon (sums_of (entries_of (kn
 offer_kept : (old : ModelState) (i : ℕ) (answer : Answer) (new : ModelState) → IsTaken answer → Next old (Offer i) answer new → new ≡ add_records old (offer_record old i ∷ [])
 offer_kept old i (FrameNo k) new taken next = next.1.1
 offer_kept old i (Refused fault) new taken next = absurd taken
-offer_kept old i Done new taken next = absurd next.1
-offer_kept old i (Shown h) new taken next = absurd next.1
-offer_kept old i (Took count first) new taken next = absurd next.1
-offer_kept old i (Pinned slot) new taken next = absurd next.1
-offer_kept old i (Bytes bytes) new taken next = absurd next.1
-offer_kept old i (Page page) new taken next = absurd next.1
-offer_kept old i (Pages pages) new taken next = absurd next.1
-offer_kept old i (Loaded page) new taken next = absurd next.1
-offer_kept old i (Kept horizon) new taken next = absurd next.1
+offer_kept old i answer new taken next = absurd next.1
 
 offered_is : (old : ModelState) (i : ℕ) (answers : List Answer) (new : ModelState) → Run old (Offer i ∷ []) answers new → AllByRecursion IsTaken answers → new ≡ add_records old (offer_record old i ∷ [])
 offered_is old i [] new run taken = absurd run

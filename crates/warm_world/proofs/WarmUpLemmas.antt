@@ -16,7 +16,7 @@ use Rattle.warm_gossip.proofs.WarmUpLemmas.{pages_differ}
 use Rattle.warm_gossip.proofs.WarmUpLemmas as node_warm_ups
 use Rattle.warm_world.specs.declared.event.Event.TheVariants.{WarmStep}
 use Rattle.warm_world.specs.declared.event.Answer.{Answer}
-use Rattle.warm_world.specs.declared.event.Answer.TheVariants.{Done, Shown, FrameNo, Took, Pinned, Bytes, Page, Pages, Loaded, Kept, Refused}
+use Rattle.warm_world.specs.declared.event.Answer.TheVariants.{Done, Pinned, Bytes, Page, Pages, Loaded, Refused}
 use Rattle.warm_world.specs.Lists.{place}
 use Rattle.warm_world.specs.States.{ModelState, ReplicaState, nobody, no_pool, node_of, pool_of, reach_of, replica, set_pool}
 use Rattle.warm_world.specs.Seen.{ReplicaSeen, WorldSeen}
@@ -36,15 +36,12 @@ record IsWarmStep (old : ModelState) (i : ℕ) (new : ModelState) : Type 0 where
 warm_step : (old : ModelState) (i : ℕ) (answer : Answer) (new : ModelState) → IsTaken answer → Next old (WarmStep i) answer new → IsWarmStep old i new
 warm_step old i (Loaded page) new taken next = record { named = next.0; loaded = page; asked = next.1 }
 warm_step old i (Refused fault) new taken next = absurd taken
-warm_step old i Done new taken next = absurd next.1
-warm_step old i (Shown h) new taken next = absurd next.1
-warm_step old i (FrameNo n) new taken next = absurd next.1
-warm_step old i (Took count first) new taken next = absurd next.1
-warm_step old i (Pinned slot) new taken next = absurd next.1
-warm_step old i (Bytes bytes) new taken next = absurd next.1
-warm_step old i (Page page) new taken next = absurd next.1
-warm_step old i (Kept horizon) new taken next = absurd next.1
-warm_step old i (Pages pages) new taken next = absurd next.1
+warm_step old i Done new taken next = absurd next.1.1
+warm_step old i (Pinned slot) new taken next = absurd next.1.1
+warm_step old i (Bytes bytes) new taken next = absurd next.1.1
+warm_step old i (Page page) new taken next = absurd next.1.1
+warm_step old i (Pages pages) new taken next = absurd next.1.1
+warm_step old i answer new taken next = absurd next.1
 
 -- it is a step of the replica's node
 node_steps : (old : ModelState) (i : ℕ) (new : ModelState) (w : IsWarmStep old i new) → Step (node_of old i) call.WarmStep (reply.Loaded w.loaded) (node_of new i)

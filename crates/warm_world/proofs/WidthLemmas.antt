@@ -30,17 +30,20 @@ use Rattle.warm_digest.specs.Exchange.{Fits}
 use Rattle.warm_pool.specs.View.{PoolView}
 use Rattle.warm_gossip.specs.Answers.{buckets_in}
 use Rattle.warm_gossip.specs.Pieces.{last_page}
+use Rattle.warm_gossip.specs.declared.call.Call.{Call}
+use Rattle.warm_gossip.specs.declared.call.Reply.{Reply}
+use Rattle.warm_gossip.specs.declared.call.Reply.TheVariants as reply
 use Rattle.warm_gossip.specs.declared.fault.NodeFault.{NodeFault}
 use Rattle.warm_gossip.specs.declared.fault.NodeFault.TheVariants.{Memory}
 use Rattle.warm_world.specs.declared.event.Event.{Event}
-use Rattle.warm_world.specs.declared.event.Event.TheVariants.{Refer, Flush, Send, Offer, Deliver, Pin, Unpin, Put, Get, Victim, Warm, WarmStep, Restart, Horizon, Show}
+use Rattle.warm_world.specs.declared.event.Event.TheVariants.{Refer, Flush, Send, Offer, Deliver, Warm, Restart, Horizon, Show}
 use Rattle.warm_world.specs.declared.event.Answer.{Answer}
-use Rattle.warm_world.specs.declared.event.Answer.TheVariants.{Done, Shown, FrameNo, Took, Pinned, Bytes, Page, Pages, Loaded, Kept, Refused}
-use Rattle.warm_world.specs.declared.event.WorldFault.TheVariants.{Node, NoSuchReplica, NoSuchWorker, NoSuchFrame}
+use Rattle.warm_world.specs.declared.event.Answer.TheVariants.{Done, Shown, FrameNo, Took, Pages, Kept, Refused}
+use Rattle.warm_world.specs.declared.event.WorldFault.TheVariants.{Node}
 use Rattle.warm_world.specs.Lists.{place}
 use Rattle.warm_world.specs.States.{ModelState, ReplicaState, FrameRecord, References, Sums, Mask, nobody, replica, reach_of, set_replica, set_pool, record_at, add_records, pending, flushed, put_last, raised, referred, restarted, opened_over}
 use Rattle.warm_world.specs.Answered.{records_of, bucket_records, wanted_records, AreAnswers, heard, refs_of}
-use Rattle.warm_world.specs.Next.{Next, Delivered, Effect, Refuses, IsNamed, shape, stamped}
+use Rattle.warm_world.specs.Next.{Next, Delivered, Effect, Refuses, Replied, IsNamed, call_of, replica_of, reply_of, shape, stamped}
 use Rattle.warm_world.specs.Widths.{IsReference, AreReferences, EventFits, ReachFits, ReplicaFits, RecordFits, ModelFits, OpeningFits, RunsFit, HistoriesFit}
 
 -- ---- lists
@@ -231,82 +234,42 @@ delivered_fits old j k count first new fits done =
 same_fits : (old new : ModelState) → new ≡ old → ModelFits old → ModelFits new
 same_fits old new is fits = subst ModelFits (sym is) fits
 
+replied_fits : (old : ModelState) (i : ℕ) (asked : Option Call) (replied : Option Reply) (new : ModelState) → ModelFits old → Replied old i asked replied new → ModelFits new
+replied_fits old i (Some asked) (Some replied) new fits r = same_fits _ new r.2 (pool_set old i r.0 fits)
+replied_fits old i asked replied new fits r = absurd r
+
 refused_fits : (old : ModelState) (event : Event) (why : NodeFault) (new : ModelState) → ModelFits old → Refuses old event why new → ModelFits new
-refused_fits old (Pin i page) why new fits r = same_fits _ new r.2 (pool_set old i r.0 fits)
-refused_fits old (Unpin i slot) why new fits r = same_fits _ new r.2 (pool_set old i r.0 fits)
-refused_fits old (Put i slot at bytes) why new fits r = same_fits _ new r.2 (pool_set old i r.0 fits)
-refused_fits old (Get i slot at len) why new fits r = same_fits _ new r.2 (pool_set old i r.0 fits)
-refused_fits old (Victim i) why new fits r = absurd r
-refused_fits old (Horizon i time) why new fits r = absurd r
-refused_fits old (WarmStep i) why new fits r = same_fits _ new r.2 (pool_set old i r.0 fits)
 refused_fits old (Restart i) why new fits r = same_fits _ new r.2 (pool_set old i r.0 fits)
 refused_fits old (Refer i w page time) Memory new fits r = same_fits old new r.1 fits
-refused_fits old (Refer i w page time) _ new fits r = absurd r
 refused_fits old (Flush i w) Memory new fits r = same_fits old new r fits
-refused_fits old (Flush i w) _ new fits r = absurd r
 refused_fits old (Send i bucket after) Memory new fits r = same_fits old new r fits
-refused_fits old (Send i bucket after) _ new fits r = absurd r
 refused_fits old (Offer i) Memory new fits r = same_fits old new r fits
-refused_fits old (Offer i) _ new fits r = absurd r
 refused_fits old (Deliver j k) Memory new fits r = same_fits old new r fits
-refused_fits old (Deliver j k) _ new fits r = absurd r
 refused_fits old (Warm i n) Memory new fits r = same_fits old new r fits
-refused_fits old (Warm i n) _ new fits r = absurd r
 refused_fits old (Show i) Memory new fits r = same_fits old new r fits
-refused_fits old (Show i) _ new fits r = absurd r
+refused_fits old event why new fits r = replied_fits old (replica_of event) (call_of event) (Some (reply.Refused why)) new fits r
 
 effect_fits : (old : ModelState) (event : Event) (answer : Answer) (new : ModelState) → ModelFits old → EventFits event → IsNamed (shape old) event → Effect old event answer new → ModelFits new
 effect_fits old (Refer i w page time) Done new fits own named done =
     let low : i ≤ MAX_REPLICAS = omega (arith, named.replica_there.in_range, fits.few, length-map old.replicas (λ r. length r.pending)) in
     let told_it : IsReference (stamped i page time) = record { page = own.0; stamp = record { time = own.1; replica = (named.replica_there.from_one, low) } } in
     same_fits _ new done (replica_set old (place i) _ fits (referred_fits old.room (place w) (stamped i page time) (replica old (place i)) told_it (replica_fits old (place i) fits)))
-effect_fits old (Refer i w page time) _ new fits own named done = absurd done
 effect_fits old (Flush i w) Done new fits own named done = same_fits _ new done (replica_set old (place i) _ fits (flushed_fits (place w) (replica old (place i)) (replica_fits old (place i) fits)))
-effect_fits old (Flush i w) _ new fits own named done = absurd done
 effect_fits old (Send i bucket after) (FrameNo k) new fits own named done =
     same_fits _ new done.1 (records_added old _ fits (carried_fits (reach_of old i) bucket after (replica_fits old (place i) fits).reached, tt))
-effect_fits old (Send i bucket after) _ new fits own named done = absurd done
 effect_fits old (Offer i) (FrameNo k) new fits own named done = same_fits _ new done.1 (records_added old _ fits (record { horizon = (replica_fits old (place i) fits).reached.horizon; references = tt }, tt))
-effect_fits old (Offer i) _ new fits own named done = absurd done
 effect_fits old (Deliver j k) (Took count first) new fits own named done = delivered_fits old j (place k) count first new fits done
-effect_fits old (Deliver j k) _ new fits own named done = absurd done
-effect_fits old (Pin i page) (Pinned slot) new fits own named done = same_fits _ new done.2 (pool_set old i done.0 fits)
-effect_fits old (Pin i page) _ new fits own named done = absurd done
-effect_fits old (Unpin i slot) Done new fits own named done = same_fits _ new done.2 (pool_set old i done.0 fits)
-effect_fits old (Unpin i slot) _ new fits own named done = absurd done
-effect_fits old (Put i slot at bytes) Done new fits own named done = same_fits _ new done.2 (pool_set old i done.0 fits)
-effect_fits old (Put i slot at bytes) _ new fits own named done = absurd done
-effect_fits old (Get i slot at len) (Bytes bytes) new fits own named done = same_fits _ new done.2 (pool_set old i done.0 fits)
-effect_fits old (Get i slot at len) _ new fits own named done = absurd done
-effect_fits old (Victim i) (Page victim) new fits own named done = same_fits _ new done.2 (pool_set old i done.0 fits)
-effect_fits old (Victim i) _ new fits own named done = absurd done
-effect_fits old (WarmStep i) (Loaded page) new fits own named done = same_fits _ new done.2 (pool_set old i done.0 fits)
-effect_fits old (WarmStep i) _ new fits own named done = absurd done
 effect_fits old (Warm i n) (Pages pages) new fits own named done = same_fits old new done.1 fits
-effect_fits old (Warm i n) _ new fits own named done = absurd done
 effect_fits old (Restart i) Done new fits own named done = same_fits _ new done.2 (replica_set old (place i) _ fits (restarted_fits done.0 (replica old (place i))))
-effect_fits old (Restart i) _ new fits own named done = absurd done
 effect_fits old (Horizon i time) (Kept horizon) new fits own named done =
     same_fits _ new done.1 (replica_set old (place i) _ fits (raised_fits time (replica old (place i)) own (replica_fits old (place i) fits)))
-effect_fits old (Horizon i time) _ new fits own named done = absurd done
 effect_fits old (Show i) (Shown entries) new fits own named done = same_fits old new done.1 fits
-effect_fits old (Show i) _ new fits own named done = absurd done
+effect_fits old event answer new fits own named done = replied_fits old (replica_of event) (call_of event) (reply_of answer) new fits done
 
 step_fits : (old : ModelState) (event : Event) (answer : Answer) (new : ModelState) → ModelFits old → EventFits event → Next old event answer new → ModelFits new
 step_fits old event (Refused (Node why)) new fits own next = refused_fits old event why new fits next.1
-step_fits old event (Refused NoSuchReplica) new fits own next = same_fits old new next.1 fits
-step_fits old event (Refused NoSuchWorker) new fits own next = same_fits old new next.1 fits
-step_fits old event (Refused NoSuchFrame) new fits own next = same_fits old new next.1 fits
-step_fits old event Done new fits own next = effect_fits old event Done new fits own next.0 next.1
-step_fits old event (Shown h) new fits own next = effect_fits old event (Shown h) new fits own next.0 next.1
-step_fits old event (FrameNo n) new fits own next = effect_fits old event (FrameNo n) new fits own next.0 next.1
-step_fits old event (Took count first) new fits own next = effect_fits old event (Took count first) new fits own next.0 next.1
-step_fits old event (Pinned slot) new fits own next = effect_fits old event (Pinned slot) new fits own next.0 next.1
-step_fits old event (Bytes bytes) new fits own next = effect_fits old event (Bytes bytes) new fits own next.0 next.1
-step_fits old event (Page page) new fits own next = effect_fits old event (Page page) new fits own next.0 next.1
-step_fits old event (Pages pages) new fits own next = effect_fits old event (Pages pages) new fits own next.0 next.1
-step_fits old event (Loaded page) new fits own next = effect_fits old event (Loaded page) new fits own next.0 next.1
-step_fits old event (Kept horizon) new fits own next = effect_fits old event (Kept horizon) new fits own next.0 next.1
+step_fits old event (Refused fault) new fits own next = same_fits old new next.1 fits
+step_fits old event answer new fits own next = effect_fits old event answer new fits own next.0 next.1
 
 pub runs_fit : RunsFit
 runs_fit old [] [] new fits all run = same_fits old new run fits

@@ -1,8 +1,7 @@
 -- One replica of a world changes, or nothing does.
-use Rattle.std.proofs.Common.{◌≡◌, ℕ, ◌+◌, ◌<◌, List, length, map, get_or, refl, sym, ◌∙◌, ap, subst, arith}
+use Rattle.std.proofs.Common.{◌≡◌, ℕ, ◌+◌, ◌<◌, List, Option, Some, length, map, get_or, refl, sym, ◌∙◌, ap, subst, arith}
 use Rattle.std.proofs.Math.ListN.{set}
 use Rattle.std.proofs.lemmas.List.{get_or-map, set-get_or, length-map, map-set}
-use Rattle.warm_refbuffer.specs.Buffered.{Buffered}
 use Rattle.warm_history.specs.Histories.{history}
 use Rattle.warm_gossip.specs.declared.call.Call.{Call}
 use Rattle.warm_gossip.specs.declared.call.Reply.{Reply}
@@ -17,10 +16,12 @@ use Rattle.warm_world.specs.declared.event.WorldFault.{WorldFault}
 use Rattle.warm_world.specs.declared.event.WorldFault.TheVariants.{Node, NoSuchReplica, NoSuchWorker, NoSuchFrame}
 use Rattle.warm_world.specs.Lists.{IsNumber, Pairwise, place}
 use Rattle.warm_world.specs.Seen.{ReplicaSeen, WorldSeen}
-use Rattle.warm_world.specs.States.{ModelState, ReplicaState, node_of, nobody, pool_of, replica, set_pool, set_replica}
-use Rattle.warm_world.specs.Next.{Asked, IsMissing, IsNamed, Next, Shape, replica_of, shape}
+use Rattle.warm_world.specs.States.{ModelState, ReplicaState, node_of, nobody, replica, set_replica}
+use Rattle.warm_world.specs.Next.{Asked, IsMissing, IsNamed, Next, Replied, Shape, call_of, replica_of, reply_of, shape}
+use Rattle.warm_world.specs.Replicas.{Replies}
 use Rattle.warm_world.specs.Stands.{ReplicaStands, StandsFor, Stepped, buffered, seen_shape}
-use Rattle.warm_world.proofs.Alone.{IsAlone}
+use Rattle.warm_world.proofs.Alone.{IsAlone, replies_alone}
+use Rattle.warm_world.proofs.Calls.{next_of_reply}
 use Rattle.warm_world.proofs.Pairs.{Pairwise-set, Pairwise-map}
 
 -- ---- as many replicas, workers and frames
@@ -105,15 +106,16 @@ module _ {A : Type 0} (f : A → ReplicaSeen) (xs : List A) (frames : List (List
     stands = replica_stays m k x y st lt is same;
   }
 
-  -- The node answers the call so, and nothing but its pool is changed.
-  pub asked : (m : ModelState) (event : Event) (call : Call) (reply : Reply) (answer : Answer) (x y : A) (n : NodeView)
+  -- The node answers the call so, and nothing but its pool is changed; the buffers are as they were.
+  pub asked : (m : ModelState) (event : Event) (call : Call) (reply : Reply) (answer : Answer) (x y : A)
       → StandsFor (world xs) m → IsNamed (seen_shape (world xs)) event → x ≡ get_or xs (place (replica_of event)) x
-      → f y ≡ record (f x) { node = n } → IsAlone (f x).node n → Step (f x).node call reply n
+      → (f y).buffers ≡ (f x).buffers → IsAlone (f x).node (f y).node → Step (f x).node call reply (f y).node
       → ((new : ModelState) → IsNamed (shape m) event → Asked m (replica_of event) call reply new → Next m event answer new)
       → Stepped m event answer (world (set xs (place (replica_of event)) y))
-  asked m event call reply answer x y n st named is becomes alone step next =
+  asked m event call reply answer x y st named is same alone step next =
       let i = replica_of event in
       let k = place i in
+      let n = (f y).node in
       let lt = place_in event named in
       let here = stands_at m k x st lt is in
       let number : k + 1 ≡ i = omega (arith, named.replica_there.from_one) in
@@ -122,38 +124,26 @@ module _ {A : Type 0} (f : A → ReplicaSeen) (xs : List A) (frames : List (List
       let r : ReplicaState = record (replica m k) { pool = n.pool } in
       let stands : ReplicaStands m.room k (f y) r = record {
         has_room = here.has_room;
-        node_is = ap (λ (s : ReplicaSeen). s.node) becomes ∙ alone ∙ ap (λ (v : NodeView). let u : NodeView = record v { pool = n.pool } in u) here.node_is;
-        buffers_are = ap (λ (s : ReplicaSeen). s.buffers) becomes ∙ here.buffers_are;
+        node_is = alone ∙ ap (λ (v : NodeView). let u : NodeView = record v { pool = n.pool } in u) here.node_is;
+        buffers_are = same ∙ here.buffers_are;
       } in
       changes m event answer k y r st lt stands
       (next (set_replica m k r) (named_too (world xs) m event st named)
       (n.pool, subst (λ v. Step v call reply (record (node_of m i) { pool = n.pool })) was (subst (Step (f x).node call reply) now step), refl))
 
-  -- The node answers the call so, and nothing is changed.
-  pub asked_still : (m : ModelState) (event : Event) (call : Call) (reply : Reply) (answer : Answer) (x : A)
+  asked_if : (m : ModelState) (event : Event) (call : Option Call) (reply : Option Reply) (answer : Answer) (x y : A)
       → StandsFor (world xs) m → IsNamed (seen_shape (world xs)) event → x ≡ get_or xs (place (replica_of event)) x
-      → Step (f x).node call reply (f x).node
-      → ((new : ModelState) → IsNamed (shape m) event → Asked m (replica_of event) call reply new → Next m event answer new)
-      → Stepped m event answer (world xs)
-  asked_still m event call reply answer x st named is step next =
-      let i = replica_of event in
-      let k = place i in
-      let lt = place_in event named in
-      let here = stands_at m k x st lt is in
-      let number : k + 1 ≡ i = omega (arith, named.replica_there.from_one) in
-      let was : (f x).node ≡ node_of m i = here.node_is ∙ ap (λ (j : ℕ). let v : NodeView = record { id = j; history = history (replica m k).reach; pool = (replica m k).pool } in v) number in
-      let same : m ≡ set_pool m i (pool_of m i) = ap (λ (rs : List ReplicaState). let s : ModelState = record m { replicas = rs } in s) (sym (set-get_or m.replicas k nobody)) in
-      record {
-        new = m;
-        next = next m (named_too (world xs) m event st named) (pool_of m i, subst (λ v. Step v call reply v) was step, same);
-        stands = st;
-      }
-
-  -- The node answers the call so, and nothing but its pool is changed; the buffers are as they were.
-  pub asked_as : (m : ModelState) (event : Event) (call : Call) (reply : Reply) (answer : Answer) (x y : A)
-      → StandsFor (world xs) m → IsNamed (seen_shape (world xs)) event → x ≡ get_or xs (place (replica_of event)) x
-      → (f y).buffers ≡ (f x).buffers → IsAlone (f x).node (f y).node → Step (f x).node call reply (f y).node
-      → ((new : ModelState) → IsNamed (shape m) event → Asked m (replica_of event) call reply new → Next m event answer new)
+      → (f y).buffers ≡ (f x).buffers → IsAlone (f x).node (f y).node → Replies (f x).node call reply (f y).node
+      → ((new : ModelState) → IsNamed (shape m) event → Replied m (replica_of event) call reply new → Next m event answer new)
       → Stepped m event answer (world (set xs (place (replica_of event)) y))
-  asked_as m event call reply answer x y st named is same alone step next =
-      asked m event call reply answer x y (f y).node st named is (ap (λ (bs : List Buffered). let r : ReplicaSeen = record { node = (f y).node; buffers = bs } in r) same) alone step next
+  asked_if m event (Some call) (Some reply) answer x y st named is same alone step next = asked m event call reply answer x y st named is same alone step next
+  asked_if m event call reply answer x y st named is same alone step next = absurd step
+
+  -- The node of the replica that the event names replies to the call that the event makes of it.
+  pub asks : (m : ModelState) (event : Event) (i : ℕ) (answer : Answer) (x y : A) → i ≡ replica_of event
+      → StandsFor (world xs) m → IsNamed (seen_shape (world xs)) event → x ≡ get_or xs (place i) x
+      → (f y).buffers ≡ (f x).buffers → Replies (f x).node (call_of event) (reply_of answer) (f y).node
+      → Stepped m event answer (world (set xs (place i) y))
+  asks m event i answer x y number st named is same step =
+      subst (λ j. x ≡ get_or xs (place j) x → Stepped m event answer (world (set xs (place j) y))) (sym number)
+      (λ at. asked_if m event (call_of event) (reply_of answer) answer x y st named at same (replies_alone (f x).node (f y).node event answer step) step (next_of_reply m event answer)) is

@@ -91,15 +91,35 @@ abbrev pub Asked : ModelState → ℕ → Call → Reply → ModelState → Type
 Asked old i call reply new =
     (pool : PoolView) × Step (node_of old i) call reply (record (node_of old i) { pool = pool }) × (new ≡ set_pool old i pool)
 
--- why an event is refused though all that it names is there, and what that leaves: what the node says, or want of memory
+-- the call that an event of a pool makes of the node of its replica; the other events make none
+abbrev pub call_of : Event → Option Call
+call_of (Pin i page) = Some (call.Pin page)
+call_of (Unpin i slot) = Some (call.Unpin slot)
+call_of (Put i slot at bytes) = Some (call.Write slot at bytes)
+call_of (Get i slot at len) = Some (call.Read slot at len)
+call_of (Victim i) = Some call.Victim
+call_of (Warm i n) = Some (call.WarmList n)
+call_of (WarmStep i) = Some call.WarmStep
+call_of event = None
+
+-- the reply of the node that becomes this answer
+abbrev pub reply_of : Answer → Option Reply
+reply_of Done = Some reply.Done
+reply_of (Pinned slot) = Some (reply.Pinned slot)
+reply_of (Bytes bytes) = Some (reply.Bytes bytes)
+reply_of (Page page) = Some (reply.Page page)
+reply_of (Pages pages) = Some (reply.Pages pages)
+reply_of (Loaded page) = Some (reply.Loaded page)
+reply_of (Refused (Node why)) = Some (reply.Refused why)
+reply_of answer = None
+
+-- there is a call and a reply, and the node of the replica i answers the call so
+abbrev pub Replied : ModelState → ℕ → Option Call → Option Reply → ModelState → Type 0
+Replied old i (Some call) (Some reply) new = Asked old i call reply new
+Replied old i call reply new = ⊥
+
+-- why an event is refused though all that it names is there, and what that leaves: want of memory, or what the node says to its call
 abbrev pub Refuses : ModelState → Event → NodeFault → ModelState → Type 0
-Refuses old (Pin i page) why new = Asked old i (call.Pin page) (reply.Refused why) new
-Refuses old (Unpin i slot) why new = Asked old i (call.Unpin slot) (reply.Refused why) new
-Refuses old (Put i slot at bytes) why new = Asked old i (call.Write slot at bytes) (reply.Refused why) new
-Refuses old (Get i slot at len) why new = Asked old i (call.Read slot at len) (reply.Refused why) new
-Refuses old (Victim i) why new = ⊥
-Refuses old (Horizon i time) why new = ⊥
-Refuses old (WarmStep i) why new = Asked old i call.WarmStep (reply.Refused why) new
 Refuses old (Restart i) why new = Asked old i call.Restart (reply.Refused why) new
 Refuses old (Refer i w page time) Memory new = (old.room ≤ length (pending (replica old (place i)) (place w))) × (new ≡ old)
 Refuses old (Flush i w) Memory new = new ≡ old
@@ -108,7 +128,7 @@ Refuses old (Offer i) Memory new = new ≡ old
 Refuses old (Deliver j k) Memory new = new ≡ old
 Refuses old (Warm i n) Memory new = new ≡ old
 Refuses old (Show i) Memory new = new ≡ old
-Refuses old event why new = ⊥
+Refuses old event why new = Replied old (replica_of event) (call_of event) (Some (reply.Refused why)) new
 
 -- when an event is refused so, and what that leaves: what isn't there comes before all else
 abbrev pub IsRefused : ModelState → Event → WorldFault → ModelState → Type 0
@@ -127,7 +147,8 @@ pub record Delivered (old : ModelState) (j : ℕ) (kept : FrameRecord) (count fi
 abbrev pub stamped : ℕ → PageId → ℕ → Reference
 stamped i page time = record { page = page; stamp = record { time = time; replica = i } }
 
--- what an event does where it is not refused
+-- What an event does where it is not refused; an event of a pool does what its call does. The warm-up list is said over all references
+-- that reached the replica.
 abbrev pub Effect : ModelState → Event → Answer → ModelState → Type 0
 Effect old (Refer i w page time) Done new =
     new ≡ set_replica old (place i) (referred old.room (place w) (stamped i page time) (replica old (place i)))
@@ -139,12 +160,6 @@ Effect old (Offer i) (FrameNo k) new =
     (k ≡ length new.records) × (new ≡ add_records old (Sums i (reach_of old i).horizon (sums_of (entries_of (history (reach_of old i)))) ∷ []))
 Effect old (Deliver j k) (Took count first) new =
     Delivered old j (record_at old (place k)) count first new
-Effect old (Pin i page) (Pinned slot) new = Asked old i (call.Pin page) (reply.Pinned slot) new
-Effect old (Unpin i slot) Done new = Asked old i (call.Unpin slot) reply.Done new
-Effect old (Put i slot at bytes) Done new = Asked old i (call.Write slot at bytes) reply.Done new
-Effect old (Get i slot at len) (Bytes bytes) new = Asked old i (call.Read slot at len) (reply.Bytes bytes) new
-Effect old (Victim i) (Page victim) new = Asked old i call.Victim (reply.Page victim) new
-Effect old (WarmStep i) (Loaded page) new = Asked old i call.WarmStep (reply.Loaded page) new
 Effect old (Warm i n) (Pages pages) new =
     (pages ≡ warm (reach_of old i) n) × (new ≡ old)
 Effect old (Restart i) Done new =
@@ -153,7 +168,7 @@ Effect old (Horizon i time) (Kept horizon) new =
     (horizon ≡ (reach_of new i).horizon) × (new ≡ set_replica old (place i) (raised time (replica old (place i))))
 Effect old (Show i) (Shown shown) new =
     (shown ≡ history (reach_of old i)) × (new ≡ old)
-Effect old event answer new = ⊥
+Effect old event answer new = Replied old (replica_of event) (call_of event) (reply_of answer) new
 
 -- From old, the event may be answered so, and lead to new.
 abbrev pub Next : ModelState → Event → Answer → ModelState → Type 0

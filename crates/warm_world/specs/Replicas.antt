@@ -7,10 +7,13 @@ use Rattle.warm_frames.specs.declared.frame.Frame.TheVariants.{Entries, Digest, 
 use Rattle.warm_frames.specs.Spelling.{spelling, Spells}
 use Rattle.warm_pool.specs.View.{PoolView}
 use Rattle.warm_pool.specs.Retiring.{Emptied}
+use Rattle.warm_gossip.specs.declared.call.Call.{Call}
 use Rattle.warm_gossip.specs.declared.call.Call.TheVariants as call
+use Rattle.warm_gossip.specs.declared.call.Reply.{Reply}
 use Rattle.warm_gossip.specs.declared.call.Reply.TheVariants as reply
 use Rattle.warm_gossip.specs.declared.fault.NodeFault.{NodeFault}
 use Rattle.warm_gossip.specs.declared.fault.NodeFault.TheVariants.{Memory}
+use Rattle.warm_gossip.specs.State.{NodeView}
 use Rattle.warm_gossip.specs.Step.{Step}
 use Rattle.warm_world.specs.declared.event.Answer.{Answer}
 use Rattle.warm_world.specs.declared.event.Answer.TheVariants.{FrameNo, Took, Refused}
@@ -24,6 +27,11 @@ Restarts old (Ok done) new =
     (pool : PoolView) × Emptied old.node.pool pool
     × (new ≡ record { node = record old.node { history = holding []; pool = pool }; buffers = map cleared old.buffers })
 Restarts old (Err why) new = Step old.node call.Restart (reply.Refused why) new.node × (new.buffers ≡ old.buffers)
+
+-- there is a call and a reply, and a node answers the call so
+abbrev pub Replies : NodeView → Option Call → Option Reply → NodeView → Type 0
+Replies old (Some call) (Some reply) new = Step old call reply new
+Replies old call reply new = ⊥
 
 -- the horizon to which digests or a request raise a replica; none for entries, which bring theirs along
 abbrev pub raised_to : Frame → Option ℕ

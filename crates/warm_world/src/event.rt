@@ -1,8 +1,13 @@
 //! Events, and how they are answered.
 ghost use Rattle.std.specs.Prelude.{◌≡◌};
 ghost use Rattle.warm_world.specs.Faults.{bad_code_of, bad_name_of, code_of, name_of};
+ghost use Rattle.warm_gossip.specs.declared.fault.NodeFault.TheVariants as node;
+ghost use Rattle.warm_world.specs.declared.event.WorldFault.TheVariants as fault;
+ghost use Rattle.warm_world.specs.declared.event.BadWorld.TheVariants as bad;
 ghost use Rattle.warm_world.specs.Next.{replica_of, worker_of, frame_of};
 
+use std::alloc::AllocError;
+use thiserror::Error;
 use warm_gossip::NodeFault;
 use warm_history::History;
 use warm_pool::Slot;
@@ -82,17 +87,21 @@ pub enum Answer {
 
 /// Why an event was refused. The first that applies is answered: what isn't there before what the node
 /// says.
-#[derive(Clone, Copy, Debug, PartialEq, Eq)]
+#[derive(Clone, Copy, Debug, PartialEq, Eq, Error)]
 pub enum WorldFault {
     /// 1 and 4 to 13: what the replica's node says. `Memory`, which is 1, also where a frame could not be
     /// kept or a history not copied; of Refer only where the buffer is full, and of Pin, Unpin, Put, Victim,
     /// Restart and Horizon never.
+    #[error("{}", .0.name())]
     Node(NodeFault),
     /// 14: no replica has the number.
+    #[error("NoSuchReplica")]
     NoSuchReplica,
     /// 15: the replica has no worker of the number.
+    #[error("NoSuchWorker")]
     NoSuchWorker,
     /// 16: no frame has the number.
+    #[error("NoSuchFrame")]
     NoSuchFrame,
 }
 
@@ -122,14 +131,33 @@ impl WorldFault {
     }
 }
 
+impl From<NodeFault> for WorldFault {
+    ghost from_gives = { λ why e. e ≡ fault.Node why };
+
+    fn from(why: NodeFault) -> WorldFault {
+        WorldFault::Node(why)
+    }
+}
+
+impl From<AllocError> for WorldFault {
+    ghost from_gives = { λ _ e. e ≡ fault.Node node.Memory };
+
+    fn from(_error: AllocError) -> WorldFault {
+        WorldFault::Node(NodeFault::Memory)
+    }
+}
+
 /// Why no world was made.
-#[derive(Clone, Copy, Debug, PartialEq, Eq)]
+#[derive(Clone, Copy, Debug, PartialEq, Eq, Error)]
 pub enum BadWorld {
     /// 1: there was no memory.
+    #[error("Memory")]
     Memory,
     /// 3: the pages of a device have another size than the setup says.
+    #[error("SizeDiffers")]
     SizeDiffers,
     /// 17: there is another number of lists of devices than of replicas.
+    #[error("DevicesDiffer")]
     DevicesDiffer,
 }
 
@@ -154,6 +182,14 @@ impl BadWorld {
             BadWorld::SizeDiffers => "SizeDiffers",
             BadWorld::DevicesDiffer => "DevicesDiffer",
         }
+    }
+}
+
+impl From<AllocError> for BadWorld {
+    ghost from_gives = { λ _ e. e ≡ bad.Memory };
+
+    fn from(_error: AllocError) -> BadWorld {
+        BadWorld::Memory
     }
 }
 

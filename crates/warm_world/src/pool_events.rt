@@ -1,86 +1,50 @@
 //! Events of a replica's pool.
-ghost use Rattle.warm_world.specs.Next.{IsNamed};
-ghost use Rattle.warm_world.specs.Seen.{seen};
-ghost use Rattle.warm_world.specs.Stands.{seen_shape, Steps};
+ghost use Rattle.std.specs.Prelude.{IsSome};
+ghost use Rattle.warm_gossip.specs.State.{node_view};
+ghost use Rattle.warm_world.specs.Next.{call_of, reply_of};
+ghost use Rattle.warm_world.specs.Replicas.{Replies};
 
 use crate::event::{Answer, Event, WorldFault};
-use crate::world::World;
 use warm_devices::PageDevice;
-use warm_pool::Slot;
-use warm_stamps::PageId;
+use warm_gossip::Node;
 
-impl<D: PageDevice> World<D> {
-    pub(crate) fn pin(&mut self, i: u16, page: PageId) -> Answer
-        requires named { IsNamed (seen_shape (seen self.old)) (Event.Pin i page) }
-        ensures { Steps (seen self.old) (Event.Pin i page) result (seen self.new) }
-    {
-        match self.replicas[i as usize - 1].node.pin(page) {
+/// Asks the node the call that the event makes of it, and answers what it replies.
+///
+/// Each call is made by its method, not as a value: a `Call` and a `Reply` have room for a frame's sums, 2 KB, which each function
+/// on the way of a pin would clear. A `Result` of an answer, which has room for a history, would cost as much.
+pub(crate) fn ask<D: PageDevice>(node: &mut Node<D>, event: Event) -> Answer
+    requires calls { IsSome (call_of event) }
+    ensures { Replies (node_view node.old) (call_of event) (reply_of result)
+        (node_view node.new) }
+{
+    match event {
+        Event::Pin(_, page) => match node.pin(page) {
             Ok(slot) => Answer::Pinned(slot),
             Err(why) => Answer::Refused(WorldFault::Node(why)),
-        }
-    }
-
-    pub(crate) fn unpin(&mut self, i: u16, slot: Slot) -> Answer
-        requires named { IsNamed (seen_shape (seen self.old)) (Event.Unpin i slot) }
-        ensures { Steps (seen self.old) (Event.Unpin i slot) result
-            (seen self.new) }
-    {
-        match self.replicas[i as usize - 1].node.unpin(slot) {
+        },
+        Event::Unpin(_, slot) => match node.unpin(slot) {
             Ok(()) => Answer::Done,
             Err(why) => Answer::Refused(WorldFault::Node(why)),
+        },
+        Event::Put(_, slot, at, bytes) => {
+            match node.write(slot, at as usize, bytes.as_slice()) {
+                Ok(()) => Answer::Done,
+                Err(why) => Answer::Refused(WorldFault::Node(why)),
+            }
         }
-    }
-
-    pub(crate) fn put(&mut self, i: u16, slot: Slot, at: u32, bytes: &[u8]) -> Answer
-        requires named { IsNamed (seen_shape (seen self.old))
-            (Event.Put i slot at bytes.now) }
-        ensures { Steps (seen self.old) (Event.Put i slot at bytes.now) result
-            (seen self.new) }
-    {
-        let first = at as usize;
-        match self.replicas[i as usize - 1].node.write(slot, first, bytes) {
-            Ok(()) => Answer::Done,
-            Err(why) => Answer::Refused(WorldFault::Node(why)),
-        }
-    }
-
-    pub(crate) fn get(&self, i: u16, slot: Slot, at: u32, len: u32) -> Answer
-        requires named { IsNamed (seen_shape (seen self.now)) (Event.Get i slot at len) }
-        ensures { Steps (seen self.now) (Event.Get i slot at len) result
-            (seen self.now) }
-    {
-        let first = at as usize;
-        let count = len as usize;
-        match self.replicas[i as usize - 1].node.read(slot, first, count) {
+        Event::Get(_, slot, at, len) => match node.read(slot, at as usize, len as usize) {
             Ok(bytes) => Answer::Bytes(bytes),
             Err(why) => Answer::Refused(WorldFault::Node(why)),
-        }
-    }
-
-    pub(crate) fn victim(&self, i: u16) -> Answer
-        requires named { IsNamed (seen_shape (seen self.now)) (Event.Victim i) }
-        ensures { Steps (seen self.now) (Event.Victim i) result (seen self.now) }
-    {
-        Answer::Page(self.replicas[i as usize - 1].node.victim())
-    }
-
-    pub(crate) fn warm(&self, i: u16, n: u32) -> Answer
-        requires named { IsNamed (seen_shape (seen self.now)) (Event.Warm i n) }
-        ensures { Steps (seen self.now) (Event.Warm i n) result (seen self.now) }
-    {
-        match self.replicas[i as usize - 1].node.warm_list(n as usize) {
+        },
+        Event::Victim(_) => Answer::Page(node.victim()),
+        Event::Warm(_, n) => match node.warm_list(n as usize) {
             Ok(pages) => Answer::Pages(pages),
             Err(why) => Answer::Refused(WorldFault::Node(why)),
-        }
-    }
-
-    pub(crate) fn warm_step(&mut self, i: u16) -> Answer
-        requires named { IsNamed (seen_shape (seen self.old)) (Event.WarmStep i) }
-        ensures { Steps (seen self.old) (Event.WarmStep i) result (seen self.new) }
-    {
-        match self.replicas[i as usize - 1].node.warm_step() {
+        },
+        Event::WarmStep(_) => match node.warm_step() {
             Ok(page) => Answer::Loaded(page),
             Err(why) => Answer::Refused(WorldFault::Node(why)),
-        }
+        },
+        _ => unreachable!(),
     }
 }

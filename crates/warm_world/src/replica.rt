@@ -5,8 +5,7 @@ ghost use Rattle.warm_stamps.specs.declared.Reference.{Reference};
 ghost use Rattle.warm_refbuffer.specs.Buffered.{IsCapacity};
 ghost use Rattle.warm_pool.specs.declared.TheConstants.{MAX_DEVICES};
 ghost use Rattle.warm_gossip.specs.declared.fault.NodeFault.TheVariants.{Memory};
-ghost use Rattle.warm_world.specs.States.{ReplicaState, opened_over, pending};
-ghost use Rattle.warm_world.specs.States.{flushed, put_last, referred};
+ghost use Rattle.warm_world.specs.States.{flushed, opened_over, referred};
 ghost use Rattle.warm_world.specs.Next.{stamped};
 ghost use Rattle.warm_world.specs.Seen.{seen_replica};
 ghost use Rattle.warm_world.specs.Stands.{buffered, ReplicaStands, Becomes, IsFull};
@@ -93,18 +92,6 @@ impl<D: PageDevice> Replica<D> {
         Ok(())
     }
 
-    // Puts a reference into a buffer that has room.
-    fn put(&mut self, worker: usize, reference: Reference)
-        requires there { worker < length self.old.buffers.items }
-        ensures { (room place : ℕ) (m : ReplicaState)
-            → ReplicaStands room place (seen_replica self.old) m
-            → length (pending m worker) < room
-            → ReplicaStands room place (seen_replica self.new)
-            (put_last worker reference m) }
-    {
-        let _ = self.buffers[worker].touch(reference);
-    }
-
     /// A worker references a page: its buffer is flushed first if it is full.
     pub(crate) fn refer(&mut self, worker: usize, page: PageId, time: u64) -> Result<(), NodeFault>
         requires there { worker < length self.old.buffers.items }
@@ -119,13 +106,11 @@ impl<D: PageDevice> Replica<D> {
             time,
             replica: self.node.id(),
         };
-        let reference = Reference { page, stamp };
-        if self.buffers[worker].is_full() {
-            self.flush(worker)?;
-            self.put(worker, reference);
+        let Err(full) = self.buffers[worker].touch(Reference { page, stamp }) else {
             return Ok(());
-        }
-        self.put(worker, reference);
+        };
+        self.flush(worker)?;
+        self.buffers[worker].start_with(full.0);
         Ok(())
     }
 

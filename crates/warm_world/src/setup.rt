@@ -10,6 +10,7 @@ ghost use Rattle.warm_world.specs.Sizes.{IsSetup};
 
 use crate::MAX_WORKERS;
 use std::marker::Model;
+use thiserror::Error;
 use warm_devices::MAX_PAGE_SIZE;
 use warm_rank::MAX_SLOTS;
 use warm_refbuffer::MAX_CAPACITY;
@@ -56,7 +57,8 @@ impl Model for Setup {
 }
 
 /// One of the numbers is outside its limits.
-#[derive(Clone, Copy, Debug, PartialEq, Eq)]
+#[derive(Clone, Copy, Debug, PartialEq, Eq, Error)]
+#[error("BadSetup")]
 pub struct BadSetup;
 
 fn is_within(most: usize, n: usize) -> bool

@@ -11,6 +11,7 @@ ghost use Rattle.warm_world.specs.Seen.{IsAtRest, IsSettledBefore};
 ghost use Rattle.warm_world.specs.Stands.{ReplicaStands, seen_shape, StandsFor, Steps, Runs};
 
 use crate::event::{Answer, BadWorld, Event, WorldFault};
+use crate::pool_events::ask;
 use crate::replica::Replica;
 use crate::setup::Setup;
 use std::alloc::{AllocError, Global};
@@ -110,14 +111,12 @@ impl<D: PageDevice> World<D> {
         if !are_sized(&devices, setup.page_size() as usize) {
             return Err(BadWorld::SizeDiffers);
         }
-        match replicas_over(alloc, setup, devices) {
-            Ok(replicas) => Ok(World {
-                alloc,
-                replicas,
-                frames: Vec::new(alloc),
-            }),
-            Err(_) => Err(BadWorld::Memory),
-        }
+        let replicas = replicas_over(alloc, setup, devices)?;
+        Ok(World {
+            alloc,
+            replicas,
+            frames: Vec::new(alloc),
+        })
     }
 
     // How many replicas there are.
@@ -213,16 +212,13 @@ impl<D: PageDevice> World<D> {
             Event::Send(i, bucket, after) => self.send(i, bucket, after),
             Event::Offer(i) => self.offer(i),
             Event::Deliver(j, k) => self.deliver(j, k),
-            Event::Pin(i, page) => self.pin(i, page),
-            Event::Unpin(i, slot) => self.unpin(i, slot),
-            Event::Put(i, slot, at, bytes) => self.put(i, slot, at, bytes.as_slice()),
-            Event::Get(i, slot, at, len) => self.get(i, slot, at, len),
-            Event::Victim(i) => self.victim(i),
-            Event::Warm(i, n) => self.warm(i, n),
-            Event::WarmStep(i) => self.warm_step(i),
             Event::Restart(i) => self.restart(i),
             Event::Horizon(i, time) => self.horizon(i, time),
             Event::Show(i) => self.show(i),
+            of_pool => {
+                let i = of_pool.replica();
+                ask(&mut self.replicas[i as usize - 1].node, of_pool)
+            }
         }
     }
 
@@ -265,9 +261,7 @@ impl<D: PageDevice> World<D> {
             (seen self.new)) }
     {
         for k in 0..self.replicas.len() {
-            if let Err(why) = self.write_back(k) {
-                return Err(why);
-            }
+            self.write_back(k)?;
         }
         Ok(())
     }

@@ -1,15 +1,15 @@
 use Rattle.std.proofs.Common.{◌-◌, refl, subst}
 use Rattle.warm_pool.specs.Retiring.{Emptied}
 use Rattle.warm_gossip.specs.State.{NodeView}
+use Rattle.warm_gossip.proofs.Told.{refused_keeps}
 use Rattle.warm_gossip.specs.declared.call.Call.TheVariants as call
 use Rattle.warm_gossip.specs.declared.call.Reply.TheVariants as reply
 use Rattle.warm_world.specs.declared.event.Event.TheVariants.{Restart}
 use Rattle.warm_world.specs.declared.event.Answer.TheVariants as answer
 use Rattle.warm_world.specs.declared.event.WorldFault.TheVariants.{Node}
 use Rattle.warm_world.specs.States.{replica, restarted}
-use Rattle.warm_world.proofs.Alone.{refused_alone}
 use Rattle.warm_world.proofs.Replicas.{restarts}
-use Rattle.warm_world.proofs.Worlds.{asked_as, changes, named_too, place_in, stands_at}
+use Rattle.warm_world.proofs.Worlds.{asked, changes, named_too, place_in, stands_at}
 use Rattle.warm_world.proofs.world.World.restart.Goals as goal
 
 pub returns-in-Ok : goal.returns-in-Ok
@@ -25,5 +25,5 @@ returns-in-Ok g c = λ m st.
 
 pub returns-in-Err : goal.returns-in-Err
 returns-in-Err g c = λ m st.
-    asked_as _ _ _ m (Restart c.args.i) call.Restart (reply.Refused c.in-Err.why) (answer.Refused (Node c.in-Err.why)) _ _ st c.requires.named c.index_mut.ensures.value
-    c.in-Err.ensures.1 (refused_alone _ _ call.Restart c.in-Err.why c.in-Err.ensures.0) c.in-Err.ensures.0 (λ new named asks. (named, asks))
+    asked _ _ _ m (Restart c.args.i) call.Restart (reply.Refused c.in-Err.why) (answer.Refused (Node c.in-Err.why)) _ _ st c.requires.named c.index_mut.ensures.value
+    c.in-Err.ensures.1 (refused_keeps _ call.Restart c.in-Err.why _ c.in-Err.ensures.0) c.in-Err.ensures.0 (λ new named asks. (named, asks))
