@@ -59,12 +59,3 @@ fn a_flaky_device_settles_as_it_is_dropped(rt: HostRuntime) {
     assert!(rt; found_as_call_fails(&rt, rt.alloc(), 2) == Found::Waiting);
     assert!(rt; found_as_call_fails(&rt, rt.alloc(), 3) == Found::Settled);
 }
-
-#[test]
-fn a_flush_that_fails_is_counted(rt: HostRuntime) {
-    let (device, _note) = noting(&rt, rt.alloc(), 1, 1);
-    let mut device = Flaky::new(device, 2);
-    assert!(rt; device.write(0, &[5]) == Ok(()));
-    device.settle();
-    assert!(rt; device.waiting() && device.failures() == 1);
-}
