@@ -6,7 +6,7 @@ use std::alloc::Global;
 use std::process::Abort;
 use test_kit::{SeenAt, bucket, entry, history_of, once, page, page_on, seen, twice};
 use warm_history::{Entries, Entry, History, PageHist};
-use warm_stamps::{BUCKETS, PageId, Reference, bucket_of};
+use warm_stamps::{BUCKETS, PageId, Reference};
 
 // The history of references, with this horizon.
 fn history_since(rt: &impl Abort, alloc: Global, horizon: u64, given: &[SeenAt]) -> History {
@@ -238,35 +238,21 @@ fn a_refused_join_keeps_the_horizon(rt: HostRuntime) {
     assert!(rt; are_equal(&here, &there));
 }
 
-// Pages of several devices and buckets, in page order: each with the number of its bucket.
-const SPREAD: [(u16, u64, u8); 12] = [
-    (0, 0, 0),
-    (0, 1, 1),
-    (0, 63, 63),
-    (0, 64, 0),
-    (0, 4_294_967_295, 63),
-    (0, 4_294_967_296, 0),
-    (0, 18_446_744_073_709_551_615, 63),
-    (1, 0, 1),
-    (1, 63, 0),
-    (65_535, 1, 0),
-    (65_535, 4_294_967_295, 62),
-    (65_535, 18_446_744_073_709_551_615, 62),
+// Pages of several devices and buckets, in page order: each referenced at the time of its place in the list.
+const SPREAD: [SeenAt; 12] = [
+    (0, 0, 0, 1),
+    (0, 1, 1, 1),
+    (0, 63, 2, 1),
+    (0, 64, 3, 1),
+    (0, 4_294_967_295, 4, 1),
+    (0, 4_294_967_296, 5, 1),
+    (0, 18_446_744_073_709_551_615, 6, 1),
+    (1, 0, 7, 1),
+    (1, 63, 8, 1),
+    (65_535, 1, 9, 1),
+    (65_535, 4_294_967_295, 10, 1),
+    (65_535, 18_446_744_073_709_551_615, 11, 1),
 ];
-
-// The history of these pages, the last one first, each referenced at the time of its number in the list.
-fn spread(rt: &impl Abort, alloc: Global) -> History {
-    let mut here = History::new(alloc);
-    for time in 0..12usize {
-        let (dev, no, _) = SPREAD[11 - time];
-        absorb_twice(
-            rt,
-            &mut here,
-            &[seen(page_on(dev, no), 11 - time as u64, 1)],
-        );
-    }
-    here
-}
 
 fn gives(entries: &mut Entries<'_>, want: Option<Entry>) -> bool {
     entries.next() == want
@@ -274,17 +260,15 @@ fn gives(entries: &mut Entries<'_>, want: Option<Entry>) -> bool {
 
 #[test]
 fn goes_over_devices_and_buckets_in_page_order(rt: HostRuntime) {
-    let here = spread(&rt, rt.alloc());
+    let here = history_of(rt.alloc(), &SPREAD).expect(&rt, "room for a history");
     assert!(rt; here.len() == 12);
     let mut entries = here.iter();
     for place in 0..12usize {
-        let (dev, no, number) = SPREAD[place];
-        let page = page_on(dev, no);
-        let hist = once(place as u64, 1);
-        assert!(rt; bucket_of(page).get() == number);
-        assert!(rt; is_known(&here, page, hist));
-        assert!(rt; here.at(place) == Some(entry(page, hist)));
-        assert!(rt; gives(&mut entries, Some(entry(page, hist))));
+        let (dev, no, time, number) = SPREAD[place];
+        let known = entry(page_on(dev, no), once(time, number));
+        assert!(rt; is_known(&here, known.page, known.hist));
+        assert!(rt; here.at(place) == Some(known));
+        assert!(rt; gives(&mut entries, Some(known)));
     }
     assert!(rt; here.at(12) == None && gives(&mut entries, None));
     assert!(rt; here.get(page_on(65_535, 0)) == None);
@@ -322,7 +306,7 @@ const LATER: [Row; 8] = [
 
 #[test]
 fn gives_those_after_a_page_of_any_bucket(rt: HostRuntime) {
-    let here = spread(&rt, rt.alloc());
+    let here = history_of(rt.alloc(), &SPREAD).expect(&rt, "room for a history");
     assert!(rt; entries_twice(&rt, &here, 1, None, 9).len() == 2);
     for (number, (dev, no), limit, first, count) in LATER {
         let found = entries_twice(&rt, &here, number, Some(page_on(dev, no)), limit);

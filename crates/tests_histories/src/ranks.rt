@@ -17,7 +17,7 @@ fn leaves_first(history: &History, first: u64, second: u64) -> bool {
     }
 }
 
-// Whether these are the hottest pages of a history, of which so many are asked for.
+// Whether these are the `n` hottest pages of a history.
 fn are_hottest(
     rt: &impl Abort,
     alloc: Global,
@@ -103,7 +103,7 @@ fn contest_has_any_number_of_slots(rt: HostRuntime) {
     }
 }
 
-// The history of the pages from 0 on, so many, each referenced once at the time of its number.
+// The history of this number of pages from 0 on, each referenced once at the time of its number.
 fn long_history(rt: &impl Abort, alloc: Global, pages: u64) -> History {
     let mut batch = Vec::new(alloc);
     for no in 0..pages {

@@ -103,7 +103,7 @@ fn keeps(rt: &impl Abort, summed: &mut SummedHistory, pages: Pages) -> bool {
 }
 
 // The sums of the four pages are kept, however often they are asked for.
-fn told_of_four(rt: &impl Abort, alloc: Global, summed: &mut SummedHistory) {
+fn takes_in_four(rt: &impl Abort, alloc: Global, summed: &mut SummedHistory) {
     summed
         .absorb(&four_pages(rt, alloc))
         .expect(rt, "room for a batch");
@@ -127,7 +127,7 @@ fn follow_the_horizon(rt: &impl Abort, summed: &mut SummedHistory) {
 #[test]
 fn kept_sums_follow_the_horizon(rt: HostRuntime) {
     let mut summed = SummedHistory::new(rt.alloc());
-    told_of_four(&rt, rt.alloc(), &mut summed);
+    takes_in_four(&rt, rt.alloc(), &mut summed);
     follow_the_horizon(&rt, &mut summed);
     summed.clear();
     assert!(rt; summed.history().len() == 0 && summed.horizon() == 0);
@@ -145,9 +145,9 @@ fn differing_buckets_are_set_bits(rt: HostRuntime) {
     assert!(rt; differing(&more, &one_page) == 0x8000_0000_0000_0001);
 }
 
-// A growing call that is refused leaves the sums that were kept, and what is then asked for again is right.
+// A call that is refused for memory leaves the sums that were kept, and the same call is then right.
 #[test]
-fn a_refused_growth_changes_no_sum(rt: HostRuntime) {
+fn a_failed_allocation_changes_no_sum(rt: HostRuntime) {
     let batch = four_pages(&rt, rt.alloc());
     let mut summed = SummedHistory::new(rt.alloc());
     if summed.absorb(&batch).is_err() {

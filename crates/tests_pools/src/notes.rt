@@ -10,7 +10,7 @@ use std::sync::Arc;
 use test_kit::{Found, Hooked, Note};
 use warm_devices::{Flaky, MemDevice, PageDevice};
 
-// A device of so many pages of so many bytes that notes its drop, and the note.
+// A device that notes its drop, and the note.
 fn noting(
     rt: &impl Abort,
     alloc: Global,

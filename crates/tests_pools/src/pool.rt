@@ -2,7 +2,7 @@
 //! of it. Each call stands in a function of its own, which keeps by which history the pool is ranked: so what is proved of a test does
 //! not grow with its rows.
 //!
-//! With `rt try --test --fail-alloc N`, for N from 1 on, each growth is refused in turn: what takes room is then asked for once
+//! With `rt try --test --fail-alloc N`, for N from 1 on, each allocation fails in turn: what takes memory is then asked for once
 //! more, with what the refusal handed back.
 //!
 //! What must not fail ends the process where it does: a `?` would be one more way out, on which the drop of all that is owned
@@ -26,8 +26,8 @@ const fn slot(index: u32, generation: u64) -> Slot {
     Slot { index, generation }
 }
 
-// One growth alone is refused, so the next try has the memory.
-const ONE_REFUSED: &str = "one growth alone is refused";
+// One allocation alone fails, so the next try has the memory.
+const ONE_REFUSED: &str = "one allocation alone fails";
 
 fn pool_of<D: PageDevice>(
     rt: &impl Abort,
@@ -326,7 +326,7 @@ fn runs<D: PageDevice>(rt: &impl Abort, pool: &mut Pool<D>, history: &History, r
     }
 }
 
-// A fresh pool of so many frames over the device lives through the rows, by a history that was told nothing, and is closed.
+// A fresh pool of this number of frames over the device goes through the rows, by an empty history, and is closed.
 fn lives<D: PageDevice>(
     rt: &impl Abort,
     alloc: Global,
@@ -361,69 +361,31 @@ fn unretired<D: PageDevice>(
     }
 }
 
-// Pages that come into four frames are found there, one number on two devices, and one that left is not.
-fn come_in<D: PageDevice>(rt: &impl Abort, pool: &mut Pool<D>, history: &History)
-    requires { RankedBy pool.old history.now }
-    ensures { RankedBy pool.new history.now }
-{
-    let rows = [
-        Row::Loads(1, 7, Said::At(0, 1)),
-        Row::Loads(1, 100, Said::At(1, 1)),
-        Row::Resident(0, 7, false),
-        Row::Loads(0, 7, Said::At(2, 1)),
-        Row::Loads(0, 7, Said::At(2, 1)),
-        Row::Resident(0, 4, false),
-        Row::Loads(0, 4, Said::At(3, 1)),
-        Row::Loads(0, 7, Said::At(2, 1)),
-        Row::Loads(1, 100, Said::At(1, 1)),
-        Row::Loads(1, 7, Said::At(0, 1)),
-        // No frame is free, and 0:4 is the least page.
-        Row::Loads(0, 8, Said::At(3, 2)),
-        Row::Resident(0, 4, false),
-        Row::Loads(0, 8, Said::At(3, 2)),
-        Row::Loads(0, 7, Said::At(2, 1)),
-        Row::Resident(1, 100, true),
-    ];
-    runs(rt, pool, history, &rows)
-}
-
-// The frames of the device that was retired are free, and taken in turn.
-fn stay_and_follow<D: PageDevice>(rt: &impl Abort, pool: &mut Pool<D>, history: &History)
-    requires { RankedBy pool.old history.now }
-    ensures { RankedBy pool.new history.now }
-{
-    let rows = [
-        Row::Resident(1, 7, false),
-        Row::Resident(1, 100, false),
-        Row::Loads(0, 8, Said::At(3, 2)),
-        Row::Loads(0, 7, Said::At(2, 1)),
-        Row::Loads(0, 9, Said::At(0, 2)),
-        Row::Loads(0, 4, Said::At(1, 2)),
-        Row::Loads(0, 9, Said::At(0, 2)),
-        Row::Loads(0, 7, Said::At(2, 1)),
-        Row::Resident(1, 4, false),
-    ];
-    runs(rt, pool, history, &rows)
-}
-
-// Pages of two devices are found where they stand, and then the second device is exchanged for another.
-fn stand_and_leave<D: PageDevice>(rt: &impl Abort, alloc: Global, first: D, second: D, next: D) {
-    let history = History::new(alloc);
-    let devices = both(alloc, first, second).expect(rt, ONE_REFUSED);
-    let mut pool = pool_of(rt, alloc, 4, 16, devices);
-    come_in(rt, &mut pool, &history);
-    exchange(rt, &mut pool, &history, 1, next);
-    stay_and_follow(rt, &mut pool, &history);
-    closes(rt, pool);
-}
-
+// One number on two devices names two pages, and the frames of a device that is exchanged are free.
 #[test]
-fn pages_are_found_where_they_stand(rt: HostRuntime) {
+fn pages_of_two_devices_are_apart(rt: HostRuntime) {
     let alloc = rt.alloc();
+    let history = History::new(alloc);
     let first = memory(alloc, 16).expect(&rt, ONE_REFUSED);
     let second = memory(alloc, 128).expect(&rt, ONE_REFUSED);
     let next = memory(alloc, 8).expect(&rt, ONE_REFUSED);
-    stand_and_leave(&rt, alloc, first, second, next);
+    let devices = both(alloc, first, second).expect(&rt, ONE_REFUSED);
+    let mut pool = pool_of(&rt, alloc, 2, 16, devices);
+    let rows = [
+        Row::Loads(1, 7, Said::At(0, 1)),
+        Row::Resident(0, 7, false),
+        Row::Loads(0, 7, Said::At(1, 1)),
+        Row::Loads(1, 7, Said::At(0, 1)),
+    ];
+    runs(&rt, &mut pool, &history, &rows);
+    exchange(&rt, &mut pool, &history, 1, next);
+    let rows = [
+        Row::Resident(1, 7, false),
+        Row::Resident(0, 7, true),
+        Row::Loads(0, 8, Said::At(0, 2)),
+    ];
+    runs(&rt, &mut pool, &history, &rows);
+    closes(&rt, pool);
 }
 
 // Pages with a fix keep their device from being exchanged for another, which is handed back.

@@ -47,7 +47,7 @@ fn ask_for_two(rt: &impl Abort, alloc: Global, bytes: &[u8]) -> bool {
 }
 
 #[test]
-fn nothing_and_a_wish_take_no_memory(rt: HostRuntime) {
+fn an_empty_frame_and_a_request_take_no_memory(rt: HostRuntime) {
     assert!(rt; say_nothing(&rt, rt.alloc(), &NOTHING));
     assert!(rt; say_nothing(&rt, rt.alloc(), &NARROW_NOTHING));
     assert!(rt; ask_for_two(&rt, rt.alloc(), &WISH));

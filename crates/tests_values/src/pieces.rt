@@ -1,6 +1,6 @@
 //! Frames that come in pieces, cut at each byte, and the byte with which a fault is known.
 //!
-//! With `rt try --test --fail-alloc N`, for N from 1 on, each growth is refused in turn: the same piece is then fed once more.
+//! With `rt try --test --fail-alloc N`, for N from 1 on, each allocation fails in turn: the same piece is then fed once more.
 use crate::bytes::{
     NARROW, NARROW_NOTHING, NARROW_WISH, NOTHING, TWICE, WIDENED, WISH, changed, encoded, fault,
     joined, narrow_changed, put, row_holds,

@@ -1,4 +1,4 @@
-//! Which page leaves, by what a history was told, and what a raised horizon changes in that.
+//! Which page leaves by a history, and what a new reference or a raised horizon changes in that.
 ghost use Rattle.warm_pool.specs.State.{IsRankedByAll, RankedBy};
 
 use super::{ONE_REFUSED, Row, Said, closes, pool_over, runs};
