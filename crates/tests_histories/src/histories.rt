@@ -95,8 +95,6 @@ fn takes_in_100_000_references_at_once_and_none(rt: HostRuntime) {
     assert!(rt; are_equal(&here, &before));
 }
 
-const GIVEN: [SeenAt; 3] = [(0, 1, 10, 1), (0, 1, 20, 1), (0, 2, 5, 1)];
-
 const HERE: [SeenAt; 3] = [(0, 1, 10, 1), (0, 1, 20, 1), (0, 3, 1, 1)];
 
 const THERE: [SeenAt; 3] = [(0, 1, 15, 2), (0, 1, 30, 2), (0, 2, 2, 2)];
@@ -157,7 +155,8 @@ fn is_no_raise(rt: &impl Abort, history: &mut History, time: u64) -> bool {
 
 #[test]
 fn stamps_of_the_horizon_itself_are_kept(rt: HostRuntime) {
-    let mut here = history_since(&rt, rt.alloc(), 10, &GIVEN);
+    let given = [(0, 1, 10, 1), (0, 1, 20, 1), (0, 2, 5, 1)];
+    let mut here = history_since(&rt, rt.alloc(), 10, &given);
     assert!(rt; here.len() == 1);
     assert!(rt; is_known(&here, page(1), twice((20, 1), (10, 1))));
     absorb_twice(
@@ -293,15 +292,13 @@ fn entries_twice(
 // The number of a bucket, a page, how many entries after it are asked for, the number of the first, and how many come.
 type Row = (u8, (u16, u64), usize, Option<u64>, usize);
 
-const LATER: [Row; 8] = [
+const LATER: [Row; 6] = [
     (0, (0, 0), 9, Some(64), 4),
     (0, (0, 63), 2, Some(64), 2),
     (0, (0, 4_294_967_295), 9, Some(4_294_967_296), 3),
     (0, (0, 18_446_744_073_709_551_615), 9, Some(63), 2),
-    (0, (65_535, 1), 9, None, 0),
     (0, (0, 0), 0, None, 0),
     (62, (65_535, 18_446_744_073_709_551_615), 9, None, 0),
-    (63, (0, 64), 9, Some(4_294_967_295), 2),
 ];
 
 #[test]

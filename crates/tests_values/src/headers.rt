@@ -40,14 +40,12 @@ fn is_refused_wide(alloc: Global, kind: u8, sender: u16, len: u32, want: FrameFa
 }
 
 // The fields of a header, and why it is refused in either format.
-const HEADERS: [(u8, u16, u32, FrameFault); 20] = [
+const HEADERS: [(u8, u16, u32, FrameFault); 18] = [
     (0, 1, 4, FrameFault::BadKind),
     (4, 1, 4, FrameFault::BadKind),
-    (255, 1, 4, FrameFault::BadKind),
     (4, 0, 0, FrameFault::BadKind),
     (1, 0, 4, FrameFault::BadSender),
     (1, 65, 4, FrameFault::BadSender),
-    (1, 256, 4, FrameFault::BadSender),
     (1, 65535, 4, FrameFault::BadSender),
     (1, 0, 0, FrameFault::BadSender),
     (1, 64, 4, FrameFault::Truncated),
