@@ -1,0 +1,107 @@
+//! A device in memory that calls a test back.
+ghost use Rattle.std.specs.Prelude.{◌≡◌, IfOk, length};
+
+use std::alloc::{AllocError, Global};
+use warm_devices::{DeviceFault, MemDevice, PageDevice};
+
+/// What a test sees of a [`Hooked`] device, and where it may keep a call waiting. No contract says what a hook does.
+pub trait Hooks: Drop {
+    /// A page is about to be read. The device passes the call on when this returns.
+    fn before_read(&self);
+
+    /// The drop of the device has begun: whether something waits for a flush. Nothing was settled yet.
+    fn at_drop(&self, waiting: bool);
+
+    /// After [`Hooks::at_drop`], for each page from 0 on: the bytes that it has.
+    fn page_at_drop(&self, no: u64, bytes: &[u8]);
+}
+
+/// A device in memory that passes each call on, and calls its hooks before a read and as its drop begins.
+pub struct Hooked<H: Hooks> {
+    inner: MemDevice,
+    hooks: H,
+    page: Vec<u8>,
+    ghost fits: { length page.items ≡ inner.page_size },
+}
+
+impl<H: Hooks> Hooked<H> {
+    ghost use Rattle.test_kit.specs.HookedParts.{hooked_state};
+
+    /// Passes calls on to `inner`.
+    ///
+    /// # Errors
+    /// Where the memory for a page is refused. Device and hooks are then dropped.
+    pub fn new(alloc: Global, inner: MemDevice, hooks: H) -> Result<Hooked<H>, AllocError>
+        ensures { IfOk result (λ device. hooked_state device ≡ inner) }
+    {
+        let page = Vec::from_elem(alloc, 0, inner.page_size())?;
+        Ok(Hooked { inner, hooks, page })
+    }
+}
+
+impl<H: Hooks> PageDevice for Hooked<H> {
+    ghost use Rattle.test_kit.specs.HookedParts.{hooked_state};
+
+    ghost state = { hooked_state };
+
+    fn pages(&self) -> u64 {
+        self.inner.pages()
+    }
+
+    fn page_size(&self) -> usize {
+        self.inner.page_size()
+    }
+
+    fn waiting(&self) -> bool {
+        self.inner.waiting()
+    }
+
+    fn failures(&self) -> u64 {
+        self.inner.failures()
+    }
+
+    fn read(&mut self, no: u64, into: &mut [u8]) -> Result<(), DeviceFault> {
+        self.hooks.before_read();
+        self.inner.read(no, into)
+    }
+
+    fn write(&mut self, no: u64, bytes: &[u8]) -> Result<(), DeviceFault> {
+        self.inner.write(no, bytes)
+    }
+
+    fn flush(&mut self) -> Result<(), DeviceFault> {
+        self.inner.flush()
+    }
+
+    fn settle(&mut self) {
+        self.inner.settle()
+    }
+}
+
+// Shows the hooks whether something waits, and what each page holds.
+fn show_all<H: Hooks>(inner: &mut MemDevice, hooks: &H, page: &mut Vec<u8>)
+    requires { length page.old.items ≡ inner.old.page_size }
+    ensures { length page.new.items ≡ inner.new.page_size }
+{
+    hooks.at_drop(inner.waiting());
+    for no in 0..inner.pages() {
+        if inner.read(no, page).is_ok() {
+            hooks.page_at_drop(no, page);
+        }
+    }
+}
+
+impl<H: Hooks> Drop for Hooked<H> {
+    fn drop(self) {
+        let Hooked {
+            mut inner,
+            hooks,
+            mut page,
+        } = self;
+        show_all(&mut inner, &hooks, &mut page);
+        inner.settle();
+        drop(inner);
+        drop(hooks);
+        drop(page);
+    }
+}

@@ -1,0 +1,41 @@
+//! References and histories, made from short lists of numbers.
+
+use crate::values::{page_on, seen};
+use std::alloc::{AllocError, Global};
+use warm_history::History;
+use warm_stamps::Reference;
+
+/// A reference in plain numbers: the page's device and its number there, a time, and a replica.
+pub type SeenAt = (u16, u64, u64, u16);
+
+fn room(alloc: Global, count: usize) -> Result<Vec<Reference>, AllocError> {
+    match Vec::with_capacity(alloc, count) {
+        Ok(batch) => Ok(batch),
+        Err(_) => Vec::with_capacity(alloc, count),
+    }
+}
+
+/// The references of a list, in its order.
+///
+/// # Errors
+/// Where the memory for them is refused twice.
+pub fn references(alloc: Global, given: &[SeenAt]) -> Result<Vec<Reference>, AllocError> {
+    let mut batch = room(alloc, given.len())?;
+    for (dev, no, time, number) in given {
+        batch.push(seen(page_on(*dev, *no), *time, *number))?;
+    }
+    Ok(batch)
+}
+
+/// The history of the references of a list, which are taken in at once.
+///
+/// # Errors
+/// Where the memory for it is refused twice.
+pub fn history_of(alloc: Global, given: &[SeenAt]) -> Result<History, AllocError> {
+    let batch = references(alloc, given)?;
+    let mut history = History::new(alloc);
+    if history.absorb(&batch).is_err() {
+        history.absorb(&batch)?;
+    }
+    Ok(history)
+}

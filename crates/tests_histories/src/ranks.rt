@@ -1,0 +1,134 @@
+//! Which pages leave first by a history, the contest that finds the least key, and the list of a warm-up.
+ghost use Rattle.std.specs.Prelude.{◌≡◌, ◌<◌, ◌≤◌, length};
+ghost use Rattle.warm_rank.specs.declared.TheConstants.{MAX_SLOTS};
+
+use std::alloc::Global;
+use std::cmp::Ordering;
+use std::process::Abort;
+use test_kit::{SeenAt, history_of, page, seen};
+use warm_history::History;
+use warm_rank::{Contest, key_of, leaving_order, warm_list};
+use warm_stamps::{PageId, PageList};
+
+fn leaves_first(history: &History, first: u64, second: u64) -> bool {
+    match leaving_order(history, page(first), page(second)) {
+        Ordering::Less => true,
+        _ => false,
+    }
+}
+
+// Whether these are the `n` hottest pages of a history.
+fn are_hottest(
+    rt: &impl Abort,
+    alloc: Global,
+    history: &History,
+    n: usize,
+    want: &[PageId],
+) -> bool {
+    let pages = PageList::of(warm_list(alloc, history, n).expect(rt, "room for a list"));
+    pages.as_slice() == want && pages.into_vec().len() == want.len()
+}
+
+// Which of two pages leaves first as the horizon rises: both were referenced twice, then once, and then never.
+#[test]
+fn a_raised_horizon_changes_which_page_leaves(rt: HostRuntime) {
+    let given = [(0, 1, 1, 1), (0, 1, 100, 1), (0, 2, 50, 1), (0, 2, 60, 1)];
+    let mut history = history_of(rt.alloc(), &given).expect(&rt, "room for a history");
+    assert!(rt; leaves_first(&history, 1, 2));
+    assert!(rt; are_hottest(&rt, rt.alloc(), &history, 2, &[page(2), page(1)]));
+    history.raise(60);
+    assert!(rt; leaves_first(&history, 2, 1));
+    assert!(rt; are_hottest(&rt, rt.alloc(), &history, 2, &[page(1), page(2)]));
+    history.raise(101);
+    assert!(rt; leaves_first(&history, 1, 2));
+    assert!(rt; are_hottest(&rt, rt.alloc(), &history, 2, &[]));
+}
+
+// Pages whose numbers rise past 32 bits, all at one time.
+const ONCE: [SeenAt; 4] = [
+    (0, 1, 5, 1),
+    (0, 4_294_967_295, 5, 1),
+    (0, 4_294_967_296, 5, 1),
+    (0, 18_446_744_073_709_551_615, 5, 1),
+];
+
+#[test]
+fn page_numbers_past_32_bits_keep_their_order(rt: HostRuntime) {
+    let none = History::new(rt.alloc());
+    let known = history_of(rt.alloc(), &ONCE).expect(&rt, "room for a history");
+    for at in 0..3usize {
+        assert!(rt; leaves_first(&none, ONCE[at].1, ONCE[at + 1].1));
+        assert!(rt; leaves_first(&known, ONCE[at].1, ONCE[at + 1].1));
+    }
+    let hottest = [
+        page(ONCE[3].1),
+        page(ONCE[2].1),
+        page(ONCE[1].1),
+        page(ONCE[0].1),
+    ];
+    assert!(rt; are_hottest(&rt, rt.alloc(), &known, 9, &hottest));
+}
+
+// Sets the keys of that many slots, rising.
+fn set_rising(contest: &mut Contest, slots: u32)
+    requires { length contest.old ≡ slots }
+    ensures { length contest.new ≡ slots }
+{
+    for slot in 0..slots {
+        contest.set(slot as usize, Some(key_of(page(u64::from(slot)), None)));
+    }
+}
+
+// Keys rise with the slots, so the first slot that has one has the least.
+fn rises(rt: &impl Abort, alloc: Global, slots: u32) -> bool
+    requires some { 0 < slots }
+    requires few { slots ≤ MAX_SLOTS }
+{
+    let mut contest = Contest::new(alloc, slots as usize).expect(rt, "room for slots");
+    set_rising(&mut contest, slots);
+    let first = contest.least();
+    contest.set(0, None);
+    let next = if slots == 1 { None } else { Some(1) };
+    first == Some(0) && contest.least() == next
+}
+
+#[test]
+fn contest_has_any_number_of_slots(rt: HostRuntime) {
+    for slots in [1, 2, 3, 65_535, 65_536u32] {
+        assert!(rt; rises(&rt, rt.alloc(), slots), "of {slots}");
+    }
+}
+
+// The history of this number of pages from 0 on, each referenced once at the time of its number.
+fn long_history(rt: &impl Abort, alloc: Global, pages: u64) -> History {
+    let mut batch = Vec::new(alloc);
+    for no in 0..pages {
+        batch
+            .push(seen(page(no), no, 1))
+            .expect(rt, "room for a reference");
+    }
+    let mut history = History::new(alloc);
+    history.absorb(&batch).expect(rt, "room for a history");
+    history
+}
+
+// Whether the pages' numbers fall by one from the first page's on.
+fn fall_from(pages: &[PageId], first: u64) -> bool {
+    let mut want = first;
+    for listed in pages {
+        if listed.no != want {
+            return false;
+        }
+        want = want.wrapping_sub(1);
+    }
+    true
+}
+
+// Pages that were referenced once each leave in the order of their stamps.
+#[test]
+fn warm_up_lists_10_000_pages(rt: HostRuntime) {
+    let history = long_history(&rt, rt.alloc(), 10_001);
+    let pages = warm_list(rt.alloc(), &history, 10_000).expect(&rt, "room for a list");
+    assert!(rt; pages.len() == 10_000);
+    assert!(rt; fall_from(&pages, 10_000));
+}

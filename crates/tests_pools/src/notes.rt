@@ -1,0 +1,61 @@
+//! What a device in memory notes as its drop begins.
+
+ghost use Rattle.std.specs.Prelude.{◌≡◌};
+ghost use Rattle.test_kit.specs.HookedParts.{hooked_state};
+ghost use Rattle.warm_devices.specs.Device.{zeroed};
+
+use std::alloc::Global;
+use std::process::Abort;
+use std::sync::Arc;
+use test_kit::{Found, Hooked, Note};
+use warm_devices::{Flaky, MemDevice, PageDevice};
+
+// A device that notes its drop, and the note.
+fn noting(
+    rt: &impl Abort,
+    alloc: Global,
+    pages: u64,
+    page_size: usize,
+) -> (Hooked<Arc<Note, Global>>, Arc<Note, Global>)
+    ensures { hooked_state result.0 ≡ zeroed pages page_size }
+{
+    let note = Note::blank(alloc, pages, page_size).expect(rt, "room for a note");
+    let other = Arc::try_clone(&note).expect(rt, "a second owner");
+    let inner = MemDevice::new(alloc, pages, page_size).expect(rt, "room for pages");
+    let device = Hooked::new(alloc, inner, other).expect(rt, "room for a page");
+    (device, note)
+}
+
+// Whether what is noted of three pages of two bytes is 7 and 8 on page 2, and zeros.
+fn has_just(note: &Note) -> bool {
+    note.has(2, &[7, 8])
+        && note.has(0, &[0, 0])
+        && !note.has(2, &[7, 9])
+        && !note.has(2, &[7])
+        && !note.has(3, &[0, 0])
+}
+
+#[test]
+fn a_drop_is_noted_before_it_settles(rt: HostRuntime) {
+    let (mut device, note) = noting(&rt, rt.alloc(), 3, 2);
+    assert!(rt; device.write(2, &[7, 8]) == Ok(()) && note.found() == Found::NoDrop);
+    drop(device);
+    assert!(rt; note.found() == Found::Waiting && has_just(&note));
+}
+
+// What is noted of a device whose call of this number fails, where a page was written and not flushed.
+fn found_as_call_fails(rt: &impl Abort, alloc: Global, number: u64) -> Found {
+    let (device, note) = noting(rt, alloc, 1, 1);
+    let mut device = Flaky::new(device, number);
+    assert!(rt; device.write(0, &[5]) == Ok(()) && note.found() == Found::NoDrop);
+    drop(device);
+    assert!(rt; note.has(0, &[5]));
+    note.found()
+}
+
+#[test]
+fn a_flaky_device_settles_as_it_is_dropped(rt: HostRuntime) {
+    assert!(rt; found_as_call_fails(&rt, rt.alloc(), 0) == Found::Settled);
+    assert!(rt; found_as_call_fails(&rt, rt.alloc(), 2) == Found::Waiting);
+    assert!(rt; found_as_call_fails(&rt, rt.alloc(), 3) == Found::Settled);
+}

@@ -1,0 +1,548 @@
+//! Pools: where pages go, what is refused, and what is kept where a device fails. A test is a list of rows, each a call and what comes
+//! of it. Each call stands in a function of its own, which keeps by which history the pool is ranked: so what is proved of a test does
+//! not grow with its rows.
+//!
+//! With `rt try --test --fail-alloc N`, for N from 1 on, each allocation fails in turn: what takes memory is then asked for once
+//! more, with what the refusal handed back.
+//!
+//! What must not fail ends the process where it does: a `?` would be one more way out, on which the drop of all that is owned
+//! is proved.
+ghost use Rattle.std.specs.Prelude.{◌≤◌, length};
+ghost use Rattle.warm_pool.specs.State.{IsRankedByAll, RankedBy};
+
+mod let_go;
+mod ranks;
+mod wide;
+
+use std::alloc::Global;
+use std::process::Abort;
+use test_kit::{alone, both, flaky, memory, page, page_on};
+use warm_devices::PageDevice;
+use warm_history::History;
+use warm_pool::{Pool, PoolFault, Slot, Unretired};
+use warm_stamps::PageId;
+
+const fn slot(index: u32, generation: u64) -> Slot {
+    Slot { index, generation }
+}
+
+// One allocation alone fails, so the next try has the memory.
+const ONE_REFUSED: &str = "one allocation alone fails";
+
+fn pool_of<D: PageDevice>(
+    rt: &impl Abort,
+    alloc: Global,
+    frames: usize,
+    page_size: usize,
+    devices: Vec<D>,
+) -> Pool<D>
+    requires { length devices.items ≤ 2 }
+    ensures { IsRankedByAll result }
+{
+    let count = devices.len();
+    match Pool::new(alloc, frames, page_size, devices) {
+        Ok(pool) => pool,
+        Err(unmade) => {
+            let given = (unmade.fault, unmade.devices.len());
+            assert!(rt; given == (PoolFault::Memory, count));
+            match Pool::new(alloc, frames, page_size, unmade.devices) {
+                Ok(pool) => pool,
+                Err(_) => panic!(rt; "no memory for the pool"),
+            }
+        }
+    }
+}
+
+fn pool_over<D: PageDevice>(rt: &impl Abort, alloc: Global, frames: usize, device: D) -> Pool<D>
+    ensures { IsRankedByAll result }
+{
+    let devices = alone(alloc, device).expect(rt, ONE_REFUSED);
+    pool_of(rt, alloc, frames, 16, devices)
+}
+
+// What a pool answers: that it is done, the index and the generation of a slot, or why it is refused.
+#[derive(Clone, Copy, PartialEq)]
+enum Said {
+    Done,
+    At(u32, u64),
+    Refused(PoolFault),
+    // The slot does not hold its page, so the pool was not asked.
+    Unheld,
+}
+
+fn given(found: Result<Slot, PoolFault>) -> Said {
+    match found {
+        Ok(slot) => Said::At(slot.index, slot.generation),
+        Err(fault) => Said::Refused(fault),
+    }
+}
+
+fn done(found: Result<(), PoolFault>) -> Said {
+    match found {
+        Ok(()) => Said::Done,
+        Err(fault) => Said::Refused(fault),
+    }
+}
+
+fn pinned<D: PageDevice>(pool: &mut Pool<D>, history: &History, no: u64) -> Said
+    requires { RankedBy pool.old history.now }
+    ensures { RankedBy pool.new history.now }
+{
+    given(pool.pin(page(no), history))
+}
+
+fn loaded<D: PageDevice>(pool: &mut Pool<D>, history: &History, page: PageId) -> Said
+    requires { RankedBy pool.old history.now }
+    ensures { RankedBy pool.new history.now }
+{
+    given(pool.load(page, history))
+}
+
+// Takes a fix from a slot, whether it holds its page.
+fn unpin<D: PageDevice>(pool: &mut Pool<D>, history: &History, slot: Slot) -> bool
+    requires { RankedBy pool.old history.now }
+    ensures { RankedBy pool.new history.now }
+{
+    if !pool.holds(slot) {
+        return false;
+    }
+    pool.unpin(slot);
+    true
+}
+
+fn write<D: PageDevice>(
+    pool: &mut Pool<D>,
+    history: &History,
+    slot: Slot,
+    at: usize,
+    bytes: &[u8],
+) -> Said
+    requires { RankedBy pool.old history.now }
+    ensures { RankedBy pool.new history.now }
+{
+    if !pool.holds(slot) {
+        return Said::Unheld;
+    }
+    done(pool.write(slot, at, bytes))
+}
+
+// Whether the slot's page has these bytes.
+fn reads<D: PageDevice>(pool: &Pool<D>, slot: Slot, wanted: &[u8; 16]) -> bool {
+    if !pool.holds(slot) {
+        return false;
+    }
+    let mut bytes = [0; 16];
+    pool.read(slot, 0, &mut bytes) == Ok(()) && bytes == *wanted
+}
+
+fn retire<D: PageDevice>(
+    pool: &mut Pool<D>,
+    history: &History,
+    dev: u16,
+    device: D,
+) -> Result<(), Unretired<D>>
+    requires { RankedBy pool.old history.now }
+    ensures { RankedBy pool.new history.now }
+{
+    pool.retire(dev, device)
+}
+
+fn emptied<D: PageDevice>(pool: &mut Pool<D>, history: &History) -> Said
+    requires { RankedBy pool.old history.now }
+    ensures { RankedBy pool.new history.now }
+{
+    done(pool.empty())
+}
+
+fn written_back<D: PageDevice>(pool: &mut Pool<D>, history: &History) -> Said
+    requires { RankedBy pool.old history.now }
+    ensures { RankedBy pool.new history.now }
+{
+    done(pool.write_back_all())
+}
+
+// The pool, which a fixed page keeps from being closed.
+fn not_closed<D: PageDevice>(rt: &impl Abort, pool: Pool<D>, history: &History) -> Pool<D>
+    requires { RankedBy pool history.now }
+    ensures { RankedBy result history.now }
+{
+    match pool.close() {
+        Ok(()) => panic!(rt; "the pool is not closed"),
+        Err(unclosed) => {
+            assert!(rt; unclosed.fault == PoolFault::Fixed);
+            unclosed.pool
+        }
+    }
+}
+
+// The pool is closed, which nothing hinders.
+fn closes<D: PageDevice>(rt: &impl Abort, pool: Pool<D>) {
+    assert!(rt; pool.close().is_ok());
+}
+
+// The device takes the place of one, which nothing hinders.
+fn exchange<D: PageDevice>(
+    rt: &impl Abort,
+    pool: &mut Pool<D>,
+    history: &History,
+    dev: u16,
+    device: D,
+)
+    requires { RankedBy pool.old history.now }
+    ensures { RankedBy pool.new history.now }
+{
+    assert!(rt; retire(pool, history, dev, device).is_ok());
+}
+
+// The slot of a page that is given a fix.
+fn held<D: PageDevice>(pool: &mut Pool<D>, history: &History, no: u64) -> Option<Slot>
+    requires { RankedBy pool.old history.now }
+    ensures { RankedBy pool.new history.now }
+{
+    match pinned(pool, history, no) {
+        Said::At(index, generation) => Some(slot(index, generation)),
+        _ => None,
+    }
+}
+
+// Pins a page, and takes the fix away again, whether both are done.
+fn visits<D: PageDevice>(pool: &mut Pool<D>, history: &History, no: u64) -> bool
+    requires { RankedBy pool.old history.now }
+    ensures { RankedBy pool.new history.now }
+{
+    match held(pool, history, no) {
+        Some(slot) => unpin(pool, history, slot),
+        None => false,
+    }
+}
+
+// Fills a page with AA, which goes to no device yet, whether that is done.
+fn fills<D: PageDevice>(pool: &mut Pool<D>, history: &History, no: u64) -> bool
+    requires { RankedBy pool.old history.now }
+    ensures { RankedBy pool.new history.now }
+{
+    match held(pool, history, no) {
+        Some(slot) => {
+            let given = write(pool, history, slot, 0, &[0xAA; 16]);
+            given == Said::Done && unpin(pool, history, slot)
+        }
+        None => false,
+    }
+}
+
+// Pins a page, and takes the fix away again, whether both are done and it has these bytes.
+fn finds<D: PageDevice>(pool: &mut Pool<D>, history: &History, no: u64, wanted: &[u8; 16]) -> bool
+    requires { RankedBy pool.old history.now }
+    ensures { RankedBy pool.new history.now }
+{
+    match held(pool, history, no) {
+        Some(slot) => reads(pool, slot, wanted) && unpin(pool, history, slot),
+        None => false,
+    }
+}
+
+// What is asked of a pool, and what is to come of it. Slots are given by their index and their generation, and pages by their
+// number on device 0, or by the number of the device and their number on it: plain numbers, since each call in a test's rows is
+// proved there.
+#[derive(Clone, Copy)]
+enum Row<'a> {
+    // A page is given a fix.
+    Pins(u64, Said),
+    // A page of a device is brought in, without a fix.
+    Loads(u16, u64, Said),
+    // A fix is taken away.
+    Unpins(u32, u64),
+    // A page is given a fix, which is taken away again.
+    Visits(u64),
+    // A page is filled with AA, which goes to no device yet.
+    Fills(u64),
+    // A page has these bytes.
+    Finds(u64, &'a [u8; 16]),
+    // Bytes are written into the slot's page, from a place on.
+    Writes(u32, u64, usize, &'a [u8], Said),
+    // The page that leaves next, or that there is none.
+    Leaves(u64),
+    NoneLeaves,
+    // Whether the slot holds its page.
+    Holds(u32, u64, bool),
+    // Whether the page of a device is in a frame.
+    Resident(u16, u64, bool),
+    // Whether the page is on a device.
+    Has(u64, bool),
+    // So many frames.
+    Frames(usize),
+    // What is dirty is written to its device.
+    WritesBack(Said),
+    // The frames are emptied.
+    Empties(Said),
+}
+
+// Whether what the row asks, and changes nothing for, is as it says.
+fn shows<D: PageDevice>(rt: &impl Abort, pool: &Pool<D>, row: Row<'_>) -> bool {
+    match row {
+        Row::Leaves(no) => pool.victim() == Some(page(no)),
+        Row::NoneLeaves => pool.victim().is_none(),
+        Row::Holds(index, generation, wanted) => pool.holds(slot(index, generation)) == wanted,
+        Row::Resident(dev, no, wanted) => pool.resident(page_on(dev, no)) == wanted,
+        Row::Has(no, wanted) => pool.has(page(no)) == wanted,
+        Row::Frames(wanted) => pool.frames() == wanted,
+        _ => panic!(rt; "no such row"),
+    }
+}
+
+// Asks what the row says, and whether that comes of it.
+fn meets<D: PageDevice>(
+    rt: &impl Abort,
+    pool: &mut Pool<D>,
+    history: &History,
+    row: Row<'_>,
+) -> bool
+    requires { RankedBy pool.old history.now }
+    ensures { RankedBy pool.new history.now }
+{
+    match row {
+        Row::Pins(no, wanted) => pinned(pool, history, no) == wanted,
+        Row::Loads(dev, no, wanted) => loaded(pool, history, page_on(dev, no)) == wanted,
+        Row::Unpins(index, generation) => unpin(pool, history, slot(index, generation)),
+        Row::Visits(no) => visits(pool, history, no),
+        Row::Fills(no) => fills(pool, history, no),
+        Row::Finds(no, wanted) => finds(pool, history, no, wanted),
+        Row::Writes(index, generation, from, bytes, wanted) => {
+            write(pool, history, slot(index, generation), from, bytes) == wanted
+        }
+        Row::WritesBack(wanted) => written_back(pool, history) == wanted,
+        Row::Empties(wanted) => emptied(pool, history) == wanted,
+        shown => shows(rt, pool, shown),
+    }
+}
+
+// Asks a pool what the rows say, in turn.
+fn runs<D: PageDevice>(rt: &impl Abort, pool: &mut Pool<D>, history: &History, rows: &[Row<'_>])
+    requires { RankedBy pool.old history.now }
+    ensures { RankedBy pool.new history.now }
+{
+    for (at, row) in rows.iter().enumerate() {
+        assert!(rt; meets(rt, pool, history, *row), "row {at}");
+    }
+}
+
+// A fresh pool of this number of frames over the device goes through the rows, by an empty history, and is closed.
+fn lives<D: PageDevice>(
+    rt: &impl Abort,
+    alloc: Global,
+    frames: usize,
+    device: D,
+    rows: &[Row<'_>],
+) {
+    let history = History::new(alloc);
+    let mut pool = pool_over(rt, alloc, frames, device);
+    runs(rt, &mut pool, &history, rows);
+    closes(rt, pool);
+}
+
+// The device, which the pool refuses to exchange by this fault.
+fn unretired<D: PageDevice>(
+    rt: &impl Abort,
+    pool: &mut Pool<D>,
+    history: &History,
+    dev: u16,
+    device: D,
+    fault: PoolFault,
+) -> D
+    requires { RankedBy pool.old history.now }
+    ensures { RankedBy pool.new history.now }
+{
+    match retire(pool, history, dev, device) {
+        Ok(()) => panic!(rt; "the device is not exchanged"),
+        Err(unretired) => {
+            assert!(rt; unretired.fault == fault);
+            unretired.device
+        }
+    }
+}
+
+// One number on two devices names two pages, and the frames of a device that is exchanged are free.
+#[test]
+fn pages_of_two_devices_are_apart(rt: HostRuntime) {
+    let alloc = rt.alloc();
+    let history = History::new(alloc);
+    let first = memory(alloc, 16).expect(&rt, ONE_REFUSED);
+    let second = memory(alloc, 128).expect(&rt, ONE_REFUSED);
+    let next = memory(alloc, 8).expect(&rt, ONE_REFUSED);
+    let devices = both(alloc, first, second).expect(&rt, ONE_REFUSED);
+    let mut pool = pool_of(&rt, alloc, 2, 16, devices);
+    let rows = [
+        Row::Loads(1, 7, Said::At(0, 1)),
+        Row::Resident(0, 7, false),
+        Row::Loads(0, 7, Said::At(1, 1)),
+        Row::Loads(1, 7, Said::At(0, 1)),
+    ];
+    runs(&rt, &mut pool, &history, &rows);
+    exchange(&rt, &mut pool, &history, 1, next);
+    let rows = [
+        Row::Resident(1, 7, false),
+        Row::Resident(0, 7, true),
+        Row::Loads(0, 8, Said::At(0, 2)),
+    ];
+    runs(&rt, &mut pool, &history, &rows);
+    closes(&rt, pool);
+}
+
+// Pages with a fix keep their device from being exchanged for another, which is handed back.
+fn kept_by_fixes<D: PageDevice>(
+    rt: &impl Abort,
+    pool: &mut Pool<D>,
+    history: &History,
+    device: D,
+) -> D
+    requires { RankedBy pool.old history.now }
+    ensures { RankedBy pool.new history.now }
+{
+    let rows = [
+        Row::Pins(3, Said::At(0, 1)),
+        Row::Pins(4, Said::At(1, 1)),
+        Row::Unpins(1, 1),
+        Row::Leaves(4),
+        Row::Loads(0, 5, Said::At(1, 2)),
+        Row::Holds(1, 2, false),
+        Row::Resident(0, 4, false),
+        Row::Pins(5, Said::At(1, 2)),
+        Row::Writes(1, 2, 15, &[1, 2], Said::Refused(PoolFault::OutOfPage)),
+    ];
+    runs(rt, pool, history, &rows);
+    let device = unretired(rt, pool, history, 1, device, PoolFault::NoDevice);
+    unretired(rt, pool, history, 0, device, PoolFault::Fixed)
+}
+
+// Without a fix the device is exchanged for one of four pages.
+fn let_go_unfixed<D: PageDevice>(rt: &impl Abort, pool: &mut Pool<D>, history: &History, device: D)
+    requires { RankedBy pool.old history.now }
+    ensures { RankedBy pool.new history.now }
+{
+    let rows = [
+        Row::Empties(Said::Refused(PoolFault::Fixed)),
+        Row::Unpins(0, 1),
+        Row::Unpins(1, 2),
+    ];
+    runs(rt, pool, history, &rows);
+    exchange(rt, pool, history, 0, device);
+    let rows = [
+        Row::Has(5, false),
+        Row::Pins(5, Said::Refused(PoolFault::NoPage)),
+        Row::Frames(2),
+    ];
+    runs(rt, pool, history, &rows)
+}
+
+#[test]
+fn two_frames_over_eight_pages(rt: HostRuntime) {
+    let alloc = rt.alloc();
+    let history = History::new(alloc);
+    let first = memory(alloc, 8).expect(&rt, ONE_REFUSED);
+    let next = memory(alloc, 4).expect(&rt, ONE_REFUSED);
+    let mut pool = pool_over(&rt, alloc, 2, first);
+    let device = kept_by_fixes(&rt, &mut pool, &history, next);
+    let mut pool = not_closed(&rt, pool, &history);
+    let_go_unfixed(&rt, &mut pool, &history, device);
+    closes(&rt, pool);
+}
+
+// Why no pool is made over the device, and how many devices come back.
+fn unmade<D: PageDevice>(
+    rt: &impl Abort,
+    alloc: Global,
+    frames: usize,
+    page_size: usize,
+    device: D,
+) -> (PoolFault, usize) {
+    let devices = alone(alloc, device).expect(rt, ONE_REFUSED);
+    match Pool::new(alloc, frames, page_size, devices) {
+        Ok(_) => panic!(rt; "the pool is made"),
+        Err(unmade) => (unmade.fault, unmade.devices.len()),
+    }
+}
+
+#[test]
+fn refused_pools_hand_their_devices_back(rt: HostRuntime) {
+    let alloc = rt.alloc();
+    for (frames, page_size, fault) in [
+        (0, 16, PoolFault::BadFrames),
+        (65_537, 16, PoolFault::BadFrames),
+        (2, 8, PoolFault::SizeDiffers),
+    ] {
+        let device = memory(alloc, 8).expect(&rt, ONE_REFUSED);
+        assert!(rt; unmade(&rt, alloc, frames, page_size, device) == (fault, 1));
+    }
+}
+
+#[test]
+fn a_dirty_victim_stays_where_its_write_fails(rt: HostRuntime) {
+    let rows = [
+        Row::Fills(1),
+        Row::Pins(2, Said::Refused(PoolFault::WriteBack)),
+        Row::Resident(0, 1, true),
+        Row::Resident(0, 2, false),
+        Row::Visits(2),
+        Row::Finds(1, &[0xAA; 16]),
+    ];
+    let device = flaky(rt.alloc(), 8, 3).expect(&rt, ONE_REFUSED);
+    lives(&rt, rt.alloc(), 1, device, &rows)
+}
+
+fn stays_unflushed<D: PageDevice>(rt: &impl Abort, pool: &mut Pool<D>, history: &History, device: D)
+    requires { RankedBy pool.old history.now }
+    ensures { RankedBy pool.new history.now }
+{
+    assert!(rt; fills(pool, history, 1));
+    let device = unretired(rt, pool, history, 0, device, PoolFault::Fault);
+    let rows = [Row::Resident(0, 1, true), Row::Finds(1, &[0xAA; 16])];
+    runs(rt, pool, history, &rows);
+    exchange(rt, pool, history, 0, device);
+    assert!(rt; !pool.resident(page(1)));
+}
+
+#[test]
+fn a_device_stays_where_its_flush_fails(rt: HostRuntime) {
+    let alloc = rt.alloc();
+    let history = History::new(alloc);
+    let failing = flaky(alloc, 8, 3).expect(&rt, ONE_REFUSED);
+    let next = flaky(alloc, 8, 0).expect(&rt, ONE_REFUSED);
+    let mut pool = pool_over(&rt, alloc, 1, failing);
+    stays_unflushed(&rt, &mut pool, &history, next);
+    closes(&rt, pool);
+}
+
+#[test]
+fn an_emptied_pool_keeps_its_pages(rt: HostRuntime) {
+    let bytes = [0, 0, 0, 0, 0, 0, 0, 0, 0, 0, 0, 0, 0, 0, 7, 8];
+    let rows = [
+        Row::Pins(6, Said::At(0, 1)),
+        Row::Writes(0, 1, 14, &[7, 8], Said::Done),
+        Row::Unpins(0, 1),
+        Row::WritesBack(Said::Done),
+        Row::Resident(0, 6, true),
+        Row::Empties(Said::Done),
+        Row::Resident(0, 6, false),
+        Row::NoneLeaves,
+        Row::Pins(6, Said::At(0, 2)),
+        Row::Finds(6, &bytes),
+        Row::Unpins(0, 2),
+    ];
+    let device = memory(rt.alloc(), 8).expect(&rt, ONE_REFUSED);
+    lives(&rt, rt.alloc(), 2, device, &rows)
+}
+
+#[test]
+fn a_page_stays_out_where_no_frame_or_no_byte_is_to_be_had(rt: HostRuntime) {
+    let rows = [
+        Row::Pins(1, Said::Refused(PoolFault::ReadFault)),
+        Row::Resident(0, 1, false),
+        Row::Pins(1, Said::At(0, 1)),
+        Row::Pins(2, Said::Refused(PoolFault::AllFixed)),
+        Row::Resident(0, 1, true),
+        Row::NoneLeaves,
+        Row::Unpins(0, 1),
+    ];
+    let device = flaky(rt.alloc(), 8, 1).expect(&rt, ONE_REFUSED);
+    lives(&rt, rt.alloc(), 1, device, &rows)
+}

@@ -1,0 +1,104 @@
+//! What a device holds as the pool lets it go: all that was written, and nothing waits.
+ghost use Rattle.warm_pool.specs.State.{RankedBy};
+
+use super::{
+    ONE_REFUSED, Said, closes, exchange, held, not_closed, pool_over, unpin, unretired, write,
+};
+use std::alloc::{AllocError, Global};
+use std::process::Abort;
+use std::sync::Arc;
+use test_kit::{Found, Hooked, Note};
+use warm_devices::{MemDevice, PageDevice};
+use warm_history::History;
+use warm_pool::{Pool, PoolFault, Slot};
+
+// What a device of eight pages holds before the pool writes to it.
+const STORED: [u8; 16] = [0x55; 16];
+
+// A device that notes what its drop finds.
+type Noting = Hooked<Arc<Note, Global>>;
+
+// Such a device, and the note.
+fn new_witness(alloc: Global) -> Result<(Noting, Arc<Note, Global>), AllocError> {
+    let note = Note::blank(alloc, 8, 16)?;
+    let mut device = MemDevice::new(alloc, 8, 16)?;
+    for no in 0..8 {
+        if no < device.pages() && device.page_size() == 16 {
+            let _ = device.write(no, &STORED);
+        }
+    }
+    let _ = device.flush();
+    let device = Hooked::new(alloc, device, Arc::try_clone(&note)?)?;
+    Ok((device, note))
+}
+
+fn witness(rt: &impl Abort, alloc: Global) -> (Noting, Arc<Note, Global>) {
+    match new_witness(alloc) {
+        Ok(made) => made,
+        Err(_) => new_witness(alloc).expect(rt, ONE_REFUSED),
+    }
+}
+
+// Whether nothing waited on the device as its drop began, and it held page 0 as it was written, and all others as they were.
+fn is_kept(note: &Note) -> bool {
+    note.found() == Found::Settled
+        && note.has(0, &[0xAA; 16])
+        && (1..8).all(|no| note.has(no, &STORED))
+}
+
+// A pool over such a device. Its page 0:0 is filled with AA, and went to no device yet.
+fn noted_pool(
+    rt: &impl Abort,
+    alloc: Global,
+    history: &History,
+) -> (Pool<Noting>, Slot, Arc<Note, Global>)
+    ensures { RankedBy result.0 history.now }
+{
+    let (device, note) = witness(rt, alloc);
+    let mut pool = pool_over(rt, alloc, 2, device);
+    let slot = held(&mut pool, history, 0).expect(rt, "the page is pinned");
+    assert!(rt; write(&mut pool, history, slot, 0, &[0xAA; 16]) == Said::Done);
+    (pool, slot, note)
+}
+
+fn exchanged(
+    rt: &impl Abort,
+    pool: &mut Pool<Noting>,
+    history: &History,
+    held: Slot,
+    device: Noting,
+    note: &Note,
+)
+    requires { RankedBy pool.old history.now }
+    ensures { RankedBy pool.new history.now }
+{
+    let device = unretired(rt, pool, history, 0, device, PoolFault::Fixed);
+    assert!(rt; note.found() == Found::NoDrop);
+    assert!(rt; unpin(pool, history, held));
+    exchange(rt, pool, history, 0, device);
+    assert!(rt; is_kept(note));
+}
+
+#[test]
+fn a_retired_device_has_what_was_written(rt: HostRuntime) {
+    let alloc = rt.alloc();
+    let history = History::new(alloc);
+    let (mut pool, held, note) = noted_pool(&rt, alloc, &history);
+    let (next, next_note) = witness(&rt, alloc);
+    exchanged(&rt, &mut pool, &history, held, next, &note);
+    assert!(rt; next_note.found() == Found::NoDrop);
+    closes(&rt, pool);
+    assert!(rt; next_note.found() == Found::Settled);
+}
+
+#[test]
+fn a_closed_pools_device_has_what_was_written(rt: HostRuntime) {
+    let alloc = rt.alloc();
+    let history = History::new(alloc);
+    let (pool, held, note) = noted_pool(&rt, alloc, &history);
+    let mut pool = not_closed(&rt, pool, &history);
+    assert!(rt; note.found() == Found::NoDrop);
+    assert!(rt; unpin(&mut pool, &history, held));
+    closes(&rt, pool);
+    assert!(rt; is_kept(&note));
+}

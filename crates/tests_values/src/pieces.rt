@@ -1,0 +1,201 @@
+//! Frames that come in pieces, cut at each byte, and the byte with which a fault is known.
+//!
+//! With `rt try --test --fail-alloc N`, for N from 1 on, each allocation fails in turn: the same piece is then fed once more.
+use crate::bytes::{
+    NARROW, NARROW_NOTHING, NARROW_WISH, NOTHING, TWICE, WIDENED, WISH, changed, encoded, fault,
+    joined, narrow_changed, put, row_holds,
+};
+use std::alloc::Global;
+use std::process::Abort;
+use warm_frames::{Decoder, Fed, FrameFault};
+
+// Feeds a piece; where memory is refused, once more.
+pub(crate) fn fed(decoder: &mut Decoder, piece: &[u8]) -> Result<Fed, FrameFault> {
+    match decoder.feed(piece) {
+        Err(FrameFault::Memory) => decoder.feed(piece),
+        answer => answer,
+    }
+}
+
+// Feeds the beginning of a piece, and puts the spelling of a frame that it gives behind the text. How many bytes were taken.
+fn feed_some(
+    rt: &impl Abort,
+    alloc: Global,
+    decoder: &mut Decoder,
+    piece: &[u8],
+    text: &mut Vec<u8>,
+) -> usize {
+    let fed = fed(decoder, piece).expect(rt, "no fault");
+    let taken = fed.taken;
+    if let Some(frame) = &fed.frame {
+        let bytes = encoded(rt, alloc, frame.as_frame());
+        put(rt, text, &bytes);
+    }
+    taken
+}
+
+// Feeds all of a piece, and puts the spellings of the frames that it gives behind the text.
+fn feed_all(
+    rt: &impl Abort,
+    alloc: Global,
+    decoder: &mut Decoder,
+    piece: &[u8],
+    text: &mut Vec<u8>,
+) {
+    let mut rest = piece;
+    for _ in 0..=piece.len() {
+        if rest.is_empty() {
+            return;
+        }
+        let taken = feed_some(rt, alloc, decoder, rest, text);
+        rest = rest.get(taken..).expect(rt, "took too much");
+    }
+}
+
+// Whether these pieces, which have to end between two frames, give the frames that are spelled so.
+fn give(rt: &impl Abort, alloc: Global, pieces: &[&[u8]], want: &[u8]) -> bool {
+    let mut decoder = Decoder::new(alloc);
+    let mut text = Vec::new(alloc);
+    for piece in pieces {
+        feed_all(rt, alloc, &mut decoder, piece, &mut text);
+    }
+    assert!(rt; decoder.finish() == Ok(()));
+    text.as_slice() == want
+}
+
+// Whether the frames come of bytes that are cut in two; `first` is the size of the first piece.
+fn come_in_two(rt: &impl Abort, alloc: Global, bytes: &[u8], want: &[u8], first: usize) -> bool {
+    let (begin, end) = bytes.split_at(first.min(bytes.len()));
+    give(rt, alloc, &[begin, end], want)
+}
+
+// Frames of both formats alternate in the stream, which has 180 bytes and is cut at each of them.
+#[test]
+fn both_formats_in_one_stream(rt: HostRuntime) {
+    let mixed: [&[u8]; 6] = [
+        &NARROW,
+        &TWICE,
+        &NARROW_WISH,
+        &WISH,
+        &NARROW_NOTHING,
+        &NOTHING,
+    ];
+    let stream = joined(&rt, rt.alloc(), &mixed);
+    assert!(rt; stream.len() == 180);
+    let wide: [&[u8]; 6] = [&WIDENED, &TWICE, &WISH, &WISH, &NOTHING, &NOTHING];
+    let want = joined(&rt, rt.alloc(), &wide);
+    for first in 0..=stream.len() {
+        let comes = come_in_two(&rt, rt.alloc(), &stream, &want, first);
+        row_holds(&rt, first, comes);
+    }
+}
+
+fn fault_of(decoder: &mut Decoder, piece: &[u8]) -> Option<FrameFault> {
+    fed(decoder, piece).err()
+}
+
+// A frame comes twice of its bytes, twice over and in pieces of a size; then bytes that begin no frame fail the decoder.
+fn comes_twice(rt: &impl Abort, alloc: Global, bytes: &[u8], want: &[u8], size: usize) {
+    let twice = joined(rt, alloc, &[bytes, bytes]);
+    let mut decoder = Decoder::new(alloc);
+    let mut text = Vec::new(alloc);
+    for piece in twice.chunks(size.max(1)) {
+        feed_all(rt, alloc, &mut decoder, piece, &mut text);
+    }
+    let wanted = joined(rt, alloc, &[want, want]);
+    row_holds(rt, size, text.as_slice() == wanted.as_slice());
+    assert!(rt; decoder.finish() == Ok(()));
+    assert!(rt; fault_of(&mut decoder, &[0; 4]) == Some(FrameFault::BadMagic));
+    assert!(rt; fault_of(&mut decoder, bytes) == Some(FrameFault::Failed));
+    assert!(rt; decoder.finish() == Err(FrameFault::Failed));
+}
+
+#[test]
+fn a_frame_twice_over(rt: HostRuntime) {
+    for size in [1, 2, 41, 42, 43, 53, 54, 55, 84, 108] {
+        comes_twice(&rt, rt.alloc(), &TWICE, &TWICE, size);
+        comes_twice(&rt, rt.alloc(), &NARROW, &WIDENED, size);
+    }
+}
+
+// Bytes of a frame without its last byte are taken whole, and are no end of a stream.
+fn is_not_the_end(rt: &impl Abort, alloc: Global, part: &[u8]) {
+    let mut decoder = Decoder::new(alloc);
+    assert!(rt; decoder.finish() == Ok(()));
+    let begun = fed(&mut decoder, part).expect(rt, "no fault");
+    assert!(rt; begun.taken == part.len() && begun.frame.is_none());
+    assert!(rt; decoder.finish() == Err(FrameFault::Truncated));
+}
+
+#[test]
+fn a_part_is_not_the_end(rt: HostRuntime) {
+    is_not_the_end(&rt, rt.alloc(), &TWICE[..53]);
+    is_not_the_end(&rt, rt.alloc(), &NARROW[..41]);
+}
+
+// How many bytes were taken, fed byte by byte, before the fault.
+fn place_of_fault(alloc: Global, bytes: &[u8]) -> Option<(usize, FrameFault)> {
+    let mut decoder = Decoder::new(alloc);
+    for (place, byte) in bytes.iter().enumerate() {
+        if let Err(fault) = fed(&mut decoder, &[*byte]) {
+            return Some((place, fault));
+        }
+    }
+    None
+}
+
+// Whether the bytes are refused so by `decode`, at a place where they are fed byte by byte, and where they are fed as one piece.
+fn faults_at(alloc: Global, bytes: &[u8], at: usize, want: FrameFault) -> bool {
+    fault(alloc, bytes) == Some(want)
+        && place_of_fault(alloc, bytes) == Some((at, want))
+        && fault_of(&mut Decoder::new(alloc), bytes) == Some(want)
+}
+
+// A place in TWICE, the byte that is put there, the place at which the fault is known, and the fault.
+const WIDE_FAULTS: [(usize, u8, usize, FrameFault); 13] = [
+    (0, 0x4D, 3, FrameFault::BadMagic),
+    (4, 0, 4, FrameFault::BadKind),
+    (4, 4, 4, FrameFault::BadKind),
+    (5, 1, 6, FrameFault::BadSender),
+    (6, 0, 6, FrameFault::BadSender),
+    (6, 65, 6, FrameFault::BadSender),
+    (15, 1, 18, FrameFault::BadLength),
+    (19, 1, 53, FrameFault::BadCount),
+    (22, 2, 53, FrameFault::BadLength),
+    (33, 3, 53, FrameFault::BadTag),
+    (43, 0, 53, FrameFault::BadStamp),
+    (51, 20, 53, FrameFault::BadStamp),
+    (53, 65, 53, FrameFault::BadStamp),
+];
+
+// The same for NARROW. With the letters of the wide format zeros of the page stand in the place of the length.
+const NARROW_FAULTS: [(usize, u8, usize, FrameFault); 16] = [
+    (0, 0x4D, 3, FrameFault::BadMagic),
+    (3, 0x30, 3, FrameFault::BadMagic),
+    (3, 0x33, 3, FrameFault::BadMagic),
+    (3, 0x32, 18, FrameFault::BadLength),
+    (4, 0, 4, FrameFault::BadKind),
+    (4, 4, 4, FrameFault::BadKind),
+    (5, 1, 6, FrameFault::BadSender),
+    (6, 0, 6, FrameFault::BadSender),
+    (6, 65, 6, FrameFault::BadSender),
+    (7, 1, 10, FrameFault::BadLength),
+    (11, 1, 41, FrameFault::BadCount),
+    (14, 2, 41, FrameFault::BadLength),
+    (21, 3, 41, FrameFault::BadTag),
+    (31, 0, 41, FrameFault::BadStamp),
+    (39, 20, 41, FrameFault::BadStamp),
+    (41, 65, 41, FrameFault::BadStamp),
+];
+
+#[test]
+fn a_fault_comes_with_its_byte(rt: HostRuntime) {
+    for (place, value, at, want) in WIDE_FAULTS {
+        let is_found = faults_at(rt.alloc(), &changed(place, value), at, want);
+        row_holds(&rt, place, is_found);
+    }
+    for (place, value, at, want) in NARROW_FAULTS {
+        let is_found = faults_at(rt.alloc(), &narrow_changed(place, value), at, want);
+        row_holds(&rt, place, is_found);
+    }
+}

@@ -1,0 +1,75 @@
+//! Numbers of replicas and buckets, and the bytes of stamps and pages.
+
+use test_kit::{page_on, stamp};
+use warm_stamps::{
+    BadReplica, Bucket, ReplicaId, bucket_of, page_bytes, page_from, page_from_narrow, stamp_bytes,
+    stamp_from,
+};
+
+fn replica_number(number: u16) -> Result<u16, BadReplica> {
+    let replica = ReplicaId::new(number)?;
+    Ok(replica.get())
+}
+
+#[test]
+fn replicas_are_numbered_from_1_to_64(rt: HostRuntime) {
+    assert!(rt; replica_number(0) == Err(BadReplica));
+    assert!(rt; replica_number(1) == Ok(1));
+    assert!(rt; replica_number(64) == Ok(64));
+    assert!(rt; replica_number(65) == Err(BadReplica));
+}
+
+fn bucket_number(number: u8) -> Option<u8> {
+    let bucket = Bucket::new(number)?;
+    Some(bucket.get())
+}
+
+#[test]
+fn buckets_are_numbered_from_0_to_63(rt: HostRuntime) {
+    assert!(rt; bucket_number(0) == Some(0));
+    assert!(rt; bucket_number(63) == Some(63));
+    assert!(rt; bucket_number(64) == None);
+}
+
+fn page_bucket(dev: u16, no: u64) -> u8 {
+    bucket_of(page_on(dev, no)).get()
+}
+
+#[test]
+fn a_page_falls_into_the_bucket_of_its_sum(rt: HostRuntime) {
+    assert!(rt; page_bucket(0, 65) == 1);
+    assert!(rt; page_bucket(1, 0) == 1);
+    assert!(rt; page_bucket(0, 18446744073709551615) == 63);
+    assert!(rt; page_bucket(65535, 18446744073709551615) == 62);
+}
+
+// 20@1, as ten bytes.
+const STAMP: [u8; 10] = [0, 0, 0, 0, 0, 0, 0, 0x14, 0, 1];
+
+#[test]
+fn stamps_have_ten_bytes(rt: HostRuntime) {
+    assert!(rt; stamp_bytes(stamp(20, 1)) == STAMP);
+    assert!(rt; stamp_from(&STAMP) == Ok(stamp(20, 1)));
+    assert!(rt; stamp_from(&[0; 10]) == Err(BadReplica));
+}
+
+// A page is spelled by these bytes, and read from them.
+fn is_page(bytes: [u8; 10], dev: u16, no: u64) -> bool {
+    let page = page_on(dev, no);
+    (page_bytes(page), page_from(&bytes)) == (bytes, page)
+}
+
+#[test]
+fn pages_have_ten_bytes(rt: HostRuntime) {
+    // The bytes of 258:217304205466536202 all differ.
+    let apart = [1, 2, 3, 4, 5, 6, 7, 8, 9, 10];
+    assert!(rt; is_page(apart, 258, 217304205466536202));
+    assert!(rt; is_page([0, 0, 0, 0, 0, 1, 0, 0, 0, 0], 0, 4294967296));
+    assert!(rt; is_page([255; 10], 65535, 18446744073709551615));
+}
+
+#[test]
+fn pages_had_six_bytes(rt: HostRuntime) {
+    assert!(rt; page_from_narrow(&[1, 2, 3, 2, 1, 0]) == page_on(258, 50462976));
+    assert!(rt; page_from_narrow(&[255; 6]) == page_on(65535, 4294967295));
+}
