@@ -2,7 +2,7 @@
 """Measures visits to resident pages of a pool, pins of pages that are in no frame, and the emptying of a full pool beside those in plain
 Rust, and how emptying a pool and retiring a device grow with the frames, and prints the tables of docs/PERFORMANCE.md.
 
-usage: measure.py [NAME..]      empty, full, visits, misses (all, where none is named)
+usage: measure.py [NAME..]      empty, full, visits, misses, boxed (all, where none is named)
 
 It wants the proved program (`rt run` in crates/benches leaves it as crates/benches/out/benches) and `rustc`.
 The programs run in turn, five times, and the fastest run of each counts. All must print the same sum.
@@ -92,6 +92,27 @@ def beside(what: list[str], count: int, plains: dict[str, list[str]]) -> None:
         print(f"| {name} | {ours:.0f} | {spent:.0f} | {spent / ours:.2f} |", flush=True)
 
 
+def print_boxed() -> None:
+    """A pin that hits and one that misses, over devices of a named type, in boxes, and in plain Rust. All must have read the same."""
+    print("| what | devices of a named type, ns | in boxes, ns | plain Rust, ns | boxes by named | plain Rust by named |")
+    print("|---|---|---|---|---|---|")
+    with tempfile.TemporaryDirectory() as folder:
+        plain = Path(folder) / "plain"
+        subprocess.run(["rustc", "-O", "--edition", "2024", "-o", plain, HERE / "plain.rs"], check=True)
+        for what, words, count in (("a visit of a resident page", [str(VISITS)], VISITS), ("a miss", ["misses", str(MISSES)], MISSES)):
+            commands = {"named": [*OURS, *words], "boxed": [*OURS, "boxed", *words], "plain": [plain, *words, "mixed"]}
+            best: dict[str, float] = {}
+            for _ in range(RUNS):
+                read = set()
+                for name, command in commands.items():
+                    line, spent = one_run(command)
+                    read.add(line)
+                    best[name] = min(spent / count, best.get(name, spent))
+                assert len(read) == 1, read
+            named = best["named"]
+            print(f"| {what} | {named:.0f} | {best['boxed']:.0f} | {best['plain']:.0f} | {best['boxed'] / named:.2f} | {best['plain'] / named:.2f} |", flush=True)
+
+
 def print_visits() -> None:
     print("| index of the plain program | ours, ns a visit | plain Rust, ns a visit | plain time by ours |")
     print("|---|---|---|---|")
@@ -104,7 +125,7 @@ def print_misses() -> None:
     beside(["misses", str(MISSES)], MISSES, PLAINS)
 
 
-TABLES = {"empty": print_emptying, "full": print_full, "visits": print_visits, "misses": print_misses}
+TABLES = {"empty": print_emptying, "full": print_full, "visits": print_visits, "misses": print_misses, "boxed": print_boxed}
 
 
 def main() -> None:

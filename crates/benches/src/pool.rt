@@ -1,9 +1,10 @@
 //! Measures a pool of pages of 64 bytes over devices in memory, for `bench/pool/measure.py`. Each call prints nanoseconds.
 //!
-//! - With a number: so many visits of resident pages, drawn evenly from 65,536 frames. A visit pins a page, reads eight bytes of
-//!   it, writes eight, and unpins it.
-//! - `misses` and a number: so many pins of pages that are in no frame of 65,536, each read and unpinned. Of each page two
-//!   references are known, and the page that leaves stands anywhere among the frames.
+//! - With a number: this number of visits of resident pages, drawn evenly from 65,536 frames. A visit pins a page, reads eight
+//!   bytes of it, writes eight, and unpins it.
+//! - `misses` and a number: this number of pins of pages that are in no frame of 65,536, each read and unpinned. Of each page two
+//!   references are known, and the page that leaves is in any of the frames.
+//! - Either with `boxed` before it: the same over devices in boxes, whose calls go through a table.
 //! - `empty` or `retire`, a number of frames and a word: a pool of that many frames is emptied, or the device of the pages that it
 //!   holds is retired (where all frames hold one, that of the lower half).
 //!
@@ -26,6 +27,13 @@ const PAGE_SIZE: usize = 64;
 
 // Some times the memory of a core's own cache.
 const BESIDE: usize = 32 << 20;
+
+/// How a pool has its devices: as values of a named type, whose calls are static, or in boxes, whose calls go through a table.
+#[derive(Clone, Copy)]
+enum Place {
+    Named,
+    Boxed,
+}
 
 /// Which frames hold a page as a pool is emptied.
 #[derive(Clone, Copy)]
@@ -57,7 +65,12 @@ impl Held {
 }
 
 // Pins, reads, writes and unpins a page, and gives the first byte that was read.
-fn visit(pool: &mut Pool<MemDevice>, history: &History, no: u64, byte: u8) -> Result<u8, PoolFault>
+fn visit<D: PageDevice>(
+    pool: &mut Pool<D>,
+    history: &History,
+    no: u64,
+    byte: u8,
+) -> Result<u8, PoolFault>
     requires { RankedBy pool.old history.now }
     ensures { RankedBy pool.new history.now }
 {
@@ -70,8 +83,8 @@ fn visit(pool: &mut Pool<MemDevice>, history: &History, no: u64, byte: u8) -> Re
 }
 
 // Brings so many pages of a device into frames.
-fn load_pages(
-    pool: &mut Pool<MemDevice>,
+fn load_pages<D: PageDevice>(
+    pool: &mut Pool<D>,
     history: &History,
     dev: u16,
     pages: u64,
@@ -86,7 +99,7 @@ fn load_pages(
 }
 
 // Pins, reads and unpins a page, and gives the first byte that was read.
-fn look_at(pool: &mut Pool<MemDevice>, history: &History, no: u64) -> Result<u8, PoolFault>
+fn look_at<D: PageDevice>(pool: &mut Pool<D>, history: &History, no: u64) -> Result<u8, PoolFault>
     requires { RankedBy pool.old history.now }
     ensures { RankedBy pool.new history.now }
 {
@@ -98,7 +111,7 @@ fn look_at(pool: &mut Pool<MemDevice>, history: &History, no: u64) -> Result<u8,
 }
 
 // Brings the first pages of device 0 into all frames, so that pages that follow one another stand far apart.
-fn load_apart(pool: &mut Pool<MemDevice>, history: &History) -> Result<(), PoolFault>
+fn load_apart<D: PageDevice>(pool: &mut Pool<D>, history: &History) -> Result<(), PoolFault>
     requires { RankedBy pool.old history.now }
     ensures { RankedBy pool.new history.now }
 {
@@ -111,7 +124,11 @@ fn load_apart(pool: &mut Pool<MemDevice>, history: &History) -> Result<(), PoolF
 
 // Looks at the pages from the number of frames up to another, and gives the sum of what was read. Where the first pages are in
 // the frames and ranks rise, none of these is, and the page of the least number leaves.
-fn miss_often(pool: &mut Pool<MemDevice>, history: &History, pages: u64) -> Result<u64, PoolFault>
+fn miss_often<D: PageDevice>(
+    pool: &mut Pool<D>,
+    history: &History,
+    pages: u64,
+) -> Result<u64, PoolFault>
     requires { RankedBy pool.old history.now }
     ensures { RankedBy pool.new history.now }
 {
@@ -124,7 +141,11 @@ fn miss_often(pool: &mut Pool<MemDevice>, history: &History, pages: u64) -> Resu
 }
 
 // Makes so many visits to pages that a linear congruence draws, and gives the sum of what was read.
-fn visit_often(pool: &mut Pool<MemDevice>, history: &History, visits: u64) -> Result<u64, PoolFault>
+fn visit_often<D: PageDevice>(
+    pool: &mut Pool<D>,
+    history: &History,
+    visits: u64,
+) -> Result<u64, PoolFault>
     requires { RankedBy pool.old history.now }
     ensures { RankedBy pool.new history.now }
 {
@@ -144,13 +165,14 @@ fn paged(alloc: Global, pages: u64) -> Result<MemDevice> {
     Ok(MemDevice::new(alloc, pages, PAGE_SIZE)?)
 }
 
+// A device in a box.
+fn boxed(alloc: Global, device: MemDevice) -> Result<Box<dyn PageDevice + Send>> {
+    let device = Box::new(alloc, device)?;
+    Ok(device)
+}
+
 // A pool over two devices, without a page.
-fn opened(
-    alloc: Global,
-    frames: u64,
-    first: MemDevice,
-    second: MemDevice,
-) -> Result<Pool<MemDevice>>
+fn opened<D: PageDevice>(alloc: Global, frames: u64, first: D, second: D) -> Result<Pool<D>>
     ensures { IfOk result (λ pool. IsRankedByAll pool) }
 {
     let Ok(mut devices) = Vec::with_capacity(alloc, 2) else {
@@ -165,9 +187,9 @@ fn opened(
 }
 
 // The sum of what so many visits read, and the time that they took.
-fn visits_of(
+fn visits_of<D: PageDevice>(
     clock: &impl Clock,
-    pool: &mut Pool<MemDevice>,
+    pool: &mut Pool<D>,
     history: &History,
     visits: u64,
 ) -> Result<(u64, Duration)>
@@ -183,11 +205,33 @@ fn visits_of(
     Ok((sum, start.elapsed(clock)?))
 }
 
-fn visited(clock: &impl Clock, alloc: Global, visits: u64) -> Result<(u64, Duration)> {
-    let (first, second) = (paged(alloc, FRAMES)?, paged(alloc, FRAMES)?);
+// Visits over two devices. A pool over boxes can be named by no type, so that it lives here.
+fn visited_over<D: PageDevice>(
+    clock: &impl Clock,
+    alloc: Global,
+    visits: u64,
+    first: D,
+    second: D,
+) -> Result<(u64, Duration)> {
     let mut pool = opened(alloc, FRAMES, first, second)?;
     let history = History::new(alloc);
     visits_of(clock, &mut pool, &history, visits)
+}
+
+fn visited(
+    clock: &impl Clock,
+    alloc: Global,
+    place: Place,
+    visits: u64,
+) -> Result<(u64, Duration)> {
+    let (first, second) = (paged(alloc, FRAMES)?, paged(alloc, FRAMES)?);
+    match place {
+        Place::Named => visited_over(clock, alloc, visits, first, second),
+        Place::Boxed => {
+            let (first, second) = (boxed(alloc, first)?, boxed(alloc, second)?);
+            visited_over(clock, alloc, visits, first, second)
+        }
+    }
 }
 
 // What is known of so many pages: of each two references, so that ranks rise with the pages.
@@ -225,9 +269,9 @@ fn numbered(alloc: Global, pages: u64) -> Result<MemDevice> {
 }
 
 // The sum of what so many pins with misses read, and the time that they took.
-fn misses_of(
+fn misses_of<D: PageDevice>(
     clock: &impl Clock,
-    pool: &mut Pool<MemDevice>,
+    pool: &mut Pool<D>,
     history: &History,
     pages: u64,
 ) -> Result<(u64, Duration)>
@@ -243,12 +287,29 @@ fn misses_of(
     Ok((sum, start.elapsed(clock)?))
 }
 
-fn missed(clock: &impl Clock, alloc: Global, misses: u64) -> Result<(u64, Duration)> {
-    let pages = FRAMES.saturating_add(misses);
-    let (first, second) = (numbered(alloc, pages)?, paged(alloc, 1)?);
+// Misses over two devices, of which the first has the pages.
+fn missed_over<D: PageDevice>(
+    clock: &impl Clock,
+    alloc: Global,
+    pages: u64,
+    first: D,
+    second: D,
+) -> Result<(u64, Duration)> {
     let mut pool = opened(alloc, FRAMES, first, second)?;
     let history = references(alloc, pages)?;
     misses_of(clock, &mut pool, &history, pages)
+}
+
+fn missed(clock: &impl Clock, alloc: Global, place: Place, misses: u64) -> Result<(u64, Duration)> {
+    let pages = FRAMES.saturating_add(misses);
+    let (first, second) = (numbered(alloc, pages)?, paged(alloc, 1)?);
+    match place {
+        Place::Named => missed_over(clock, alloc, pages, first, second),
+        Place::Boxed => {
+            let (first, second) = (boxed(alloc, first)?, boxed(alloc, second)?);
+            missed_over(clock, alloc, pages, first, second)
+        }
+    }
 }
 
 /// What is timed.
@@ -366,10 +427,12 @@ fn timed(
 
 // Does a little of all that is measured.
 fn play_small(rt: &HostRuntime) -> Result<()> {
-    let (sum, _) = visited(rt, rt.alloc(), 1_000)?;
-    println!(rt; "1000 visits: {}", sum)?;
-    let (sum, _) = missed(rt, rt.alloc(), 1_000)?;
-    println!(rt; "1000 misses: {}", sum)?;
+    for place in [Place::Named, Place::Boxed] {
+        let (sum, _) = visited(rt, rt.alloc(), place, 1_000)?;
+        println!(rt; "1000 visits: {}", sum)?;
+        let (sum, _) = missed(rt, rt.alloc(), place, 1_000)?;
+        println!(rt; "1000 misses: {}", sum)?;
+    }
     timed(rt, rt.alloc(), 4_096, Held::UpperHalf, Call::Empty)?;
     println!(rt; "4096 frames emptied")?;
     timed(rt, rt.alloc(), 4_096, Held::UpperHalf, Call::Retire)?;
@@ -384,15 +447,15 @@ fn tell(rt: &HostRuntime, count: u64, what: &str, read: (u64, Duration)) -> Resu
     Ok(())
 }
 
-fn play_visits(rt: &HostRuntime, visits: &str) -> Result<()> {
+fn play_visits(rt: &HostRuntime, place: Place, visits: &str) -> Result<()> {
     let visits = visits.parse::<u64>().context("the number of visits")?;
-    let read = visited(rt, rt.alloc(), visits)?;
+    let read = visited(rt, rt.alloc(), place, visits)?;
     tell(rt, visits, "visits", read)
 }
 
-fn play_misses(rt: &HostRuntime, misses: &str) -> Result<()> {
+fn play_misses(rt: &HostRuntime, place: Place, misses: &str) -> Result<()> {
     let misses = misses.parse::<u64>().context("the number of misses")?;
-    let read = missed(rt, rt.alloc(), misses)?;
+    let read = missed(rt, rt.alloc(), place, misses)?;
     tell(rt, misses, "misses", read)
 }
 
@@ -403,14 +466,20 @@ fn play_call(rt: &HostRuntime, call: Call, frames: &str, held: &str) -> Result<(
     Ok(())
 }
 
+// Visits or misses, as the words say.
+fn play_pins(rt: &HostRuntime, place: Place, words: &[String]) -> Result<()> {
+    match words {
+        [visits] => play_visits(rt, place, visits),
+        [word, misses] if word.as_str() == "misses" => play_misses(rt, place, misses),
+        _ => bail!("visits are a number, and misses the word and a number"),
+    }
+}
+
 pub(crate) fn play(rt: &HostRuntime, words: &[String]) -> Result<()> {
     match words {
         [] => play_small(rt),
-        [visits] => play_visits(rt, visits),
-        [word, misses] if word.as_str() == "misses" => play_misses(rt, misses),
+        [word, rest @ ..] if word.as_str() == "boxed" => play_pins(rt, Place::Boxed, rest),
         [call, frames, held] => play_call(rt, Call::from_word(call)?, frames, held),
-        _ => bail!(
-            "pool takes visits, misses and a number, or a call, frames and what holds a page"
-        ),
+        _ => play_pins(rt, Place::Named, words),
     }
 }
