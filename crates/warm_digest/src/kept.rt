@@ -13,6 +13,7 @@ use sha2::{Digest, Sha256};
 use std::alloc::{AllocError, Global};
 use std::marker::Model;
 use warm_frames::{MAX_ENTRY_SIZE, SUM_SIZE, SumTable, put_entry};
+use warm_history::laws::is_history;
 use warm_history::{EntriesSince, Entry, History};
 use warm_stamps::{BUCKETS, Bucket};
 
@@ -69,8 +70,8 @@ impl Sums {
         if mask == 0 {
             return Ok(());
         }
-        // Asked for what holds of every history: none of its stamps is older than its horizon.
-        let _whole = history.len();
+        // Nothing is older than the horizon, so sums since time 0 are sums of all entries.
+        is_history(history);
         self.sums = renewed(self.alloc, self.sums, history, 0, mask)?;
         Ok(())
     }

@@ -9,6 +9,7 @@ use crate::kept::Sums;
 use std::alloc::{AllocError, Global};
 use std::marker::Model;
 use warm_frames::SumTable;
+use warm_history::laws::is_history;
 use warm_history::{Entry, History};
 use warm_stamps::{BUCKETS, Bucket, PageId, Reference, bucket_of};
 
@@ -75,8 +76,8 @@ impl SummedHistory {
         ensures exact { OnOk result (self.new ≡ history (refs self.old ∪ these batch.now)) }
         ensures err { OnErr result (self.new ≡ self.old) }
     {
-        // Asked for what holds of every history: its pages rise.
-        let _whole = self.history.len();
+        // Pages rise, so the entries of a bucket without a reference of the batch stay.
+        is_history(&self.history);
         self.history.absorb(batch)?;
         self.changed = mark_references(self.changed, batch);
         Ok(())
@@ -88,8 +89,6 @@ impl SummedHistory {
         ensures exact { OnOk result (self.new ≡ join self.old (holding_since horizon more.now)) }
         ensures err { OnErr result (self.new ≡ self.old) }
     {
-        // Asked for what holds of every history: its pages rise.
-        let _whole = self.history.len();
         let lost = losing(&self.history, horizon);
         self.history.join_entries(horizon, more)?;
         self.changed = mark_entries(self.changed | lost, more);

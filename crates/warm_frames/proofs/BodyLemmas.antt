@@ -18,10 +18,8 @@ use Rattle.warm_history.specs.Histories.{PagesRise}
 use Rattle.warm_history.proofs.MergeLemmas.{rises_on}
 use Rattle.warm_frames.specs.declared.format.Format.{Format}
 use Rattle.warm_frames.specs.declared.format.Format.TheVariants.{Narrow, Wide}
-use Rattle.warm_frames.specs.declared.writing.TheConstants.{MAX_ENTRY_SIZE}
-use Rattle.warm_frames.specs.declared.entries.TheConstants.{MAX_ENTRIES}
+use Rattle.warm_frames.specs.declared.layout.TheConstants.{MAX_ENTRY_SIZE, MAX_ENTRIES, SUM_SIZE}
 use Rattle.warm_frames.specs.declared.fault.FrameFault.TheVariants.{BadLength, BadCount}
-use Rattle.warm_frames.specs.declared.sums.TheConstants.{SUM_SIZE}
 use Rattle.warm_frames.specs.Entries.{hist_bytes, page_bytes_in, entry_bytes_in, entries_bytes_in, IsEntry, IsEntryList}
 use Rattle.warm_frames.specs.Sums.{IsSumTable, table_size}
 use Rattle.warm_frames.specs.Reading.{◌>>=◌, entry_size, number_at, want, entry_at, entries_at, count_at, all_entries, entries_of, sums_of}

@@ -11,7 +11,7 @@ use Rattle.warm_frames.specs.declared.decoder.Fed.{Fed}
 use Rattle.warm_frames.specs.declared.fault.FrameFault.{FrameFault}
 use Rattle.warm_frames.specs.declared.fault.FrameFault.TheVariants.{Memory, Truncated}
 use Rattle.warm_frames.specs.declared.frame.Frame.{Frame}
-use Rattle.warm_frames.specs.declared.format.TheConstants.{HEADER_SIZE}
+use Rattle.warm_frames.specs.declared.layout.TheConstants.{HEADER_SIZE}
 use Rattle.warm_frames.specs.Pieces.{DecoderState, Inside, Broken, state_of, IsPart, IsLasting, Feeds, Takes, DecodesWith, KnowsWith}
 use Rattle.warm_frames.specs.Sizes.{frame_size, KnowsSize, SaysSize}
 use Rattle.warm_frames.proofs.SizeLemmas.{size_goes, known_stays, no_ok, err_is, lt_or_le, lt_or_is, size_over, header_enough, header_lasts, size_whole, size_settled, fault_of_body, fault_of_header, ShownIn}

@@ -4,8 +4,7 @@ use Rattle.std.specs.Int.{Width, w16, w32, w64, byte_len, from_be_bytes}
 use Rattle.std.proofs.lemmas.Bool.{ltb-false, ltb-true, le-ltb}
 use Rattle.std.proofs.lemmas.Bool.Decides.{nat_tests}
 use Rattle.std.proofs.lemmas.List.{append-nil, take_all, take-append-drop, take-append-le, drop-append-le, length-append, length-take, nil_from_length}
-use Rattle.warm_frames.specs.declared.writing.TheConstants.{MAX_ENTRY_SIZE}
-use Rattle.warm_frames.specs.declared.entries.TheConstants.{MAX_ENTRIES}
+use Rattle.warm_frames.specs.declared.layout.TheConstants.{MAX_ENTRY_SIZE, MAX_ENTRIES, HEADER_SIZE, MAGIC}
 use Rattle.warm_frames.specs.declared.fault.FrameFault.{FrameFault}
 use Rattle.warm_frames.specs.declared.fault.FrameFault.TheVariants.{Truncated, BadMagic, BadSender, BadLength}
 use Rattle.warm_frames.specs.declared.frame.Frame.{Frame}
@@ -13,7 +12,6 @@ use Rattle.warm_frames.specs.declared.reading.Kind.{Kind}
 use Rattle.warm_frames.specs.declared.reading.Kind.TheVariants as kinds
 use Rattle.warm_frames.specs.declared.format.Format.{Format}
 use Rattle.warm_frames.specs.declared.format.Format.TheVariants.{Narrow, Wide}
-use Rattle.warm_frames.specs.declared.format.TheConstants.{HEADER_SIZE, MAGIC}
 use Rattle.warm_frames.specs.Pieces.{IsLasting, IsPart, ShowsFault}
 use Rattle.warm_frames.specs.Reading.{◌>>=◌, number_at, byte_at, want, is_replica, kind_of, may_have, Start, format_of, horizon_at, start_at, length_at, whole_body, body_at, frame_of, read_frame}
 use Rattle.warm_frames.specs.Sizes.{header_size, frame_size}

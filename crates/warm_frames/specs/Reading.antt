@@ -14,16 +14,13 @@ use Rattle.warm_history.specs.declared.hist.Entry.{Entry}
 use Rattle.warm_history.specs.Carried.{comes_after}
 use Rattle.warm_frames.specs.declared.format.Format.{Format}
 use Rattle.warm_frames.specs.declared.format.Format.TheVariants.{Narrow, Wide}
-use Rattle.warm_frames.specs.declared.format.TheConstants.{MAGIC, NARROW_MAGIC, NARROW_ENTRY_SIZE}
-use Rattle.warm_frames.specs.declared.writing.TheConstants.{MAX_ENTRY_SIZE}
-use Rattle.warm_frames.specs.declared.entries.TheConstants.{MAX_ENTRIES}
+use Rattle.warm_frames.specs.declared.layout.TheConstants.{MAGIC, NARROW_MAGIC, NARROW_MAX_ENTRY_SIZE, MAX_ENTRY_SIZE, MAX_ENTRIES, SUM_SIZE}
 use Rattle.warm_frames.specs.declared.fault.FrameFault.{FrameFault}
 use Rattle.warm_frames.specs.declared.fault.FrameFault.TheVariants.{Memory, Truncated, BadMagic, BadKind, BadSender, BadLength, BadCount, BadTag, BadStamp, BadOrder}
 use Rattle.warm_frames.specs.declared.frame.Frame.{Frame}
 use Rattle.warm_frames.specs.declared.frame.Frame.TheVariants as frames
 use Rattle.warm_frames.specs.declared.reading.Kind.{Kind}
 use Rattle.warm_frames.specs.declared.reading.Kind.TheVariants as kinds
-use Rattle.warm_frames.specs.declared.sums.TheConstants.{SUM_SIZE}
 use Rattle.warm_frames.specs.Spelling.{Spells}
 use Rattle.warm_frames.specs.Sums.{table_size}
 
@@ -71,7 +68,7 @@ format_of letters = if letters == MAGIC then Ok Wide else if letters == NARROW_M
 
 -- the most bytes of an entry
 abbrev pub entry_size : Format → ℕ
-entry_size Narrow = NARROW_ENTRY_SIZE
+entry_size Narrow = NARROW_MAX_ENTRY_SIZE
 entry_size Wide = MAX_ENTRY_SIZE
 
 -- the lengths that the body of a frame of this kind can have

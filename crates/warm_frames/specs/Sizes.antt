@@ -4,7 +4,7 @@ use Rattle.warm_frames.specs.declared.fault.FrameFault.{FrameFault}
 use Rattle.warm_frames.specs.declared.fault.FrameFault.TheVariants.{Truncated}
 use Rattle.warm_frames.specs.declared.format.Format.{Format}
 use Rattle.warm_frames.specs.declared.format.Format.TheVariants.{Narrow, Wide}
-use Rattle.warm_frames.specs.declared.format.TheConstants.{HEADER_SIZE, NARROW_HEADER_SIZE}
+use Rattle.warm_frames.specs.declared.layout.TheConstants.{HEADER_SIZE, NARROW_HEADER_SIZE}
 use Rattle.warm_frames.specs.Reading.{◌>>=◌, start_at, length_at}
 
 -- how many bytes a header has

@@ -6,7 +6,7 @@ use Rattle.warm_stamps.specs.Bytes.{IsReplica}
 use Rattle.warm_history.specs.declared.hist.Entry.{Entry}
 use Rattle.warm_frames.specs.declared.format.Format.{Format}
 use Rattle.warm_frames.specs.declared.format.Format.TheVariants.{Narrow, Wide}
-use Rattle.warm_frames.specs.declared.format.TheConstants.{MAGIC, NARROW_MAGIC}
+use Rattle.warm_frames.specs.declared.layout.TheConstants.{MAGIC, NARROW_MAGIC}
 use Rattle.warm_frames.specs.declared.frame.Frame.{Frame}
 use Rattle.warm_frames.specs.declared.frame.Frame.TheVariants.{Entries, Digest, Want}
 use Rattle.warm_frames.specs.Entries.{IsEntryList, entries_bytes_in}

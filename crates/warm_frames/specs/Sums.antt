@@ -2,7 +2,7 @@
 use Rattle.std.specs.Prelude.{◌≡◌, ℕ, ◌*◌, List, [], length, slice_index_or}
 use Rattle.std.specs.List.{AllByRecursion}
 use Rattle.warm_stamps.specs.declared.TheConstants.{BUCKETS}
-use Rattle.warm_frames.specs.declared.sums.TheConstants.{SUM_SIZE}
+use Rattle.warm_frames.specs.declared.layout.TheConstants.{SUM_SIZE}
 
 -- a sum for each bucket
 pub record IsSumTable (sums : List (List ℕ)) : Type 0 where

@@ -1,13 +1,13 @@
 //! Frames from a stream of bytes that comes in pieces.
 ghost use Rattle.std.specs.Prelude.{◌≡◌, ◌⊎◌, ◌<◌, ◌++◌, [], length, None, IfOk, IfErr, OnOk, OnErr};
-ghost use Rattle.warm_frames.specs.declared.format.TheConstants.{HEADER_SIZE};
+ghost use Rattle.warm_frames.specs.declared.layout.TheConstants.{HEADER_SIZE};
 ghost use Rattle.warm_frames.specs.Spelling.{Spells};
 ghost use Rattle.warm_frames.specs.Sizes.{frame_size, KnowsSize, SaysSize};
 ghost use Rattle.warm_frames.specs.Pieces.{DecoderState.Inside, DecodesWith, Feeds, KnowsWith, finish_of};
 
 use crate::fault::FrameFault;
-use crate::format::HEADER_SIZE;
 use crate::frame::{BoxedFrame, decode_boxed};
+use crate::layout::HEADER_SIZE;
 use crate::reading::frame_size;
 use std::alloc::Global;
 use std::cmp::min;
@@ -88,9 +88,7 @@ fn hold(held: &mut Vec<u8>, piece: &[u8]) -> Result<(), FrameFault>
     ensures err { OnErr result (held.new.items ≡ held.old.items) }
     ensures memory { IfErr result (λ fault. fault ≡ FrameFault.Memory) }
 {
-    if held.extend_from_slice(piece).is_err() {
-        return Err(FrameFault::Memory);
-    }
+    held.extend_from_slice(piece)?;
     Ok(())
 }
 

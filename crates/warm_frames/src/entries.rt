@@ -3,11 +3,10 @@ ghost use Rattle.std.specs.Prelude.{◌≡◌, ◌↔◌, IfOk, IfErr, IsOk};
 ghost use Rattle.std.specs.List.{AllByRecursion};
 ghost use Rattle.warm_frames.specs.Entries.{IsHist, IsEntry, FitsInFrame, IsEntryList};
 
+use crate::layout::MAX_ENTRIES;
 use std::marker::Model;
+use warm_history::laws::is_falling;
 use warm_history::{Entry, PageHist, pages_rise};
-
-/// The most entries that a frame carries.
-pub const MAX_ENTRIES: usize = 1000;
 
 /// At most [`MAX_ENTRIES`] entries, whose pages rise. Contracts see the list of the entries.
 #[derive(Debug, Drop)]
@@ -88,7 +87,6 @@ fn is_hist(hist: PageHist)
     ensures { IsHist hist }
 {
     if let PageHist::Twice(two) = hist {
-        // Called for what it ensures: the second stamp is older.
-        let _prev = two.prev();
+        is_falling(two);
     }
 }

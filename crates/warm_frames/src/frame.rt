@@ -139,8 +139,6 @@ pub(crate) fn decode_boxed(alloc: Global, bytes: &[u8]) -> Result<BoxedFrame, Fr
     ensures reads { (result ≡ read_frame bytes.now) ⊎ (result ≡ Err FrameFault.Memory) }
 {
     let frame = decode(alloc, bytes)?;
-    match Box::new(alloc, frame) {
-        Ok(frame) => Ok(BoxedFrame { frame }),
-        Err(_) => Err(FrameFault::Memory),
-    }
+    let frame = Box::new(alloc, frame)?;
+    Ok(BoxedFrame { frame })
 }

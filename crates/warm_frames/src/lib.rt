@@ -12,13 +12,15 @@ mod fault;
 mod format;
 mod frame;
 pub mod laws;
+pub mod layout;
 mod reading;
 mod sums;
 mod writing;
 
 pub use decoder::{Decoder, Fed};
-pub use entries::{EntryList, MAX_ENTRIES};
+pub use entries::EntryList;
 pub use fault::FrameFault;
 pub use frame::{BoxedFrame, Frame, FrameList, decode, encode};
-pub use sums::{SUM_SIZE, SumTable};
-pub use writing::{MAX_ENTRY_SIZE, put_entry};
+pub use layout::{MAX_ENTRIES, MAX_ENTRY_SIZE, SUM_SIZE};
+pub use sums::SumTable;
+pub use writing::put_entry;

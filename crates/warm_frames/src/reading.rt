@@ -6,11 +6,15 @@ ghost use Rattle.warm_history.specs.Carried.{comes_after};
 ghost use Rattle.warm_frames.specs.Reading.{Reads, number_at, byte_at, kind_of, may_have, horizon_at, start_at, length_at, body_at, front_at, stamp_in, two_in, hist_at, page_at, entry_at, entries_from, count_at, all_entries, entries_of, sums_of, read_frame, room_of, entries_room, Gives};
 ghost use Rattle.warm_frames.specs.Sizes.{frame_size};
 
-use crate::entries::{EntryList, MAX_ENTRIES};
+use crate::entries::EntryList;
 use crate::fault::FrameFault;
 use crate::format::{Format, entry_size, format_of, header_size};
 use crate::frame::Frame;
-use crate::sums::{SUM_SIZE, SUMS, SumTable, TABLE_SIZE};
+use crate::layout::{
+    COUNT_SIZE, DIGEST_KIND, ENTRIES_KIND, MASK_SIZE, MAX_ENTRIES, NARROW_PAGE_ID_SIZE, ONCE_TAG,
+    PAGE_ID_SIZE, STAMP_SIZE, SUM_SIZE, SUMS, TABLE_SIZE, TWICE_TAG, WANT_KIND,
+};
+use crate::sums::SumTable;
 use std::alloc::Global;
 use warm_history::{Entry, PageHist, Two};
 use warm_stamps::{PageId, ReplicaId, Stamp, page_from, page_from_narrow, stamp_from};
@@ -50,10 +54,10 @@ fn u64_at(bytes: &[u8], short: FrameFault) -> Result<(u64, &[u8]), FrameFault>
     }
 }
 
-fn ten_at(bytes: &[u8]) -> Result<(&[u8; 10], &[u8]), FrameFault>
-    ensures { Reads (λ x. (x.0.now, x.1.now)) result (front_at 10 FrameFault.BadLength bytes.now) }
+fn front_at<const N: usize>(bytes: &[u8]) -> Result<(&[u8; N], &[u8]), FrameFault>
+    ensures { Reads (λ x. (x.0.now, x.1.now)) result (front_at N FrameFault.BadLength bytes.now) }
 {
-    match bytes.split_first_chunk::<10>() {
+    match bytes.split_first_chunk::<N>() {
         Some((front, rest)) => Ok((front, rest)),
         None => Err(FrameFault::BadLength),
     }
@@ -72,9 +76,9 @@ fn kind_of(number: u8) -> Result<Kind, FrameFault>
     ensures { result ≡ kind_of number }
 {
     match number {
-        1 => Ok(Kind::Entries),
-        2 => Ok(Kind::Digest),
-        3 => Ok(Kind::Want),
+        ENTRIES_KIND => Ok(Kind::Entries),
+        DIGEST_KIND => Ok(Kind::Digest),
+        WANT_KIND => Ok(Kind::Want),
         _ => Err(FrameFault::BadKind),
     }
 }
@@ -83,9 +87,11 @@ fn may_have(format: Format, kind: Kind, len: usize) -> bool
     ensures { result ≡ may_have format kind len }
 {
     match kind {
-        Kind::Entries => 4 <= len && len <= 4 + entry_size(format) * MAX_ENTRIES,
+        Kind::Entries => {
+            COUNT_SIZE <= len && len <= COUNT_SIZE + entry_size(format) * MAX_ENTRIES
+        }
         Kind::Digest => len == TABLE_SIZE,
-        Kind::Want => len == 8,
+        Kind::Want => len == MASK_SIZE,
     }
 }
 
@@ -156,13 +162,11 @@ pub(crate) fn frame_size(bytes: &[u8]) -> Result<usize, FrameFault>
         Ok(start) => start,
         Err(fault) => return Err(fault),
     };
-    match length_at(format, kind, rest) {
-        Ok((len, _)) => Ok(header_size(format) + len as usize),
-        Err(fault) => Err(fault),
-    }
+    let (len, _) = length_at(format, kind, rest)?;
+    Ok(header_size(format) + len as usize)
 }
 
-fn stamp_in(bytes: &[u8; 10]) -> Result<Stamp, FrameFault>
+fn stamp_in(bytes: &[u8; STAMP_SIZE]) -> Result<Stamp, FrameFault>
     ensures { result ≡ stamp_in bytes.now }
 {
     match stamp_from(bytes) {
@@ -172,7 +176,7 @@ fn stamp_in(bytes: &[u8; 10]) -> Result<Stamp, FrameFault>
 }
 
 #[tactic(auto, unfolding(crate::specs::Reading::two_in))]
-fn two_in(later: &[u8; 10], earlier: &[u8; 10]) -> Result<PageHist, FrameFault>
+fn two_in(later: &[u8; STAMP_SIZE], earlier: &[u8; STAMP_SIZE]) -> Result<PageHist, FrameFault>
     ensures { result ≡ two_in later.now earlier.now }
 {
     let last = stamp_in(later)?;
@@ -189,14 +193,14 @@ fn hist_at(tag: u8, bytes: &[u8]) -> Result<(PageHist, &[u8]), FrameFault>
     ensures { Reads (λ x. (x.0, x.1.now)) result (hist_at tag bytes.now) }
 {
     match tag {
-        1 => {
-            let (last, rest) = ten_at(bytes)?;
+        ONCE_TAG => {
+            let (last, rest) = front_at::<STAMP_SIZE>(bytes)?;
             let last = stamp_in(last)?;
             Ok((PageHist::Once(last), rest))
         }
-        2 => {
-            let (last, rest) = ten_at(bytes)?;
-            let (prev, rest) = ten_at(rest)?;
+        TWICE_TAG => {
+            let (last, rest) = front_at::<STAMP_SIZE>(bytes)?;
+            let (prev, rest) = front_at::<STAMP_SIZE>(rest)?;
             let two = two_in(last, prev)?;
             Ok((two, rest))
         }
@@ -220,14 +224,12 @@ fn page_at(format: Format, bytes: &[u8]) -> Result<(PageId, &[u8]), FrameFault>
 {
     match format {
         Format::Narrow => {
-            let Some((six, rest)) = bytes.split_first_chunk::<6>() else {
-                return Err(FrameFault::BadLength);
-            };
-            Ok((page_from_narrow(six), rest))
+            let (page, rest) = front_at::<NARROW_PAGE_ID_SIZE>(bytes)?;
+            Ok((page_from_narrow(page), rest))
         }
         Format::Wide => {
-            let (ten, rest) = ten_at(bytes)?;
-            Ok((page_from(ten), rest))
+            let (page, rest) = front_at::<PAGE_ID_SIZE>(bytes)?;
+            Ok((page_from(page), rest))
         }
     }
 }
@@ -314,9 +316,7 @@ fn entries_of(alloc: Global, format: Format, body: &[u8]) -> Result<EntryList, F
     ensures { Gives result (entries_of format body.now) (entries_room body.now) }
 {
     let (count, rest) = count_at(body)?;
-    let Ok(entries) = Vec::with_capacity(alloc, count as usize) else {
-        return Err(FrameFault::Memory);
-    };
+    let entries = Vec::with_capacity(alloc, count as usize)?;
     let entries = all_entries(entries, format, count, rest)?;
     Ok(EntryList::whole(entries))
 }

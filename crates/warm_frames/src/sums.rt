@@ -1,19 +1,12 @@
 //! The sums by which two replicas find the buckets that differ.
 ghost use Rattle.std.specs.Prelude.{◌≡◌, length};
 ghost use Rattle.std.specs.List.{AllByRecursion, flat_map};
-ghost use Rattle.warm_frames.specs.declared.sums.TheConstants.{SUM_SIZE};
+ghost use Rattle.warm_frames.specs.declared.layout.TheConstants.{SUM_SIZE};
 ghost use Rattle.warm_frames.specs.Sums.{IsSumTable, sum_at};
 
+use crate::layout::{SUM_SIZE, SUMS};
 use std::marker::Model;
-use warm_stamps::{BUCKETS, Bucket};
-
-/// How many bytes a sum has.
-pub const SUM_SIZE: usize = 32;
-
-// How many sums a table has, and how many bytes.
-pub(crate) const SUMS: usize = BUCKETS as usize;
-
-pub(crate) const TABLE_SIZE: usize = SUM_SIZE * SUMS;
+use warm_stamps::Bucket;
 
 /// A sum for each bucket. Contracts see the list of the sums, that of bucket 0 first, each as the list
 /// of its bytes. Takes no memory.

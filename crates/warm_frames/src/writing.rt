@@ -1,16 +1,18 @@
 //! Writing frames. The room for all bytes is taken first.
 ghost use Rattle.std.specs.Prelude.{◌≡◌, ◌≤◌, ◌*◌, ◌++◌, length, IfOk, OnOk};
 ghost use Rattle.warm_stamps.specs.Bytes.{IsReplica, bytes_of_stamp};
-ghost use Rattle.warm_frames.specs.declared.writing.TheConstants.{MAX_ENTRY_SIZE};
-ghost use Rattle.warm_frames.specs.declared.entries.TheConstants.{MAX_ENTRIES};
+ghost use Rattle.warm_frames.specs.declared.layout.TheConstants.{MAX_ENTRIES, MAX_ENTRY_SIZE, TWICE_SIZE};
 ghost use Rattle.warm_frames.specs.declared.format.Format.TheVariants.{Wide};
 ghost use Rattle.warm_frames.specs.declared.frame.Frame.TheVariants as frames;
 ghost use Rattle.warm_frames.specs.Entries.{hist_bytes, entry_bytes, entries_bytes};
 ghost use Rattle.warm_frames.specs.Spelling.{header_bytes, SpellsIn};
 
 use crate::entries::EntryList;
-use crate::format::{HEADER_SIZE, MAGIC};
-use crate::sums::{SumTable, TABLE_SIZE};
+use crate::layout::{
+    COUNT_SIZE, DIGEST_KIND, ENTRIES_KIND, HEADER_SIZE, MAGIC, MASK_SIZE, ONCE_SIZE, ONCE_TAG,
+    PAGE_ID_SIZE, TABLE_SIZE, TWICE_SIZE, TWICE_TAG, WANT_KIND,
+};
+use crate::sums::SumTable;
 use std::alloc::{AllocError, Global};
 use warm_history::{Entry, PageHist};
 use warm_stamps::{ReplicaId, Stamp, page_bytes};
@@ -50,13 +52,13 @@ fn put_hist(text: &mut Vec<u8>, hist: PageHist) -> Result<(), AllocError>
 {
     match hist {
         PageHist::Once(last) => {
-            text.push(1)?;
+            text.push(ONCE_TAG)?;
             put_stamp(text, last)?;
         }
         PageHist::Twice(two) => {
             let last = two.last();
             let prev = two.prev();
-            text.push(2)?;
+            text.push(TWICE_TAG)?;
             put_stamp(text, last)?;
             put_stamp(text, prev)?;
         }
@@ -64,14 +66,11 @@ fn put_hist(text: &mut Vec<u8>, hist: PageHist) -> Result<(), AllocError>
     Ok(())
 }
 
-/// The most bytes that an entry has: a page, a tag and two stamps.
-pub const MAX_ENTRY_SIZE: usize = 10 + 1 + 2 * 10;
-
 /// Puts the bytes of an entry, as they stand in a frame and as they are summed, behind the text: its
 /// page, a tag, which is the number of its stamps, and the stamps, the later one first.
 ///
 /// `AllocError` comes only where room for them was refused, so never where the text has room for
-/// [`MAX_ENTRY_SIZE`] bytes more. A part of them may then stand there.
+/// [`crate::MAX_ENTRY_SIZE`] bytes more. A part of them may then stand there.
 pub fn put_entry(text: &mut Vec<u8>, entry: &Entry) -> Result<(), AllocError>
     ensures { OnOk result (text.new.items ≡ text.old.items ++ entry_bytes entry.now) }
 {
@@ -81,11 +80,11 @@ pub fn put_entry(text: &mut Vec<u8>, entry: &Entry) -> Result<(), AllocError>
 
 fn hist_len(hist: PageHist) -> u32
     ensures value { result ≡ length (hist_bytes hist) }
-    ensures most { result ≤ 21 }
+    ensures most { result ≤ TWICE_SIZE }
 {
     match hist {
-        PageHist::Once(_) => 11,
-        PageHist::Twice(_) => 21,
+        PageHist::Once(_) => ONCE_SIZE as u32,
+        PageHist::Twice(_) => TWICE_SIZE as u32,
     }
 }
 
@@ -97,7 +96,7 @@ fn entries_len(entries: &[Entry]) -> u32
 {
     let mut len = 0;
     for entry in entries {
-        len += 10 + hist_len(entry.hist);
+        len += PAGE_ID_SIZE as u32 + hist_len(entry.hist);
     }
     len
 }
@@ -112,7 +111,8 @@ pub(crate) fn entries_text(
         (frames.Entries sender horizon entries.now)) }
 {
     let entries = entries.as_slice();
-    let mut text = header(alloc, 1, sender, horizon, 4 + entries_len(entries))?;
+    let len = COUNT_SIZE as u32 + entries_len(entries);
+    let mut text = header(alloc, ENTRIES_KIND, sender, horizon, len)?;
     text.extend_from_slice(&(entries.len() as u32).to_be_bytes())?;
     for entry in entries {
         put_entry(&mut text, entry)?;
@@ -129,7 +129,7 @@ pub(crate) fn digest_text(
     ensures { IfOk result (λ text. SpellsIn Wide text.items
         (frames.Digest sender horizon sums.now)) }
 {
-    let mut text = header(alloc, 2, sender, horizon, TABLE_SIZE as u32)?;
+    let mut text = header(alloc, DIGEST_KIND, sender, horizon, TABLE_SIZE as u32)?;
     text.extend_from_slice(sums.as_bytes())?;
     Ok(text)
 }
@@ -142,7 +142,7 @@ pub(crate) fn want_text(
 ) -> Result<Vec<u8>, AllocError>
     ensures { IfOk result (λ text. SpellsIn Wide text.items (frames.Want sender horizon mask)) }
 {
-    let mut text = header(alloc, 3, sender, horizon, 8)?;
+    let mut text = header(alloc, WANT_KIND, sender, horizon, MASK_SIZE as u32)?;
     text.extend_from_slice(&mask.to_be_bytes())?;
     Ok(text)
 }

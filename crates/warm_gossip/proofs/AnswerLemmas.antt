@@ -17,7 +17,7 @@ use Rattle.warm_stamps.proofs.DistinctLemmas.{rising_filter, rising_take}
 use Rattle.warm_history.specs.declared.hist.Entry.{Entry}
 use Rattle.warm_history.specs.Carried.{bucket_entries}
 use Rattle.warm_history.specs.Histories.{HistoryView, entries_of, PagesRise, IsHistory}
-use Rattle.warm_frames.specs.declared.entries.TheConstants.{MAX_ENTRIES}
+use Rattle.warm_frames.specs.declared.layout.TheConstants.{MAX_ENTRIES}
 use Rattle.warm_frames.specs.declared.frame.Frame.{Frame}
 use Rattle.warm_frames.specs.declared.frame.Frame.TheVariants.{Entries, Want}
 use Rattle.warm_frames.specs.Sums.{sum_at}

@@ -29,7 +29,7 @@ use Rattle.warm_history.proofs.ListHistoryLemmas.{joined, hist-append, hist_swap
 use Rattle.warm_history.proofs.ListJoinLemmas as join_list
 use Rattle.warm_history.proofs.HistoryLemmas.{IsHistory-history, horizon-history, entries-history, kept-references, never_older, same_hists}
 use Rattle.warm_history.proofs.JoinLemmas.{both_assoc, history_alike, history_first, history_second, history_received, history_of_own_references, history_swap, raised_to_no_later}
-use Rattle.warm_frames.specs.declared.entries.TheConstants.{MAX_ENTRIES}
+use Rattle.warm_frames.specs.declared.layout.TheConstants.{MAX_ENTRIES}
 use Rattle.warm_frames.specs.declared.frame.Frame.{Frame}
 use Rattle.warm_frames.specs.declared.frame.Frame.TheVariants.{Entries, Digest, Want}
 use Rattle.warm_frames.specs.Entries.{IsEntry, IsHist}

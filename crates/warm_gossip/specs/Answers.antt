@@ -8,7 +8,7 @@ use Rattle.warm_history.specs.declared.hist.Entry.{Entry}
 use Rattle.warm_history.specs.ReferenceSets.{ReferenceSet, ◌∪◌}
 use Rattle.warm_history.specs.Histories.{HistoryView, entries_of, holding_since, history, refs}
 use Rattle.warm_history.specs.Carried.{bucket_entries, carried}
-use Rattle.warm_frames.specs.declared.entries.TheConstants.{MAX_ENTRIES}
+use Rattle.warm_frames.specs.declared.layout.TheConstants.{MAX_ENTRIES}
 use Rattle.warm_frames.specs.declared.frame.Frame.{Frame}
 use Rattle.warm_frames.specs.declared.frame.Frame.TheVariants.{Entries, Digest, Want}
 use Rattle.warm_frames.specs.Sums.{sum_at}

@@ -13,7 +13,7 @@ use Rattle.warm_history.proofs.HistoryLemmas.{hist_refs-history, horizon-history
 use Rattle.warm_history.proofs.JoinLemmas.{history_first}
 use Rattle.warm_rank.specs.Ranking.{warm}
 use Rattle.warm_rank.proofs.LeavingLemmas.{order_kept}
-use Rattle.warm_frames.specs.declared.entries.TheConstants.{MAX_ENTRIES}
+use Rattle.warm_frames.specs.declared.layout.TheConstants.{MAX_ENTRIES}
 use Rattle.warm_frames.specs.declared.frame.Frame.{Frame}
 use Rattle.warm_frames.specs.declared.frame.Frame.TheVariants.{Digest, Entries, Want}
 use Rattle.warm_frames.specs.declared.fault.FrameFault.{FrameFault}

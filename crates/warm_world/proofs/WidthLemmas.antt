@@ -24,7 +24,7 @@ use Rattle.std.specs.List.{list_any}
 use Rattle.warm_history.proofs.CarriedLemmas.{references-those}
 use Rattle.warm_history.proofs.HistoryLemmas.{references-both}
 use Rattle.warm_history.proofs.ListHistoryLemmas.{entries}
-use Rattle.warm_frames.specs.declared.entries.TheConstants.{MAX_ENTRIES}
+use Rattle.warm_frames.specs.declared.layout.TheConstants.{MAX_ENTRIES}
 use Rattle.warm_frames.specs.Entries.{IsEntry, IsHist}
 use Rattle.warm_digest.specs.Exchange.{Fits}
 use Rattle.warm_pool.specs.View.{PoolView}

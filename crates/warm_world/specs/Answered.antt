@@ -6,7 +6,7 @@ use Rattle.warm_history.specs.declared.hist.Entry.{Entry}
 use Rattle.warm_history.specs.ReferenceSets.{ReferenceSet, ◌∪◌}
 use Rattle.warm_history.specs.Histories.{entries_of, history}
 use Rattle.warm_history.specs.Carried.{bucket_entries, carried}
-use Rattle.warm_frames.specs.declared.entries.TheConstants.{MAX_ENTRIES}
+use Rattle.warm_frames.specs.declared.layout.TheConstants.{MAX_ENTRIES}
 use Rattle.warm_gossip.specs.Answers.{buckets_in, pieces, IsDiffering}
 use Rattle.warm_gossip.specs.Pieces.{last_page}
 use Rattle.warm_world.specs.States.{FrameRecord, References, Sums, Mask}

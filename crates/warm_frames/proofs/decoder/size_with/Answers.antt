@@ -1,5 +1,5 @@
 use Rattle.std.proofs.Common.{◌-◌, length, ◌∙◌, ap, arith}
-use Rattle.warm_frames.specs.declared.format.TheConstants.{HEADER_SIZE}
+use Rattle.warm_frames.specs.declared.layout.TheConstants.{HEADER_SIZE}
 use Rattle.warm_frames.specs.Sizes.{frame_size}
 use Rattle.warm_frames.proofs.DecoderLemmas.{header_is, header_said, least_is}
 use Rattle.warm_frames.proofs.decoder.size_with.Goals as goal

@@ -1,5 +1,5 @@
 use Rattle.std.proofs.Common.{◌≡◌, ◌*◌, ◌≤◌, length, take}
-use Rattle.warm_frames.specs.declared.writing.TheConstants.{MAX_ENTRY_SIZE}
+use Rattle.warm_frames.specs.declared.layout.TheConstants.{MAX_ENTRY_SIZE}
 use Rattle.warm_frames.specs.Entries.{entries_bytes}
 use Rattle.warm_frames.proofs.writing.entries_len.Given as goal
 

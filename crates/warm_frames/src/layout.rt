@@ -1,0 +1,100 @@
+//! The layout of frames: the numbers that writing and reading share.
+//!
+//! A frame is a header and a body, one after the other. There are two formats: the wide one is written and read, the narrow one
+//! is only read. A number of more than one byte has its highest byte first. All sizes are in bytes.
+//!
+//! | Header | Wide | Narrow |
+//! |---|---|---|
+//! | magic number | [`MAGIC_SIZE`] | [`MAGIC_SIZE`] |
+//! | kind | [`KIND_SIZE`] | [`KIND_SIZE`] |
+//! | number of the sender | [`SENDER_SIZE`] | [`SENDER_SIZE`] |
+//! | horizon | [`HORIZON_SIZE`] | none |
+//! | length of the body | [`LENGTH_SIZE`] | [`LENGTH_SIZE`] |
+//!
+//! The body of a frame of entries is their count ([`COUNT_SIZE`]) and the entries: each is a page, a tag and one or two stamps,
+//! the later one first. The body of a digest is a table of sums, and that of a request is a mask of buckets.
+use warm_stamps::BUCKETS;
+
+/// The magic number of the wide format: the letters `L2G2`.
+pub const MAGIC: u32 = 0x4C32_4732;
+
+/// The magic number of the narrow format: the letters `L2G1`.
+pub const NARROW_MAGIC: u32 = 0x4C32_4731;
+
+/// The kind of a frame of entries.
+pub const ENTRIES_KIND: u8 = 1;
+
+/// The kind of a digest.
+pub const DIGEST_KIND: u8 = 2;
+
+/// The kind of a request.
+pub const WANT_KIND: u8 = 3;
+
+/// The size of the magic number.
+pub const MAGIC_SIZE: usize = 4;
+
+/// The size of the kind.
+pub const KIND_SIZE: usize = 1;
+
+/// The size of the sender's number.
+pub const SENDER_SIZE: usize = 2;
+
+/// The size of the horizon, which the wide format alone has.
+pub const HORIZON_SIZE: usize = 8;
+
+/// The size of the length, which counts the bytes of the body.
+pub const LENGTH_SIZE: usize = 4;
+
+/// The size of a header of the wide format: 19.
+pub const HEADER_SIZE: usize = MAGIC_SIZE + KIND_SIZE + SENDER_SIZE + HORIZON_SIZE + LENGTH_SIZE;
+
+/// The size of a header of the narrow format: 11.
+pub const NARROW_HEADER_SIZE: usize = MAGIC_SIZE + KIND_SIZE + SENDER_SIZE + LENGTH_SIZE;
+
+/// The most entries that a frame carries.
+pub const MAX_ENTRIES: usize = 1000;
+
+/// The size of the count of entries.
+pub const COUNT_SIZE: usize = 4;
+
+/// The size of a page in the wide format: two bytes of its device's number, and eight of its own.
+pub const PAGE_ID_SIZE: usize = 10;
+
+/// The size of a page in the narrow format: two bytes of its device's number, and four of its own.
+pub const NARROW_PAGE_ID_SIZE: usize = 6;
+
+/// The tag of an entry with one stamp.
+pub const ONCE_TAG: u8 = 1;
+
+/// The tag of an entry with two stamps.
+pub const TWICE_TAG: u8 = 2;
+
+/// The size of the tag.
+pub const TAG_SIZE: usize = 1;
+
+/// The size of a stamp: eight bytes of its time, and two of its replica's number.
+pub const STAMP_SIZE: usize = 10;
+
+/// The size of a tag and one stamp: 11.
+pub const ONCE_SIZE: usize = TAG_SIZE + STAMP_SIZE;
+
+/// The size of a tag and two stamps: 21.
+pub const TWICE_SIZE: usize = TAG_SIZE + 2 * STAMP_SIZE;
+
+/// The most bytes that an entry has, a page, a tag and two stamps: 31.
+pub const MAX_ENTRY_SIZE: usize = PAGE_ID_SIZE + TWICE_SIZE;
+
+/// The most bytes that an entry of the narrow format has: 27.
+pub const NARROW_MAX_ENTRY_SIZE: usize = NARROW_PAGE_ID_SIZE + TWICE_SIZE;
+
+/// How many sums a digest has: one for each bucket.
+pub const SUMS: usize = BUCKETS as usize;
+
+/// The size of a sum.
+pub const SUM_SIZE: usize = 32;
+
+/// The size of the body of a digest: 2048.
+pub const TABLE_SIZE: usize = SUM_SIZE * SUMS;
+
+/// The size of the body of a request: a mask with a bit for each bucket.
+pub const MASK_SIZE: usize = 8;
