@@ -76,6 +76,7 @@ impl History {
     pub fn horizon(&self) -> u64
         ensures value { result ≡ self.now.horizon }
         ensures stands { (S : ReferenceSet) → StandsFor self.now S → result ≡ S.horizon }
+        ensures whole { IsHistory self.now }
     {
         self.horizon
     }

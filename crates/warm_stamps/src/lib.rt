@@ -14,6 +14,7 @@ ghost use Rattle.warm_stamps.specs.Buckets.{IsBucket, page_bucket};
 ghost use Rattle.warm_stamps.specs.Replicas.{IsReplica};
 
 use std::marker::Model;
+use thiserror::Error;
 
 mod bytes;
 mod items;
@@ -48,7 +49,8 @@ impl Model for ReplicaId {
 }
 
 /// A number that names no replica: 0, or one above [`MAX_REPLICAS`].
-#[derive(Debug, Clone, Copy, PartialEq, Eq)]
+#[derive(Debug, Clone, Copy, PartialEq, Eq, Error)]
+#[error("BadReplica")]
 pub struct BadReplica;
 
 impl ReplicaId {
