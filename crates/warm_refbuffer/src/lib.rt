@@ -8,8 +8,9 @@
 ghost use Rattle.std.specs.Prelude.{◌≡◌, ◌≤◌, ◌<◌, [], length, IsOk, IfOk, IsTrue, ◌↔◌, codes};
 ghost use Rattle.warm_refbuffer.specs.Buffered.{IsCapacity, with_last, code_of, name_of};
 
-use std::alloc::Global;
+use std::alloc::{AllocError, Global};
 use std::marker::Model;
+use thiserror::Error;
 use warm_stamps::Reference;
 
 /// The most references that a buffer may be made for.
@@ -36,12 +37,26 @@ impl Model for RefBuffer {
 }
 
 /// Why no buffer was made.
-#[derive(Clone, Copy, Debug, PartialEq, Eq)]
+#[derive(Clone, Copy, Debug, PartialEq, Eq, Error)]
 pub enum BufferFault {
     /// 1: there was no memory for the room.
+    #[error("Memory")]
     Memory,
     /// 2: the capacity is outside 1 to [`MAX_CAPACITY`].
+    #[error("BadCapacity")]
     BadCapacity,
+}
+
+// Where the room is refused, that is `Memory`.
+impl From<AllocError> for BufferFault {
+    ghost use Rattle.std.specs.Prelude.{◌≡◌};
+    ghost use Rattle.warm_refbuffer.specs.declared.BufferFault.TheVariants.{Memory};
+
+    ghost from_gives = { λ _ fault. fault ≡ Memory };
+
+    fn from(_: AllocError) -> BufferFault {
+        BufferFault::Memory
+    }
 }
 
 impl BufferFault {
@@ -67,7 +82,8 @@ impl BufferFault {
 }
 
 /// 3: the buffer is full. The reference that it could not take comes back.
-#[derive(Clone, Copy, Debug, PartialEq, Eq)]
+#[derive(Clone, Copy, Debug, PartialEq, Eq, Error)]
+#[error("Full")]
 pub struct Full(pub Reference);
 
 impl Full {
@@ -99,10 +115,8 @@ impl RefBuffer {
         if cap < 1 || cap > MAX_CAPACITY {
             return Err(BufferFault::BadCapacity);
         }
-        match Vec::with_capacity(alloc, cap) {
-            Ok(refs) => Ok(RefBuffer { refs, cap }),
-            Err(_) => Err(BufferFault::Memory),
-        }
+        let refs = Vec::with_capacity(alloc, cap)?;
+        Ok(RefBuffer { refs, cap })
     }
 
     /// The references that wait, oldest first.
