@@ -13,6 +13,7 @@ use std::alloc::{AllocError, Global};
 use warm_devices::PageDevice;
 use warm_frames::{EntryList, Frame, FrameList, MAX_ENTRIES};
 use warm_history::Entry;
+use warm_history::laws::is_history;
 use warm_rank::warm_list;
 use warm_stamps::{Bucket, PageId, PageList, Reference};
 
@@ -24,12 +25,8 @@ impl<D: PageDevice> Node<D> {
     pub fn absorb(&mut self, batch: &[Reference]) -> Result<(), NodeFault>
         ensures { Answered self.old (Absorb batch.now) done result self.new }
     {
-        let Ok(touched) = pages_of_references(self.alloc, batch) else {
-            return Err(NodeFault::Memory);
-        };
-        let Ok(()) = self.history.absorb(batch) else {
-            return Err(NodeFault::Memory);
-        };
+        let touched = pages_of_references(self.alloc, batch)?;
+        self.history.absorb(batch)?;
         self.pool.refresh(self.history.history(), &touched);
         Ok(())
     }
@@ -39,13 +36,9 @@ impl<D: PageDevice> Node<D> {
         ensures learnt { OnOk result (Learns self.old horizon entries.now self.new) }
         ensures refused { IfErr result (λ why. (why ≡ Memory) × SameShown self.old self.new) }
     {
-        let Ok(named) = pages_of_entries(self.alloc, entries) else {
-            return Err(NodeFault::Memory);
-        };
+        let named = pages_of_entries(self.alloc, entries)?;
         let own = self.history.horizon();
-        let Ok(()) = self.history.join_entries(horizon, entries) else {
-            return Err(NodeFault::Memory);
-        };
+        self.history.join_entries(horizon, entries)?;
         if own < horizon {
             self.pool.refresh_all(self.history.history());
             return Ok(());
@@ -62,8 +55,8 @@ impl<D: PageDevice> Node<D> {
     {
         let own = self.history.horizon();
         if time <= own {
-            // Asked for what holds of every history: none of its stamps is older than its horizon.
-            let _whole = self.history.history().len();
+            // None of the history's stamps is older than its horizon.
+            is_history(self.history.history());
             return own;
         }
         self.history.raise(time);
@@ -87,16 +80,14 @@ impl<D: PageDevice> Node<D> {
         match frame {
             Frame::Entries { .. } => Ok(FrameList::of(Vec::new(self.alloc))),
             Frame::Digest { horizon, sums, .. } => {
-                match answer_to_sums(self.alloc, self.id, &mut self.history, *horizon, sums) {
-                    Ok(frames) => Ok(FrameList::of(frames)),
-                    Err(_) => Err(NodeFault::Memory),
-                }
+                let frames =
+                    answer_to_sums(self.alloc, self.id, &mut self.history, *horizon, sums)?;
+                Ok(FrameList::of(frames))
             }
             Frame::Want { horizon, mask, .. } => {
-                match wanted_frames(self.alloc, self.id, self.history.history(), *horizon, *mask) {
-                    Ok(frames) => Ok(FrameList::of(frames)),
-                    Err(_) => Err(NodeFault::Memory),
-                }
+                let frames =
+                    wanted_frames(self.alloc, self.id, self.history.history(), *horizon, *mask)?;
+                Ok(FrameList::of(frames))
             }
         }
     }
@@ -132,12 +123,8 @@ impl<D: PageDevice> Node<D> {
     pub fn send(&self, bucket: Bucket, after: Option<PageId>) -> Result<Frame, NodeFault>
         ensures { Answered self.now (Send bucket after) Sent result self.now }
     {
-        // Asked for what holds of every history: its pages rise.
         let history = self.history.history();
-        let _whole = history.len();
-        let Ok(entries) = history.entries(bucket, after, MAX_ENTRIES) else {
-            return Err(NodeFault::Memory);
-        };
+        let entries = history.entries(bucket, after, MAX_ENTRIES)?;
         let Ok(entries) = EntryList::of(entries) else {
             unreachable!()
         };
@@ -158,14 +145,12 @@ impl<D: PageDevice> Node<D> {
     pub fn offer(&mut self) -> Result<Frame, NodeFault>
         ensures { Answered self.old Offer Sent result self.new }
     {
-        match self.history.sums() {
-            Ok(sums) => Ok(Frame::Digest {
-                sender: self.id,
-                horizon: self.history.horizon(),
-                sums,
-            }),
-            Err(_) => Err(NodeFault::Memory),
-        }
+        let sums = self.history.sums()?;
+        Ok(Frame::Digest {
+            sender: self.id,
+            horizon: self.history.horizon(),
+            sums,
+        })
     }
 
     /// The `n` hottest pages, hottest first, or all where there are fewer: the call `WarmList`.
@@ -175,13 +160,11 @@ impl<D: PageDevice> Node<D> {
     pub fn warm_list(&self, n: usize) -> Result<PageList, NodeFault>
         ensures { Answered self.now (WarmList n) Pages result self.now }
     {
-        // Asked for what holds of every history: its pages rise.
         let history = self.history.history();
-        let _whole = history.len();
-        match warm_list(self.alloc, history, n) {
-            Ok(pages) => Ok(PageList::of(pages)),
-            Err(_) => Err(NodeFault::Memory),
-        }
+        // The list is that of the references that the history holds: they give this very history.
+        is_history(history);
+        let pages = warm_list(self.alloc, history, n)?;
+        Ok(PageList::of(pages))
     }
 }
 

@@ -24,10 +24,8 @@ impl<D: PageDevice> Node<D> {
     pub fn pin(&mut self, page: PageId) -> Result<Slot, NodeFault>
         ensures { Answered self.old (Pin page) Pinned result self.new }
     {
-        match self.pool.pin(page, self.history.history()) {
-            Ok(slot) => Ok(slot),
-            Err(fault) => Err(NodeFault::Pool(fault)),
-        }
+        let slot = self.pool.pin(page, self.history.history())?;
+        Ok(slot)
     }
 
     /// Takes a fix away: the call `Unpin`. Takes no memory.
@@ -55,29 +53,20 @@ impl<D: PageDevice> Node<D> {
         if !self.pool.holds(slot) {
             return Err(NodeFault::StaleSlot);
         }
-        if !self.is_within(slot, at, len) {
+        if !self.is_within(at, len) {
             return Err(NodeFault::Pool(PoolFault::OutOfPage));
         }
-        let Ok(mut bytes) = Vec::from_elem(self.alloc, 0, len) else {
-            return Err(NodeFault::Memory);
-        };
-        match self.pool.read(slot, at, &mut bytes) {
-            Ok(()) => Ok(ByteList::of(bytes)),
-            Err(fault) => Err(NodeFault::Pool(fault)),
-        }
+        let mut bytes = Vec::from_elem(self.alloc, 0, len)?;
+        self.pool.read(slot, at, &mut bytes)?;
+        Ok(ByteList::of(bytes))
     }
 
-    // Whether so many bytes from `at` on are within a page: none are read beyond it, wherever they begin.
-    fn is_within(&self, slot: Slot, at: usize, len: usize) -> bool
-        requires { Holds (view_of self.now.pool) slot }
+    // Whether so many bytes from `at` on are within a page.
+    fn is_within(&self, at: usize, len: usize) -> bool
         ensures { IsTrue result ↔ IsWithin (node_view self.now) at len }
     {
-        // Asked for what holds of every pool: a page has few bytes.
-        self.pool.is_pool();
-        match at.checked_add(len) {
-            Some(end) => self.pool.read(slot, end, &mut []).is_ok(),
-            None => false,
-        }
+        let size = self.pool.page_size();
+        at <= size && len <= size - at
     }
 
     /// Writes bytes into the slot's page, from `at` on: the call `Write`. Takes no memory.
@@ -91,10 +80,8 @@ impl<D: PageDevice> Node<D> {
         if !self.pool.holds(slot) {
             return Err(NodeFault::StaleSlot);
         }
-        match self.pool.write(slot, at, bytes) {
-            Ok(()) => Ok(()),
-            Err(fault) => Err(NodeFault::Pool(fault)),
-        }
+        self.pool.write(slot, at, bytes)?;
+        Ok(())
     }
 
     /// The page that would leave next, where there is one: the call `Victim`. Takes no memory.
@@ -114,13 +101,9 @@ impl<D: PageDevice> Node<D> {
         ensures step { Answered self.old Restart done result self.new }
         ensures settled { OnOk result (IsSettled self.new.pool) }
     {
-        match self.pool.empty() {
-            Ok(()) => {
-                self.history.clear();
-                Ok(())
-            }
-            Err(fault) => Err(NodeFault::Pool(fault)),
-        }
+        self.pool.empty()?;
+        self.history.clear();
+        Ok(())
     }
 
     /// Writes all pages back to their devices, and flushes these. Takes no memory.
@@ -132,9 +115,7 @@ impl<D: PageDevice> Node<D> {
         ensures settled { OnOk result (IsSettled self.new.pool) }
         ensures refused { IfErr result (λ why. WriteBackFails self.old why self.new) }
     {
-        match self.pool.write_back_all() {
-            Ok(()) => Ok(()),
-            Err(fault) => Err(NodeFault::Pool(fault)),
-        }
+        self.pool.write_back_all()?;
+        Ok(())
     }
 }

@@ -9,6 +9,7 @@ ghost use Rattle.warm_gossip.specs.Step.{IsFirstLoadable, IsLoadable};
 use crate::fault::NodeFault;
 use crate::node::Node;
 use warm_devices::PageDevice;
+use warm_history::laws::is_history;
 use warm_stamps::PageId;
 
 impl<D: PageDevice> Node<D> {
@@ -24,20 +25,16 @@ impl<D: PageDevice> Node<D> {
     pub fn warm_step(&mut self) -> Result<Option<PageId>, NodeFault>
         ensures { Answered self.old WarmStep Loaded result self.new }
     {
-        // Asked for what holds of every history: its pages rise.
-        let _whole = self.history.history().len();
-        let Ok(list) = self.history.take_hottest(self.pool.frames()) else {
-            return Err(NodeFault::Memory);
-        };
+        // The list is that of the references that the history holds: they give this very history.
+        is_history(self.history.history());
+        let list = self.history.take_hottest(self.pool.frames())?;
         let next = self.first_loadable(&list.pages);
         self.history.keep(list);
         let Some(page) = next else {
             return Ok(None);
         };
-        match self.pool.load(page, self.history.history()) {
-            Ok(_) => Ok(Some(page)),
-            Err(fault) => Err(NodeFault::Pool(fault)),
-        }
+        self.pool.load(page, self.history.history())?;
+        Ok(Some(page))
     }
 
     // The first of the pages that a device has and no frame.
