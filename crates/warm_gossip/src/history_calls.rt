@@ -25,8 +25,12 @@ impl<D: PageDevice> Node<D> {
     pub fn absorb(&mut self, batch: &[Reference]) -> Result<(), NodeFault>
         ensures { Answered self.old (Absorb batch.now) done result self.new }
     {
-        let touched = pages_of_references(self.alloc, batch)?;
-        self.history.absorb(batch)?;
+        let Ok(touched) = pages_of_references(self.alloc, batch) else {
+            return Err(NodeFault::Memory);
+        };
+        let Ok(()) = self.history.absorb(batch) else {
+            return Err(NodeFault::Memory);
+        };
         self.pool.refresh(self.history.history(), &touched);
         Ok(())
     }
@@ -36,9 +40,13 @@ impl<D: PageDevice> Node<D> {
         ensures learnt { OnOk result (Learns self.old horizon entries.now self.new) }
         ensures refused { IfErr result (λ why. (why ≡ Memory) × SameShown self.old self.new) }
     {
-        let named = pages_of_entries(self.alloc, entries)?;
+        let Ok(named) = pages_of_entries(self.alloc, entries) else {
+            return Err(NodeFault::Memory);
+        };
         let own = self.history.horizon();
-        self.history.join_entries(horizon, entries)?;
+        let Ok(()) = self.history.join_entries(horizon, entries) else {
+            return Err(NodeFault::Memory);
+        };
         if own < horizon {
             self.pool.refresh_all(self.history.history());
             return Ok(());
@@ -80,14 +88,16 @@ impl<D: PageDevice> Node<D> {
         match frame {
             Frame::Entries { .. } => Ok(FrameList::of(Vec::new(self.alloc))),
             Frame::Digest { horizon, sums, .. } => {
-                let frames =
-                    answer_to_sums(self.alloc, self.id, &mut self.history, *horizon, sums)?;
-                Ok(FrameList::of(frames))
+                match answer_to_sums(self.alloc, self.id, &mut self.history, *horizon, sums) {
+                    Ok(frames) => Ok(FrameList::of(frames)),
+                    Err(_) => Err(NodeFault::Memory),
+                }
             }
             Frame::Want { horizon, mask, .. } => {
-                let frames =
-                    wanted_frames(self.alloc, self.id, self.history.history(), *horizon, *mask)?;
-                Ok(FrameList::of(frames))
+                match wanted_frames(self.alloc, self.id, self.history.history(), *horizon, *mask) {
+                    Ok(frames) => Ok(FrameList::of(frames)),
+                    Err(_) => Err(NodeFault::Memory),
+                }
             }
         }
     }
@@ -124,7 +134,9 @@ impl<D: PageDevice> Node<D> {
         ensures { Answered self.now (Send bucket after) Sent result self.now }
     {
         let history = self.history.history();
-        let entries = history.entries(bucket, after, MAX_ENTRIES)?;
+        let Ok(entries) = history.entries(bucket, after, MAX_ENTRIES) else {
+            return Err(NodeFault::Memory);
+        };
         let Ok(entries) = EntryList::of(entries) else {
             unreachable!()
         };
@@ -145,12 +157,14 @@ impl<D: PageDevice> Node<D> {
     pub fn offer(&mut self) -> Result<Frame, NodeFault>
         ensures { Answered self.old Offer Sent result self.new }
     {
-        let sums = self.history.sums()?;
-        Ok(Frame::Digest {
-            sender: self.id,
-            horizon: self.history.horizon(),
-            sums,
-        })
+        match self.history.sums() {
+            Ok(sums) => Ok(Frame::Digest {
+                sender: self.id,
+                horizon: self.history.horizon(),
+                sums,
+            }),
+            Err(_) => Err(NodeFault::Memory),
+        }
     }
 
     /// The `n` hottest pages, hottest first, or all where there are fewer: the call `WarmList`.
@@ -163,8 +177,10 @@ impl<D: PageDevice> Node<D> {
         let history = self.history.history();
         // The list is that of the references that the history holds: they give this very history.
         is_history(history);
-        let pages = warm_list(self.alloc, history, n)?;
-        Ok(PageList::of(pages))
+        match warm_list(self.alloc, history, n) {
+            Ok(pages) => Ok(PageList::of(pages)),
+            Err(_) => Err(NodeFault::Memory),
+        }
     }
 }
 

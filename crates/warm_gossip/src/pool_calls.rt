@@ -1,7 +1,6 @@
 //! The calls on a node's pool.
 ghost use Rattle.std.specs.Prelude.{◌↔◌, IfErr, IsTrue, OnOk};
 ghost use Rattle.warm_pool.specs.State.{IsSettled};
-ghost use Rattle.warm_pool.specs.View.{Holds, view_of};
 ghost use Rattle.warm_gossip.specs.declared.call.Call.TheVariants.{Pin, Unpin, Read, Write, Victim, Restart};
 ghost use Rattle.warm_gossip.specs.declared.call.Reply.TheVariants.{Pinned, Bytes, Page};
 ghost use Rattle.warm_gossip.specs.Clauses.{Answered, Goes, SameShown, WriteBackFails, done};
@@ -24,8 +23,10 @@ impl<D: PageDevice> Node<D> {
     pub fn pin(&mut self, page: PageId) -> Result<Slot, NodeFault>
         ensures { Answered self.old (Pin page) Pinned result self.new }
     {
-        let slot = self.pool.pin(page, self.history.history())?;
-        Ok(slot)
+        match self.pool.pin(page, self.history.history()) {
+            Ok(slot) => Ok(slot),
+            Err(fault) => Err(NodeFault::Pool(fault)),
+        }
     }
 
     /// Takes a fix away: the call `Unpin`. Takes no memory.
@@ -56,9 +57,13 @@ impl<D: PageDevice> Node<D> {
         if !self.is_within(at, len) {
             return Err(NodeFault::Pool(PoolFault::OutOfPage));
         }
-        let mut bytes = Vec::from_elem(self.alloc, 0, len)?;
-        self.pool.read(slot, at, &mut bytes)?;
-        Ok(ByteList::of(bytes))
+        let Ok(mut bytes) = Vec::from_elem(self.alloc, 0, len) else {
+            return Err(NodeFault::Memory);
+        };
+        match self.pool.read(slot, at, &mut bytes) {
+            Ok(()) => Ok(ByteList::of(bytes)),
+            Err(fault) => Err(NodeFault::Pool(fault)),
+        }
     }
 
     // Whether so many bytes from `at` on are within a page.
@@ -80,8 +85,10 @@ impl<D: PageDevice> Node<D> {
         if !self.pool.holds(slot) {
             return Err(NodeFault::StaleSlot);
         }
-        self.pool.write(slot, at, bytes)?;
-        Ok(())
+        match self.pool.write(slot, at, bytes) {
+            Ok(()) => Ok(()),
+            Err(fault) => Err(NodeFault::Pool(fault)),
+        }
     }
 
     /// The page that would leave next, where there is one: the call `Victim`. Takes no memory.
@@ -101,9 +108,13 @@ impl<D: PageDevice> Node<D> {
         ensures step { Answered self.old Restart done result self.new }
         ensures settled { OnOk result (IsSettled self.new.pool) }
     {
-        self.pool.empty()?;
-        self.history.clear();
-        Ok(())
+        match self.pool.empty() {
+            Ok(()) => {
+                self.history.clear();
+                Ok(())
+            }
+            Err(fault) => Err(NodeFault::Pool(fault)),
+        }
     }
 
     /// Writes all pages back to their devices, and flushes these. Takes no memory.
@@ -115,7 +126,9 @@ impl<D: PageDevice> Node<D> {
         ensures settled { OnOk result (IsSettled self.new.pool) }
         ensures refused { IfErr result (λ why. WriteBackFails self.old why self.new) }
     {
-        self.pool.write_back_all()?;
-        Ok(())
+        match self.pool.write_back_all() {
+            Ok(()) => Ok(()),
+            Err(fault) => Err(NodeFault::Pool(fault)),
+        }
     }
 }

@@ -27,14 +27,18 @@ impl<D: PageDevice> Node<D> {
     {
         // The list is that of the references that the history holds: they give this very history.
         is_history(self.history.history());
-        let list = self.history.take_hottest(self.pool.frames())?;
+        let Ok(list) = self.history.take_hottest(self.pool.frames()) else {
+            return Err(NodeFault::Memory);
+        };
         let next = self.first_loadable(&list.pages);
         self.history.keep(list);
         let Some(page) = next else {
             return Ok(None);
         };
-        self.pool.load(page, self.history.history())?;
-        Ok(Some(page))
+        match self.pool.load(page, self.history.history()) {
+            Ok(_) => Ok(Some(page)),
+            Err(fault) => Err(NodeFault::Pool(fault)),
+        }
     }
 
     // The first of the pages that a device has and no frame.

@@ -198,7 +198,9 @@ impl<D: PageDevice> Pool<D> {
         ensures writes { IfErr result (λ fault. WritesDirty history.now
             self.old fault) }
     {
-        self.check(page)?;
+        if let Err(fault) = self.check(page) {
+            return Err(fault);
+        }
         match self.frames.find(page) {
             Some(at) => self.add_fix(at),
             None => self.bring(page, history, 1),
@@ -225,7 +227,9 @@ impl<D: PageDevice> Pool<D> {
         ensures writes { IfErr result (λ fault. WritesDirty history.now
             self.old fault) }
     {
-        self.check(page)?;
+        if let Err(fault) = self.check(page) {
+            return Err(fault);
+        }
         match self.frames.find(page) {
             Some(at) => {
                 let generation = self.frames.generation(at);
@@ -243,7 +247,9 @@ impl<D: PageDevice> Pool<D> {
     pub fn victim(&self) -> Option<PageId>
         ensures { IsNextVictim self.now result }
     {
-        let at = self.frames.least()?;
+        let Some(at) = self.frames.least() else {
+            return None;
+        };
         self.frames.page(at)
     }
 
@@ -442,7 +448,9 @@ impl<D: PageDevice> Pool<D> {
         let generation = self.frames.generation(at);
         if generation < u64::MAX {
             let key = known_key(history, page);
-            self.load_into(at, page, key, fixes)?;
+            if let Err(fault) = self.load_into(at, page, key, fixes) {
+                return Err(fault);
+            }
             return Ok(Slot {
                 index: at as u32,
                 generation: generation + 1,
@@ -503,7 +511,9 @@ pub(crate) fn write_back<D: PageDevice>(
     if !frames.is_dirty(at) {
         return Ok(());
     }
-    write_page(devices, page, frames.bytes(at))?;
+    if write_page(devices, page, frames.bytes(at)).is_err() {
+        return Err(DeviceFault::Write);
+    }
     frames.clean(at);
     Ok(())
 }

@@ -4,8 +4,8 @@ use Rattle.warm_rank.specs.Ranking.{IsVictim}
 use Rattle.warm_pool.proofs.PoolSteps.{none_leaves, one_leaves}
 use Rattle.warm_pool.proofs.pool.Pool.victim.Goals as goal
 
-pub returns-in_none-least : goal.returns-in_none-least
-returns-in_none-least g c = rw (← c.self.view_is) (λ h r. none_leaves c.self.invariant h r c.in_none-least.ensures)
+pub returns-in_default : goal.returns-in_default
+returns-in_default g c = rw (← c.self.view_is) (λ h r. none_leaves c.self.invariant h r c.in_default.ensures)
 
 pub returns : goal.returns
-returns g c = rw (← c.self.view_is) (λ h r. subst (IsVictim (refs h) _) (sym c.page.ensures) (one_leaves c.self.invariant h r c.in_some-least.value c.in_some-least.ensures))
+returns g c = rw (← c.self.view_is) (λ h r. subst (IsVictim (refs h) _) (sym c.page.ensures) (one_leaves c.self.invariant h r c.in-Some.at c.in-Some.ensures))
