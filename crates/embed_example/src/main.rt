@@ -1,16 +1,16 @@
 //! Two replicas of a database in one program, each with a buffer pool of its own over a device in memory.
 //!
-//! The primary is told of references to pages. The standby hears of them by frames, handed over as bytes, until both histories are
-//! equal. It loads the hottest pages before it takes over; then a page is pinned, written to and unpinned, and the standby ends in
-//! an orderly way.
+//! The primary absorbs references to pages. Frames, handed over as bytes, bring them to the standby, until both histories are equal.
+//! The standby loads the hottest pages before it takes over; then a page is pinned, written to and unpinned, and the standby ends in
+//! an orderly way. Each refusal is an error, and `?` hands it on.
 #![tactic(auto)]
 
 use anyhow::{Result, bail};
 use std::alloc::Global;
 use std::io::Print;
 use warm_devices::MemDevice;
-use warm_frames::{Frame, decode, encode};
-use warm_gossip::{Node, NodeFault};
+use warm_frames::{decode, encode};
+use warm_gossip::Node;
 use warm_pool::Pool;
 use warm_stamps::{PageId, Reference, ReplicaId, Stamp};
 
@@ -30,25 +30,16 @@ const fn page(no: u32) -> PageId {
     }
 }
 
-// A node that was told nothing, with a pool over the device.
-fn opened(alloc: Global, number: u16, device: MemDevice) -> Result<Node<MemDevice>> {
-    let Ok(id) = ReplicaId::new(number) else {
-        bail!("no replica has the number {number}")
-    };
+// A node without references, with a pool over a device of 64 pages.
+fn opened(alloc: Global, number: u16) -> Result<Node<MemDevice>> {
+    let device = MemDevice::new(alloc, 64, PAGE_SIZE)?;
     let mut devices = Vec::with_capacity(alloc, 1)?;
     devices.push_reserved(device);
-    match Pool::new(alloc, FRAMES, PAGE_SIZE, devices) {
-        Ok(pool) => Ok(Node::new(alloc, id, pool)),
-        Err(unmade) => bail!("no pool: {}", unmade.fault.name()),
-    }
+    let pool = Pool::new(alloc, FRAMES, PAGE_SIZE, devices)?;
+    Ok(Node::new(alloc, ReplicaId::new(number)?, pool))
 }
 
-// A refusal as an error of this program.
-fn refused<T>(fault: NodeFault) -> Result<T> {
-    bail!("refused {} {}", fault.code(), fault.name())
-}
-
-// Tells a node that these pages were referenced, one after the other, from a time on.
+// References to these pages, one after the other, from a time on.
 fn refer(alloc: Global, node: &mut Node<MemDevice>, from: u64, pages: &[u32]) -> Result<()> {
     let replica = node.id();
     let mut batch = Vec::with_capacity(alloc, pages.len())?;
@@ -60,36 +51,17 @@ fn refer(alloc: Global, node: &mut Node<MemDevice>, from: u64, pages: &[u32]) ->
         })?;
         time = time.wrapping_add(1);
     }
-    match node.absorb(&batch) {
-        Ok(()) => Ok(()),
-        Err(fault) => refused(fault),
-    }
-}
-
-// What one replica sends another, as bytes: the sums of what it has heard of.
-fn offer(alloc: Global, node: &mut Node<MemDevice>) -> Result<Vec<u8>> {
-    match node.offer() {
-        Ok(frame) => Ok(encode(alloc, &frame)?),
-        Err(fault) => refused(fault),
-    }
+    node.absorb(&batch)?;
+    Ok(())
 }
 
 // Hands a frame's bytes to a node, and gives those of the frames that it answers.
 fn deliver(alloc: Global, node: &mut Node<MemDevice>, bytes: &[u8]) -> Result<Vec<Vec<u8>>> {
-    let frame = match decode(alloc, bytes) {
-        Ok(frame) => frame,
-        Err(fault) => bail!("no frame: {}", fault.name()),
-    };
-    match node.receive(frame) {
-        Ok(frames) => spelled(alloc, frames.as_slice()),
-        Err(fault) => refused(fault),
-    }
-}
-
-fn spelled(alloc: Global, frames: &[Frame]) -> Result<Vec<Vec<u8>>> {
-    let mut all = Vec::with_capacity(alloc, frames.len())?;
-    for frame in frames {
-        all.push(encode(alloc, frame)?)?;
+    let frame = decode(alloc, bytes)?;
+    let answers = node.receive(frame)?;
+    let mut all = Vec::new(alloc);
+    for answer in answers.as_slice() {
+        all.push(encode(alloc, answer)?)?;
     }
     Ok(all)
 }
@@ -114,12 +86,12 @@ fn make_equal(
     second: &mut Node<MemDevice>,
 ) -> Result<u32> {
     for round in 0..MOST_ROUNDS {
-        let sums = offer(alloc, first)?;
-        let entries_and_wish = deliver(alloc, second, &sums)?;
-        if entries_and_wish.is_empty() {
+        let sums = encode(alloc, &first.offer()?)?;
+        let entries_and_want = deliver(alloc, second, &sums)?;
+        if entries_and_want.is_empty() {
             return Ok(round);
         }
-        let wanted = deliver_all(alloc, first, &entries_and_wish)?;
+        let wanted = deliver_all(alloc, first, &entries_and_want)?;
         let _none = deliver_all(alloc, second, &wanted)?;
     }
     bail!("the histories still differ")
@@ -128,17 +100,16 @@ fn make_equal(
 // Loads the hottest pages, and says which.
 fn warm(rt: &impl Print, node: &mut Node<MemDevice>) -> Result<()> {
     for _ in 0..FRAMES {
-        match node.warm_step() {
-            Ok(Some(page)) => println!(rt; "loaded page {}", page.no)?,
-            Ok(None) => return Ok(()),
-            Err(fault) => return refused(fault),
-        }
+        let Some(page) = node.warm_step()? else {
+            return Ok(());
+        };
+        println!(rt; "loaded page {}", page.no)?;
     }
     Ok(())
 }
 
 // Pins a page, writes to it, reads it again and unpins it.
-fn change(node: &mut Node<MemDevice>, no: u32, text: &[u8]) -> Result<Vec<u8>, NodeFault> {
+fn change(node: &mut Node<MemDevice>, no: u32, text: &[u8]) -> Result<Vec<u8>> {
     let slot = node.pin(page(no))?;
     node.write(slot, 0, text)?;
     let bytes = node.read(slot, 0, text.len())?;
@@ -164,23 +135,17 @@ fn live(
 
     // The primary is gone, and the standby takes over. A pin is no reference, so it absorbs one beside it.
     refer(alloc, standby, 7, &[5])?;
-    match change(standby, 5, b"warm") {
-        Ok(bytes) => println!(rt; "wrote {} bytes", bytes.len())?,
-        Err(fault) => return refused(fault),
-    }
+    let bytes = change(standby, 5, b"warm")?;
+    println!(rt; "wrote {} bytes", bytes.len())?;
     Ok(())
 }
 
 fn main(rt: HostRuntime) -> Result<()> {
     let alloc = rt.alloc();
-    let device = MemDevice::new(alloc, 64, PAGE_SIZE)?;
-    let mut primary = opened(alloc, 1, device)?;
-    let device = MemDevice::new(alloc, 64, PAGE_SIZE)?;
-    let mut standby = opened(alloc, 2, device)?;
+    let mut primary = opened(alloc, 1)?;
+    let mut standby = opened(alloc, 2)?;
     live(&rt, alloc, &mut primary, &mut standby)?;
-    match standby.into_pool().close() {
-        Ok(()) => println!(rt; "closed")?,
-        Err(unclosed) => bail!("not closed: {}", unclosed.fault.name()),
-    }
+    standby.into_pool().close()?;
+    println!(rt; "closed")?;
     Ok(())
 }

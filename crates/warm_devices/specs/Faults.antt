@@ -1,5 +1,7 @@
 -- The numbers and names of the faults.
 use Rattle.std.specs.Prelude.{ℕ, List, codes}
+use Rattle.std.specs.declared.io.ErrorKind.{ErrorKind}
+use Rattle.std.specs.declared.io.ErrorKind.TheVariants.{OutOfMemory}
 use Rattle.warm_devices.specs.declared.fault.DeviceFault.{DeviceFault}
 use Rattle.warm_devices.specs.declared.fault.DeviceFault.TheVariants.{Read, Write, Flush}
 use Rattle.warm_devices.specs.declared.fault.OpenFault.{OpenFault}
@@ -22,3 +24,8 @@ open_fault_code Open = 2
 abbrev pub open_fault_name : OpenFault → List ℕ
 open_fault_name Memory = codes "Memory"
 open_fault_name Open = codes "Open"
+
+-- why a file was not opened, by the kind of the system's error
+abbrev pub open_fault_of : ErrorKind → OpenFault
+open_fault_of OutOfMemory = Memory
+open_fault_of kind = Open

@@ -2,17 +2,23 @@
 ghost use Rattle.std.specs.Prelude.{◌≡◌};
 ghost use Rattle.warm_devices.specs.Faults.{device_fault_code, device_fault_name, open_fault_code, open_fault_name};
 
+use std::io;
+use thiserror::Error;
+
 /// Why a call of a device failed: a read answers `Read` alone, a write `Write`, and a flush `Flush`.
 ///
 /// Each comes only where the device's count of failures grew by one in that call. Want of memory is none of them, since a device
 /// takes no memory in these calls.
-#[derive(Clone, Copy, PartialEq, Eq, Debug)]
+#[derive(Clone, Copy, PartialEq, Eq, Debug, Error)]
 pub enum DeviceFault {
     /// 1: the page could not be read; contents are as before.
+    #[error("Read")]
     Read,
     /// 2: the page could not be written, and may hold any bytes; all other pages are as before.
+    #[error("Write")]
     Write,
     /// 3: what waits could not be put down; it still waits, and contents are as read before.
+    #[error("Flush")]
     Flush,
 }
 
@@ -41,11 +47,13 @@ impl DeviceFault {
 }
 
 /// Why a file was not opened as a device.
-#[derive(Clone, Copy, PartialEq, Eq, Debug)]
+#[derive(Clone, Copy, PartialEq, Eq, Debug, Error)]
 pub enum OpenFault {
     /// 1: the system or the allocator had no memory.
+    #[error("Memory")]
     Memory,
     /// 2: the file could not be opened, made or extended, or its bytes would exceed what a file's offsets can name.
+    #[error("Open")]
     Open,
 }
 
@@ -67,6 +75,22 @@ impl OpenFault {
         match self {
             OpenFault::Memory => "Memory",
             OpenFault::Open => "Open",
+        }
+    }
+}
+
+/// Why the system did not open a file: for want of memory, or for anything else.
+impl From<io::Error> for OpenFault {
+    ghost use Rattle.std.specs.Prelude.{◌≡◌};
+    ghost use Rattle.std.specs.IoError.{error_kind};
+    ghost use Rattle.warm_devices.specs.Faults.{open_fault_of};
+
+    ghost from_gives = { λ error fault. fault ≡ open_fault_of (error_kind error) };
+
+    fn from(error: io::Error) -> OpenFault {
+        match error.kind() {
+            io::ErrorKind::OutOfMemory => OpenFault::Memory,
+            _ => OpenFault::Open,
         }
     }
 }

@@ -20,13 +20,6 @@ pub struct FileDevice {
     ghost fits: { pages * page_size < 2 ^ 63 },
 }
 
-fn fault_of(error: io::Error) -> OpenFault {
-    match error.kind() {
-        io::ErrorKind::OutOfMemory => OpenFault::Memory,
-        _ => OpenFault::Open,
-    }
-}
-
 fn open_sized<R: Files<File = File>>(files: &R, path: &str, len: u64) -> io::Result<File> {
     let file = OpenOptions::new()
         .read(true)
@@ -69,7 +62,7 @@ impl FileDevice {
             Some(len) if len < 1 << 63 => len,
             _ => return Err(OpenFault::Open),
         };
-        let file = open_sized(files, path, len).map_err(fault_of)?;
+        let file = open_sized(files, path, len)?;
         Ok(FileDevice {
             file,
             pages,

@@ -1,16 +1,15 @@
--- The numbers and names of a node's refusals: those of its pool's, and one more.
+-- The numbers and names of a node's refusals: those of its pool, and two more.
 use Rattle.std.specs.Prelude.{ℕ, List, codes}
-use Rattle.warm_pool.specs.declared.fault.PoolFault.TheVariants as pool
 use Rattle.warm_pool.specs.Faults as pool_faults
 use Rattle.warm_gossip.specs.declared.fault.NodeFault.{NodeFault}
 use Rattle.warm_gossip.specs.declared.fault.NodeFault.TheVariants.{Memory, Pool, StaleSlot}
 
 abbrev pub code_of : NodeFault → ℕ
-code_of Memory = pool_faults.code_of pool.Memory
+code_of Memory = 1
 code_of (Pool why) = pool_faults.code_of why
 code_of StaleSlot = 13
 
 abbrev pub name_of : NodeFault → List ℕ
-name_of Memory = pool_faults.name_of pool.Memory
+name_of Memory = codes "Memory"
 name_of (Pool why) = pool_faults.name_of why
 name_of StaleSlot = codes "StaleSlot"

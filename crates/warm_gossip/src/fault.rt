@@ -2,17 +2,46 @@
 ghost use Rattle.std.specs.Prelude.{◌≡◌};
 ghost use Rattle.warm_gossip.specs.Faults.{code_of, name_of};
 
+use std::alloc::AllocError;
+use thiserror::Error;
 use warm_pool::PoolFault;
 
 /// Why a node refuses a call. Each has the number and the name of its kind.
-#[derive(Clone, Copy, PartialEq, Eq, Debug)]
+#[derive(Clone, Copy, PartialEq, Eq, Debug, Error)]
 pub enum NodeFault {
-    /// 1: room was refused.
+    /// 1: an allocation failed.
+    #[error("Memory")]
     Memory,
-    /// 4 to 12: what its pool says. A pool that is there says nothing of its making, which has the numbers 1 to 3.
+    /// 4 to 12: why its pool refuses. A node retires no device, so `SizeDiffers`, 3, is none of these.
+    #[error(transparent)]
     Pool(PoolFault),
     /// 13: the slot does not hold its page.
+    #[error("StaleSlot")]
     StaleSlot,
+}
+
+/// An allocation failure is `Memory`.
+impl From<AllocError> for NodeFault {
+    ghost use Rattle.std.specs.Prelude.{◌≡◌};
+    ghost use Rattle.warm_gossip.specs.declared.fault.NodeFault.TheVariants.{Memory};
+
+    ghost from_gives = { λ _ fault. fault ≡ Memory };
+
+    fn from(_refused: AllocError) -> NodeFault {
+        Self::Memory
+    }
+}
+
+/// A refusal of the pool is `Pool`, with why.
+impl From<PoolFault> for NodeFault {
+    ghost use Rattle.std.specs.Prelude.{◌≡◌};
+    ghost use Rattle.warm_gossip.specs.declared.fault.NodeFault.TheVariants.{Pool};
+
+    ghost from_gives = { λ why fault. fault ≡ Pool why };
+
+    fn from(why: PoolFault) -> NodeFault {
+        Self::Pool(why)
+    }
 }
 
 impl NodeFault {
@@ -21,7 +50,7 @@ impl NodeFault {
         ensures { result ≡ code_of self }
     {
         match self {
-            NodeFault::Memory => PoolFault::Memory.code(),
+            NodeFault::Memory => 1,
             NodeFault::Pool(why) => why.code(),
             NodeFault::StaleSlot => 13,
         }
@@ -32,7 +61,7 @@ impl NodeFault {
         ensures { result.now ≡ name_of self }
     {
         match self {
-            NodeFault::Memory => PoolFault::Memory.name(),
+            NodeFault::Memory => "Memory",
             NodeFault::Pool(why) => why.name(),
             NodeFault::StaleSlot => "StaleSlot",
         }

@@ -13,6 +13,7 @@ use std::alloc::{AllocError, Global};
 use warm_devices::PageDevice;
 use warm_frames::{EntryList, Frame, FrameList, MAX_ENTRIES};
 use warm_history::Entry;
+use warm_history::laws::is_history;
 use warm_rank::warm_list;
 use warm_stamps::{Bucket, PageId, PageList, Reference};
 
@@ -62,8 +63,8 @@ impl<D: PageDevice> Node<D> {
     {
         let own = self.history.horizon();
         if time <= own {
-            // Asked for what holds of every history: none of its stamps is older than its horizon.
-            let _whole = self.history.history().len();
+            // None of the history's stamps is older than its horizon.
+            is_history(self.history.history());
             return own;
         }
         self.history.raise(time);
@@ -132,9 +133,7 @@ impl<D: PageDevice> Node<D> {
     pub fn send(&self, bucket: Bucket, after: Option<PageId>) -> Result<Frame, NodeFault>
         ensures { Answered self.now (Send bucket after) Sent result self.now }
     {
-        // Asked for what holds of every history: its pages rise.
         let history = self.history.history();
-        let _whole = history.len();
         let Ok(entries) = history.entries(bucket, after, MAX_ENTRIES) else {
             return Err(NodeFault::Memory);
         };
@@ -175,9 +174,9 @@ impl<D: PageDevice> Node<D> {
     pub fn warm_list(&self, n: usize) -> Result<PageList, NodeFault>
         ensures { Answered self.now (WarmList n) Pages result self.now }
     {
-        // Asked for what holds of every history: its pages rise.
         let history = self.history.history();
-        let _whole = history.len();
+        // The list is that of the references that the history holds: they give this very history.
+        is_history(history);
         match warm_list(self.alloc, history, n) {
             Ok(pages) => Ok(PageList::of(pages)),
             Err(_) => Err(NodeFault::Memory),

@@ -1,7 +1,6 @@
 //! The calls on a node's pool.
 ghost use Rattle.std.specs.Prelude.{◌↔◌, IfErr, IsTrue, OnOk};
 ghost use Rattle.warm_pool.specs.State.{IsSettled};
-ghost use Rattle.warm_pool.specs.View.{Holds, view_of};
 ghost use Rattle.warm_gossip.specs.declared.call.Call.TheVariants.{Pin, Unpin, Read, Write, Victim, Restart};
 ghost use Rattle.warm_gossip.specs.declared.call.Reply.TheVariants.{Pinned, Bytes, Page};
 ghost use Rattle.warm_gossip.specs.Clauses.{Answered, Goes, SameShown, WriteBackFails, done};
@@ -55,7 +54,7 @@ impl<D: PageDevice> Node<D> {
         if !self.pool.holds(slot) {
             return Err(NodeFault::StaleSlot);
         }
-        if !self.is_within(slot, at, len) {
+        if !self.is_within(at, len) {
             return Err(NodeFault::Pool(PoolFault::OutOfPage));
         }
         let Ok(mut bytes) = Vec::from_elem(self.alloc, 0, len) else {
@@ -67,17 +66,12 @@ impl<D: PageDevice> Node<D> {
         }
     }
 
-    // Whether so many bytes from `at` on are within a page: none are read beyond it, wherever they begin.
-    fn is_within(&self, slot: Slot, at: usize, len: usize) -> bool
-        requires { Holds (view_of self.now.pool) slot }
+    // Whether so many bytes from `at` on are within a page.
+    fn is_within(&self, at: usize, len: usize) -> bool
         ensures { IsTrue result ↔ IsWithin (node_view self.now) at len }
     {
-        // Asked for what holds of every pool: a page has few bytes.
-        self.pool.is_pool();
-        match at.checked_add(len) {
-            Some(end) => self.pool.read(slot, end, &mut []).is_ok(),
-            None => false,
-        }
+        let size = self.pool.page_size();
+        at <= size && len <= size - at
     }
 
     /// Writes bytes into the slot's page, from `at` on: the call `Write`. Takes no memory.

@@ -9,6 +9,7 @@ ghost use Rattle.warm_gossip.specs.Step.{IsFirstLoadable, IsLoadable};
 use crate::fault::NodeFault;
 use crate::node::Node;
 use warm_devices::PageDevice;
+use warm_history::laws::is_history;
 use warm_stamps::PageId;
 
 impl<D: PageDevice> Node<D> {
@@ -24,8 +25,8 @@ impl<D: PageDevice> Node<D> {
     pub fn warm_step(&mut self) -> Result<Option<PageId>, NodeFault>
         ensures { Answered self.old WarmStep Loaded result self.new }
     {
-        // Asked for what holds of every history: its pages rise.
-        let _whole = self.history.history().len();
+        // The list is that of the references that the history holds: they give this very history.
+        is_history(self.history.history());
         let Ok(list) = self.history.take_hottest(self.pool.frames()) else {
             return Err(NodeFault::Memory);
         };

@@ -1,11 +1,21 @@
--- The numbers and names of the refusals of a pool.
+-- The numbers and names of the refusals of a pool: why none was made, and why a call of one was refused.
 use Rattle.std.specs.Prelude.{ℕ, List, codes}
+use Rattle.warm_pool.specs.declared.fault.NewPoolFault.{NewPoolFault}
+use Rattle.warm_pool.specs.declared.fault.NewPoolFault.TheVariants as new
 use Rattle.warm_pool.specs.declared.fault.PoolFault.{PoolFault}
-use Rattle.warm_pool.specs.declared.fault.PoolFault.TheVariants.{Memory, BadFrames, SizeDiffers, NoDevice, NoPage, AllFixed, ReadFault, WriteBack, FixesFull, OutOfPage, Fixed, Fault}
+use Rattle.warm_pool.specs.declared.fault.PoolFault.TheVariants.{SizeDiffers, NoDevice, NoPage, AllFixed, ReadFault, WriteBack, FixesFull, OutOfPage, Fixed, Fault}
+
+abbrev pub new_code_of : NewPoolFault → ℕ
+new_code_of new.Memory = 1
+new_code_of new.BadFrames = 2
+new_code_of new.SizeDiffers = 3
+
+abbrev pub new_name_of : NewPoolFault → List ℕ
+new_name_of new.Memory = codes "Memory"
+new_name_of new.BadFrames = codes "BadFrames"
+new_name_of new.SizeDiffers = codes "SizeDiffers"
 
 abbrev pub code_of : PoolFault → ℕ
-code_of Memory = 1
-code_of BadFrames = 2
 code_of SizeDiffers = 3
 code_of NoDevice = 4
 code_of NoPage = 5
@@ -18,8 +28,6 @@ code_of Fixed = 11
 code_of Fault = 12
 
 abbrev pub name_of : PoolFault → List ℕ
-name_of Memory = codes "Memory"
-name_of BadFrames = codes "BadFrames"
 name_of SizeDiffers = codes "SizeDiffers"
 name_of NoDevice = codes "NoDevice"
 name_of NoPage = codes "NoPage"

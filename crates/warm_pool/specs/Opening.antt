@@ -3,8 +3,8 @@ use Rattle.std.specs.Prelude.{ℕ, ◌≡◌, ◌<◌, ◌≤◌, List, length}
 use Rattle.warm_rank.specs.declared.TheConstants.{MAX_SLOTS}
 use Rattle.warm_devices.specs.declared.TheConstants.{MAX_PAGE_SIZE}
 use Rattle.warm_devices.specs.Device.{DeviceState}
-use Rattle.warm_pool.specs.declared.fault.PoolFault.{PoolFault}
-use Rattle.warm_pool.specs.declared.fault.PoolFault.TheVariants.{Memory, BadFrames, SizeDiffers}
+use Rattle.warm_pool.specs.declared.fault.NewPoolFault.{NewPoolFault}
+use Rattle.warm_pool.specs.declared.fault.NewPoolFault.TheVariants.{Memory, BadFrames, SizeDiffers}
 use Rattle.warm_pool.specs.State.{nth_device}
 
 -- from 1 up to this number
@@ -16,8 +16,8 @@ pub record IsSize (size : ℕ) (devices : List DeviceState) : Type 0 where
   pub range : IsUpTo MAX_PAGE_SIZE size
   pub each : (k : ℕ) → k < length devices → (nth_device devices k).page_size ≡ size
 
-abbrev pub NewRefused : ℕ → ℕ → List DeviceState → PoolFault → Type 0
+-- Why no pool of so many frames, with pages of this size, is made over these devices. Memory comes of an allocation failure alone.
+abbrev pub NewRefused : ℕ → ℕ → List DeviceState → NewPoolFault → Type 0
 NewRefused frames size devices BadFrames = IsUpTo MAX_SLOTS frames → ⊥
 NewRefused frames size devices SizeDiffers = IsUpTo MAX_SLOTS frames × (IsSize size devices → ⊥)
 NewRefused frames size devices Memory = IsUpTo MAX_SLOTS frames × IsSize size devices
-NewRefused frames size devices why = ⊥

@@ -16,15 +16,26 @@ use crate::flush::{exchange, flush_all, flush_device, let_all_go};
 use crate::frames::Frames;
 use crate::pool::{Pool, write_back};
 use crate::residents::is_chosen;
+use std::fmt;
+use thiserror::Error;
 use warm_devices::{DeviceFault, PageDevice};
 
-/// Why a pool was not closed, and the pool.
-#[derive(Drop)]
+/// Why a pool was not closed, and the pool. As an error it shows the fault.
+#[derive(Drop, Error)]
+#[error("{fault}")]
 pub struct Unclosed<D: PageDevice> {
     /// Why: `Fixed` or `Fault`.
     pub fault: PoolFault,
     /// The pool, whose pages, fixes and contents are as they were.
     pub pool: Pool<D>,
+}
+
+impl<D: PageDevice> fmt::Debug for Unclosed<D> {
+    fn fmt<W: fmt::Write>(&self, f: &mut fmt::Formatter<W>) -> fmt::Result {
+        f.debug_struct("Unclosed")
+            .field("fault", &self.fault)
+            .finish_non_exhaustive()
+    }
 }
 
 impl<D: PageDevice> Pool<D> {

@@ -1,46 +1,104 @@
-//! Why a call of a pool was refused.
+//! Why no pool was made, and why a call of one was refused.
 ghost use Rattle.std.specs.Prelude.{◌≡◌};
-ghost use Rattle.warm_pool.specs.Faults.{code_of, name_of};
+ghost use Rattle.warm_pool.specs.Faults.{code_of, name_of, new_code_of, new_name_of};
 
+use std::alloc::AllocError;
+use std::fmt;
+use thiserror::Error;
 use warm_devices::PageDevice;
 
-/// Why a call of a pool was refused. Each call says which of these it may answer, and what it then leaves.
-#[derive(Clone, Copy, PartialEq, Eq, Debug)]
-pub enum PoolFault {
+/// Why no pool was made. The numbers go on in [`PoolFault`].
+#[derive(Clone, Copy, PartialEq, Eq, Debug, Error)]
+pub enum NewPoolFault {
     /// 1: there was no memory for the frames.
+    #[error("Memory")]
     Memory,
     /// 2: a pool has 1 to 65,536 frames.
+    #[error("BadFrames")]
     BadFrames,
     /// 3: a page has 1 to 65,536 bytes, on each device of a pool the same number.
+    #[error("SizeDiffers")]
+    SizeDiffers,
+}
+
+impl NewPoolFault {
+    /// The number of the refusal, 1 to 3.
+    pub fn code(self) -> u8
+        ensures { result ≡ new_code_of self }
+    {
+        match self {
+            NewPoolFault::Memory => 1,
+            NewPoolFault::BadFrames => 2,
+            NewPoolFault::SizeDiffers => 3,
+        }
+    }
+
+    /// Its name, as the variant is written.
+    pub fn name(self) -> &'static str
+        ensures { result.now ≡ new_name_of self }
+    {
+        match self {
+            NewPoolFault::Memory => "Memory",
+            NewPoolFault::BadFrames => "BadFrames",
+            NewPoolFault::SizeDiffers => "SizeDiffers",
+        }
+    }
+}
+
+/// An allocation failure is `Memory`.
+impl From<AllocError> for NewPoolFault {
+    ghost use Rattle.std.specs.Prelude.{◌≡◌};
+    ghost use Rattle.warm_pool.specs.declared.fault.NewPoolFault.TheVariants.{Memory};
+
+    ghost from_gives = { λ _ fault. fault ≡ Memory };
+
+    fn from(_refused: AllocError) -> NewPoolFault {
+        Self::Memory
+    }
+}
+
+/// Why a call of a pool was refused. Each call says which of these it may answer, and what it then leaves. No call of a pool takes
+/// memory.
+#[derive(Clone, Copy, PartialEq, Eq, Debug, Error)]
+pub enum PoolFault {
+    /// 3: the pages of a new device have another size than those of the pool: `retire` alone answers it.
+    #[error("SizeDiffers")]
     SizeDiffers,
     /// 4: the pool has no such device.
+    #[error("NoDevice")]
     NoDevice,
     /// 5: the device has no such page.
+    #[error("NoPage")]
     NoPage,
     /// 6: each frame has a page, and all are fixed.
+    #[error("AllFixed")]
     AllFixed,
     /// 7: the page couldn't be read from its device.
+    #[error("ReadFault")]
     ReadFault,
     /// 8: the page that would leave couldn't be written to its device.
+    #[error("WriteBack")]
     WriteBack,
     /// 9: the page has as many fixes as it can, or as many pages as can were put into the frame.
+    #[error("FixesFull")]
     FixesFull,
     /// 10: the bytes reach beyond the end of the page.
+    #[error("OutOfPage")]
     OutOfPage,
     /// 11: a page is fixed that would leave.
+    #[error("Fixed")]
     Fixed,
     /// 12: a page couldn't be written to its device, or a device not flushed.
+    #[error("Fault")]
     Fault,
 }
 
 impl PoolFault {
-    /// The number of the refusal, 1 to 12.
+    /// The number of the refusal, 3 to 12.
     pub fn code(self) -> u8
         ensures { result ≡ code_of self }
     {
         match self {
-            PoolFault::Memory => 1,
-            PoolFault::BadFrames => 2,
             PoolFault::SizeDiffers => 3,
             PoolFault::NoDevice => 4,
             PoolFault::NoPage => 5,
@@ -59,8 +117,6 @@ impl PoolFault {
         ensures { result.now ≡ name_of self }
     {
         match self {
-            PoolFault::Memory => "Memory",
-            PoolFault::BadFrames => "BadFrames",
             PoolFault::SizeDiffers => "SizeDiffers",
             PoolFault::NoDevice => "NoDevice",
             PoolFault::NoPage => "NoPage",
@@ -75,20 +131,38 @@ impl PoolFault {
     }
 }
 
-/// Why no pool was made, and the devices that were handed in for it.
-#[derive(Drop)]
+/// Why no pool was made, and the devices that were handed in for it. As an error it shows the fault.
+#[derive(Drop, Error)]
+#[error("{fault}")]
 pub struct Unmade<D: PageDevice> {
-    /// Why: `BadFrames`, `SizeDiffers` or `Memory`.
-    pub fault: PoolFault,
+    /// Why.
+    pub fault: NewPoolFault,
     /// The devices, as they were.
     pub devices: Vec<D>,
 }
 
-/// Why a device was not retired, and the device that was to take its place.
-#[derive(Drop)]
+impl<D: PageDevice> fmt::Debug for Unmade<D> {
+    fn fmt<W: fmt::Write>(&self, f: &mut fmt::Formatter<W>) -> fmt::Result {
+        f.debug_struct("Unmade")
+            .field("fault", &self.fault)
+            .finish_non_exhaustive()
+    }
+}
+
+/// Why a device was not retired, and the device that was to take its place. As an error it shows the fault.
+#[derive(Drop, Error)]
+#[error("{fault}")]
 pub struct Unretired<D: PageDevice> {
     /// Why: `NoDevice`, `SizeDiffers`, `Fixed` or `Fault`.
     pub fault: PoolFault,
     /// The new device, as it was.
     pub device: D,
+}
+
+impl<D: PageDevice> fmt::Debug for Unretired<D> {
+    fn fmt<W: fmt::Write>(&self, f: &mut fmt::Formatter<W>) -> fmt::Result {
+        f.debug_struct("Unretired")
+            .field("fault", &self.fault)
+            .finish_non_exhaustive()
+    }
 }

@@ -24,7 +24,7 @@ mod slot;
 
 pub use close::Unclosed;
 pub use device_list::all_sized;
-pub use fault::{PoolFault, Unmade, Unretired};
+pub use fault::{NewPoolFault, PoolFault, Unmade, Unretired};
 pub use pool::Pool;
 pub use slot::Slot;
 

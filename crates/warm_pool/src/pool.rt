@@ -18,13 +18,14 @@ ghost use Rattle.warm_pool.specs.declared.fault.PoolFault.TheVariants.{OutOfPage
 
 use crate::MAX_DEVICES;
 use crate::device_list::{all_sized, pages_of, read_page, write_page};
-use crate::fault::{PoolFault, Unmade};
+use crate::fault::{NewPoolFault, PoolFault, Unmade};
 use crate::frames::Frames;
 use crate::slot::Slot;
-use std::alloc::{AllocError, Global};
+use std::alloc::Global;
 use std::marker::Model;
 use warm_devices::{DeviceFault, MAX_PAGE_SIZE, PageDevice};
 use warm_history::History;
+use warm_history::laws::is_history;
 use warm_rank::{MAX_SLOTS, RankKey, key_of};
 use warm_stamps::PageId;
 
@@ -104,19 +105,13 @@ impl<D: PageDevice> Pool<D> {
             (map D.state devices.items) unmade.fault
             × (unmade.devices.items ≡ devices.items)) }
     {
-        if let Some(fault) = shape_fault(frames, page_size, &devices) {
-            return Err(Unmade { fault, devices });
-        }
-        match parts(alloc, frames, page_size) {
+        match parts(alloc, frames, page_size, &devices) {
             Ok((frames, spare)) => Ok(Pool {
                 frames,
                 devices,
                 spare,
             }),
-            Err(_) => Err(Unmade {
-                fault: PoolFault::Memory,
-                devices,
-            }),
+            Err(fault) => Err(Unmade { fault, devices }),
         }
     }
 
@@ -124,7 +119,7 @@ impl<D: PageDevice> Pool<D> {
     pub fn is_pool(&self)
         ensures { IsPool self.now }
     {
-        // For the proof alone: it brings in what is always true of a pool.
+        // A field that is read brings in what is always true of a pool; it costs nothing.
         let _frames = &self.frames;
     }
 
@@ -133,6 +128,13 @@ impl<D: PageDevice> Pool<D> {
         ensures { result ≡ length (view_of self.now).frames }
     {
         self.frames.len()
+    }
+
+    /// The size of a page, in bytes.
+    pub fn page_size(&self) -> usize
+        ensures { result ≡ (view_of self.now).page_size }
+    {
+        self.frames.page_size()
     }
 
     /// Whether a device has the page.
@@ -309,7 +311,7 @@ impl<D: PageDevice> Pool<D> {
         ensures same { view_of self.new ≡ view_of self.old }
         ensures kept { KeepsBytes self.old self.new }
     {
-        // For the proof.
+        // A law, for the case of no page.
         self.is_pool();
         for page in pages {
             self.renew(history, *page);
@@ -378,7 +380,7 @@ impl<D: PageDevice> Pool<D> {
     fn is_within(&self, at: usize, len: usize) -> bool
         ensures { IsTrue result ↔ (at + len ≤ (view_of self.now).page_size) }
     {
-        let size = self.frames.page_size();
+        let size = self.page_size();
         at <= size && len <= size - at
     }
 
@@ -516,38 +518,49 @@ pub(crate) fn write_back<D: PageDevice>(
     Ok(())
 }
 
-// Why no pool is made, as far as that is known before room is taken.
-fn shape_fault<D: PageDevice>(frames: usize, page_size: usize, devices: &[D]) -> Option<PoolFault>
-    ensures { MatchOption result (IsUpTo MAX_SLOTS frames
-        × IsSize page_size (map D.state devices.now))
-        (λ fault. NewRefused frames page_size (map D.state devices.now) fault) }
-{
-    if frames < 1 || frames > MAX_SLOTS {
-        return Some(PoolFault::BadFrames);
-    }
-    if page_size < 1 || page_size > MAX_PAGE_SIZE || !all_sized(devices, page_size) {
-        return Some(PoolFault::SizeDiffers);
-    }
-    None
-}
-
-// The frames and the spare buffer of a pool.
-fn parts(alloc: Global, frames: usize, page_size: usize) -> Result<(Frames, Vec<u8>), AllocError>
-    requires some { 0 < frames }
-    requires few { frames ≤ MAX_SLOTS }
-    ensures { IfOk result (λ made. (made.0 ≡ fresh_frames frames page_size)
+// The frames and the spare buffer of a pool over these devices.
+fn parts<D: PageDevice>(
+    alloc: Global,
+    frames: usize,
+    page_size: usize,
+    devices: &[D],
+) -> Result<(Frames, Vec<u8>), NewPoolFault>
+    ensures made { IfOk result (λ made. (made.0 ≡ fresh_frames frames page_size)
         × (length made.1.items ≡ page_size)) }
+    ensures shape { OnOk result (IsUpTo MAX_SLOTS frames
+        × IsSize page_size (map D.state devices.now)) }
+    ensures refused { IfErr result (NewRefused frames page_size (map D.state devices.now)) }
 {
+    check_shape(frames, page_size, devices)?;
     let spare = Vec::from_elem(alloc, 0, page_size)?;
     let frames = Frames::new(alloc, frames, page_size)?;
     Ok((frames, spare))
+}
+
+// Whether a pool may have this shape, and else why none is made.
+fn check_shape<D: PageDevice>(
+    frames: usize,
+    page_size: usize,
+    devices: &[D],
+) -> Result<(), NewPoolFault>
+    ensures { MatchResult result (λ _. IsUpTo MAX_SLOTS frames
+        × IsSize page_size (map D.state devices.now))
+        (NewRefused frames page_size (map D.state devices.now)) }
+{
+    if frames < 1 || frames > MAX_SLOTS {
+        return Err(NewPoolFault::BadFrames);
+    }
+    if page_size < 1 || page_size > MAX_PAGE_SIZE || !all_sized(devices, page_size) {
+        return Err(NewPoolFault::SizeDiffers);
+    }
+    Ok(())
 }
 
 // The rank that the history gives a page.
 fn known_key(history: &History, page: PageId) -> RankKey
     ensures { result ≡ rank_key page (hist (refs history.now) page) }
 {
-    // For the proof: the clause of `len` tells that the history is whole, and so what its own references give, as the rank is said.
-    let _whole = history.len();
+    // The rank is that of the references that the history holds: they give this very history.
+    is_history(history);
     key_of(page, history.get(page))
 }

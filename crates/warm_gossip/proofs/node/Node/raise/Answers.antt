@@ -11,6 +11,6 @@ returns-then-time-own g c =
     let s = c.args.self.now in
     let is : c.self.inside.history ≡ s.history = ap (λ (t : NodeState). t.history) c.self.view_is in
     let own : c.horizon-own.result ≡ s.history.horizon = c.horizon-own.ensures ∙ ap (λ (h : HistoryView). h.horizon) is in
-    let whole : IsHistory s.history = subst IsHistory (c.history.ensures ∙ is) c.len-whole.ensures.whole in
+    let whole : IsHistory s.history = subst IsHistory (c.history.ensures ∙ is) c.is_history.ensures in
     let after : HistoryView → NodeView = λ h. record { id = s.id; history = h; pool = view_of s.pool } in
     (ap after (sym (raised_to_no_later s.history c.args.time whole (subst (λ n. c.args.time ≤ n) own c.if-time-own.true))), own)

@@ -8,7 +8,7 @@ pub returns-in-Ok : goal.returns-in-Ok
 returns-in-Ok g c = rw (← c.self.view_is) (
     let h = c.history-history.result.now in (
       c.of.ensures
-          ∙ c.in-Ok.ensures (refs h) (sym (history_of_own_references h c.len-whole.ensures.whole))
+          ∙ c.in-Ok.ensures (refs h) (sym (history_of_own_references h c.is_history.ensures))
           ∙ ap (λ (k : HistoryView). warm (refs k) c.args.n) c.history-history.ensures,
       refl,
     ))

@@ -13,7 +13,7 @@ pub returns-in_default-next : goal.returns-in_default-next
 returns-in_default-next g c =
     let new : NodeState = record { id = c.self.inside.id; history = c.keep.new.self; pool = c.self.inside.pool } in
     subst (λ (s : NodeState). Answered s WarmStep Loaded (Ok None) new) c.self.view_is (
-      next_warm c.self.inside.pool c.self.inside.history _ c.in-Ok.list _ _ None c.len-whole.ensures.whole c.history.ensures c.in-Ok.ensures.list c.in-Ok.ensures.many c.deref.ensures.value c.frames.ensures c.in_default-next.ensures,
+      next_warm c.self.inside.pool c.self.inside.history _ c.in-Ok.list _ _ None c.is_history.ensures c.history.ensures c.in-Ok.ensures.list c.in-Ok.ensures.many c.deref.ensures.value c.frames.ensures c.in_default-next.ensures,
       ap (λ (h : HistoryView). let v : NodeView = record { id = c.self.inside.id; history = h; pool = view_of c.self.inside.pool } in v) (c.keep.ensures ∙ c.take_hottest.ensures.same),
     )
 
@@ -23,7 +23,7 @@ returns g c =
     let same = c.keep.ensures ∙ c.take_hottest.ensures.same in
     let pool = view_of c.load.new.self in
     let shown = ap (λ (h : HistoryView). let v : NodeView = record { id = c.self.inside.id; history = h; pool = pool } in v) same in
-    let next = next_warm c.self.inside.pool c.self.inside.history _ c.in-Ok.list _ _ (Some c.in-Some.page) c.len-whole.ensures.whole c.history.ensures c.in-Ok.ensures.list c.in-Ok.ensures.many c.deref.ensures.value c.frames.ensures c.in-Some.ensures in
+    let next = next_warm c.self.inside.pool c.self.inside.history _ c.in-Ok.list _ _ (Some c.in-Some.page) c.is_history.ensures c.history.ensures c.in-Ok.ensures.list c.in-Ok.ensures.many c.deref.ensures.value c.frames.ensures c.in-Some.ensures in
     subst (λ (s : NodeState). Answered s WarmStep Loaded c.match-load.result new) c.self.view_is (
     elim c.match-load.branch [
       | in-Ok-load w ↦ rw w.result-is (next, (shown, (_, loaded_in (c.history-2.ensures ∙ same) c.in-Some.ensures.3 w.in-Ok-load.ensures.loaded)))
