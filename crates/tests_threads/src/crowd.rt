@@ -28,9 +28,7 @@ fn answered<M: Absorbing + Drop + Send, R: Threads + Wait + Abort + Sync>(
     alloc: Global,
     machine: M,
     jobs: Vec<Job>,
-) -> Vec<Vec<StepReply>>
-    requires { M.is_fit machine }
-{
+) -> Vec<Vec<StepReply>> {
     let (replica, mut pass) = turn_over(rt, alloc, machine);
     let ran = run(rt, alloc, &replica, &mut pass, jobs, &Open);
     listed(rt, alloc, ran.expect(rt, "the jobs run"))
@@ -55,8 +53,6 @@ impl Machine for Tally {
     type State = u64;
 
     ghost meaning = { λ tally. tally.calls };
-
-    ghost is_fit = { λ _. Unit {0} };
 
     ghost goes = { λ _ call reply _.
         (batch : List Reference) → call ≡ Absorb batch → reply ≡ Done };

@@ -110,9 +110,7 @@ pub(crate) fn ran<M: Absorbing + Drop + Send, R: Threads + Wait + Abort + Sync, 
     machine: M,
     jobs: Vec<Job>,
     gate: &G,
-) -> (Result<Vec<Replies>, RunFault>, PageList)
-    requires { M.is_fit machine }
-{
+) -> (Result<Vec<Replies>, RunFault>, PageList) {
     let (replica, mut pass) = turn_over(rt, alloc, machine);
     let ran = run(rt, alloc, &replica, &mut pass, jobs, gate);
     let answer = replica.call(rt, &mut pass, Call::WarmList(100));

@@ -8,6 +8,8 @@
 #[cfg(test)]
 mod crowd;
 #[cfg(test)]
+mod faults;
+#[cfg(test)]
 mod jobs;
 #[cfg(test)]
 mod mail;

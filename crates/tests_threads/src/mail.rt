@@ -112,9 +112,7 @@ fn listened<M: Absorbing + Drop, P: Post, R: Wait + Abort>(
     receiver: Receiver<Mail>,
     post: &mut P,
     bounds: Bounds,
-) -> MailReport
-    requires { M.is_fit machine }
-{
+) -> MailReport {
     let (replica, mut worker) = opened(rt, alloc, machine, 2);
     tell(rt, alloc, &replica, &mut worker);
     hear(rt, alloc, &replica, &mut worker, receiver, post, bounds)
@@ -268,9 +266,7 @@ fn heard_then_sent<M: Absorbing + Drop, P: Post, R: Wait + Abort>(
     mail: Receiver<Mail>,
     post: &mut P,
     number: u8,
-) -> (MailReport, Vec<u8>)
-    requires { M.is_fit machine }
-{
+) -> (MailReport, Vec<u8>) {
     let (replica, mut worker) = opened(rt, alloc, machine, 2);
     let heard = hear(rt, alloc, &replica, &mut worker, mail, post, ONE_STOP);
     let bucket = Bucket::new(number).expect(rt, "the number is of a bucket");
@@ -448,9 +444,7 @@ fn heard_by_both<M: Absorbing + Drop + Send, R: Threads + Wait + Abort + Sync>(
     second: M,
     to_second: Receiver<Mail>,
     of_second: Vec<Outbox>,
-) -> (MailReport, MailReport)
-    requires { M.is_fit first × M.is_fit second }
-{
+) -> (MailReport, MailReport) {
     let (first, one) = opened(rt, alloc, first, 2);
     let (second, two) = opened(rt, alloc, second, 2);
     let mut stations = Vec::with_capacity(alloc, 2).expect(rt, "room for two stations");

@@ -39,7 +39,6 @@ pub(crate) fn turn_over<M: Absorbing + Drop>(
     alloc: Global,
     machine: M,
 ) -> (Turn<M>, Pass<M>)
-    requires { M.is_fit machine }
     ensures { result.1.table ≡ result.0.table }
 {
     Turn::new(alloc, machine).ok().expect(rt, "room for a turn")
@@ -52,7 +51,6 @@ pub(crate) fn opened<M: Absorbing + Drop>(
     machine: M,
     cap: usize,
 ) -> (Turn<M>, Worker<M>)
-    requires { M.is_fit machine }
     ensures { result.1.pass.table ≡ result.0.table }
 {
     let buffer = RefBuffer::new(alloc, cap).expect(rt, "room for references");

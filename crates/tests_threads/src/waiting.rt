@@ -167,9 +167,7 @@ fn pins_and_touches<M: Absorbing + Drop + Send, R: Threads + Wait + Abort + Sync
     alloc: Global,
     machine: M,
     gate: &G,
-) -> (Replies, Replies)
-    requires { M.is_fit machine }
-{
+) -> (Replies, Replies) {
     let (ran, _pages) = ran(rt, alloc, machine, two_jobs(rt, alloc), gate);
     let mut replies = ran.expect(rt, "the jobs run");
     let touched = replies.pop().expect(rt, "the touch is answered");

@@ -28,9 +28,7 @@ fn is_filled<M: Absorbing>(rt: &impl Abort, worker: &mut Worker<M>) -> bool
 }
 
 // Whether a worker fills its buffer, flushes it, lists 0:1 as the only page, and is empty then.
-fn is_flushed<M: Absorbing + Drop, R: Wait + Abort>(rt: &R, alloc: Global, machine: M) -> bool
-    requires { M.is_fit machine }
-{
+fn is_flushed<M: Absorbing + Drop, R: Wait + Abort>(rt: &R, alloc: Global, machine: M) -> bool {
     let (replica, mut worker) = opened(rt, alloc, machine, 2);
     let is_filled = is_filled(rt, &mut worker);
     worker
@@ -74,8 +72,6 @@ impl Machine for NoRoom {
 
     ghost meaning = { λ _. 0 };
 
-    ghost is_fit = { λ _. Unit {0} };
-
     ghost goes = { λ _ _ reply _. reply ≡ no_memory };
 
     fn call(&mut self, _call: Call) -> Reply {
@@ -90,9 +86,7 @@ impl Absorbing for NoRoom {
 }
 
 // Whether a worker fills its buffer, is refused a flush, and keeps what it has touched.
-fn keeps<M: Absorbing + Drop, R: Wait + Abort>(rt: &R, alloc: Global, machine: M) -> bool
-    requires { M.is_fit machine }
-{
+fn keeps<M: Absorbing + Drop, R: Wait + Abort>(rt: &R, alloc: Global, machine: M) -> bool {
     let held = [reference(rt, 1, 10), reference(rt, 1, 20)];
     let (replica, mut worker) = opened(rt, alloc, machine, 2);
     let is_filled = is_filled(rt, &mut worker);

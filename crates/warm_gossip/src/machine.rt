@@ -19,7 +19,7 @@ impl Model for Meaning {
     ghost view = { λ _. nobody };
 }
 
-/// Every call is a step, so each reply that comes of a turn is that of one legal history of steps. Every node may be handed in.
+/// Every call is a step, so each reply that comes of a turn is that of one legal history of steps.
 impl<D: PageDevice + Send> Machine for Node<D> {
     ghost use Rattle.warm_gossip.specs.State.{node_view};
     ghost use Rattle.warm_gossip.specs.Step.{Step};
@@ -31,8 +31,6 @@ impl<D: PageDevice + Send> Machine for Node<D> {
     type State = Meaning;
 
     ghost meaning = { λ n. node_view n };
-
-    ghost is_fit = { λ _. Unit {0} };
 
     ghost goes = { Step };
 

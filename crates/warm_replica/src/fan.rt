@@ -93,17 +93,15 @@ fn start_job<'s, E, M: Absorbing + Send + 's, R: Wait + Sync, G: Gate + Sync>(
         steps: Snapshot::of(&ready.steps),
         pass: Snapshot::of(&mine),
     };
-    match scope.spawn_with(
+    let child = scope.spawn_with(
         began,
         move || -> (Pass<M>, Replies)
             requires { mine.table ≡ replica.now.table }
             ensures { (result.0.table ≡ mine.table)
                 × ReadyWent ready result.1 mine.view result.0.view }
         { run_job(rt, alloc, replica, gate, mine, ready) },
-    ) {
-        Ok(child) => Ok(child),
-        Err(_) => Err(NoThread),
-    }
+    )?;
+    Ok(child)
 }
 
 // Runs each job in a thread of its own, the last one first to start, and ends their passes into this one.
@@ -246,17 +244,11 @@ pub fn run_workers<M: Absorbing + Send, R: Threads + Wait + Sync, G: Gate + Sync
     if !have_capacities(&jobs) {
         return Err(RunFault::BadCapacity);
     }
-    let Ok(ready) = make_all_ready(alloc, jobs) else {
-        return Err(RunFault::Memory);
-    };
-    let Ok(all) = Vec::with_capacity(alloc, ready.len()) else {
-        return Err(RunFault::Memory);
-    };
+    let ready = make_all_ready(alloc, jobs)?;
+    let all = Vec::with_capacity(alloc, ready.len())?;
     let own = replica.pass(pass);
     let (own, ran) = run_ready(rt, alloc, replica, gate, own, ready, all);
     replica.end(pass, own);
-    match ran {
-        Ok(all) => Ok(all),
-        Err(_) => Err(RunFault::NoThread),
-    }
+    let replies = ran?;
+    Ok(replies)
 }

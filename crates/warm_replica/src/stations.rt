@@ -127,15 +127,13 @@ fn start_station<'s, E, M: Machine<Call = Call, Reply = Reply> + Send + 's, R: W
         worker: Snapshot::of(&station.worker),
         turns,
     };
-    match scope.spawn_with(
+    let child = scope.spawn_with(
         began,
         move || -> (Worker<M>, MailReport)
             ensures { Listened turns station.entry.worker.pass.view result.1 result.0.pass.view }
         { listen_at(rt, alloc, station, stops, turns) },
-    ) {
-        Ok(child) => Ok(child),
-        Err(_) => Err(NoThread),
-    }
+    )?;
+    Ok(child)
 }
 
 // Each station takes its mail in a thread of its own, the last one first to start.
@@ -202,10 +200,7 @@ fn run_in_scope<'a, M: Machine<Call = Call, Reply = Reply> + Send, R: Threads + 
             }
         },
     );
-    match ran {
-        Ok(all) => Ok(all),
-        Err(none) => Err(none),
-    }
+    ran
 }
 
 /// Each station takes its mail in a thread of its own, as [`crate::mail_loop`] does, until `stops` Stops or `turns` items, and hands its
@@ -223,8 +218,6 @@ pub fn run_stations<'a, M: Machine<Call = Call, Reply = Reply> + Send, R: Thread
 ) -> Result<Vec<(Worker<M>, MailReport)>, NoThread>
     ensures { IfOk result (λ v. AllListened (λ s. s.worker) turns stations.entry.items v.items) }
 {
-    match Vec::with_capacity(alloc, stations.len()) {
-        Ok(all) => run_in_scope(rt, alloc, stations, stops, turns, all),
-        Err(_) => Err(NoThread),
-    }
+    let all = Vec::with_capacity(alloc, stations.len())?;
+    run_in_scope(rt, alloc, stations, stops, turns, all)
 }

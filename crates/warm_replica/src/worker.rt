@@ -127,12 +127,8 @@ impl<M: Absorbing> Worker<M> {
         ensures flushed { OnOk result (Flushes M.goes self.old self.new) }
         ensures kept { IfErr result (λ fault. KeepsBatch M.goes self.old fault self.new) }
     {
-        let Ok(batch) = batch_of(alloc, self.buffer.refs()) else {
-            return Err(FlushFault::Memory);
-        };
-        let Ok(reply) = replica.call(rt, &mut self.pass, Call::Absorb(batch)) else {
-            return Err(FlushFault::TurnsSpent);
-        };
+        let batch = batch_of(alloc, self.buffer.refs())?;
+        let reply = replica.call(rt, &mut self.pass, Call::Absorb(batch))?;
         if let Reply::Done = reply {
             self.buffer.clear();
             return Ok(());

@@ -16,21 +16,6 @@ module _ {A B : Type 0} where
   pairs_by_place P [] (b ∷ ys) same f = absurd (omega (arith, same))
   pairs_by_place P (a ∷ xs) [] same f = absurd (omega (arith, same))
 
-  -- what follows from the pairs
-  pub pairs_map : (P Q : A → B → Type 0) → ((x : A) (y : B) → P x y → Q x y) → (xs : List A) (ys : List B) → Pairs P xs ys → Pairs Q xs ys
-  pairs_map P Q f [] [] h = tt
-  pairs_map P Q f (a ∷ xs) (b ∷ ys) h = (f a b h.0, pairs_map P Q f xs ys h.1)
-  pairs_map P Q f [] (b ∷ ys) h = absurd h
-  pairs_map P Q f (a ∷ xs) [] h = absurd h
-
-  -- what each pair says of its second
-  pub all_second : (P : A → B → Type 0) (Q : B → Type 0) → ((x : A) (y : B) → P x y → Q y) → (xs : List A) (ys : List B) → Pairs P xs ys → All Q ys
-  all_second P Q f [] [] h k d low = absurd (omega (arith, low))
-  all_second P Q f (a ∷ xs) (b ∷ ys) h zero d low = f a b h.0
-  all_second P Q f (a ∷ xs) (b ∷ ys) h (suc k) d low = all_second P Q f xs ys h.1 k d (omega (arith, low))
-  all_second P Q f [] (b ∷ ys) h k d low = absurd h
-  all_second P Q f (a ∷ xs) [] h k d low = absurd h
-
 -- pairs of pairs
 pub pairs_then : {A B D : Type 0} (P : A → B → Type 0) (Q : B → D → Type 0) (S : A → D → Type 0) → ((a : A) (b : B) (d : D) → P a b → Q b d → S a d)
     → (xs : List A) (ys : List B) (zs : List D) → Pairs P xs ys → Pairs Q ys zs → Pairs S xs zs

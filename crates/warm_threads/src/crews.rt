@@ -45,10 +45,8 @@ fn work_one<M: Absorbing + Send + Drop, R: Threads + Wait + Sync>(
     alloc: Global,
     crew: Crew<M>,
 ) -> Result<Knowing<M>, PlayFault>
-    requires fit { M.is_fit crew.machine }
-    requires few { length crew.jobs.items ≤ MAX_JOBS }
-    ensures fit { IfOk result (λ k. M.is_fit k.machine) }
-    ensures works { IfOk result
+    requires { length crew.jobs.items ≤ MAX_JOBS }
+    ensures { IfOk result
         (λ k. Works M.goes crew.jobs.items (M.meaning crew.machine) (M.meaning k.machine)) }
 {
     let Crew {
@@ -70,9 +68,7 @@ fn send_one<M: Absorbing + Drop, R: Wait>(
     alloc: Global,
     one: Knowing<M>,
 ) -> Result<Hearing<M>, PlayFault>
-    requires fit { M.is_fit one.machine }
-    ensures fit { IfOk result (λ h. M.is_fit h.machine) }
-    ensures leads { IfOk result
+    ensures { IfOk result
         (λ h. Leads M.goes (M.meaning one.machine) (M.meaning h.machine)) }
 {
     let Knowing {
@@ -93,9 +89,7 @@ fn hear_one<M: Absorbing + Drop, R: Wait>(
     alloc: Global,
     one: Hearing<M>,
 ) -> Result<M, PlayFault>
-    requires fit { M.is_fit one.machine }
-    ensures fit { IfOk result M.is_fit }
-    ensures leads { IfOk result (λ m. Leads M.goes (M.meaning one.machine) (M.meaning m)) }
+    ensures { IfOk result (λ m. Leads M.goes (M.meaning one.machine) (M.meaning m)) }
 {
     let Hearing {
         machine,
@@ -126,15 +120,13 @@ fn all_work<M: Absorbing + Send + Drop, R: Threads + Wait + Sync>(
     alloc: Global,
     crews: Vec<Crew<M>>,
 ) -> Result<Vec<Knowing<M>>, PlayFault>
-    requires fit { All (λ c. M.is_fit c.machine) crews.items }
-    requires few { All (λ c. length c.jobs.items ≤ MAX_JOBS) crews.items }
-    ensures fit { IfOk result (λ v. All (λ k. M.is_fit k.machine) v.items) }
-    ensures works { IfOk result (λ v. Pairs (λ c k. Works M.goes c.jobs.items
+    requires { All (λ c. length c.jobs.items ≤ MAX_JOBS) crews.items }
+    ensures { IfOk result (λ v. Pairs (λ c k. Works M.goes c.jobs.items
         (M.meaning c.machine) (M.meaning k.machine)) crews.items v.items) }
 {
     let run = move |crew: Crew<M>| -> Result<Knowing<M>, PlayFault>
-        requires { M.is_fit crew.machine × (length crew.jobs.items ≤ MAX_JOBS) }
-        ensures { IfOk result (λ k. M.is_fit k.machine × Works M.goes crew.jobs.items
+        requires { length crew.jobs.items ≤ MAX_JOBS }
+        ensures { IfOk result (λ k. Works M.goes crew.jobs.items
             (M.meaning crew.machine) (M.meaning k.machine)) }
     { work_one(rt, alloc, crew) };
     let Ok(done) = thread::map_vec(rt, crews, &run) else {
@@ -149,15 +141,11 @@ fn all_send<M: Absorbing + Send + Drop, R: Threads + Wait + Sync>(
     alloc: Global,
     knowing: Vec<Knowing<M>>,
 ) -> Result<Vec<Hearing<M>>, PlayFault>
-    requires fit { All (λ k. M.is_fit k.machine) knowing.items }
-    ensures fit { IfOk result (λ v. All (λ h. M.is_fit h.machine) v.items) }
-    ensures leads { IfOk result (λ v. Pairs (λ k h. Leads M.goes
+    ensures { IfOk result (λ v. Pairs (λ k h. Leads M.goes
         (M.meaning k.machine) (M.meaning h.machine)) knowing.items v.items) }
 {
     let run = move |one: Knowing<M>| -> Result<Hearing<M>, PlayFault>
-        requires { M.is_fit one.machine }
-        ensures { IfOk result (λ h. M.is_fit h.machine
-            × Leads M.goes (M.meaning one.machine) (M.meaning h.machine)) }
+        ensures { IfOk result (λ h. Leads M.goes (M.meaning one.machine) (M.meaning h.machine)) }
     { send_one(rt, alloc, one) };
     let Ok(done) = thread::map_vec(rt, knowing, &run) else {
         return Err(PlayFault::Memory);
@@ -171,15 +159,11 @@ fn all_hear<M: Absorbing + Send + Drop, R: Threads + Wait + Sync>(
     alloc: Global,
     hearing: Vec<Hearing<M>>,
 ) -> Result<Vec<M>, PlayFault>
-    requires fit { All (λ h. M.is_fit h.machine) hearing.items }
-    ensures fit { IfOk result (λ v. All M.is_fit v.items) }
-    ensures leads { IfOk result (λ v. Pairs (λ h m. Leads M.goes
+    ensures { IfOk result (λ v. Pairs (λ h m. Leads M.goes
         (M.meaning h.machine) (M.meaning m)) hearing.items v.items) }
 {
     let run = move |one: Hearing<M>| -> Result<M, PlayFault>
-        requires { M.is_fit one.machine }
-        ensures { IfOk result (λ m. M.is_fit m
-            × Leads M.goes (M.meaning one.machine) (M.meaning m)) }
+        ensures { IfOk result (λ m. Leads M.goes (M.meaning one.machine) (M.meaning m)) }
     { hear_one(rt, alloc, one) };
     let Ok(done) = thread::map_vec(rt, hearing, &run) else {
         return Err(PlayFault::Memory);
@@ -263,11 +247,9 @@ pub(crate) fn run_all<M: Absorbing + Send + Drop, R: Threads + Wait + Sync>(
     machines: Vec<M>,
     jobs: Vec<Vec<Job>>,
 ) -> Result<Vec<M>, PlayFault>
-    requires fit { All M.is_fit machines.items }
     requires each { length jobs.items ≡ length machines.items }
     requires few { All (λ list. length list.items ≤ MAX_JOBS) jobs.items }
-    ensures fit { IfOk result (λ v. All M.is_fit v.items) }
-    ensures went { IfOk result (λ v. Went M.goes (map M.meaning machines.items) jobs.items
+    ensures { IfOk result (λ v. Went M.goes (map M.meaning machines.items) jobs.items
         (map M.meaning v.items)) }
 {
     let Ok(crews) = crews_of(alloc, machines, jobs) else {

@@ -66,9 +66,7 @@ fn asked_frame<M: Machine<Call = Call, Reply = Reply>>(
     bucket: Bucket,
     after: Option<PageId>,
 ) -> Result<Frame, PlayFault>
-    requires fit { M.is_fit machine.old }
-    ensures fit { M.is_fit machine.new }
-    ensures leads { Leads M.goes (M.meaning machine.old) (M.meaning machine.new) }
+    ensures { Leads M.goes (M.meaning machine.old) (M.meaning machine.new) }
 {
     let reply = machine.call(Call::Send { bucket, after });
     match reply {
@@ -85,9 +83,7 @@ fn send_bucket<M: Machine<Call = Call, Reply = Reply>, R: Wait>(
     bucket: Bucket,
     boxes: &[Sender<Mail>],
 ) -> Result<(), PlayFault>
-    requires fit { M.is_fit machine.old }
-    ensures fit { M.is_fit machine.new }
-    ensures leads { Leads M.goes (M.meaning machine.old) (M.meaning machine.new) }
+    ensures { Leads M.goes (M.meaning machine.old) (M.meaning machine.new) }
 {
     let mut after = None;
     for _ in rt.forever() {
@@ -114,9 +110,7 @@ pub(crate) fn send_all<M: Machine<Call = Call, Reply = Reply> + Drop, R: Wait>(
     machine: M,
     boxes: &[Sender<Mail>],
 ) -> Result<M, PlayFault>
-    requires fit { M.is_fit machine }
-    ensures fit { IfOk result M.is_fit }
-    ensures leads { IfOk result (λ m. Leads M.goes (M.meaning machine) (M.meaning m)) }
+    ensures { IfOk result (λ m. Leads M.goes (M.meaning machine) (M.meaning m)) }
 {
     let mut machine = machine;
     for number in 0..BUCKETS {
@@ -140,9 +134,7 @@ pub(crate) fn hear_all<M: Machine<Call = Call, Reply = Reply> + Drop, R: Wait>(
     receiver: Receiver<Mail>,
     stops: u64,
 ) -> Result<M, PlayFault>
-    requires fit { M.is_fit machine }
-    ensures fit { IfOk result M.is_fit }
-    ensures leads { IfOk result (λ m. Leads M.goes (M.meaning machine) (M.meaning m)) }
+    ensures { IfOk result (λ m. Leads M.goes (M.meaning machine) (M.meaning m)) }
 {
     let Ok(buffer) = RefBuffer::new(alloc, 1) else {
         return Err(PlayFault::Memory);

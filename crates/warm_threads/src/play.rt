@@ -169,14 +169,12 @@ fn play_over<M: Absorbing + Send + Drop, T: Threads + Wait + Sync, R: Read>(
     setup: Setup,
     machines: Vec<M>,
 ) -> Result<Vec<M>, PlayFault>
-    requires fit { All M.is_fit machines.items }
-    requires each { length machines.items ≡ setup.replicas }
+    requires { length machines.items ≡ setup.replicas }
     ensures end { OnOk result (IsAtEnd (R.remaining reader.new)) }
     ensures good { OnOk result (IfSome (R.remaining reader.old)
         (λ text. first_bad setup (lines text) ≡ None)) }
     ensures bad { (number : ℕ) → result ≡ Err (BadLine number)
         → IfSome (R.remaining reader.old) (λ text. first_bad setup (lines text) ≡ Some number) }
-    ensures fit { IfOk result (λ v. All M.is_fit v.items) }
     ensures each { IfOk result (λ v. length v.items ≡ setup.replicas) }
     ensures went { IfOk result (λ v. (jobs : List (Vec Job))
         × IfSome (R.remaining reader.old) (λ text. AreJobsOf setup (asks setup (lines text)) jobs)

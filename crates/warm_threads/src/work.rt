@@ -39,10 +39,8 @@ pub(crate) fn work<M: Absorbing + Send + Drop, R: Threads + Wait + Sync>(
     machine: M,
     jobs: Vec<Job>,
 ) -> Result<M, PlayFault>
-    requires fit { M.is_fit machine }
     requires few { length jobs.items ≤ MAX_JOBS }
-    ensures fit { IfOk result M.is_fit }
-    ensures works { IfOk result
+    ensures { IfOk result
         (λ m. Works M.goes jobs.items (M.meaning machine) (M.meaning m)) }
 {
     let Ok((replica, mut pass)) = Turn::new(alloc, machine) else {

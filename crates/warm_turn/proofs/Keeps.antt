@@ -23,7 +23,7 @@ use Rattle.warm_turn.proofs.Lists.{off, never, same_at, same_carried}
 use Rattle.warm_turn.proofs.Tickets as tickets
 use Rattle.warm_turn.proofs.Histories as histories
 
-module _ {M X C R : Type 0} (meaning : M → X) (fit : M → Type 0) (goes : X → C → R → X → Type 0) (o : X) where
+module _ {M X C R : Type 0} (meaning : M → X) (goes : X → C → R → X → Type 0) (o : X) where
   abbrev V : Type 0
   V = View X C R
 
@@ -34,7 +34,7 @@ module _ {M X C R : Type 0} (meaning : M → X) (fit : M → Type 0) (goes : X �
   St = State (Option H) V
 
   abbrev Rule : St → Type 0
-  Rule = Kept meaning fit goes o
+  Rule = Kept meaning goes o
 
   -- a history of as many calls
   of_count : {n k : ℕ} (homes : List (maybe.Option (Option H))) (vs : List V) → k ≡ n → OneHistory meaning goes o n homes vs → OneHistory meaning goes o k homes vs
@@ -45,7 +45,7 @@ module _ {M X C R : Type 0} (meaning : M → X) (fit : M → Type 0) (goes : X �
       → IsQueued (ticket_word s) (serving_word s) r.turns.taker me w → IsRecorded o r.history.log r.history.state r.history.owner (set s.views me w) me w
       → Rule (stepped s i (get_or s.words i 0) me cs w keeps)
   quiet s r i me cs v w at sees serves queued recorded = record {
-    turns = tickets.stays fit s r.turns i me cs v w at serves queued;
+    turns = tickets.stays s r.turns i me cs v w at serves queued;
     history = of_count s.homes (set s.views me w) (ap (λ ws. get_or ws 1 0) (set-get_or s.words i 0)) (histories.stays meaning goes o s.homes s.views r.history me v w at sees recorded);
   }
 
@@ -96,7 +96,7 @@ module _ {M X C R : Type 0} (meaning : M → X) (fit : M → Type 0) (goes : X �
       let w : V = waiting v t in
       let unmarked : v.found_last ≡ false = never v.found_last (λ h. let full = q.full h in omega arith) in
       let kept : Rule (stepped s 0 new me cs w keeps) = record {
-        turns = tickets.takes_ticket fit s r.turns me cs v at owns rests new (up ∙ ap (λ k. k + 1) (sym hit)) small;
+        turns = tickets.takes_ticket s r.turns me cs v at owns rests new (up ∙ ap (λ k. k + 1) (sym hit)) small;
         history = of_count s.homes (set s.views me w) (get_or-set_other s.words 0 1 new 0 (λ e. omega arith)) (histories.stays meaning goes o s.homes s.views r.history me v w at sees
             (histories.same_recorded o r.history.log r.history.state r.history.owner s.views me v w at sees refl refl refl refl refl refl refl refl refl refl refl f));
       } in (
@@ -129,7 +129,7 @@ module _ {M X C R : Type 0} (meaning : M → X) (fit : M → Type 0) (goes : X �
         ((λ hit. absurd (miss hit)), (λ _ most. absurd (less most)), (λ _ _. refl)),
       )))
 
-  pub looks : (slots me : ℕ) (v : V) → v.waits ≡ true → v.serves ≡ false → Allows Rule slots me (v, []) 1 (λ n. n) (looked meaning fit (step slots 1 0 0 maybe.none) (v, []))
+  pub looks : (slots me : ℕ) (v : V) → v.waits ≡ true → v.serves ≡ false → Allows Rule slots me (v, []) 1 (λ n. n) (looked meaning (step slots 1 0 0 maybe.none) (v, []))
   looks slots me v waits rests s r wide at _ =
       let n : ℕ = serving_word s in
       let k = (r.turns.each me v at).ticket waits in
@@ -138,17 +138,17 @@ module _ {M X C R : Type 0} (meaning : M → X) (fit : M → Type 0) (goes : X �
       let sees = (f.own owns).0 in
       dite (ℕ_discrete n v.ticket)
       (λ (mine : n ≡ v.ticket). ⊎_elim
-      (λ (a : (h : H) × (get_elem? s.homes 0 ≡ some (some (Some h))) × fit h.machine).
+      (λ (a : (h : H) × (get_elem? s.homes 0 ≡ some (some (Some h)))).
       let h : H = a.0 in (
         server v r.history.log (meaning h.machine),
         takes 0 (Some h),
         a.1,
         record {
-          turns = tickets.takes_machine fit s r.turns me v h r.history.log (meaning h.machine) at waits mine a.1;
+          turns = tickets.takes_machine s r.turns me v h r.history.log (meaning h.machine) at waits mine a.1;
           history = of_count (set s.homes 0 maybe.none) (set s.views me (server v r.history.log (meaning h.machine))) (ap (λ ws. get_or ws 1 0) (set-get_or s.words 1 0))
               (histories.takes_machine meaning goes o s.homes s.views r.history me v h at owns a.1);
         },
-        ((λ not. absurd (not mine)), (λ _. (r.history.log, h, refl, (f.sight sees).1, a.2))),
+        ((λ not. absurd (not mine)), (λ _. (r.history.log, h, refl, (f.sight sees).1))),
       ))
       (λ (a : (u : V) × (get_elem? s.homes 0 ≡ some maybe.none) × (get_elem? s.views (r.turns.taker n) ≡ some u) × (u.serves ≡ true)).
       off (ap (λ (u : V). u.serves) (same_at s.views me v a.0 at (subst (λ q. get_elem? s.views q ≡ some a.0) (ap r.turns.taker mine ∙ k.3) a.2)) ∙ a.3) rests)
@@ -161,21 +161,21 @@ module _ {M X C R : Type 0} (meaning : M → X) (fit : M → Type 0) (goes : X �
         ((λ _. refl), (λ is. absurd (not is))),
       ))
 
-  pub passes : (slots me : ℕ) (v : V) (h : H) (d : Made C R) (x : X) → v.serves ≡ true → v.also ≡ [] → v.state ≡ Some x → h.made ≡ Some d → goes x d.call.value d.reply.value (meaning h.machine) → fit h.machine
+  pub passes : (slots me : ℕ) (v : V) (h : H) (d : Made C R) (x : X) → v.serves ≡ true → v.also ≡ [] → v.state ≡ Some x → h.made ≡ Some d → goes x d.call.value d.reply.value (meaning h.machine)
       → Allows Rule slots me (v, (0, Some h) ∷ []) 1 (λ n. (n + 1) % 2 ^ 64) (passed goes (step slots 1 1 0 maybe.none) (v, (0, Some h) ∷ []))
-  passes slots me v h d x serves also state made did sound s r wide at _ =
+  passes slots me v h d x serves also state made did s r wide at _ =
       let q = r.turns.each me v at in
       let owns = (q.ticket (q.serving serves).0).0 in
       let e : Entry C R = entry v.number d.call.value d.reply.value in
       let w : V = after_call v e in
-      let alone : (j : ℕ) (u : V) → j ≢ me → get_elem? s.views j ≡ some u → u.serves ≡ true → ⊥ = λ j u other at' serves'. other (tickets.alone fit s r.turns me j v u at serves at' serves') in
+      let alone : (j : ℕ) (u : V) → j ≢ me → get_elem? s.views j ≡ some u → u.serves ≡ true → ⊥ = λ j u other at' serves'. other (tickets.alone s r.turns me j v u at serves at' serves') in
       let t = histories.passes_on meaning goes o s.homes s.views r.history me v h x e at owns serves also state r.turns.one alone refl did in (
         w,
         gives,
         tt,
         record {
-          turns = tickets.passes_on fit s r.turns me v h e at serves sound;
-          history = of_count (set s.homes 0 (some (Some h))) (set s.views me w) (tickets.serves_next fit s r.turns me v at serves) t.0;
+          turns = tickets.passes_on s r.turns me v h e at serves;
+          history = of_count (set s.homes 0 (some (Some h))) (set s.views me w) (tickets.serves_next s r.turns me v at serves) t.0;
         },
         λ h' d' took' made'.
             let one_slot : h ≡ h' = same_carried h h' 0 took' in
@@ -188,7 +188,7 @@ module _ {M X C R : Type 0} (meaning : M → X) (fit : M → Type 0) (goes : X �
   -- a new seat, which knows what some view does
   sits : (s : St) (r : Rule s) (v : V) → v.opening ≡ Some o → IsPrefix v.seen r.history.log → Rule record { words = s.words; homes = s.homes; views = s.views ++ note_of v ∷ [] }
   sits s r v opens begins_with = record {
-    turns = tickets.enters fit s r.turns v;
+    turns = tickets.enters s r.turns v;
     history = histories.enters meaning goes o s.homes s.views r.history v opens begins_with;
   }
 
@@ -202,27 +202,27 @@ module _ {M X C R : Type 0} (meaning : M → X) (fit : M → Type 0) (goes : X �
 
   pub learns : (me other : ℕ) (v u : V) → v.owns ≡ true → IsNote u → Joins Rule me v other u (learned v u) nobody
   learns me other v u owns note s r at apart there = record {
-    turns = tickets.merges fit s r.turns me other v u (learned v u) at there note.2 (λ h. h)
+    turns = tickets.merges s r.turns me other v u (learned v u) at there note.2 (λ h. h)
         (tickets.same_queued (ticket_word s) (serving_word s) r.turns.taker me v (learned v u) refl refl refl refl refl (r.turns.each me v at));
     history = histories.learns meaning goes o s.homes s.views r.history me other v u at apart there owns note;
   }
 
   pub ends : (me other : ℕ) (v u : V) → v.owns ≡ true → u.owns ≡ true → u.serves ≡ false → Joins Rule me v other u (joined v u) nobody
   ends me other v u owns owns' rests s r at apart there = record {
-    turns = tickets.merges fit s r.turns me other v u (joined v u) at there rests (λ h. h)
+    turns = tickets.merges s r.turns me other v u (joined v u) at there rests (λ h. h)
         (tickets.same_queued (ticket_word s) (serving_word s) r.turns.taker me v (joined v u) refl refl refl refl refl (r.turns.each me v at));
     history = histories.ends meaning goes o s.homes s.views r.history me other v u at apart there owns owns';
   }
 
-  pub begins : (h : H) → meaning h.machine ≡ o → fit h.machine → Rule (opening (0 ∷ 0 ∷ []) (Some h ∷ []) (first_pass o))
-  begins h is sound = record {
-    turns = tickets.begins fit h o sound;
+  pub begins : (h : H) → meaning h.machine ≡ o → Rule (opening (0 ∷ 0 ∷ []) (Some h ∷ []) (first_pass o))
+  begins h is = record {
+    turns = tickets.begins h o;
     history = histories.begins meaning goes o h is;
   }
 
   -- at the end, where every ticket was served, the machine is at home
   pub closes : (me : ℕ) (v : V) (ws : List ℕ) (xs : List (Option H)) → IsPass goes v → Final (Seen Rule me v) ws xs → get_or ws 0 0 ≡ get_or ws 1 0 → (x : Option H) → get_elem? xs 0 ≡ some x
-      → (h : H) × (x ≡ Some h) × IsLast goes o v (meaning h.machine) × fit h.machine
+      → (h : H) × (x ≡ Some h) × IsLast goes o v (meaning h.machine)
   closes me v ws xs pass last even x there =
       let s : St = last.0 in
       let r = last.1.0 in
@@ -233,7 +233,7 @@ module _ {M X C R : Type 0} (meaning : M → X) (fit : M → Type 0) (goes : X �
       let words : s.words ≡ ws = last.2 in
       let even' : ticket_word s ≡ serving_word s = ap (λ l. get_or l 0 0) words ∙ (even ∙ sym (ap (λ l. get_or l 1 0) words)) in
       ⊎_elim
-      (λ (a : (h : H) × (get_elem? s.homes 0 ≡ some (some (Some h))) × fit h.machine). (
+      (λ (a : (h : H) × (get_elem? s.homes 0 ≡ some (some (Some h)))). (
         a.0,
         same_at xs 0 x (Some a.0) there (last.4 0 (Some a.0) a.1),
         record {
@@ -245,10 +245,9 @@ module _ {M X C R : Type 0} (meaning : M → X) (fit : M → Type 0) (goes : X �
           opens = (f.sight sees).0;
           legal = pass;
         },
-        a.2,
       ))
       (λ (a : (u : V) × (get_elem? s.homes 0 ≡ some maybe.none) × (get_elem? s.views (r.turns.taker (serving_word s)) ≡ some u) × (u.serves ≡ true)).
-      let below = (tickets.away_below fit s r.turns (r.turns.taker (serving_word s)) a.0 a.2 a.3).0 in absurd (omega arith))
+      let below = (tickets.away_below s r.turns (r.turns.taker (serving_word s)) a.0 a.2 a.3).0 in absurd (omega arith))
       r.turns.home
 
   -- at the end a mark is that of the last number
@@ -257,7 +256,7 @@ module _ {M X C R : Type 0} (meaning : M → X) (fit : M → Type 0) (goes : X �
 
   -- at the end the words are those of a state that the rule allows, in which the pass has its view
   pub words_at_end : (me : ℕ) (v : V) (ws : List ℕ) (xs : List (Option H)) (found : Busy) → Final (Seen Rule me v) ws xs → get_or ws 0 0 ≡ found.ticket → get_or ws 1 0 ≡ found.serving
-      → AreWords meaning fit goes o v found
+      → AreWords meaning goes o v found
   words_at_end me v ws xs found last ticket serving = record {
     state = last.0;
     kept = last.1.0;

@@ -34,20 +34,20 @@ module _ {X C R : Type 0} where
     pub full : v.found_last ≡ true → next + 1 ≡ 2 ^ 64
 
 module _ {M X C R : Type 0} where
-  -- the machine is at home and fit, or out with this seat
-  abbrev pub HomeOrOut : (M → Type 0) → ℕ → List (maybe.Option (Option (Held M C R))) → List (View X C R) → Type 0
-  HomeOrOut fit seat homes views =
-      ((h : Held M C R) × (get_elem? homes 0 ≡ some (some (Some h))) × fit h.machine)
+  -- the machine is at home, or out with this seat
+  abbrev pub HomeOrOut : ℕ → List (maybe.Option (Option (Held M C R))) → List (View X C R) → Type 0
+  HomeOrOut seat homes views =
+      ((h : Held M C R) × (get_elem? homes 0 ≡ some (some (Some h))))
       ⊎ ((v : View X C R) × (get_elem? homes 0 ≡ some maybe.none) × (get_elem? views seat ≡ some v) × (v.serves ≡ true))
 
   -- tickets are served in the order in which they were taken, and the machine is out only with the holder of the served ticket
-  pub record InTurn (fit : M → Type 0) (s : State (Option (Held M C R)) (View X C R)) : Type 0 where
+  pub record InTurn (s : State (Option (Held M C R)) (View X C R)) : Type 0 where
     pub taker : ℕ → ℕ
     pub two : length s.words ≡ 2
     pub one : length s.homes ≡ 1
     pub order : serving_word s ≤ ticket_word s
     pub small : ticket_word s < 2 ^ 64
-    pub home : HomeOrOut fit (taker (serving_word s)) s.homes s.views
+    pub home : HomeOrOut (taker (serving_word s)) s.homes s.views
     pub each : (j : ℕ) (v : View X C R) → get_elem? s.views j ≡ some v → IsQueued (ticket_word s) (serving_word s) taker j v
 
 -- The second pass: entries, old lists, numbers and own calls
@@ -78,8 +78,8 @@ pub record OneHistory {M X C R : Type 0} (meaning : M → X) (goes : X → C →
   pub unborn : (j : ℕ) → length views ≤ j → calls_by j log ≡ []
 
 -- The rule
-pub record Kept {M X C R : Type 0} (meaning : M → X) (fit : M → Type 0) (goes : X → C → R → X → Type 0) (opening : X) (s : State (Option (Held M C R)) (View X C R)) : Type 0 where
-  pub turns : InTurn fit s
+pub record Kept {M X C R : Type 0} (meaning : M → X) (goes : X → C → R → X → Type 0) (opening : X) (s : State (Option (Held M C R)) (View X C R)) : Type 0 where
+  pub turns : InTurn s
   pub history : OneHistory meaning goes opening (serving_word s) s.homes s.views
 
 -- where a pass has the mark, the next ticket is the last number
@@ -87,9 +87,9 @@ abbrev pub MarkShows : {X C R : Type 0} → View X C R → Busy → Type 0
 MarkShows v found = v.found_last ≡ true → found.ticket + 1 ≡ 2 ^ 64
 
 -- What the words of a refused close are: those of a state that the rule allows, in which a seat has this view
-pub record AreWords {M X C R : Type 0} (meaning : M → X) (fit : M → Type 0) (goes : X → C → R → X → Type 0) (opening : X) (v : View X C R) (found : Busy) : Type 0 where
+pub record AreWords {M X C R : Type 0} (meaning : M → X) (goes : X → C → R → X → Type 0) (opening : X) (v : View X C R) (found : Busy) : Type 0 where
   pub state : State (Option (Held M C R)) (View X C R)
-  pub kept : Kept meaning fit goes opening state
+  pub kept : Kept meaning goes opening state
   pub seat : ℕ
   pub view : get_elem? state.views seat ≡ some v
   pub ticket : ticket_word state ≡ found.ticket

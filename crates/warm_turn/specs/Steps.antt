@@ -45,10 +45,10 @@ module _ {M X C R : Type 0} where
       × (found ≢ st.first → found + 1 ≢ 2 ^ 64 → m' ≡ m)
 
   -- at its turn the seat takes the machine, and has seen the history so far
-  abbrev pub looked : (M → X) → (M → Type 0) → At M C R → Sat M X C R → ℕ → Sat M X C R → Type 0
-  looked meaning fit st m found m' =
+  abbrev pub looked : (M → X) → At M C R → Sat M X C R → ℕ → Sat M X C R → Type 0
+  looked meaning st m found m' =
       (found ≢ m.0.ticket → m' ≡ m)
-      × (found ≡ m.0.ticket → (log : List (Entry C R)) × (h : Held M C R) × (m' ≡ (server m.0 log (meaning h.machine), (0, Some h) ∷ m.1)) × IsPrefix m.0.seen log × fit h.machine)
+      × (found ≡ m.0.ticket → (log : List (Entry C R)) × (h : Held M C R) × (m' ≡ (server m.0 log (meaning h.machine), (0, Some h) ∷ m.1)) × IsPrefix m.0.seen log)
 
   -- the call that the slot names was added to the history, and the machine is at home
   abbrev pub passed : (X → C → R → X → Type 0) → At M C R → Sat M X C R → ℕ → Sat M X C R → Type 0
@@ -70,17 +70,17 @@ module _ {M X C R : Type 0} where
   became_pass goes st m found m' = (n : ℕ) × (m' ≡ (new_pass m.0 n, m.1)) × IsPass goes (new_pass m.0 n)
 
   -- the seat has the machine, in the state that the list which it has now seen reaches
-  abbrev pub HasMachine : (M → X) → (M → Type 0) → View X C R → Sat M X C R → Type 0
-  HasMachine meaning fit v m' = (log : List (Entry C R)) × (h : Held M C R) × (m' ≡ (server v log (meaning h.machine), (0, Some h) ∷ [])) × IsPrefix v.seen log × fit h.machine
+  abbrev pub HasMachine : (M → X) → View X C R → Sat M X C R → Type 0
+  HasMachine meaning v m' = (log : List (Entry C R)) × (h : Held M C R) × (m' ≡ (server v log (meaning h.machine), (0, Some h) ∷ [])) × IsPrefix v.seen log
 
   -- the machine answered this call, and the slot says so
-  abbrev pub Served : (M → X) → (M → Type 0) → (X → C → R → X → Type 0) → Sat M X C R → C → R → Sat M X C R → Type 0
-  Served meaning fit goes m c r m' =
+  abbrev pub Served : (M → X) → (X → C → R → X → Type 0) → Sat M X C R → C → R → Sat M X C R → Type 0
+  Served meaning goes m c r m' =
       (h : Held M C R) → m.1 ≡ (0, Some h) ∷ []
-      → (k : Held M C R) × (d : Made C R) × (m' ≡ (m.0, (0, Some k) ∷ [])) × (k.made ≡ Some d) × (d.call.value ≡ c) × (d.reply.value ≡ r) × goes (meaning h.machine) c r (meaning k.machine) × fit k.machine
+      → (k : Held M C R) × (d : Made C R) × (m' ≡ (m.0, (0, Some k) ∷ [])) × (k.made ≡ Some d) × (d.call.value ≡ c) × (d.reply.value ≡ r) × goes (meaning h.machine) c r (meaning k.machine)
 
   -- the slot says which call the machine answered, and the history may be gone on with it
-  abbrev pub IsMade : (M → X) → (M → Type 0) → (X → C → R → X → Type 0) → Sat M X C R → C → R → Type 0
-  IsMade meaning fit goes m c r =
+  abbrev pub IsMade : (M → X) → (X → C → R → X → Type 0) → Sat M X C R → C → R → Type 0
+  IsMade meaning goes m c r =
       (h : Held M C R) × (d : Made C R) × (x : X) × (m.1 ≡ (0, Some h) ∷ []) × (m.0.serves ≡ true) × (m.0.also ≡ []) × (m.0.state ≡ Some x) × (h.made ≡ Some d)
-      × (d.call.value ≡ c) × (d.reply.value ≡ r) × goes x c r (meaning h.machine) × fit h.machine
+      × (d.call.value ≡ c) × (d.reply.value ≡ r) × goes x c r (meaning h.machine)

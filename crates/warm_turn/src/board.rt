@@ -8,7 +8,7 @@ use crate::machine::Machine;
 use atomic_table::{Seat, Shared, Table, TableRule};
 use std::alloc::{AllocFailed, Global};
 use std::collections::LinkedList;
-use std::marker::{Model, PhantomData};
+use std::marker::Model;
 use std::snapshot::Snapshot;
 
 /// One entry of a history. No value of it is made.
@@ -106,8 +106,6 @@ impl<M> BoxedMachine<M> {
 impl<M: Machine> BoxedMachine<M> {
     // Has the machine answer the call.
     pub(crate) fn call(&mut self, call: M::Call) -> M::Reply
-        requires fit { M.is_fit self.old }
-        ensures fit { M.is_fit self.new }
         ensures goes { M.goes (M.meaning self.old) call result (M.meaning self.new) }
     {
         self.machine.call(call)
@@ -125,19 +123,17 @@ pub struct Held<M, C, R> {
 
 /// The rule of the table, `Kept` of `specs/Rule.antt`. Its key is the machine that the turn opened
 /// with.
-pub struct Turns<M> {
-    machine: PhantomData<M>,
-}
+pub struct Turns;
 
 impl<M: Machine> TableRule<
     Option<Held<M, M::Call, M::Reply>>,
     View<M::State, M::Call, M::Reply>,
     Snapshot<M>,
-> for Turns<M> {
+> for Turns {
     ghost use Rattle.warm_turn.specs.Rule.{Kept};
     ghost use Rattle.warm_turn.specs.Turns.{first_pass};
 
-    ghost holds = { λ key. Kept M.meaning M.is_fit M.goes (M.meaning key.value) };
+    ghost holds = { λ key. Kept M.meaning M.goes (M.meaning key.value) };
 
     ghost first = { λ key. first_pass (M.meaning key.value) };
 }
@@ -152,7 +148,7 @@ pub type ViewOf<M> = View<<M as Machine>::State, <M as Machine>::Call, <M as Mac
 pub type Place<M> = Seat<Slot<M>, ViewOf<M>>;
 
 /// What all threads reach of the table of a turn over `M`.
-pub type Top<M> = Shared<Slot<M>, ViewOf<M>, Snapshot<M>, Turns<M>>;
+pub type Top<M> = Shared<Slot<M>, ViewOf<M>, Snapshot<M>, Turns>;
 
 /// The table of a turn over `M`.
-pub type Board<M> = Table<Slot<M>, ViewOf<M>, Snapshot<M>, Turns<M>, Global>;
+pub type Board<M> = Table<Slot<M>, ViewOf<M>, Snapshot<M>, Turns, Global>;

@@ -34,8 +34,6 @@ impl Machine for Counter {
 
     ghost goes = { Counts };
 
-    ghost is_fit = { λ _. Unit {0} };
-
     fn call(&mut self, call: Add) -> Added {
         let Add(more) = call;
         match self.total.checked_add(more) {

@@ -171,7 +171,7 @@ fn wait_turn<M: Machine, R: Wait>(rt: &R, top: &Top<M>, place: &mut Place<M>, ti
     requires waits { (place.old.me.1 ≡ []) × (place.old.me.0.waits ≡ true)
         × (place.old.me.0.serves ≡ false) × (place.old.me.0.ticket ≡ ticket) }
     ensures table { (place.new.table_id ≡ place.old.table_id) × (place.new.id ≡ place.old.id) }
-    ensures serves { HasMachine M.meaning M.is_fit place.old.me.0 place.new.me }
+    ensures serves { HasMachine M.meaning place.old.me.0 place.new.me }
 {
     let mut looks = 0;
     for _ in rt.forever() {
@@ -191,10 +191,9 @@ fn wait_turn<M: Machine, R: Wait>(rt: &R, top: &Top<M>, place: &mut Place<M>, ti
 // Makes the call on the machine in the slot.
 fn serve<M: Machine>(top: &Top<M>, place: &mut Place<M>, call: M::Call) -> M::Reply
     requires table { place.old.table_id ≡ top.now.table_id }
-    requires has { (h : Held M M.Call M.Reply) × (place.old.me.1 ≡ (0, Some h) ∷ [])
-        × M.is_fit h.machine }
+    requires has { (h : Held M M.Call M.Reply) × (place.old.me.1 ≡ (0, Some h) ∷ []) }
     ensures table { (place.new.table_id ≡ place.old.table_id) × (place.new.id ≡ place.old.id) }
-    ensures made { Served M.meaning M.is_fit M.goes place.old.me call result place.new.me }
+    ensures made { Served M.meaning M.goes place.old.me call result place.new.me }
 {
     let asked = Snapshot::of(&call);
     let out = top.exchange(place, 0, None);
@@ -214,19 +213,14 @@ fn serve<M: Machine>(top: &Top<M>, place: &mut Place<M>, call: M::Call) -> M::Re
 }
 
 // Adds the call to the history, and puts the machine home for the next ticket.
-fn pass_on<M: Machine>(
-    top: &Top<M>,
-    place: &mut Place<M>,
-    call: Snapshot<M::Call>,
-    reply: &M::Reply,
-)
+fn pass_on<M: Machine>(top: &Top<M>, place: &mut Place<M>)
     requires table { (place.old.table_id ≡ top.now.table_id) × IsBoard top.now.table_id }
-    requires made { IsMade M.meaning M.is_fit M.goes place.old.me call.value reply.now }
+    requires made { (c : M.Call) × (r : M.Reply) × IsMade M.meaning M.goes place.old.me c r }
     ensures table { (place.new.table_id ≡ place.old.table_id) × (place.new.id ≡ place.old.id) }
-    ensures added { HasPassedOn M.goes place.old.me call.value reply.now place.new.me }
+    ensures home { place.new.me.1 ≡ [] }
+    ensures added { (c : M.Call) (r : M.Reply) → IsMade M.meaning M.goes place.old.me c r
+        → HasPassedOn M.goes place.old.me c r place.new.me }
 {
-    // Both are for the proof alone: the slot says which call was made.
-    let _ = (call, reply);
     top.fetch_add::<PassOn>(place, 1, 1);
 }
 
@@ -249,9 +243,8 @@ fn make_call<M: Machine, R: Wait>(
         return Err(TurnsSpent { call });
     };
     wait_turn(rt, top, place, ticket);
-    let asked = Snapshot::of(&call);
     let reply = serve(top, place, call);
-    pass_on(top, place, asked, &reply);
+    pass_on(top, place);
     Ok(reply)
 }
 
@@ -271,8 +264,8 @@ impl<M: Machine> Pass<M> {
     pub fn is_legal(&self)
         ensures { IsPass M.goes self.now.view }
     {
-        // For the proof alone: it brings in what is always true of a pass.
-        let _place = &self.place;
+        // It names the field, since only then the checker knows the invariant of the type. It reads nothing.
+        let _ = &self.place;
     }
 }
 
@@ -281,7 +274,6 @@ impl<M: Machine> Turn<M> {
     /// turn opens with the machine's state. `Memory`, which comes only where a growth was refused,
     /// hands the machine back as it was.
     pub fn new(alloc: Global, machine: M) -> Result<(Turn<M>, Pass<M>), Memory<M>>
-        requires fit { M.is_fit machine }
         ensures table { IfOk result (λ t. t.1.table ≡ t.0.table) }
         ensures opening { IfOk result (λ t. t.0.opening ≡ M.meaning machine) }
         ensures first { IfOk result (λ t. t.1.view ≡ first_pass (M.meaning machine)) }
@@ -419,9 +411,8 @@ impl<M: Machine> Turn<M> {
         M: Drop,
         requires { pass.table ≡ self.table }
         ensures last { IfOk result (λ m. IsLast M.goes self.opening pass.view (M.meaning m)) }
-        ensures fit { IfOk result M.is_fit }
         ensures busy { IfErr result (λ b. b.serving < b.ticket) }
-        ensures words { IfErr result (AreWords M.meaning M.is_fit M.goes self.opening pass.view) }
+        ensures words { IfErr result (AreWords M.meaning M.goes self.opening pass.view) }
         ensures mark { IfErr result (MarkShows pass.view) }
     {
         let Turn { table } = self;

@@ -6,20 +6,20 @@ use Rattle.warm_replica.specs.Pairs.{Triples}
 use Rattle.warm_replica.proofs.Readies.{has_seen_more, jobs_went}
 use Rattle.warm_replica.proofs.fan.run_workers.Goals as goal
 
-pub returns-in-Ok-ran-clause-went : goal.returns-in-Ok-ran-clause-went
-returns-in-Ok-ran-clause-went g c =
+pub returns-clause-went : goal.returns-clause-went
+returns-clause-went g c =
     let given = c.pass-own.ensures.given in
     let v = c.args.pass.now.view in
     let own = c.run_ready-own.result.0.view in
     let fanned = c.run_ready-own.ensures.fanned in
-    jobs_went g.M.Machine.goes v own c.end.new.pass.view given.0 c.args.jobs.items c.in-Ok.ready.items c.in-Ok-ran.all.items fanned.0
-    c.in-Ok.ensures
+    jobs_went g.M.Machine.goes v own c.end.new.pass.view given.0 c.args.jobs.items c.in_ok-ready.ready.items c.in_ok-replies.replies.items fanned.0
+    c.in_ok-ready.ensures
     (subst (λ u. Widened u fanned.0 own) given.1 fanned.1)
     (subst (λ u. Joined g.M.Machine.goes u own c.end.new.pass.view) (ap (λ p. p.view) c.pass-own.ensures.same) c.end.ensures.seen)
-    (IfOk-at_ok (λ w. Triples ReadyWentAs c.in-Ok.ready.items w.items fanned.0) c.in-Ok-ran.is fanned.2)
+    (IfOk-at_ok (λ w. Triples ReadyWentAs c.in_ok-ready.ready.items w.items fanned.0) c.in_ok-replies.was fanned.2)
 
-pub returns-in-Err-clause-started : goal.returns-in-Err-clause-started
-returns-in-Err-clause-started g c = λ _.
+pub returns-in_err-replies-clause-started : goal.returns-in_err-replies-clause-started
+returns-in_err-replies-clause-started g c = λ _.
     let given = c.pass-own.ensures.given in
     let own = c.run_ready-own.result.0.view in
     let fanned = c.run_ready-own.ensures.fanned in

@@ -1,4 +1,4 @@
 use Rattle.warm_threads.proofs.crews.work_one.Goals as goal
 
-pub returns-clause-works : goal.returns-clause-works
-returns-clause-works g c = c.in_ok-machine.ensures.works
+pub returns : goal.returns
+returns g c = c.in_ok-machine.ensures

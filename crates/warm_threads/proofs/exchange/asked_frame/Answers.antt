@@ -1,11 +1,8 @@
 use Rattle.warm_threads.proofs.Runnings.{leads_call}
 use Rattle.warm_threads.proofs.exchange.asked_frame.Goals as goal
 
-pub returns-in-Sent-clause-leads : goal.returns-in-Sent-clause-leads
-returns-in-Sent-clause-leads g c = leads_call g.M.Machine.goes _ _ _ _ c.call-reply.ensures.goes
+pub returns-in-Sent : goal.returns-in-Sent
+returns-in-Sent g c = leads_call g.M.Machine.goes _ _ _ _ c.call-reply.ensures.goes
 
 pub returns : goal.returns
-returns g c = record {
-  fit = c.call-reply.ensures.fit;
-  leads = leads_call g.M.Machine.goes _ _ _ _ c.call-reply.ensures.goes;
-}
+returns g c = leads_call g.M.Machine.goes _ _ _ _ c.call-reply.ensures.goes

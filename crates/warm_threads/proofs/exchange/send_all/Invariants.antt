@@ -1,9 +1,6 @@
 use Rattle.warm_threads.specs.Works.{Leads}
 use Rattle.warm_threads.proofs.exchange.send_all.Given as goal
 
--- the machine is fit, and was led here by its calls
+-- the machine was led here by its calls
 abbrev pub invariant-loop-number : goal.invariant-loop-number
-invariant-loop-number g l = record {
-  fit : g.M.Machine.is_fit l.machine;
-  leads : Leads g.M.Machine.goes (g.M.Machine.meaning l.initial.machine) (g.M.Machine.meaning l.machine);
-}
+invariant-loop-number g l = Leads g.M.Machine.goes (g.M.Machine.meaning l.initial.machine) (g.M.Machine.meaning l.machine)

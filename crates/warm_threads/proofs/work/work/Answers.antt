@@ -6,8 +6,8 @@ use Rattle.warm_replica.specs.Replied.{AreTaken}
 use Rattle.warm_threads.proofs.Runnings.{jobs_work}
 use Rattle.warm_threads.proofs.work.work.Goals as goal
 
-pub returns-in-Ok-closed-clause-works : goal.returns-in-Ok-closed-clause-works
-returns-in-Ok-closed-clause-works g c =
+pub returns-in-Ok-closed : goal.returns-in-Ok-closed
+returns-in-Ok-closed g c =
     let x = g.M.Machine.meaning c.args.machine in
     let z = g.M.Machine.meaning c.in-Ok-closed.machine in
     let w = c.run_workers-ran.new.pass.view in

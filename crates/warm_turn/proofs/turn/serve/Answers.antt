@@ -17,21 +17,9 @@ returns-clause-made g c h at =
     let R = g.row.M-Reply.Denot in
     let meaning = g.M.Machine.meaning in
     let goes = g.M.Machine.goes in
-    let fit = g.M.Machine.is_fit in
     let start = c.args.place.now.me in
     let d : Made C R = record { call = c.of-asked.result; reply = c.of.result } in
     let k : Held g.row.M.Denot C R = record { machine = c.call-reply.new.self; made = Some d } in
-    let out : c.exchange-out.result ≡ Some h = taken_out meaning fit goes (meaning h.machine) start h c.exchange-out.result at c.exchange-out.ensures.2 in
+    let out : c.exchange-out.result ≡ Some h = taken_out meaning goes (meaning h.machine) start h c.exchange-out.result at c.exchange-out.ensures.2 in
     let same : c.in-Some.held ≡ h = same_Some c.in-Some.held h (sym c.in-Some.is ∙ out) in
-    (k, d, put_in meaning fit goes (meaning h.machine) start c.exchange-out.new.seat.me c.exchange-empty.new.seat.me h k at c.exchange-out.ensures.3 c.exchange-empty.ensures.3, refl, c.of-asked.ensures, c.of.ensures, subst (λ (m : Held g.row.M.Denot C R). goes (meaning m.machine) c.args.call c.call-reply.result (meaning c.call-reply.new.self)) same c.call-reply.ensures.goes, c.call-reply.ensures.fit)
-
-pub call-reply-requires : goal.call-reply-requires
-call-reply-requires g c =
-    let meaning = g.M.Machine.meaning in
-    let fit = g.M.Machine.is_fit in
-    let goes = g.M.Machine.goes in
-    let h = c.requires.has in
-    let start = c.args.place.now.me in
-    let out : c.exchange-out.result ≡ Some h.0 = taken_out meaning fit goes (meaning h.0.machine) start h.0 c.exchange-out.result h.1 c.exchange-out.ensures.2 in
-    let fits = subst (λ (m : Held g.row.M.Denot g.row.M-Call.Denot g.row.M-Reply.Denot). fit m.machine) (sym (same_Some c.in-Some.held h.0 (sym c.in-Some.is ∙ out))) h.2 in
-    record { fit = fits }
+    (k, d, put_in meaning goes (meaning h.machine) start c.exchange-out.new.seat.me c.exchange-empty.new.seat.me h k at c.exchange-out.ensures.3 c.exchange-empty.ensures.3, refl, c.of-asked.ensures, c.of.ensures, subst (λ (m : Held g.row.M.Denot C R). goes (meaning m.machine) c.args.call c.call-reply.result (meaning c.call-reply.new.self)) same c.call-reply.ensures.goes)

@@ -15,7 +15,7 @@ new-requires g c =
     let items = only_one c.push.new.self.items c.new-slots.result.items (Some h) c.in_default.ensures.items c.new-slots.ensures.items in
     let o = g.M.Machine.meaning c.of-about.result.value in
     let same = c.in_ok-machine.ensures.ok in
-    subst (λ (l : List (Option H)). Kept g.M.Machine.meaning g.M.Machine.is_fit g.M.Machine.goes o (opening (0 ∷ 0 ∷ []) l (first_pass o))) (sym items) (begins g.M.Machine.meaning g.M.Machine.is_fit g.M.Machine.goes o h (ap g.M.Machine.meaning (same ∙ sym c.of-about.ensures)) (subst g.M.Machine.is_fit (sym same) c.requires.fit))
+    subst (λ (l : List (Option H)). Kept g.M.Machine.meaning g.M.Machine.goes o (opening (0 ∷ 0 ∷ []) l (first_pass o))) (sym items) (begins g.M.Machine.meaning g.M.Machine.goes o h (ap g.M.Machine.meaning (same ∙ sym c.of-about.ensures)))
 
 pub invariant_of-result-in-Ok : goal.invariant_of-result-in-Ok
 invariant_of-result-in-Ok g c =
