@@ -1,5 +1,5 @@
 //! Devices of pages of 16 bytes, and short lists of devices.
-ghost use Rattle.std.specs.Prelude.{◌≡◌, IfOk, length};
+ghost use Rattle.std.specs.Prelude.{◌≡◌, ◌≤◌, IfOk, length, vec_capacity};
 ghost use Rattle.warm_devices.specs.Device.{zeroed};
 
 use std::alloc::{AllocError, Global};
@@ -27,11 +27,16 @@ pub fn flaky(alloc: Global, pages: u64, n: u64) -> Result<Flaky<MemDevice>, Allo
     Ok(Flaky::new(device, n))
 }
 
-fn room<D: PageDevice>(alloc: Global, count: usize) -> Result<Vec<D>, AllocError> {
-    match Vec::with_capacity(alloc, count) {
-        Ok(devices) => Ok(devices),
-        Err(_) => Vec::with_capacity(alloc, count),
+// An empty list with the capacity for a number of devices.
+fn room<D: PageDevice>(alloc: Global, count: usize) -> Result<Vec<D>, AllocError>
+    ensures room { IfOk result (λ devices. count ≤ vec_capacity devices) }
+    ensures empty { IfOk result (λ devices. length devices.items ≡ 0) }
+{
+    if let Ok(devices) = Vec::with_capacity(alloc, count) {
+        return Ok(devices);
     }
+    let devices = Vec::with_capacity(alloc, count)?;
+    Ok(devices)
 }
 
 /// A list of one device.
@@ -42,7 +47,7 @@ pub fn alone<D: PageDevice>(alloc: Global, device: D) -> Result<Vec<D>, AllocErr
     ensures { IfOk result (λ devices. length devices.items ≡ 1) }
 {
     let mut devices = room(alloc, 1)?;
-    devices.push(device)?;
+    devices.push_reserved(device);
     Ok(devices)
 }
 
@@ -54,7 +59,7 @@ pub fn both<D: PageDevice>(alloc: Global, first: D, second: D) -> Result<Vec<D>,
     ensures { IfOk result (λ devices. length devices.items ≡ 2) }
 {
     let mut devices = room(alloc, 2)?;
-    devices.push(first)?;
-    devices.push(second)?;
+    devices.push_reserved(first);
+    devices.push_reserved(second);
     Ok(devices)
 }

@@ -1,4 +1,4 @@
-//! Devices in memory, in files, and that fail when they are told to.
+//! Devices in memory, in files, and of which a chosen call fails.
 
 use std::fs::{self, File, Files};
 use std::process::Abort;
@@ -35,36 +35,6 @@ fn the_chosen_write_tears_its_page(rt: HostRuntime) {
             && device.write(1, &[9, 9]) == Ok(())
             && device.flush() == Ok(())
     );
-}
-
-#[test]
-fn the_chosen_call_may_be_a_read(rt: HostRuntime) {
-    let inner = MemDevice::new(rt.alloc(), 1, 1).expect(&rt, "room for a page");
-    let mut device = Flaky::new(inner, 1);
-    let mut page = [3; 1];
-    assert!(rt;
-        device.read(0, &mut page) == Err(DeviceFault::Read) && device.read(0, &mut page) == Ok(())
-    );
-}
-
-#[test]
-fn the_chosen_call_may_be_a_flush(rt: HostRuntime) {
-    let inner = MemDevice::new(rt.alloc(), 1, 1).expect(&rt, "room for a page");
-    let mut device = Flaky::new(inner, 2);
-    assert!(rt;
-        device.write(0, &[5]) == Ok(())
-            && device.flush() == Err(DeviceFault::Flush)
-            && device.waiting()
-    );
-}
-
-#[test]
-fn no_call_may_be_chosen(rt: HostRuntime) {
-    let inner = MemDevice::new(rt.alloc(), 1, 1).expect(&rt, "room for a page");
-    let mut device = Flaky::new(inner, 0);
-    assert!(rt; device.write(0, &[5]) == Ok(()));
-    device.settle();
-    assert!(rt; !device.waiting() && device.failures() == 0);
 }
 
 // Writes page 3 of a file of eight pages, whose device is then dropped.
@@ -170,17 +140,4 @@ fn a_sparse_file_has_pages_past_32_bits(rt: HostRuntime) {
     assert!(rt; byte_at(&rt, path, 0) == Some(0));
     assert!(rt; byte_at(&rt, path, 8_589_934_592) == None);
     fs::remove_file(&rt, path).expect(&rt, "the file goes");
-}
-
-#[test]
-fn faults_have_their_numbers_and_names(rt: HostRuntime) {
-    for (fault, code, name) in [
-        (DeviceFault::Read, 1, "Read"),
-        (DeviceFault::Write, 2, "Write"),
-        (DeviceFault::Flush, 3, "Flush"),
-    ] {
-        assert!(rt; fault.code() == code && fault.name() == name);
-    }
-    assert!(rt; OpenFault::Memory.code() == 1 && OpenFault::Memory.name() == "Memory");
-    assert!(rt; OpenFault::Open.code() == 2 && OpenFault::Open.name() == "Open");
 }

@@ -1,8 +1,8 @@
-//! The rows of warm_devices, test_kit and warm_pool, run: what devices keep, what a failed call leaves and what is noted
-//! as a drop begins; where pages go, which leave, what is refused, and what a device holds as its pool is let go.
+//! Tests of warm_devices, test_kit and warm_pool: what devices keep and note, where pages go in a pool, which leave, what is refused,
+//! and what a device holds as its pool is let go.
 //!
-//! They stand in a crate of their own, over public calls alone, so that the gate proves those three once
-//! and not again beside their tests; and together, since each crate of rows costs it the load of what stands below.
+//! They use public calls alone, and have a crate of their own so that the gate proves those libraries once and not again beside
+//! their tests.
 #![tactic(auto)]
 
 #[cfg(test)]

@@ -10,7 +10,7 @@ use std::sync::Arc;
 use test_kit::{Found, Hooked, Note};
 use warm_devices::{Flaky, MemDevice, PageDevice};
 
-// A device of so many pages of so many bytes that notes its drop, and the note.
+// A device that notes its drop, and the note.
 fn noting(
     rt: &impl Abort,
     alloc: Global,
@@ -58,13 +58,4 @@ fn a_flaky_device_settles_as_it_is_dropped(rt: HostRuntime) {
     assert!(rt; found_as_call_fails(&rt, rt.alloc(), 0) == Found::Settled);
     assert!(rt; found_as_call_fails(&rt, rt.alloc(), 2) == Found::Waiting);
     assert!(rt; found_as_call_fails(&rt, rt.alloc(), 3) == Found::Settled);
-}
-
-#[test]
-fn a_flush_that_fails_is_counted(rt: HostRuntime) {
-    let (device, _note) = noting(&rt, rt.alloc(), 1, 1);
-    let mut device = Flaky::new(device, 2);
-    assert!(rt; device.write(0, &[5]) == Ok(()));
-    device.settle();
-    assert!(rt; device.waiting() && device.failures() == 1);
 }

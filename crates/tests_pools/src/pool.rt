@@ -1,84 +1,33 @@
-//! Rows of a pool's life, run. Each call stands in a function of its own, which keeps what a pool is and by which history it is
-//! ranked: what is proved of a test does not grow with its rows.
+//! Pools: where pages go, what is refused, and what is kept where a device fails. A test is a list of rows, each a call and what comes
+//! of it. Each call stands in a function of its own, which keeps by which history the pool is ranked: so what is proved of a test does
+//! not grow with its rows.
 //!
-//! With `rt try --test --fail-alloc N`, for N from 1 on, each growth is refused in turn: what takes room is then asked for once
+//! With `rt try --test --fail-alloc N`, for N from 1 on, each allocation fails in turn: what takes memory is then asked for once
 //! more, with what the refusal handed back.
 //!
 //! What must not fail ends the process where it does: a `?` would be one more way out, on which the drop of all that is owned
 //! is proved.
-ghost use Rattle.std.specs.Prelude.{◌≡◌, ◌≤◌, length, vec_capacity};
+ghost use Rattle.std.specs.Prelude.{◌≤◌, length};
 ghost use Rattle.warm_pool.specs.State.{IsRankedByAll, RankedBy};
 
-mod boxed;
 mod let_go;
 mod ranks;
 mod wide;
 
-use std::alloc::{AllocError, Global};
+use std::alloc::Global;
 use std::process::Abort;
-use warm_devices::{Flaky, MemDevice, PageDevice};
+use test_kit::{alone, both, flaky, memory, page, page_on};
+use warm_devices::PageDevice;
 use warm_history::History;
 use warm_pool::{Pool, PoolFault, Slot, Unretired};
 use warm_stamps::PageId;
-
-const fn page(no: u64) -> PageId {
-    PageId { dev: 0, no }
-}
 
 const fn slot(index: u32, generation: u64) -> Slot {
     Slot { index, generation }
 }
 
-// One growth alone is refused, so the next try has the memory.
-const ONE_REFUSED: &str = "one growth alone is refused";
-
-fn memory(rt: &impl Abort, alloc: Global, pages: u64) -> MemDevice {
-    match MemDevice::new(alloc, pages, 16) {
-        Ok(device) => device,
-        Err(_) => MemDevice::new(alloc, pages, 16).expect(rt, ONE_REFUSED),
-    }
-}
-
-fn new_flaky(alloc: Global, n: u64) -> Result<Flaky<MemDevice>, AllocError> {
-    Ok(Flaky::new(MemDevice::new(alloc, 8, 16)?, n))
-}
-
-fn flaky(rt: &impl Abort, alloc: Global, n: u64) -> Flaky<MemDevice> {
-    match new_flaky(alloc, n) {
-        Ok(device) => device,
-        Err(_) => new_flaky(alloc, n).expect(rt, ONE_REFUSED),
-    }
-}
-
-// An empty list with room for a number of devices.
-fn room_for<D: PageDevice>(rt: &impl Abort, alloc: Global, count: usize) -> Vec<D>
-    ensures room { count ≤ vec_capacity result }
-    ensures empty { length result.items ≡ 0 }
-{
-    match Vec::with_capacity(alloc, count) {
-        Ok(devices) => devices,
-        Err(_) => Vec::with_capacity(alloc, count).expect(rt, ONE_REFUSED),
-    }
-}
-
-// A list of one device.
-fn alone<D: PageDevice>(rt: &impl Abort, alloc: Global, device: D) -> Vec<D>
-    ensures { length result.items ≡ 1 }
-{
-    let mut devices = room_for(rt, alloc, 1);
-    devices.push_reserved(device);
-    devices
-}
-
-// A list of two devices.
-fn both<D: PageDevice>(rt: &impl Abort, alloc: Global, first: D, second: D) -> Vec<D>
-    ensures { length result.items ≡ 2 }
-{
-    let mut devices = room_for(rt, alloc, 2);
-    devices.push_reserved(first);
-    devices.push_reserved(second);
-    devices
-}
+// One allocation alone fails, so the next try has the memory.
+const ONE_REFUSED: &str = "one allocation alone fails";
 
 fn pool_of<D: PageDevice>(
     rt: &impl Abort,
@@ -107,7 +56,8 @@ fn pool_of<D: PageDevice>(
 fn pool_over<D: PageDevice>(rt: &impl Abort, alloc: Global, frames: usize, device: D) -> Pool<D>
     ensures { IsRankedByAll result }
 {
-    pool_of(rt, alloc, frames, 16, alone(rt, alloc, device))
+    let devices = alone(alloc, device).expect(rt, ONE_REFUSED);
+    pool_of(rt, alloc, frames, 16, devices)
 }
 
 // What a pool answers: that it is done, the index and the generation of a slot, or why it is refused.
@@ -333,7 +283,7 @@ fn shows<D: PageDevice>(rt: &impl Abort, pool: &Pool<D>, row: Row<'_>) -> bool {
         Row::Leaves(no) => pool.victim() == Some(page(no)),
         Row::NoneLeaves => pool.victim().is_none(),
         Row::Holds(index, generation, wanted) => pool.holds(slot(index, generation)) == wanted,
-        Row::Resident(dev, no, wanted) => pool.resident(PageId { dev, no }) == wanted,
+        Row::Resident(dev, no, wanted) => pool.resident(page_on(dev, no)) == wanted,
         Row::Has(no, wanted) => pool.has(page(no)) == wanted,
         Row::Frames(wanted) => pool.frames() == wanted,
         _ => panic!(rt; "no such row"),
@@ -352,7 +302,7 @@ fn meets<D: PageDevice>(
 {
     match row {
         Row::Pins(no, wanted) => pinned(pool, history, no) == wanted,
-        Row::Loads(dev, no, wanted) => loaded(pool, history, PageId { dev, no }) == wanted,
+        Row::Loads(dev, no, wanted) => loaded(pool, history, page_on(dev, no)) == wanted,
         Row::Unpins(index, generation) => unpin(pool, history, slot(index, generation)),
         Row::Visits(no) => visits(pool, history, no),
         Row::Fills(no) => fills(pool, history, no),
@@ -376,7 +326,7 @@ fn runs<D: PageDevice>(rt: &impl Abort, pool: &mut Pool<D>, history: &History, r
     }
 }
 
-// A fresh pool of so many frames over the device lives through the rows, by a history that was told nothing, and is closed.
+// A fresh pool of this number of frames over the device goes through the rows, by an empty history, and is closed.
 fn lives<D: PageDevice>(
     rt: &impl Abort,
     alloc: Global,
@@ -411,68 +361,31 @@ fn unretired<D: PageDevice>(
     }
 }
 
-// Pages that come into four frames are found there, one number on two devices, and one that left is not.
-fn come_in<D: PageDevice>(rt: &impl Abort, pool: &mut Pool<D>, history: &History)
-    requires { RankedBy pool.old history.now }
-    ensures { RankedBy pool.new history.now }
-{
+// One number on two devices names two pages, and the frames of a device that is exchanged are free.
+#[test]
+fn pages_of_two_devices_are_apart(rt: HostRuntime) {
+    let alloc = rt.alloc();
+    let history = History::new(alloc);
+    let first = memory(alloc, 16).expect(&rt, ONE_REFUSED);
+    let second = memory(alloc, 128).expect(&rt, ONE_REFUSED);
+    let next = memory(alloc, 8).expect(&rt, ONE_REFUSED);
+    let devices = both(alloc, first, second).expect(&rt, ONE_REFUSED);
+    let mut pool = pool_of(&rt, alloc, 2, 16, devices);
     let rows = [
         Row::Loads(1, 7, Said::At(0, 1)),
-        Row::Loads(1, 100, Said::At(1, 1)),
         Row::Resident(0, 7, false),
-        Row::Loads(0, 7, Said::At(2, 1)),
-        Row::Loads(0, 7, Said::At(2, 1)),
-        Row::Resident(0, 4, false),
-        Row::Loads(0, 4, Said::At(3, 1)),
-        Row::Loads(0, 7, Said::At(2, 1)),
-        Row::Loads(1, 100, Said::At(1, 1)),
+        Row::Loads(0, 7, Said::At(1, 1)),
         Row::Loads(1, 7, Said::At(0, 1)),
-        // No frame is free, and 0:4 is the least page.
-        Row::Loads(0, 8, Said::At(3, 2)),
-        Row::Resident(0, 4, false),
-        Row::Loads(0, 8, Said::At(3, 2)),
-        Row::Loads(0, 7, Said::At(2, 1)),
-        Row::Resident(1, 100, true),
     ];
-    runs(rt, pool, history, &rows)
-}
-
-// The frames of the device that was retired are free, and taken in turn.
-fn stay_and_follow<D: PageDevice>(rt: &impl Abort, pool: &mut Pool<D>, history: &History)
-    requires { RankedBy pool.old history.now }
-    ensures { RankedBy pool.new history.now }
-{
+    runs(&rt, &mut pool, &history, &rows);
+    exchange(&rt, &mut pool, &history, 1, next);
     let rows = [
         Row::Resident(1, 7, false),
-        Row::Resident(1, 100, false),
-        Row::Loads(0, 8, Said::At(3, 2)),
-        Row::Loads(0, 7, Said::At(2, 1)),
-        Row::Loads(0, 9, Said::At(0, 2)),
-        Row::Loads(0, 4, Said::At(1, 2)),
-        Row::Loads(0, 9, Said::At(0, 2)),
-        Row::Loads(0, 7, Said::At(2, 1)),
-        Row::Resident(1, 4, false),
+        Row::Resident(0, 7, true),
+        Row::Loads(0, 8, Said::At(0, 2)),
     ];
-    runs(rt, pool, history, &rows)
-}
-
-// Pages of two devices are found where they stand, and then the second device is exchanged for another.
-fn stand_and_leave<D: PageDevice>(rt: &impl Abort, alloc: Global, first: D, second: D, next: D) {
-    let history = History::new(alloc);
-    let devices = both(rt, alloc, first, second);
-    let mut pool = pool_of(rt, alloc, 4, 16, devices);
-    come_in(rt, &mut pool, &history);
-    exchange(rt, &mut pool, &history, 1, next);
-    stay_and_follow(rt, &mut pool, &history);
-    closes(rt, pool);
-}
-
-#[test]
-fn pages_are_found_where_they_stand(rt: HostRuntime) {
-    let alloc = rt.alloc();
-    let first = memory(&rt, alloc, 16);
-    let second = memory(&rt, alloc, 128);
-    stand_and_leave(&rt, alloc, first, second, memory(&rt, alloc, 8));
+    runs(&rt, &mut pool, &history, &rows);
+    closes(&rt, pool);
 }
 
 // Pages with a fix keep their device from being exchanged for another, which is handed back.
@@ -525,8 +438,10 @@ fn let_go_unfixed<D: PageDevice>(rt: &impl Abort, pool: &mut Pool<D>, history: &
 fn two_frames_over_eight_pages(rt: HostRuntime) {
     let alloc = rt.alloc();
     let history = History::new(alloc);
-    let mut pool = pool_over(&rt, alloc, 2, memory(&rt, alloc, 8));
-    let device = kept_by_fixes(&rt, &mut pool, &history, memory(&rt, alloc, 4));
+    let first = memory(alloc, 8).expect(&rt, ONE_REFUSED);
+    let next = memory(alloc, 4).expect(&rt, ONE_REFUSED);
+    let mut pool = pool_over(&rt, alloc, 2, first);
+    let device = kept_by_fixes(&rt, &mut pool, &history, next);
     let mut pool = not_closed(&rt, pool, &history);
     let_go_unfixed(&rt, &mut pool, &history, device);
     closes(&rt, pool);
@@ -540,7 +455,8 @@ fn unmade<D: PageDevice>(
     page_size: usize,
     device: D,
 ) -> (PoolFault, usize) {
-    match Pool::new(alloc, frames, page_size, alone(rt, alloc, device)) {
+    let devices = alone(alloc, device).expect(rt, ONE_REFUSED);
+    match Pool::new(alloc, frames, page_size, devices) {
         Ok(_) => panic!(rt; "the pool is made"),
         Err(unmade) => (unmade.fault, unmade.devices.len()),
     }
@@ -554,7 +470,7 @@ fn refused_pools_hand_their_devices_back(rt: HostRuntime) {
         (65_537, 16, PoolFault::BadFrames),
         (2, 8, PoolFault::SizeDiffers),
     ] {
-        let device = memory(&rt, alloc, 8);
+        let device = memory(alloc, 8).expect(&rt, ONE_REFUSED);
         assert!(rt; unmade(&rt, alloc, frames, page_size, device) == (fault, 1));
     }
 }
@@ -569,7 +485,8 @@ fn a_dirty_victim_stays_where_its_write_fails(rt: HostRuntime) {
         Row::Visits(2),
         Row::Finds(1, &[0xAA; 16]),
     ];
-    lives(&rt, rt.alloc(), 1, flaky(&rt, rt.alloc(), 3), &rows)
+    let device = flaky(rt.alloc(), 8, 3).expect(&rt, ONE_REFUSED);
+    lives(&rt, rt.alloc(), 1, device, &rows)
 }
 
 fn stays_unflushed<D: PageDevice>(rt: &impl Abort, pool: &mut Pool<D>, history: &History, device: D)
@@ -584,18 +501,15 @@ fn stays_unflushed<D: PageDevice>(rt: &impl Abort, pool: &mut Pool<D>, history: 
     assert!(rt; !pool.resident(page(1)));
 }
 
-// A pool of one frame over a device of which the third call fails, and the device that takes its place.
-fn exchanged_again<D: PageDevice>(rt: &impl Abort, alloc: Global, failing: D, next: D) {
-    let history = History::new(alloc);
-    let mut pool = pool_over(rt, alloc, 1, failing);
-    stays_unflushed(rt, &mut pool, &history, next);
-    closes(rt, pool);
-}
-
 #[test]
 fn a_device_stays_where_its_flush_fails(rt: HostRuntime) {
     let alloc = rt.alloc();
-    exchanged_again(&rt, alloc, flaky(&rt, alloc, 3), flaky(&rt, alloc, 0));
+    let history = History::new(alloc);
+    let failing = flaky(alloc, 8, 3).expect(&rt, ONE_REFUSED);
+    let next = flaky(alloc, 8, 0).expect(&rt, ONE_REFUSED);
+    let mut pool = pool_over(&rt, alloc, 1, failing);
+    stays_unflushed(&rt, &mut pool, &history, next);
+    closes(&rt, pool);
 }
 
 #[test]
@@ -614,7 +528,8 @@ fn an_emptied_pool_keeps_its_pages(rt: HostRuntime) {
         Row::Finds(6, &bytes),
         Row::Unpins(0, 2),
     ];
-    lives(&rt, rt.alloc(), 2, memory(&rt, rt.alloc(), 8), &rows)
+    let device = memory(rt.alloc(), 8).expect(&rt, ONE_REFUSED);
+    lives(&rt, rt.alloc(), 2, device, &rows)
 }
 
 #[test]
@@ -628,5 +543,6 @@ fn a_page_stays_out_where_no_frame_or_no_byte_is_to_be_had(rt: HostRuntime) {
         Row::NoneLeaves,
         Row::Unpins(0, 1),
     ];
-    lives(&rt, rt.alloc(), 1, flaky(&rt, rt.alloc(), 1), &rows)
+    let device = flaky(rt.alloc(), 8, 1).expect(&rt, ONE_REFUSED);
+    lives(&rt, rt.alloc(), 1, device, &rows)
 }

@@ -1,167 +1,78 @@
-//! Frames and their bytes, written out by hand from the format, and calls that memory is refused
-//! to.
-//!
-//! With `rt try --test --fail-alloc N`, for N from 1 on, each growth is refused in turn: the call is
-//! then made a second time.
+//! Frames and their bytes: what is read of them and written, their sizes, and lists of entries.
+use crate::bytes::{
+    NARROW, NARROW_NOTHING, NARROW_WISH, NOTHING, TWICE, WIDENED, WISH, byte_room, decoded,
+    encoded, fault, is_spelled, joined, put, row_holds, said_in, spelled_so, sums_in, wished_in,
+};
 use std::alloc::Global;
 use std::process::Abort;
-use warm_frames::{EntryList, Frame, FrameFault, SumTable, decode, encode, put_entry};
-use warm_history::{Entry, PageHist, Two};
-use warm_stamps::{Bucket, PageId, ReplicaId, Stamp};
+use test_kit::{bucket, entry, once, page, page_on, replica, twice};
+use warm_frames::{EntryList, Frame, FrameFault, SumTable, decode, put_entry};
+use warm_history::Entry;
 
-// Sender 1, whose horizon is 12, says that 0:7 has 20@1 and 10@1.
-pub(crate) const TWICE: [u8; 54] = [
-    0x4C, 0x32, 0x47, 0x32, 1, 0, 1, 0, 0, 0, 0, 0, 0, 0, 0x0C, 0, 0, 0, 0x23, 0, 0, 0, 1, 0, 0, 0,
-    0, 0, 0, 0, 0, 0, 7, 2, 0, 0, 0, 0, 0, 0, 0, 0x14, 0, 1, 0, 0, 0, 0, 0, 0, 0, 0x0A, 0, 1,
-];
-
-// Sender 1 says that 0:7 and 0:8 each have 20@1.
-const RISING: [u8; 65] = [
-    0x4C, 0x32, 0x47, 0x32, 1, 0, 1, 0, 0, 0, 0, 0, 0, 0, 0, 0, 0, 0, 0x2E, 0, 0, 0, 2, 0, 0, 0, 0,
-    0, 0, 0, 0, 0, 7, 1, 0, 0, 0, 0, 0, 0, 0, 0x14, 0, 1, 0, 0, 0, 0, 0, 0, 0, 0, 0, 8, 1, 0, 0, 0,
-    0, 0, 0, 0, 0x14, 0, 1,
-];
-
-// Sender 3 says nothing.
-pub(crate) const NOTHING: [u8; 23] = [
-    0x4C, 0x32, 0x47, 0x32, 1, 0, 3, 0, 0, 0, 0, 0, 0, 0, 0, 0, 0, 0, 4, 0, 0, 0, 0,
-];
-
-// Sender 2 asks for buckets 1 and 2.
-pub(crate) const WISH: [u8; 27] = [
-    0x4C, 0x32, 0x47, 0x32, 3, 0, 2, 0, 0, 0, 0, 0, 0, 0, 0, 0, 0, 0, 8, 0, 0, 0, 0, 0, 0, 0, 6,
-];
-
-pub(crate) fn stamp(rt: &impl Abort, time: u64, replica: u16) -> Stamp {
-    let replica = ReplicaId::new(replica).expect(rt, "a replica");
-    Stamp { time, replica }
-}
-
-fn once(rt: &impl Abort, no: u64) -> Entry {
-    Entry {
-        page: PageId { dev: 0, no },
-        hist: PageHist::Once(stamp(rt, 20, 1)),
-    }
-}
-
-pub(crate) fn twice(rt: &impl Abort, last: Stamp, prev: Stamp) -> PageHist {
-    assert!(rt; prev < last);
-    PageHist::Twice(Two::new(last, prev))
-}
-
-// Ends the test where its row of a number does not hold: the one place where a message is put together, which is dear to prove.
-pub(crate) fn row_holds(rt: &impl Abort, at: usize, is_so: bool) {
-    assert!(rt; is_so, "row {at}");
-}
-
-// Decodes; where memory is refused, once more.
-pub(crate) fn decoded(alloc: Global, bytes: &[u8]) -> Result<Frame, FrameFault> {
-    match decode(alloc, bytes) {
-        Err(FrameFault::Memory) => decode(alloc, bytes),
-        answer => answer,
-    }
-}
-
-// Encodes; where memory is refused, once more.
-pub(crate) fn encoded(rt: &impl Abort, alloc: Global, frame: &Frame) -> Vec<u8> {
-    match encode(alloc, frame) {
-        Ok(bytes) => bytes,
-        Err(_) => encode(alloc, frame).expect(rt, "room for the bytes"),
-    }
-}
-
-pub(crate) fn fault(alloc: Global, bytes: &[u8]) -> Option<FrameFault> {
-    decoded(alloc, bytes).err()
-}
-
-// Whether the frame has this spelling.
-pub(crate) fn is_spelled(rt: &impl Abort, alloc: Global, frame: &Frame, bytes: &[u8]) -> bool {
-    encoded(rt, alloc, frame).as_slice() == bytes
-}
-
-// The frame that has this spelling and no other.
-pub(crate) fn spelled_so(rt: &impl Abort, alloc: Global, bytes: &[u8]) -> Frame {
-    let frame = decoded(alloc, bytes).expect(rt, "a frame");
-    assert!(rt; is_spelled(rt, alloc, &frame, bytes));
-    frame
-}
-
-// The same, which takes no memory to decode.
-pub(crate) fn spelled_at_once(rt: &impl Abort, alloc: Global, bytes: &[u8]) -> Frame {
-    let frame = decode(alloc, bytes).expect(rt, "a frame");
-    assert!(rt; is_spelled(rt, alloc, &frame, bytes));
-    frame
-}
-
-// A frame of entries: the number of its sender, the horizon, and the entries.
-pub(crate) fn said_in(rt: &impl Abort, frame: Frame) -> (u16, u64, EntryList) {
-    match frame {
-        Frame::Entries {
-            sender,
-            horizon,
-            entries,
-        } => (sender.get(), horizon, entries),
-        _ => panic!(rt; "another kind"),
-    }
+// Whether a frame of this horizon is of sender 1 and says of 0:7 alone that it has 20@1 and 10@1.
+fn says_twice(rt: &impl Abort, frame: Frame, since: u64) -> bool {
+    let (sender, horizon, entries) = said_in(rt, frame);
+    let entries = entries.into_entries();
+    let want = entry(page(7), twice((20, 1), (10, 1)));
+    sender == 1 && horizon == since && entries.as_slice() == [want].as_slice()
 }
 
 #[test]
 fn entries_have_one_spelling(rt: HostRuntime) {
-    let page = PageId { dev: 0, no: 7 };
-    let hist = twice(&rt, stamp(&rt, 20, 1), stamp(&rt, 10, 1));
-    let (sender, horizon, entries) = said_in(&rt, spelled_so(&rt, rt.alloc(), &TWICE));
-    assert!(rt; sender == 1);
-    assert!(rt; horizon == 12);
-    assert!(rt; entries.into_entries().as_slice() == [Entry { page, hist }].as_slice());
+    let wide = spelled_so(&rt, rt.alloc(), &TWICE);
+    assert!(rt; says_twice(&rt, wide, 12));
+    let narrow = decoded(rt.alloc(), &NARROW).expect(&rt, "a frame");
+    assert!(rt; is_spelled(&rt, rt.alloc(), &narrow, &WIDENED));
+    assert!(rt; says_twice(&rt, narrow, 0));
+}
+
+// The frame of these bytes, which takes no memory to decode, and is written as those wanted.
+fn read_at_once(rt: &impl Abort, alloc: Global, bytes: &[u8], want: &[u8]) -> Frame {
+    let frame = decode(alloc, bytes).expect(rt, "a frame");
+    assert!(rt; is_spelled(rt, alloc, &frame, want));
+    frame
+}
+
+// Whether the bytes are of sender 3, and say nothing.
+fn say_nothing(rt: &impl Abort, alloc: Global, bytes: &[u8]) -> bool {
+    let frame = read_at_once(rt, alloc, bytes, &NOTHING);
+    let (sender, horizon, entries) = said_in(rt, frame);
+    sender == 3 && horizon == 0 && entries.as_slice().is_empty()
+}
+
+// Whether sender 2 asks for buckets 1 and 2 by the bytes.
+fn ask_for_two(rt: &impl Abort, alloc: Global, bytes: &[u8]) -> bool {
+    let frame = read_at_once(rt, alloc, bytes, &WISH);
+    wished_in(rt, frame) == (2, 0, 6)
 }
 
 #[test]
-fn nothing_takes_no_memory(rt: HostRuntime) {
-    let (sender, horizon, entries) = said_in(&rt, spelled_at_once(&rt, rt.alloc(), &NOTHING));
-    assert!(rt; sender == 3);
-    assert!(rt; horizon == 0);
-    assert!(rt; entries.as_slice().is_empty());
-}
-
-// A frame that asks for buckets: the number of its sender, the horizon, and the mask.
-pub(crate) fn wished_in(rt: &impl Abort, frame: Frame) -> (u16, u64, u64) {
-    match frame {
-        Frame::Want {
-            sender,
-            horizon,
-            mask,
-        } => (sender.get(), horizon, mask),
-        _ => panic!(rt; "another kind"),
-    }
-}
-
-#[test]
-fn a_wish_takes_no_memory(rt: HostRuntime) {
-    let (sender, horizon, mask) = wished_in(&rt, spelled_at_once(&rt, rt.alloc(), &WISH));
-    assert!(rt; sender == 2);
-    assert!(rt; horizon == 0);
-    assert!(rt; mask == 6);
-}
-
-// The bytes of sender 64's table of sums, with the horizon 12.
-fn table_bytes(rt: &impl Abort, alloc: Global, sums: [[u8; 32]; 64]) -> Vec<u8> {
-    let frame = Frame::Digest {
-        sender: ReplicaId::new(64).expect(rt, "a replica"),
-        horizon: 12,
-        sums: SumTable::of(sums),
-    };
-    encoded(rt, alloc, &frame)
+fn an_empty_frame_and_a_request_take_no_memory(rt: HostRuntime) {
+    assert!(rt; say_nothing(&rt, rt.alloc(), &NOTHING));
+    assert!(rt; say_nothing(&rt, rt.alloc(), &NARROW_NOTHING));
+    assert!(rt; ask_for_two(&rt, rt.alloc(), &WISH));
+    assert!(rt; ask_for_two(&rt, rt.alloc(), &NARROW_WISH));
 }
 
 // Sums of 0, except for those of the first bucket, and the last byte of the last.
-pub(crate) fn spread_sums() -> [[u8; 32]; 64] {
+fn spread_sums() -> [[u8; 32]; 64] {
     let mut sums = [[0; 32]; 64];
     sums[0] = [7; 32];
     sums[63][31] = 9;
     sums
 }
 
-// Whether these are the bytes of sender 64's table of those sums.
+// The bytes of sender 64's table of those sums, with the horizon 12.
+fn table_bytes(rt: &impl Abort, alloc: Global) -> Vec<u8> {
+    let frame = Frame::Digest {
+        sender: replica(64),
+        horizon: 12,
+        sums: SumTable::of(spread_sums()),
+    };
+    encoded(rt, alloc, &frame)
+}
+
+// Whether these are those bytes.
 fn are_spread(bytes: &[u8]) -> bool {
     let header = [
         0x4C, 0x32, 0x47, 0x32, 2, 0, 64, 0, 0, 0, 0, 0, 0, 0, 12, 0, 0, 8, 0,
@@ -174,189 +85,148 @@ fn are_spread(bytes: &[u8]) -> bool {
         && bytes[2066] == 9
 }
 
-// A frame of sums: the number of its sender, the horizon, and the sums.
-pub(crate) fn sums_in(rt: &impl Abort, frame: Frame) -> (u16, u64, SumTable) {
-    match frame {
-        Frame::Digest {
-            sender,
-            horizon,
-            sums,
-        } => (sender.get(), horizon, sums),
-        _ => panic!(rt; "another kind"),
-    }
+// Whether the bytes are sender 64's table of those sums at this horizon, which takes no memory to decode.
+fn bring_sums(rt: &impl Abort, alloc: Global, bytes: &[u8], since: u64) -> bool {
+    let frame = decode(alloc, bytes).expect(rt, "a frame");
+    let (sender, horizon, sums) = sums_in(rt, frame);
+    let first = sums.sum(bucket(0)) == [7; 32];
+    first && sender == 64 && horizon == since && sums == SumTable::of(spread_sums())
 }
 
-#[test]
-fn sums_stand_bucket_0_first(rt: HostRuntime) {
-    let sums = spread_sums();
-    let first = Bucket::new(0).expect(&rt, "a bucket");
-    let bytes = table_bytes(&rt, rt.alloc(), sums);
-    assert!(rt; are_spread(&bytes));
-    let frame = decode(rt.alloc(), &bytes).expect(&rt, "a frame");
-    let (sender, horizon, read) = sums_in(&rt, frame);
-    assert!(rt; sender == 64);
-    assert!(rt; horizon == 12);
-    assert!(rt; read.sum(first) == [7; 32]);
-    assert!(rt; read == SumTable::of(sums));
-}
-
-// The frame TWICE with another byte at a place.
-pub(crate) fn changed(place: usize, value: u8) -> [u8; 54] {
-    let mut bytes = TWICE;
-    bytes[place % 54] = value;
+// The bytes of sender 64's table of sums, in the narrow format.
+fn narrow_table() -> [u8; 2059] {
+    let mut bytes = [0; 2059];
+    bytes[..11].copy_from_slice(&[0x4C, 0x32, 0x47, 0x31, 2, 0, 64, 0, 0, 8, 0]);
+    bytes[11..43].copy_from_slice(&[7; 32]);
+    bytes[2058] = 9;
     bytes
 }
 
 #[test]
-fn a_changed_byte_is_refused(rt: HostRuntime) {
-    let rows = [
-        (0, 0x4D, FrameFault::BadMagic),
-        (4, 0, FrameFault::BadKind),
-        (4, 4, FrameFault::BadKind),
-        (6, 0, FrameFault::BadSender),
-        (6, 65, FrameFault::BadSender),
-        (22, 2, FrameFault::BadLength),
-        (33, 3, FrameFault::BadTag),
-        (43, 0, FrameFault::BadStamp),
-        (51, 20, FrameFault::BadStamp),
-        (53, 65, FrameFault::BadStamp),
-    ];
-    for (place, value, want) in rows {
-        let found = fault(rt.alloc(), &changed(place, value));
-        row_holds(&rt, place, found == Some(want));
-    }
+fn sums_stand_bucket_0_first(rt: HostRuntime) {
+    let bytes = table_bytes(&rt, rt.alloc());
+    assert!(rt; are_spread(&bytes));
+    assert!(rt; bring_sums(&rt, rt.alloc(), &bytes, 12));
+    assert!(rt; bring_sums(&rt, rt.alloc(), &narrow_table(), 0));
 }
 
 #[test]
 fn a_count_of_1001_is_refused(rt: HostRuntime) {
-    let mut bytes = TWICE;
-    bytes[21] = 3;
-    bytes[22] = 0xE9;
-    assert!(rt; fault(rt.alloc(), &bytes) == Some(FrameFault::BadCount));
+    let mut wide = TWICE;
+    wide[21..23].copy_from_slice(&[3, 0xE9]);
+    assert!(rt; fault(rt.alloc(), &wide) == Some(FrameFault::BadCount));
+    let mut narrow = NARROW;
+    narrow[13..15].copy_from_slice(&[3, 0xE9]);
+    assert!(rt; fault(rt.alloc(), &narrow) == Some(FrameFault::BadCount));
+}
+
+// Each beginning of a frame is refused, and so is the frame with a byte more.
+fn has_its_length(rt: &impl Abort, alloc: Global, bytes: &[u8]) {
+    for len in 0..bytes.len() {
+        let found = fault(alloc, &bytes[..len]);
+        row_holds(rt, len, found == Some(FrameFault::Truncated));
+    }
+    let longer = joined(rt, alloc, &[bytes, &[0]]);
+    assert!(rt; fault(alloc, &longer) == Some(FrameFault::BadLength));
 }
 
 #[test]
 fn a_part_is_truncated_and_a_byte_more_is_refused(rt: HostRuntime) {
-    for len in 0..TWICE.len() {
-        let found = fault(rt.alloc(), &TWICE[..len]);
-        row_holds(&rt, len, found == Some(FrameFault::Truncated));
-    }
-    let mut longer = [0; 55];
-    longer[..54].copy_from_slice(&TWICE);
-    assert!(rt; fault(rt.alloc(), &longer) == Some(FrameFault::BadLength));
+    has_its_length(&rt, rt.alloc(), &TWICE);
+    has_its_length(&rt, rt.alloc(), &NARROW);
 }
 
-// Why RISING is refused where its second page has another number.
-fn fault_as_second_is(alloc: Global, no: u8) -> Option<FrameFault> {
-    let mut bytes = RISING;
+// Sender 1 says that 0:7 and another page each have 20@1.
+fn rising(no: u8) -> [u8; 65] {
+    let mut bytes = [
+        0x4C, 0x32, 0x47, 0x32, 1, 0, 1, 0, 0, 0, 0, 0, 0, 0, 0, 0, 0, 0, 0x2E, 0, 0, 0, 2, 0, 0,
+        0, 0, 0, 0, 0, 0, 0, 7, 1, 0, 0, 0, 0, 0, 0, 0, 0x14, 0, 1, 0, 0, 0, 0, 0, 0, 0, 0, 0, 8,
+        1, 0, 0, 0, 0, 0, 0, 0, 0x14, 0, 1,
+    ];
     bytes[53] = no;
-    fault(alloc, &bytes)
+    bytes
+}
+
+// The same in the narrow format.
+fn narrow_rising(no: u8) -> [u8; 49] {
+    let mut bytes = [
+        0x4C, 0x32, 0x47, 0x31, 1, 0, 1, 0, 0, 0, 0x26, 0, 0, 0, 2, 0, 0, 0, 0, 0, 7, 1, 0, 0, 0,
+        0, 0, 0, 0, 0x14, 0, 1, 0, 0, 0, 0, 0, 8, 1, 0, 0, 0, 0, 0, 0, 0, 0x14, 0, 1,
+    ];
+    bytes[37] = no;
+    bytes
 }
 
 #[test]
 fn pages_have_to_rise(rt: HostRuntime) {
-    let _ = spelled_so(&rt, rt.alloc(), &RISING);
-    assert!(rt; fault_as_second_is(rt.alloc(), 6) == Some(FrameFault::BadOrder));
-    assert!(rt; fault_as_second_is(rt.alloc(), 7) == Some(FrameFault::BadOrder));
-}
-
-// Room for entries; where it is refused, asked for once more.
-pub(crate) fn room(rt: &impl Abort, alloc: Global, count: usize) -> Vec<Entry> {
-    match Vec::with_capacity(alloc, count) {
-        Ok(entries) => entries,
-        Err(_) => Vec::with_capacity(alloc, count).expect(rt, "room for entries"),
+    let _ = spelled_so(&rt, rt.alloc(), &rising(8));
+    assert!(rt; fault(rt.alloc(), &narrow_rising(8)).is_none());
+    for no in [6, 7] {
+        assert!(rt; fault(rt.alloc(), &rising(no)) == Some(FrameFault::BadOrder));
+        assert!(rt; fault(rt.alloc(), &narrow_rising(no)) == Some(FrameFault::BadOrder));
     }
 }
 
-// Entries of rising pages, each referenced once.
-fn rising(rt: &impl Abort, alloc: Global, count: u32) -> Vec<Entry> {
-    let mut entries = room(rt, alloc, count as usize);
-    for no in 0..count {
-        entries
-            .push(once(rt, u64::from(no)))
-            .expect(rt, "room for an entry");
-    }
-    entries
-}
-
-fn list_of_1000(rt: &impl Abort, alloc: Global) -> EntryList {
-    let entries = EntryList::of(rising(rt, alloc, 1000)).ok();
-    entries.expect(rt, "1000 entries were refused")
-}
-
-// How many entries come back of a list that is refused.
-fn refused_of(rt: &impl Abort, alloc: Global, count: u32) -> Option<usize> {
-    let back = EntryList::of(rising(rt, alloc, count)).err();
-    back.map(|entries| entries.len())
+// The number of the one page of the frame TWICE where it has this number, and which is of device 0.
+fn only_number(rt: &impl Abort, alloc: Global, number: [u8; 8]) -> u64 {
+    let mut bytes = TWICE;
+    bytes[25..33].copy_from_slice(&number);
+    let (_, _, entries) = said_in(rt, spelled_so(rt, alloc, &bytes));
+    let entries = entries.as_slice();
+    assert!(rt; entries.len() == 1);
+    let page = entries[0].page;
+    assert!(rt; page.dev == 0);
+    page.no
 }
 
 #[test]
-fn a_list_has_at_most_1000_entries(rt: HostRuntime) {
-    assert!(rt; refused_of(&rt, rt.alloc(), 1001) == Some(1001));
-    assert!(rt; list_of_1000(&rt, rt.alloc()).as_slice().len() == 1000);
+fn page_numbers_have_64_bits(rt: HostRuntime) {
+    assert!(rt; only_number(&rt, rt.alloc(), [0, 0, 0, 1, 0, 0, 0, 0]) == 4294967296);
+    assert!(rt; only_number(&rt, rt.alloc(), [255; 8]) == 18446744073709551615);
 }
 
-// The bytes of a frame in which sender 1 has 1000 entries.
-fn bytes_of_1000(rt: &impl Abort, alloc: Global) -> Vec<u8> {
-    let sender = ReplicaId::new(1).expect(rt, "a replica");
-    let entries = list_of_1000(rt, alloc);
-    let frame = Frame::Entries {
-        sender,
-        horizon: 0,
-        entries,
-    };
-    encoded(rt, alloc, &frame)
+// Both stamps of the frame are older than its own horizon: it is well formed, and who receives it drops them.
+#[test]
+fn stamps_may_be_older_than_the_frames_horizon(rt: HostRuntime) {
+    for time in [21, u64::MAX] {
+        let mut bytes = TWICE;
+        bytes[7..15].copy_from_slice(&time.to_be_bytes());
+        let frame = spelled_so(&rt, rt.alloc(), &bytes);
+        assert!(rt; says_twice(&rt, frame, time));
+    }
 }
 
-// Whether these are the bytes of that frame: the header says 21,004 bytes and then 1000 entries, of which the last is that of
-// 0:999.
-fn are_of_1000(bytes: &[u8]) -> bool {
-    let header = [
-        0x4C, 0x32, 0x47, 0x32, 1, 0, 1, 0, 0, 0, 0, 0, 0, 0, 0, 0, 0, 0x52, 0x0C, 0, 0, 3, 0xE8,
-    ];
-    let last = [
-        0, 0, 0, 0, 0, 0, 0, 0, 3, 0xE7, 1, 0, 0, 0, 0, 0, 0, 0, 20, 0, 1,
-    ];
-    bytes.len() == 19 + 4 + 1000 * 21 && bytes.starts_with(&header) && bytes.ends_with(&last)
-}
-
-// What such bytes say is of sender 1, and those entries.
-fn say_1000(rt: &impl Abort, alloc: Global, bytes: &[u8]) {
-    let frame = decoded(alloc, bytes).expect(rt, "a frame");
-    let (sender, _, entries) = said_in(rt, frame);
-    assert!(rt; sender == 1);
-    assert!(rt; entries.as_slice() == rising(rt, alloc, 1000).as_slice());
+// A frame of 1000 entries of two stamps each, which is as long as one can be: its header and count, and the zeros with which the
+// number of a page begins before its last four bytes.
+fn longest(rt: &impl Abort, alloc: Global, header: &[u8], zeros: &[u8]) -> Vec<u8> {
+    let mut text = byte_room(rt, alloc, 31_023);
+    put(rt, &mut text, header);
+    for no in 0..1000u32 {
+        put(rt, &mut text, &[0, 0]);
+        put(rt, &mut text, zeros);
+        put(rt, &mut text, &no.to_be_bytes());
+        put(rt, &mut text, &NARROW[21..]);
+    }
+    text
 }
 
 #[test]
-fn a_frame_of_1000_entries_both_ways(rt: HostRuntime) {
-    let bytes = bytes_of_1000(&rt, rt.alloc());
-    assert!(rt; are_of_1000(&bytes));
-    say_1000(&rt, rt.alloc(), &bytes);
-}
-
-// Room for bytes; where it is refused, asked for once more.
-pub(crate) fn byte_room(rt: &impl Abort, alloc: Global, count: usize) -> Vec<u8> {
-    match Vec::with_capacity(alloc, count) {
-        Ok(text) => text,
-        Err(_) => Vec::with_capacity(alloc, count).expect(rt, "room for bytes"),
-    }
-}
-
-// Puts bytes behind a text; where memory is refused, once more.
-pub(crate) fn put(rt: &impl Abort, text: &mut Vec<u8>, bytes: &[u8]) {
-    if text.extend_from_slice(bytes).is_err() {
-        text.extend_from_slice(bytes).expect(rt, "room for bytes");
-    }
-}
-
-// The texts, one after the other.
-pub(crate) fn joined(rt: &impl Abort, alloc: Global, texts: &[&[u8]]) -> Vec<u8> {
-    let mut all = Vec::new(alloc);
-    for text in texts {
-        put(rt, &mut all, text);
-    }
-    all
+fn the_longest_frame_of_each_format(rt: HostRuntime) {
+    // Their bodies have 27,004 and 31,004 bytes.
+    let narrow = [
+        0x4C, 0x32, 0x47, 0x31, 1, 0, 1, 0, 0, 0x69, 0x7C, 0, 0, 3, 0xE8,
+    ];
+    let wide = [
+        0x4C, 0x32, 0x47, 0x32, 1, 0, 1, 0, 0, 0, 0, 0, 0, 0, 0, 0, 0, 0x79, 0x1C, 0, 0, 3, 0xE8,
+    ];
+    let wide = longest(&rt, rt.alloc(), &wide, &[0; 4]);
+    assert!(rt; wide.len() == 31_023);
+    let (_, _, entries) = said_in(&rt, spelled_so(&rt, rt.alloc(), &wide));
+    assert!(rt; entries.as_slice().len() == 1000);
+    let narrow = longest(&rt, rt.alloc(), &narrow, &[]);
+    assert!(rt; narrow.len() == 27_015);
+    let frame = decoded(rt.alloc(), &narrow).expect(&rt, "a frame");
+    assert!(rt; is_spelled(&rt, rt.alloc(), &frame, &wide));
 }
 
 // The bytes of two entries, one behind the other.
@@ -370,15 +240,8 @@ fn bytes_of_two(rt: &impl Abort, alloc: Global, first: &Entry, second: &Entry) -
 
 #[test]
 fn an_entry_has_21_or_31_bytes(rt: HostRuntime) {
-    let page = PageId { dev: 258, no: 3 };
-    let first = Entry {
-        page,
-        hist: PageHist::Once(stamp(&rt, 20, 1)),
-    };
-    let second = Entry {
-        page,
-        hist: twice(&rt, stamp(&rt, 20, 1), stamp(&rt, 10, 2)),
-    };
+    let first = entry(page_on(258, 3), once(20, 1));
+    let second = entry(page_on(258, 3), twice((20, 1), (10, 2)));
     let both = [
         1, 2, 0, 0, 0, 0, 0, 0, 0, 3, 1, 0, 0, 0, 0, 0, 0, 0, 20, 0, 1, 1, 2, 0, 0, 0, 0, 0, 0, 0,
         3, 2, 0, 0, 0, 0, 0, 0, 0, 20, 0, 1, 0, 0, 0, 0, 0, 0, 0, 10, 0, 2,
@@ -387,42 +250,33 @@ fn an_entry_has_21_or_31_bytes(rt: HostRuntime) {
     assert!(rt; text.as_slice() == both.as_slice());
 }
 
-// A list of two entries, the first of 0:7, which is refused.
-fn refused_with(rt: &impl Abort, alloc: Global, second: u64) -> Vec<Entry> {
-    let mut entries = room(rt, alloc, 2);
-    entries.push(once(rt, 7)).expect(rt, "room for an entry");
+// Entries of pages whose numbers rise from 0, and of one more of this number.
+fn entries(rt: &impl Abort, alloc: Global, rising: u64, last: u64) -> Vec<Entry> {
+    let mut entries = Vec::new(alloc);
+    for no in 0..rising {
+        entries
+            .push(entry(page(no), once(20, 1)))
+            .expect(rt, "room for an entry");
+    }
     entries
-        .push(once(rt, second))
+        .push(entry(page(last), once(20, 1)))
         .expect(rt, "room for an entry");
-    EntryList::of(entries).err().expect(rt, "taken")
+    entries
 }
 
-#[test]
-fn a_list_has_rising_pages(rt: HostRuntime) {
-    for second in [6, 7] {
-        let back = refused_with(&rt, rt.alloc(), second);
-        assert!(rt; back.as_slice() == [once(&rt, 7), once(&rt, second)].as_slice());
+// Whether a list of such entries is handed back.
+fn is_refused(rt: &impl Abort, alloc: Global, rising: u64, last: u64) -> bool {
+    match EntryList::of(entries(rt, alloc, rising, last)) {
+        Ok(_) => false,
+        Err(back) => back.as_slice() == entries(rt, alloc, rising, last).as_slice(),
     }
 }
 
 #[test]
-fn refusals_have_numbers_and_names(rt: HostRuntime) {
-    let rows = [
-        (FrameFault::Memory, "Memory"),
-        (FrameFault::Truncated, "Truncated"),
-        (FrameFault::BadMagic, "BadMagic"),
-        (FrameFault::BadKind, "BadKind"),
-        (FrameFault::BadSender, "BadSender"),
-        (FrameFault::BadLength, "BadLength"),
-        (FrameFault::BadCount, "BadCount"),
-        (FrameFault::BadTag, "BadTag"),
-        (FrameFault::BadStamp, "BadStamp"),
-        (FrameFault::BadOrder, "BadOrder"),
-        (FrameFault::Failed, "Failed"),
-    ];
-    for (place, (fault, name)) in rows.iter().enumerate() {
-        // They are numbered from 1.
-        assert!(rt; fault.code() as usize == place.wrapping_add(1));
-        assert!(rt; fault.name() == *name);
-    }
+fn a_list_has_at_most_1000_entries_of_rising_pages(rt: HostRuntime) {
+    assert!(rt; is_refused(&rt, rt.alloc(), 1000, 1000));
+    assert!(rt; is_refused(&rt, rt.alloc(), 8, 6));
+    assert!(rt; is_refused(&rt, rt.alloc(), 8, 7));
+    let thousand = entries(&rt, rt.alloc(), 999, 999);
+    assert!(rt; EntryList::of(thousand).is_ok());
 }

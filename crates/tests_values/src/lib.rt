@@ -1,16 +1,18 @@
-//! The rows of warm_stamps, warm_refbuffer, warm_random, warm_play_fault and warm_frames, run: what these small values are, of
-//! which the other crates are made, and the bytes of frames in both formats, whole and in pieces.
+//! Tests of warm_stamps, warm_refbuffer, warm_random, warm_play_fault and warm_frames: limits of small values and their bytes, the
+//! schedules that seeds give, and the bytes of frames in both formats, whole and in pieces.
 //!
-//! They stand in a crate of their own, over public calls alone, so that the gate proves those five once
-//! and not again beside their tests; and together, since each crate of rows costs it the load of what stands below.
+//! They use public calls alone, and have a crate of their own so that the gate proves those libraries once and not again beside
+//! their tests.
 #![tactic(auto)]
 
 #[cfg(test)]
 mod buffers;
 #[cfg(test)]
-mod formats;
+mod bytes;
 #[cfg(test)]
 mod frames;
+#[cfg(test)]
+mod headers;
 #[cfg(test)]
 mod pieces;
 #[cfg(test)]

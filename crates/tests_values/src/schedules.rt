@@ -1,4 +1,4 @@
-//! Schedules as an independent program gives them: PCG-XSH-RR 64/32 written anew from its published description, which
+//! Schedules as an independent program gives them: PCG-XSH-RR 64/32 written from its published description, which
 //! gives the published first words of the state 42 and the stream 54.
 ghost use Rattle.std.specs.Prelude.{◌<◌};
 
@@ -45,15 +45,7 @@ const ONE_WORKER: &str = "ref 1 1 0:95 1\nsend 1 23\nshow 1\nref 1 1 0:220 4\n\
 #[test]
 fn seeds_give_their_schedules(rt: HostRuntime) {
     gives(&rt, rt.alloc(), 1, 24, 3, 2, THREE_REPLICAS);
-    gives(
-        &rt,
-        rt.alloc(),
-        18446744073709551615,
-        24,
-        64,
-        16,
-        LARGEST_SETUP,
-    );
+    gives(&rt, rt.alloc(), u64::MAX, 24, 64, 16, LARGEST_SETUP);
     gives(&rt, rt.alloc(), 7, 12, 1, 1, ONE_WORKER);
 }
 

@@ -1,8 +1,9 @@
 //! A pool over pages whose numbers have more than 32 bits: those of a file that is one hole but for what is written.
-use super::{ONE_REFUSED, Row, Said, alone, closes, pool_of, runs};
+use super::{ONE_REFUSED, Row, Said, closes, pool_of, runs};
 use std::alloc::Global;
 use std::fs::{self, File, Files};
 use std::process::Abort;
+use test_kit::alone;
 use warm_devices::{FileDevice, PageDevice};
 use warm_history::History;
 use warm_pool::PoolFault;
@@ -43,7 +44,8 @@ const ROWS: [Row<'static>; 16] = [
 // A pool of three frames over the device lives through the rows.
 fn lives_wide<D: PageDevice>(rt: &impl Abort, alloc: Global, device: D) {
     let history = History::new(alloc);
-    let mut pool = pool_of(rt, alloc, 3, 1, alone(rt, alloc, device));
+    let devices = alone(alloc, device).expect(rt, ONE_REFUSED);
+    let mut pool = pool_of(rt, alloc, 3, 1, devices);
     runs(rt, &mut pool, &history, &ROWS);
     closes(rt, pool);
 }
