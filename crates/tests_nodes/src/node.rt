@@ -97,33 +97,33 @@ fn says<D: PageDevice>(node: &mut Node<D>, call: Call) -> Said {
 
 // A frame of replica 1, by its horizon and what it holds.
 #[derive(Clone, Copy)]
-enum Sent<'a> {
+enum Sent {
     // All entries of the history of these references.
-    Entries(u64, &'a [SeenAt]),
+    Entries(u64, &'static [SeenAt]),
     // The sums of that history.
-    Sums(u64, &'a [SeenAt]),
+    Sums(u64, &'static [SeenAt]),
     // A request for the buckets of a mask.
     Request(u64, u64),
 }
 
 // What a call asks of a node, and what it answers. Pages are given by their number on device 0, and slots by their index and their
-// generation: plain numbers, since each call among the rows of a test is proved there.
+// generation: rows are constants, so that no call among them is proved.
 #[derive(Clone, Copy)]
-enum Row<'a> {
+enum Row {
     // References are absorbed.
-    Absorbs(&'a [SeenAt]),
+    Absorbs(&'static [SeenAt]),
     // A page is given a fix.
     Pins(u64, Said),
     // A fix is taken away.
     Unpins(u32, u64),
     // Bytes are written into the slot's page, from its beginning.
-    Writes(u32, u64, &'a [u8]),
+    Writes(u32, u64, &'static [u8]),
     // The slot's page begins with these bytes.
-    Reads(u32, u64, &'a [u8]),
+    Reads(u32, u64, &'static [u8]),
     // The page that leaves next.
     Victim(Option<u64>),
     // The hottest pages, as many as are given.
-    Hottest(&'a [u64]),
+    Hottest(&'static [u64]),
     // A step of the warm-up.
     Loads(Said),
     // The node is restarted.
@@ -131,11 +131,11 @@ enum Row<'a> {
     // All stamps before a time are forgotten, and this is the horizon afterwards.
     Forgets(u64, u64),
     // The horizon, and all pages known, with the time of the last stamp and that of the one before, or 0.
-    Knows(u64, &'a [(u64, u64, u64)]),
+    Knows(u64, &'static [(u64, u64, u64)]),
     // A frame is received, and answered by these.
-    Receives(Sent<'a>, &'a [Sent<'a>]),
+    Receives(Sent, &'static [Sent]),
     // It would be answered by these.
-    WouldAnswer(Sent<'a>, &'a [Sent<'a>]),
+    WouldAnswer(Sent, &'static [Sent]),
 }
 
 // All entries of a history.
@@ -144,7 +144,7 @@ fn entries_in(rt: &impl Abort, alloc: Global, history: &History) -> EntryList {
     EntryList::of(entries).ok().expect(rt, "the pages rise")
 }
 
-fn frame_of(rt: &impl Abort, alloc: Global, sent: Sent<'_>) -> Frame {
+fn frame_of(rt: &impl Abort, alloc: Global, sent: Sent) -> Frame {
     let sender = replica(1);
     match sent {
         Sent::Entries(horizon, known) => {
@@ -174,7 +174,7 @@ fn frame_of(rt: &impl Abort, alloc: Global, sent: Sent<'_>) -> Frame {
 }
 
 // The call that a row makes, and what is to be said to it.
-fn asked(rt: &impl Abort, alloc: Global, row: Row<'_>) -> (Call, Said) {
+fn asked(rt: &impl Abort, alloc: Global, row: Row) -> (Call, Said) {
     match row {
         Row::Absorbs(given) => {
             let batch = references(alloc, given).expect(rt, "room for the batch");
@@ -196,12 +196,7 @@ fn asked(rt: &impl Abort, alloc: Global, row: Row<'_>) -> (Call, Said) {
 }
 
 // Whether the call that a row makes is answered as it says.
-fn is_said<D: PageDevice>(
-    rt: &impl Abort,
-    alloc: Global,
-    node: &mut Node<D>,
-    row: Row<'_>,
-) -> bool {
+fn is_said<D: PageDevice>(rt: &impl Abort, alloc: Global, node: &mut Node<D>, row: Row) -> bool {
     let (call, wanted) = asked(rt, alloc, row);
     says(node, call) == wanted
 }
@@ -249,7 +244,7 @@ fn bytes_of(rt: &impl Abort, alloc: Global, frame: &Frame) -> Vec<u8> {
 }
 
 // Whether these are just the frames of replica 1 that are wanted, by their bytes.
-fn are_frames(rt: &impl Abort, alloc: Global, frames: &[Frame], wanted: &[Sent<'_>]) -> bool {
+fn are_frames(rt: &impl Abort, alloc: Global, frames: &[Frame], wanted: &[Sent]) -> bool {
     for (place, sent) in wanted.iter().enumerate() {
         let Some(frame) = frames.get(place) else {
             return false;
@@ -275,7 +270,7 @@ fn would_answer<D: PageDevice>(rt: &impl Abort, node: &mut Node<D>, frame: &Fram
 }
 
 // Makes the call of a row, and whether it is answered so.
-fn meets<D: PageDevice>(rt: &impl Abort, alloc: Global, node: &mut Node<D>, row: Row<'_>) -> bool {
+fn meets<D: PageDevice>(rt: &impl Abort, alloc: Global, node: &mut Node<D>, row: Row) -> bool {
     match row {
         Row::Knows(horizon, wanted) => knows(node.history(), horizon, wanted),
         Row::Reads(index, generation, wanted) => {
@@ -297,55 +292,56 @@ fn meets<D: PageDevice>(rt: &impl Abort, alloc: Global, node: &mut Node<D>, row:
 }
 
 // Makes the calls of the rows, in turn.
-fn runs<D: PageDevice>(rt: &impl Abort, alloc: Global, node: &mut Node<D>, rows: &[Row<'_>]) {
+fn runs<D: PageDevice>(rt: &impl Abort, alloc: Global, node: &mut Node<D>, rows: &[Row]) {
     for (at, row) in rows.iter().enumerate() {
         assert!(rt; meets(rt, alloc, node, *row), "row {at}");
     }
 }
 
 // The same of a fresh node.
-fn lives(rt: &impl Abort, alloc: Global, rows: &[Row<'_>]) {
+fn lives(rt: &impl Abort, alloc: Global, rows: &[Row]) {
     let mut node = fresh(rt, alloc, 1);
     runs(rt, alloc, &mut node, rows)
 }
 
 // A node over a box can be named by no type, so that it lives in a function that is generic in the device.
-fn lives_over<D: PageDevice>(rt: &impl Abort, alloc: Global, device: D, rows: &[Row<'_>]) {
+fn lives_over<D: PageDevice>(rt: &impl Abort, alloc: Global, device: D, rows: &[Row]) {
     let mut node = over(rt, alloc, 1, 1, device);
     runs(rt, alloc, &mut node, rows)
 }
 
 // The first call of the device fails: a warm-up step is refused, and then loads the page.
+const OVER_A_BOX: &[Row] = &[
+    Row::Absorbs(&[(0, 1, 1, 1), (0, 1, 2, 1)]),
+    Row::Loads(READ_FAULT),
+    Row::Loads(Said::Loaded(Some(1))),
+    Row::Loads(Said::Loaded(None)),
+    Row::Pins(8, NO_PAGE),
+    Row::Pins(1, Said::Pinned(0, 1)),
+    Row::Writes(0, 1, &[0xCA, 0xFE]),
+    Row::Victim(None),
+    // Page 2 is now the hottest, and has no frame to come into.
+    Row::Absorbs(&[(0, 2, 3, 1), (0, 2, 4, 1)]),
+    Row::Hottest(&[2, 1]),
+    Row::Loads(ALL_FIXED),
+    Row::Unpins(0, 1),
+    Row::Victim(Some(1)),
+    Row::Loads(Said::Loaded(Some(2))),
+    Row::Pins(1, Said::Pinned(0, 3)),
+    Row::Reads(0, 3, &[0xCA, 0xFE]),
+    Row::Unpins(0, 3),
+    Row::Forgets(2, 2),
+    Row::Knows(2, &[(1, 2, 0), (2, 4, 3)]),
+    Row::Restarts,
+    Row::Knows(0, &[]),
+    Row::Pins(1, Said::Pinned(0, 4)),
+    Row::Reads(0, 4, &[0xCA, 0xFE]),
+];
+
 #[test]
 fn a_node_lives_over_a_boxed_device(rt: HostRuntime) {
-    let rows = [
-        Row::Absorbs(&[(0, 1, 1, 1), (0, 1, 2, 1)]),
-        Row::Loads(READ_FAULT),
-        Row::Loads(Said::Loaded(Some(1))),
-        Row::Loads(Said::Loaded(None)),
-        Row::Pins(8, NO_PAGE),
-        Row::Pins(1, Said::Pinned(0, 1)),
-        Row::Writes(0, 1, &[0xCA, 0xFE]),
-        Row::Victim(None),
-        // Page 2 is now the hottest, and has no frame to come into.
-        Row::Absorbs(&[(0, 2, 3, 1), (0, 2, 4, 1)]),
-        Row::Hottest(&[2, 1]),
-        Row::Loads(ALL_FIXED),
-        Row::Unpins(0, 1),
-        Row::Victim(Some(1)),
-        Row::Loads(Said::Loaded(Some(2))),
-        Row::Pins(1, Said::Pinned(0, 3)),
-        Row::Reads(0, 3, &[0xCA, 0xFE]),
-        Row::Unpins(0, 3),
-        Row::Forgets(2, 2),
-        Row::Knows(2, &[(1, 2, 0), (2, 4, 3)]),
-        Row::Restarts,
-        Row::Knows(0, &[]),
-        Row::Pins(1, Said::Pinned(0, 4)),
-        Row::Reads(0, 4, &[0xCA, 0xFE]),
-    ];
     let alloc = rt.alloc();
     let device = flaky(alloc, 8, 1).expect(&rt, "room for a device");
     let device: Box<dyn PageDevice + Send> = Box::new(alloc, device).expect(&rt, "room for a box");
-    lives_over(&rt, alloc, device, &rows)
+    lives_over(&rt, alloc, device, OVER_A_BOX)
 }

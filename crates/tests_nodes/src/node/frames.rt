@@ -102,7 +102,7 @@ fn wide(number: [u8; 8]) -> [u8; 54] {
 }
 
 // An empty node receives these bytes, and then lives through the rows.
-fn takes(rt: &impl Abort, alloc: Global, bytes: &[u8], rows: &[Row<'_>]) {
+fn takes(rt: &impl Abort, alloc: Global, bytes: &[u8], rows: &[Row]) {
     let mut node = fresh(rt, alloc, 2);
     let frame = decode(alloc, bytes)
         .ok()
@@ -110,6 +110,21 @@ fn takes(rt: &impl Abort, alloc: Global, bytes: &[u8], rows: &[Row<'_>]) {
     assert!(rt; answers(rt, &mut node, frame).as_slice().is_empty());
     runs(rt, alloc, &mut node, rows)
 }
+
+// Numbers beyond 32 bits: no device has such a page to load.
+const FIRST_WIDE: &[Row] = &[
+    Row::Knows(12, &[(4_294_967_296, 20, 0)]),
+    Row::Hottest(&[4_294_967_296]),
+    Row::Pins(4_294_967_296, NO_PAGE),
+    Row::Loads(Said::Loaded(None)),
+];
+
+const LAST_WIDE: &[Row] = &[
+    Row::Knows(12, &[(u64::MAX, 20, 0)]),
+    Row::Hottest(&[u64::MAX]),
+    Row::Pins(u64::MAX, NO_PAGE),
+    Row::Loads(Said::Loaded(None)),
+];
 
 #[test]
 fn frames_of_both_formats_are_received(rt: HostRuntime) {
@@ -121,20 +136,6 @@ fn frames_of_both_formats_are_received(rt: HostRuntime) {
         &wide([0, 0, 0, 0, 0, 0, 0, 7]),
         &[Row::Knows(12, &[(7, 20, 0)])],
     );
-}
-
-// The first page number of more than 32 bits, and the last one: no device has such a page to load.
-#[test]
-fn page_numbers_have_64_bits(rt: HostRuntime) {
-    let first = ([0u8, 0, 0, 1, 0, 0, 0, 0], 4_294_967_296u64);
-    let last = ([255u8; 8], u64::MAX);
-    for (bytes, number) in [first, last] {
-        let rows = [
-            Row::Knows(12, &[(number, 20, 0)]),
-            Row::Hottest(&[number]),
-            Row::Pins(number, NO_PAGE),
-            Row::Loads(Said::Loaded(None)),
-        ];
-        takes(&rt, rt.alloc(), &wide(bytes), &rows);
-    }
+    takes(&rt, alloc, &wide([0, 0, 0, 1, 0, 0, 0, 0]), FIRST_WIDE);
+    takes(&rt, alloc, &wide([255; 8]), LAST_WIDE);
 }
