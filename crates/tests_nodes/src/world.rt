@@ -7,7 +7,6 @@ use std::alloc::Global;
 use std::process::Abort;
 use test_kit::{alone, bucket, entry, memory, page, twice};
 use warm_devices::{MemDevice, PageDevice};
-use warm_history::History;
 use warm_world::{Answer, BadSetup, BadWorld, Event, Setup, World};
 
 // Two devices, each in a list of its own.
@@ -58,46 +57,49 @@ fn exchange(rt: &impl Abort, alloc: Global) -> Vec<Event> {
     .expect(rt, "room for the events")
 }
 
-// Whether a history is of 0:1 with 30@2 and 20@1 alone.
-fn is_of_both(history: &History) -> bool {
-    history.len() == 1 && history.at(0) == Some(entry(page(1), twice((30, 2), (20, 1))))
+// How many answers are Done.
+fn done_in(answers: &[Answer]) -> u64 {
+    let mut done = 0u64;
+    for answer in answers {
+        if let Answer::Done = answer {
+            done = done.wrapping_add(1);
+        }
+    }
+    done
 }
 
-// The first six events are Done, the frames are numbered, and nothing is answered to them.
-fn are_exchanged(answers: &[Answer]) -> bool {
-    let [
-        Answer::Done,
-        Answer::Done,
-        Answer::Done,
-        Answer::Done,
-        Answer::Done,
-        Answer::Done,
-        Answer::FrameNo(one),
-        Answer::FrameNo(two),
-        Answer::Took { count: none, .. },
-        Answer::Took {
-            count: also_none,
-            ..
-        },
-        Answer::Shown(first),
-        Answer::Shown(second),
-    ] = answers
-    else {
-        return false;
-    };
-    *one == 1
-        && *two == 2
-        && *none == 0
-        && *also_none == 0
-        && is_of_both(first)
-        && is_of_both(second)
+fn is_frame(answer: Option<&Answer>, wanted: u64) -> bool {
+    match answer {
+        Some(Answer::FrameNo(number)) => *number == wanted,
+        _ => false,
+    }
+}
+
+fn is_unanswered(answer: Option<&Answer>) -> bool {
+    match answer {
+        Some(Answer::Took { count, .. }) => *count == 0,
+        _ => false,
+    }
+}
+
+// Whether a history of 0:1 alone is shown, with 30@2 and 20@1.
+fn shows_both(answer: Option<&Answer>) -> bool {
+    match answer {
+        Some(Answer::Shown(history)) => {
+            history.len() == 1 && history.at(0) == Some(entry(page(1), twice((30, 2), (20, 1))))
+        }
+        _ => false,
+    }
 }
 
 #[test]
 fn replicas_exchange_a_page_in_one_run(rt: HostRuntime) {
     let mut world = fresh(&rt, rt.alloc());
     let answers = answers(&rt, &mut world, exchange(&rt, rt.alloc()));
-    assert!(rt; are_exchanged(answers.as_slice()));
+    assert!(rt; answers.len() == 12 && done_in(answers.as_slice()) == 6);
+    assert!(rt; is_frame(answers.get(6), 1) && is_frame(answers.get(7), 2));
+    assert!(rt; is_unanswered(answers.get(8)) && is_unanswered(answers.get(9)));
+    assert!(rt; shows_both(answers.get(10)) && shows_both(answers.get(11)));
 }
 
 // References to 10,000 pages in turn, one at each time; then a flush and the warm-up list.
@@ -121,14 +123,10 @@ fn are_of_all(answers: &[Answer]) -> bool {
     let Some(Answer::Pages(pages)) = answers.last() else {
         return false;
     };
-    let mut done = 0u64;
-    for answer in answers {
-        if let Answer::Done = answer {
-            done = done.wrapping_add(1);
-        }
-    }
     let pages = pages.as_slice();
-    done == 70_001 && pages.len() == 10_000 && pages.first().copied() == Some(page(9_999))
+    done_in(answers) == 70_001
+        && pages.len() == 10_000
+        && pages.first().copied() == Some(page(9_999))
 }
 
 // No clause forbids that memory is said to be wanting while there is plenty, so a long list is run. Each page is referenced seven
