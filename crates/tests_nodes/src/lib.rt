@@ -1,8 +1,5 @@
-//! The rows of warm_gossip and warm_world, run: what a node answers, what a world of nodes answers to events, and what a
-//! refused growth leaves of each.
-//!
-//! They stand in a crate of their own, over public calls alone, so that the gate proves those two once
-//! and not again beside their tests; and together, since each crate of rows costs it the load of what stands below.
+//! Tests of warm_gossip and warm_world, over public calls alone: what one node answers, and what a world of nodes answers to lists of
+//! events. Schedules played through a world are in tests_plays; allocations that fail are in refused_memory and refused_worlds.
 #![tactic(auto)]
 
 #[cfg(test)]

@@ -1,115 +1,79 @@
-//! Lines of a schedule, read one by one; worked out by hand from docs/FORMATS.md.
+//! Lines of schedules: how they are counted and parted, the ranges of their numbers, and how long they may be.
+use crate::player::{add, answers_of, default_setup, each_prints};
 use std::alloc::Global;
 use std::process::Abort;
-use warm_schedule::{Line, LineFault, WorkerLine, parse_line, parse_worker_line};
-use warm_stamps::PageId;
+use warm_world::Setup;
 
-fn is_bad(alloc: Global, line: &[u8]) -> bool {
-    matches!(parse_line(alloc, line), Err(LineFault::Bad))
-}
-
-fn is_nothing(alloc: Global, line: &[u8]) -> bool {
-    matches!(parse_line(alloc, line), Ok(Line::Nothing))
-}
-
-// The limit is parse_line's own, whatever a player keeps of a line.
-#[test]
-fn a_line_has_a_greatest_length(rt: HostRuntime) {
-    let comment = vec![in rt.alloc(); b'#'; 262145].expect(&rt, "room for a line");
-    assert!(rt; is_nothing(rt.alloc(), &comment.as_slice()[1..]));
-    assert!(rt; is_bad(rt.alloc(), comment.as_slice()));
-}
-
-fn is_named(fault: LineFault, code: u8, name: &str) -> bool {
-    fault.code() == code && fault.name() == name
-}
-
-#[test]
-fn a_line_fault_has_its_number_and_name(rt: HostRuntime) {
-    assert!(rt; is_bad(rt.alloc(), b"foo"));
-    assert!(rt; is_named(LineFault::Bad, 2, "Bad"));
-    assert!(rt; is_named(LineFault::Memory, 1, "Memory"));
-}
-
-fn asks(line: &[u8], want: WorkerLine) -> bool {
-    parse_worker_line(line) == Some(Some(want))
-}
-
-// Whether a line is blank or a comment.
-fn is_blank(line: &[u8]) -> bool {
-    matches!(parse_worker_line(line), Some(None))
-}
-
-#[test]
-fn a_line_asks_something_of_a_worker(rt: HostRuntime) {
-    let page = PageId { dev: 3, no: 4 };
-    let touches = WorkerLine {
-        replica: 1,
-        worker: 2,
-        reference: Some((page, 5)),
-    };
-    assert!(rt; asks(b"ref 1 2 3:4 5", touches));
-    let last = PageId {
-        dev: 65535,
-        no: 18446744073709551615,
-    };
-    let touches_last = WorkerLine {
-        replica: 1,
-        worker: 2,
-        reference: Some((last, 5)),
-    };
-    assert!(rt; asks(b"ref 1 2 65535:18446744073709551615 5", touches_last));
-    let flushes = WorkerLine {
-        replica: 65535,
-        worker: 0,
-        reference: None,
-    };
-    assert!(rt; asks(b"  flush  65535 000 ", flushes));
-    assert!(rt; is_blank(b""));
-    assert!(rt; is_blank(b"   "));
-    assert!(rt; is_blank(b"#"));
-    assert!(rt; is_blank(b" # ref 1 2 3:4 5"));
-}
-
-// Lines that ask nothing of a worker.
-const OTHERS: [&str; 27] = [
-    "flush",
-    "flush 1",
-    "flush 1 2 3",
-    "flush 65536 1",
-    "flush 1 65536",
-    "ref 1 2 3:4",
-    "ref 1 2 3:4 5 6",
-    "ref 1 2 34 5",
-    "ref 65536 2 3:4 5",
-    "ref 1 2 3:4 18446744073709551616",
-    "ref 1 2 3:18446744073709551616 5",
-    "Ref 1 2 3:4 5",
-    "ref#",
-    "word",
-    "send 1 63",
-    "offer 1",
-    "deliver 1 2",
-    "pin 1 3:4",
-    "unpin 1 2.3",
-    "put 1 2.3 4 5A",
-    "get 1 2.3 4 5",
-    "victim 1",
-    "warm 1 2",
-    "warmstep 1",
-    "restart 1",
-    "horizon 1 5",
-    "show 1",
+const READ: [(&str, &str); 7] = [
+    // blank lines and comments are counted and print nothing
+    ("\n   \n# x\n  #show 1\nbad", "bad line 5\n"),
+    // spaces at either end and between words, and leading zeros, count for nothing
+    (
+        "  show   001  \nref 1 1 00:0007 0\nflush 1 1\nshow 1\n  horizon  001  007  ",
+        "end 0\nok\nok\n0:7 last 0@1\nend 1\nhorizon 7\n",
+    ),
+    // every other byte is part of a word
+    (
+        "show 1\r\n\r\nshow\t1\nshow 1\0\n\0\n#\r\0\n",
+        "bad line 1\nbad line 2\nbad line 3\nbad line 4\nbad line 5\n",
+    ),
+    // the greatest numbers
+    (
+        "deliver 65535 18446744073709551615\nwarm 1 4294967295\nref 1 1 65535:18446744073709551615 1\nflush 1 1\nshow 1",
+        "refused 14 NoSuchReplica\npages\nok\nok\n65535:18446744073709551615 last 1@1\nend 1\n",
+    ),
+    (
+        "get 1 4294967295.18446744073709551615 4294967295 4294967295\npin 1 0:1\nget 1 0.1 4294967295 4294967295\n",
+        "refused 13 StaleSlot\nslot 0.1\nrefused 10 OutOfPage\n",
+    ),
+    // digits of either case, and every byte of a page, and one byte more
+    (
+        "pin 1 0:1\nput 1 0.1 0 000102030405060708090a0B0c0D0eFf\nget 1 0.1 0 16\nput 1 0.1 1 000102030405060708090a0B0c0D0eFf\n",
+        "slot 0.1\nok\nbytes 000102030405060708090a0b0c0d0eff\nrefused 10 OutOfPage\n",
+    ),
+    // words, numbers, pages and slots that are none, beside those that are computed with the grammar
+    (
+        "Show 1\nshow\nshow 1 1\nshow +1\nshow -1\nshow 1.0\nshow 0x1\nwarm 1 4294967296\nref 1 1 0 1\nref 1 1 :1 1\nref 1 1 0: 1\n\
+         send 1 1 0:1 0:2\nunpin 1 .1\nunpin 1 0.18446744073709551616\nget 1 0.1 0\nhorizons 1 5\n",
+        "bad line 1\nbad line 2\nbad line 3\nbad line 4\nbad line 5\nbad line 6\nbad line 7\nbad line 8\nbad line 9\nbad line 10\n\
+         bad line 11\nbad line 12\nbad line 13\nbad line 14\nbad line 15\nbad line 16\n",
+    ),
 ];
 
-// Sees that none of these lines asks something of a worker.
-fn ask_nothing(rt: &impl Abort, lines: &[&str]) {
-    for line in lines {
-        assert!(rt; parse_worker_line(line.as_bytes()) == None, "{line}");
-    }
+#[test]
+fn lines_are_read_as_the_language_has_them(rt: HostRuntime) {
+    each_prints(&rt, rt.alloc(), 4, &READ);
+    let one = Setup::new(1, 2, 64, 4, 16).expect(&rt, "a setup");
+    let answers = answers_of(
+        &rt,
+        rt.alloc(),
+        one,
+        b"ref 2 1 0:1 5\nflush 1 3\n# x\nbad\n",
+    );
+    let want = "refused 14 NoSuchReplica\nrefused 15 NoSuchWorker\nbad line 4\n";
+    assert!(rt; answers.as_slice() == want.as_bytes());
 }
 
+// Whether a line of so many bytes like the first one prints this, with the line after it.
+fn long_line_prints(rt: &impl Abort, alloc: Global, first: u8, length: usize, want: &str) -> bool {
+    let mut schedule = vec![in alloc; first; length].expect(rt, "room for a line");
+    add(rt, &mut schedule, 1, b"\nshow 1\n");
+    let answers = answers_of(rt, alloc, default_setup(), schedule.as_slice());
+    answers.as_slice() == want.as_bytes()
+}
+
+// A line of 262,144 bytes is read, and of one more it is bad, whatever it begins with.
 #[test]
-fn other_lines_ask_nothing_of_a_worker(rt: HostRuntime) {
-    ask_nothing(&rt, &OTHERS);
+fn an_over_long_line_is_bad(rt: HostRuntime) {
+    let bad = "bad line 1\nend 0\n";
+    let rows = [
+        (b'a', 262144, bad),
+        (b'a', 262145, bad),
+        (b'#', 262144, "end 0\n"),
+        (b'#', 262145, bad),
+        (b' ', 262145, bad),
+    ];
+    for (first, length, want) in rows {
+        assert!(rt; long_line_prints(&rt, rt.alloc(), first, length, want));
+    }
 }

@@ -1,3 +1,4 @@
+//! How a run ends: its exit status, and its line on standard error.
 use std::alloc::Global;
 use std::process::Abort;
 use warm_play_fault::PlayFault;
@@ -20,78 +21,57 @@ fn tells(
     outcome.status == status && line.as_slice() == want.as_bytes()
 }
 
-#[test]
-fn a_played_schedule_says_nothing(rt: HostRuntime) {
-    assert!(rt; tells(&rt, rt.alloc(), &Ok(()), 0, ""));
-}
-
-// Whether a run that this fault ends has this status and says this line.
+// The same of a run that this fault ends.
 fn ends(rt: &impl Abort, alloc: Global, fault: RunFault, status: u8, want: &str) -> bool {
     tells(rt, alloc, &Err(fault), status, want)
 }
 
+const SETUPS: [(SetupFault, &str); 4] = [
+    (SetupFault::Memory, "warmplay: setup: Memory\n"),
+    (SetupFault::NotToml, "warmplay: setup: NotToml\n"),
+    (SetupFault::BadKey, "warmplay: setup: BadKey\n"),
+    (SetupFault::BadValue, "warmplay: setup: BadValue\n"),
+];
+
+const PLAYS: [(PlayFault, &str); 6] = [
+    (PlayFault::Memory, "warmplay: Memory\n"),
+    (PlayFault::ReadFault, "warmplay: ReadFault\n"),
+    (PlayFault::WriteFault, "warmplay: WriteFault\n"),
+    (PlayFault::BadLine(7), "warmplay: BadLine 7\n"),
+    (PlayFault::NoThread, "warmplay: NoThread\n"),
+    (PlayFault::BadDevices, "warmplay: BadDevices\n"),
+];
+
 #[test]
-fn a_file_is_named(rt: HostRuntime) {
-    let name = PathText::copied_from(rt.alloc(), "no/such file").expect(&rt, "room");
+fn a_run_says_why_it_ends(rt: HostRuntime) {
+    let alloc = rt.alloc();
+    assert!(rt; tells(&rt, alloc, &Ok(()), 0, ""));
+    let name = PathText::copied_from(alloc, "no/such file").expect(&rt, "room");
     let want = "warmplay: cannot open no/such file\n";
-    assert!(rt; ends(&rt, rt.alloc(), RunFault::CannotOpen(name), 1, want));
+    assert!(rt; ends(&rt, alloc, RunFault::CannotOpen(name), 1, want));
+    for (fault, want) in SETUPS {
+        assert!(rt; ends(&rt, alloc, RunFault::Setup(fault), 2, want));
+    }
+    for (fault, want) in PLAYS {
+        assert!(rt; ends(&rt, alloc, RunFault::Play(fault), 1, want));
+    }
 }
 
-fn setup_ends(rt: &impl Abort, alloc: Global, fault: SetupFault, want: &str) -> bool {
-    ends(rt, alloc, RunFault::Setup(fault), 2, want)
-}
-
-#[test]
-fn a_setup_fault_is_named(rt: HostRuntime) {
-    let memory = "warmplay: setup: Memory\n";
-    assert!(rt; setup_ends(&rt, rt.alloc(), SetupFault::Memory, memory));
-    let not_toml = "warmplay: setup: NotToml\n";
-    assert!(rt; setup_ends(&rt, rt.alloc(), SetupFault::NotToml, not_toml));
-    let bad_key = "warmplay: setup: BadKey\n";
-    assert!(rt; setup_ends(&rt, rt.alloc(), SetupFault::BadKey, bad_key));
-    let bad_value = "warmplay: setup: BadValue\n";
-    assert!(rt; setup_ends(&rt, rt.alloc(), SetupFault::BadValue, bad_value));
-}
-
-fn play_ends(rt: &impl Abort, alloc: Global, fault: PlayFault, want: &str) -> bool {
-    ends(rt, alloc, RunFault::Play(fault), 1, want)
-}
-
-#[test]
-fn a_play_fault_is_named(rt: HostRuntime) {
-    let memory = "warmplay: Memory\n";
-    assert!(rt; play_ends(&rt, rt.alloc(), PlayFault::Memory, memory));
-    let read_fault = "warmplay: ReadFault\n";
-    assert!(rt; play_ends(&rt, rt.alloc(), PlayFault::ReadFault, read_fault));
-    let write_fault = "warmplay: WriteFault\n";
-    assert!(rt; play_ends(&rt, rt.alloc(), PlayFault::WriteFault, write_fault));
-    let bad_line = "warmplay: BadLine 7\n";
-    assert!(rt; play_ends(&rt, rt.alloc(), PlayFault::BadLine(7), bad_line));
-    let no_thread = "warmplay: NoThread\n";
-    assert!(rt; play_ends(&rt, rt.alloc(), PlayFault::NoThread, no_thread));
-    let bad_devices = "warmplay: BadDevices\n";
-    assert!(rt; play_ends(&rt, rt.alloc(), PlayFault::BadDevices, bad_devices));
-}
-
-fn command_ends(rt: &impl Abort, alloc: Global, fault: CmdFault, status: u8, want: &str) -> bool {
-    ends(rt, alloc, RunFault::Command(fault), status, want)
-}
-
-// Whether this word is refused with this status, and with no line of the run's own.
+// Whether a run with this word is refused with this status, and with no line of its own.
 fn refuses(rt: &impl Abort, alloc: Global, word: &str, status: u8) -> bool {
-    let words = ["warmplay", word];
-    let fault = command_of(alloc, words.as_slice())
+    let fault = command_of(alloc, ["warmplay", word].as_slice())
         .err()
         .expect(rt, "a word that is refused");
-    command_ends(rt, alloc, fault, status, "")
+    ends(rt, alloc, RunFault::Command(fault), status, "")
 }
 
 #[test]
 fn refused_words_have_status_2_and_help_0(rt: HostRuntime) {
-    assert!(rt; refuses(&rt, rt.alloc(), "--help", 0));
-    assert!(rt; refuses(&rt, rt.alloc(), "help", 0));
-    assert!(rt; refuses(&rt, rt.alloc(), "threads", 2));
-    assert!(rt; command_ends(&rt, rt.alloc(), not_text(rt.alloc()), 2, ""));
-    let memory = "warmplay: Memory\n";
-    assert!(rt; command_ends(&rt, rt.alloc(), CmdFault::Memory, 1, memory));
+    let alloc = rt.alloc();
+    for (word, status) in [("--help", 0), ("help", 0), ("threads", 2)] {
+        assert!(rt; refuses(&rt, alloc, word, status));
+    }
+    assert!(rt; ends(&rt, alloc, RunFault::Command(not_text(alloc)), 2, ""));
+    let memory = RunFault::Command(CmdFault::Memory);
+    assert!(rt; ends(&rt, alloc, memory, 1, "warmplay: Memory\n"));
 }

@@ -1,8 +1,5 @@
-//! The rows of warm_turn, warm_replica and warm_threads, run: a counter that passes and threads share; workers, jobs in threads
-//! of their own, and mail; and schedules that are played by threads.
-//!
-//! They stand in a crate of their own, over public calls alone, so that the gate proves those three once
-//! and not again beside their tests; and together, since each crate of rows costs it the load of what stands below.
+//! Tests of warm_turn, warm_replica and warm_threads, over public calls alone: a counter that threads share; workers, jobs in threads
+//! of their own, and mail; and schedules played by threads. Allocations that fail are in refused_memory.
 #![tactic(auto)]
 
 #[cfg(test)]

@@ -1,39 +1,41 @@
-//! Machines and workers that the rows begin with.
+//! Nodes, turns and workers that the tests begin with, a bounded wait, and lists of replies.
 ghost use Rattle.std.specs.Prelude.{◌≡◌};
 
 use std::alloc::Global;
 use std::process::Abort;
+use std::sync::atomic::{AtomicU64, Ordering};
+use std::thread;
+use std::time::{Clock, Duration};
+use test_kit::{alone, memory, replica};
 use warm_devices::{MemDevice, PageDevice};
 use warm_gossip::{Node, Reply};
 use warm_pool::Pool;
 use warm_refbuffer::RefBuffer;
 use warm_replica::{Absorbing, Replies, StepReply, Worker};
-use warm_stamps::{PageId, PageList, Reference, ReplicaId, Stamp};
+use warm_stamps::PageList;
 use warm_turn::{Pass, Turn};
 
-// A node of so many frames over a device with pages of 16 bytes.
+// A node of replica 1 with so many frames.
 pub(crate) fn over<D: PageDevice>(
     rt: &impl Abort,
     alloc: Global,
     frames: usize,
     device: D,
 ) -> Node<D> {
-    let id = replica_of(rt, 1);
-    let mut devices = Vec::with_capacity(alloc, 1).expect(rt, "room for a device");
-    devices.push_reserved(device);
+    let devices = alone(alloc, device).expect(rt, "room for a list");
     match Pool::new(alloc, frames, 16, devices) {
-        Ok(pool) => Node::new(alloc, id, pool),
+        Ok(pool) => Node::new(alloc, replica(1), pool),
         Err(_) => panic!(rt; "no pool"),
     }
 }
 
 // A node of two frames over a device of 8 pages.
 pub(crate) fn fresh(rt: &impl Abort, alloc: Global) -> Node<MemDevice> {
-    let memory = MemDevice::new(alloc, 8, 16).expect(rt, "room for its pages");
-    over(rt, alloc, 2, memory)
+    let device = memory(alloc, 8).expect(rt, "room for a device");
+    over(rt, alloc, 2, device)
 }
 
-// A replica over this machine, and its first pass.
+// A turn over this machine, and its first pass.
 pub(crate) fn turn_over<M: Absorbing + Drop>(
     rt: &impl Abort,
     alloc: Global,
@@ -44,34 +46,28 @@ pub(crate) fn turn_over<M: Absorbing + Drop>(
     Turn::new(alloc, machine).ok().expect(rt, "room for a turn")
 }
 
-// The same, and a worker with room for so many references.
+// The same, and a worker whose buffer holds two references.
 pub(crate) fn opened<M: Absorbing + Drop>(
     rt: &impl Abort,
     alloc: Global,
     machine: M,
-    cap: usize,
 ) -> (Turn<M>, Worker<M>)
     ensures { result.1.pass.table ≡ result.0.table }
 {
-    let buffer = RefBuffer::new(alloc, cap).expect(rt, "room for references");
-    let (replica, pass) = turn_over(rt, alloc, machine);
-    (replica, Worker::new(pass, buffer))
+    let buffer = RefBuffer::new(alloc, 2).expect(rt, "room for references");
+    let (turn, pass) = turn_over(rt, alloc, machine);
+    (turn, Worker::new(pass, buffer))
 }
 
-// The replica of this number.
-pub(crate) fn replica_of(rt: &impl Abort, number: u16) -> ReplicaId {
-    ReplicaId::new(number).expect(rt, "the number is of a replica")
-}
-
-// Page `no` of device 0, touched by replica 1 at this time.
-pub(crate) fn reference(rt: &impl Abort, no: u64, time: u64) -> Reference {
-    Reference {
-        page: PageId { dev: 0, no },
-        stamp: Stamp {
-            time,
-            replica: replica_of(rt, 1),
-        },
+// Whether a word comes to this value: it is looked at 10,000 times at most, a millisecond apart.
+pub(crate) fn comes<C: Clock>(clock: &C, word: &AtomicU64, wanted: u64) -> bool {
+    for _ in 0..10_000 {
+        if word.load(Ordering::SeqCst) == wanted {
+            return true;
+        }
+        thread::sleep(clock, Duration::from_millis(1));
     }
+    false
 }
 
 // The pages of such an answer.

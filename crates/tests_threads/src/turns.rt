@@ -1,26 +1,23 @@
-//! The worked rows of a counter, passes in threads of their own, and want of memory.
+//! A turn over a counter: its passes in one thread and in four, the greatest total, and what its refusals print.
 ghost use Rattle.std.specs.Prelude.{◌≡◌, Some};
 
-use std::alloc::{AllocError, Global};
+use crate::setup::comes;
+use std::alloc::Global;
+use std::fmt;
 use std::process::Abort;
 use std::sync::Wait;
 use std::sync::atomic::{AtomicU64, Ordering};
 use std::thread::{Threads, join};
-use std::time::{Clock, Duration};
-use std::{fmt, thread};
+use std::time::Clock;
 use warm_turn::{Add, Added, Busy, Counter, Machine, Memory, Pass, Turn, TurnsSpent};
 
-// A turn over a counter at this total. A growth that is refused hands the machine back, and is tried again.
+// A turn over a counter at this total.
 fn counter_at(rt: &impl Abort, alloc: Global, total: u64) -> (Turn<Counter>, Pass<Counter>)
     ensures { result.1.table ≡ result.0.table }
 {
-    match Turn::new(alloc, Counter { total }) {
-        Ok(opened) => opened,
-        Err(refused) => {
-            assert!(rt; refused.code() == 1 && refused.name() == "Memory");
-            Turn::new(alloc, refused.machine).expect(rt, "room for a turn")
-        }
-    }
+    Turn::new(alloc, Counter { total })
+        .ok()
+        .expect(rt, "room for a turn")
 }
 
 // What code can know that was handed a turn and a pass of it, and is told no more.
@@ -96,55 +93,26 @@ fn a_full_counter_stays(rt: HostRuntime) {
     );
 }
 
-// Says nothing of memory: run with each growth refused in turn by `rt try --test --fail-alloc 1..`.
-#[test]
-fn a_refused_growth_hands_the_machine_back(rt: HostRuntime) {
-    let (turn, pass) = counter_at(&rt, rt.alloc(), 41);
-    assert!(rt; closed(&rt, turn, pass) == 41);
-}
-
-fn text_of(
-    alloc: Global,
-    code: u8,
-    name: &str,
-    refusal: &impl fmt::Display,
-) -> Result<String, AllocError> {
-    format!(in alloc; "{code} {name}: {refusal}")
-}
-
-// Whether this is the number of the refusal, its name and what it prints. One growth that is refused is tried again.
-fn says(
-    rt: &impl Abort,
-    alloc: Global,
-    code: u8,
-    name: &str,
-    refusal: &impl fmt::Display,
-    want: &str,
-) -> bool {
-    let text = match text_of(alloc, code, name, refusal) {
-        Ok(text) => text,
-        Err(_) => text_of(alloc, code, name, refusal).expect(rt, "room for a text"),
-    };
+// Whether this is what a refusal prints.
+fn prints(rt: &impl Abort, alloc: Global, refusal: &impl fmt::Display, want: &str) -> bool {
+    let text = format!(in alloc; "{refusal}").expect(rt, "room for a text");
     text.as_str() == want
 }
 
 #[test]
 fn refusals_say_what_they_are(rt: HostRuntime) {
-    let alloc = rt.alloc();
     let memory = Memory {
         machine: Counter { total: 3 },
     };
-    let want = "1 Memory: no memory was left for a turn";
-    assert!(rt; says(&rt, alloc, memory.code(), memory.name(), &memory, want));
     let spent = TurnsSpent { call: Add(1) };
-    let want = "2 TurnsSpent: no ticket is left for a call";
-    assert!(rt; says(&rt, alloc, spent.code(), spent.name(), &spent, want));
     let busy = Busy {
         ticket: 8,
         serving: 7,
     };
-    let want = "3 Busy: ticket 8 is next, and ticket 7 is still served";
-    assert!(rt; says(&rt, alloc, busy.code(), busy.name(), &busy, want));
+    let want = "ticket 8 is next, and ticket 7 is still served";
+    assert!(rt; prints(&rt, rt.alloc(), &memory, "no memory was left for a turn"));
+    assert!(rt; prints(&rt, rt.alloc(), &spent, "no ticket is left for a call"));
+    assert!(rt; prints(&rt, rt.alloc(), &busy, want));
 }
 
 // What holds two threads back until two others are done.
@@ -152,26 +120,6 @@ fn refusals_say_what_they_are(rt: HostRuntime) {
 struct Gate {
     open: AtomicU64,
     late: AtomicU64,
-}
-
-impl Gate {
-    fn shut() -> Gate {
-        Gate {
-            open: AtomicU64::new(0),
-            late: AtomicU64::new(0),
-        }
-    }
-
-    // Looks at most 10,000 times, a millisecond apart.
-    fn wait<R: Clock>(&self, rt: &R) {
-        for _ in 0..10_000 {
-            if self.open.load(Ordering::SeqCst) == 1 {
-                return;
-            }
-            thread::sleep(rt, Duration::from_millis(1));
-        }
-        self.late.store(1, Ordering::SeqCst);
-    }
 }
 
 // Adds one, and looks at no reply.
@@ -198,7 +146,9 @@ fn add_thrice<M: Machine<Call = Add, Reply = Added>, R: Wait + Clock>(
 {
     add_one(rt, turn, &mut pass);
     if let Some(gate) = gate {
-        gate.wait(rt);
+        if !comes(rt, &gate.open, 1) {
+            gate.late.store(1, Ordering::SeqCst);
+        }
     }
     add_one(rt, turn, &mut pass);
     add_one(rt, turn, &mut pass);
@@ -268,7 +218,10 @@ fn add_in_four_threads<R: Threads + Wait + Clock + Sync>(
 // Two passes are ended while two others still call.
 #[test]
 fn four_threads_count_to_twelve(rt: HostRuntime) {
-    let gate = Gate::shut();
+    let gate = Gate {
+        open: AtomicU64::new(0),
+        late: AtomicU64::new(0),
+    };
     let (turn, first) = counter_at(&rt, rt.alloc(), 0);
     let first = add_in_four_threads(&rt, &turn, first, &gate);
     assert!(rt; closed(&rt, turn, first) == 12 && gate.late.load(Ordering::SeqCst) == 0);

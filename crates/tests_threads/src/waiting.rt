@@ -1,18 +1,16 @@
 //! A page is read while another thread touches what it has referenced: a touch waits for nobody.
 use crate::jobs::ran;
-use crate::setup::{list_of, over, reference};
+use crate::setup::{comes, list_of, over};
 use std::alloc::Global;
 use std::process::Abort;
 use std::sync::atomic::{AtomicU64, Ordering};
 use std::sync::{Arc, Wait};
-use std::thread;
 use std::thread::Threads;
-use std::time::{Clock, Duration};
-use warm_devices::{DeviceFault, MemDevice, PageDevice};
+use std::time::Clock;
+use test_kit::{Hooked, Hooks, memory, page, seen};
 use warm_gossip::{Call, Reply};
 use warm_pool::Slot;
 use warm_replica::{Absorbing, BoxedCall, Gate, Job, Replies, Step, StepReply};
-use warm_stamps::PageId;
 
 // What two threads show each other.
 #[derive(Drop)]
@@ -35,75 +33,29 @@ impl Flags {
         Arc::new(alloc, flags).expect(rt, "room for flags")
     }
 
-    // Looks at a flag at most 10,000 times, and sleeps a millisecond after each look.
-    fn wait(&self, clock: &impl Clock, flag: &AtomicU64) {
-        for _ in 0..10_000 {
-            if flag.load(Ordering::SeqCst) == 1 {
-                return;
-            }
-            thread::sleep(clock, Duration::from_millis(1));
+    fn wait<C: Clock>(&self, clock: &C, flag: &AtomicU64) {
+        if !comes(clock, flag, 1) {
+            self.late.store(1, Ordering::SeqCst);
         }
-        self.late.store(1, Ordering::SeqCst);
     }
 }
 
-// A device in memory whose reads wait until the other thread has touched.
-struct Slow {
-    inner: MemDevice,
+// The reads of a device wait until the other thread has touched.
+#[derive(Drop)]
+struct SlowReads {
     clock: HostRuntime,
     flags: Arc<Flags, Global>,
 }
 
-impl PageDevice for Slow {
-    ghost state = { λ d. d.inner };
-
-    fn pages(&self) -> u64 {
-        self.inner.pages()
-    }
-
-    fn page_size(&self) -> usize {
-        self.inner.page_size()
-    }
-
-    fn waiting(&self) -> bool {
-        self.inner.waiting()
-    }
-
-    fn failures(&self) -> u64 {
-        self.inner.failures()
-    }
-
-    fn read(&mut self, no: u64, into: &mut [u8]) -> Result<(), DeviceFault> {
+impl Hooks for SlowReads {
+    fn before_read(&self) {
         self.flags.reading.store(1, Ordering::SeqCst);
         self.flags.wait(&self.clock, &self.flags.touched);
-        self.inner.read(no, into)
     }
 
-    fn write(&mut self, no: u64, bytes: &[u8]) -> Result<(), DeviceFault> {
-        self.inner.write(no, bytes)
-    }
+    fn at_drop(&self, _waiting: bool) {}
 
-    fn flush(&mut self) -> Result<(), DeviceFault> {
-        self.inner.flush()
-    }
-
-    fn settle(&mut self) {
-        self.inner.settle()
-    }
-}
-
-impl Drop for Slow {
-    fn drop(mut self) {
-        self.settle();
-        let Slow {
-            inner,
-            clock,
-            flags,
-        } = self;
-        drop(inner);
-        drop(clock);
-        drop(flags);
-    }
+    fn page_at_drop(&self, _no: u64, _bytes: &[u8]) {}
 }
 
 // The job that touches, after the one that pins.
@@ -130,20 +82,16 @@ impl<'a, C: Clock> Gate for WhileRead<'a, C> {
     }
 }
 
-// A slow device of 8 pages in memory.
+// A slow device of 8 pages.
 fn slow_device(
     rt: &impl Abort,
     alloc: Global,
     clock: HostRuntime,
     flags: &Arc<Flags, Global>,
-) -> Slow {
+) -> Hooked<SlowReads> {
     let flags = Arc::try_clone(flags).expect(rt, "one owner more");
-    let inner = MemDevice::new(alloc, 8, 16).expect(rt, "room for its pages");
-    Slow {
-        inner,
-        clock,
-        flags,
-    }
+    let inner = memory(alloc, 8).expect(rt, "room for a device");
+    Hooked::new(alloc, inner, SlowReads { clock, flags }).expect(rt, "room for a page")
 }
 
 // A job of one step.
@@ -154,9 +102,8 @@ fn job_of(rt: &impl Abort, alloc: Global, step: Step) -> Job {
 
 // A job that pins 0:1, and one that touches it.
 fn two_jobs(rt: &impl Abort, alloc: Global) -> Vec<Job> {
-    let touches = job_of(rt, alloc, Step::Touch(reference(rt, 1, 1)));
-    let page = PageId { dev: 0, no: 1 };
-    let call = BoxedCall::new(alloc, Call::Pin(page)).expect(rt, "room for a call");
+    let touches = job_of(rt, alloc, Step::Touch(seen(page(1), 1, 1)));
+    let call = BoxedCall::new(alloc, Call::Pin(page(1))).expect(rt, "room for a call");
     let pins = job_of(rt, alloc, Step::Make(call));
     vec![in alloc; pins, touches].expect(rt, "room for two jobs")
 }
@@ -197,8 +144,7 @@ fn are_answered<R: Clock + Threads + Wait + Abort + Sync>(
     clock: HostRuntime,
     flags: &Arc<Flags, Global>,
 ) -> bool {
-    let slow = slow_device(rt, alloc, clock, flags);
-    let node = over(rt, alloc, 1, slow);
+    let node = over(rt, alloc, 1, slow_device(rt, alloc, clock, flags));
     let gate = WhileRead { clock: rt, flags };
     let (pinned, touched) = pins_and_touches(rt, alloc, node, &gate);
     let pinned = list_of(rt, alloc, pinned);

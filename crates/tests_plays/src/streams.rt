@@ -1,0 +1,157 @@
+//! Readers and writers of `play` that give bytes one by one, are interrupted, or fail: what no contract says of its text.
+use crate::player::{add, ended};
+use crate::schedules::GOSSIP;
+use std::alloc::Global;
+use std::io;
+use std::io::{ErrorKind, Read, Write};
+use std::process::Abort;
+use warm_schedule::PlayFault;
+
+// Gives one byte at a time, each after a read that was interrupted.
+#[derive(Drop)]
+struct Trickle<'a> {
+    rest: &'a [u8],
+    is_ready: bool,
+}
+
+impl Read for Trickle<'_> {
+    fn read(&mut self, bytes: &mut [u8]) -> io::Result<usize> {
+        self.is_ready = !self.is_ready;
+        if self.is_ready {
+            return Err(io::Error::from(ErrorKind::Interrupted));
+        }
+        let Some((first, rest)) = self.rest.split_first() else {
+            return Ok(0);
+        };
+        if bytes.is_empty() {
+            return Ok(0);
+        }
+        bytes[0] = *first;
+        self.rest = rest;
+        Ok(1)
+    }
+}
+
+// A schedule that comes so prints this.
+fn trickles(rt: &impl Abort, alloc: Global, schedule: &[u8], want: &[u8]) {
+    let mut reader = Trickle {
+        rest: schedule,
+        is_ready: false,
+    };
+    let mut answers = Vec::new(alloc);
+    let played = ended(alloc, &mut reader, &mut answers);
+    assert!(rt; played == Ok(()) && answers.as_slice() == want);
+}
+
+// A hundred thousand reads of one byte each at last, with as many that were interrupted: 9,090 lines of 11 bytes, and of the last
+// line 10.
+#[test]
+fn a_schedule_may_come_in_bytes(rt: HostRuntime) {
+    for (schedule, want) in GOSSIP {
+        trickles(&rt, rt.alloc(), schedule.as_bytes(), want.as_bytes());
+    }
+    let mut schedule = Vec::new(rt.alloc());
+    add(&rt, &mut schedule, 10_000, b"  show 001\n");
+    schedule.truncate(100_000);
+    let mut want = Vec::new(rt.alloc());
+    add(&rt, &mut want, 9_091, b"end 0\n");
+    trickles(&rt, rt.alloc(), schedule.as_slice(), want.as_slice());
+}
+
+// Marks each flush.
+#[derive(Drop)]
+struct Marked {
+    taken: Vec<u8>,
+}
+
+impl Write for Marked {
+    fn write(&mut self, bytes: &[u8]) -> io::Result<usize> {
+        self.taken.write(bytes)
+    }
+
+    fn flush(&mut self) -> io::Result<()> {
+        self.taken.write_all(b"|")
+    }
+}
+
+// Where lines come in pieces, the answer of each is handed on by itself, and nothing is handed on while a line goes on.
+#[test]
+fn answers_are_handed_on_before_the_next_read(rt: HostRuntime) {
+    let mut reader = Trickle {
+        rest: b"show 1\nshow 9\nx",
+        is_ready: false,
+    };
+    let mut writer = Marked {
+        taken: Vec::new(rt.alloc()),
+    };
+    let played = ended(rt.alloc(), &mut reader, &mut writer);
+    let want = "end 0\n|refused 14 NoSuchReplica\n|bad line 3\n|";
+    assert!(rt; played == Ok(()) && writer.taken.as_slice() == want.as_bytes());
+}
+
+// Gives these bytes, and then fails.
+#[derive(Drop)]
+struct Breaks<'a> {
+    rest: &'a [u8],
+}
+
+impl Read for Breaks<'_> {
+    fn read(&mut self, bytes: &mut [u8]) -> io::Result<usize> {
+        if self.rest.is_empty() {
+            return Err(io::Error::from(ErrorKind::TimedOut));
+        }
+        self.rest.read(bytes)
+    }
+}
+
+// The line that had come whole was answered, and what had come of the next one was not.
+#[test]
+fn a_failed_read_ends_the_play(rt: HostRuntime) {
+    let mut reader = Breaks {
+        rest: b"show 1\nshow 2",
+    };
+    let mut answers = Vec::new(rt.alloc());
+    let played = ended(rt.alloc(), &mut reader, &mut answers);
+    assert!(rt; played == Err(PlayFault::ReadFault) && answers.as_slice() == b"end 0\n".as_slice());
+}
+
+// Takes so many bytes, and then fails.
+#[derive(Drop)]
+struct Narrow {
+    room: usize,
+}
+
+impl Write for Narrow {
+    fn write(&mut self, bytes: &[u8]) -> io::Result<usize> {
+        if self.room == 0 {
+            return Err(io::Error::from(ErrorKind::BrokenPipe));
+        }
+        let count = bytes.len().min(self.room);
+        self.room -= count;
+        Ok(count)
+    }
+
+    fn flush(&mut self) -> io::Result<()> {
+        if self.room == 0 {
+            return Err(io::Error::from(ErrorKind::BrokenPipe));
+        }
+        Ok(())
+    }
+}
+
+// How a play ends whose writer has so much room.
+fn ended_in(alloc: Global, room: usize) -> Result<(), PlayFault> {
+    let mut reader: &[u8] = b"show 1\nref 1 1 0:1 1\nflush 1 1\n";
+    let mut writer = Narrow { room };
+    ended(alloc, &mut reader, &mut writer)
+}
+
+// "end 0\nok\nok\n" has 12 bytes. Each write but the first may fail, and after the last one the flush.
+#[test]
+fn a_failed_write_ends_the_play(rt: HostRuntime) {
+    for room in 0..13usize {
+        let played = ended_in(rt.alloc(), room);
+        assert!(rt; played == Err(PlayFault::WriteFault), "room for {room}");
+    }
+    assert!(rt; ended_in(rt.alloc(), 13) == Ok(()));
+}
