@@ -1,13 +1,13 @@
 use std::alloc::Global;
 use std::process::Abort;
 use warm_play_fault::PlayFault;
-use warm_setup::{CmdFault, PathText, RunFault, SetupFault, command_of, not_text, outcome_of};
+use warm_setup::{CmdFault, PathText, ProgramFault, SetupFault, command_of, not_text, outcome_of};
 
 // Whether a run that ended so has this status and says this line.
 fn tells(
     rt: &impl Abort,
     alloc: Global,
-    ended: &Result<(), RunFault>,
+    ended: &Result<(), ProgramFault>,
     status: u8,
     want: &str,
 ) -> bool {
@@ -26,7 +26,7 @@ fn a_played_schedule_says_nothing(rt: HostRuntime) {
 }
 
 // Whether a run that this fault ends has this status and says this line.
-fn ends(rt: &impl Abort, alloc: Global, fault: RunFault, status: u8, want: &str) -> bool {
+fn ends(rt: &impl Abort, alloc: Global, fault: ProgramFault, status: u8, want: &str) -> bool {
     tells(rt, alloc, &Err(fault), status, want)
 }
 
@@ -34,11 +34,11 @@ fn ends(rt: &impl Abort, alloc: Global, fault: RunFault, status: u8, want: &str)
 fn a_file_is_named(rt: HostRuntime) {
     let name = PathText::copied_from(rt.alloc(), "no/such file").expect(&rt, "room");
     let want = "warmplay: cannot open no/such file\n";
-    assert!(rt; ends(&rt, rt.alloc(), RunFault::CannotOpen(name), 1, want));
+    assert!(rt; ends(&rt, rt.alloc(), ProgramFault::CannotOpen(name), 1, want));
 }
 
 fn setup_ends(rt: &impl Abort, alloc: Global, fault: SetupFault, want: &str) -> bool {
-    ends(rt, alloc, RunFault::Setup(fault), 2, want)
+    ends(rt, alloc, ProgramFault::Setup(fault), 2, want)
 }
 
 #[test]
@@ -54,7 +54,7 @@ fn a_setup_fault_is_named(rt: HostRuntime) {
 }
 
 fn play_ends(rt: &impl Abort, alloc: Global, fault: PlayFault, want: &str) -> bool {
-    ends(rt, alloc, RunFault::Play(fault), 1, want)
+    ends(rt, alloc, ProgramFault::Play(fault), 1, want)
 }
 
 #[test]
@@ -74,7 +74,7 @@ fn a_play_fault_is_named(rt: HostRuntime) {
 }
 
 fn command_ends(rt: &impl Abort, alloc: Global, fault: CmdFault, status: u8, want: &str) -> bool {
-    ends(rt, alloc, RunFault::Command(fault), status, want)
+    ends(rt, alloc, ProgramFault::Command(fault), status, want)
 }
 
 // Whether this word is refused with this status, and with no line of the run's own.
