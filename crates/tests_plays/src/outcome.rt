@@ -2,13 +2,13 @@
 use std::alloc::Global;
 use std::process::Abort;
 use warm_play_fault::PlayFault;
-use warm_setup::{CmdFault, PathText, RunFault, SetupFault, command_of, not_text, outcome_of};
+use warm_setup::{CmdFault, PathText, ProgramFault, SetupFault, command_of, not_text, outcome_of};
 
 // Whether a run that ended so has this status and says this line.
 fn tells(
     rt: &impl Abort,
     alloc: Global,
-    ended: &Result<(), RunFault>,
+    ended: &Result<(), ProgramFault>,
     status: u8,
     want: &str,
 ) -> bool {
@@ -22,7 +22,7 @@ fn tells(
 }
 
 // The same of a run that this fault ends.
-fn ends(rt: &impl Abort, alloc: Global, fault: RunFault, status: u8, want: &str) -> bool {
+fn ends(rt: &impl Abort, alloc: Global, fault: ProgramFault, status: u8, want: &str) -> bool {
     tells(rt, alloc, &Err(fault), status, want)
 }
 
@@ -48,12 +48,12 @@ fn a_run_says_why_it_ends(rt: HostRuntime) {
     assert!(rt; tells(&rt, alloc, &Ok(()), 0, ""));
     let name = PathText::copied_from(alloc, "no/such file").expect(&rt, "room");
     let want = "warmplay: cannot open no/such file\n";
-    assert!(rt; ends(&rt, alloc, RunFault::CannotOpen(name), 1, want));
+    assert!(rt; ends(&rt, alloc, ProgramFault::CannotOpen(name), 1, want));
     for (fault, want) in SETUPS {
-        assert!(rt; ends(&rt, alloc, RunFault::Setup(fault), 2, want));
+        assert!(rt; ends(&rt, alloc, ProgramFault::Setup(fault), 2, want));
     }
     for (fault, want) in PLAYS {
-        assert!(rt; ends(&rt, alloc, RunFault::Play(fault), 1, want));
+        assert!(rt; ends(&rt, alloc, ProgramFault::Play(fault), 1, want));
     }
 }
 
@@ -62,7 +62,7 @@ fn refuses(rt: &impl Abort, alloc: Global, word: &str, status: u8) -> bool {
     let fault = command_of(alloc, ["warmplay", word].as_slice())
         .err()
         .expect(rt, "a word that is refused");
-    ends(rt, alloc, RunFault::Command(fault), status, "")
+    ends(rt, alloc, ProgramFault::Command(fault), status, "")
 }
 
 #[test]
@@ -71,7 +71,7 @@ fn refused_words_have_status_2_and_help_0(rt: HostRuntime) {
     for (word, status) in [("--help", 0), ("help", 0), ("threads", 2)] {
         assert!(rt; refuses(&rt, alloc, word, status));
     }
-    assert!(rt; ends(&rt, alloc, RunFault::Command(not_text(alloc)), 2, ""));
-    let memory = RunFault::Command(CmdFault::Memory);
+    assert!(rt; ends(&rt, alloc, ProgramFault::Command(not_text(alloc)), 2, ""));
+    let memory = ProgramFault::Command(CmdFault::Memory);
     assert!(rt; ends(&rt, alloc, memory, 1, "warmplay: Memory\n"));
 }

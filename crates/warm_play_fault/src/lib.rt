@@ -7,6 +7,7 @@
 ghost use Rattle.std.specs.Prelude.{◌≡◌};
 ghost use Rattle.warm_play_fault.specs.Faults.{play_fault_code, play_fault_name};
 
+use std::alloc::AllocError;
 use thiserror::Error;
 
 /// Why a play came to no end. What was written by then is a beginning of nothing in particular: no word is said of it.
@@ -62,5 +63,16 @@ impl PlayFault {
             PlayFault::NoThread => "NoThread",
             PlayFault::BadDevices => "BadDevices",
         }
+    }
+}
+
+impl From<AllocError> for PlayFault {
+    ghost use Rattle.warm_play_fault.specs.declared.PlayFault.TheVariants.{Memory};
+    ghost use Rattle.std.specs.Prelude.{◌≡◌};
+
+    ghost from_gives = { λ _ fault. fault ≡ Memory };
+
+    fn from(_error: AllocError) -> PlayFault {
+        PlayFault::Memory
     }
 }

@@ -20,7 +20,7 @@ use Rattle.warm_world.specs.declared.event.WorldFault.TheVariants.{Node, NoSuchR
 use Rattle.warm_schedule.specs.declared.parse.Line.TheVariants.{Nothing, Act}
 use Rattle.warm_schedule.specs.Text.{lines, words}
 use Rattle.warm_schedule.specs.Fields.{number_up_to, page_of, slot_of, bytes_of, number_field, page_field, after_field, slot_field, bytes_field}
-use Rattle.warm_schedule.specs.Grammar.{line_of, meaning, refer_of, flush_of, send_of, offer_of, deliver_of, pin_of, unpin_of, put_of, get_of, victim_of, warm_of, warmstep_of, restart_of, horizon_of, show_of}
+use Rattle.warm_schedule.specs.Grammar.{line_of, meaning, commands, refer_of, flush_of, send_of, offer_of, deliver_of, pin_of, unpin_of, put_of, get_of, victim_of, warm_of, warmstep_of, restart_of, horizon_of, show_of}
 use Rattle.warm_schedule.specs.Workers.{worker_line_in}
 use Rattle.warm_schedule.specs.Answers.{answer_text}
 
@@ -36,129 +36,129 @@ slot s g = record { index = s; generation = g }
 -- ---- lines
 
 ref_line : line_of (codes "ref 1 2 0:1 10") ≡ Some (Act (Refer 1 2 (page 0 1) 10))
-unfolding line_of words number_up_to page_of number_field page_field refer_of
+unfolding line_of commands words number_up_to page_of number_field page_field refer_of
 ref_line = refl
 
 spaces_and_zeros : line_of (codes "  flush  001   2 ") ≡ Some (Act (Flush 1 2))
-unfolding line_of words number_up_to number_field flush_of
+unfolding line_of commands words number_up_to number_field flush_of
 spaces_and_zeros = refl
 
 send_line : line_of (codes "send 1 63") ≡ Some (Act (Send 1 63 None))
-unfolding line_of words number_up_to number_field after_field send_of
+unfolding line_of commands words number_up_to number_field after_field send_of
 send_line = refl
 
 send_after : line_of (codes "send 1 0 0:63936") ≡ Some (Act (Send 1 0 (Some (page 0 63936))))
-unfolding line_of words number_up_to page_of number_field after_field send_of
+unfolding line_of commands words number_up_to page_of number_field after_field send_of
 send_after = refl
 
 no_such_bucket : line_of (codes "send 1 64") ≡ None
-unfolding line_of words number_up_to number_field send_of
+unfolding line_of commands words number_up_to number_field send_of
 no_such_bucket = refl
 
 greatest_frame : line_of (codes "deliver 65535 18446744073709551615") ≡ Some (Act (Deliver 65535 18446744073709551615))
-unfolding line_of words number_up_to number_field deliver_of
+unfolding line_of commands words number_up_to number_field deliver_of
 greatest_frame = refl
 
 over_range : line_of (codes "deliver 1 18446744073709551616") ≡ None
-unfolding line_of words number_up_to number_field deliver_of
+unfolding line_of commands words number_up_to number_field deliver_of
 over_range = refl
 
 warm_line : line_of (codes "warm 1 3") ≡ Some (Act (Warm 1 3))
-unfolding line_of words number_up_to number_field warm_of
+unfolding line_of commands words number_up_to number_field warm_of
 warm_line = refl
 
 restart_line : line_of (codes "restart 1") ≡ Some (Act (Restart 1))
-unfolding line_of words number_up_to number_field restart_of
+unfolding line_of commands words number_up_to number_field restart_of
 restart_line = refl
 
 horizon_line : line_of (codes "horizon 1 15") ≡ Some (Act (Horizon 1 15))
-unfolding line_of words number_up_to number_field horizon_of
+unfolding line_of commands words number_up_to number_field horizon_of
 horizon_line = refl
 
 greatest_horizon : line_of (codes "horizon 65535 18446744073709551615") ≡ Some (Act (Horizon 65535 18446744073709551615))
-unfolding line_of words number_up_to number_field horizon_of
+unfolding line_of commands words number_up_to number_field horizon_of
 greatest_horizon = refl
 
 -- a replica and a time out of range, no time, and a word too many
 no_horizons : (line_of (codes "horizon 65536 1") ≡ None) × (line_of (codes "horizon 1 18446744073709551616") ≡ None) × (line_of (codes "horizon 1") ≡ None) × (line_of (codes "horizon 1 15 1") ≡ None)
-unfolding line_of words number_up_to number_field horizon_of
+unfolding line_of commands words number_up_to number_field horizon_of
 no_horizons = (refl, refl, refl, refl)
 
 -- a horizon asks something of no worker
 horizon_of_no_worker : worker_line_in (line_of (codes "horizon 1 15")) ≡ None
-unfolding line_of words number_up_to number_field horizon_of
+unfolding line_of commands words number_up_to number_field horizon_of
 horizon_of_no_worker = refl
 
 show_line : line_of (codes "show 3") ≡ Some (Act (Show 3))
-unfolding line_of words number_up_to number_field show_of
+unfolding line_of commands words number_up_to number_field show_of
 show_line = refl
 
 offer_line : line_of (codes "offer 2") ≡ Some (Act (Offer 2))
-unfolding line_of words number_up_to number_field offer_of
+unfolding line_of commands words number_up_to number_field offer_of
 offer_line = refl
 
 pin_line : line_of (codes "pin 1 0:255") ≡ Some (Act (Pin 1 (page 0 255)))
-unfolding line_of words number_up_to page_of number_field page_field pin_of
+unfolding line_of commands words number_up_to page_of number_field page_field pin_of
 pin_line = refl
 
 greatest_page : line_of (codes "pin 1 65535:18446744073709551615") ≡ Some (Act (Pin 1 (page 65535 18446744073709551615)))
-unfolding line_of words number_up_to page_of number_field page_field pin_of
+unfolding line_of commands words number_up_to page_of number_field page_field pin_of
 greatest_page = refl
 
 -- a page number and a device out of range
 no_such_pages : (line_of (codes "pin 1 0:18446744073709551616") ≡ None) × (line_of (codes "pin 1 65536:0") ≡ None)
-unfolding line_of words number_up_to page_of number_field page_field pin_of
+unfolding line_of commands words number_up_to page_of number_field page_field pin_of
 no_such_pages = (refl, refl)
 
 unpin_line : line_of (codes "unpin 1 4294967295.18446744073709551615") ≡ Some (Act (Unpin 1 (slot 4294967295 18446744073709551615)))
-unfolding line_of words number_up_to slot_of number_field slot_field unpin_of
+unfolding line_of commands words number_up_to slot_of number_field slot_field unpin_of
 unpin_line = refl
 
 -- no dot, two dots, and a frame out of range
 no_slots : (line_of (codes "unpin 1 0") ≡ None) × (line_of (codes "unpin 1 0.1.2") ≡ None) × (line_of (codes "unpin 1 4294967296.1") ≡ None)
-unfolding line_of words number_up_to slot_of number_field slot_field unpin_of
+unfolding line_of commands words number_up_to slot_of number_field slot_field unpin_of
 no_slots = (refl, refl, refl)
 
 put_line : line_of (codes "put 1 0.1 15 CAfe09") ≡ Some (Act (Put 1 (slot 0 1) 15 (202 ∷ 254 ∷ 9 ∷ [])))
-unfolding line_of words number_up_to slot_of bytes_of number_field slot_field bytes_field put_of
+unfolding line_of commands words number_up_to slot_of bytes_of number_field slot_field bytes_field put_of
 put_line = refl
 
 -- an odd number of digits, none, another letter, and a word too many
 no_bytes : (line_of (codes "put 1 0.1 0 CAF") ≡ None) × (line_of (codes "put 1 0.1 0 ") ≡ None) × (line_of (codes "put 1 0.1 0 CG") ≡ None) × (line_of (codes "put 1 0.1 0 CA FE") ≡ None)
-unfolding line_of words number_up_to slot_of bytes_of number_field slot_field bytes_field put_of
+unfolding line_of commands words number_up_to slot_of bytes_of number_field slot_field bytes_field put_of
 no_bytes = (refl, refl, refl, refl)
 
 get_line : line_of (codes "get 1 0.1 16 4294967295") ≡ Some (Act (Get 1 (slot 0 1) 16 4294967295))
-unfolding line_of words number_up_to slot_of number_field slot_field get_of
+unfolding line_of commands words number_up_to slot_of number_field slot_field get_of
 get_line = refl
 
 victim_line : line_of (codes "victim 3") ≡ Some (Act (Victim 3))
-unfolding line_of words number_up_to number_field victim_of
+unfolding line_of commands words number_up_to number_field victim_of
 victim_line = refl
 
 warmstep_line : line_of (codes "warmstep 3") ≡ Some (Act (WarmStep 3))
-unfolding line_of words number_up_to number_field warmstep_of
+unfolding line_of commands words number_up_to number_field warmstep_of
 warmstep_line = refl
 
 comment : line_of (codes " #show 3") ≡ Some Nothing
-unfolding line_of words
+unfolding line_of commands words
 comment = refl
 
 blank : line_of (codes "   ") ≡ Some Nothing
-unfolding line_of words
+unfolding line_of commands words
 blank = refl
 
 unknown : line_of (codes "foo") ≡ None
-unfolding line_of words
+unfolding line_of commands words
 unknown = refl
 
 one_word_more : line_of (codes "show 3 #") ≡ None
-unfolding line_of words number_up_to number_field show_of
+unfolding line_of commands words number_up_to number_field show_of
 one_word_more = refl
 
 -- a CR is part of a word
 foreign_end : line_of (codes "show 3\r") ≡ None
-unfolding line_of words number_up_to number_field show_of
+unfolding line_of commands words number_up_to number_field show_of
 foreign_end = refl
 
 two_lines : lines (codes "a\n\nb") ≡ codes "a" ∷ [] ∷ codes "b" ∷ []
@@ -258,7 +258,7 @@ told reach waiting = record { room = 64; replicas = record { reach = these reach
 
 -- one replica with two workers: refusals, a comment and a bad line
 refusals : Printed (told [] []) (codes "ref 2 1 0:1 5\nflush 1 3\n# x\nbad\n") (codes "refused 14 NoSuchReplica\nrefused 15 NoSuchWorker\nbad line 4\n") (told [] [])
-unfolding meaning line_of words number_up_to page_of number_field page_field refer_of flush_of digits
+unfolding meaning line_of commands words number_up_to page_of number_field page_field refer_of flush_of digits
 refusals =
     let start : ModelState = told [] [] in (
       codes "refused 14 NoSuchReplica\n",
@@ -292,7 +292,7 @@ refusals =
 
 -- a reference waits, reaches the history, and is shown
 reference : Printed (told [] []) (codes "ref 1 1 0:1 10\nshow 1\nflush 1 1\nshow 1\n") (codes "ok\nend 0\nok\n0:1 last 10@1\nend 1\n") (told (seen ∷ []) [])
-unfolding meaning line_of words number_up_to page_of number_field page_field refer_of flush_of show_of history digits
+unfolding meaning line_of commands words number_up_to page_of number_field page_field refer_of flush_of show_of history digits
 reference = (
   codes "ok\n",
   codes "end 0\nok\n0:1 last 10@1\nend 1\n",

@@ -3,6 +3,7 @@ pub mod Numbers
 pub mod Hexes
 pub mod Stream
 pub mod Few
+mod Tables
 mod Workers
 mod Runs
 mod Examples

@@ -21,7 +21,7 @@ use Rattle.warm_world.specs.declared.event.Answer.TheVariants.{Done, Shown, Fram
 use Rattle.warm_world.specs.declared.event.WorldFault.TheVariants.{Node}
 use Rattle.warm_schedule.specs.Text.{words}
 use Rattle.warm_schedule.specs.Fields.{number_up_to, page_of, number_field, page_field, after_field}
-use Rattle.warm_schedule.specs.Grammar.{line_of, meaning, refer_of, flush_of, send_of, deliver_of, pin_of, restart_of, horizon_of, show_of}
+use Rattle.warm_schedule.specs.Grammar.{line_of, meaning, commands, refer_of, flush_of, send_of, deliver_of, pin_of, restart_of, horizon_of, show_of}
 use Rattle.warm_schedule.specs.Printed.{Answered, Printed, PrintedFrom}
 
 -- ---- a table of lines, each with what it prints
@@ -106,7 +106,7 @@ forgotten_table =
     ∷ []
 
 forgotten : Printed (alone (kept 0 []) []) (codes "ref 1 1 0:1 10\nref 1 1 0:1 20\nref 1 1 0:2 5\nflush 1 1\nhorizon 1 15\nshow 1\nref 1 1 0:1 12\nflush 1 1\nshow 1\nhorizon 1 3\nrestart 1\nhorizon 1 0") (codes "ok\nok\nok\nok\nhorizon 15\n0:1 last 20@1\nend 1\nok\nok\n0:1 last 20@1\nend 1\nhorizon 15\nok\nhorizon 0\n") (alone (kept 0 []) [])
-unfolding meaning line_of words number_up_to page_of number_field page_field refer_of flush_of restart_of horizon_of show_of history digits
+unfolding meaning line_of commands words number_up_to page_of number_field page_field refer_of flush_of restart_of horizon_of show_of history digits
 forgotten = printed (alone (kept 0 []) []) (alone (kept 0 []) []) 1 forgotten_table (
   alone (kept 0 []) (at 1 10 1 ∷ []),
   inl (Done, (record { replica_there = number 1 _ (omega arith) (omega arith); worker_there = number 1 _ (omega arith) (omega arith); frame_there = tt }, refl), refl),
@@ -172,7 +172,7 @@ brought_table =
     ∷ []
 
 brought : Printed (both (has 0 (at 1 20 1 ∷ [])) (has 0 (at 1 8 2 ∷ at 1 9 2 ∷ [])) []) (codes "horizon 1 9\nsend 1 1\ndeliver 2 1\nshow 2\nhorizon 2 0") (codes "horizon 9\nframe 1\ntook 0\n0:1 last 20@1 prev 9@2\nend 1\nhorizon 9\n") (both (has 9 (at 1 20 1 ∷ [])) (has 9 (at 1 8 2 ∷ at 1 9 2 ∷ at 1 20 1 ∷ [])) (newer_frame ∷ []))
-unfolding meaning line_of words number_up_to number_field after_field send_of deliver_of horizon_of show_of history digits
+unfolding meaning line_of commands words number_up_to number_field after_field send_of deliver_of horizon_of show_of history digits
 brought = printed (both (has 0 (at 1 20 1 ∷ [])) (has 0 (at 1 8 2 ∷ at 1 9 2 ∷ [])) []) (both (has 9 (at 1 20 1 ∷ [])) (has 9 (at 1 8 2 ∷ at 1 9 2 ∷ at 1 20 1 ∷ [])) (newer_frame ∷ [])) 1 brought_table (
   both (has 9 (at 1 20 1 ∷ [])) (has 0 (at 1 8 2 ∷ at 1 9 2 ∷ [])) [],
   inl (Kept 9, (record { replica_there = number 1 _ (omega arith) (omega arith); worker_there = tt; frame_there = tt }, (refl, refl)), refl),
@@ -211,7 +211,7 @@ sent_then_forgotten_table =
     ∷ []
 
 sent_then_forgotten : Printed (both (has 0 []) (has 0 []) []) (codes "ref 1 1 0:1 10\nflush 1 1\nsend 1 1\ndeliver 2 1\nhorizon 2 50\nshow 2") (codes "ok\nok\nframe 1\ntook 0\nhorizon 50\nend 0\n") (both (has 0 (at 1 10 1 ∷ [])) (has 50 (at 1 10 1 ∷ [])) (entry_frame ∷ []))
-unfolding meaning line_of words number_up_to page_of number_field page_field after_field refer_of flush_of send_of deliver_of horizon_of show_of history digits
+unfolding meaning line_of commands words number_up_to page_of number_field page_field after_field refer_of flush_of send_of deliver_of horizon_of show_of history digits
 sent_then_forgotten = printed (both (has 0 []) (has 0 []) []) (both (has 0 (at 1 10 1 ∷ [])) (has 50 (at 1 10 1 ∷ [])) (entry_frame ∷ [])) 1 sent_then_forgotten_table (
   both (one no_pool (kept 0 []) (at 1 10 1 ∷ [])) (has 0 []) [],
   inl (Done, (record { replica_there = number 1 _ (omega arith) (omega arith); worker_there = number 1 _ (omega arith) (omega arith); frame_there = tt }, refl), refl),
@@ -253,7 +253,7 @@ requested_table =
     ∷ []
 
 requested : (digests : List (List ℕ)) → IsDiffering digests (holding_since 50 []) 2 → Printed (both (has 0 (at 1 10 1 ∷ [])) (has 50 (at 1 10 1 ∷ [])) (entry_frame ∷ Sums 1 0 digests ∷ [])) (codes "deliver 2 2\ndeliver 1 3\nshow 1\nhorizon 1 0") (codes "took 1 from 3\ntook 0\nend 0\nhorizon 50\n") (both (has 50 (at 1 10 1 ∷ [])) (has 50 (at 1 10 1 ∷ [])) (entry_frame ∷ Sums 1 0 digests ∷ request_frame ∷ []))
-unfolding meaning line_of words number_up_to number_field deliver_of horizon_of show_of history buckets_in digits
+unfolding meaning line_of commands words number_up_to number_field deliver_of horizon_of show_of history buckets_in digits
 requested digests differ = printed (both (has 0 (at 1 10 1 ∷ [])) (has 50 (at 1 10 1 ∷ [])) (entry_frame ∷ Sums 1 0 digests ∷ [])) (both (has 50 (at 1 10 1 ∷ [])) (has 50 (at 1 10 1 ∷ [])) (entry_frame ∷ Sums 1 0 digests ∷ request_frame ∷ [])) 1 requested_table (
   both (has 0 (at 1 10 1 ∷ [])) (has 50 (at 1 10 1 ∷ [])) (entry_frame ∷ Sums 1 0 digests ∷ request_frame ∷ []),
   inl (Took 1 3, (record { replica_there = number 2 _ (omega arith) (omega arith); worker_there = tt; frame_there = number 2 _ (omega arith) (omega arith) }, record { added = request_frame ∷ []; answers = (2, omega arith, differ, refl); many = refl; from = refl; becomes = refl }), refl),
@@ -298,7 +298,7 @@ wide_table =
     ∷ []
 
 wide : Printed (both (knows []) (knows []) []) (codes "ref 1 1 0:4294967296 5\nflush 1 1\nsend 1 0\ndeliver 2 1\nshow 2\npin 1 0:4294967296") (codes "ok\nok\nframe 1\ntook 0\n0:4294967296 last 5@1\nend 1\nrefused 5 NoPage\n") (both (knows (wide_reference ∷ [])) (knows (wide_reference ∷ [])) (wide_frame ∷ []))
-unfolding meaning line_of words number_up_to page_of number_field page_field after_field refer_of flush_of send_of deliver_of pin_of show_of history digits
+unfolding meaning line_of commands words number_up_to page_of number_field page_field after_field refer_of flush_of send_of deliver_of pin_of show_of history digits
 wide = printed (both (knows []) (knows []) []) (both (knows (wide_reference ∷ [])) (knows (wide_reference ∷ [])) (wide_frame ∷ [])) 1 wide_table (
   both (one small (kept 0 []) (wide_reference ∷ [])) (knows []) [],
   inl (Done, (record { replica_there = number 1 _ (omega arith) (omega arith); worker_there = number 1 _ (omega arith) (omega arith); frame_there = tt }, refl), refl),

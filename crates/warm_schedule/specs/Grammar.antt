@@ -1,5 +1,5 @@
 -- The lines of a schedule, each a command with its fields.
-use Rattle.std.specs.Prelude.{ℕ, List, [], ◌∷◌, Bool, false, ◌==◌, nat_lt, length, Option, Some, None, option_map, codes, bytes_eq, if◌then◌else◌}
+use Rattle.std.specs.Prelude.{ℕ, List, [], ◌∷◌, Bool, false, ◌==◌, nat_lt, length, Option, Some, None, option_map, option_and_then, codes, bytes_eq, if◌then◌else◌}
 use Rattle.warm_world.specs.declared.event.Event.{Event}
 use Rattle.warm_world.specs.declared.event.Event.TheVariants.{Refer, Flush, Send, Offer, Deliver, Pin, Unpin, Put, Get, Victim, Warm, WarmStep, Restart, Horizon, Show}
 use Rattle.warm_schedule.specs.Text.{words}
@@ -124,26 +124,37 @@ show_of fields = do
 
 -- ---- a whole line
 
--- the commands that name neither a worker nor a message: what a pool is asked, a restart, a horizon, and a show
-abbrev pub alone_event_of : List ℕ → List (List ℕ) → Option Event
-alone_event_of command fields = if bytes_eq command (codes "pin") then pin_of fields
-    else (if bytes_eq command (codes "unpin") then unpin_of fields
-    else (if bytes_eq command (codes "put") then put_of fields
-    else (if bytes_eq command (codes "get") then get_of fields
-    else (if bytes_eq command (codes "victim") then victim_of fields
-    else (if bytes_eq command (codes "warm") then warm_of fields
-    else (if bytes_eq command (codes "warmstep") then warmstep_of fields
-    else (if bytes_eq command (codes "restart") then restart_of fields
-    else (if bytes_eq command (codes "horizon") then horizon_of fields
-    else (if bytes_eq command (codes "show") then show_of fields else None)))))))))
+-- what the words after the first ask for
+abbrev pub Reader : Type 0
+Reader = List (List ℕ) → Option Event
+
+-- the commands, each by its word and what its fields ask for
+unfoldable pub commands : List (List ℕ × Reader)
+commands =
+    (codes "ref", refer_of)
+    ∷ (codes "flush", flush_of)
+    ∷ (codes "send", send_of)
+    ∷ (codes "offer", offer_of)
+    ∷ (codes "deliver", deliver_of)
+    ∷ (codes "pin", pin_of)
+    ∷ (codes "unpin", unpin_of)
+    ∷ (codes "put", put_of)
+    ∷ (codes "get", get_of)
+    ∷ (codes "victim", victim_of)
+    ∷ (codes "warm", warm_of)
+    ∷ (codes "warmstep", warmstep_of)
+    ∷ (codes "restart", restart_of)
+    ∷ (codes "horizon", horizon_of)
+    ∷ (codes "show", show_of)
+    ∷ []
+
+-- what a table has for a word, in the first row of that word
+abbrev pub looked_up : {A : Type 0} → List (List ℕ × A) → List ℕ → Option A
+looked_up [] word = None
+looked_up (row ∷ rows) word = if bytes_eq word row.0 then Some row.1 else looked_up rows word
 
 abbrev pub event_of : List ℕ → List (List ℕ) → Option Event
-event_of command fields = if bytes_eq command (codes "ref") then refer_of fields
-    else (if bytes_eq command (codes "flush") then flush_of fields
-    else (if bytes_eq command (codes "send") then send_of fields
-    else (if bytes_eq command (codes "offer") then offer_of fields
-    else (if bytes_eq command (codes "deliver") then deliver_of fields
-    else alone_event_of command fields))))
+event_of word fields = option_and_then (λ reader. reader fields) (looked_up commands word)
 
 abbrev pub begins_with : ℕ → List ℕ → Bool
 begins_with c [] = false

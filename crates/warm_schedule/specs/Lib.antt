@@ -1,6 +1,7 @@
 pub mod Text
 pub mod Fields
 pub mod Grammar
+pub mod Parsing
 pub mod Workers
 pub mod Reading
 pub mod Answers

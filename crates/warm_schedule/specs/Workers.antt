@@ -11,14 +11,6 @@ use Rattle.warm_schedule.specs.declared.worker.WorkerLine.{WorkerLine}
 abbrev pub worker_line : ℕ → ℕ → Option (PageId × ℕ) → WorkerLine
 worker_line i w made = record { replica = i; worker = w; reference = made }
 
--- the event that is asked for
-abbrev pub worker_event : ℕ → ℕ → Option (PageId × ℕ) → Event
-worker_event i w None = Flush i w
-worker_event i w (Some made) = Refer i w made.0 made.1
-
-abbrev pub event_of_worker : WorkerLine → Event
-event_of_worker line = worker_event line.replica line.worker line.reference
-
 -- what an event asks of a worker; the others ask something of none
 abbrev pub asked_of_worker : Event → Option WorkerLine
 asked_of_worker (Refer i w page time) = Some (worker_line i w (Some (page, time)))

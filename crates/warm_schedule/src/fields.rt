@@ -1,15 +1,22 @@
 //! The fields of a line: each reader takes the first word of the text, and gives what it says and what follows it.
 ghost use Rattle.std.specs.Prelude.{◌≡◌, ◌<◌, ◌≤◌, ◌+◌, ◌*◌, ◌^◌, ◌∷◌, None, length, IfSome, MatchOption, option_map, is_some};
+ghost use Rattle.warm_stamps.specs.declared.TheConstants.{BUCKETS};
 ghost use Rattle.warm_schedule.specs.Text.{words};
 ghost use Rattle.warm_schedule.specs.Fields.{digit_of, number_up_to, page_of, slot_of, hex_digit_of, pairs_of, bytes_of};
-ghost use Rattle.warm_schedule.specs.Fields.{number_field, page_field, after_field, slot_field};
+ghost use Rattle.warm_schedule.specs.Fields.{number_field, replica_field, worker_field, bucket_field, count_field, long_field, page_field, after_field, slot_field};
 ghost use Rattle.warm_schedule.specs.Reading.{Reads, TakesRoom};
 
 use crate::parse::LineFault;
 use crate::text::{cut, next_word};
 use std::alloc::Global;
 use warm_pool::Slot;
-use warm_stamps::{ByteList, PageId};
+use warm_stamps::{BUCKETS, ByteList, PageId};
+
+const MOST_REPLICA: u64 = 65535;
+
+const MOST_WORKER: u64 = 65535;
+
+const MOST_COUNT: u64 = 4294967295;
 
 const MOST_DEVICE: u64 = 65535;
 
@@ -125,9 +132,7 @@ pub(crate) fn bytes(alloc: Global, word: &[u8]) -> Result<ByteList, LineFault>
     if !spells_bytes(word) {
         return Err(LineFault::Bad);
     }
-    let Ok(mut bytes) = Vec::with_capacity(alloc, word.len() / 2) else {
-        return Err(LineFault::Memory);
-    };
+    let mut bytes = Vec::with_capacity(alloc, word.len() / 2)?;
     let mut rest = word;
     while let Some((byte, after)) = first_byte(rest) {
         bytes.push_reserved(byte);
@@ -139,13 +144,55 @@ pub(crate) fn bytes(alloc: Global, word: &[u8]) -> Result<ByteList, LineFault>
 // ---- one field, and what follows it
 
 #[tactic(auto, unfolding(crate::specs::Fields::number_field))]
-pub(crate) fn number_at(fields: &[u8], limit: u64) -> Option<(u64, &[u8])>
+fn number_at(fields: &[u8], limit: u64) -> Option<(u64, &[u8])>
     ensures value { option_map (λ x. (x.0, words x.1.now)) result
         ≡ number_field limit (words fields.now) }
     ensures bound { IfSome result (λ x. x.0 ≤ limit) }
 {
     let (word, rest) = next_word(fields)?;
     Some((number(word, limit)?, rest))
+}
+
+// A replica's number.
+pub(crate) fn replica_at(fields: &[u8]) -> Option<(u16, &[u8])>
+    ensures { option_map (λ x. (x.0, words x.1.now)) result ≡ replica_field (words fields.now) }
+{
+    let (replica, rest) = number_at(fields, MOST_REPLICA)?;
+    Some((replica as u16, rest))
+}
+
+// A worker's number.
+pub(crate) fn worker_at(fields: &[u8]) -> Option<(u16, &[u8])>
+    ensures { option_map (λ x. (x.0, words x.1.now)) result ≡ worker_field (words fields.now) }
+{
+    let (worker, rest) = number_at(fields, MOST_WORKER)?;
+    Some((worker as u16, rest))
+}
+
+// A bucket's number.
+pub(crate) fn bucket_at(fields: &[u8]) -> Option<(u8, &[u8])>
+    ensures value { option_map (λ x. (x.0, words x.1.now)) result
+        ≡ bucket_field (words fields.now) }
+    ensures bound { IfSome result (λ x. x.0 < BUCKETS) }
+{
+    let (bucket, rest) = number_at(fields, BUCKETS as u64 - 1)?;
+    Some((bucket as u8, rest))
+}
+
+// A number of pages or bytes, or the place of a byte.
+pub(crate) fn count_at(fields: &[u8]) -> Option<(u32, &[u8])>
+    ensures { option_map (λ x. (x.0, words x.1.now)) result ≡ count_field (words fields.now) }
+{
+    let (count, rest) = number_at(fields, MOST_COUNT)?;
+    Some((count as u32, rest))
+}
+
+// A time, or the number of a frame.
+pub(crate) fn long_at(fields: &[u8]) -> Option<(u64, &[u8])>
+    ensures { option_map (λ x. (x.0, words x.1.now)) result ≡ long_field (words fields.now) }
+{
+    let (number, rest) = number_at(fields, u64::MAX)?;
+    Some((number, rest))
 }
 
 #[tactic(auto, unfolding(crate::specs::Fields::page_field))]

@@ -5,6 +5,7 @@
 //! schedule that a seed gives. docs/FORMATS.md has the language, line by line.
 #![tactic(auto)]
 
+mod commands;
 mod fields;
 pub mod laws;
 mod parse;

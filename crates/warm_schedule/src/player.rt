@@ -63,9 +63,7 @@ impl<D: PageDevice> Session<D> {
     {
         let room = (MAX_LINE + 1).saturating_sub(self.line.len());
         let kept = piece.len().min(room);
-        let Ok(()) = self.line.extend_from_slice(&piece[..kept]) else {
-            return Err(PlayFault::Memory);
-        };
+        self.line.extend_from_slice(&piece[..kept])?;
         Ok(())
     }
 
@@ -264,9 +262,7 @@ pub fn play<R: Read, W: Write, D: PageDevice>(
         × Played (opening setup (listed D.state devices.items)) text out)) }
 {
     let mut session = Session::new(alloc, setup, devices)?;
-    let Ok(mut buffer) = vec![in alloc; 0u8; READ_SIZE] else {
-        return Err(PlayFault::Memory);
-    };
+    let mut buffer = vec![in alloc; 0u8; READ_SIZE]?;
     for _ in 0..MAX_READS {
         if !session.read_some(reader, buffer.as_mut_slice(), writer)? {
             session.finish(writer)?;

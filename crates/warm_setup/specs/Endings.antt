@@ -5,8 +5,8 @@ use Rattle.clap.specs.declared.error.kind.ErrorKind.{ErrorKind}
 use Rattle.clap.specs.declared.error.kind.ErrorKind.TheVariants.{DisplayHelp, DisplayVersion}
 use Rattle.warm_setup.specs.declared.command.CmdFault.{CmdFault}
 use Rattle.warm_setup.specs.declared.command.CmdFault.TheVariants as command
-use Rattle.warm_setup.specs.declared.outcome.RunFault.{RunFault}
-use Rattle.warm_setup.specs.declared.outcome.RunFault.TheVariants.{Command, CannotOpen, Setup, Play}
+use Rattle.warm_setup.specs.declared.outcome.ProgramFault.{ProgramFault}
+use Rattle.warm_setup.specs.declared.outcome.ProgramFault.TheVariants.{Command, CannotOpen, Setup, Play}
 use Rattle.warm_play_fault.specs.Faults.{play_fault_name}
 use Rattle.warm_play_fault.specs.declared.PlayFault.{PlayFault}
 use Rattle.warm_play_fault.specs.declared.PlayFault.TheVariants.{BadLine}
@@ -22,7 +22,7 @@ abbrev pub status_of_command : CmdFault → ℕ
 status_of_command command.Memory = 1
 status_of_command (command.Refused error) = status_of_kind (kind_of error)
 
-abbrev pub status_of : Result (Unit {0}) RunFault → ℕ
+abbrev pub status_of : Result (Unit {0}) ProgramFault → ℕ
 status_of (Ok _) = 0
 status_of (Err (Command fault)) = status_of_command fault
 status_of (Err (CannotOpen name)) = 1
@@ -47,7 +47,7 @@ abbrev pub number_named : PlayFault → Option ℕ
 number_named (BadLine number) = Some number
 number_named _ = None
 
-abbrev pub line_of : Result (Unit {0}) RunFault → List ℕ
+abbrev pub line_of : Result (Unit {0}) ProgramFault → List ℕ
 line_of (Ok _) = []
 line_of (Err (Command fault)) = line_of_command fault
 line_of (Err (CannotOpen name)) = codes "warmplay: cannot open " ++ name ++ line_end

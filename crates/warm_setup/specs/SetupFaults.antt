@@ -1,5 +1,7 @@
 -- The faults of a setup, by number and name, and what a reader of settings may answer.
 use Rattle.std.specs.Prelude.{◌≡◌, ◌⊎◌, ℕ, List, Result, Ok, Err, codes}
+use Rattle.toml.specs.Errors.{IsMemory}
+use Rattle.toml.specs.declared.de.error.Error.{Error}
 use Rattle.warm_setup.specs.declared.setup.SetupFault.{SetupFault}
 use Rattle.warm_setup.specs.declared.setup.SetupFault.TheVariants.{Memory, NotToml, BadKey, BadValue}
 
@@ -14,6 +16,10 @@ name_of Memory = codes "Memory"
 name_of NotToml = codes "NotToml"
 name_of BadKey = codes "BadKey"
 name_of BadValue = codes "BadValue"
+
+-- TOML's want of memory is the setup's own
+abbrev pub IsFaultOf : Error → SetupFault → Type 0
+IsFaultOf error fault = ((fault ≡ Memory) × IsMemory error) ⊎ ((fault ≡ NotToml) × ¬ IsMemory error)
 
 -- a reader answers what is meant, as `seen` shows its value; want of memory may come in place of any answer
 abbrev pub Gives : {A B : Type 0} → (A → B) → Result B SetupFault → Result A SetupFault → Type 0

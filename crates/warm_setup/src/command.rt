@@ -7,7 +7,7 @@ ghost use Rattle.clap.specs.Faults.{fault_of};
 ghost use Rattle.clap.specs.declared.builder.Command.TheViews.{out-Command};
 ghost use Rattle.warm_setup.specs.Endings.{command_fault_code, command_fault_name};
 ghost use Rattle.warm_setup.specs.Words.{with_play, line_by_line, setup, number, number_of, play, random, random_by, threads, threads_by, warmplay, command_by, Answers, IsRefusal};
-ghost use Rattle.warm_setup.specs.WordsSeen.{command_for, IsFaultOf};
+ghost use Rattle.warm_setup.specs.WordsSeen.{command_for};
 
 use crate::path::PathText;
 use clap::builder::ValueParser;
@@ -71,6 +71,31 @@ impl CmdFault {
         match self {
             CmdFault::Memory => "Memory",
             CmdFault::Refused(_) => "Refused",
+        }
+    }
+}
+
+impl From<AllocError> for CmdFault {
+    ghost use Rattle.std.specs.Prelude.{◌≡◌};
+    ghost use Rattle.warm_setup.specs.declared.command.CmdFault.TheVariants.{Memory};
+
+    ghost from_gives = { λ _ fault. fault ≡ Memory };
+
+    fn from(_error: AllocError) -> CmdFault {
+        CmdFault::Memory
+    }
+}
+
+// clap's want of memory is the program's own.
+impl From<clap::Error> for CmdFault {
+    ghost use Rattle.warm_setup.specs.WordsSeen.{IsFaultOf};
+
+    ghost from_gives = { IsFaultOf };
+
+    fn from(error: clap::Error) -> CmdFault {
+        match error.kind() {
+            ErrorKind::OutOfMemory => CmdFault::Memory,
+            _ => CmdFault::Refused(error),
         }
     }
 }
@@ -233,15 +258,6 @@ fn asked_in<'a>(matches: &ArgMatches<'a>) -> Option<Asked<'a>>
     None
 }
 
-fn fault_from(error: clap::Error) -> CmdFault
-    ensures { IsFaultOf error result }
-{
-    match error.kind() {
-        ErrorKind::OutOfMemory => CmdFault::Memory,
-        _ => CmdFault::Refused(error),
-    }
-}
-
 fn command_for<'a>(alloc: Global, asked: Asked<'a>) -> Result<Cmd, AllocError>
     ensures { IfOk result (λ command. command ≡ command_for asked.entry) }
 {
@@ -311,10 +327,7 @@ fn refused(alloc: Global, kind: ErrorKind, why: &str) -> CmdFault
 pub fn command_of<S: AsStr>(alloc: Global, words: &[S]) -> Result<Cmd, CmdFault>
     ensures { Answers (map S.text words.now) result }
 {
-    let matches = match matches_of(alloc, words) {
-        Ok(matches) => matches,
-        Err(error) => return Err(fault_from(error)),
-    };
+    let matches = matches_of(alloc, words)?;
     let Some(asked) = asked_in(&matches) else {
         return Err(refused(
             alloc,
@@ -322,8 +335,5 @@ pub fn command_of<S: AsStr>(alloc: Global, words: &[S]) -> Result<Cmd, CmdFault>
             "--seed and --events want numbers, and threads wants a FILE",
         ));
     };
-    match command_for(alloc, asked) {
-        Ok(command) => Ok(command),
-        Err(_) => Err(CmdFault::Memory),
-    }
+    Ok(command_for(alloc, asked)?)
 }

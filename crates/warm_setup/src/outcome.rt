@@ -10,20 +10,58 @@ use crate::setup::SetupFault;
 use clap::error::ErrorKind;
 use std::io::{self, Write};
 use std::marker::Model;
+use thiserror::Error;
 use warm_play_fault::PlayFault;
 
-/// Why a run of the program came to no end. They are found in this order: the command line, the setup file, its text,
+/// Why a run of the program came to no end, by the part of the run that found it. They are found in this order: the command line, the setup file, its text,
 /// the schedule's file, the devices (by replica, then by device), the play.
-#[derive(Debug, Drop)]
-pub enum RunFault {
+#[derive(Debug, Drop, Error)]
+pub enum ProgramFault {
     /// The words gave no command.
+    #[error("{0}")]
     Command(CmdFault),
     /// The file of this name could not be opened, or, for the setup file, not read.
+    #[error("cannot open {0}")]
     CannotOpen(PathText),
     /// The setup file's text is no setup.
+    #[error("setup: {0}")]
     Setup(SetupFault),
     /// The play stopped.
+    #[error("{0}")]
     Play(PlayFault),
+}
+
+impl From<CmdFault> for ProgramFault {
+    ghost use Rattle.std.specs.Prelude.{◌≡◌};
+    ghost use Rattle.warm_setup.specs.declared.outcome.ProgramFault.TheVariants.{Command};
+
+    ghost from_gives = { λ fault ended. ended ≡ Command fault };
+
+    fn from(fault: CmdFault) -> ProgramFault {
+        ProgramFault::Command(fault)
+    }
+}
+
+impl From<SetupFault> for ProgramFault {
+    ghost use Rattle.std.specs.Prelude.{◌≡◌};
+    ghost use Rattle.warm_setup.specs.declared.outcome.ProgramFault.TheVariants.{Setup};
+
+    ghost from_gives = { λ fault ended. ended ≡ Setup fault };
+
+    fn from(fault: SetupFault) -> ProgramFault {
+        ProgramFault::Setup(fault)
+    }
+}
+
+impl From<PlayFault> for ProgramFault {
+    ghost use Rattle.std.specs.Prelude.{◌≡◌};
+    ghost use Rattle.warm_setup.specs.declared.outcome.ProgramFault.TheVariants.{Play};
+
+    ghost from_gives = { λ fault ended. ended ≡ Play fault };
+
+    fn from(fault: PlayFault) -> ProgramFault {
+        ProgramFault::Play(fault)
+    }
 }
 
 /// What the program does at its end.
@@ -147,7 +185,7 @@ fn number_of(fault: PlayFault) -> Option<u64>
 /// | a file could not be opened, a device's among them | 1 | `warmplay: cannot open NAME` |
 /// | the setup was refused | 2 | `warmplay: setup: ` and the fault's name |
 /// | the play stopped, or there was no room for the command line | 1 | `warmplay: ` and the fault's name; for a bad line its number follows |
-pub fn outcome_of<'a>(ended: &'a Result<(), RunFault>) -> Outcome<'a>
+pub fn outcome_of<'a>(ended: &'a Result<(), ProgramFault>) -> Outcome<'a>
     ensures status { result.status ≡ status_of ended.entry.now }
     ensures line { result.line ≡ line_of ended.entry.now }
 {
@@ -156,19 +194,19 @@ pub fn outcome_of<'a>(ended: &'a Result<(), RunFault>) -> Outcome<'a>
             status: 0,
             line: ErrorLine::nothing(),
         },
-        Err(RunFault::Command(fault)) => Outcome {
+        Err(ProgramFault::Command(fault)) => Outcome {
             status: command_status(fault),
             line: command_line(fault),
         },
-        Err(RunFault::CannotOpen(name)) => Outcome {
+        Err(ProgramFault::CannotOpen(name)) => Outcome {
             status: 1,
             line: ErrorLine::of("warmplay: cannot open ", name.as_str()),
         },
-        Err(RunFault::Setup(fault)) => Outcome {
+        Err(ProgramFault::Setup(fault)) => Outcome {
             status: 2,
             line: ErrorLine::of("warmplay: setup: ", fault.name()),
         },
-        Err(RunFault::Play(fault)) => Outcome {
+        Err(ProgramFault::Play(fault)) => Outcome {
             status: 1,
             line: ErrorLine::numbered("warmplay: ", fault.name(), number_of(*fault)),
         },

@@ -1,6 +1,7 @@
 //! Paths, as texts.
 
 use std::alloc::{AllocError, Global};
+use std::fmt;
 use std::marker::Model;
 
 /// A path as the setup file or the command line wrote it. Contracts see its bytes.
@@ -58,5 +59,11 @@ impl PathText {
         ensures { result.now ≡ self.now }
     {
         self.text.as_str()
+    }
+}
+
+impl fmt::Display for PathText {
+    fn fmt<W: fmt::Write>(&self, f: &mut fmt::Formatter<W>) -> fmt::Result {
+        f.write_str(self.as_str())
     }
 }

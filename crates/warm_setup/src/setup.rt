@@ -15,7 +15,7 @@ ghost use Rattle.warm_setup.specs.Setups.{number_to, text_in, with_device_key, d
 ghost use Rattle.warm_setup.specs.SetupSeen.{fields_of, settings_of, setup_and_devices, AreWithin};
 
 use crate::path::PathText;
-use std::alloc::Global;
+use std::alloc::{AllocError, AllocFailed, Global};
 use thiserror::Error;
 use toml::{Table, Value};
 use warm_devices::MAX_PAGE_SIZE;
@@ -75,6 +75,41 @@ impl SetupFault {
     }
 }
 
+impl From<AllocError> for SetupFault {
+    ghost use Rattle.std.specs.Prelude.{◌≡◌};
+    ghost use Rattle.warm_setup.specs.declared.setup.SetupFault.TheVariants.{Memory};
+
+    ghost from_gives = { λ _ fault. fault ≡ Memory };
+
+    fn from(_error: AllocError) -> SetupFault {
+        SetupFault::Memory
+    }
+}
+
+impl<T: Drop> From<AllocFailed<T>> for SetupFault {
+    ghost use Rattle.std.specs.Prelude.{◌≡◌};
+    ghost use Rattle.warm_setup.specs.declared.setup.SetupFault.TheVariants.{Memory};
+
+    ghost from_gives = { λ _ fault. fault ≡ Memory };
+
+    fn from(_failed: AllocFailed<T>) -> SetupFault {
+        SetupFault::Memory
+    }
+}
+
+impl From<toml::de::Error> for SetupFault {
+    ghost use Rattle.warm_setup.specs.SetupFaults.{IsFaultOf};
+
+    ghost from_gives = { IsFaultOf };
+
+    fn from(error: toml::de::Error) -> SetupFault {
+        if error.is_memory() {
+            return SetupFault::Memory;
+        }
+        SetupFault::NotToml
+    }
+}
+
 /// How many devices a replica may have.
 pub const MAX_LISTED_DEVICES: usize = 16;
 
@@ -107,10 +142,7 @@ fn path_in(alloc: Global, value: &Value) -> Result<PathText, SetupFault>
     if text.is_empty() {
         return Err(SetupFault::BadValue);
     }
-    match PathText::copied_from(alloc, text) {
-        Ok(path) => Ok(path),
-        Err(_) => Err(SetupFault::Memory),
-    }
+    Ok(PathText::copied_from(alloc, text)?)
 }
 
 // What a device's table has said so far.
@@ -190,10 +222,7 @@ fn each_device(alloc: Global, values: &[Value]) -> Result<Vec<DeviceSpec>, Setup
             Ok(found) => found,
             Err(fault) => return Err(fault),
         };
-        match devices.push(found) {
-            Ok(()) => {}
-            Err(_) => return Err(SetupFault::Memory),
-        }
+        devices.push(found)?;
     }
     Ok(devices)
 }
@@ -312,10 +341,8 @@ fn one_device(alloc: Global) -> Result<Vec<DeviceSpec>, SetupFault>
         pages: 256,
         path: None,
     };
-    match devices.push(device) {
-        Ok(()) => Ok(devices),
-        Err(_) => Err(SetupFault::Memory),
-    }
+    devices.push(device)?;
+    Ok(devices)
 }
 
 // The setup and the devices that the settings name.
@@ -345,19 +372,9 @@ fn made_from(keys: SetupKeys) -> (Setup, Vec<DeviceSpec>)
 pub fn read_setup(alloc: Global, text: &str) -> Result<(Setup, Vec<DeviceSpec>), SetupFault>
     ensures { Gives setup_and_devices (setup_in (parse_document text.now)) result }
 {
-    let table = match toml::table_from_str(alloc, text) {
-        Ok(table) => table,
-        Err(error) => {
-            if error.is_memory() {
-                return Err(SetupFault::Memory);
-            }
-            return Err(SetupFault::NotToml);
-        }
-    };
-    match setup_keys(alloc, &table) {
-        Ok(keys) => Ok(made_from(keys)),
-        Err(fault) => Err(fault),
-    }
+    let table = toml::table_from_str(alloc, text)?;
+    let keys = setup_keys(alloc, &table)?;
+    Ok(made_from(keys))
 }
 
 /// The setup that a file's bytes hold: [`read_setup`] of the text where they are UTF-8, else [`SetupFault::NotToml`].

@@ -14,7 +14,7 @@ use warm_devices::{FileDevice, MemDevice, OpenFault, PageDevice};
 use warm_pool::MAX_DEVICES;
 use warm_schedule::{PlayFault, play, random_schedule};
 use warm_setup::{
-    Cmd, CmdFault, DeviceSpec, PathText, RunFault, SetupFault, command_of, not_text, outcome_of,
+    Cmd, CmdFault, DeviceSpec, PathText, ProgramFault, SetupFault, command_of, not_text, outcome_of,
     read_setup, read_setup_file,
 };
 use warm_threads::play_threads;
@@ -24,38 +24,38 @@ use warm_world::Setup;
 const GATHERED: usize = 65536;
 
 // The command of the program's own words.
-fn asked(rt: &HostRuntime) -> Result<Cmd, RunFault> {
+fn asked(rt: &HostRuntime) -> Result<Cmd, ProgramFault> {
     let args = match env::args(rt) {
         Ok(args) => args,
         Err(error) => {
             if error.kind() == io::ErrorKind::OutOfMemory {
-                return Err(RunFault::Command(CmdFault::Memory));
+                return Err(ProgramFault::Command(CmdFault::Memory));
             }
-            return Err(RunFault::Command(not_text(rt.alloc())));
+            return Err(ProgramFault::Command(not_text(rt.alloc())));
         }
     };
     let words: Vec<String> = match args.collect(rt.alloc()) {
         Ok(words) => words,
-        Err(_) => return Err(RunFault::Command(CmdFault::Memory)),
+        Err(_) => return Err(ProgramFault::Command(CmdFault::Memory)),
     };
-    command_of(rt.alloc(), words.as_slice()).map_err(RunFault::Command)
+    command_of(rt.alloc(), words.as_slice()).map_err(ProgramFault::Command)
 }
 
 // The setup and the devices of the file, or the defaults where there is none.
 fn setup_in(
     rt: &HostRuntime,
     file: Option<PathText>,
-) -> Result<(Setup, Vec<DeviceSpec>), RunFault> {
+) -> Result<(Setup, Vec<DeviceSpec>), ProgramFault> {
     let Some(path) = file else {
-        return read_setup(rt.alloc(), "").map_err(RunFault::Setup);
+        return read_setup(rt.alloc(), "").map_err(ProgramFault::Setup);
     };
     match fs::read(rt, path.as_str()) {
-        Ok(bytes) => read_setup_file(rt.alloc(), bytes.as_slice()).map_err(RunFault::Setup),
+        Ok(bytes) => read_setup_file(rt.alloc(), bytes.as_slice()).map_err(ProgramFault::Setup),
         Err(error) => {
             if error.kind() == io::ErrorKind::OutOfMemory {
-                return Err(RunFault::Setup(SetupFault::Memory));
+                return Err(ProgramFault::Setup(SetupFault::Memory));
             }
-            Err(RunFault::CannotOpen(path))
+            Err(ProgramFault::CannotOpen(path))
         }
     }
 }
@@ -67,12 +67,12 @@ enum Made {
     File(Box<FileDevice>),
 }
 
-fn no_memory() -> RunFault {
-    RunFault::Play(PlayFault::Memory)
+fn no_memory() -> ProgramFault {
+    ProgramFault::Play(PlayFault::Memory)
 }
 
 // A device in memory.
-fn in_memory(alloc: Global, pages: u32, page_size: usize) -> Result<Made, RunFault> {
+fn in_memory(alloc: Global, pages: u32, page_size: usize) -> Result<Made, ProgramFault> {
     let Ok(device) = MemDevice::new(alloc, u64::from(pages), page_size) else {
         return Err(no_memory());
     };
@@ -89,7 +89,7 @@ fn in_file(
     page_size: usize,
     path: &PathText,
     replica: u16,
-) -> Result<Made, RunFault> {
+) -> Result<Made, ProgramFault> {
     let Ok(name) = path.of_replica(rt.alloc(), replica) else {
         return Err(no_memory());
     };
@@ -101,7 +101,7 @@ fn in_file(
             Ok(Made::File(device))
         }
         Err(OpenFault::Memory) => Err(no_memory()),
-        Err(OpenFault::Open) => Err(RunFault::CannotOpen(name)),
+        Err(OpenFault::Open) => Err(ProgramFault::CannotOpen(name)),
     }
 }
 
@@ -110,7 +110,7 @@ fn device_of(
     spec: &DeviceSpec,
     page_size: usize,
     replica: u16,
-) -> Result<Made, RunFault> {
+) -> Result<Made, ProgramFault> {
     match &spec.path {
         Some(path) => in_file(rt, spec.pages, page_size, path, replica),
         None => in_memory(rt.alloc(), spec.pages, page_size),
@@ -132,9 +132,9 @@ fn play_over<T: Threads + Wait + Sync, R: Read>(
     reader: &mut R,
     setup: Setup,
     specs: &[DeviceSpec],
-) -> Result<(), RunFault> {
+) -> Result<(), ProgramFault> {
     if specs.len() > MAX_DEVICES {
-        return Err(RunFault::Play(PlayFault::BadDevices));
+        return Err(ProgramFault::Play(PlayFault::BadDevices));
     }
     let page_size = setup.page_size() as usize;
     let mut devices = Vec::new(rt.alloc());
@@ -158,7 +158,7 @@ fn play_over<T: Threads + Wait + Sync, R: Read>(
             play_threads(threads, rt.alloc(), reader, &mut buffered, setup, devices)
         }
     };
-    played.map_err(RunFault::Play)
+    played.map_err(ProgramFault::Play)
 }
 
 // Plays the file, or standard input where there is none.
@@ -168,7 +168,7 @@ fn run_play<T: Threads + Wait + Sync>(
     file: Option<PathText>,
     setup: Setup,
     specs: &[DeviceSpec],
-) -> Result<(), RunFault> {
+) -> Result<(), ProgramFault> {
     let Some(path) = file else {
         return play_over(rt, threads, Player::Lines, &mut rt.stdin(), setup, specs);
     };
@@ -182,23 +182,23 @@ fn play_file<T: Threads + Wait + Sync>(
     path: PathText,
     setup: Setup,
     specs: &[DeviceSpec],
-) -> Result<(), RunFault> {
+) -> Result<(), ProgramFault> {
     let Ok(mut schedule) = File::open(rt, path.as_str()) else {
-        return Err(RunFault::CannotOpen(path));
+        return Err(ProgramFault::CannotOpen(path));
     };
     play_over(rt, threads, player, &mut schedule, setup, specs)
 }
 
 // Writes a schedule drawn at random through a buffer, which `random_schedule` flushes at the end.
-fn run_random(rt: &HostRuntime, seed: u64, events: u32, setup: Setup) -> Result<(), RunFault> {
+fn run_random(rt: &HostRuntime, seed: u64, events: u32, setup: Setup) -> Result<(), ProgramFault> {
     let Ok(mut buffered) = BufWriter::with_capacity(rt.alloc(), GATHERED, rt.stdout()) else {
-        return Err(RunFault::Play(PlayFault::Memory));
+        return Err(ProgramFault::Play(PlayFault::Memory));
     };
-    random_schedule(&mut buffered, seed, events, &setup).map_err(RunFault::Play)
+    random_schedule(&mut buffered, seed, events, &setup).map_err(ProgramFault::Play)
 }
 
 // Faults are found in this order: the command line, the setup file, its text, the schedule's file, the devices, the play.
-fn run<T: Threads + Wait + Sync>(rt: &HostRuntime, threads: &T) -> Result<(), RunFault> {
+fn run<T: Threads + Wait + Sync>(rt: &HostRuntime, threads: &T) -> Result<(), ProgramFault> {
     match asked(rt)? {
         Cmd::Play { file, setup } => {
             let (setup, specs) = setup_in(rt, setup)?;
@@ -220,9 +220,9 @@ fn run<T: Threads + Wait + Sync>(rt: &HostRuntime, threads: &T) -> Result<(), Ru
 }
 
 // Prints clap's own text where there is one: `true` where help was asked for, and could not be written.
-fn is_help_lost(rt: &HostRuntime, ended: &Result<(), RunFault>) -> bool {
+fn is_help_lost(rt: &HostRuntime, ended: &Result<(), ProgramFault>) -> bool {
     match ended {
-        Err(RunFault::Command(CmdFault::Refused(error))) => {
+        Err(ProgramFault::Command(CmdFault::Refused(error))) => {
             error.print(rt).is_err() && !error.use_stderr()
         }
         _ => false,
@@ -232,7 +232,7 @@ fn is_help_lost(rt: &HostRuntime, ended: &Result<(), RunFault>) -> bool {
 fn main(rt: HostRuntime) -> ExitCode {
     let mut ended = run(&rt, &rt);
     if is_help_lost(&rt, &ended) {
-        ended = Err(RunFault::Play(PlayFault::WriteFault));
+        ended = Err(ProgramFault::Play(PlayFault::WriteFault));
     }
     let outcome = outcome_of(&ended);
     // Where standard error takes nothing, the status is all that is left to say.

@@ -15,4 +15,4 @@ loop-byte-preserved c = record {
 pub returns : goal.returns
 returns c =
     let spells = sym c.spells_bytes.ensures ∙ c.if-not-spells_bytes.false in
-    rw c.of.ensures (ap (λ (o : Option (List ℕ)). ok_or o Bad) (read_all c.loop-byte.bytes.items c.args.word.now c.loop-byte.rest.now spells (some_digits c.args.word.now spells) c.in_default-first_byte.ensures.spelled c.loop-byte.invariant.read))
+    rw c.of.ensures (ap (λ (o : Option (List ℕ)). ok_or o Bad) (read_all c.loop-byte.bytes.items c.args.word.now c.loop-byte.rest.now spells (some_digits c.args.word.now spells) c.in_default.ensures.spelled c.loop-byte.invariant.read))

@@ -6,7 +6,7 @@ pub loop-value-init : goal.loop-value-init
 loop-value-init c = each_starts device_in _ c.args.values.now c.new-devices.ensures.items
 
 pub loop-value-preserved : goal.loop-value-preserved
-loop-value-preserved c = each_goes_on device_in c.loop-value.devices.items c.args.values.now c.loop-value.value-index c.value-item.result _ c.value-item.is c.loop-value-test.true c.loop-value.invariant c.in-Ok.found _ c.in-Ok.ensures c.in-Ok-push.ensures.items
+loop-value-preserved c = each_goes_on device_in c.loop-value.devices.items c.args.values.now c.loop-value.value-index c.value-item.result _ c.value-item.is c.loop-value-test.true c.loop-value.invariant c.in-Ok.found _ c.in-Ok.ensures c.in_ok-push.ensures.items
 
 pub returns-in-Err : goal.returns-in-Err
 returns-in-Err c = each_stops device_in c.loop-value.devices.items c.args.values.now c.loop-value.value-index c.value-item.result _ c.value-item.is c.loop-value-test.true c.loop-value.invariant c.in-Err.fault c.in-Err.ensures

@@ -1,0 +1,40 @@
+-- What the readers of a line hold, as the definitions see it.
+use Rattle.std.specs.Prelude.{ℕ, List, Option, Some, None, option_map}
+use Rattle.warm_world.specs.declared.event.Event.{Event}
+use Rattle.warm_world.specs.declared.event.Event.TheVariants as event
+use Rattle.warm_schedule.specs.Fields.{bytes_of}
+use Rattle.warm_schedule.specs.Grammar.{Reader, refer_of, flush_of, send_of, offer_of, deliver_of, pin_of, unpin_of, put_of, get_of, victim_of, warm_of, warmstep_of, restart_of, horizon_of, show_of}
+use Rattle.warm_schedule.specs.declared.commands.Command.{Command}
+use Rattle.warm_schedule.specs.declared.commands.Command.TheVariants as command
+use Rattle.warm_schedule.specs.declared.commands.Parsed.{Parsed}
+use Rattle.warm_schedule.specs.declared.commands.Parsed.TheVariants as parsed
+use Rattle.warm_schedule.specs.declared.parse.Line.{Line}
+use Rattle.warm_schedule.specs.declared.parse.Line.TheVariants.{Nothing, Act}
+
+-- what a command's fields ask for
+abbrev pub reader_of : Command → Reader
+reader_of command.Refer = refer_of
+reader_of command.Flush = flush_of
+reader_of command.Send = send_of
+reader_of command.Offer = offer_of
+reader_of command.Deliver = deliver_of
+reader_of command.Pin = pin_of
+reader_of command.Unpin = unpin_of
+reader_of command.Put = put_of
+reader_of command.Get = get_of
+reader_of command.Victim = victim_of
+reader_of command.Warm = warm_of
+reader_of command.WarmStep = warmstep_of
+reader_of command.Restart = restart_of
+reader_of command.Horizon = horizon_of
+reader_of command.Show = show_of
+
+-- the event, whose bytes the word of a put is to spell
+abbrev pub event_parsed : Parsed → Option Event
+event_parsed (parsed.Event event) = Some event
+event_parsed (parsed.Put replica slot at word) = option_map (event.Put replica slot at) (bytes_of word.now)
+
+-- a line without words, or a comment, where nothing is parsed
+abbrev pub line_parsed : Option Parsed → Option Line
+line_parsed None = Some Nothing
+line_parsed (Some parsed) = option_map Act (event_parsed parsed)

@@ -1,0 +1,272 @@
+//! The commands of a schedule: a table of their words, and for each a reader of its fields.
+ghost use Rattle.std.specs.Prelude.{◌≡◌, map, option_map, option_and_then};
+ghost use Rattle.warm_schedule.specs.Text.{words};
+ghost use Rattle.warm_schedule.specs.Grammar.{ends_with, refer_of, flush_of, send_of, offer_of, deliver_of, pin_of, unpin_of, put_of, get_of};
+ghost use Rattle.warm_schedule.specs.Grammar.{victim_of, warm_of, warmstep_of, restart_of, horizon_of, show_of, looked_up, commands};
+ghost use Rattle.warm_schedule.specs.Parsing.{reader_of, event_parsed};
+
+use crate::fields::{
+    after_at, bucket_at, count_at, long_at, page_at, replica_at, slot_at, worker_at,
+};
+use crate::text::next_word;
+use warm_pool::Slot;
+use warm_stamps::Bucket;
+use warm_world::Event;
+
+// A command of the language.
+#[derive(Clone, Copy)]
+pub(crate) enum Command {
+    Refer,
+    Flush,
+    Send,
+    Offer,
+    Deliver,
+    Pin,
+    Unpin,
+    Put,
+    Get,
+    Victim,
+    Warm,
+    WarmStep,
+    Restart,
+    Horizon,
+    Show,
+}
+
+// The word that each command begins with.
+const COMMANDS: [(&str, Command); 15] = [
+    ("ref", Command::Refer),
+    ("flush", Command::Flush),
+    ("send", Command::Send),
+    ("offer", Command::Offer),
+    ("deliver", Command::Deliver),
+    ("pin", Command::Pin),
+    ("unpin", Command::Unpin),
+    ("put", Command::Put),
+    ("get", Command::Get),
+    ("victim", Command::Victim),
+    ("warm", Command::Warm),
+    ("warmstep", Command::WarmStep),
+    ("restart", Command::Restart),
+    ("horizon", Command::Horizon),
+    ("show", Command::Show),
+];
+
+// The command of the first row with this word.
+fn command_in(rows: &[(&str, Command)], word: &[u8]) -> Option<Command>
+    ensures { result ≡ looked_up (map (λ row. (row.0.now, row.1)) rows.now) word.now }
+{
+    for (name, command) in rows {
+        if word == name.as_bytes() {
+            return Some(*command);
+        }
+    }
+    None
+}
+
+// The command that begins with this word.
+pub(crate) fn command_named(word: &[u8]) -> Option<Command>
+    ensures { option_map reader_of result ≡ looked_up commands word.now }
+{
+    command_in(&COMMANDS, word)
+}
+
+// What a command with its fields asks for, read without taking memory: the bytes of a `put` are left as the word that is to
+// spell them.
+#[derive(Drop)]
+pub(crate) enum Parsed<'a> {
+    Event(Event),
+    Put {
+        replica: u16,
+        slot: Slot,
+        at: u32,
+        word: &'a [u8],
+    },
+}
+
+// What a command asks for with these fields.
+pub(crate) fn read_fields<'a>(command: Command, fields: &'a [u8]) -> Option<Parsed<'a>>
+    ensures { option_and_then event_parsed result ≡ reader_of command (words fields.now) }
+{
+    match command {
+        Command::Refer => whole(refer(fields)),
+        Command::Flush => whole(flush(fields)),
+        Command::Send => whole(send(fields)),
+        Command::Offer => whole(offer(fields)),
+        Command::Deliver => whole(deliver(fields)),
+        Command::Pin => whole(pin(fields)),
+        Command::Unpin => whole(unpin(fields)),
+        Command::Put => put(fields),
+        Command::Get => whole(get(fields)),
+        Command::Victim => whole(victim(fields)),
+        Command::Warm => whole(warm(fields)),
+        Command::WarmStep => whole(warmstep(fields)),
+        Command::Restart => whole(restart(fields)),
+        Command::Horizon => whole(horizon(fields)),
+        Command::Show => whole(show(fields)),
+    }
+}
+
+fn whole<'a>(event: Option<Event>) -> Option<Parsed<'a>>
+    ensures { option_and_then event_parsed result ≡ event }
+{
+    Some(Parsed::Event(event?))
+}
+
+// The event, where no further word follows.
+fn ends_with(rest: &[u8], event: Event) -> Option<Event>
+    ensures { result ≡ ends_with (words rest.now) event }
+{
+    if next_word(rest).is_some() {
+        return None;
+    }
+    Some(event)
+}
+
+// ---- the readers, each of what follows the first word
+
+#[tactic(auto, unfolding(crate::specs::Grammar::refer_of))]
+fn refer(fields: &[u8]) -> Option<Event>
+    ensures { result ≡ refer_of (words fields.now) }
+{
+    let (replica, rest) = replica_at(fields)?;
+    let (worker, rest) = worker_at(rest)?;
+    let (page, rest) = page_at(rest)?;
+    let (time, rest) = long_at(rest)?;
+    ends_with(rest, Event::Refer(replica, worker, page, time))
+}
+
+#[tactic(auto, unfolding(crate::specs::Grammar::flush_of))]
+fn flush(fields: &[u8]) -> Option<Event>
+    ensures { result ≡ flush_of (words fields.now) }
+{
+    let (replica, rest) = replica_at(fields)?;
+    let (worker, rest) = worker_at(rest)?;
+    ends_with(rest, Event::Flush(replica, worker))
+}
+
+#[tactic(auto, unfolding(crate::specs::Grammar::send_of))]
+fn send(fields: &[u8]) -> Option<Event>
+    ensures { result ≡ send_of (words fields.now) }
+{
+    let (replica, rest) = replica_at(fields)?;
+    let (bucket, rest) = bucket_at(rest)?;
+    let bucket = Bucket::new(bucket)?;
+    let (after, rest) = after_at(rest)?;
+    ends_with(rest, Event::Send(replica, bucket, after))
+}
+
+#[tactic(auto, unfolding(crate::specs::Grammar::offer_of))]
+fn offer(fields: &[u8]) -> Option<Event>
+    ensures { result ≡ offer_of (words fields.now) }
+{
+    let (replica, rest) = replica_at(fields)?;
+    ends_with(rest, Event::Offer(replica))
+}
+
+#[tactic(auto, unfolding(crate::specs::Grammar::deliver_of))]
+fn deliver(fields: &[u8]) -> Option<Event>
+    ensures { result ≡ deliver_of (words fields.now) }
+{
+    let (replica, rest) = replica_at(fields)?;
+    let (frame, rest) = long_at(rest)?;
+    ends_with(rest, Event::Deliver(replica, frame))
+}
+
+#[tactic(auto, unfolding(crate::specs::Grammar::pin_of))]
+fn pin(fields: &[u8]) -> Option<Event>
+    ensures { result ≡ pin_of (words fields.now) }
+{
+    let (replica, rest) = replica_at(fields)?;
+    let (page, rest) = page_at(rest)?;
+    ends_with(rest, Event::Pin(replica, page))
+}
+
+#[tactic(auto, unfolding(crate::specs::Grammar::unpin_of))]
+fn unpin(fields: &[u8]) -> Option<Event>
+    ensures { result ≡ unpin_of (words fields.now) }
+{
+    let (replica, rest) = replica_at(fields)?;
+    let (slot, rest) = slot_at(rest)?;
+    ends_with(rest, Event::Unpin(replica, slot))
+}
+
+#[tactic(auto, unfolding(crate::specs::Grammar::put_of, crate::specs::Fields::bytes_field))]
+fn put<'a>(fields: &'a [u8]) -> Option<Parsed<'a>>
+    ensures { option_and_then event_parsed result ≡ put_of (words fields.now) }
+{
+    let (replica, rest) = replica_at(fields)?;
+    let (slot, rest) = slot_at(rest)?;
+    let (at, rest) = count_at(rest)?;
+    let (word, rest) = next_word(rest)?;
+    if next_word(rest).is_some() {
+        return None;
+    }
+    Some(Parsed::Put {
+        replica,
+        slot,
+        at,
+        word,
+    })
+}
+
+#[tactic(auto, unfolding(crate::specs::Grammar::get_of))]
+fn get(fields: &[u8]) -> Option<Event>
+    ensures { result ≡ get_of (words fields.now) }
+{
+    let (replica, rest) = replica_at(fields)?;
+    let (slot, rest) = slot_at(rest)?;
+    let (at, rest) = count_at(rest)?;
+    let (count, rest) = count_at(rest)?;
+    ends_with(rest, Event::Get(replica, slot, at, count))
+}
+
+#[tactic(auto, unfolding(crate::specs::Grammar::victim_of))]
+fn victim(fields: &[u8]) -> Option<Event>
+    ensures { result ≡ victim_of (words fields.now) }
+{
+    let (replica, rest) = replica_at(fields)?;
+    ends_with(rest, Event::Victim(replica))
+}
+
+#[tactic(auto, unfolding(crate::specs::Grammar::warm_of))]
+fn warm(fields: &[u8]) -> Option<Event>
+    ensures { result ≡ warm_of (words fields.now) }
+{
+    let (replica, rest) = replica_at(fields)?;
+    let (count, rest) = count_at(rest)?;
+    ends_with(rest, Event::Warm(replica, count))
+}
+
+#[tactic(auto, unfolding(crate::specs::Grammar::warmstep_of))]
+fn warmstep(fields: &[u8]) -> Option<Event>
+    ensures { result ≡ warmstep_of (words fields.now) }
+{
+    let (replica, rest) = replica_at(fields)?;
+    ends_with(rest, Event::WarmStep(replica))
+}
+
+#[tactic(auto, unfolding(crate::specs::Grammar::restart_of))]
+fn restart(fields: &[u8]) -> Option<Event>
+    ensures { result ≡ restart_of (words fields.now) }
+{
+    let (replica, rest) = replica_at(fields)?;
+    ends_with(rest, Event::Restart(replica))
+}
+
+#[tactic(auto, unfolding(crate::specs::Grammar::horizon_of))]
+fn horizon(fields: &[u8]) -> Option<Event>
+    ensures { result ≡ horizon_of (words fields.now) }
+{
+    let (replica, rest) = replica_at(fields)?;
+    let (time, rest) = long_at(rest)?;
+    ends_with(rest, Event::Horizon(replica, time))
+}
+
+#[tactic(auto, unfolding(crate::specs::Grammar::show_of))]
+fn show(fields: &[u8]) -> Option<Event>
+    ensures { result ≡ show_of (words fields.now) }
+{
+    let (replica, rest) = replica_at(fields)?;
+    ends_with(rest, Event::Show(replica))
+}
