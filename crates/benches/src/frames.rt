@@ -1,4 +1,4 @@
-//! Encodes and decodes a full frame, sums the buckets of a history of 100,000 pages, and decodes a stream of frames that
+//! Encodes and decodes a full frame, digests the buckets of a history of 100,000 pages, and decodes a stream of frames that
 //! comes in pieces.
 //!
 //! With no word each is done once, and what came out is printed. With a number each is done so many times, and the
@@ -9,12 +9,12 @@ use crate::parts::{added_bytes, asked_number, replica, twice};
 use anyhow::{Context, Result, bail};
 use std::alloc::Global;
 use std::time::{Duration, Instant};
-use warm_digest::sums;
-use warm_frames::{BoxedFrame, Decoder, EntryList, Fed, Frame, decode, encode};
+use warm_digest::digests;
+use warm_frames::{BoxedMessage, Decoder, EntryList, Fed, Message, decode, encode};
 use warm_history::History;
 use warm_stamps::{Bucket, PageId, ReplicaId};
 
-// How many pages a full frame has, and how many the history that is summed.
+// How many pages a full frame has, and how many the history that is digested.
 const FULL: u32 = 1000;
 
 const MANY: u32 = 100_000;
@@ -48,7 +48,7 @@ fn history_of(alloc: Global, replica: ReplicaId, pages: u32, apart: u32) -> Resu
 }
 
 // A frame of the first 1000 pages of bucket 0.
-fn full_frame(alloc: Global, sender: ReplicaId) -> Result<Frame> {
+fn full_frame(alloc: Global, sender: ReplicaId) -> Result<Message> {
     let history = history_of(alloc, sender, FULL, 64)?;
     let Some(bucket) = Bucket::new(0) else {
         bail!("0 is a bucket")
@@ -57,7 +57,7 @@ fn full_frame(alloc: Global, sender: ReplicaId) -> Result<Frame> {
         bail!("no memory")
     };
     match EntryList::of(entries) {
-        Ok(entries) => Ok(Frame::Entries {
+        Ok(entries) => Ok(Message::Entries {
             sender,
             horizon: history.horizon(),
             entries,
@@ -66,7 +66,7 @@ fn full_frame(alloc: Global, sender: ReplicaId) -> Result<Frame> {
     }
 }
 
-fn encoded(alloc: Global, frame: &Frame) -> Result<Vec<u8>> {
+fn encoded(alloc: Global, frame: &Message) -> Result<Vec<u8>> {
     match encode(alloc, frame) {
         Ok(bytes) => Ok(bytes),
         Err(_) => bail!("no memory"),
@@ -74,7 +74,7 @@ fn encoded(alloc: Global, frame: &Frame) -> Result<Vec<u8>> {
 }
 
 // The bytes of so many encodings, one after the other.
-fn encode_often(alloc: Global, frame: &Frame, rounds: u64) -> Result<Vec<u8>> {
+fn encode_often(alloc: Global, frame: &Message, rounds: u64) -> Result<Vec<u8>> {
     let mut bytes = encoded(alloc, frame)?;
     for _ in 1..rounds {
         bytes = encoded(alloc, frame)?;
@@ -87,7 +87,7 @@ fn decode_often(alloc: Global, bytes: &[u8], rounds: u64) -> Result<u64> {
     let mut count = 0u64;
     for _ in 0..rounds {
         match decode(alloc, bytes) {
-            Ok(Frame::Entries { entries, .. }) => {
+            Ok(Message::Entries { entries, .. }) => {
                 count = count.wrapping_add(entries.as_slice().len() as u64);
             }
             _ => bail!("the frame is one of entries"),
@@ -103,7 +103,7 @@ fn sum_often(alloc: Global, history: &History, rounds: u64) -> Result<[u8; 32]> 
     };
     let mut first = [0u8; 32];
     for _ in 0..rounds {
-        match sums(alloc, history) {
+        match digests(alloc, history) {
             Ok(table) => first = table.sum(bucket),
             Err(_) => bail!("no memory"),
         }
@@ -121,12 +121,12 @@ fn stream_of(alloc: Global, bytes: &[u8], frames: u64) -> Result<Vec<u8>> {
 }
 
 // How many entries a frame has, where there is one.
-fn entries_in(frame: Option<BoxedFrame>) -> u64 {
+fn entries_in(frame: Option<BoxedMessage>) -> u64 {
     let Some(frame) = frame else {
         return 0;
     };
     match frame.as_frame() {
-        Frame::Entries { entries, .. } => entries.as_slice().len() as u64,
+        Message::Entries { entries, .. } => entries.as_slice().len() as u64,
         _ => 0,
     }
 }
@@ -185,7 +185,7 @@ fn time_summing(rt: &HostRuntime, sender: ReplicaId, often: u64) -> Result<([u8;
     Ok((first, spent))
 }
 
-// Encodes and decodes a full frame, and sums a history: so often, and says what came out. Gives the frame's bytes.
+// Encodes and decodes a full frame, and digests a history: so often, and says what came out. Gives the frame's bytes.
 fn time_whole(rt: &HostRuntime, rounds: Option<u64>) -> Result<Vec<u8>> {
     let sender = replica(1)?;
     let often = rounds.unwrap_or(1);
@@ -194,7 +194,7 @@ fn time_whole(rt: &HostRuntime, rounds: Option<u64>) -> Result<Vec<u8>> {
     let (count, decoding) = time_decoding(rt, &bytes, often)?;
     println!(rt; "encode: {} bytes {}", bytes.len(), added_bytes(0, &bytes))?;
     println!(rt; "decode: {} entries", count)?;
-    println!(rt; "sums: {}", added_bytes(0, &first))?;
+    println!(rt; "digests: {}", added_bytes(0, &first))?;
     if rounds.is_some() {
         println!(rt;
             "{} {} {} ns",

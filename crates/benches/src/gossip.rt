@@ -1,4 +1,4 @@
-//! Measures a round of gossip between two replicas, a replica's offer of its sums, a standby's warm-up, and the room that a
+//! Measures a round of gossip between two replicas, a replica's offer of its digests, a standby's warm-up, and the room that a
 //! history takes.
 //!
 //! With no word each is done once, small, and what came out is printed. For `bench/gossip/measure.py` the
@@ -16,7 +16,7 @@ use anyhow::{Context, Result, bail};
 use std::alloc::Global;
 use std::time::{Clock, Instant};
 use warm_devices::MemDevice;
-use warm_frames::{Frame, decode, encode};
+use warm_frames::{Message, decode, encode};
 use warm_gossip::{Node, NodeFault};
 use warm_history::{History, PageHist};
 use warm_stamps::{PageId, Reference, ReplicaId, Stamp};
@@ -108,7 +108,7 @@ fn absorbed(node: &mut Node<MemDevice>, batch: &[Reference]) -> Result<()> {
     }
 }
 
-// The bytes of a node's sums.
+// The bytes of a node's digests.
 fn offered(alloc: Global, node: &mut Node<MemDevice>) -> Result<Vec<u8>> {
     match node.offer() {
         Ok(frame) => Ok(encode(alloc, &frame)?),
@@ -117,7 +117,7 @@ fn offered(alloc: Global, node: &mut Node<MemDevice>) -> Result<Vec<u8>> {
 }
 
 // The bytes of each of the frames.
-fn encoded(alloc: Global, frames: &[Frame]) -> Result<Vec<Vec<u8>>> {
+fn encoded(alloc: Global, frames: &[Message]) -> Result<Vec<Vec<u8>>> {
     let mut all = Vec::with_capacity(alloc, frames.len())?;
     for frame in frames {
         all.push(encode(alloc, frame)?)?;
@@ -153,14 +153,14 @@ fn length_of(sent: &[Vec<u8>]) -> u64 {
     bytes
 }
 
-// A round: the first offers its sums, and all that is answered comes to whom it answers. Gives how many bytes went.
+// A round: the first offers its digests, and all that is answered comes to whom it answers. Gives how many bytes went.
 fn round(alloc: Global, first: &mut Node<MemDevice>, second: &mut Node<MemDevice>) -> Result<u64> {
-    let sums = offered(alloc, first)?;
-    let entries_and_wish = answered(alloc, second, &sums)?;
-    let wanted = answers(alloc, first, &entries_and_wish)?;
+    let digests = offered(alloc, first)?;
+    let entries_and_request = answered(alloc, second, &digests)?;
+    let wanted = answers(alloc, first, &entries_and_request)?;
     let _none = answers(alloc, second, &wanted)?;
-    let sent = length_of(&entries_and_wish).wrapping_add(length_of(&wanted));
-    Ok(sent.wrapping_add(sums.len() as u64))
+    let sent = length_of(&entries_and_request).wrapping_add(length_of(&wanted));
+    Ok(sent.wrapping_add(digests.len() as u64))
 }
 
 // So many rounds. Before each the first hears of pages in so many buckets.
@@ -189,7 +189,7 @@ fn last_time(hist: PageHist) -> u64 {
 }
 
 // A sum over all entries, so that what was made is seen.
-fn sum_of(history: &History) -> u64 {
+fn digest_of(history: &History) -> u64 {
     let mut sum = 0u64;
     for entry in history.iter() {
         sum = added(sum, entry.page.no).wrapping_add(last_time(entry.hist));
@@ -208,10 +208,10 @@ fn gossiped(
     let start = Instant::now(clock)?;
     let sent = rounds_of(alloc, first, second, buckets, rounds)?;
     let nanos = start.elapsed(clock)?.as_nanos();
-    if sum_of(first.history()) != sum_of(second.history()) {
+    if digest_of(first.history()) != digest_of(second.history()) {
         bail!("the histories differ")
     }
-    let sum = sum_of(second.history()).wrapping_add(sent);
+    let sum = digest_of(second.history()).wrapping_add(sent);
     Ok(Made { sum, nanos })
 }
 
@@ -282,7 +282,7 @@ fn offers_over(
     offers: u32,
 ) -> Result<Made> {
     let mut node = told(alloc, 1, 1, pages, 0)?;
-    // The first takes all sums.
+    // The first takes all digests.
     let _first = offered(alloc, &mut node)?;
     offers_of(clock, alloc, &mut node, buckets, offers)
 }
@@ -310,7 +310,7 @@ fn raised_offers_of(
 
 fn raised_offers_over(clock: &impl Clock, alloc: Global, pages: u32, offers: u32) -> Result<Made> {
     let mut node = told(alloc, 1, 1, pages, LATE)?;
-    // The first takes all sums.
+    // The first takes all digests.
     let _first = offered(alloc, &mut node)?;
     raised_offers_of(clock, alloc, &mut node, pages, offers)
 }
@@ -352,7 +352,7 @@ fn remembered(clock: &impl Clock, alloc: Global, pages: u32) -> Result<Made> {
     let start = Instant::now(clock)?;
     remember(&mut node, pages)?;
     let nanos = start.elapsed(clock)?.as_nanos();
-    let sum = sum_of(node.history());
+    let sum = digest_of(node.history());
     Ok(Made { sum, nanos })
 }
 

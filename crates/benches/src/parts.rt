@@ -1,4 +1,4 @@
-//! What several benches are made of: numbers that are asked for or drawn, sums over what came out, pages, references and nodes.
+//! What several benches are made of: numbers that are asked for or drawn, digests over what came out, pages, references and nodes.
 use anyhow::{Context, Result, bail};
 use std::alloc::Global;
 use warm_devices::MemDevice;
@@ -25,7 +25,7 @@ pub(crate) fn next(drawn: u64) -> u64 {
         .wrapping_add(1_442_695_040_888_963_407)
 }
 
-// A sum over what came out, with one more item. Sums are printed, so that what was made is seen, and tell orders apart.
+// A sum over what came out, with one more item. Digests are printed, so that what was made is seen, and tell orders apart.
 pub(crate) fn added(sum: u64, item: u64) -> u64 {
     sum.wrapping_mul(31).wrapping_add(item)
 }

@@ -10,7 +10,7 @@
 use anyhow::{Context, Result, bail};
 use std::alloc::Global;
 use std::io::{self, BufRead, BufReader, BufWriter, Write};
-use warm_frames::{Decoder, Fed, Frame, FrameFault, SumTable, decode, encode};
+use warm_frames::{Decoder, DigestTable, Fed, FrameFault, Message, decode, encode};
 use warm_history::{Entry, PageHist};
 use warm_stamps::{BUCKETS, Bucket, Stamp};
 
@@ -30,20 +30,20 @@ fn put_entry<W: Write>(writer: &mut W, entry: &Entry) -> Result<()> {
     }
 }
 
-fn put_sums<W: Write>(alloc: Global, writer: &mut W, sums: &SumTable) -> Result<()> {
+fn put_digests<W: Write>(alloc: Global, writer: &mut W, digests: &DigestTable) -> Result<()> {
     for index in 0..BUCKETS {
         let Some(bucket) = Bucket::new(index) else {
             bail!("there is no bucket {index}")
         };
-        write!(writer, "{}", hex::encode(alloc, sums.sum(bucket))?)?;
+        write!(writer, "{}", hex::encode(alloc, digests.sum(bucket))?)?;
     }
     Ok(())
 }
 
 // A frame's fields, and whether these bytes are how it is spelled.
-fn put_frame<W: Write>(alloc: Global, writer: &mut W, frame: &Frame, bytes: &[u8]) -> Result<()> {
+fn put_frame<W: Write>(alloc: Global, writer: &mut W, frame: &Message, bytes: &[u8]) -> Result<()> {
     match frame {
-        Frame::Entries {
+        Message::Entries {
             sender,
             entries,
             ..
@@ -53,11 +53,19 @@ fn put_frame<W: Write>(alloc: Global, writer: &mut W, frame: &Frame, bytes: &[u8
                 put_entry(writer, entry)?;
             }
         }
-        Frame::Digest { sender, sums, .. } => {
+        Message::Digest {
+            sender,
+            digests,
+            ..
+        } => {
             write!(writer, " digest {} ", sender.get())?;
-            put_sums(alloc, writer, sums)?;
+            put_digests(alloc, writer, digests)?;
         }
-        Frame::Want { sender, mask, .. } => write!(writer, " want {} {}", sender.get(), mask)?,
+        Message::Want {
+            sender,
+            request,
+            ..
+        } => write!(writer, " want {} {}", sender.get(), request)?,
     }
     if encode(alloc, frame)?.as_slice() == bytes {
         write!(writer, " same")?;

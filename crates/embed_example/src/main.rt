@@ -79,15 +79,15 @@ fn deliver_all(
     Ok(answered)
 }
 
-// Rounds of gossip until the second has nothing to answer to the sums of the first: then both hold the same. Gives how many it took.
+// Rounds of gossip until the second has nothing to answer to the digests of the first: then both hold the same. Gives how many it took.
 fn make_equal(
     alloc: Global,
     first: &mut Node<MemDevice>,
     second: &mut Node<MemDevice>,
 ) -> Result<u32> {
     for round in 0..MOST_ROUNDS {
-        let sums = encode(alloc, &first.offer()?)?;
-        let entries_and_want = deliver(alloc, second, &sums)?;
+        let digests = encode(alloc, &first.offer()?)?;
+        let entries_and_want = deliver(alloc, second, &digests)?;
         if entries_and_want.is_empty() {
             return Ok(round);
         }

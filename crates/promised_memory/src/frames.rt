@@ -1,7 +1,7 @@
 //! Frames whose reading takes no memory.
 use refused_rows::{Ended, Met};
 use std::alloc::Global;
-use warm_frames::{Frame, decode};
+use warm_frames::{Message, decode};
 
 // Sender 3 says nothing, and has horizon 5.
 const NOTHING: [u8; 23] = [
@@ -13,8 +13,8 @@ const WISH: [u8; 27] = [
     0x4C, 0x32, 0x47, 0x32, 3, 0, 2, 0, 0, 0, 0, 0, 0, 0, 5, 0, 0, 0, 8, 0, 0, 0, 0, 0, 0, 0, 6,
 ];
 
-// How a frame of sums by sender 1 with horizon 5 begins. It has 2,067 bytes.
-const SUMS: [u8; 19] = [
+// How a frame of digests by sender 1 with horizon 5 begins. It has 2,067 bytes.
+const DIGESTS: [u8; 19] = [
     0x4C, 0x32, 0x47, 0x32, 2, 0, 1, 0, 0, 0, 0, 0, 0, 0, 5, 0, 0, 8, 0,
 ];
 
@@ -29,15 +29,15 @@ const NARROW_SUMS: [u8; 11] = [0x4C, 0x32, 0x47, 0x31, 2, 0, 1, 0, 0, 8, 0];
 
 // Whether the bytes are a frame of no entries, with this horizon.
 fn is_nothing(alloc: Global, bytes: &[u8], since: u64) -> bool {
-    matches!(decode(alloc, bytes), Ok(Frame::Entries { horizon, .. }) if horizon == since)
+    matches!(decode(alloc, bytes), Ok(Message::Entries { horizon, .. }) if horizon == since)
 }
 
-fn is_wish(alloc: Global, bytes: &[u8], since: u64) -> bool {
-    matches!(decode(alloc, bytes), Ok(Frame::Want { horizon, mask: 6, .. }) if horizon == since)
+fn is_request(alloc: Global, bytes: &[u8], since: u64) -> bool {
+    matches!(decode(alloc, bytes), Ok(Message::Want { horizon, request: 6, .. }) if horizon == since)
 }
 
-fn is_sums(alloc: Global, bytes: &[u8], since: u64) -> bool {
-    matches!(decode(alloc, bytes), Ok(Frame::Digest { horizon, .. }) if horizon == since)
+fn is_digests(alloc: Global, bytes: &[u8], since: u64) -> bool {
+    matches!(decode(alloc, bytes), Ok(Message::Digest { horizon, .. }) if horizon == since)
 }
 
 fn narrow(met: &mut Met, alloc: Global) -> Result<(), Ended> {
@@ -45,17 +45,20 @@ fn narrow(met: &mut Met, alloc: Global) -> Result<(), Ended> {
         is_nothing(alloc, &NARROW_NOTHING, 0),
         "no narrow entries are refused",
     )?;
-    met.holds(is_wish(alloc, &NARROW_WISH, 0), "a narrow wish is refused")?;
+    met.holds(
+        is_request(alloc, &NARROW_WISH, 0),
+        "a narrow request is refused",
+    )?;
     let mut bytes = [7u8; 2059];
     bytes[..11].copy_from_slice(&NARROW_SUMS);
-    met.holds(is_sums(alloc, &bytes, 0), "narrow sums are refused")
+    met.holds(is_digests(alloc, &bytes, 0), "narrow digests are refused")
 }
 
 pub(crate) fn rows(met: &mut Met, alloc: Global) -> Result<(), Ended> {
     met.holds(is_nothing(alloc, &NOTHING, 5), "no entries are refused")?;
-    met.holds(is_wish(alloc, &WISH, 5), "a wish is refused")?;
+    met.holds(is_request(alloc, &WISH, 5), "a request is refused")?;
     let mut bytes = [7u8; 2067];
-    bytes[..19].copy_from_slice(&SUMS);
-    met.holds(is_sums(alloc, &bytes, 5), "sums are refused")?;
+    bytes[..19].copy_from_slice(&DIGESTS);
+    met.holds(is_digests(alloc, &bytes, 5), "digests are refused")?;
     narrow(met, alloc)
 }

@@ -1,7 +1,7 @@
 //! A frame of one entry, written and read, whole and in pieces.
 use refused_rows::{Ended, Met};
 use std::alloc::Global;
-use warm_frames::{BoxedFrame, Decoder, Fed, Frame, FrameFault, decode, encode};
+use warm_frames::{BoxedMessage, Decoder, Fed, FrameFault, Message, decode, encode};
 
 // Sender 1, whose horizon is 12, says that 0:7 has 20@1 and 10@1.
 const WIDE: [u8; 54] = [
@@ -15,7 +15,7 @@ const NARROW: [u8; 42] = [
     0, 0, 0x14, 0, 1, 0, 0, 0, 0, 0, 0, 0, 0x0A, 0, 1,
 ];
 
-fn decoded(met: &mut Met, alloc: Global, bytes: &[u8]) -> Result<Frame, Ended> {
+fn decoded(met: &mut Met, alloc: Global, bytes: &[u8]) -> Result<Message, Ended> {
     match decode(alloc, bytes) {
         Ok(frame) => Ok(frame),
         Err(fault) => {
@@ -28,7 +28,7 @@ fn decoded(met: &mut Met, alloc: Global, bytes: &[u8]) -> Result<Frame, Ended> {
     }
 }
 
-fn spelled(met: &mut Met, alloc: Global, frame: &Frame, wanted: &[u8]) -> Result<(), Ended> {
+fn spelled(met: &mut Met, alloc: Global, frame: &Message, wanted: &[u8]) -> Result<(), Ended> {
     let bytes = match encode(alloc, frame) {
         Ok(bytes) => bytes,
         Err(_) => {
@@ -43,7 +43,7 @@ fn spelled(met: &mut Met, alloc: Global, frame: &Frame, wanted: &[u8]) -> Result
 }
 
 // Feeds a piece, all of which the frame needs. A refusal takes nothing, so that the same piece is fed again.
-fn fed(met: &mut Met, decoder: &mut Decoder, piece: &[u8]) -> Result<Option<BoxedFrame>, Ended> {
+fn fed(met: &mut Met, decoder: &mut Decoder, piece: &[u8]) -> Result<Option<BoxedMessage>, Ended> {
     let Fed { taken, frame } = match decoder.feed(piece) {
         Ok(fed) => fed,
         Err(fault) => {

@@ -5,12 +5,12 @@
 //! refused; or that a row had no room for what it needs before its call, and ended.
 #![tactic(auto)]
 
+mod digested;
 mod frames;
 mod histories;
 mod nodes;
 mod references;
 mod sizes;
-mod summed;
 mod turns;
 
 use nodes::opened;
@@ -36,7 +36,7 @@ fn play<R: Threads + Wait + Sync>(met: &mut Met, rt: &R, alloc: Global) -> Resul
     histories::rows(met, alloc)?;
     sizes::rows(met, alloc)?;
     frames::rows(met, alloc)?;
-    summed::rows(met, alloc)?;
+    digested::rows(met, alloc)?;
     play_nodes(met, alloc)?;
     play_turns(met, rt, alloc)
 }

@@ -3,7 +3,7 @@ use crate::references::{reference, references, replica};
 use refused_rows::{Ended, Met};
 use std::alloc::Global;
 use warm_devices::MemDevice;
-use warm_frames::{Frame, SUM_SIZE, SumTable};
+use warm_frames::{DIGEST_SIZE, DigestTable, Message};
 use warm_gossip::{Call, Node, NodeFault, Reply};
 use warm_history::PageHist;
 use warm_pool::{MAX_DEVICES, Pool, PoolFault, Slot};
@@ -96,25 +96,25 @@ fn write_call(alloc: Global) -> Result<Call, Ended> {
     })
 }
 
-// Sums of which none is that of a bucket, by replica 2 with this horizon.
-fn digest(horizon: u64) -> Result<Frame, Ended> {
+// Digests of which none is that of a bucket, by replica 2 with this horizon.
+fn digest(horizon: u64) -> Result<Message, Ended> {
     let sender = replica(2)?;
-    let sums = SumTable::of([[0; SUM_SIZE]; BUCKETS as usize]);
-    Ok(Frame::Digest {
+    let digests = DigestTable::of([[0; DIGEST_SIZE]; BUCKETS as usize]);
+    Ok(Message::Digest {
         sender,
         horizon,
-        sums,
+        digests,
     })
 }
 
 // A request for buckets 1 and 2, by replica 2 with this horizon.
-fn request(horizon: u64) -> Result<Frame, Ended> {
+fn request(horizon: u64) -> Result<Message, Ended> {
     let sender = replica(2)?;
-    let mask = 6;
-    Ok(Frame::Want {
+    let request = 6;
+    Ok(Message::Want {
         sender,
         horizon,
-        mask,
+        request,
     })
 }
 
@@ -211,7 +211,7 @@ fn tell(
 fn answered(
     met: &mut Met,
     node: &mut Node<MemDevice>,
-    frame: &Frame,
+    frame: &Message,
     wanted: usize,
 ) -> Result<(), Ended> {
     let before = face_of(node);

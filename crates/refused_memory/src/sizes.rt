@@ -22,7 +22,7 @@ fn buffer(met: &mut Met, alloc: Global) -> Result<(), Ended> {
         }
     };
     met.holds(
-        buffer.cap() == 64 && buffer.is_empty(),
+        buffer.capacity() == 64 && buffer.is_empty(),
         "a buffer begins empty",
     )
 }

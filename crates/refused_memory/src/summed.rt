@@ -1,29 +1,29 @@
-//! Sums of buckets, taken anew and kept.
+//! Digests of buckets, taken anew and kept.
 use crate::histories::{entries_of, told};
 use crate::references::references;
 use refused_rows::{Ended, Met};
 use std::alloc::Global;
-use warm_digest::{SummedHistory, Sums, sums};
-use warm_frames::SumTable;
+use warm_digest::{DigestedHistory, Digests, digests};
+use warm_frames::DigestTable;
 use warm_history::History;
 
-fn taken(met: &mut Met, alloc: Global, history: &History) -> Result<SumTable, Ended> {
+fn taken(met: &mut Met, alloc: Global, history: &History) -> Result<DigestTable, Ended> {
     let len = history.len();
-    match sums(alloc, history) {
+    match digests(alloc, history) {
         Ok(table) => Ok(table),
         Err(_) => {
-            met.refuse(history.len() == len, "refused sums change nothing")?;
-            match sums(alloc, history) {
+            met.refuse(history.len() == len, "refused digests change nothing")?;
+            match digests(alloc, history) {
                 Ok(table) => Ok(table),
-                Err(_) => Err(met.broken("sums are refused again")),
+                Err(_) => Err(met.broken("digests are refused again")),
             }
         }
     }
 }
 
-fn renewed(met: &mut Met, alloc: Global, whole: &SumTable) -> Result<(), Ended> {
+fn renewed(met: &mut Met, alloc: Global, whole: &DigestTable) -> Result<(), Ended> {
     let history = told(alloc, 0, 9, 10)?;
-    let mut kept = Sums::new(alloc);
+    let mut kept = Digests::new(alloc);
     let before = kept.table();
     if kept.renew(&history, 0x1FF).is_err() {
         met.refuse(kept.table() == before, "a refused renewal changes no sum")?;
@@ -34,30 +34,30 @@ fn renewed(met: &mut Met, alloc: Global, whole: &SumTable) -> Result<(), Ended> 
     }
     met.holds(
         kept.table() == *whole,
-        "renewed sums are those of the history",
+        "renewed digests are those of the history",
     )
 }
 
-// What a history that keeps its sums says of them.
-fn kept(met: &mut Met, history: &mut SummedHistory) -> Result<SumTable, Ended> {
+// What a history that keeps its digests says of them.
+fn kept(met: &mut Met, history: &mut DigestedHistory) -> Result<DigestTable, Ended> {
     let len = history.history().len();
-    match history.sums() {
+    match history.digests() {
         Ok(table) => Ok(table),
         Err(_) => {
             met.refuse(
                 history.history().len() == len,
-                "refused sums change no history",
+                "refused digests change no history",
             )?;
-            match history.sums() {
+            match history.digests() {
                 Ok(table) => Ok(table),
-                Err(_) => Err(met.broken("kept sums are refused again")),
+                Err(_) => Err(met.broken("kept digests are refused again")),
             }
         }
     }
 }
 
-fn absorbed(met: &mut Met, alloc: Global, whole: &SumTable) -> Result<(), Ended> {
-    let mut history = SummedHistory::new(alloc);
+fn absorbed(met: &mut Met, alloc: Global, whole: &DigestTable) -> Result<(), Ended> {
+    let mut history = DigestedHistory::new(alloc);
     let empty = kept(met, &mut history)?;
     let batch = references(alloc, 0, 9, 10)?;
     if history.absorb(&batch).is_err() {
@@ -70,11 +70,11 @@ fn absorbed(met: &mut Met, alloc: Global, whole: &SumTable) -> Result<(), Ended>
         )?;
     }
     let now = kept(met, &mut history)?;
-    met.holds(now == *whole, "kept sums are those of the history")
+    met.holds(now == *whole, "kept digests are those of the history")
 }
 
-fn joined(met: &mut Met, alloc: Global, whole: &SumTable) -> Result<(), Ended> {
-    let mut history = SummedHistory::new(alloc);
+fn joined(met: &mut Met, alloc: Global, whole: &DigestTable) -> Result<(), Ended> {
+    let mut history = DigestedHistory::new(alloc);
     let entries = entries_of(alloc, &told(alloc, 0, 9, 10)?)?;
     if history.join_entries(0, &entries).is_err() {
         met.refuse(
@@ -87,18 +87,18 @@ fn joined(met: &mut Met, alloc: Global, whole: &SumTable) -> Result<(), Ended> {
         )?;
     }
     let now = kept(met, &mut history)?;
-    met.holds(now == *whole, "joined sums are those of the history")
+    met.holds(now == *whole, "joined digests are those of the history")
 }
 
-// A history of nine pages at 10, which keeps its sums.
-fn first_known(alloc: Global) -> Result<SummedHistory, Ended> {
-    let mut history = SummedHistory::new(alloc);
+// A history of nine pages at 10, which keeps its digests.
+fn first_known(alloc: Global) -> Result<DigestedHistory, Ended> {
+    let mut history = DigestedHistory::new(alloc);
     history.absorb(&references(alloc, 0, 9, 10)?)?;
     Ok(history)
 }
 
 // Entries at 20 come with the horizon 15, and what was known before is forgotten.
-fn joined_later(met: &mut Met, alloc: Global, later: &SumTable) -> Result<(), Ended> {
+fn joined_later(met: &mut Met, alloc: Global, later: &DigestTable) -> Result<(), Ended> {
     let mut history = first_known(alloc)?;
     let before = kept(met, &mut history)?;
     let entries = entries_of(alloc, &told(alloc, 4, 12, 20)?)?;
@@ -115,36 +115,36 @@ fn joined_later(met: &mut Met, alloc: Global, later: &SumTable) -> Result<(), En
     let now = kept(met, &mut history)?;
     met.holds(
         history.horizon() == 15 && now == *later,
-        "the sums are of what the horizon leaves",
+        "the digests are of what the horizon leaves",
     )
 }
 
-// The sums at the horizon 15, which change nothing.
-fn kept_since(met: &mut Met, history: &mut SummedHistory) -> Result<SumTable, Ended> {
+// The digests at the horizon 15, which change nothing.
+fn kept_since(met: &mut Met, history: &mut DigestedHistory) -> Result<DigestTable, Ended> {
     let len = history.history().len();
-    match history.sums_since(15) {
+    match history.digests_since(15) {
         Ok(table) => Ok(table),
         Err(_) => {
             let same = history.horizon() == 0 && history.history().len() == len;
-            met.refuse(same, "refused sums at a horizon raise nothing")?;
-            match history.sums_since(15) {
+            met.refuse(same, "refused digests at a horizon raise nothing")?;
+            match history.digests_since(15) {
                 Ok(table) => Ok(table),
-                Err(_) => Err(met.broken("sums at a horizon are refused again")),
+                Err(_) => Err(met.broken("digests at a horizon are refused again")),
             }
         }
     }
 }
 
-// Sums at a horizon, and those after a raise to it.
-fn raised(met: &mut Met, alloc: Global, later: &SumTable) -> Result<(), Ended> {
+// Digests at a horizon, and those after a raise to it.
+fn raised(met: &mut Met, alloc: Global, later: &DigestTable) -> Result<(), Ended> {
     let mut history = first_known(alloc)?;
     history.absorb(&references(alloc, 4, 12, 20)?)?;
     let then = kept_since(met, &mut history)?;
-    met.holds(then == *later, "the sums are those at the horizon")?;
+    met.holds(then == *later, "the digests are those at the horizon")?;
     let _before = kept(met, &mut history)?;
     history.raise(15);
     let now = kept(met, &mut history)?;
-    met.holds(now == *later, "the sums are those after the raise")
+    met.holds(now == *later, "the digests are those after the raise")
 }
 
 pub(crate) fn rows(met: &mut Met, alloc: Global) -> Result<(), Ended> {

@@ -7,7 +7,7 @@ use std::alloc::Global;
 use std::sync::Wait;
 use std::thread::Threads;
 use warm_devices::MemDevice;
-use warm_frames::{Frame, SUM_SIZE, SumTable, encode};
+use warm_frames::{DIGEST_SIZE, DigestTable, Message, encode};
 use warm_gossip::{Call, Node, NodeFault, Reply};
 use warm_refbuffer::RefBuffer;
 use warm_replica::{
@@ -111,7 +111,7 @@ fn jobs(alloc: Global) -> Result<Vec<Job>, Ended> {
         steps.push_reserved(Step::Flush);
         let list = BoxedCall::new(alloc, Call::WarmList(1))?;
         steps.push_reserved(Step::Make(list));
-        if all.push(Job { cap: 1, steps }).is_err() {
+        if all.push(Job { capacity: 1, steps }).is_err() {
             return Err(Ended::NoRoom);
         }
     }
@@ -199,18 +199,18 @@ fn run<R: Threads + Wait + Sync>(
     }
 }
 
-// The sums of a history of which nobody has heard, from replica 9, as mail. The horizon drops the first of the two references to 0:1.
+// The digests of a history of which nobody has heard, from replica 9, as mail. The horizon drops the first of the two references to 0:1.
 fn mail(alloc: Global) -> Result<Vec<Mail>, Ended> {
     let Ok(sender) = ReplicaId::new(9) else {
         return Err(Ended::Broken);
     };
-    let sums = SumTable::of([[0; SUM_SIZE]; BUCKETS as usize]);
+    let digests = DigestTable::of([[0; DIGEST_SIZE]; BUCKETS as usize]);
     let text = encode(
         alloc,
-        &Frame::Digest {
+        &Message::Digest {
             sender,
             horizon: 15,
-            sums,
+            digests,
         },
     )?;
     let mut items = Vec::with_capacity(alloc, 2)?;
@@ -246,7 +246,7 @@ fn listen<R: Wait>(
         report.joined.wrapping_add(report.refused) == 1,
         "one item is counted",
     )?;
-    // a wish of all buckets, and an answer for each of the pages 0:1 to 0:3
+    // a request of all buckets, and an answer for each of the pages 0:1 to 0:3
     let kept = post.given().len() as u128;
     if report.refused == 1 {
         return met.refuse(kept == 0 && report.lost == 0, "a refused frame is answered");

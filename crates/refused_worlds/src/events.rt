@@ -52,7 +52,7 @@ fn gossip_at(place: usize) -> Result<Event, Ended> {
         6 => Event::Deliver(2, 1),
         7 => Event::Refer(2, 1, page(3), 40),
         8 => Event::Flush(2, 1),
-        // sums, answered by what differs and by a wish
+        // digests, answered by what differs and by a request
         9 => Event::Deliver(2, 2),
         10 => Event::Deliver(1, 3),
         11 => Event::Deliver(1, 4),
@@ -84,7 +84,7 @@ fn horizon_at(place: usize) -> Event {
     match place {
         26 => Event::Horizon(1, 25),
         27 => Event::Offer(1),
-        // sums with a greater horizon: of pages 2 and 3, which are not older, frames 9 and 10, and frame 11 is a wish
+        // digests with a greater horizon: of pages 2 and 3, which are not older, frames 9 and 10, and frame 11 is a request
         28 => Event::Deliver(2, 8),
         29 => Event::Show(2),
         30 => Event::Horizon(2, 35),
@@ -92,11 +92,11 @@ fn horizon_at(place: usize) -> Event {
         32 => Event::Refer(1, 1, page(4), 50),
         33 => Event::Flush(1, 1),
         34 => Event::Offer(2),
-        // page 2 is older than the horizon of these sums: frame 13 has page 4, and frame 14 is a wish
+        // page 2 is older than the horizon of these digests: frame 13 has page 4, and frame 14 is a request
         35 => Event::Deliver(1, 12),
         36 => Event::Horizon(2, 45),
         37 => Event::Deliver(2, 13),
-        // sums without a horizon: frame 15 has page 4, and frame 16 is a wish with the horizon 45
+        // digests without a horizon: frame 15 has page 4, and frame 16 is a request with the horizon 45
         38 => Event::Deliver(2, 2),
         39 => Event::Deliver(1, 16),
         _ => Event::Show(1),

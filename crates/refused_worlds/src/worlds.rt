@@ -2,7 +2,7 @@
 //! is refused, so that a world that is made after it is one.
 ghost use Rattle.std.specs.Prelude.{◌≡◌, IfOk, length};
 ghost use Rattle.warm_world.specs.Opening.{AreFew};
-ghost use Rattle.warm_world.specs.Seen.{listed};
+ghost use Rattle.warm_world.specs.Views.{listed};
 
 use crate::answers::{is_memory, is_misnamed, is_same};
 use crate::events::{EVENTS, all_events, event_at, is_free};

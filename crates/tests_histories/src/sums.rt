@@ -1,10 +1,10 @@
-//! Sums of buckets, made from a history and kept.
+//! Digests of buckets, made from a history and kept.
 
 use std::alloc::Global;
 use std::process::Abort;
 use test_kit::{SeenAt, bucket, history_of, references};
-use warm_digest::{SummedHistory, Sums, differing, sums};
-use warm_frames::SumTable;
+use warm_digest::{DigestedHistory, Digests, differing, digests};
+use warm_frames::DigestTable;
 use warm_history::History;
 use warm_stamps::Reference;
 
@@ -54,13 +54,13 @@ fn four_pages(rt: &impl Abort, alloc: Global) -> Vec<Reference> {
     references(alloc, &FOUR_PAGES).expect(rt, "room for references")
 }
 
-// The sums of the history of these references.
-fn sums_of(rt: &impl Abort, alloc: Global, given: &[SeenAt]) -> SumTable {
+// The digests of the history of these references.
+fn digests_of(rt: &impl Abort, alloc: Global, given: &[SeenAt]) -> DigestTable {
     let history = history_of(alloc, given).expect(rt, "room for a history");
-    sums(alloc, &history).expect(rt, "room for the sums")
+    digests(alloc, &history).expect(rt, "room for the digests")
 }
 
-// Which of the four pages a table has sums of: none, those of bucket 1, all, or all by what is kept of them since 20.
+// Which of the four pages a table has digests of: none, those of bucket 1, all, or all by what is kept of them since 20.
 // Each is named by a word, since a sum of 32 bytes is dear to prove wherever it stands.
 #[derive(Clone, Copy)]
 enum Pages {
@@ -70,7 +70,7 @@ enum Pages {
     Since20,
 }
 
-fn sum_of(index: u8, pages: Pages) -> [u8; 32] {
+fn digest_of(index: u8, pages: Pages) -> [u8; 32] {
     match (index, pages) {
         (1, Pages::OfBucket1 | Pages::All) => OF_THREE_PAGES,
         (7, Pages::All) => OF_0_7,
@@ -81,9 +81,9 @@ fn sum_of(index: u8, pages: Pages) -> [u8; 32] {
 }
 
 // Whether each bucket has the sum of those of the pages that it has.
-fn has_sums(table: &SumTable, pages: Pages) -> bool {
+fn has_digests(table: &DigestTable, pages: Pages) -> bool {
     for index in 0..64 {
-        if table.sum(bucket(index)) != sum_of(index, pages) {
+        if table.sum(bucket(index)) != digest_of(index, pages) {
             return false;
         }
     }
@@ -91,82 +91,87 @@ fn has_sums(table: &SumTable, pages: Pages) -> bool {
 }
 
 #[test]
-fn a_bucket_has_the_sum_of_its_entries(rt: HostRuntime) {
-    assert!(rt; has_sums(&sums_of(&rt, rt.alloc(), &[]), Pages::None));
-    assert!(rt; has_sums(&sums_of(&rt, rt.alloc(), &FOUR_PAGES), Pages::All));
-    assert!(rt; has_sums(&Sums::new(rt.alloc()).table(), Pages::None));
+fn a_bucket_has_the_digest_of_its_entries(rt: HostRuntime) {
+    assert!(rt; has_digests(&digests_of(&rt, rt.alloc(), &[]), Pages::None));
+    assert!(rt; has_digests(&digests_of(&rt, rt.alloc(), &FOUR_PAGES), Pages::All));
+    assert!(rt; has_digests(&Digests::new(rt.alloc()).table(), Pages::None));
 }
 
-// Whether the sums that are kept are of those of the four pages.
-fn keeps(rt: &impl Abort, summed: &mut SummedHistory, pages: Pages) -> bool {
-    has_sums(&summed.sums().expect(rt, "room for the sums"), pages)
+// Whether the digests that are kept are of those of the four pages.
+fn keeps(rt: &impl Abort, digested: &mut DigestedHistory, pages: Pages) -> bool {
+    has_digests(
+        &digested.digests().expect(rt, "room for the digests"),
+        pages,
+    )
 }
 
-// The sums of the four pages are kept, however often they are asked for.
-fn takes_in_four(rt: &impl Abort, alloc: Global, summed: &mut SummedHistory) {
-    summed
+// The digests of the four pages are kept, however often they are asked for.
+fn takes_in_four(rt: &impl Abort, alloc: Global, digested: &mut DigestedHistory) {
+    digested
         .absorb(&four_pages(rt, alloc))
         .expect(rt, "room for a batch");
-    assert!(rt; keeps(rt, summed, Pages::All));
-    assert!(rt; keeps(rt, summed, Pages::All));
+    assert!(rt; keeps(rt, digested, Pages::All));
+    assert!(rt; keeps(rt, digested, Pages::All));
 }
 
-// The sums that are kept follow the horizon as it rises, by itself or with a frame of no entries, and stay as an earlier time comes.
-fn follow_the_horizon(rt: &impl Abort, summed: &mut SummedHistory) {
-    summed.raise(20);
-    assert!(rt; keeps(rt, summed, Pages::Since20));
-    summed.join_entries(19, &[]).expect(rt, "no room is taken");
-    assert!(rt; summed.horizon() == 20);
-    assert!(rt; keeps(rt, summed, Pages::Since20));
-    summed
+// The digests that are kept follow the horizon as it rises, by itself or with a frame of no entries, and stay as an earlier time comes.
+fn follow_the_horizon(rt: &impl Abort, digested: &mut DigestedHistory) {
+    digested.raise(20);
+    assert!(rt; keeps(rt, digested, Pages::Since20));
+    digested
+        .join_entries(19, &[])
+        .expect(rt, "no room is taken");
+    assert!(rt; digested.horizon() == 20);
+    assert!(rt; keeps(rt, digested, Pages::Since20));
+    digested
         .join_entries(u64::MAX, &[])
         .expect(rt, "no room is taken");
-    assert!(rt; keeps(rt, summed, Pages::None));
+    assert!(rt; keeps(rt, digested, Pages::None));
 }
 
 #[test]
-fn kept_sums_follow_the_horizon(rt: HostRuntime) {
-    let mut summed = SummedHistory::new(rt.alloc());
-    takes_in_four(&rt, rt.alloc(), &mut summed);
-    follow_the_horizon(&rt, &mut summed);
-    summed.clear();
-    assert!(rt; summed.history().len() == 0 && summed.horizon() == 0);
-    assert!(rt; keeps(&rt, &mut summed, Pages::None));
+fn kept_digests_follow_the_horizon(rt: HostRuntime) {
+    let mut digested = DigestedHistory::new(rt.alloc());
+    takes_in_four(&rt, rt.alloc(), &mut digested);
+    follow_the_horizon(&rt, &mut digested);
+    digested.clear();
+    assert!(rt; digested.history().len() == 0 && digested.horizon() == 0);
+    assert!(rt; keeps(&rt, &mut digested, Pages::None));
 }
 
 #[test]
 fn differing_buckets_are_set_bits(rt: HostRuntime) {
-    let empty = sums_of(&rt, rt.alloc(), &[]);
-    let one_page = sums_of(&rt, rt.alloc(), &[(0, 1, 10, 1)]);
+    let empty = digests_of(&rt, rt.alloc(), &[]);
+    let one_page = digests_of(&rt, rt.alloc(), &[(0, 1, 10, 1)]);
     assert!(rt; differing(&one_page, &empty) == 2);
     assert!(rt; differing(&one_page, &one_page) == 0);
     let more = [(0, 1, 10, 1), (0, 63, 10, 1), (64, 0, 10, 1)];
-    let more = sums_of(&rt, rt.alloc(), &more);
+    let more = digests_of(&rt, rt.alloc(), &more);
     assert!(rt; differing(&more, &one_page) == 0x8000_0000_0000_0001);
 }
 
-// A call that is refused for memory leaves the sums that were kept, and the same call is then right.
+// A call that is refused for memory leaves the digests that were kept, and the same call is then right.
 #[test]
-fn a_failed_allocation_changes_no_sum(rt: HostRuntime) {
+fn a_failed_allocation_changes_no_digest(rt: HostRuntime) {
     let batch = four_pages(&rt, rt.alloc());
-    let mut summed = SummedHistory::new(rt.alloc());
-    if summed.absorb(&batch).is_err() {
-        assert!(rt; summed.history().len() == 0 && keeps(&rt, &mut summed, Pages::None));
-        summed.absorb(&batch).expect(&rt, "room for a batch");
+    let mut digested = DigestedHistory::new(rt.alloc());
+    if digested.absorb(&batch).is_err() {
+        assert!(rt; digested.history().len() == 0 && keeps(&rt, &mut digested, Pages::None));
+        digested.absorb(&batch).expect(&rt, "room for a batch");
     }
-    if summed.sums().is_err() {
-        assert!(rt; summed.history().len() == 4);
+    if digested.digests().is_err() {
+        assert!(rt; digested.history().len() == 4);
     }
-    assert!(rt; keeps(&rt, &mut summed, Pages::All));
+    assert!(rt; keeps(&rt, &mut digested, Pages::All));
 }
 
 #[test]
-fn a_refused_renewal_changes_no_sum(rt: HostRuntime) {
+fn a_refused_renewal_changes_no_digest(rt: HostRuntime) {
     let history = history_of(rt.alloc(), &FOUR_PAGES).expect(&rt, "room for a history");
-    let mut kept = Sums::new(rt.alloc());
+    let mut kept = Digests::new(rt.alloc());
     if kept.renew(&history, 2).is_err() {
-        assert!(rt; has_sums(&kept.table(), Pages::None));
-        kept.renew(&history, 2).expect(&rt, "room for the sums");
+        assert!(rt; has_digests(&kept.table(), Pages::None));
+        kept.renew(&history, 2).expect(&rt, "room for the digests");
     }
-    assert!(rt; has_sums(&kept.table(), Pages::OfBucket1));
+    assert!(rt; has_digests(&kept.table(), Pages::OfBucket1));
 }

@@ -12,8 +12,8 @@ use test_kit::{
     SeenAt, alone, entry, flaky, history_of, memory, once, page, references, replica, twice,
 };
 use warm_devices::{MemDevice, PageDevice};
-use warm_digest::sums;
-use warm_frames::{EntryList, Frame, FrameList, encode};
+use warm_digest::digests;
+use warm_frames::{EntryList, Message, MessageList, encode};
 use warm_gossip::{Call, Node, NodeFault, Reply};
 use warm_history::{History, PageHist};
 use warm_pool::{Pool, PoolFault, Slot};
@@ -100,9 +100,9 @@ fn says<D: PageDevice>(node: &mut Node<D>, call: Call) -> Said {
 enum Sent {
     // All entries of the history of these references.
     Entries(u64, &'static [SeenAt]),
-    // The sums of that history.
-    Sums(u64, &'static [SeenAt]),
-    // A request for the buckets of a mask.
+    // The digests of that history.
+    Digests(u64, &'static [SeenAt]),
+    // A request for the buckets of a request.
     Request(u64, u64),
 }
 
@@ -144,31 +144,31 @@ fn entries_in(rt: &impl Abort, alloc: Global, history: &History) -> EntryList {
     EntryList::of(entries).ok().expect(rt, "the pages rise")
 }
 
-fn frame_of(rt: &impl Abort, alloc: Global, sent: Sent) -> Frame {
+fn frame_of(rt: &impl Abort, alloc: Global, sent: Sent) -> Message {
     let sender = replica(1);
     match sent {
         Sent::Entries(horizon, known) => {
             let history = history_of(alloc, known).expect(rt, "room for a history");
             let entries = entries_in(rt, alloc, &history);
-            Frame::Entries {
+            Message::Entries {
                 sender,
                 horizon,
                 entries,
             }
         }
-        Sent::Sums(horizon, known) => {
+        Sent::Digests(horizon, known) => {
             let history = history_of(alloc, known).expect(rt, "room for a history");
-            let sums = sums(alloc, &history).expect(rt, "room for the sums");
-            Frame::Digest {
+            let digests = digests(alloc, &history).expect(rt, "room for the digests");
+            Message::Digest {
                 sender,
                 horizon,
-                sums,
+                digests,
             }
         }
-        Sent::Request(horizon, mask) => Frame::Want {
+        Sent::Request(horizon, request) => Message::Want {
             sender,
             horizon,
-            mask,
+            request,
         },
     }
 }
@@ -239,12 +239,12 @@ fn knows(history: &History, horizon: u64, wanted: &[(u64, u64, u64)]) -> bool {
     history.len() == wanted.len() && history.horizon() == horizon
 }
 
-fn bytes_of(rt: &impl Abort, alloc: Global, frame: &Frame) -> Vec<u8> {
+fn bytes_of(rt: &impl Abort, alloc: Global, frame: &Message) -> Vec<u8> {
     encode(alloc, frame).expect(rt, "room for the bytes")
 }
 
 // Whether these are just the frames of replica 1 that are wanted, by their bytes.
-fn are_frames(rt: &impl Abort, alloc: Global, frames: &[Frame], wanted: &[Sent]) -> bool {
+fn are_frames(rt: &impl Abort, alloc: Global, frames: &[Message], wanted: &[Sent]) -> bool {
     for (place, sent) in wanted.iter().enumerate() {
         let Some(frame) = frames.get(place) else {
             return false;
@@ -258,14 +258,18 @@ fn are_frames(rt: &impl Abort, alloc: Global, frames: &[Frame], wanted: &[Sent])
 }
 
 // The frames that a node answers to one.
-fn answers<D: PageDevice>(rt: &impl Abort, node: &mut Node<D>, frame: Frame) -> FrameList {
+fn answers<D: PageDevice>(rt: &impl Abort, node: &mut Node<D>, frame: Message) -> MessageList {
     match answer(node, Call::Receive(frame)) {
         Reply::Answers(frames) => frames,
         _ => panic!(rt; "the frame is received"),
     }
 }
 
-fn would_answer<D: PageDevice>(rt: &impl Abort, node: &mut Node<D>, frame: &Frame) -> FrameList {
+fn would_answer<D: PageDevice>(
+    rt: &impl Abort,
+    node: &mut Node<D>,
+    frame: &Message,
+) -> MessageList {
     node.answers(frame).ok().expect(rt, "memory is ample")
 }
 

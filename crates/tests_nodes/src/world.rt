@@ -1,7 +1,7 @@
 //! Worlds: lists of events run at once, limits of setups, and devices over which no world is made.
 ghost use Rattle.std.specs.Prelude.{◌≡◌, length};
 ghost use Rattle.warm_world.specs.Opening.{AreFew};
-ghost use Rattle.warm_world.specs.Seen.{listed};
+ghost use Rattle.warm_world.specs.Views.{listed};
 
 use std::alloc::Global;
 use std::process::Abort;

@@ -1,7 +1,7 @@
 //! How the tests play a schedule: over worlds of devices in memory, with what is printed compared.
 ghost use Rattle.std.specs.Prelude.{◌≡◌, OnOk, IfOk, length};
 ghost use Rattle.warm_world.specs.Opening.{AreFew};
-ghost use Rattle.warm_world.specs.Seen.{listed};
+ghost use Rattle.warm_world.specs.Views.{listed};
 
 use std::alloc::{AllocError, Global};
 use std::io::{Read, Write};

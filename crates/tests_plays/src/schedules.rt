@@ -75,7 +75,7 @@ pub(crate) const GOSSIP: [(&str, &str); 7] = [
         "ref 1 1 0:1 18446744073709551615\nref 2 1 0:1 18446744073709551615\nflush 1 1\nflush 2 1\nsend 1 1\ndeliver 2 1\nshow 2\n",
         "ok\nok\nok\nok\nframe 1\ntook 0\n0:1 last 18446744073709551615@2 prev 18446744073709551615@1\nend 1\n",
     ),
-    // sums of equal histories are not answered
+    // digests of equal histories are not answered
     ("offer 1\ndeliver 1 1\n", "frame 1\ntook 0\n"),
     // others are answered by what differs and a request, and both replicas are equal in the end
     (
@@ -168,7 +168,7 @@ const HORIZONS: [(&str, &str); 7] = [
         "ref 2 1 0:1 8\nref 2 1 0:1 9\nflush 2 1\nref 1 1 0:1 20\nflush 1 1\nhorizon 1 9\nsend 1 1\ndeliver 2 1\nshow 2\nhorizon 2 0\n",
         "ok\nok\nok\nok\nok\nhorizon 9\nframe 1\ntook 0\n0:1 last 20@1 prev 9@2\nend 1\nhorizon 9\n",
     ),
-    // sums that differ are answered at the reader's horizon, and the answer takes that horizon back
+    // digests that differ are answered at the reader's horizon, and the answer takes that horizon back
     (
         "ref 1 1 0:1 10\nflush 1 1\nsend 1 1\ndeliver 2 1\nhorizon 2 50\noffer 1\ndeliver 2 2\ndeliver 1 3\nshow 1\nhorizon 1 0\n",
         "ok\nok\nframe 1\ntook 0\nhorizon 50\nframe 2\ntook 1 from 3\ntook 0\nend 0\nhorizon 50\n",

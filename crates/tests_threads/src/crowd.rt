@@ -9,7 +9,7 @@ use std::process::Abort;
 use std::sync::Wait;
 use std::thread::Threads;
 use test_kit::{bucket, page, seen};
-use warm_frames::Frame;
+use warm_frames::Message;
 use warm_gossip::{Call, Reply};
 use warm_history::{Entry, PageHist};
 use warm_replica::{Absorbing, BoxedCall, Job, Step, StepReply};
@@ -42,7 +42,7 @@ fn job_of(rt: &impl Abort, alloc: Global, job: u64) -> Job {
         steps.push(Step::Flush).expect(rt, "room for a flush");
         steps.push(Step::Make(call)).expect(rt, "room for a step");
     }
-    Job { cap: 1, steps }
+    Job { capacity: 1, steps }
 }
 
 // The replies of eight such jobs.
@@ -89,12 +89,12 @@ fn told_after(step: &[StepReply]) -> Option<Rounds> {
         return None;
     };
     match reply.as_reply() {
-        Reply::Sent(Frame::Entries { entries, .. }) => rounds_of(entries.as_slice()),
+        Reply::Sent(Message::Entries { entries, .. }) => rounds_of(entries.as_slice()),
         _ => None,
     }
 }
 
-fn sum_of(rounds: &Rounds) -> u64 {
+fn digest_of(rounds: &Rounds) -> u64 {
     let mut sum = 0u64;
     for one in rounds {
         sum = sum.wrapping_add(*one);
@@ -105,7 +105,7 @@ fn sum_of(rounds: &Rounds) -> u64 {
 // Whether a job that has made so many rounds was told of just these rounds of its own, and what others were told after as many
 // rounds. It is noted.
 fn is_noted(seen: &mut Vec<Option<Rounds>>, job: usize, own: u64, rounds: Rounds) -> bool {
-    let Some(place) = seen.get_mut(sum_of(&rounds) as usize) else {
+    let Some(place) = seen.get_mut(digest_of(&rounds) as usize) else {
         return false;
     };
     if rounds.get(job) != Some(&own) || place.unwrap_or(rounds) != rounds {

@@ -99,7 +99,7 @@ fn job_of(rt: &impl Abort, alloc: Global, no: u64) -> Job {
         Step::Make(call),
     ]
     .expect(rt, "room for steps");
-    Job { cap: 2, steps }
+    Job { capacity: 2, steps }
 }
 
 // Two references fit, the third comes back, and no page is resident.
@@ -160,23 +160,23 @@ fn four_jobs_meet(rt: HostRuntime) {
 }
 
 // A job with a buffer of this many references and one touch.
-fn one_touch(rt: &impl Abort, alloc: Global, cap: usize) -> Vec<Job> {
+fn one_touch(rt: &impl Abort, alloc: Global, capacity: usize) -> Vec<Job> {
     let touch = Step::Touch(seen(page(1), 10, 1));
     let steps = vec![in alloc; touch].expect(rt, "room for a step");
-    vec![in alloc; Job { cap, steps }].expect(rt, "room for a job")
+    vec![in alloc; Job { capacity, steps }].expect(rt, "room for a job")
 }
 
 // How such a job ends, where nothing was flushed.
 fn ended<R: Threads + Wait + Abort + Sync>(
     rt: &R,
     alloc: Global,
-    cap: usize,
+    capacity: usize,
 ) -> Result<(), RunFault> {
     let (ran, pages) = ran(
         rt,
         alloc,
         fresh(rt, alloc),
-        one_touch(rt, alloc, cap),
+        one_touch(rt, alloc, capacity),
         &Open,
     );
     assert!(rt; pages.as_slice().is_empty());
@@ -187,8 +187,8 @@ fn ended<R: Threads + Wait + Abort + Sync>(
 #[test]
 fn a_buffer_holds_1_to_1024(rt: HostRuntime) {
     let refused = Err(RunFault::BadCapacity);
-    for (cap, want) in [(0, refused), (1, Ok(())), (1024, Ok(())), (1025, refused)] {
-        assert!(rt; ended(&rt, rt.alloc(), cap) == want);
+    for (capacity, want) in [(0, refused), (1, Ok(())), (1024, Ok(())), (1025, refused)] {
+        assert!(rt; ended(&rt, rt.alloc(), capacity) == want);
     }
 }
 
@@ -197,7 +197,7 @@ fn are_flushed<R: Threads + Wait + Abort + Sync>(rt: &R, alloc: Global) -> bool 
     let mut jobs = Vec::new(alloc);
     for _ in 0..64 {
         let steps = vec![in alloc; Step::Flush].expect(rt, "room for a step");
-        jobs.push(Job { cap: 1, steps })
+        jobs.push(Job { capacity: 1, steps })
             .expect(rt, "room for a job");
     }
     let (ran, _pages) = ran(rt, alloc, fresh(rt, alloc), jobs, &Open);

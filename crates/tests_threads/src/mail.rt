@@ -8,8 +8,8 @@ use std::process::Abort;
 use std::sync::Wait;
 use std::thread::Threads;
 use test_kit::replica;
-use warm_digest::sums;
-use warm_frames::{Frame, encode};
+use warm_digest::digests;
+use warm_frames::{Message, encode};
 use warm_history::History;
 use warm_replica::{
     Absorbing, Mail, MailIter, MailReport, MemPost, Outbox, Outboxes, Post, Station, mail_loop,
@@ -55,20 +55,20 @@ const fn entry_at(horizon: u8, no: u8, time: u8) -> [u8; 44] {
 }
 
 // Replica 1 at this horizon asks for buckets of the first eight.
-const fn request_at(horizon: u8, mask: u8) -> [u8; 27] {
+const fn request_at(horizon: u8, request: u8) -> [u8; 27] {
     [
         0x4C, 0x32, 0x47, 0x32, 3, 0, 1, 0, 0, 0, 0, 0, 0, 0, horizon, 0, 0, 0, 8, 0, 0, 0, 0, 0,
-        0, 0, mask,
+        0, 0, request,
     ]
 }
 
 // The bytes of a digest of the empty history at a horizon, from replica 9.
 fn digest(rt: &impl Abort, alloc: Global, horizon: u64) -> Vec<u8> {
-    let sums = sums(alloc, &History::new(alloc)).expect(rt, "room for sums");
-    let frame = Frame::Digest {
+    let digests = digests(alloc, &History::new(alloc)).expect(rt, "room for digests");
+    let frame = Message::Digest {
         sender: replica(9),
         horizon,
-        sums,
+        digests,
     };
     encode(alloc, &frame).expect(rt, "room for a frame")
 }

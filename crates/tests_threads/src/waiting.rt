@@ -97,7 +97,7 @@ fn slow_device(
 // A job of one step.
 fn job_of(rt: &impl Abort, alloc: Global, step: Step) -> Job {
     let steps = vec![in alloc; step].expect(rt, "room for a step");
-    Job { cap: 1, steps }
+    Job { capacity: 1, steps }
 }
 
 // A job that pins 0:1, and one that touches it.

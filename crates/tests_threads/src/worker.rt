@@ -39,7 +39,7 @@ fn is_emptied<M: Absorbing + Drop>(rt: &impl Abort, turn: Turn<M>, worker: Worke
 {
     let (pass, buffer) = worker.into_parts();
     turn.close(pass).expect(rt, "each ticket was passed on");
-    buffer.is_empty() && buffer.cap() == 2
+    buffer.is_empty() && buffer.capacity() == 2
 }
 
 // Whether a worker fills its buffer, flushes it, lists 0:1 as the only page, and is empty then.

@@ -5,7 +5,7 @@
 //! With `rt try --test --fail-alloc N`, for N from 1 on, each allocation fails in turn: the call is then made a second time.
 use std::alloc::Global;
 use std::process::Abort;
-use warm_frames::{EntryList, Frame, FrameFault, SumTable, decode, encode};
+use warm_frames::{DigestTable, EntryList, FrameFault, Message, decode, encode};
 
 // Sender 1, whose horizon is 12, says that 0:7 has 20@1 and 10@1.
 pub(crate) const TWICE: [u8; 54] = [
@@ -65,7 +65,7 @@ pub(crate) fn row_holds(rt: &impl Abort, at: usize, is_so: bool) {
 }
 
 // Decodes; where memory is refused, once more.
-pub(crate) fn decoded(alloc: Global, bytes: &[u8]) -> Result<Frame, FrameFault> {
+pub(crate) fn decoded(alloc: Global, bytes: &[u8]) -> Result<Message, FrameFault> {
     match decode(alloc, bytes) {
         Err(FrameFault::Memory) => decode(alloc, bytes),
         answer => answer,
@@ -73,7 +73,7 @@ pub(crate) fn decoded(alloc: Global, bytes: &[u8]) -> Result<Frame, FrameFault> 
 }
 
 // Encodes; where memory is refused, once more.
-pub(crate) fn encoded(rt: &impl Abort, alloc: Global, frame: &Frame) -> Vec<u8> {
+pub(crate) fn encoded(rt: &impl Abort, alloc: Global, frame: &Message) -> Vec<u8> {
     match encode(alloc, frame) {
         Ok(bytes) => bytes,
         Err(_) => encode(alloc, frame).expect(rt, "room for the bytes"),
@@ -85,21 +85,21 @@ pub(crate) fn fault(alloc: Global, bytes: &[u8]) -> Option<FrameFault> {
 }
 
 // Whether the frame has this spelling.
-pub(crate) fn is_spelled(rt: &impl Abort, alloc: Global, frame: &Frame, bytes: &[u8]) -> bool {
+pub(crate) fn is_spelled(rt: &impl Abort, alloc: Global, frame: &Message, bytes: &[u8]) -> bool {
     encoded(rt, alloc, frame).as_slice() == bytes
 }
 
 // The frame that has this spelling and no other.
-pub(crate) fn spelled_so(rt: &impl Abort, alloc: Global, bytes: &[u8]) -> Frame {
+pub(crate) fn spelled_so(rt: &impl Abort, alloc: Global, bytes: &[u8]) -> Message {
     let frame = decoded(alloc, bytes).expect(rt, "a frame");
     assert!(rt; is_spelled(rt, alloc, &frame, bytes));
     frame
 }
 
 // A frame of entries: the number of its sender, the horizon, and the entries.
-pub(crate) fn said_in(rt: &impl Abort, frame: Frame) -> (u16, u64, EntryList) {
+pub(crate) fn said_in(rt: &impl Abort, frame: Message) -> (u16, u64, EntryList) {
     match frame {
-        Frame::Entries {
+        Message::Entries {
             sender,
             horizon,
             entries,
@@ -108,26 +108,26 @@ pub(crate) fn said_in(rt: &impl Abort, frame: Frame) -> (u16, u64, EntryList) {
     }
 }
 
-// A frame that asks for buckets: the number of its sender, the horizon, and the mask.
-pub(crate) fn wished_in(rt: &impl Abort, frame: Frame) -> (u16, u64, u64) {
+// A frame that asks for buckets: the number of its sender, the horizon, and the request.
+pub(crate) fn requested_in(rt: &impl Abort, frame: Message) -> (u16, u64, u64) {
     match frame {
-        Frame::Want {
+        Message::Want {
             sender,
             horizon,
-            mask,
-        } => (sender.get(), horizon, mask),
+            request,
+        } => (sender.get(), horizon, request),
         _ => panic!(rt; "another kind"),
     }
 }
 
-// A frame of sums: the number of its sender, the horizon, and the sums.
-pub(crate) fn sums_in(rt: &impl Abort, frame: Frame) -> (u16, u64, SumTable) {
+// A frame of digests: the number of its sender, the horizon, and the digests.
+pub(crate) fn digests_in(rt: &impl Abort, frame: Message) -> (u16, u64, DigestTable) {
     match frame {
-        Frame::Digest {
+        Message::Digest {
             sender,
             horizon,
-            sums,
-        } => (sender.get(), horizon, sums),
+            digests,
+        } => (sender.get(), horizon, digests),
         _ => panic!(rt; "another kind"),
     }
 }

@@ -1,16 +1,17 @@
 //! Frames and their bytes: what is read of them and written, their sizes, and lists of entries.
 use crate::bytes::{
     NARROW, NARROW_NOTHING, NARROW_WISH, NOTHING, TWICE, WIDENED, WISH, byte_room, decoded,
-    encoded, fault, is_spelled, joined, put, row_holds, said_in, spelled_so, sums_in, wished_in,
+    digests_in, encoded, fault, is_spelled, joined, put, requested_in, row_holds, said_in,
+    spelled_so,
 };
 use std::alloc::Global;
 use std::process::Abort;
 use test_kit::{bucket, entry, once, page, page_on, replica, twice};
-use warm_frames::{EntryList, Frame, FrameFault, SumTable, decode, put_entry};
+use warm_frames::{DigestTable, EntryList, FrameFault, Message, decode, put_entry};
 use warm_history::Entry;
 
 // Whether a frame of this horizon is of sender 1 and says of 0:7 alone that it has 20@1 and 10@1.
-fn says_twice(rt: &impl Abort, frame: Frame, since: u64) -> bool {
+fn says_twice(rt: &impl Abort, frame: Message, since: u64) -> bool {
     let (sender, horizon, entries) = said_in(rt, frame);
     let entries = entries.into_entries();
     let want = entry(page(7), twice((20, 1), (10, 1)));
@@ -27,7 +28,7 @@ fn entries_have_one_spelling(rt: HostRuntime) {
 }
 
 // The frame of these bytes, which takes no memory to decode, and is written as those wanted.
-fn read_at_once(rt: &impl Abort, alloc: Global, bytes: &[u8], want: &[u8]) -> Frame {
+fn read_at_once(rt: &impl Abort, alloc: Global, bytes: &[u8], want: &[u8]) -> Message {
     let frame = decode(alloc, bytes).expect(rt, "a frame");
     assert!(rt; is_spelled(rt, alloc, &frame, want));
     frame
@@ -43,7 +44,7 @@ fn say_nothing(rt: &impl Abort, alloc: Global, bytes: &[u8]) -> bool {
 // Whether sender 2 asks for buckets 1 and 2 by the bytes.
 fn ask_for_two(rt: &impl Abort, alloc: Global, bytes: &[u8]) -> bool {
     let frame = read_at_once(rt, alloc, bytes, &WISH);
-    wished_in(rt, frame) == (2, 0, 6)
+    requested_in(rt, frame) == (2, 0, 6)
 }
 
 #[test]
@@ -54,20 +55,20 @@ fn an_empty_frame_and_a_request_take_no_memory(rt: HostRuntime) {
     assert!(rt; ask_for_two(&rt, rt.alloc(), &NARROW_WISH));
 }
 
-// Sums of 0, except for those of the first bucket, and the last byte of the last.
-fn spread_sums() -> [[u8; 32]; 64] {
-    let mut sums = [[0; 32]; 64];
-    sums[0] = [7; 32];
-    sums[63][31] = 9;
-    sums
+// Digests of 0, except for those of the first bucket, and the last byte of the last.
+fn spread_digests() -> [[u8; 32]; 64] {
+    let mut digests = [[0; 32]; 64];
+    digests[0] = [7; 32];
+    digests[63][31] = 9;
+    digests
 }
 
-// The bytes of sender 64's table of those sums, with the horizon 12.
+// The bytes of sender 64's table of those digests, with the horizon 12.
 fn table_bytes(rt: &impl Abort, alloc: Global) -> Vec<u8> {
-    let frame = Frame::Digest {
+    let frame = Message::Digest {
         sender: replica(64),
         horizon: 12,
-        sums: SumTable::of(spread_sums()),
+        digests: DigestTable::of(spread_digests()),
     };
     encoded(rt, alloc, &frame)
 }
@@ -85,15 +86,15 @@ fn are_spread(bytes: &[u8]) -> bool {
         && bytes[2066] == 9
 }
 
-// Whether the bytes are sender 64's table of those sums at this horizon, which takes no memory to decode.
-fn bring_sums(rt: &impl Abort, alloc: Global, bytes: &[u8], since: u64) -> bool {
+// Whether the bytes are sender 64's table of those digests at this horizon, which takes no memory to decode.
+fn bring_digests(rt: &impl Abort, alloc: Global, bytes: &[u8], since: u64) -> bool {
     let frame = decode(alloc, bytes).expect(rt, "a frame");
-    let (sender, horizon, sums) = sums_in(rt, frame);
-    let first = sums.sum(bucket(0)) == [7; 32];
-    first && sender == 64 && horizon == since && sums == SumTable::of(spread_sums())
+    let (sender, horizon, digests) = digests_in(rt, frame);
+    let first = digests.sum(bucket(0)) == [7; 32];
+    first && sender == 64 && horizon == since && digests == DigestTable::of(spread_digests())
 }
 
-// The bytes of sender 64's table of sums, in the narrow format.
+// The bytes of sender 64's table of digests, in the narrow format.
 fn narrow_table() -> [u8; 2059] {
     let mut bytes = [0; 2059];
     bytes[..11].copy_from_slice(&[0x4C, 0x32, 0x47, 0x31, 2, 0, 64, 0, 0, 8, 0]);
@@ -103,11 +104,11 @@ fn narrow_table() -> [u8; 2059] {
 }
 
 #[test]
-fn sums_stand_bucket_0_first(rt: HostRuntime) {
+fn digests_stand_bucket_0_first(rt: HostRuntime) {
     let bytes = table_bytes(&rt, rt.alloc());
     assert!(rt; are_spread(&bytes));
-    assert!(rt; bring_sums(&rt, rt.alloc(), &bytes, 12));
-    assert!(rt; bring_sums(&rt, rt.alloc(), &narrow_table(), 0));
+    assert!(rt; bring_digests(&rt, rt.alloc(), &bytes, 12));
+    assert!(rt; bring_digests(&rt, rt.alloc(), &narrow_table(), 0));
 }
 
 #[test]

@@ -144,7 +144,7 @@ hist_exchanged test S T p same = hist-append T (kept test S) p ∙ ap (joined (h
     cases true is = refl
     cases false is = joined_none T p ∙ sym (joined_same T p) ∙ ap (joined (hist T p)) (sym (same is))
 
--- ---- sums
+-- ---- digests
 
 -- lists of numbers are the same, or differ
 either_list : (xs ys : List ℕ) → (xs ≡ ys) ⊎ (xs ≢ ys)
@@ -164,8 +164,8 @@ settled_or_not h g mask bucket low differ = elim (cases_eq (bit_at mask bucket) 
   | inr clear ↦ elim (either_list (bucket_text h bucket) (bucket_text g bucket)) [
     | inl same ↦ inl (inr same)
     | inr texts ↦ elim (either_list (sha256 (bucket_text h bucket)) (sha256 (bucket_text g bucket))) [
-      | inl sums ↦ inr (record { bucket = bucket; low = low; differ = texts; same_sum = sums })
-      | inr sums ↦ absurd (clear ((differ bucket low).1 sums))
+      | inl digests ↦ inr (record { bucket = bucket; low = low; differ = texts; same_digest = digests })
+      | inr digests ↦ absurd (clear ((differ bucket low).1 digests))
     ]
   ]
 ]

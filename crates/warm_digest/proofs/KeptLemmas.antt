@@ -1,4 +1,4 @@
--- Buckets that a history's growth does not touch, and sums that are renewed bucket by bucket.
+-- Buckets that a history's growth does not touch, and digests that are renewed bucket by bucket.
 use Rattle.std.proofs.Common.{◌≡◌, ◌≢◌, inl, inr, ℕ, suc, ◌<◌, ◌*◌, ◌%◌, ◌^◌, Bool, true, false, cond, List, [], ◌∷◌, ◌++◌, length, max, min, ◌-◌, None, Result, Ok, Err, IfOk, refl, sym, ap, subst, ◌∙◌, arith}
 use Rattle.std.specs.Prelude.{◌==◌, bit_and, bit_or}
 use Rattle.std.specs.Int.{bit_at, bit_not, w64}
@@ -29,10 +29,10 @@ use Rattle.warm_history.proofs.HistoryLemmas.{entries-history}
 use Rattle.warm_history.proofs.JoinLemmas.{raised_to_no_later}
 use Rattle.warm_history.proofs.ListHistoryLemmas.{IsHistory-history, get, get-history, same_gets, told, told-append, told_entry}
 use Rattle.warm_frames.specs.Entries.{entries_bytes}
-use Rattle.warm_frames.specs.Sums.{sum_at}
+use Rattle.warm_frames.specs.Digests.{digest_at}
 use Rattle.sha2.specs.Sha256.{sha256}
-use Rattle.warm_digest.specs.BucketSums.{bucket_sum, sums_of, sums_since}
-use Rattle.warm_digest.specs.KeptSums.{HasSumsOf, SameSumsOutside, IsKept, Marks, MarksLosing}
+use Rattle.warm_digest.specs.BucketDigests.{bucket_digest, digests_of, digests_since}
+use Rattle.warm_digest.specs.KeptDigests.{HasDigestsOf, SameDigestsOutside, IsKept, Marks, MarksLosing}
 use Rattle.warm_digest.proofs.ExchangeLemmas.{get-bucket}
 
 -- ---- buckets that are not touched
@@ -97,71 +97,71 @@ untouched h T bucket none =
     ∙ sym (get-history alone p))
     ∙ ap (bucket_entries bucket) (sym (entries-history (since T.horizon (refs h))))
 
-abbrev sum_from : List Entry → List ℕ
-sum_from es = sha256 (entries_bytes es)
+abbrev digest_from : List Entry → List ℕ
+digest_from es = sha256 (entries_bytes es)
 
--- the sums that are not marked stay right when references are taken in
-pub kept_with_references : (h g : HistoryView) (batch : List Reference) (old new : ℕ) (sums : List (List ℕ)) → IsHistory h → g ≡ history (refs h ∪ these batch)
-    → IsKept old (entries_of h) sums → Marks (λ r. r.page) old batch new → IsKept new (entries_of g) sums
-kept_with_references h g batch old new sums whole is kept marks bucket low clear =
+-- the digests that are not marked stay right when references are taken in
+pub kept_with_references : (h g : HistoryView) (batch : List Reference) (old new : ℕ) (digests : List (List ℕ)) → IsHistory h → g ≡ history (refs h ∪ these batch)
+    → IsKept old (entries_of h) digests → Marks (λ r. r.page) old batch new → IsKept new (entries_of g) digests
+kept_with_references h g batch old new digests whole is kept marks bucket low clear =
     let same : bucket_entries bucket (entries_of g) ≡ bucket_entries bucket (entries_of h) =
     ap (λ (k : HistoryView). bucket_entries bucket (entries_of k)) is
     ∙ untouched h (these batch) bucket (λ p there. untold batch p (subst (λ b. All (λ r. page_bucket r.page ≢ b) batch) (sym there) (marks bucket clear).1))
     ∙ ap (λ (k : HistoryView). bucket_entries bucket (entries_of k)) (raised_to_no_later h 0 whole (omega arith)) in
-    kept bucket low (marks bucket clear).0 ∙ sym (ap sum_from same)
+    kept bucket low (marks bucket clear).0 ∙ sym (ap digest_from same)
 
 -- a bit of two masks together is clear where both are
 pub both_clear : (a b i : ℕ) → bit_at (bit_or a b) i ≡ 0 → (bit_at a i ≡ 0) × (bit_at b i ≡ 0)
 both_clear a b i clear = let is = bit_at_or a b i in (omega (arith, is, clear), omega (arith, is, clear))
 
 -- when a history is raised they do where the buckets are marked that lose something
-pub kept_raised : (h g : HistoryView) (time old lost : ℕ) (sums : List (List ℕ)) → g ≡ history (since time (refs h))
-    → IsKept old (entries_of h) sums → MarksLosing time h lost → IsKept (bit_or old lost) (entries_of g) sums
-kept_raised h g time old lost sums is kept marks bucket low clear =
+pub kept_raised : (h g : HistoryView) (time old lost : ℕ) (digests : List (List ℕ)) → g ≡ history (since time (refs h))
+    → IsKept old (entries_of h) digests → MarksLosing time h lost → IsKept (bit_or old lost) (entries_of g) digests
+kept_raised h g time old lost digests is kept marks bucket low clear =
     let both = both_clear old lost bucket clear in
     let same : bucket_entries bucket (entries_of g) ≡ bucket_entries bucket (entries_of h) =
     ap (λ (k : HistoryView). bucket_entries bucket (entries_of k)) is ∙ (marks bucket low).1 both.1 in
-    kept bucket low both.0 ∙ sym (ap sum_from same)
+    kept bucket low both.0 ∙ sym (ap digest_from same)
 
 -- and when entries are taken in, where theirs are marked too
-pub kept_with_entries : (h g : HistoryView) (horizon : ℕ) (more : List Entry) (old lost new : ℕ) (sums : List (List ℕ)) → g ≡ history (refs h ∪ refs (holding_since horizon more))
-    → IsKept old (entries_of h) sums → MarksLosing horizon h lost → Marks (λ e. e.page) (bit_or old lost) more new → IsKept new (entries_of g) sums
-kept_with_entries h g horizon more old lost new sums is kept loses marks bucket low clear =
+pub kept_with_entries : (h g : HistoryView) (horizon : ℕ) (more : List Entry) (old lost new : ℕ) (digests : List (List ℕ)) → g ≡ history (refs h ∪ refs (holding_since horizon more))
+    → IsKept old (entries_of h) digests → MarksLosing horizon h lost → Marks (λ e. e.page) (bit_or old lost) more new → IsKept new (entries_of g) digests
+kept_with_entries h g horizon more old lost new digests is kept loses marks bucket low clear =
     let both = both_clear old lost bucket (marks bucket clear).0 in
     let same : bucket_entries bucket (entries_of g) ≡ bucket_entries bucket (entries_of h) =
     ap (λ (k : HistoryView). bucket_entries bucket (entries_of k)) is
     ∙ untouched h (refs (holding_since horizon more)) bucket (λ p there. untold_entries more p (subst (λ b. All (λ e. page_bucket e.page ≢ b) more) (sym there) (marks bucket clear).1))
     ∙ (loses bucket low).1 both.1 in
-    kept bucket low both.0 ∙ sym (ap sum_from same)
+    kept bucket low both.0 ∙ sym (ap digest_from same)
 
--- ---- renewed sums
+-- ---- renewed digests
 
-pub sum_is : (es : List Entry) (bucket : ℕ) → bucket < BUCKETS → sum_at (sums_of es) bucket ≡ bucket_sum es bucket
-sum_is es bucket low = get_or-map-range_with_len (bucket_sum es) 0 BUCKETS bucket bucket [] low (omega arith)
+pub digest_is : (es : List Entry) (bucket : ℕ) → bucket < BUCKETS → digest_at (digests_of es) bucket ≡ bucket_digest es bucket
+digest_is es bucket low = get_or-map-range_with_len (bucket_digest es) 0 BUCKETS bucket bucket [] low (omega arith)
 
--- the sums of nothing are right for a history that holds nothing
-pub nothing_kept : (changed : ℕ) (h : HistoryView) (sums : List (List ℕ)) → sums ≡ sums_of [] → h ≡ holding [] → IsKept changed (entries_of h) sums
-nothing_kept changed h sums are none bucket low clear = ap (λ (s : List (List ℕ)). sum_at s bucket) are ∙ sum_is [] bucket low ∙ sym (ap (λ (g : HistoryView). bucket_sum (entries_of g) bucket) none)
+-- the digests of nothing are right for a history that holds nothing
+pub nothing_kept : (changed : ℕ) (h : HistoryView) (digests : List (List ℕ)) → digests ≡ digests_of [] → h ≡ holding [] → IsKept changed (entries_of h) digests
+nothing_kept changed h digests are none bucket low clear = ap (λ (s : List (List ℕ)). digest_at s bucket) are ∙ digest_is [] bucket low ∙ sym (ap (λ (g : HistoryView). bucket_digest (entries_of g) bucket) none)
 
--- a table that has the sum of each bucket is the table of sums
-all_done : (sums : List (List ℕ)) (h : List Entry) → length sums ≡ BUCKETS → ((b : ℕ) → b < BUCKETS → sum_at sums b ≡ bucket_sum h b) → sums ≡ sums_of h
-all_done sums h all each = fill_by_all (bucket_sum h) sums BUCKETS [] all each
+-- a table that has the digest of each bucket is the table of digests
+all_done : (digests : List (List ℕ)) (h : List Entry) → length digests ≡ BUCKETS → ((b : ℕ) → b < BUCKETS → digest_at digests b ≡ bucket_digest h b) → digests ≡ digests_of h
+all_done digests h all each = fill_by_all (bucket_digest h) digests BUCKETS [] all each
 
--- sums that were right but for the marked ones, and these renewed, are all right
-pub all_right : (changed : ℕ) (h : List Entry) (old new : List (List ℕ)) → length new ≡ BUCKETS → IsKept changed h old → HasSumsOf changed h new → SameSumsOutside changed old new → new ≡ sums_of h
+-- digests that were right but for the marked ones, and these renewed, are all right
+pub all_right : (changed : ℕ) (h : List Entry) (old new : List (List ℕ)) → length new ≡ BUCKETS → IsKept changed h old → HasDigestsOf changed h new → SameDigestsOutside changed old new → new ≡ digests_of h
 all_right changed h old new count kept has same = all_done new h count (λ bucket low. elim (cases_eq (bit_at changed bucket) 1) [
   | inl set ↦ has bucket low set
   | inr clear ↦ (let zero_is : bit_at changed bucket ≡ 0 = omega (arith, bit_at-lt changed bucket, clear) in same bucket low zero_is ∙ kept bucket low zero_is)
 ])
 
--- sums that were all renewed are all right
-pub all_renewed : (h : List Entry) (sums : List (List ℕ)) → length sums ≡ BUCKETS → HasSumsOf 18446744073709551615 h sums → sums ≡ sums_of h
-all_renewed h sums count has = all_done sums h count (λ bucket low. has bucket low (bit_at_ones 64 bucket low))
+-- digests that were all renewed are all right
+pub all_renewed : (h : List Entry) (digests : List (List ℕ)) → length digests ≡ BUCKETS → HasDigestsOf 18446744073709551615 h digests → digests ≡ digests_of h
+all_renewed h digests count has = all_done digests h count (λ bucket low. has bucket low (bit_at_ones 64 bucket low))
 
--- ---- sums at a horizon
+-- ---- digests at a horizon
 
 -- of the changed buckets those are renewed that lose nothing: the others stay marked
-pub others_right : (changed lost : ℕ) (h : List Entry) (old new : List (List ℕ)) → lost < 2 ^ 64 → IsKept changed h old → HasSumsOf (bit_and changed (bit_not w64 lost)) h new → SameSumsOutside (bit_and changed (bit_not w64 lost)) old new
+pub others_right : (changed lost : ℕ) (h : List Entry) (old new : List (List ℕ)) → lost < 2 ^ 64 → IsKept changed h old → HasDigestsOf (bit_and changed (bit_not w64 lost)) h new → SameDigestsOutside (bit_and changed (bit_not w64 lost)) old new
     → IsKept (bit_and changed lost) h new
 others_right changed lost h old new fits kept has same bucket low clear =
     let mask = bit_and changed (bit_not w64 lost) in
@@ -173,19 +173,19 @@ others_right changed lost h old new fits kept has same bucket low clear =
       | inr marked ↦ (let in_it : bit_at mask bucket ≡ 1 = omega (arith, chosen, left, marked, bit_at-lt changed bucket, bit_at-lt lost bucket) in has bucket low in_it)
     ]
 
--- sums of a history, with those that it would have at a horizon of the buckets that lose something there
+-- digests of a history, with those that it would have at a horizon of the buckets that lose something there
 all_since : (changed lost horizon : ℕ) (h : HistoryView) (own table : List (List ℕ)) → length table ≡ BUCKETS → IsKept (bit_and changed lost) (entries_of h) own → MarksLosing horizon h lost
-    → HasSumsOf lost (entries_of (raised horizon h)) table → SameSumsOutside lost own table → table ≡ sums_since horizon h
+    → HasDigestsOf lost (entries_of (raised horizon h)) table → SameDigestsOutside lost own table → table ≡ digests_since horizon h
 all_since changed lost horizon h own table count kept loses has same = all_done table (entries_of (raised horizon h)) count (λ bucket low. elim (cases_eq (bit_at lost bucket) 1) [
   | inl set ↦ has bucket low set
   | inr clear ↦ (let zero_is : bit_at lost bucket ≡ 0 = omega (arith, bit_at-lt lost bucket, clear) in
       let both : bit_at (bit_and changed lost) bucket ≡ 0 = bit_at_and changed lost bucket ∙ omega (arith, zero_is) in
-      same bucket low zero_is ∙ kept bucket low both ∙ sym (ap sum_from ((loses bucket low).1 zero_is)))
+      same bucket low zero_is ∙ kept bucket low both ∙ sym (ap digest_from ((loses bucket low).1 zero_is)))
 ])
 
 -- the same of a table that is there where memory was
 pub right_since : {E : Type 0} (r : Result (List (List ℕ)) E) (changed lost horizon : ℕ) (h : HistoryView) (own : List (List ℕ)) → IsKept (bit_and changed lost) (entries_of h) own → MarksLosing horizon h lost
-    → IfOk r (HasSumsOf lost (entries_of (raised horizon h))) → IfOk r (SameSumsOutside lost own) → IfOk r (λ table. length table ≡ BUCKETS) → IfOk r (λ table. table ≡ sums_since horizon h)
+    → IfOk r (HasDigestsOf lost (entries_of (raised horizon h))) → IfOk r (SameDigestsOutside lost own) → IfOk r (λ table. length table ≡ BUCKETS) → IfOk r (λ table. table ≡ digests_since horizon h)
 right_since (Ok table) changed lost horizon h own kept loses has same count = all_since changed lost horizon h own table count kept loses has same
 right_since (Err why) changed lost horizon h own kept loses has same count = tt
 

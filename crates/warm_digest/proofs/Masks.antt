@@ -20,7 +20,7 @@ pub same_set : (d : Bool) (mask i : ℕ) → i < 64 → bit_at mask i ≡ 0 → 
 same_set true mask i low clear = bit_at_set_same w64 mask i low
 same_set false mask i low clear = nothing_set mask i i ∙ clear
 
--- a bit is given exactly where two sums differ
+-- a bit is given exactly where two digests differ
 pub is_set : (x y : List ℕ) (n : ℕ) → n ≡ from_bool (not (bytes_eq x y)) → (n ≡ 1) ↔ (x ≢ y)
 is_set x y n is = go (bytes_eq x y) refl is
   where

@@ -10,7 +10,7 @@ use Rattle.warm_history.specs.Histories.{HistoryView, entries_of, history}
 use Rattle.warm_history.specs.Carried.{bucket_entries}
 use Rattle.warm_frames.specs.Entries.{IsEntry, entries_bytes}
 
--- the text of a bucket, of which its sum is taken
+-- the text of a bucket, of which its digest is taken
 abbrev pub bucket_text : HistoryView → ℕ → List ℕ
 bucket_text h bucket = entries_bytes (bucket_entries bucket (entries_of h))
 
@@ -19,9 +19,9 @@ pub record IsCollision (h g : HistoryView) : Type 0 where
   pub bucket : ℕ
   pub low : bucket < BUCKETS
   pub differ : bucket_text h bucket ≢ bucket_text g bucket
-  pub same_sum : sha256 (bucket_text h bucket) ≡ sha256 (bucket_text g bucket)
+  pub same_digest : sha256 (bucket_text h bucket) ≡ sha256 (bucket_text g bucket)
 
--- the bits of the buckets of which both have other sums
+-- the bits of the buckets of which both have other digests
 abbrev pub IsDifferenceOf : HistoryView → HistoryView → ℕ → Type 0
 IsDifferenceOf h g mask = (bucket : ℕ) → bucket < BUCKETS
     → (bit_at mask bucket ≡ 1) ↔ (sha256 (bucket_text h bucket) ≢ sha256 (bucket_text g bucket))

@@ -1,4 +1,4 @@
-pub mod BucketSums
+pub mod BucketDigests
 pub mod Exchange
 pub mod Hashing
-pub mod KeptSums
+pub mod KeptDigests

@@ -4,7 +4,7 @@
 //! `specs/Exchange.antt` says it in full.
 ghost use Rattle.warm_digest.specs.Exchange.{ExchangeJoins};
 
-/// A history that takes in, of another's references, those of the buckets whose sums differ, is the join of both; or
+/// A history that takes in, of another's references, those of the buckets whose digests differ, is the join of both; or
 /// two different texts of one bucket have one SHA-256.
 pub fn exchange_joins()
     ensures { ExchangeJoins }

@@ -1,4 +1,4 @@
--- Bodies: entries one after the other, and tables of sums.
+-- Bodies: entries one after the other, and tables of digests.
 use Rattle.std.proofs.Common.{◌≡◌, ℕ, zero, suc, ◌+◌, ◌*◌, ◌^◌, ◌<◌, ◌≤◌, true, eqb, leb, List, [], ◌∷◌, ◌++◌, length, get_or, drop, Option, Some, None, Ok, refl, sym, ap, subst, ◌∙◌, append_assoc, arith}
 use Rattle.std.specs.Int.{w32, to_be_bytes}
 use Rattle.std.specs.List.{AllByRecursion, flat_map}
@@ -18,11 +18,11 @@ use Rattle.warm_history.specs.Histories.{PagesRise}
 use Rattle.warm_history.proofs.MergeLemmas.{rises_on}
 use Rattle.warm_frames.specs.declared.format.Format.{Format}
 use Rattle.warm_frames.specs.declared.format.Format.TheVariants.{Narrow, Wide}
-use Rattle.warm_frames.specs.declared.layout.TheConstants.{MAX_ENTRY_SIZE, MAX_ENTRIES, SUM_SIZE}
+use Rattle.warm_frames.specs.declared.layout.TheConstants.{MAX_ENTRY_SIZE, MAX_ENTRIES, DIGEST_SIZE}
 use Rattle.warm_frames.specs.declared.fault.FrameFault.TheVariants.{BadLength, BadCount}
 use Rattle.warm_frames.specs.Entries.{hist_bytes, page_bytes_in, entry_bytes_in, entries_bytes_in, IsEntry, IsEntryList}
-use Rattle.warm_frames.specs.Sums.{IsSumTable, table_size}
-use Rattle.warm_frames.specs.Reading.{◌>>=◌, entry_size, number_at, want, entry_at, entries_at, count_at, all_entries, entries_of, sums_of}
+use Rattle.warm_frames.specs.Digests.{IsDigestTable, table_size}
+use Rattle.warm_frames.specs.Reading.{◌>>=◌, entry_size, number_at, want, entry_at, entries_at, count_at, all_entries, entries_of, digests_of}
 use Rattle.warm_frames.proofs.FieldLemmas.{bind_ok, want_ok, chosen_ok, ok_is, Takes, Takes-then, wide32, number_takes, number_again, IsNarrowIn, entry_takes, entry_again, less_is, less_true}
 
 -- ---- entries
@@ -164,7 +164,7 @@ short_entries format (e ∷ es) =
     let more : entry_size format * suc (length es) ≡ entry_size format + entry_size format * length es = grind arith in
     omega (arith, whole, own, more, short_page format e.page, short_hist e.hist, short_entries format es)
 
--- ---- tables of sums
+-- ---- tables of digests
 
 joined_chunks : (n k : ℕ) (xs : List ℕ) → length xs ≡ n * k → flat_map (λ x. x) (first_chunks n k xs) ≡ xs
 joined_chunks n zero xs len = sym (nil_from_length xs (omega (arith, len)))
@@ -173,7 +173,7 @@ joined_chunks n (suc k) xs len =
     let later = joined_chunks n k (drop n xs) (omega (arith, e, length-drop n xs)) in
     rw (flat_map-cons, later) (take-append-drop n xs)
 
-chunks_long : (n k : ℕ) (xs : List ℕ) → length xs ≡ n * k → AllByRecursion (λ sum. length sum ≡ n) (first_chunks n k xs)
+chunks_long : (n k : ℕ) (xs : List ℕ) → length xs ≡ n * k → AllByRecursion (λ digest. length digest ≡ n) (first_chunks n k xs)
 chunks_long n zero xs len = tt
 chunks_long n (suc k) xs len =
     let e : n * suc k ≡ n + n * k = grind arith in
@@ -183,40 +183,40 @@ length-chunks : (n k : ℕ) (xs : List ℕ) → length (first_chunks n k xs) ≡
 length-chunks n zero xs = refl
 length-chunks n (suc k) xs = ap suc (length-chunks n k (drop n xs))
 
-chunks_joined : (n : ℕ) (sums : List (List ℕ)) → AllByRecursion (λ sum. length sum ≡ n) sums → first_chunks n (length sums) (flat_map (λ x. x) sums) ≡ sums
+chunks_joined : (n : ℕ) (digests : List (List ℕ)) → AllByRecursion (λ digest. length digest ≡ n) digests → first_chunks n (length digests) (flat_map (λ x. x) digests) ≡ digests
 chunks_joined n [] all = refl
-chunks_joined n (s ∷ sums) all =
-    rw (flat_map-cons, take_at s (flat_map (λ x. x) sums) n all.0, drop_at s (flat_map (λ x. x) sums) n all.0, chunks_joined n sums all.1) refl
+chunks_joined n (s ∷ digests) all =
+    rw (flat_map-cons, take_at s (flat_map (λ x. x) digests) n all.0, drop_at s (flat_map (λ x. x) digests) n all.0, chunks_joined n digests all.1) refl
 
-length-joined : (n : ℕ) (sums : List (List ℕ)) → AllByRecursion (λ sum. length sum ≡ n) sums → length (flat_map (λ x. x) sums) ≡ n * length sums
+length-joined : (n : ℕ) (digests : List (List ℕ)) → AllByRecursion (λ digest. length digest ≡ n) digests → length (flat_map (λ x. x) digests) ≡ n * length digests
 length-joined n [] all = omega arith
-length-joined n (s ∷ sums) all =
-    let e : n * suc (length sums) ≡ n + n * length sums = grind arith in
-    let later = length-joined n sums all.1 in
-    let whole : length (flat_map (λ x. x) (s ∷ sums)) ≡ length s + length (flat_map (λ x. x) sums) = ap length (flat_map-cons (λ x. x) s sums) ∙ length-append s (flat_map (λ x. x) sums) in
+length-joined n (s ∷ digests) all =
+    let e : n * suc (length digests) ≡ n + n * length digests = grind arith in
+    let later = length-joined n digests all.1 in
+    let whole : length (flat_map (λ x. x) (s ∷ digests)) ≡ length s + length (flat_map (λ x. x) digests) = ap length (flat_map-cons (λ x. x) s digests) ∙ length-append s (flat_map (λ x. x) digests) in
     omega (arith, e, later, all.0, whole)
 
--- sums of so many bytes each, place by place
-pub sums_long : (sums : List (List ℕ)) → ((i : ℕ) → i < length sums → length (get_or sums i []) ≡ SUM_SIZE) → AllByRecursion (λ sum. length sum ≡ SUM_SIZE) sums
-sums_long [] each = tt
-sums_long (s ∷ sums) each = (each 0 (omega arith), sums_long sums (λ i lt. each (suc i) (omega (arith, lt))))
+-- digests of so many bytes each, place by place
+pub digests_long : (digests : List (List ℕ)) → ((i : ℕ) → i < length digests → length (get_or digests i []) ≡ DIGEST_SIZE) → AllByRecursion (λ digest. length digest ≡ DIGEST_SIZE) digests
+digests_long [] each = tt
+digests_long (s ∷ digests) each = (each 0 (omega arith), digests_long digests (λ i lt. each (suc i) (omega (arith, lt))))
 
-pub length-sums : (sums : List (List ℕ)) → IsSumTable sums → length (flat_map (λ x. x) sums) ≡ table_size
-length-sums sums table = omega (arith, length-joined SUM_SIZE sums table.each, table.count)
+pub length-digests : (digests : List (List ℕ)) → IsDigestTable digests → length (flat_map (λ x. x) digests) ≡ table_size
+length-digests digests table = omega (arith, length-joined DIGEST_SIZE digests table.each, table.count)
 
-pub record HoldsSums (body : List ℕ) (sums : List (List ℕ)) : Type 0 where
-  pub text : body ≡ flat_map (λ x. x) sums
-  pub table : IsSumTable sums
+pub record HoldsDigests (body : List ℕ) (digests : List (List ℕ)) : Type 0 where
+  pub text : body ≡ flat_map (λ x. x) digests
+  pub table : IsDigestTable digests
 
-pub sums_body : (body : List ℕ) (sums : List (List ℕ)) → sums_of body ≡ Ok sums → HoldsSums body sums
-unfolding sums_of
-sums_body body sums e =
-    let g = chosen_ok (eqb (length body) table_size) BadLength (first_chunks SUM_SIZE BUCKETS body) sums e in
+pub digests_body : (body : List ℕ) (digests : List (List ℕ)) → digests_of body ≡ Ok digests → HoldsDigests body digests
+unfolding digests_of
+digests_body body digests e =
+    let g = chosen_ok (eqb (length body) table_size) BadLength (first_chunks DIGEST_SIZE BUCKETS body) digests e in
     let len : length body ≡ table_size = eqb-true _ _ g.0 in
-    subst (HoldsSums body) g.1 (record { text = sym (joined_chunks SUM_SIZE BUCKETS body len); table = record { count = length-chunks SUM_SIZE BUCKETS body; each = chunks_long SUM_SIZE BUCKETS body len } })
+    subst (HoldsDigests body) g.1 (record { text = sym (joined_chunks DIGEST_SIZE BUCKETS body len); table = record { count = length-chunks DIGEST_SIZE BUCKETS body; each = chunks_long DIGEST_SIZE BUCKETS body len } })
 
-pub sums_again : (sums : List (List ℕ)) → IsSumTable sums → sums_of (flat_map (λ x. x) sums) ≡ Ok sums
-unfolding sums_of
-sums_again sums table =
-    let again : first_chunks SUM_SIZE BUCKETS (flat_map (λ x. x) sums) ≡ sums = subst (λ (k : ℕ). first_chunks SUM_SIZE k (flat_map (λ x. x) sums) ≡ sums) table.count (chunks_joined SUM_SIZE sums table.each) in
-    rw (length-sums sums table, again) refl
+pub digests_again : (digests : List (List ℕ)) → IsDigestTable digests → digests_of (flat_map (λ x. x) digests) ≡ Ok digests
+unfolding digests_of
+digests_again digests table =
+    let again : first_chunks DIGEST_SIZE BUCKETS (flat_map (λ x. x) digests) ≡ digests = subst (λ (k : ℕ). first_chunks DIGEST_SIZE k (flat_map (λ x. x) digests) ≡ digests) table.count (chunks_joined DIGEST_SIZE digests table.each) in
+    rw (length-digests digests table, again) refl

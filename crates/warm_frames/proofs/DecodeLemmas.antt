@@ -3,17 +3,17 @@ use Rattle.std.proofs.Common.{ℕ, List, Result, Ok, Err, sym, subst, inl, inr}
 use Rattle.std.specs.Prelude.{IfOk}
 use Rattle.warm_stamps.proofs.ByteLemmas.{IsBytes}
 use Rattle.warm_frames.specs.declared.fault.FrameFault.{FrameFault}
-use Rattle.warm_frames.specs.declared.frame.Frame.{Frame}
+use Rattle.warm_frames.specs.declared.message.Message.{Message}
 use Rattle.warm_frames.specs.Spelling.{Spells}
 use Rattle.warm_frames.specs.Reading.{Gives, read_frame}
 use Rattle.warm_frames.proofs.FrameLemmas.{frame_spelled, frame_read}
 
 -- a frame that was answered is spelled so
-pub decoded_spelled : (bytes : List ℕ) (result : Result Frame FrameFault) (room : Result ℕ FrameFault) → IsBytes bytes → Gives result (read_frame bytes) room → IfOk result (λ f. Spells bytes f)
+pub decoded_spelled : (bytes : List ℕ) (result : Result Message FrameFault) (room : Result ℕ FrameFault) → IsBytes bytes → Gives result (read_frame bytes) room → IfOk result (λ f. Spells bytes f)
 decoded_spelled bytes (Ok f) room fits (inl is) = frame_spelled bytes f fits (sym is)
 decoded_spelled bytes (Ok f) room fits (inr none) = absurd (cc none.0)
 decoded_spelled bytes (Err e) room fits given = tt
 
 -- a frame that is spelled so was answered, or there was no memory
-pub spelled_decoded : (bytes : List ℕ) (result : Result Frame FrameFault) (room : Result ℕ FrameFault) → Gives result (read_frame bytes) room → (f : Frame) → Spells bytes f → Gives result (Ok f) room
-spelled_decoded bytes result room given f spelt = subst (λ (read : Result Frame FrameFault). Gives result read room) (frame_read bytes f spelt) given
+pub spelled_decoded : (bytes : List ℕ) (result : Result Message FrameFault) (room : Result ℕ FrameFault) → Gives result (read_frame bytes) room → (f : Message) → Spells bytes f → Gives result (Ok f) room
+spelled_decoded bytes result room given f spelt = subst (λ (read : Result Message FrameFault). Gives result read room) (frame_read bytes f spelt) given

@@ -10,7 +10,7 @@ use borrow.Rule.Slice.PartMut.{put_mid}
 use Rattle.warm_frames.specs.declared.decoder.Fed.{Fed}
 use Rattle.warm_frames.specs.declared.fault.FrameFault.{FrameFault}
 use Rattle.warm_frames.specs.declared.fault.FrameFault.TheVariants.{Memory, Truncated}
-use Rattle.warm_frames.specs.declared.frame.Frame.{Frame}
+use Rattle.warm_frames.specs.declared.message.Message.{Message}
 use Rattle.warm_frames.specs.declared.layout.TheConstants.{HEADER_SIZE}
 use Rattle.warm_frames.specs.Pieces.{DecoderState, Inside, Broken, state_of, IsPart, IsLasting, Feeds, Takes, DecodesWith, KnowsWith}
 use Rattle.warm_frames.specs.Sizes.{frame_size, KnowsSize, SaysSize}
@@ -50,7 +50,7 @@ pub took_all : (old : DecoderState) (failed : Bool) (begun held piece : List ℕ
 took_all old failed begun held piece fed view works all none is part =
     let stands : Inside begun ≡ old = ap (λ (b : Bool). state_of b begun) (sym works) ∙ view in
     subst (λ (o : DecoderState). Feeds o piece (Ok fed) (state_of failed held)) stands
-    (subst (λ (frame : Option Frame). Takes begun piece fed.taken frame (state_of failed held)) (sym none)
+    (subst (λ (frame : Option Message). Takes begun piece fed.taken frame (state_of failed held)) (sym none)
     (all, part, ap (λ (b : Bool). state_of b held) works ∙ ap (λ (bs : List ℕ). Inside bs) is))
 
 -- a byte of the piece shows a fault
@@ -115,7 +115,7 @@ memory_leaves begun end held fault size (inr none) memory = none.1
 -- another fault is shown by the last byte
 pub body_shown : (begun piece held : List ℕ) (n : ℕ) (fault : FrameFault) → n ≤ length piece → frame_size (begun ++ take n piece) ≡ Ok (length (begun ++ take n piece)) → DecodesWith begun (take n piece) (Err fault) held → fault ≢ Memory → ShownIn begun piece fault
 body_shown begun piece held n fault inside size (inl read) other = (n, inside, fault_of_body (begun ++ take n piece) fault size (sym read))
-body_shown begun piece held n fault inside size (inr none) other = absurd (other (err_is {A = Frame} fault Memory none.0))
+body_shown begun piece held n fault inside size (inr none) other = absurd (other (err_is {A = Message} fault Memory none.0))
 
 -- the bytes up to the end are as many as the size says
 pub size_up_to : (begun piece : List ℕ) (size n : ℕ) → frame_size (begun ++ piece) ≡ Ok size → n + length begun ≡ size → n ≤ length piece → frame_size (begun ++ take n piece) ≡ Ok (length (begun ++ take n piece))

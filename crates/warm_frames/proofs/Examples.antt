@@ -6,9 +6,9 @@ use Rattle.warm_history.specs.declared.hist.Entry.{Entry}
 use Rattle.warm_frames.specs.declared.layout.TheConstants.{MAX_ENTRY_SIZE, MAX_ENTRIES}
 use Rattle.warm_frames.specs.declared.format.Format.TheVariants.{Narrow}
 use Rattle.warm_frames.specs.declared.fault.FrameFault.TheVariants.{Truncated, BadMagic, BadKind, BadSender, BadLength, BadCount, BadTag, BadStamp, BadOrder}
-use Rattle.warm_frames.specs.declared.frame.Frame.TheVariants.{Entries, Want}
+use Rattle.warm_frames.specs.declared.message.Message.TheVariants.{Entries, Want}
 use Rattle.warm_frames.specs.Spelling.{spelling_in, spelling}
-use Rattle.warm_frames.specs.Sums.{table_size}
+use Rattle.warm_frames.specs.Digests.{table_size}
 use Rattle.warm_frames.specs.Reading.{start_at, length_at, body_at, two_in, hist_at, page_at, entry_at, entries_at, count_at, all_entries, entries_of, frame_of, read_frame}
 
 abbrev at : ℕ → ℕ → Stamp
@@ -23,7 +23,7 @@ twice n last prev = record { page = record { dev = 0; no = n }; hist = Twice (re
 
 -- ---- sizes
 
--- what the limits come to: the most bytes of an entry and of a body of entries, and those of sums
+-- what the limits come to: the most bytes of an entry and of a body of entries, and those of digests
 longest_entry_is : MAX_ENTRY_SIZE ≡ 31
 longest_entry_is = refl
 
@@ -59,12 +59,12 @@ nothing_spelled = refl
 two_stamps_spelled : spelling_in Narrow (Entries 1 0 (twice 7 (at 20 1) (at 10 1) ∷ [])) ≡ entries_frame 1 0x1F 1 (page 7 ++ 2 ∷ (twenty ++ ten))
 two_stamps_spelled = refl
 
-wish_spelled : spelling_in Narrow (Want 2 0 6) ≡ letters ++ 3 ∷ 0 ∷ 2 ∷ 0 ∷ 0 ∷ 0 ∷ 8 ∷ 0 ∷ 0 ∷ 0 ∷ 0 ∷ 0 ∷ 0 ∷ 0 ∷ 6 ∷ []
-wish_spelled = refl
+request_spelled : spelling_in Narrow (Want 2 0 6) ≡ letters ++ 3 ∷ 0 ∷ 2 ∷ 0 ∷ 0 ∷ 0 ∷ 8 ∷ 0 ∷ 0 ∷ 0 ∷ 0 ∷ 0 ∷ 0 ∷ 0 ∷ 6 ∷ []
+request_spelled = refl
 
--- the wide spelling of the wish, and of an entry under a horizon
-wish_written : spelling (Want 2 0 6) ≡ 0x4C ∷ 0x32 ∷ 0x47 ∷ 0x32 ∷ 3 ∷ 0 ∷ 2 ∷ 0 ∷ 0 ∷ 0 ∷ 0 ∷ 0 ∷ 0 ∷ 0 ∷ 0 ∷ 0 ∷ 0 ∷ 0 ∷ 8 ∷ 0 ∷ 0 ∷ 0 ∷ 0 ∷ 0 ∷ 0 ∷ 0 ∷ 6 ∷ []
-wish_written = refl
+-- the wide spelling of the request, and of an entry under a horizon
+request_written : spelling (Want 2 0 6) ≡ 0x4C ∷ 0x32 ∷ 0x47 ∷ 0x32 ∷ 3 ∷ 0 ∷ 2 ∷ 0 ∷ 0 ∷ 0 ∷ 0 ∷ 0 ∷ 0 ∷ 0 ∷ 0 ∷ 0 ∷ 0 ∷ 0 ∷ 8 ∷ 0 ∷ 0 ∷ 0 ∷ 0 ∷ 0 ∷ 0 ∷ 0 ∷ 6 ∷ []
+request_written = refl
 
 -- a page in ten bytes, its number's fourth byte from the end and its last
 abbrev page_wide : ℕ → ℕ → List ℕ
@@ -99,9 +99,9 @@ nothing_read : read_frame (spelling (Entries 3 0 [])) ≡ Ok (Entries 3 0 [])
 unfolding read_frame start_at length_at body_at frame_of entries_of count_at all_entries entries_at
 nothing_read = refl
 
-wish_read : read_frame (spelling (Want 2 0 6)) ≡ Ok (Want 2 0 6)
+request_read : read_frame (spelling (Want 2 0 6)) ≡ Ok (Want 2 0 6)
 unfolding read_frame start_at length_at body_at frame_of
-wish_read = refl
+request_read = refl
 
 -- ---- first faults
 

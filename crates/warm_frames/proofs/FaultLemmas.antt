@@ -13,14 +13,14 @@ use Rattle.warm_stamps.specs.Stamps.{stamp_cmp}
 use Rattle.warm_history.specs.Carried.{comes_after}
 use Rattle.warm_frames.specs.declared.format.Format.{Format}
 use Rattle.warm_frames.specs.declared.format.Format.TheVariants.{Narrow, Wide}
-use Rattle.warm_frames.specs.declared.layout.TheConstants.{MAGIC, NARROW_MAGIC, MAX_ENTRIES, SUM_SIZE}
+use Rattle.warm_frames.specs.declared.layout.TheConstants.{MAGIC, NARROW_MAGIC, MAX_ENTRIES, DIGEST_SIZE}
 use Rattle.warm_frames.specs.declared.fault.FrameFault.{FrameFault}
 use Rattle.warm_frames.specs.declared.fault.FrameFault.TheVariants.{Truncated, BadMagic, BadKind, BadSender, BadLength, BadCount, BadStamp, BadOrder}
 use Rattle.warm_frames.specs.declared.reading.Kind.{Kind}
 use Rattle.warm_frames.specs.declared.reading.Kind.TheVariants as kinds
 use Rattle.warm_frames.specs.Pieces.{IsLasting}
-use Rattle.warm_frames.specs.Reading.{◌>>=◌, front_at, number_at, byte_at, want, is_replica, kind_of, Start, format_of, horizon_at, start_at, stamp_in, two_in, hist_at, page_at, entry_at, entries_at, count_at, all_entries, entries_of, sums_of, frame_by, frame_of}
-use Rattle.warm_frames.specs.Sums.{table_size}
+use Rattle.warm_frames.specs.Reading.{◌>>=◌, front_at, number_at, byte_at, want, is_replica, kind_of, Start, format_of, horizon_at, start_at, stamp_in, two_in, hist_at, page_at, entry_at, entries_at, count_at, all_entries, entries_of, digests_of, frame_by, frame_of}
+use Rattle.warm_frames.specs.Digests.{table_size}
 use Rattle.warm_frames.specs.Sizes.{header_size}
 use Rattle.warm_frames.proofs.FieldLemmas.{done, guard_ok, ok_is}
 
@@ -119,11 +119,11 @@ body_lasts format body =
 
 -- a fault of a body is there for good
 by_lasts : (kind : Kind) (format : Format) (sender horizon : ℕ) (body : List ℕ) → Only IsLasting (frame_by kind format sender horizon body)
-unfolding sums_of
+unfolding digests_of
 by_lasts kinds.Entries format sender horizon body = only_then IsLasting (entries_of format body) _ (body_lasts format body) (λ entries is_entries. tt)
 by_lasts kinds.Digest format sender horizon body =
-    only_then IsLasting (sums_of body) _ (only_chosen IsLasting (eqb (length body) table_size) BadLength (first_chunks SUM_SIZE BUCKETS body) bad_length) (λ sums is_sums. tt)
-by_lasts kinds.Want format sender horizon body = only_then IsLasting (number_at w64 BadLength body) _ (number_lasts w64 body) (λ mask is_mask. tt)
+    only_then IsLasting (digests_of body) _ (only_chosen IsLasting (eqb (length body) table_size) BadLength (first_chunks DIGEST_SIZE BUCKETS body) bad_length) (λ digests is_digests. tt)
+by_lasts kinds.Want format sender horizon body = only_then IsLasting (number_at w64 BadLength body) _ (number_lasts w64 body) (λ request is_request. tt)
 
 pub frame_lasts : (start : Start) (body : List ℕ) → Only IsLasting (frame_of start body)
 unfolding frame_of

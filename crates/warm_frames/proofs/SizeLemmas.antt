@@ -7,7 +7,7 @@ use Rattle.std.proofs.lemmas.List.{append-nil, take_all, take-append-drop, take-
 use Rattle.warm_frames.specs.declared.layout.TheConstants.{MAX_ENTRY_SIZE, MAX_ENTRIES, HEADER_SIZE, MAGIC}
 use Rattle.warm_frames.specs.declared.fault.FrameFault.{FrameFault}
 use Rattle.warm_frames.specs.declared.fault.FrameFault.TheVariants.{Truncated, BadMagic, BadSender, BadLength}
-use Rattle.warm_frames.specs.declared.frame.Frame.{Frame}
+use Rattle.warm_frames.specs.declared.message.Message.{Message}
 use Rattle.warm_frames.specs.declared.reading.Kind.{Kind}
 use Rattle.warm_frames.specs.declared.reading.Kind.TheVariants as kinds
 use Rattle.warm_frames.specs.declared.format.Format.{Format}
@@ -367,13 +367,13 @@ lt_or_is a b le = ⊎_elim (λ lt. inl lt) (λ more. inr (omega (arith, le, more
 below : (bytes : List ℕ) (size : ℕ) → frame_size bytes ≡ Ok size → read_frame bytes ≡ Err Truncated → length bytes < size
 below bytes size is short =
     ⊎_elim (λ lt. lt)
-    (λ le. ⊎_elim (λ more. absurd (differ (err_is {A = Frame} BadLength Truncated (sym (size_long bytes size is more) ∙ short))))
+    (λ le. ⊎_elim (λ more. absurd (differ (err_is {A = Message} BadLength Truncated (sym (size_long bytes size is more) ∙ short))))
     (λ same. absurd (truncated_mends (size_whole bytes Truncated (is ∙ ap (λ (n : ℕ). Ok n) same) short))) (lt_or_is size (length bytes) le))
     (lt_or_le (length bytes) size)
 
 by_size : (bytes : List ℕ) → read_frame bytes ≡ Err Truncated → (r : Result ℕ FrameFault) → frame_size bytes ≡ r → length bytes < HEADER_SIZE + 4 + MAX_ENTRY_SIZE * MAX_ENTRIES
 by_size bytes short (Err e) is =
-    let truncated : e ≡ Truncated = err_is {A = Frame} e Truncated (sym (size_fault bytes e is) ∙ short) in
+    let truncated : e ≡ Truncated = err_is {A = Message} e Truncated (sym (size_fault bytes e is) ∙ short) in
     let few = header_short bytes (is ∙ ap (λ (x : FrameFault). Err x) truncated) in
     omega (arith, few)
 by_size bytes short (Ok size) is =
@@ -391,11 +391,11 @@ part_is_short bytes part =
 
 at_least : (bytes : List ℕ) (size : ℕ) (e : FrameFault) → frame_size bytes ≡ Ok size → ShowsFault bytes e → size ≤ length bytes
 at_least bytes size e is shown =
-    ⊎_elim (λ lt. absurd (truncated_mends (subst IsLasting (err_is {A = Frame} e Truncated (sym shown.read ∙ size_short bytes size is lt)) shown.lasting))) (λ le. le) (lt_or_le (length bytes) size)
+    ⊎_elim (λ lt. absurd (truncated_mends (subst IsLasting (err_is {A = Message} e Truncated (sym shown.read ∙ size_short bytes size is lt)) shown.lasting))) (λ le. le) (lt_or_le (length bytes) size)
 
-no_frame : (bytes more : List ℕ) (e : FrameFault) (f : Frame) → ShowsFault bytes e → read_frame (bytes ++ more) ≡ Ok f → (r : Result ℕ FrameFault) → frame_size bytes ≡ r → ⊥
+no_frame : (bytes more : List ℕ) (e : FrameFault) (f : Message) → ShowsFault bytes e → read_frame (bytes ++ more) ≡ Ok f → (r : Result ℕ FrameFault) → frame_size bytes ≡ r → ⊥
 no_frame bytes more e f shown ok (Err d) is =
-    let same : d ≡ e = err_is {A = Frame} d e (sym (size_fault bytes d is) ∙ shown.read) in
+    let same : d ≡ e = err_is {A = Message} d e (sym (size_fault bytes d is) ∙ shown.read) in
     let stays_so : frame_size (bytes ++ more) ≡ Err d = known_stays (frame_size bytes) (frame_size (bytes ++ more)) (size_goes bytes more)
     (λ short. truncated_mends (subst IsLasting (sym same ∙ err_is {A = ℕ} d Truncated (sym is ∙ short)) shown.lasting)) ∙ is in
     no_err {e = d} (sym ok ∙ size_fault (bytes ++ more) d stays_so)
@@ -409,7 +409,7 @@ no_frame bytes more e f shown ok (Ok size) is =
     (lt_or_le size (length (bytes ++ more)))
 
 -- a fault stays, whatever follows
-pub fault_for_good : (bytes more : List ℕ) (e : FrameFault) (f : Frame) → ShowsFault bytes e → Spells (bytes ++ more) f → ⊥
+pub fault_for_good : (bytes more : List ℕ) (e : FrameFault) (f : Message) → ShowsFault bytes e → Spells (bytes ++ more) f → ⊥
 fault_for_good bytes more e f shown spelt = no_frame bytes more e f shown (frame_read (bytes ++ more) f spelt) (frame_size bytes) refl
 
 -- ---- for a decoder

@@ -6,7 +6,7 @@ use Rattle.std.proofs.lemmas.List.Concat.{flat_map-cons}
 use Rattle.warm_frames.specs.declared.decoder.Fed.{Fed}
 use Rattle.warm_frames.specs.declared.fault.FrameFault.{FrameFault}
 use Rattle.warm_frames.specs.declared.fault.FrameFault.TheVariants.{Truncated}
-use Rattle.warm_frames.specs.declared.frame.Frame.{Frame}
+use Rattle.warm_frames.specs.declared.message.Message.{Message}
 use Rattle.warm_frames.specs.Pieces.{DecoderState, Inside, Broken, IsPart, IsLasting, ShowsFault, Takes, Breaks, Feeds, Feeding, bytes_taken, taken_in, frame_given, frames_given, Feedings, SpellAll, texts_of, Splits, Fails}
 use Rattle.warm_frames.specs.Reading.{read_frame}
 use Rattle.warm_frames.specs.Spelling.{Spells}
@@ -32,7 +32,7 @@ nothing_is_part = part_without_header [] (nothing_short [] refl)
 abbrev pub Later : List Feeding → DecoderState → List ℕ → Type 0
 Later calls new rest = (part : List ℕ) → IsPart part → Feedings (Inside part) calls new → Splits (part ++ taken_in calls) (frames_given calls) rest
 
-one_fed : (calls : List Feeding) (new : DecoderState) (rest begun piece : List ℕ) (taken : ℕ) (frame : Option Frame) (next : DecoderState) → Later calls new rest → Takes begun piece taken frame next → Feedings next calls new
+one_fed : (calls : List Feeding) (new : DecoderState) (rest begun piece : List ℕ) (taken : ℕ) (frame : Option Message) (next : DecoderState) → Later calls new rest → Takes begun piece taken frame next → Feedings next calls new
     → Splits (begun ++ (take taken piece ++ taken_in calls)) (option_to_list frame ++ frames_given calls) rest
 one_fed calls new rest begun piece taken None next later takes run =
     let after = later (begun ++ piece) takes.1 (subst (λ (s : DecoderState). Feedings s calls new) takes.2 run) in
@@ -65,7 +65,7 @@ fed_from (c ∷ calls) new rest ends begun part run =
     let all = one_answered calls new rest begun c.piece c.answer run.0 (fed_from calls new rest ends) part ends run.1 run.2 in
     let bytes : taken_in (c ∷ calls) ≡ bytes_taken c.piece c.answer ++ taken_in calls = flat_map-cons (λ (d : Feeding). bytes_taken d.piece d.answer) c calls in
     let frames : frames_given (c ∷ calls) ≡ frame_given c.answer ++ frames_given calls = flat_map-cons (λ (d : Feeding). frame_given d.answer) c calls in
-    subst (λ (fs : List Frame). Splits (begun ++ taken_in (c ∷ calls)) fs rest) (sym frames)
+    subst (λ (fs : List Message). Splits (begun ++ taken_in (c ∷ calls)) fs rest) (sym frames)
     (subst (λ (s : List ℕ). Splits (begun ++ s) (frame_given c.answer ++ frames_given calls) rest) (sym bytes) all)
 
 -- what was taken is the frames given and a part of the next
@@ -98,20 +98,20 @@ longer : (a x b y : List ℕ) → a ++ x ≡ b ++ y → length a ≤ length b �
 longer a x b y same le = sym (take-append-drop (length a) b) ∙ ap (λ (w : List ℕ). w ++ drop (length a) b) (shorter a x b y same le)
 
 -- where one frame's spelling is a front of another's, they are one spelling
-front_text : (s t : List ℕ) (f g : Frame) (x y : List ℕ) → Spells s f → Spells t g → s ++ x ≡ t ++ y → length s ≤ length t → s ≡ t
+front_text : (s t : List ℕ) (f g : Message) (x y : List ℕ) → Spells s f → Spells t g → s ++ x ≡ t ++ y → length s ≤ length t → s ≡ t
 front_text s t f g x y is_f is_g same le =
     let rest = drop (length s) t in
     let parts : t ≡ s ++ rest = longer s x t y same le in
     let none : rest ≡ [] = no_prefix s rest f g is_f (subst (λ (w : List ℕ). Spells w g) parts is_g) in
     sym (append-nil s) ∙ ap (λ (r : List ℕ). s ++ r) (sym none) ∙ sym parts
 
-first_text : (s t : List ℕ) (f g : Frame) (x y : List ℕ) → Spells s f → Spells t g → s ++ x ≡ t ++ y → s ≡ t
+first_text : (s t : List ℕ) (f g : Message) (x y : List ℕ) → Spells s f → Spells t g → s ++ x ≡ t ++ y → s ≡ t
 first_text s t f g x y is_f is_g same =
     ⊎_elim (λ lt. front_text s t f g x y is_f is_g same (omega (arith, lt))) (λ le. sym (front_text t s g f y x is_g is_f (sym same) le)) (lt_or_le (length s) (length t))
 
 -- no frame comes first
 abbrev pub NoFrame : List ℕ → Type 0
-NoFrame bytes = (text : List ℕ) (f : Frame) (more : List ℕ) → Spells text f → bytes ≡ text ++ more → ⊥
+NoFrame bytes = (text : List ℕ) (f : Message) (more : List ℕ) → Spells text f → bytes ≡ text ++ more → ⊥
 
 part_no_frame : (rest : List ℕ) → IsPart rest → NoFrame rest
 part_no_frame rest part text f more spelt is =
@@ -125,7 +125,7 @@ bad_no_frame bad later fault shown text f more spelt is =
     (λ le. fault_for_good bad (drop (length bad) text) fault f shown (subst (λ (w : List ℕ). Spells w f) (longer bad later text more is le) spelt))
     (lt_or_le (length text) (length bad))
 
-same_reading : (ts us : List (List ℕ)) (fs gs : List Frame) (r q : List ℕ) → SpellAll ts fs → SpellAll us gs → NoFrame r → NoFrame q → texts_of ts ++ r ≡ texts_of us ++ q → (fs ≡ gs) × (r ≡ q)
+same_reading : (ts us : List (List ℕ)) (fs gs : List Message) (r q : List ℕ) → SpellAll ts fs → SpellAll us gs → NoFrame r → NoFrame q → texts_of ts ++ r ≡ texts_of us ++ q → (fs ≡ gs) × (r ≡ q)
 same_reading [] [] [] [] r q all_f all_g none_r none_q same = (refl, same)
 same_reading [] us (f ∷ fs) gs r q all_f all_g none_r none_q same = absurd all_f
 same_reading (t ∷ ts) us [] gs r q all_f all_g none_r none_q same = absurd all_f
@@ -143,8 +143,8 @@ same_reading (t ∷ ts) (u ∷ us) (f ∷ fs) (g ∷ gs) r q all_f all_g none_r 
     let later = same_reading ts us fs gs r q all_f.1 all_g.1 none_r none_q behind in
     ((λ i. first i ∷ later.0 i), later.1)
 
-mended : (fault : FrameFault) → failed {A = Frame} fault ≡ failed Truncated → IsLasting fault → ⊥
-mended fault short lasting = truncated_mends (subst IsLasting (err_is {A = Frame} fault Truncated short) lasting)
+mended : (fault : FrameFault) → failed {A = Message} fault ≡ failed Truncated → IsLasting fault → ⊥
+mended fault short lasting = truncated_mends (subst IsLasting (err_is {A = Message} fault Truncated short) lasting)
 
 -- what shows a fault isn't shorter than what shows one
 not_shorter : (a x b y : List ℕ) (e d : FrameFault) → ShowsFault a e → ShowsFault b d → a ++ x ≡ b ++ y → length b ≤ length a
@@ -152,11 +152,11 @@ not_shorter a x b y e d first second same =
     ⊎_elim (λ lt. absurd (mended e (sym first.read ∙ ap read_frame (sym (shorter a x b y same (omega (arith, lt)))) ∙ second.not_before (length a) lt) first.lasting)) (λ le. le) (lt_or_le (length a) (length b))
 
 -- a stream has one list of frames and one rest
-pub one_reading : (stream : List ℕ) (fs gs : List Frame) (r q : List ℕ) → Splits stream fs r → Splits stream gs q → (fs ≡ gs) × (r ≡ q)
+pub one_reading : (stream : List ℕ) (fs gs : List Message) (r q : List ℕ) → Splits stream fs r → Splits stream gs q → (fs ≡ gs) × (r ≡ q)
 one_reading stream fs gs r q a b = same_reading a.texts b.texts fs gs r q a.each b.each (part_no_frame r a.part) (part_no_frame q b.part) (sym a.whole ∙ b.whole)
 
 -- a part shows no fault
-pub part_or_fault : (stream : List ℕ) (fs gs : List Frame) (r : List ℕ) (fault : FrameFault) → Splits stream fs r → Fails stream gs fault → ⊥
+pub part_or_fault : (stream : List ℕ) (fs gs : List Message) (r : List ℕ) (fault : FrameFault) → Splits stream fs r → Fails stream gs fault → ⊥
 part_or_fault stream fs gs r fault a b =
     let same = same_reading a.texts b.texts fs gs r (b.bad ++ b.later) a.each b.each (part_no_frame r a.part) (bad_no_frame b.bad b.later fault b.shown) (sym a.whole ∙ b.whole) in
     let n = length b.bad in
@@ -164,10 +164,10 @@ part_or_fault stream fs gs r fault a b =
     mended fault (sym b.shown.read ∙ ap read_frame (sym front) ∙ a.part n) b.shown.lasting
 
 -- a stream has one fault, behind one list of frames
-pub one_fault : (stream : List ℕ) (fs gs : List Frame) (e d : FrameFault) → Fails stream fs e → Fails stream gs d → (fs ≡ gs) × (e ≡ d)
+pub one_fault : (stream : List ℕ) (fs gs : List Message) (e d : FrameFault) → Fails stream fs e → Fails stream gs d → (fs ≡ gs) × (e ≡ d)
 one_fault stream fs gs e d a b =
     let same = same_reading a.texts b.texts fs gs (a.bad ++ a.later) (b.bad ++ b.later) a.each b.each (bad_no_frame a.bad a.later e a.shown) (bad_no_frame b.bad b.later d b.shown) (sym a.whole ∙ b.whole) in
     let as_long : length b.bad ≤ length a.bad = not_shorter a.bad a.later b.bad b.later e d a.shown b.shown same.1 in
     let as_short : length a.bad ≤ length b.bad = not_shorter b.bad b.later a.bad a.later d e b.shown a.shown (sym same.1) in
     let bad : a.bad ≡ b.bad = sym (shorter a.bad a.later b.bad b.later same.1 as_short) ∙ take_all (length a.bad) b.bad as_long in
-    (same.0, err_is {A = Frame} e d (sym a.shown.read ∙ ap read_frame bad ∙ b.shown.read))
+    (same.0, err_is {A = Message} e d (sym a.shown.read ∙ ap read_frame bad ∙ b.shown.read))

@@ -10,11 +10,11 @@ use Rattle.warm_history.specs.declared.hist.PageHist.{PageHist}
 use Rattle.warm_history.specs.declared.hist.PageHist.TheVariants.{Once, Twice}
 use Rattle.warm_history.specs.LatestTwo.{LatestTwo}
 use Rattle.warm_frames.specs.declared.format.Format.TheVariants.{Wide}
-use Rattle.warm_frames.specs.declared.frame.Frame.TheVariants as frames
+use Rattle.warm_frames.specs.declared.message.Message.TheVariants as frames
 use Rattle.warm_frames.specs.Entries.{hist_bytes, entry_bytes, entries_bytes}
-use Rattle.warm_frames.specs.Sums.{IsSumTable, table_size}
+use Rattle.warm_frames.specs.Digests.{IsDigestTable, table_size}
 use Rattle.warm_frames.specs.Spelling.{header_bytes, SpellsIn}
-use Rattle.warm_frames.proofs.BodyLemmas.{length-sums}
+use Rattle.warm_frames.proofs.BodyLemmas.{length-digests}
 
 -- the bytes of one entry more come last
 pub bytes_and_one : (es : List Entry) (e : Entry) → entries_bytes (es ++ e ∷ []) ≡ entries_bytes es ++ entry_bytes e
@@ -44,9 +44,9 @@ put_twice old tagged mid new last prev two h tag later earlier is_last is_prev i
     ∙ (λ i. (old ++ 2 ∷ []) ++ (bytes_of_stamp (is_last i) ++ bytes_of_stamp (is_prev i)))
     ∙ append_assoc old (2 ∷ []) (bytes_of_stamp two.last ++ bytes_of_stamp two.prev) ∙ ap (λ (k : PageHist). old ++ hist_bytes k) (sym is)
 
-pub digest_spelled : (text : List ℕ) (sender horizon : ℕ) (sums : List (List ℕ)) → IsReplica sender → horizon < 2 ^ 64 → IsSumTable sums → text ≡ header_bytes Wide 2 sender horizon table_size ++ flat_map (λ sum. sum) sums → SpellsIn Wide text (frames.Digest sender horizon sums)
-digest_spelled text sender horizon sums good few table is = record {
+pub digest_spelled : (text : List ℕ) (sender horizon : ℕ) (digests : List (List ℕ)) → IsReplica sender → horizon < 2 ^ 64 → IsDigestTable digests → text ≡ header_bytes Wide 2 sender horizon table_size ++ flat_map (λ digest. digest) digests → SpellsIn Wide text (frames.Digest sender horizon digests)
+digest_spelled text sender horizon digests good few table is = record {
   fits = (good, few, table);
   holds = tt;
-  text = is ∙ ap (λ (n : ℕ). header_bytes Wide 2 sender horizon n ++ flat_map (λ sum. sum) sums) (sym (length-sums sums table));
+  text = is ∙ ap (λ (n : ℕ). header_bytes Wide 2 sender horizon n ++ flat_map (λ digest. digest) digests) (sym (length-digests digests table));
 }

@@ -51,7 +51,7 @@ entry_bytes_in format e = page_bytes_in format e.page ++ hist_bytes e.hist
 abbrev pub entries_bytes_in : Format → List Entry → List ℕ
 entries_bytes_in format es = flat_map (entry_bytes_in format) es
 
--- as they are written, and summed
+-- as they are written, and digested
 abbrev pub entry_bytes : Entry → List ℕ
 entry_bytes e = entry_bytes_in Wide e
 

@@ -1,17 +1,17 @@
 -- The laws of spellings, and of streams that come in pieces.
 use Rattle.std.specs.Prelude.{◌≡◌, ℕ, ◌<◌, List, [], ◌++◌, length}
 use Rattle.warm_frames.specs.declared.fault.FrameFault.{FrameFault}
-use Rattle.warm_frames.specs.declared.frame.Frame.{Frame}
+use Rattle.warm_frames.specs.declared.message.Message.{Message}
 use Rattle.warm_frames.specs.Pieces.{Inside, Broken, IsPart, longest_frame, ShowsFault, Breaks, Feeding, taken_in, frames_given, Feedings, Splits, Fails}
 use Rattle.warm_frames.specs.Spelling.{Spells}
 
 -- no two frames share a spelling
 abbrev pub OneSpelling : Type 0
-OneSpelling = (bytes : List ℕ) (f g : Frame) → Spells bytes f → Spells bytes g → f ≡ g
+OneSpelling = (bytes : List ℕ) (f g : Message) → Spells bytes f → Spells bytes g → f ≡ g
 
 -- what follows a spelling, in another one, is nothing
 abbrev pub NoPrefix : Type 0
-NoPrefix = (text rest : List ℕ) (f g : Frame) → Spells text f → Spells (text ++ rest) g → rest ≡ []
+NoPrefix = (text rest : List ℕ) (f g : Message) → Spells text f → Spells (text ++ rest) g → rest ≡ []
 
 -- The bytes that a decoder took are the spellings of the frames that it gave, and then the part of a frame that it holds.
 abbrev pub InPieces : Type 0
@@ -24,19 +24,19 @@ FaultInPieces = (calls : List Feeding) (begun piece : List ℕ) (fault : FrameFa
 
 -- A stream has one list of frames and one rest: how it was cut doesn't matter.
 abbrev pub OneReading : Type 0
-OneReading = (stream : List ℕ) (fs gs : List Frame) (r q : List ℕ) → Splits stream fs r → Splits stream gs q → (fs ≡ gs) × (r ≡ q)
+OneReading = (stream : List ℕ) (fs gs : List Message) (r q : List ℕ) → Splits stream fs r → Splits stream gs q → (fs ≡ gs) × (r ≡ q)
 
 -- nor does it for a fault: there is one, behind the same frames
 abbrev pub OneFault : Type 0
-OneFault = (stream : List ℕ) (fs gs : List Frame) (e d : FrameFault) → Fails stream fs e → Fails stream gs d → (fs ≡ gs) × (e ≡ d)
+OneFault = (stream : List ℕ) (fs gs : List Message) (e d : FrameFault) → Fails stream fs e → Fails stream gs d → (fs ≡ gs) × (e ≡ d)
 
 -- no stream both ends in a part of a frame and has a fault
 abbrev pub PartOrFault : Type 0
-PartOrFault = (stream : List ℕ) (fs gs : List Frame) (r : List ℕ) (fault : FrameFault) → Splits stream fs r → Fails stream gs fault → ⊥
+PartOrFault = (stream : List ℕ) (fs gs : List Message) (r : List ℕ) (fault : FrameFault) → Splits stream fs r → Fails stream gs fault → ⊥
 
 -- no frame's spelling begins with bytes that show a fault
 abbrev pub FaultForGood : Type 0
-FaultForGood = (bytes more : List ℕ) (fault : FrameFault) (f : Frame) → ShowsFault bytes fault → Spells (bytes ++ more) f → ⊥
+FaultForGood = (bytes more : List ℕ) (fault : FrameFault) (f : Message) → ShowsFault bytes fault → Spells (bytes ++ more) f → ⊥
 
 -- a part of a frame is shorter than the longest frame
 abbrev pub PartIsShort : Type 0

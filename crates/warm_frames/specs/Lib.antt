@@ -5,4 +5,4 @@ pub mod Pieces
 pub mod Reading
 pub mod Sizes
 pub mod Spelling
-pub mod Sums
+pub mod Digests

@@ -5,7 +5,7 @@ use Rattle.warm_frames.specs.declared.layout.TheConstants.{MAX_ENTRY_SIZE, MAX_E
 use Rattle.warm_frames.specs.declared.decoder.Fed.{Fed}
 use Rattle.warm_frames.specs.declared.fault.FrameFault.{FrameFault}
 use Rattle.warm_frames.specs.declared.fault.FrameFault.TheVariants.{Memory, Truncated, Failed}
-use Rattle.warm_frames.specs.declared.frame.Frame.{Frame}
+use Rattle.warm_frames.specs.declared.message.Message.{Message}
 use Rattle.warm_frames.specs.Faults.{fault_code}
 use Rattle.warm_frames.specs.Reading.{read_frame}
 use Rattle.warm_frames.specs.Sizes.{SaysSize}
@@ -40,7 +40,7 @@ pub record ShowsFault (bytes : List ℕ) (fault : FrameFault) : Type 0 where
   pub not_before : (n : ℕ) → n < length bytes → read_frame (take n bytes) ≡ Err Truncated
 
 -- All of the piece was taken, and the frame isn't whole yet; or bytes were taken up to the end of a frame, which is given.
-abbrev pub Takes : List ℕ → List ℕ → ℕ → Option Frame → DecoderState → Type 0
+abbrev pub Takes : List ℕ → List ℕ → ℕ → Option Message → DecoderState → Type 0
 Takes begun piece taken None new = (taken ≡ length piece) × IsPart (begun ++ piece) × (new ≡ Inside (begun ++ piece))
 Takes begun piece taken (Some frame) new = (taken ≤ length piece) × Spells (begun ++ take taken piece) frame × (new ≡ Inside [])
 
@@ -60,7 +60,7 @@ KnowsWith (Inside begun) piece size = SaysSize begun piece (Ok size)
 KnowsWith Broken piece size = ⊥
 
 -- A frame that is the bytes held and those at its end is decoded. Want of memory leaves what is held.
-abbrev pub DecodesWith : List ℕ → List ℕ → Result Frame FrameFault → List ℕ → Type 0
+abbrev pub DecodesWith : List ℕ → List ℕ → Result Message FrameFault → List ℕ → Type 0
 DecodesWith held end result new = (result ≡ read_frame (held ++ end)) ⊎ ((result ≡ Err Memory) × (new ≡ held))
 
 -- whether a stream may end here: between two frames alone
@@ -85,11 +85,11 @@ abbrev pub taken_in : List Feeding → List ℕ
 taken_in = flat_map (λ c. bytes_taken c.piece c.answer)
 
 -- the frame that was given
-abbrev pub frame_given : Result Fed FrameFault → List Frame
+abbrev pub frame_given : Result Fed FrameFault → List Message
 frame_given (Ok fed) = option_to_list fed.frame
 frame_given (Err fault) = []
 
-abbrev pub frames_given : List Feeding → List Frame
+abbrev pub frames_given : List Feeding → List Message
 frames_given = flat_map (λ c. frame_given c.answer)
 
 -- pieces fed one after the other
@@ -100,7 +100,7 @@ Feedings old (c ∷ more) new = (next : DecoderState) × Feeds old c.piece c.ans
 -- ---- streams
 
 -- the texts spell the frames, one each
-abbrev pub SpellAll : List (List ℕ) → List Frame → Type 0
+abbrev pub SpellAll : List (List ℕ) → List Message → Type 0
 SpellAll [] [] = ⊤
 SpellAll [] (f ∷ fs) = ⊥
 SpellAll (t ∷ ts) [] = ⊥
@@ -112,14 +112,14 @@ texts_of [] = []
 texts_of (t ∷ ts) = t ++ texts_of ts
 
 -- the stream is spellings of these frames, and then a part of one
-pub record Splits (stream : List ℕ) (frames : List Frame) (rest : List ℕ) : Type 0 where
+pub record Splits (stream : List ℕ) (frames : List Message) (rest : List ℕ) : Type 0 where
   pub texts : List (List ℕ)
   pub whole : stream ≡ texts_of texts ++ rest
   pub each : SpellAll texts frames
   pub part : IsPart rest
 
 -- the stream is spellings of these frames, then bytes that show this fault, and whatever follows
-pub record Fails (stream : List ℕ) (frames : List Frame) (fault : FrameFault) : Type 0 where
+pub record Fails (stream : List ℕ) (frames : List Message) (fault : FrameFault) : Type 0 where
   pub texts : List (List ℕ)
   pub bad : List ℕ
   pub later : List ℕ

@@ -14,15 +14,15 @@ use Rattle.warm_history.specs.declared.hist.Entry.{Entry}
 use Rattle.warm_history.specs.Carried.{comes_after}
 use Rattle.warm_frames.specs.declared.format.Format.{Format}
 use Rattle.warm_frames.specs.declared.format.Format.TheVariants.{Narrow, Wide}
-use Rattle.warm_frames.specs.declared.layout.TheConstants.{MAGIC, NARROW_MAGIC, NARROW_MAX_ENTRY_SIZE, MAX_ENTRY_SIZE, MAX_ENTRIES, SUM_SIZE}
+use Rattle.warm_frames.specs.declared.layout.TheConstants.{MAGIC, NARROW_MAGIC, NARROW_MAX_ENTRY_SIZE, MAX_ENTRY_SIZE, MAX_ENTRIES, DIGEST_SIZE}
 use Rattle.warm_frames.specs.declared.fault.FrameFault.{FrameFault}
 use Rattle.warm_frames.specs.declared.fault.FrameFault.TheVariants.{Memory, Truncated, BadMagic, BadKind, BadSender, BadLength, BadCount, BadTag, BadStamp, BadOrder}
-use Rattle.warm_frames.specs.declared.frame.Frame.{Frame}
-use Rattle.warm_frames.specs.declared.frame.Frame.TheVariants as frames
+use Rattle.warm_frames.specs.declared.message.Message.{Message}
+use Rattle.warm_frames.specs.declared.message.Message.TheVariants as frames
 use Rattle.warm_frames.specs.declared.reading.Kind.{Kind}
 use Rattle.warm_frames.specs.declared.reading.Kind.TheVariants as kinds
 use Rattle.warm_frames.specs.Spelling.{Spells}
-use Rattle.warm_frames.specs.Sums.{table_size}
+use Rattle.warm_frames.specs.Digests.{table_size}
 
 infixl 10 ◌>>=◌
 abbrev pub ◌>>=◌ : {A B : Type 0} → Result A FrameFault → (A → Result B FrameFault) → Result B FrameFault
@@ -204,27 +204,27 @@ entries_of format body = do
 
 -- ---- frames
 
--- a table of sums
-unfoldable pub sums_of : List ℕ → Result (List (List ℕ)) FrameFault
-sums_of body = if length body == table_size then Ok (first_chunks SUM_SIZE BUCKETS body) else Err BadLength
+-- a table of digests
+unfoldable pub digests_of : List ℕ → Result (List (List ℕ)) FrameFault
+digests_of body = if length body == table_size then Ok (first_chunks DIGEST_SIZE BUCKETS body) else Err BadLength
 
-abbrev pub frame_by : Kind → Format → ℕ → ℕ → List ℕ → Result Frame FrameFault
+abbrev pub frame_by : Kind → Format → ℕ → ℕ → List ℕ → Result Message FrameFault
 frame_by kinds.Entries format sender horizon body = do
   entries ← entries_of format body
   Ok (frames.Entries sender horizon entries)
 frame_by kinds.Digest format sender horizon body = do
-  sums ← sums_of body
-  Ok (frames.Digest sender horizon sums)
+  digests ← digests_of body
+  Ok (frames.Digest sender horizon digests)
 frame_by kinds.Want format sender horizon body = do
-  mask ← number_at w64 BadLength body
-  Ok (frames.Want sender horizon mask.0)
+  request ← number_at w64 BadLength body
+  Ok (frames.Want sender horizon request.0)
 
 -- the frame of a body
-unfoldable pub frame_of : Start → List ℕ → Result Frame FrameFault
+unfoldable pub frame_of : Start → List ℕ → Result Message FrameFault
 frame_of start body = frame_by start.kind start.format start.sender start.horizon body
 
 -- a whole frame
-unfoldable pub read_frame : List ℕ → Result Frame FrameFault
+unfoldable pub read_frame : List ℕ → Result Message FrameFault
 read_frame bytes = do
   start ← start_at bytes
   body ← body_at start.0.format start.0.kind start.1
@@ -257,5 +257,5 @@ abbrev pub Gives : {X : Type 0} → Result X FrameFault → Result X FrameFault 
 Gives result read room = (result ≡ read) ⊎ ((result ≡ Err Memory) × TakesRoom room)
 
 -- The frame that the bytes spell, if one does, was answered, unless there was no memory for it.
-abbrev pub FindsSpelled : List ℕ → Result Frame FrameFault → Type 0
-FindsSpelled bytes result = (frame : Frame) → Spells bytes frame → Gives result (Ok frame) (room_of bytes)
+abbrev pub FindsSpelled : List ℕ → Result Message FrameFault → Type 0
+FindsSpelled bytes result = (frame : Message) → Spells bytes frame → Gives result (Ok frame) (room_of bytes)

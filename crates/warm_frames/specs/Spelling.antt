@@ -7,16 +7,16 @@ use Rattle.warm_history.specs.declared.hist.Entry.{Entry}
 use Rattle.warm_frames.specs.declared.format.Format.{Format}
 use Rattle.warm_frames.specs.declared.format.Format.TheVariants.{Narrow, Wide}
 use Rattle.warm_frames.specs.declared.layout.TheConstants.{MAGIC, NARROW_MAGIC}
-use Rattle.warm_frames.specs.declared.frame.Frame.{Frame}
-use Rattle.warm_frames.specs.declared.frame.Frame.TheVariants.{Entries, Digest, Want}
+use Rattle.warm_frames.specs.declared.message.Message.{Message}
+use Rattle.warm_frames.specs.declared.message.Message.TheVariants.{Entries, Digest, Want}
 use Rattle.warm_frames.specs.Entries.{IsEntryList, entries_bytes_in}
-use Rattle.warm_frames.specs.Sums.{IsSumTable}
+use Rattle.warm_frames.specs.Digests.{IsDigestTable}
 
 -- the frames that there are
-abbrev pub IsFrame : Frame → Type 0
+abbrev pub IsFrame : Message → Type 0
 IsFrame (Entries sender horizon entries) = IsReplica sender × (horizon < 2 ^ 64) × IsEntryList entries
-IsFrame (Digest sender horizon sums) = IsReplica sender × (horizon < 2 ^ 64) × IsSumTable sums
-IsFrame (Want sender horizon mask) = IsReplica sender × (horizon < 2 ^ 64) × (mask < 2 ^ 64)
+IsFrame (Digest sender horizon digests) = IsReplica sender × (horizon < 2 ^ 64) × IsDigestTable digests
+IsFrame (Want sender horizon request) = IsReplica sender × (horizon < 2 ^ 64) × (request < 2 ^ 64)
 
 -- the magic number of a format
 abbrev pub magic_of : Format → ℕ
@@ -37,13 +37,13 @@ abbrev pub framed : Format → ℕ → ℕ → ℕ → List ℕ → List ℕ
 framed format kind sender horizon body = header_bytes format kind sender horizon (length body) ++ body
 
 -- the body of a frame of entries: their count, and the entries
-abbrev pub spelling_in : Format → Frame → List ℕ
+abbrev pub spelling_in : Format → Message → List ℕ
 spelling_in format (Entries sender horizon entries) = framed format 1 sender horizon (to_be_bytes w32 (length entries) ++ entries_bytes_in format entries)
-spelling_in format (Digest sender horizon sums) = framed format 2 sender horizon (flat_map (λ sum. sum) sums)
-spelling_in format (Want sender horizon mask) = framed format 3 sender horizon (to_be_bytes w64 mask)
+spelling_in format (Digest sender horizon digests) = framed format 2 sender horizon (flat_map (λ digest. digest) digests)
+spelling_in format (Want sender horizon request) = framed format 3 sender horizon (to_be_bytes w64 request)
 
 -- the spelling that is written
-abbrev pub spelling : Frame → List ℕ
+abbrev pub spelling : Message → List ℕ
 spelling f = spelling_in Wide f
 
 -- the numbers of all pages have 32 bits
@@ -51,18 +51,18 @@ abbrev pub AreNarrow : List Entry → Type 0
 AreNarrow es = AllByRecursion (λ e. e.page.no < 2 ^ 32) es
 
 -- the format can hold the frame: the narrow one has no horizon, and page numbers of 32 bits
-abbrev pub Holds : Format → Frame → Type 0
+abbrev pub Holds : Format → Message → Type 0
 Holds Wide f = ⊤
 Holds Narrow (Entries sender horizon entries) = (horizon ≡ 0) × AreNarrow entries
-Holds Narrow (Digest sender horizon sums) = horizon ≡ 0
-Holds Narrow (Want sender horizon mask) = horizon ≡ 0
+Holds Narrow (Digest sender horizon digests) = horizon ≡ 0
+Holds Narrow (Want sender horizon request) = horizon ≡ 0
 
 -- these bytes spell this frame in a format
-pub record SpellsIn (format : Format) (bytes : List ℕ) (frame : Frame) : Type 0 where
+pub record SpellsIn (format : Format) (bytes : List ℕ) (frame : Message) : Type 0 where
   pub fits : IsFrame frame
   pub holds : Holds format frame
   pub text : bytes ≡ spelling_in format frame
 
 -- these bytes spell this frame
-abbrev pub Spells : List ℕ → Frame → Type 0
+abbrev pub Spells : List ℕ → Message → Type 0
 Spells bytes frame = (format : Format) × SpellsIn format bytes frame

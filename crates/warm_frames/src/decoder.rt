@@ -6,8 +6,8 @@ ghost use Rattle.warm_frames.specs.Sizes.{frame_size, KnowsSize, SaysSize};
 ghost use Rattle.warm_frames.specs.Pieces.{DecoderState.Inside, DecodesWith, Feeds, KnowsWith, finish_of};
 
 use crate::fault::FrameFault;
-use crate::frame::{BoxedFrame, decode_boxed};
 use crate::layout::HEADER_SIZE;
+use crate::message::{BoxedMessage, decode_boxed};
 use crate::reading::frame_size;
 use std::alloc::Global;
 use std::cmp::min;
@@ -19,7 +19,7 @@ pub struct Fed {
     /// How many bytes of the piece were taken: up to the end of the frame, or all of them.
     pub taken: usize,
     /// The frame that is whole now, if one is.
-    pub frame: Option<BoxedFrame>,
+    pub frame: Option<BoxedMessage>,
 }
 
 /// Decodes frames that follow one another in a stream, however it is cut into pieces.
@@ -105,7 +105,7 @@ fn all_of(piece: &[u8]) -> Fed
 
 // The frame that is the bytes held and those at its end. One that stands whole in a piece is decoded
 // there, and nothing is copied.
-fn frame_with(alloc: Global, held: &mut Vec<u8>, end: &[u8]) -> Result<BoxedFrame, FrameFault>
+fn frame_with(alloc: Global, held: &mut Vec<u8>, end: &[u8]) -> Result<BoxedMessage, FrameFault>
     ensures reads { DecodesWith held.old.items end.now result held.new.items }
     ensures spelled { IfOk result (λ frame. Spells (held.old.items ++ end.now) frame) }
 {

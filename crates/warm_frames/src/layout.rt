@@ -12,7 +12,7 @@
 //! | length of the body | [`LENGTH_SIZE`] | [`LENGTH_SIZE`] |
 //!
 //! The body of a frame of entries is their count ([`COUNT_SIZE`]) and the entries: each is a page, a tag and one or two stamps,
-//! the later one first. The body of a digest is a table of sums, and that of a request is a mask of buckets.
+//! the later one first. The body of a digest is a table of digests, and that of a request is a request of buckets.
 use warm_stamps::BUCKETS;
 
 /// The magic number of the wide format: the letters `L2G2`.
@@ -87,14 +87,14 @@ pub const MAX_ENTRY_SIZE: usize = PAGE_ID_SIZE + TWICE_SIZE;
 /// The most bytes that an entry of the narrow format has: 27.
 pub const NARROW_MAX_ENTRY_SIZE: usize = NARROW_PAGE_ID_SIZE + TWICE_SIZE;
 
-/// How many sums a digest has: one for each bucket.
-pub const SUMS: usize = BUCKETS as usize;
+/// How many digests a digest has: one for each bucket.
+pub const DIGESTS: usize = BUCKETS as usize;
 
-/// The size of a sum.
-pub const SUM_SIZE: usize = 32;
+/// The size of a digest.
+pub const DIGEST_SIZE: usize = 32;
 
 /// The size of the body of a digest: 2048.
-pub const TABLE_SIZE: usize = SUM_SIZE * SUMS;
+pub const TABLE_SIZE: usize = DIGEST_SIZE * DIGESTS;
 
-/// The size of the body of a request: a mask with a bit for each bucket.
+/// The size of the body of a request: a request with a bit for each bucket.
 pub const MASK_SIZE: usize = 8;

@@ -3,18 +3,18 @@
 ghost use Rattle.std.specs.Prelude.{◌≡◌, ◌≤◌, [], vec_capacity};
 ghost use Rattle.std.specs.Int.{w16, w32, w64};
 ghost use Rattle.warm_history.specs.Carried.{comes_after};
-ghost use Rattle.warm_frames.specs.Reading.{Reads, number_at, byte_at, kind_of, may_have, horizon_at, start_at, length_at, body_at, front_at, stamp_in, two_in, hist_at, page_at, entry_at, entries_from, count_at, all_entries, entries_of, sums_of, read_frame, room_of, entries_room, Gives};
+ghost use Rattle.warm_frames.specs.Reading.{Reads, number_at, byte_at, kind_of, may_have, horizon_at, start_at, length_at, body_at, front_at, stamp_in, two_in, hist_at, page_at, entry_at, entries_from, count_at, all_entries, entries_of, digests_of, read_frame, room_of, entries_room, Gives};
 ghost use Rattle.warm_frames.specs.Sizes.{frame_size};
 
+use crate::digests::DigestTable;
 use crate::entries::EntryList;
 use crate::fault::FrameFault;
 use crate::format::{Format, entry_size, format_of, header_size};
-use crate::frame::Frame;
 use crate::layout::{
-    COUNT_SIZE, DIGEST_KIND, ENTRIES_KIND, MASK_SIZE, MAX_ENTRIES, NARROW_PAGE_ID_SIZE, ONCE_TAG,
-    PAGE_ID_SIZE, STAMP_SIZE, SUM_SIZE, SUMS, TABLE_SIZE, TWICE_TAG, WANT_KIND,
+    COUNT_SIZE, DIGEST_KIND, DIGEST_SIZE, DIGESTS, ENTRIES_KIND, MASK_SIZE, MAX_ENTRIES,
+    NARROW_PAGE_ID_SIZE, ONCE_TAG, PAGE_ID_SIZE, STAMP_SIZE, TABLE_SIZE, TWICE_TAG, WANT_KIND,
 };
-use crate::sums::SumTable;
+use crate::message::Message;
 use std::alloc::Global;
 use warm_history::{Entry, PageHist, Two};
 use warm_stamps::{PageId, ReplicaId, Stamp, page_from, page_from_narrow, stamp_from};
@@ -321,20 +321,20 @@ fn entries_of(alloc: Global, format: Format, body: &[u8]) -> Result<EntryList, F
     Ok(EntryList::whole(entries))
 }
 
-#[tactic(auto, unfolding(crate::specs::Reading::sums_of))]
-fn sums_of(body: &[u8]) -> Result<SumTable, FrameFault>
-    ensures { result ≡ sums_of body.now }
+#[tactic(auto, unfolding(crate::specs::Reading::digests_of))]
+fn digests_of(body: &[u8]) -> Result<DigestTable, FrameFault>
+    ensures { result ≡ digests_of body.now }
 {
-    let (sums, rest) = body.as_chunks::<SUM_SIZE>();
-    match sums.as_array::<SUMS>() {
-        Some(sums) if rest.is_empty() => Ok(SumTable::of(*sums)),
+    let (digests, rest) = body.as_chunks::<DIGEST_SIZE>();
+    match digests.as_array::<DIGESTS>() {
+        Some(digests) if rest.is_empty() => Ok(DigestTable::of(*digests)),
         _ => Err(FrameFault::BadLength),
     }
 }
 
 /// The frame that the bytes spell, or the first fault.
 #[tactic(auto, unfolding(crate::specs::Reading::read_frame, crate::specs::Reading::frame_of, crate::specs::Reading::room_of))]
-pub(crate) fn frame_in(alloc: Global, bytes: &[u8]) -> Result<Frame, FrameFault>
+pub(crate) fn frame_in(alloc: Global, bytes: &[u8]) -> Result<Message, FrameFault>
     ensures { Gives result (read_frame bytes.now) (room_of bytes.now) }
 {
     let (format, kind, sender, horizon, rest) = match start_at(bytes) {
@@ -345,26 +345,26 @@ pub(crate) fn frame_in(alloc: Global, bytes: &[u8]) -> Result<Frame, FrameFault>
     match kind {
         Kind::Entries => {
             let entries = entries_of(alloc, format, body)?;
-            Ok(Frame::Entries {
+            Ok(Message::Entries {
                 sender,
                 horizon,
                 entries,
             })
         }
         Kind::Digest => {
-            let sums = sums_of(body)?;
-            Ok(Frame::Digest {
+            let digests = digests_of(body)?;
+            Ok(Message::Digest {
                 sender,
                 horizon,
-                sums,
+                digests,
             })
         }
         Kind::Want => {
-            let (mask, _) = u64_at(body, FrameFault::BadLength)?;
-            Ok(Frame::Want {
+            let (request, _) = u64_at(body, FrameFault::BadLength)?;
+            Ok(Message::Want {
                 sender,
                 horizon,
-                mask,
+                request,
             })
         }
     }

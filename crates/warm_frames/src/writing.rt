@@ -3,16 +3,16 @@ ghost use Rattle.std.specs.Prelude.{◌≡◌, ◌≤◌, ◌*◌, ◌++◌, len
 ghost use Rattle.warm_stamps.specs.Bytes.{IsReplica, bytes_of_stamp};
 ghost use Rattle.warm_frames.specs.declared.layout.TheConstants.{MAX_ENTRIES, MAX_ENTRY_SIZE, TWICE_SIZE};
 ghost use Rattle.warm_frames.specs.declared.format.Format.TheVariants.{Wide};
-ghost use Rattle.warm_frames.specs.declared.frame.Frame.TheVariants as frames;
+ghost use Rattle.warm_frames.specs.declared.message.Message.TheVariants as frames;
 ghost use Rattle.warm_frames.specs.Entries.{hist_bytes, entry_bytes, entries_bytes};
 ghost use Rattle.warm_frames.specs.Spelling.{header_bytes, SpellsIn};
 
+use crate::digests::DigestTable;
 use crate::entries::EntryList;
 use crate::layout::{
     COUNT_SIZE, DIGEST_KIND, ENTRIES_KIND, HEADER_SIZE, MAGIC, MASK_SIZE, ONCE_SIZE, ONCE_TAG,
     PAGE_ID_SIZE, TABLE_SIZE, TWICE_SIZE, TWICE_TAG, WANT_KIND,
 };
-use crate::sums::SumTable;
 use std::alloc::{AllocError, Global};
 use warm_history::{Entry, PageHist};
 use warm_stamps::{ReplicaId, Stamp, page_bytes};
@@ -66,7 +66,7 @@ fn put_hist(text: &mut Vec<u8>, hist: PageHist) -> Result<(), AllocError>
     Ok(())
 }
 
-/// Puts the bytes of an entry, as they stand in a frame and as they are summed, behind the text: its
+/// Puts the bytes of an entry, as they stand in a frame and as they are digested, behind the text: its
 /// page, a tag, which is the number of its stamps, and the stamps, the later one first.
 ///
 /// `AllocError` comes only where room for them was refused, so never where the text has room for
@@ -124,13 +124,13 @@ pub(crate) fn digest_text(
     alloc: Global,
     sender: ReplicaId,
     horizon: u64,
-    sums: &SumTable,
+    digests: &DigestTable,
 ) -> Result<Vec<u8>, AllocError>
     ensures { IfOk result (λ text. SpellsIn Wide text.items
-        (frames.Digest sender horizon sums.now)) }
+        (frames.Digest sender horizon digests.now)) }
 {
     let mut text = header(alloc, DIGEST_KIND, sender, horizon, TABLE_SIZE as u32)?;
-    text.extend_from_slice(sums.as_bytes())?;
+    text.extend_from_slice(digests.as_bytes())?;
     Ok(text)
 }
 
@@ -138,11 +138,11 @@ pub(crate) fn want_text(
     alloc: Global,
     sender: ReplicaId,
     horizon: u64,
-    mask: u64,
+    request: u64,
 ) -> Result<Vec<u8>, AllocError>
-    ensures { IfOk result (λ text. SpellsIn Wide text.items (frames.Want sender horizon mask)) }
+    ensures { IfOk result (λ text. SpellsIn Wide text.items (frames.Want sender horizon request)) }
 {
     let mut text = header(alloc, WANT_KIND, sender, horizon, MASK_SIZE as u32)?;
-    text.extend_from_slice(&mask.to_be_bytes())?;
+    text.extend_from_slice(&request.to_be_bytes())?;
     Ok(text)
 }

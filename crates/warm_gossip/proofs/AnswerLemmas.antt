@@ -1,4 +1,4 @@
--- Pieces of lists, wanted buckets, and the frames that are made of them.
+-- Pieces of lists, wanted buckets, and the messages that are made of them.
 use Rattle.std.proofs.Common.{◌≡◌, ◌^◌, ◌≢◌, ◌↔◌, ℕ, zero, suc, ◌+◌, ◌-◌, ◌<◌, ◌≤◌, min, Bool, true, false, cond, List, [], ◌∷◌, ◌++◌, length, take, drop, map, filter, refl, sym, ap, subst, ◌∙◌, append_assoc, append-nil, map-id, arith, flat_map, if◌then◌else◌}
 use Rattle.std.specs.Prelude.{◌==◌}
 use Rattle.std.specs.Int.{bit_at}
@@ -18,11 +18,11 @@ use Rattle.warm_history.specs.declared.hist.Entry.{Entry}
 use Rattle.warm_history.specs.Carried.{bucket_entries}
 use Rattle.warm_history.specs.Histories.{HistoryView, entries_of, PagesRise, IsHistory}
 use Rattle.warm_frames.specs.declared.layout.TheConstants.{MAX_ENTRIES}
-use Rattle.warm_frames.specs.declared.frame.Frame.{Frame}
-use Rattle.warm_frames.specs.declared.frame.Frame.TheVariants.{Entries, Want}
-use Rattle.warm_frames.specs.Sums.{sum_at}
-use Rattle.warm_digest.specs.BucketSums.{sums_of}
-use Rattle.warm_gossip.specs.Answers.{pieces_of, pieces, entry_frames, bucket_frames, buckets_in, wanted_frames, IsDiffering, AnswersSums}
+use Rattle.warm_frames.specs.declared.message.Message.{Message}
+use Rattle.warm_frames.specs.declared.message.Message.TheVariants.{Entries, Want}
+use Rattle.warm_frames.specs.Digests.{digest_at}
+use Rattle.warm_digest.specs.BucketDigests.{digests_of}
+use Rattle.warm_gossip.specs.Answers.{pieces_of, pieces, entry_messages, bucket_messages, buckets_in, requested_messages, IsDiffering, AnswersDigests}
 
 -- ---- pieces
 
@@ -44,15 +44,15 @@ pieces-cons size (x ∷ xs) pos some =
     let left : length (drop size (x ∷ xs)) ≡ length (x ∷ xs) - size = length-drop size (x ∷ xs) in
     ap (λ t. take size (x ∷ xs) ∷ t) (same_pieces size (length xs) (length (drop size (x ∷ xs))) (drop size (x ∷ xs)) pos (omega arith) (omega arith))
 
--- a frame of the first entries, and then those of the others
-pub frame_more : (id horizon : ℕ) (frames : List Frame) (rest part later : List Entry) (frame : Frame) → 0 < length rest → part ≡ take (min MAX_ENTRIES (length rest)) rest → later ≡ drop (min MAX_ENTRIES (length rest)) rest → frame ≡ Entries id horizon part → (frames ++ frame ∷ []) ++ entry_frames id horizon later ≡ frames ++ entry_frames id horizon rest
-frame_more id horizon frames rest part later frame some front back is =
-    let first : frame ≡ Entries id horizon (take MAX_ENTRIES rest) = is ∙ ap (Entries id horizon) (front ∙ take_min MAX_ENTRIES rest) in
-    let others : entry_frames id horizon later ≡ entry_frames id horizon (drop MAX_ENTRIES rest) = ap (entry_frames id horizon) (back ∙ drop_min MAX_ENTRIES rest) in
-    append_assoc frames (frame ∷ []) (entry_frames id horizon later)
-    ∙ ap (λ (f : Frame). frames ++ f ∷ entry_frames id horizon later) first
-    ∙ ap (λ (fs : List Frame). frames ++ Entries id horizon (take MAX_ENTRIES rest) ∷ fs) others
-    ∙ ap (λ (parts : List (List Entry)). frames ++ map (λ part. Entries id horizon part) parts) (sym (pieces-cons MAX_ENTRIES rest (omega arith) some))
+-- a message of the first entries, and then those of the others
+pub message_more : (id horizon : ℕ) (messages : List Message) (rest part later : List Entry) (message : Message) → 0 < length rest → part ≡ take (min MAX_ENTRIES (length rest)) rest → later ≡ drop (min MAX_ENTRIES (length rest)) rest → message ≡ Entries id horizon part → (messages ++ message ∷ []) ++ entry_messages id horizon later ≡ messages ++ entry_messages id horizon rest
+message_more id horizon messages rest part later message some front back is =
+    let first : message ≡ Entries id horizon (take MAX_ENTRIES rest) = is ∙ ap (Entries id horizon) (front ∙ take_min MAX_ENTRIES rest) in
+    let others : entry_messages id horizon later ≡ entry_messages id horizon (drop MAX_ENTRIES rest) = ap (entry_messages id horizon) (back ∙ drop_min MAX_ENTRIES rest) in
+    append_assoc messages (message ∷ []) (entry_messages id horizon later)
+    ∙ ap (λ (f : Message). messages ++ f ∷ entry_messages id horizon later) first
+    ∙ ap (λ (fs : List Message). messages ++ Entries id horizon (take MAX_ENTRIES rest) ∷ fs) others
+    ∙ ap (λ (parts : List (List Entry)). messages ++ map (λ part. Entries id horizon part) parts) (sym (pieces-cons MAX_ENTRIES rest (omega arith) some))
 
 -- there is more where a list is not empty
 pub some_left : (n : ℕ) (empty : Bool) → empty ≡ (n == 0) → empty ≡ false → 0 < n
@@ -76,7 +76,7 @@ pages_rise_drop n es later is rise = subst PagesRise (sym is) (rising_drop (on (
 pub bucket_rises : (bucket : ℕ) (h : HistoryView) (es : List Entry) → es ≡ bucket_entries bucket (entries_of h) → IsHistory h → PagesRise es
 bucket_rises bucket h es is whole = subst PagesRise (sym is) (rising_filter (on (λ e. e.page) page_cmp) (λ e. page_bucket e.page == bucket) (entries_of h) whole.pages_rise)
 
--- ---- frames of wanted buckets
+-- ---- messages of wanted buckets
 
 -- one number more is chosen or not
 chosen_more : (p : ℕ → Bool) (n : ℕ) → filter p (range_with_len 0 (n + 1)) ≡ filter p (range_with_len 0 n) ++ cond (p n) (n ∷ []) []
@@ -87,42 +87,42 @@ chosen_more p n =
 
 -- the wanted buckets below n
 abbrev buckets_below : ℕ → ℕ → List ℕ
-buckets_below mask n = filter (λ bucket. bit_at mask bucket == 1) (range_with_len 0 n)
+buckets_below request n = filter (λ bucket. bit_at request bucket == 1) (range_with_len 0 n)
 
--- in frames
-abbrev pub frames_below : ℕ → HistoryView → ℕ → ℕ → List Frame
-frames_below id h mask n = flat_map (bucket_frames id h) (buckets_below mask n)
+-- in messages
+abbrev pub messages_below : ℕ → HistoryView → ℕ → ℕ → List Message
+messages_below id h request n = flat_map (bucket_messages id h) (buckets_below request n)
 
--- a bucket adds its frames where it is wanted
-pub wanted_more : (id mask bucket : ℕ) (h : HistoryView) → (bit_at mask bucket == 1) ≡ true → frames_below id h mask bucket ++ bucket_frames id h bucket ≡ frames_below id h mask (bucket + 1)
-wanted_more id mask bucket h set =
-    let more : buckets_below mask (bucket + 1) ≡ buckets_below mask bucket ++ bucket ∷ [] =
-    chosen_more (λ b. bit_at mask b == 1) bucket ∙ ap (λ (t : Bool). buckets_below mask bucket ++ cond t (bucket ∷ []) []) set in
-    sym (ap (flat_map (bucket_frames id h)) more
-    ∙ flat_map-append (bucket_frames id h) (buckets_below mask bucket) (bucket ∷ [])
-    ∙ ap (λ fs. frames_below id h mask bucket ++ fs) (append-nil (bucket_frames id h bucket)))
+-- a bucket adds its messages where it is wanted
+pub wanted_more : (id request bucket : ℕ) (h : HistoryView) → (bit_at request bucket == 1) ≡ true → messages_below id h request bucket ++ bucket_messages id h bucket ≡ messages_below id h request (bucket + 1)
+wanted_more id request bucket h set =
+    let more : buckets_below request (bucket + 1) ≡ buckets_below request bucket ++ bucket ∷ [] =
+    chosen_more (λ b. bit_at request b == 1) bucket ∙ ap (λ (t : Bool). buckets_below request bucket ++ cond t (bucket ∷ []) []) set in
+    sym (ap (flat_map (bucket_messages id h)) more
+    ∙ flat_map-append (bucket_messages id h) (buckets_below request bucket) (bucket ∷ [])
+    ∙ ap (λ fs. messages_below id h request bucket ++ fs) (append-nil (bucket_messages id h bucket)))
 
 -- and none where it is not
-pub unwanted_more : (id mask bucket : ℕ) (h : HistoryView) → (bit_at mask bucket == 1) ≡ false → frames_below id h mask bucket ≡ frames_below id h mask (bucket + 1)
-unwanted_more id mask bucket h clear =
-    let same : buckets_below mask (bucket + 1) ≡ buckets_below mask bucket ++ [] =
-    chosen_more (λ b. bit_at mask b == 1) bucket ∙ ap (λ (t : Bool). buckets_below mask bucket ++ cond t (bucket ∷ []) []) clear in
-    sym (ap (flat_map (bucket_frames id h)) (same ∙ append-nil (buckets_below mask bucket)))
+pub unwanted_more : (id request bucket : ℕ) (h : HistoryView) → (bit_at request bucket == 1) ≡ false → messages_below id h request bucket ≡ messages_below id h request (bucket + 1)
+unwanted_more id request bucket h clear =
+    let same : buckets_below request (bucket + 1) ≡ buckets_below request bucket ++ [] =
+    chosen_more (λ b. bit_at request b == 1) bucket ∙ ap (λ (t : Bool). buckets_below request bucket ++ cond t (bucket ∷ []) []) clear in
+    sym (ap (flat_map (bucket_messages id h)) (same ∙ append-nil (buckets_below request bucket)))
 
 -- below the number of buckets are all
-pub all_below : (id mask : ℕ) (h : HistoryView) → frames_below id h mask BUCKETS ≡ wanted_frames id h mask
+pub all_below : (id request : ℕ) (h : HistoryView) → messages_below id h request BUCKETS ≡ requested_messages id h request
 unfolding buckets_in
-all_below id mask h = refl
+all_below id request h = refl
 
--- ---- answers to sums
+-- ---- answers to digests
 
-other_chosen : {A : Type 0} (mask : ℕ) (x y : A) → (mask ≡ 0 → ⊥) → y ≡ if mask == 0 then x else y
-other_chosen mask x y some = sym (ap (λ (t : Bool). if t then x else y) (ne_eqb mask 0 some))
+other_chosen : {A : Type 0} (request : ℕ) (x y : A) → (request ≡ 0 → ⊥) → y ≡ if request == 0 then x else y
+other_chosen request x y some = sym (ap (λ (t : Bool). if t then x else y) (ne_eqb request 0 some))
 
-differing_from : (theirs own : List (List ℕ)) (h : HistoryView) (mask : ℕ) → own ≡ sums_of (entries_of h) → ((bucket : ℕ) → bucket < BUCKETS → (bit_at mask bucket ≡ 1) ↔ (sum_at theirs bucket ≢ sum_at own bucket)) → IsDiffering theirs h mask
-differing_from theirs own h mask is differ = λ bucket low. subst (λ (sums : List (List ℕ)). (bit_at mask bucket ≡ 1) ↔ (sum_at theirs bucket ≢ sum_at sums bucket)) is (differ bucket low)
+differing_from : (theirs own : List (List ℕ)) (h : HistoryView) (request : ℕ) → own ≡ digests_of (entries_of h) → ((bucket : ℕ) → bucket < BUCKETS → (bit_at request bucket ≡ 1) ↔ (digest_at theirs bucket ≢ digest_at own bucket)) → IsDiffering theirs h request
+differing_from theirs own h request is differ = λ bucket low. subst (λ (digests : List (List ℕ)). (bit_at request bucket ≡ 1) ↔ (digest_at theirs bucket ≢ digest_at digests bucket)) is (differ bucket low)
 
-pub some_differ : (id : ℕ) (theirs own : List (List ℕ)) (h : HistoryView) (frames : List Frame) (mask : ℕ) → mask < 2 ^ 64 → own ≡ sums_of (entries_of h)
-    → ((bucket : ℕ) → bucket < BUCKETS → (bit_at mask bucket ≡ 1) ↔ (sum_at theirs bucket ≢ sum_at own bucket)) → (mask ≡ 0 → ⊥) → frames ≡ wanted_frames id h mask ++ Want id h.horizon mask ∷ [] → AnswersSums id h theirs frames
-some_differ id theirs own h frames mask fits is differ some all =
-    (mask, fits, differing_from theirs own h mask is differ, all ∙ other_chosen mask [] (wanted_frames id h mask ++ Want id h.horizon mask ∷ []) some)
+pub some_differ : (id : ℕ) (theirs own : List (List ℕ)) (h : HistoryView) (messages : List Message) (request : ℕ) → request < 2 ^ 64 → own ≡ digests_of (entries_of h)
+    → ((bucket : ℕ) → bucket < BUCKETS → (bit_at request bucket ≡ 1) ↔ (digest_at theirs bucket ≢ digest_at own bucket)) → (request ≡ 0 → ⊥) → messages ≡ requested_messages id h request ++ Want id h.horizon request ∷ [] → AnswersDigests id h theirs messages
+some_differ id theirs own h messages request fits is differ some all =
+    (request, fits, differing_from theirs own h request is differ, all ∙ other_chosen request [] (requested_messages id h request ++ Want id h.horizon request ∷ []) some)

@@ -1,11 +1,11 @@
--- Worked rows: pieces of lists, wanted buckets, and what a frame teaches, computed.
+-- Worked rows: pieces of lists, wanted buckets, and what a message teaches, computed.
 use Rattle.std.proofs.Common.{◌≡◌, ℕ, [], ◌∷◌, None, refl}
 use Rattle.warm_stamps.specs.declared.Stamp.{Stamp}
 use Rattle.warm_history.specs.declared.hist.Entry.{Entry}
 use Rattle.warm_history.specs.declared.hist.PageHist.TheVariants.{Once, Twice}
 use Rattle.warm_history.specs.Histories.{holding, holding_since, history}
-use Rattle.warm_frames.specs.declared.frame.Frame.TheVariants.{Entries, Want}
-use Rattle.warm_gossip.specs.Answers.{buckets_in, wanted_frames, pieces, sent, taught}
+use Rattle.warm_frames.specs.declared.message.Message.TheVariants.{Entries, Want}
+use Rattle.warm_gossip.specs.Answers.{buckets_in, requested_messages, pieces, sent, taught}
 
 -- ---- pieces
 
@@ -15,9 +15,9 @@ five_in_twos = refl
 four_in_twos : pieces {A = ℕ} 2 (1 ∷ 2 ∷ 3 ∷ 4 ∷ []) ≡ (1 ∷ 2 ∷ []) ∷ (3 ∷ 4 ∷ []) ∷ []
 four_in_twos = refl
 
--- ---- frames
+-- ---- messages
 
--- the mask 6 has the bits 1 and 2
+-- the request 6 has the bits 1 and 2
 wanted_buckets : buckets_in 6 ≡ 1 ∷ 2 ∷ []
 unfolding buckets_in
 wanted_buckets = refl
@@ -30,12 +30,12 @@ at time replica = record { time = time; replica = replica }
 abbrev once : ℕ → Stamp → Entry
 once n stamp = record { page = record { dev = 0; no = n }; hist = Once stamp }
 
--- two pages of two buckets, which a replica sends in two frames; bucket 3 is empty, and gives none
-two_frames : wanted_frames 1 (holding (once 1 (at 10 1) ∷ once 2 (at 11 2) ∷ [])) 14 ≡ Entries 1 0 (once 1 (at 10 1) ∷ []) ∷ Entries 1 0 (once 2 (at 11 2) ∷ []) ∷ []
+-- two pages of two buckets, which a replica sends in two messages; bucket 3 is empty, and gives none
+two_frames : requested_messages 1 (holding (once 1 (at 10 1) ∷ once 2 (at 11 2) ∷ [])) 14 ≡ Entries 1 0 (once 1 (at 10 1) ∷ []) ∷ Entries 1 0 (once 2 (at 11 2) ∷ []) ∷ []
 unfolding buckets_in
 two_frames = refl
 
--- an empty bucket that is asked for by itself is sent as a frame without entries
+-- an empty bucket that is asked for by itself is sent as a message without entries
 empty_sent : sent 1 (holding (once 1 (at 10 1) ∷ [])) 2 None ≡ Entries 1 0 []
 unfolding history
 empty_sent = refl
@@ -45,7 +45,7 @@ joined : taught (holding (once 1 (at 20 1) ∷ [])) (Entries 2 0 (once 1 (at 30 
 unfolding history
 joined = refl
 
--- a wish teaches nothing but its horizon
+-- a request teaches nothing but its horizon
 nothing_taught : taught (holding (once 1 (at 20 1) ∷ [])) (Want 2 20 6) ≡ holding_since 20 (once 1 (at 20 1) ∷ [])
 unfolding history
 nothing_taught = refl

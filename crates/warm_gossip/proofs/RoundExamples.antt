@@ -1,11 +1,11 @@
--- Worked rows: a round between two replicas that know one page each, computed from the mask on.
+-- Worked rows: a round between two replicas that know one page each, computed from the request on.
 use Rattle.std.proofs.Common.{◌≡◌, [], ◌∷◌, ◌++◌, List, refl}
 use Rattle.warm_history.specs.declared.hist.Entry.{Entry}
 use Rattle.warm_history.specs.declared.hist.PageHist.TheVariants.{Once}
 use Rattle.warm_history.specs.Histories.{HistoryView, holding, holding_since, history, join}
-use Rattle.warm_frames.specs.declared.frame.Frame.{Frame}
-use Rattle.warm_frames.specs.declared.frame.Frame.TheVariants.{Entries, Want}
-use Rattle.warm_gossip.specs.Answers.{buckets_in, taught, wanted_frames}
+use Rattle.warm_frames.specs.declared.message.Message.{Message}
+use Rattle.warm_frames.specs.declared.message.Message.TheVariants.{Entries, Want}
+use Rattle.warm_gossip.specs.Answers.{buckets_in, taught, requested_messages}
 use Rattle.warm_gossip.specs.Round.{Hears, offer}
 
 -- the page 0:1, referenced at 10 by replica 1, and the page 0:2, referenced at 11 by replica 2
@@ -24,16 +24,16 @@ standby = holding (two ∷ [])
 abbrev both : HistoryView
 both = holding (one ∷ two ∷ [])
 
--- what replica 2 answers to sums from which its own differ in the buckets 1 and 2, which is the mask 6
-abbrev asked : List Frame
+-- what replica 2 answers to digests from which its own differ in the buckets 1 and 2, which is the request 6
+abbrev asked : List Message
 asked = Entries 2 0 (two ∷ []) ∷ Want 2 0 6 ∷ []
 
-asked_is : wanted_frames 2 standby 6 ++ Want 2 0 6 ∷ [] ≡ asked
+asked_is : requested_messages 2 standby 6 ++ Want 2 0 6 ∷ [] ≡ asked
 unfolding buckets_in
 asked_is = refl
 
 -- what replica 1 answers to that: both pages, since it knows both by then
-abbrev given : List Frame
+abbrev given : List Message
 given = Entries 1 0 (one ∷ []) ∷ Entries 1 0 (two ∷ []) ∷ []
 
 heard : Hears 1 primary asked given both
@@ -58,14 +58,14 @@ offered : taught later (offer 1 primary) ≡ later
 unfolding history
 offered = refl
 
-abbrev asked_later : List Frame
+abbrev asked_later : List Message
 asked_later = Entries 2 11 (two ∷ []) ∷ Want 2 11 6 ∷ []
 
-asked_later_is : wanted_frames 2 later 6 ++ Want 2 11 6 ∷ [] ≡ asked_later
+asked_later_is : requested_messages 2 later 6 ++ Want 2 11 6 ∷ [] ≡ asked_later
 unfolding buckets_in
 asked_later_is = refl
 
-abbrev given_later : List Frame
+abbrev given_later : List Message
 given_later = Entries 1 11 (two ∷ []) ∷ []
 
 heard_later : Hears 1 primary asked_later given_later later

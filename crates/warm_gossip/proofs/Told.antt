@@ -34,7 +34,7 @@ pub refused_keeps : (old : NodeView) (call : Call) (why : NodeFault) (new : Node
 refused_keeps old (Absorb batch) Memory new r = same_alone old new r
 refused_keeps old (Send bucket after) Memory new r = same_alone old new r
 refused_keeps old Offer Memory new r = same_alone old new r
-refused_keeps old (Receive frame) Memory new r = same_alone old new r
+refused_keeps old (Receive message) Memory new r = same_alone old new r
 refused_keeps old (Pin p) (Pool why) new r = r.0
 refused_keeps old (Unpin slot) StaleSlot new r = same_alone old new r.1
 refused_keeps old (Read slot at len) StaleSlot new r = same_alone old new r.1
@@ -52,9 +52,9 @@ refused_keeps old call why new r = absurd r
 -- a call leaves the history of what was told before and of what it tells
 step_tells : (S : ReferenceSet) (call : Call) (reply : Reply) (old new : NodeView) → old.history ≡ history S → Step old call reply new → new.history ≡ history (told_by S call reply)
 step_tells S (Absorb batch) Done old new is step = same_history step ∙ (ap (λ h. history (refs h ∪ these batch)) is ∙ history_first S (these batch))
-step_tells S (Send bucket after) (Sent frame) old new is step = same_history step.1 ∙ is
-step_tells S Offer (Sent frame) old new is step = same_history step.1 ∙ is
-step_tells S (Receive frame) (Answers frames) old new is step = same_history step.1 ∙ (ap (λ h. history (refs h ∪ refs_in frame)) is ∙ history_first S (refs_in frame))
+step_tells S (Send bucket after) (Sent message) old new is step = same_history step.1 ∙ is
+step_tells S Offer (Sent message) old new is step = same_history step.1 ∙ is
+step_tells S (Receive message) (Answers messages) old new is step = same_history step.1 ∙ (ap (λ h. history (refs h ∪ refs_in message)) is ∙ history_first S (refs_in message))
 step_tells S (Horizon time) (Kept horizon) old new is step = same_history step.0 ∙ (ap (λ h. history (since time (refs h))) is ∙ history_first S (record { horizon = time; told = [] }))
 step_tells S (Pin p) (Pinned to) old new is step = same_history step.0 ∙ is
 step_tells S (Unpin slot) Done old new is step = same_history step.1 ∙ is

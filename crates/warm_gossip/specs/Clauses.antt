@@ -25,8 +25,8 @@ Answered old call reply (Ok given) new = Goes old call (reply given) new
 Answered old call reply (Err why) new = Goes old call (Refused why) new
 
 -- a caller sees no change
-abbrev pub SameShown : NodeState → NodeState → Type 0
-SameShown old new = node_view new ≡ node_view old
+abbrev pub SameView : NodeState → NodeState → Type 0
+SameView old new = node_view new ≡ node_view old
 
 -- it has taken these entries in
 abbrev pub Learns : NodeState → ℕ → List Entry → NodeState → Type 0

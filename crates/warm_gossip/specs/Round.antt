@@ -2,32 +2,32 @@
 use Rattle.std.specs.Prelude.{◌≡◌, ◌⊎◌, ℕ, List, [], ◌∷◌, ◌++◌}
 use Rattle.warm_history.specs.ReferenceSets.{ReferenceSet, ◌∪◌}
 use Rattle.warm_history.specs.Histories.{HistoryView, IsHistory, entries_of, history, join}
-use Rattle.warm_frames.specs.declared.frame.Frame.{Frame}
-use Rattle.warm_frames.specs.declared.frame.Frame.TheVariants.{Entries, Digest}
-use Rattle.warm_digest.specs.BucketSums.{sums_of}
+use Rattle.warm_frames.specs.declared.message.Message.{Message}
+use Rattle.warm_frames.specs.declared.message.Message.TheVariants.{Entries, Digest}
+use Rattle.warm_digest.specs.BucketDigests.{digests_of}
 use Rattle.warm_digest.specs.Exchange.{Fits, IsCollision}
 use Rattle.warm_gossip.specs.Answers.{IsAnswer, taught}
 
--- the frame in which a replica of this id offers the sums of its history
-abbrev pub offer : ℕ → HistoryView → Frame
-offer id h = Digest id h.horizon (sums_of (entries_of h))
+-- the message in which a replica of this id offers the digests of its history
+abbrev pub offer : ℕ → HistoryView → Message
+offer id h = Digest id h.horizon (digests_of (entries_of h))
 
 -- Frames come to a replica of this id one after the other: these are all its answers, and new is its history afterwards.
-abbrev pub Hears : ℕ → HistoryView → List Frame → List Frame → HistoryView → Type 0
+abbrev pub Hears : ℕ → HistoryView → List Message → List Message → HistoryView → Type 0
 Hears id h [] answers new = (answers ≡ []) × (new ≡ h)
-Hears id h (frame ∷ frames) answers new =
-    (first others : List Frame) × IsAnswer id h frame first × Hears id (taught h frame) frames others new × (answers ≡ first ++ others)
+Hears id h (message ∷ messages) answers new =
+    (first others : List Message) × IsAnswer id h message first × Hears id (taught h message) messages others new × (answers ≡ first ++ others)
 
--- A round: i offers its sums to j; all that j answers comes to i; all that i answers to that comes to j. The offer alone raises j's horizon.
+-- A round: i offers its digests to j; all that j answers comes to i; all that i answers to that comes to j. The offer alone raises j's horizon.
 pub record GossipRound (i j : ℕ) (h g h' g' : HistoryView) : Type 0 where
-  pub asked : List Frame
-  pub given : List Frame
-  pub last : List Frame
+  pub asked : List Message
+  pub given : List Message
+  pub last : List Message
   pub offered : IsAnswer j g (offer i h) asked
   pub heard : Hears i h asked given h'
   pub back : Hears j (taught g (offer i h)) given last g'
 
--- After a round both histories have the entries of the join of the two before; that of j has its horizon too, and that of i where j answered a frame.
+-- After a round both histories have the entries of the join of the two before; that of j has its horizon too, and that of i where j answered a message.
 -- Or two different texts of one bucket have one SHA-256: one of h, and one of g at the greater horizon.
 abbrev pub GossipRoundJoins : Type 0
 GossipRoundJoins = (i j : ℕ) (h g h' g' : HistoryView) → IsHistory h → IsHistory g → Fits h → Fits g → (round : GossipRound i j h g h' g')
@@ -37,9 +37,9 @@ GossipRoundJoins = (i j : ℕ) (h g h' g' : HistoryView) → IsHistory h → IsH
 abbrev pub GossipRoundEnds : Type 0
 GossipRoundEnds = (i j : ℕ) (h g h' g' : HistoryView) → IsHistory h → (round : GossipRound i j h g h' g') → round.last ≡ []
 
--- a replica answers nothing to the sums of the history that it has
-abbrev pub OwnSumsUnanswered : Type 0
-OwnSumsUnanswered = (i j : ℕ) (h : HistoryView) (answers : List Frame) → IsHistory h → IsAnswer j h (offer i h) answers → answers ≡ []
+-- a replica answers nothing to the digests of the history that it has
+abbrev pub OwnDigestsUnanswered : Type 0
+OwnDigestsUnanswered = (i j : ℕ) (h : HistoryView) (answers : List Message) → IsHistory h → IsAnswer j h (offer i h) answers → answers ≡ []
 
 -- the entries of a history teach all references for which it stands
 abbrev pub EntriesTeach : Type 0

@@ -4,8 +4,8 @@ use Rattle.warm_stamps.specs.declared.PageId.{PageId}
 use Rattle.warm_history.specs.ReferenceSets.{these, since, ◌∪◌}
 use Rattle.warm_history.specs.Histories.{entries_of, holding, history, refs}
 use Rattle.warm_rank.specs.Ranking.{IsVictim, warm}
-use Rattle.warm_frames.specs.declared.frame.Frame.TheVariants.{Digest}
-use Rattle.warm_digest.specs.BucketSums.{sums_of}
+use Rattle.warm_frames.specs.declared.message.Message.TheVariants.{Digest}
+use Rattle.warm_digest.specs.BucketDigests.{digests_of}
 use Rattle.warm_pool.specs.declared.fault.PoolFault.TheVariants.{OutOfPage, Fixed, Fault}
 use Rattle.warm_pool.specs.declared.slot.Slot.{Slot}
 use Rattle.warm_pool.specs.View.{PoolView, HasPage, IsAbsent, Holds, unfixed_pages, IsFixed, IsUnfixed}
@@ -67,7 +67,7 @@ abbrev pub Refuses : NodeView → Call → NodeFault → NodeView → Type 0
 Refuses old (Absorb batch) Memory new = new ≡ old
 Refuses old (Send bucket after) Memory new = new ≡ old
 Refuses old Offer Memory new = new ≡ old
-Refuses old (Receive frame) Memory new = new ≡ old
+Refuses old (Receive message) Memory new = new ≡ old
 Refuses old (Pin p) (Pool why) new = OnPool (λ v w. PinRefused old.history v p why w) old new
 Refuses old (Unpin slot) StaleSlot new = IsStale old slot new
 Refuses old (Read slot at len) StaleSlot new = IsStale old slot new
@@ -88,10 +88,10 @@ Refuses old call said new = ⊥
 abbrev pub Step : NodeView → Call → Reply → NodeView → Type 0
 Step old call (Refused said) new = Refuses old call said new
 Step old (Absorb batch) Done new = new ≡ record old { history = history (refs old.history ∪ these batch) }
-Step old (Send bucket after) (Sent frame) new = (frame ≡ sent old.id old.history bucket after) × (new ≡ old)
-Step old Offer (Sent frame) new = (frame ≡ Digest old.id old.history.horizon (sums_of (entries_of old.history))) × (new ≡ old)
+Step old (Send bucket after) (Sent message) new = (message ≡ sent old.id old.history bucket after) × (new ≡ old)
+Step old Offer (Sent message) new = (message ≡ Digest old.id old.history.horizon (digests_of (entries_of old.history))) × (new ≡ old)
 Step old (Horizon time) (Kept horizon) new = (new ≡ record old { history = history (since time (refs old.history)) }) × (horizon ≡ new.history.horizon)
-Step old (Receive frame) (Answers frames) new = IsAnswer old.id old.history frame frames × (new ≡ record old { history = taught old.history frame })
+Step old (Receive message) (Answers messages) new = IsAnswer old.id old.history message messages × (new ≡ record old { history = taught old.history message })
 Step old (Pin p) (Pinned slot) new = OnPool (λ v w. PinnedIn old.history v p slot w) old new
 Step old (Unpin slot) Done new = Holds old.pool slot × (new ≡ record old { pool = unpinned old.pool slot })
 Step old (Read slot at len) (Bytes bytes) new = Holds old.pool slot × (length bytes ≡ len) × IsRead old.pool slot at bytes × (new ≡ old)

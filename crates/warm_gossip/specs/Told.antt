@@ -15,7 +15,7 @@ use Rattle.warm_gossip.specs.Step.{Step}
 -- what one call, answered so, leaves of the references that a node was told
 abbrev pub told_by : ReferenceSet → Call → Reply → ReferenceSet
 told_by S (Absorb batch) Done = S ∪ these batch
-told_by S (Receive frame) (Answers frames) = S ∪ refs_in frame
+told_by S (Receive message) (Answers messages) = S ∪ refs_in message
 told_by S (Horizon time) (Kept horizon) = since time S
 told_by S Restart Done = these []
 told_by S call reply = S

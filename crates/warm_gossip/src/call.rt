@@ -1,6 +1,6 @@
 //! The calls of a node and its replies.
 use crate::fault::NodeFault;
-use warm_frames::{Frame, FrameList};
+use warm_frames::{Message, MessageList};
 use warm_pool::Slot;
 use warm_stamps::{Bucket, ByteList, PageId, PageList, RefList};
 
@@ -9,17 +9,17 @@ use warm_stamps::{Bucket, ByteList, PageId, PageList, RefList};
 pub enum Call {
     /// Take these references into the history.
     Absorb(RefList),
-    /// Give the first entries of a bucket, of those whose page is greater than `after`: as many as a frame carries, up to 1000.
+    /// Give the first entries of a bucket, of those whose page is greater than `after`: as many as a message carries, up to 1000.
     Send {
         /// The bucket.
         bucket: Bucket,
         /// The page after which they begin, or `None` for the first of the bucket.
         after: Option<PageId>,
     },
-    /// Give the sums of all buckets.
+    /// Give the digests of all buckets.
     Offer,
-    /// Take what a frame says, and answer it.
-    Receive(Frame),
+    /// Take what a message says, and answer it.
+    Receive(Message),
     /// Forget all stamps before this time.
     Horizon(u64),
     /// Give a page a fix, and put it into a frame of the pool where it is in none. A page with a fix does not leave.
@@ -61,10 +61,10 @@ pub enum Call {
 pub enum Reply {
     /// It is done.
     Done,
-    /// The frame that was asked for.
-    Sent(Frame),
-    /// The frames that answer the one received, in their order.
-    Answers(FrameList),
+    /// The message that was asked for.
+    Sent(Message),
+    /// The messages that answer the one received, in their order.
+    Answers(MessageList),
     /// The time before which stamps are forgotten from then on.
     Kept(u64),
     /// Where the page is that was given a fix.

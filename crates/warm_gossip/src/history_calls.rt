@@ -4,14 +4,14 @@ ghost use Rattle.warm_gossip.specs.declared.call.Call.TheVariants.{Absorb, Send,
 ghost use Rattle.warm_gossip.specs.declared.call.Reply.TheVariants.{Sent, Answers, Kept, Pages};
 ghost use Rattle.warm_gossip.specs.declared.fault.NodeFault.TheVariants.{Memory};
 ghost use Rattle.warm_gossip.specs.Answers.{IsAnswer};
-ghost use Rattle.warm_gossip.specs.Clauses.{Answered, Goes, Learns, SameShown, done};
+ghost use Rattle.warm_gossip.specs.Clauses.{Answered, Goes, Learns, SameView, done};
 
-use crate::answers::{answer_to_sums, horizon_of, wanted_frames};
+use crate::answers::{answer_to_digests, horizon_of, requested_messages};
 use crate::fault::NodeFault;
 use crate::node::Node;
 use std::alloc::{AllocError, Global};
 use warm_devices::PageDevice;
-use warm_frames::{EntryList, Frame, FrameList, MAX_ENTRIES};
+use warm_frames::{EntryList, MAX_ENTRIES, Message, MessageList};
 use warm_history::Entry;
 use warm_history::laws::is_history;
 use warm_rank::warm_list;
@@ -38,7 +38,7 @@ impl<D: PageDevice> Node<D> {
     /// Takes entries into the history.
     pub(crate) fn learn(&mut self, horizon: u64, entries: &[Entry]) -> Result<(), NodeFault>
         ensures learnt { OnOk result (Learns self.old horizon entries.now self.new) }
-        ensures refused { IfErr result (λ why. (why ≡ Memory) × SameShown self.old self.new) }
+        ensures refused { IfErr result (λ why. (why ≡ Memory) × SameView self.old self.new) }
     {
         let Ok(named) = pages_of_entries(self.alloc, entries) else {
             return Err(NodeFault::Memory);
@@ -72,65 +72,79 @@ impl<D: PageDevice> Node<D> {
         self.history.horizon()
     }
 
-    /// The frames that the node would answer to this one, with nothing changed that a caller sees.
+    /// The messages that the node would answer to this one, with nothing changed that a caller sees.
     ///
     /// At a greater horizon than the own one the history is not copied: what is older is skipped as it is read. A request costs what
-    /// the wanted buckets cost. Sums cost what [`Node::offer`] does, and at a greater horizon a pass over each bucket up to its first
+    /// the wanted buckets cost. Digests cost what [`Node::offer`] does, and at a greater horizon a pass over each bucket up to its first
     /// older stamp, and the hashing of the buckets that have one.
     ///
     /// # Errors
     /// `Memory`: room was refused.
-    pub fn answers(&mut self, frame: &Frame) -> Result<FrameList, NodeFault>
-        ensures same { SameShown self.old self.new }
-        ensures answers { IfOk result (IsAnswer self.old.id self.old.history frame.now) }
+    pub fn answers(&mut self, message: &Message) -> Result<MessageList, NodeFault>
+        ensures same { SameView self.old self.new }
+        ensures answers { IfOk result (IsAnswer self.old.id self.old.history message.now) }
         ensures refused { IfErr result (λ why. why ≡ Memory) }
     {
-        match frame {
-            Frame::Entries { .. } => Ok(FrameList::of(Vec::new(self.alloc))),
-            Frame::Digest { horizon, sums, .. } => {
-                match answer_to_sums(self.alloc, self.id, &mut self.history, *horizon, sums) {
-                    Ok(frames) => Ok(FrameList::of(frames)),
+        match message {
+            Message::Entries { .. } => Ok(MessageList::of(Vec::new(self.alloc))),
+            Message::Digest {
+                horizon,
+                digests,
+                ..
+            } => {
+                match answer_to_digests(self.alloc, self.id, &mut self.history, *horizon, digests) {
+                    Ok(messages) => Ok(MessageList::of(messages)),
                     Err(_) => Err(NodeFault::Memory),
                 }
             }
-            Frame::Want { horizon, mask, .. } => {
-                match wanted_frames(self.alloc, self.id, self.history.history(), *horizon, *mask) {
-                    Ok(frames) => Ok(FrameList::of(frames)),
+            Message::Want {
+                horizon,
+                request,
+                ..
+            } => {
+                match requested_messages(
+                    self.alloc,
+                    self.id,
+                    self.history.history(),
+                    *horizon,
+                    *request,
+                ) {
+                    Ok(messages) => Ok(MessageList::of(messages)),
                     Err(_) => Err(NodeFault::Memory),
                 }
             }
         }
     }
 
-    /// Takes what a frame says, and gives the frames that answer it, in order: the call `Receive`.
+    /// Takes what a message says, and gives the messages that answer it, in order: the call `Receive`.
     ///
-    /// Sums are compared with the node's own, which are kept: having them costs what [`Node::offer`] does.
+    /// Digests are compared with the node's own, which are kept: having them costs what [`Node::offer`] does.
     ///
     /// # Errors
     /// `Memory`: room was refused; nothing has changed that a caller sees.
-    pub fn receive(&mut self, frame: Frame) -> Result<FrameList, NodeFault>
-        ensures { Answered self.old (Receive frame) Answers result self.new }
+    pub fn receive(&mut self, message: Message) -> Result<MessageList, NodeFault>
+        ensures { Answered self.old (Receive message) Answers result self.new }
     {
-        if let Frame::Entries {
+        if let Message::Entries {
             horizon,
             entries,
             ..
-        } = frame
+        } = message
         {
             self.learn(horizon, entries.as_slice())?;
-            return Ok(FrameList::of(Vec::new(self.alloc)));
+            return Ok(MessageList::of(Vec::new(self.alloc)));
         }
-        let answers = self.answers(&frame)?;
-        self.raise(horizon_of(&frame));
+        let answers = self.answers(&message)?;
+        self.raise(horizon_of(&message));
         Ok(answers)
     }
 
-    /// A frame of the first entries of a bucket, of those whose page is greater than `after`, as many as a frame carries: the call
+    /// A message of the first entries of a bucket, of those whose page is greater than `after`, as many as a message carries: the call
     /// `Send`.
     ///
     /// # Errors
     /// `Memory`: room was refused; nothing has changed.
-    pub fn send(&self, bucket: Bucket, after: Option<PageId>) -> Result<Frame, NodeFault>
+    pub fn send(&self, bucket: Bucket, after: Option<PageId>) -> Result<Message, NodeFault>
         ensures { Answered self.now (Send bucket after) Sent result self.now }
     {
         let history = self.history.history();
@@ -140,28 +154,28 @@ impl<D: PageDevice> Node<D> {
         let Ok(entries) = EntryList::of(entries) else {
             unreachable!()
         };
-        Ok(Frame::Entries {
+        Ok(Message::Entries {
             sender: self.id,
             horizon: history.horizon(),
             entries,
         })
     }
 
-    /// A frame of the sums of all buckets: the call `Offer`.
+    /// A message of the digests of all buckets: the call `Offer`.
     ///
-    /// The sums are kept. Having them costs nothing where nothing was taken in since the last offer or the last sums received, and
+    /// The digests are kept. Having them costs nothing where nothing was taken in since the last offer or the last digests received, and
     /// else a pass over the history, and the hashing of the buckets of what was.
     ///
     /// # Errors
-    /// `Memory`: room was refused; nothing has changed that a caller sees, and the next offer takes the same sums anew.
-    pub fn offer(&mut self) -> Result<Frame, NodeFault>
+    /// `Memory`: room was refused; nothing has changed that a caller sees, and the next offer takes the same digests anew.
+    pub fn offer(&mut self) -> Result<Message, NodeFault>
         ensures { Answered self.old Offer Sent result self.new }
     {
-        match self.history.sums() {
-            Ok(sums) => Ok(Frame::Digest {
+        match self.history.digests() {
+            Ok(digests) => Ok(Message::Digest {
                 sender: self.id,
                 horizon: self.history.horizon(),
-                sums,
+                digests,
             }),
             Err(_) => Err(NodeFault::Memory),
         }

@@ -5,12 +5,12 @@
 //! look up: the files of `specs/` that the clauses name say it in full.
 ghost use Rattle.warm_gossip.specs.Batches.{BatchesAreTaken};
 ghost use Rattle.warm_gossip.specs.Pieces.{PiecesInTurn};
-ghost use Rattle.warm_gossip.specs.Round.{EntriesTeach, GossipRoundEnds, GossipRoundJoins, OwnSumsUnanswered};
+ghost use Rattle.warm_gossip.specs.Round.{EntriesTeach, GossipRoundEnds, GossipRoundJoins, OwnDigestsUnanswered};
 ghost use Rattle.warm_gossip.specs.Told.{ToldIsHistory};
 ghost use Rattle.warm_gossip.specs.Victims.{RepliesAreOverReferences, VictimsAreFarthest};
 ghost use Rattle.warm_gossip.specs.WarmUps.{WarmStepKeepsHottest, WarmUpLoads};
 
-/// The pieces in which a bucket of a history is answered to sums or to a wish are what `Call::Send` gives of that
+/// The pieces in which a bucket of a history is answered to digests or to a request are what `Call::Send` gives of that
 /// bucket, one after the other: the first without a page to come after, each next after the last page of
 /// the one before, until no page is left. So each carries all references to its pages, whatever the
 /// references that the history stands for.
@@ -18,7 +18,7 @@ pub fn pieces_in_turn()
     ensures { PiecesInTurn }
 {}
 
-/// A round of gossip: a replica offers the sums of its history to another, and each hears all that the other
+/// A round of gossip: a replica offers the digests of its history to another, and each hears all that the other
 /// answers, until both have answered. Afterwards both histories are the join of the two that were; or two different
 /// texts of one bucket, one of each replica, have one SHA-256.
 pub fn gossip_round_joins()
@@ -30,10 +30,10 @@ pub fn gossip_round_ends()
     ensures { GossipRoundEnds }
 {}
 
-/// To the sums of the very history that it has a replica answers nothing: a round of a replica with itself is its
+/// To the digests of the very history that it has a replica answers nothing: a round of a replica with itself is its
 /// offer alone.
-pub fn own_sums_unanswered()
-    ensures { OwnSumsUnanswered }
+pub fn own_digests_unanswered()
+    ensures { OwnDigestsUnanswered }
 {}
 
 /// A frame of a history's entries teaches a replica all references for which that history stands.

@@ -2,7 +2,7 @@
 //!
 //! A [`Node`] keeps the history of the references that reached it, and a buffer pool whose pages that history ranks. It answers one
 //! [`Call`] at a time with a [`Reply`]:
-//! - *of the history*: `Absorb` takes references in; `Offer`, `Send` and `Receive` exchange what replicas know as frames.
+//! - *of the history*: `Absorb` takes references in; `Offer`, `Send` and `Receive` exchange what replicas know as messages.
 //! - *of the pool*: `Pin`, `Read`, `Write` and `Unpin` work on a page; `Victim` names the page that would leave next.
 //! - *of both*: `WarmList` and `WarmStep` bring the hottest pages in, as on a standby before it takes over; `Restart` forgets all.
 //!
@@ -29,5 +29,5 @@ mod warm_step;
 
 pub use call::{Call, Reply};
 pub use fault::NodeFault;
-pub use machine::Meaning;
+pub use machine::ViewOfNode;
 pub use node::Node;

@@ -7,11 +7,11 @@ use warm_turn::Machine;
 
 /// The state of a node that threads share: what a caller sees of it. No value of the type is made; contracts see it as a
 /// `NodeView`.
-pub struct Meaning {
+pub struct ViewOfNode {
     _none: (),
 }
 
-impl Model for Meaning {
+impl Model for ViewOfNode {
     ghost use Rattle.warm_gossip.specs.State.{NodeView, nobody};
 
     ghost Value = { NodeView };
@@ -28,9 +28,9 @@ impl<D: PageDevice + Send> Machine for Node<D> {
 
     type Reply = Reply;
 
-    type State = Meaning;
+    type State = ViewOfNode;
 
-    ghost meaning = { λ n. node_view n };
+    ghost view = { λ n. node_view n };
 
     ghost goes = { Step };
 

@@ -18,7 +18,7 @@ use warm_stamps::ReplicaId;
 
 /// One replica: the history of the references that reached it, and its buffer pool, which that history ranks.
 ///
-/// It keeps the sums of its history's buckets, and the list of pages by which it warms up, until it takes something in or restarts:
+/// It keeps the digests of its history's buckets, and the list of pages by which it warms up, until it takes something in or restarts:
 /// an offer, and a step of the warm-up, with nothing taken in since the last one makes neither anew.
 ///
 /// A pin is no reference: pages are ranked by the references that the node absorbed. Whoever pins a page also absorbs one.
@@ -100,7 +100,7 @@ impl<D: PageDevice> Node<D> {
         ensures step { Goes self.old call result self.new }
         ensures settled { call ≡ Restart → result ≡ Done → IsSettled self.new.pool }
     {
-        // The call that comes most is answered here: `answer` has room for a reply's frame, 2 KB, to move.
+        // The call that comes most is answered here: `answer` has room for a reply's message, 2 KB, to move.
         if let Call::Absorb(batch) = call {
             return match self.absorb(batch.as_slice()) {
                 Ok(()) => Reply::Done,
@@ -125,7 +125,7 @@ impl<D: PageDevice> Node<D> {
             }
             Call::Send { bucket, after } => Ok(Reply::Sent(self.send(bucket, after)?)),
             Call::Offer => Ok(Reply::Sent(self.offer()?)),
-            Call::Receive(frame) => Ok(Reply::Answers(self.receive(frame)?)),
+            Call::Receive(message) => Ok(Reply::Answers(self.receive(message)?)),
             Call::Horizon(time) => Ok(Reply::Kept(self.raise(time))),
             Call::Pin(page) => Ok(Reply::Pinned(self.pin(page)?)),
             Call::Unpin(slot) => {

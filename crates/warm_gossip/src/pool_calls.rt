@@ -3,7 +3,7 @@ ghost use Rattle.std.specs.Prelude.{◌↔◌, IfErr, IsTrue, OnOk};
 ghost use Rattle.warm_pool.specs.State.{IsSettled};
 ghost use Rattle.warm_gossip.specs.declared.call.Call.TheVariants.{Pin, Unpin, Read, Write, Victim, Restart};
 ghost use Rattle.warm_gossip.specs.declared.call.Reply.TheVariants.{Pinned, Bytes, Page};
-ghost use Rattle.warm_gossip.specs.Clauses.{Answered, Goes, SameShown, WriteBackFails, done};
+ghost use Rattle.warm_gossip.specs.Clauses.{Answered, Goes, SameView, WriteBackFails, done};
 ghost use Rattle.warm_gossip.specs.State.{node_view};
 ghost use Rattle.warm_gossip.specs.Step.{IsWithin};
 
@@ -122,7 +122,7 @@ impl<D: PageDevice> Node<D> {
     /// # Errors
     /// `Fault` at the first write or flush that fails. Of what a node shows, counts of failures alone have changed.
     pub fn write_back(&mut self) -> Result<(), NodeFault>
-        ensures same { OnOk result (SameShown self.old self.new) }
+        ensures same { OnOk result (SameView self.old self.new) }
         ensures settled { OnOk result (IsSettled self.new.pool) }
         ensures refused { IfErr result (λ why. WriteBackFails self.old why self.new) }
     {

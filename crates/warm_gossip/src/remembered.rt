@@ -2,13 +2,13 @@
 ghost use Rattle.std.specs.Prelude.{◌≡◌, [], IfOk, OnOk, OnErr};
 ghost use Rattle.warm_history.specs.ReferenceSets.{these, since, ◌∪◌};
 ghost use Rattle.warm_history.specs.Histories.{entries_of, history, holding, holding_since, join, refs};
-ghost use Rattle.warm_digest.specs.BucketSums.{sums_of, sums_since};
+ghost use Rattle.warm_digest.specs.BucketDigests.{digests_of, digests_since};
 ghost use Rattle.warm_gossip.specs.Remembered.{IsHottest};
 
 use std::alloc::{AllocError, Global};
 use std::marker::Model;
-use warm_digest::SummedHistory;
-use warm_frames::SumTable;
+use warm_digest::DigestedHistory;
+use warm_frames::DigestTable;
 use warm_history::{Entry, History};
 use warm_rank::warm_list;
 use warm_stamps::{PageId, Reference};
@@ -20,14 +20,14 @@ pub(crate) struct Hottest {
     pub(crate) pages: Vec<PageId>,
 }
 
-/// A history with the sums of its buckets and a list of its hottest pages. Both are kept until something is taken in: then the
-/// sums of its buckets are taken anew when they are next asked for, and so is the whole list.
+/// A history with the digests of its buckets and a list of its hottest pages. Both are kept until something is taken in: then the
+/// digests of its buckets are taken anew when they are next asked for, and so is the whole list.
 ///
 /// Contracts see it as its history.
 #[derive(Drop)]
 pub(crate) struct Remembered {
     alloc: Global,
-    summed: SummedHistory,
+    digested: DigestedHistory,
     hottest: Option<Hottest>,
 }
 
@@ -38,9 +38,9 @@ impl Model for Remembered {
 
     ghost Value = { HistoryView };
 
-    ghost view = { λ remembered. remembered.summed };
+    ghost view = { λ remembered. remembered.digested };
 
-    ghost invariant = { λ remembered. IfSome remembered.hottest (IsHottest remembered.summed) };
+    ghost invariant = { λ remembered. IfSome remembered.hottest (IsHottest remembered.digested) };
 }
 
 impl Remembered {
@@ -50,7 +50,7 @@ impl Remembered {
     {
         Remembered {
             alloc,
-            summed: SummedHistory::new(alloc),
+            digested: DigestedHistory::new(alloc),
             hottest: None,
         }
     }
@@ -59,7 +59,7 @@ impl Remembered {
     pub(crate) fn history(&self) -> &History
         ensures { result.now ≡ self.now }
     {
-        self.summed.history()
+        self.digested.history()
     }
 
     /// Takes in references. `AllocError` changes nothing.
@@ -67,7 +67,7 @@ impl Remembered {
         ensures exact { OnOk result (self.new ≡ history (refs self.old ∪ these batch.now)) }
         ensures err { OnErr result (self.new ≡ self.old) }
     {
-        self.summed.absorb(batch)?;
+        self.digested.absorb(batch)?;
         self.hottest = None;
         Ok(())
     }
@@ -77,7 +77,7 @@ impl Remembered {
         ensures exact { OnOk result (self.new ≡ join self.old (holding_since horizon more.now)) }
         ensures err { OnErr result (self.new ≡ self.old) }
     {
-        self.summed.join_entries(horizon, more)?;
+        self.digested.join_entries(horizon, more)?;
         self.hottest = None;
         Ok(())
     }
@@ -86,14 +86,14 @@ impl Remembered {
     pub(crate) fn horizon(&self) -> u64
         ensures { result ≡ self.now.horizon }
     {
-        self.summed.horizon()
+        self.digested.horizon()
     }
 
     /// Forgets all stamps before this time. Takes no memory.
     pub(crate) fn raise(&mut self, time: u64)
         ensures { self.new ≡ history (since time (refs self.old)) }
     {
-        self.summed.raise(time);
+        self.digested.raise(time);
         self.hottest = None;
     }
 
@@ -101,25 +101,25 @@ impl Remembered {
     pub(crate) fn clear(&mut self)
         ensures { self.new ≡ holding [] }
     {
-        self.summed.clear();
+        self.digested.clear();
         self.hottest = None;
     }
 
-    /// The sums of the history's buckets, at the cost of [`SummedHistory::sums`]: nothing where nothing was taken in since.
-    pub(crate) fn sums(&mut self) -> Result<SumTable, AllocError>
-        ensures table { IfOk result (λ table. table ≡ sums_of (entries_of self.old)) }
+    /// The digests of the history's buckets, at the cost of [`DigestedHistory::digests`]: nothing where nothing was taken in since.
+    pub(crate) fn digests(&mut self) -> Result<DigestTable, AllocError>
+        ensures table { IfOk result (λ table. table ≡ digests_of (entries_of self.old)) }
         ensures same { self.new ≡ self.old }
     {
-        let table = self.summed.sums()?;
+        let table = self.digested.digests()?;
         Ok(table)
     }
 
-    /// The sums that the history's buckets would have at a horizon, at the cost of [`SummedHistory::sums_since`]: nothing is forgotten.
-    pub(crate) fn sums_since(&mut self, horizon: u64) -> Result<SumTable, AllocError>
-        ensures table { IfOk result (λ table. table ≡ sums_since horizon self.old) }
+    /// The digests that the history's buckets would have at a horizon, at the cost of [`DigestedHistory::digests_since`]: nothing is forgotten.
+    pub(crate) fn digests_since(&mut self, horizon: u64) -> Result<DigestTable, AllocError>
+        ensures table { IfOk result (λ table. table ≡ digests_since horizon self.old) }
         ensures same { self.new ≡ self.old }
     {
-        let table = self.summed.sums_since(horizon)?;
+        let table = self.digested.digests_since(horizon)?;
         Ok(table)
     }
 
@@ -135,7 +135,7 @@ impl Remembered {
                 return Ok(list);
             }
         }
-        let pages = warm_list(self.alloc, self.summed.history(), n)?;
+        let pages = warm_list(self.alloc, self.digested.history(), n)?;
         Ok(Hottest { asked: n, pages })
     }
 

@@ -8,7 +8,7 @@ use Rattle.warm_refbuffer.specs.declared.BufferFault.TheVariants.{Memory, BadCap
 -- the references that wait, the oldest first, and the most that the buffer holds
 pub record Buffered : Type 0 where
   pub refs : List Reference
-  pub cap : ℕ
+  pub capacity : ℕ
 
 -- the buffer with one reference more, which waits behind the others
 abbrev pub with_last : Buffered → Reference → Buffered
@@ -19,15 +19,15 @@ abbrev pub cleared : Buffered → Buffered
 cleared buffer = record buffer { refs = [] }
 
 -- a capacity that a buffer can have
-pub record IsCapacity (cap : ℕ) : Type 0 where
-  pub from_one : 1 ≤ cap
-  pub in_range : cap ≤ MAX_CAPACITY
+pub record IsCapacity (capacity : ℕ) : Type 0 where
+  pub from_one : 1 ≤ capacity
+  pub in_range : capacity ≤ MAX_CAPACITY
 
 -- a buffer in which so many references wait has a capacity for them, and room for its capacity
-pub record IsBuffer (waiting cap room : ℕ) : Type 0 where
-  pub capacity : IsCapacity cap
-  pub within : waiting ≤ cap
-  pub has_room : cap ≤ room
+pub record IsBuffer (waiting capacity room : ℕ) : Type 0 where
+  pub is_capacity : IsCapacity capacity
+  pub within : waiting ≤ capacity
+  pub has_room : capacity ≤ room
 
 -- the number and the name of each refusal
 abbrev pub code_of : BufferFault → ℕ

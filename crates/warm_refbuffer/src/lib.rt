@@ -18,11 +18,11 @@ pub const MAX_CAPACITY: usize = 1024;
 
 /// The references that a worker has made since its buffer was last cleared, oldest first, and how many
 /// the buffer holds (1 to [`MAX_CAPACITY`]). Contracts see `Buffered`: the list `refs` and the number
-/// `cap`.
+/// `capacity`.
 #[derive(Debug, Drop)]
 pub struct RefBuffer {
     refs: Vec<Reference>,
-    cap: usize,
+    capacity: usize,
 }
 
 impl Model for RefBuffer {
@@ -31,9 +31,9 @@ impl Model for RefBuffer {
 
     ghost Value = { Buffered };
 
-    ghost view = { λ b. record { refs = b.refs.items; cap = b.cap } };
+    ghost view = { λ b. record { refs = b.refs.items; capacity = b.capacity } };
 
-    ghost invariant = { λ b. IsBuffer (length b.refs.items) b.cap (vec_capacity b.refs) };
+    ghost invariant = { λ b. IsBuffer (length b.refs.items) b.capacity (vec_capacity b.refs) };
 }
 
 /// Why no buffer was made.
@@ -103,20 +103,20 @@ impl Full {
 }
 
 impl RefBuffer {
-    /// An empty buffer for `cap` references, whose room is taken here.
+    /// An empty buffer for `capacity` references, whose room is taken here.
     ///
-    /// Refused as `BadCapacity` where `cap` is outside 1 to [`MAX_CAPACITY`], and else as `Memory` where
+    /// Refused as `BadCapacity` where `capacity` is outside 1 to [`MAX_CAPACITY`], and else as `Memory` where
     /// the room is refused.
-    pub fn new(alloc: Global, cap: usize) -> Result<RefBuffer, BufferFault>
-        ensures value { IfOk result (λ b. b ≡ record { refs = []; cap = cap }) }
-        ensures capacity { IsOk result → IsCapacity cap }
-        ensures bad { (result ≡ Err BufferFault.BadCapacity) ↔ (¬ IsCapacity cap) }
+    pub fn new(alloc: Global, capacity: usize) -> Result<RefBuffer, BufferFault>
+        ensures value { IfOk result (λ b. b ≡ record { refs = []; capacity = capacity }) }
+        ensures capacity { IsOk result → IsCapacity capacity }
+        ensures bad { (result ≡ Err BufferFault.BadCapacity) ↔ (¬ IsCapacity capacity) }
     {
-        if cap < 1 || cap > MAX_CAPACITY {
+        if capacity < 1 || capacity > MAX_CAPACITY {
             return Err(BufferFault::BadCapacity);
         }
-        let refs = Vec::with_capacity(alloc, cap)?;
-        Ok(RefBuffer { refs, cap })
+        let refs = Vec::with_capacity(alloc, capacity)?;
+        Ok(RefBuffer { refs, capacity })
     }
 
     /// The references that wait, oldest first.
@@ -129,7 +129,7 @@ impl RefBuffer {
     /// How many references wait.
     pub fn len(&self) -> usize
         ensures value { result ≡ length self.now.refs }
-        ensures bound { result ≤ self.now.cap }
+        ensures bound { result ≤ self.now.capacity }
     {
         self.refs.len()
     }
@@ -142,29 +142,29 @@ impl RefBuffer {
     }
 
     /// How many references the buffer holds at most.
-    pub fn cap(&self) -> usize
-        ensures value { result ≡ self.now.cap }
+    pub fn capacity(&self) -> usize
+        ensures value { result ≡ self.now.capacity }
         ensures capacity { IsCapacity result }
     {
-        self.cap
+        self.capacity
     }
 
     /// Whether the next reference would be refused.
     pub fn is_full(&self) -> bool
-        ensures { IsTrue result ↔ (self.now.cap ≤ length self.now.refs) }
+        ensures { IsTrue result ↔ (self.now.capacity ≤ length self.now.refs) }
     {
-        self.cap <= self.refs.len()
+        self.capacity <= self.refs.len()
     }
 
     /// Puts a reference last. It takes no memory. A full buffer hands the reference back and stays as
     /// it was.
     pub fn touch(&mut self, reference: Reference) -> Result<(), Full>
-        ensures taken { length self.old.refs < self.old.cap
+        ensures taken { length self.old.refs < self.old.capacity
             → IsOk result × (self.new ≡ with_last self.old reference) }
-        ensures full { self.old.cap ≤ length self.old.refs
+        ensures full { self.old.capacity ≤ length self.old.refs
             → (result ≡ Err (record { 0 = reference })) × (self.new ≡ self.old) }
     {
-        if self.refs.len() < self.cap {
+        if self.refs.len() < self.capacity {
             self.refs.push_reserved(reference);
             return Ok(());
         }

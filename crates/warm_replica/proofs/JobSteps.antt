@@ -9,14 +9,14 @@ use Rattle.warm_gossip.specs.declared.call.Reply.{Reply}
 use Rattle.warm_replica.specs.declared.job.Step.{Step}
 use Rattle.warm_replica.specs.declared.job.StepReply.{StepReply}
 
-pub gave_one_more : (cap n : ℕ) (held mid end : List Reference) (ss : List Step) (rs : List StepReply) (s : Step) (r : StepReply) (calls one : Calls)
-    → AllGave cap n held ss rs mid calls → Gave cap n mid s r end one → AllGave cap n held (ss ++ s ∷ []) (rs ++ r ∷ []) end (calls ++ one)
-gave_one_more cap n held mid end [] [] s r calls one h g =
-    (end, one, [], subst (λ (q : List Reference). Gave cap n q s r end one) (sym h.0) g, ap (λ (l : Calls). l ++ one) h.1 ∙ sym (append-nil one), (refl, refl))
-gave_one_more cap n held mid end [] (q ∷ rs) s r calls one h g = absurd h
-gave_one_more cap n held mid end (p ∷ ss) [] s r calls one h g = absurd h
-gave_one_more cap n held mid end (p ∷ ss) (q ∷ rs) s r calls one h g =
-    (h.0, h.1, h.2 ++ one, h.3, ap (λ (l : Calls). l ++ one) h.4 ∙ append_assoc h.1 h.2 one, gave_one_more cap n h.0 mid end ss rs s r h.2 one h.5 g)
+pub gave_one_more : (capacity n : ℕ) (held mid end : List Reference) (ss : List Step) (rs : List StepReply) (s : Step) (r : StepReply) (calls one : Calls)
+    → AllGave capacity n held ss rs mid calls → Gave capacity n mid s r end one → AllGave capacity n held (ss ++ s ∷ []) (rs ++ r ∷ []) end (calls ++ one)
+gave_one_more capacity n held mid end [] [] s r calls one h g =
+    (end, one, [], subst (λ (q : List Reference). Gave capacity n q s r end one) (sym h.0) g, ap (λ (l : Calls). l ++ one) h.1 ∙ sym (append-nil one), (refl, refl))
+gave_one_more capacity n held mid end [] (q ∷ rs) s r calls one h g = absurd h
+gave_one_more capacity n held mid end (p ∷ ss) [] s r calls one h g = absurd h
+gave_one_more capacity n held mid end (p ∷ ss) (q ∷ rs) s r calls one h g =
+    (h.0, h.1, h.2 ++ one, h.3, ap (λ (l : Calls). l ++ one) h.4 ∙ append_assoc h.1 h.2 one, gave_one_more capacity n h.0 mid end ss rs s r h.2 one h.5 g)
 
 module _ {X : Type 0} where
   pub steps_none : (w : Working X Call Reply) → StepsWent w [] [] w
@@ -24,7 +24,7 @@ module _ {X : Type 0} where
 
   pub steps_more : (a b c : Working X Call Reply) (ss : List Step) (rs : List StepReply) (s : Step) (r : StepReply) → StepsWent a ss rs b → StepWent b s r c → StepsWent a (ss ++ s ∷ []) (rs ++ r ∷ []) c
   steps_more a b c ss rs s r h g =
-      let room : b.buffer.cap ≡ a.buffer.cap = h.2 in
+      let room : b.buffer.capacity ≡ a.buffer.capacity = h.2 in
       let number : b.pass.view.number ≡ a.pass.view.number = h.3.number in
-      let one : Gave a.buffer.cap a.pass.view.number b.buffer.refs s r c.buffer.refs g.0 = subst (λ (m : ℕ). Gave m a.pass.view.number b.buffer.refs s r c.buffer.refs g.0) room (subst (λ (m : ℕ). Gave b.buffer.cap m b.buffer.refs s r c.buffer.refs g.0) number g.1) in
-      (h.0 ++ g.0, gave_one_more a.buffer.cap a.pass.view.number a.buffer.refs b.buffer.refs c.buffer.refs ss rs s r h.0 g.0 h.1 one, g.2 ∙ h.2, Extended-trans a.pass.view b.pass.view c.pass.view h.0 g.0 h.3 g.3)
+      let one : Gave a.buffer.capacity a.pass.view.number b.buffer.refs s r c.buffer.refs g.0 = subst (λ (m : ℕ). Gave m a.pass.view.number b.buffer.refs s r c.buffer.refs g.0) room (subst (λ (m : ℕ). Gave b.buffer.capacity m b.buffer.refs s r c.buffer.refs g.0) number g.1) in
+      (h.0 ++ g.0, gave_one_more a.buffer.capacity a.pass.view.number a.buffer.refs b.buffer.refs c.buffer.refs ss rs s r h.0 g.0 h.1 one, g.2 ∙ h.2, Extended-trans a.pass.view b.pass.view c.pass.view h.0 g.0 h.3 g.3)

@@ -41,6 +41,6 @@ module _ {X : Type 0} (goes : X → Call → Reply → X → Type 0) where
     fan_ends goes v own w n more wide joined,
     wide.mine,
     pairs_triples IsReady ReadyWentAs JobWentAs
-        (λ j r d e p q. subst (λ (k : ℕ). WentAs k j.steps.items d.items e) (sym p.0) (subst (λ (l : Vec Step). WentAs r.buffer.cap l.items d.items e) (sym p.1) q))
+        (λ j r d e p q. subst (λ (k : ℕ). WentAs k j.steps.items d.items e) (sym p.0) (subst (λ (l : Vec Step). WentAs r.buffer.capacity l.items d.items e) (sym p.1) q))
         jobs ready all more same went,
   )

@@ -38,60 +38,60 @@ module _ {X : Type 0} (v w : Working X Call Reply) (step : Step) where
   stays same = subst (λ (p : Sight X Call Reply). Extended v.pass.view [] p.view) (sym same) (Extended-self v.pass.view)
 
   pub touched : (r : Reference) (result : Result (Unit {0}) Back) (u : Unit {0}) → step ≡ Touch r → result ≡ Ok u → w.pass ≡ v.pass
-      → (length v.buffer.refs < v.buffer.cap → IsOk result × (w.buffer ≡ record v.buffer { refs = v.buffer.refs ++ r ∷ [] }))
-      → (v.buffer.cap ≤ length v.buffer.refs → (result ≡ Err (record { 0 = r })) × (w.buffer ≡ v.buffer)) → StepWent v step Touched w
+      → (length v.buffer.refs < v.buffer.capacity → IsOk result × (w.buffer ≡ record v.buffer { refs = v.buffer.refs ++ r ∷ [] }))
+      → (v.buffer.capacity ≤ length v.buffer.refs → (result ≡ Err (record { 0 = r })) × (w.buffer ≡ v.buffer)) → StepWent v step Touched w
   touched r result u is good pass taken full =
-      let some : length v.buffer.refs < v.buffer.cap = lt_of_not-le (λ all. not_both result u (record { 0 = r }) good (full all).0) in
+      let some : length v.buffer.refs < v.buffer.capacity = lt_of_not-le (λ all. not_both result u (record { 0 = r }) good (full all).0) in
       let buffer = (taken some).1 in (
         [],
-        subst (λ (s : Step). Gave v.buffer.cap v.pass.view.number v.buffer.refs s Touched w.buffer.refs []) (sym is) (some, ap (λ (b : Buffered). b.refs) buffer, refl),
-        ap (λ (b : Buffered). b.cap) buffer,
+        subst (λ (s : Step). Gave v.buffer.capacity v.pass.view.number v.buffer.refs s Touched w.buffer.refs []) (sym is) (some, ap (λ (b : Buffered). b.refs) buffer, refl),
+        ap (λ (b : Buffered). b.capacity) buffer,
         stays pass,
       )
 
   pub was_full : (r : Reference) (result : Result (Unit {0}) Back) (back : Back) → step ≡ Touch r → result ≡ Err back → w.pass ≡ v.pass
-      → (length v.buffer.refs < v.buffer.cap → IsOk result × (w.buffer ≡ record v.buffer { refs = v.buffer.refs ++ r ∷ [] }))
-      → (v.buffer.cap ≤ length v.buffer.refs → (result ≡ Err (record { 0 = r })) × (w.buffer ≡ v.buffer)) → StepWent v step (Full back.0) w
+      → (length v.buffer.refs < v.buffer.capacity → IsOk result × (w.buffer ≡ record v.buffer { refs = v.buffer.refs ++ r ∷ [] }))
+      → (v.buffer.capacity ≤ length v.buffer.refs → (result ≡ Err (record { 0 = r })) × (w.buffer ≡ v.buffer)) → StepWent v step (Full back.0) w
   was_full r result back is bad pass taken full =
-      let below : v.buffer.cap < suc (length v.buffer.refs) = lt_of_not-le (λ some. good_bad result back (taken some).0 bad) in
-      let all : v.buffer.cap ≤ length v.buffer.refs = omega (arith, below) in
+      let below : v.buffer.capacity < suc (length v.buffer.refs) = lt_of_not-le (λ some. good_bad result back (taken some).0 bad) in
+      let all : v.buffer.capacity ≤ length v.buffer.refs = omega (arith, below) in
       let same = (full all).1 in
       let back_is : back.0 ≡ r = ap (λ (b : Back). b.0) (one_way result back (record { 0 = r }) bad (full all).0) in (
         [],
-        subst (λ (s : Step). Gave v.buffer.cap v.pass.view.number v.buffer.refs s (Full back.0) w.buffer.refs []) (sym is) (all, back_is, ap (λ (b : Buffered). b.refs) same, refl),
-        ap (λ (b : Buffered). b.cap) same,
+        subst (λ (s : Step). Gave v.buffer.capacity v.pass.view.number v.buffer.refs s (Full back.0) w.buffer.refs []) (sym is) (all, back_is, ap (λ (b : Buffered). b.refs) same, refl),
+        ap (λ (b : Buffered). b.capacity) same,
         stays pass,
       )
 
   pub was_flushed : (goes : X → Call → Reply → X → Type 0) → step ≡ Flush → Flushes goes v w → StepWent v step Flushed w
   was_flushed goes is flushes = (
     entry v.pass.view.number (Absorb v.buffer.refs) Done ∷ [],
-    subst (λ (s : Step). Gave v.buffer.cap v.pass.view.number v.buffer.refs s Flushed w.buffer.refs (entry v.pass.view.number (Absorb v.buffer.refs) Done ∷ [])) (sym is)
+    subst (λ (s : Step). Gave v.buffer.capacity v.pass.view.number v.buffer.refs s Flushed w.buffer.refs (entry v.pass.view.number (Absorb v.buffer.refs) Done ∷ [])) (sym is)
         (ap (λ (b : Buffered). b.refs) flushes.empties, refl),
-    ap (λ (b : Buffered). b.cap) flushes.empties,
+    ap (λ (b : Buffered). b.capacity) flushes.empties,
     Extended-called goes v.pass.view w.pass.view (Absorb v.buffer.refs) Done flushes.absorbs,
   )
 
   pub was_kept : (goes : X → Call → Reply → X → Type 0) (fault : FlushFault) → step ≡ Flush → KeepsBatch goes v fault w → StepWent v step (Failed fault) w
   was_kept goes TurnsSpent is kept = (
     [],
-    subst (λ (s : Step). Gave v.buffer.cap v.pass.view.number v.buffer.refs s (Failed TurnsSpent) w.buffer.refs []) (sym is) (ap (λ (b : Buffered). b.refs) kept.0, refl),
-    ap (λ (b : Buffered). b.cap) kept.0,
+    subst (λ (s : Step). Gave v.buffer.capacity v.pass.view.number v.buffer.refs s (Failed TurnsSpent) w.buffer.refs []) (sym is) (ap (λ (b : Buffered). b.refs) kept.0, refl),
+    ap (λ (b : Buffered). b.capacity) kept.0,
     Extended-marked v.pass.view w.pass.view kept.1,
   )
   was_kept goes Memory is kept =
       ⊎_elim
       (λ same. (
         [],
-        subst (λ (s : Step). Gave v.buffer.cap v.pass.view.number v.buffer.refs s (Failed Memory) w.buffer.refs []) (sym is) (ap (λ (b : Buffered). b.refs) kept.0, inl refl),
-        ap (λ (b : Buffered). b.cap) kept.0,
+        subst (λ (s : Step). Gave v.buffer.capacity v.pass.view.number v.buffer.refs s (Failed Memory) w.buffer.refs []) (sym is) (ap (λ (b : Buffered). b.refs) kept.0, inl refl),
+        ap (λ (b : Buffered). b.capacity) kept.0,
         stays same,
       ))
       (λ called. (
         entry v.pass.view.number (Absorb v.buffer.refs) no_memory ∷ [],
-        subst (λ (s : Step). Gave v.buffer.cap v.pass.view.number v.buffer.refs s (Failed Memory) w.buffer.refs (entry v.pass.view.number (Absorb v.buffer.refs) no_memory ∷ [])) (sym is)
+        subst (λ (s : Step). Gave v.buffer.capacity v.pass.view.number v.buffer.refs s (Failed Memory) w.buffer.refs (entry v.pass.view.number (Absorb v.buffer.refs) no_memory ∷ [])) (sym is)
             (ap (λ (b : Buffered). b.refs) kept.0, inr refl),
-        ap (λ (b : Buffered). b.cap) kept.0,
+        ap (λ (b : Buffered). b.capacity) kept.0,
         Extended-called goes v.pass.view w.pass.view (Absorb v.buffer.refs) no_memory called,
       ))
       kept.1
@@ -99,7 +99,7 @@ module _ {X : Type 0} (v w : Working X Call Reply) (step : Step) where
   pub was_spent : (call : Call) → step ≡ Make call → w.buffer ≡ v.buffer → w.pass.view ≡ marked v.pass.view → StepWent v step (Failed TurnsSpent) w
   was_spent call is same spent = (
     [],
-    subst (λ (s : Step). Gave v.buffer.cap v.pass.view.number v.buffer.refs s (Failed TurnsSpent) w.buffer.refs []) (sym is) (ap (λ (b : Buffered). b.refs) same, refl),
-    ap (λ (b : Buffered). b.cap) same,
+    subst (λ (s : Step). Gave v.buffer.capacity v.pass.view.number v.buffer.refs s (Failed TurnsSpent) w.buffer.refs []) (sym is) (ap (λ (b : Buffered). b.refs) same, refl),
+    ap (λ (b : Buffered). b.capacity) same,
     Extended-marked v.pass.view w.pass.view spent,
   )

@@ -15,19 +15,19 @@ use Rattle.warm_replica.specs.Replied.{Replied}
 
 -- the job has its room, and its steps are the same
 abbrev pub IsReady : Job → Ready → Type 0
-IsReady job ready = (job.cap ≡ ready.buffer.cap) × (job.steps ≡ ready.steps)
+IsReady job ready = (job.capacity ≡ ready.buffer.capacity) × (job.steps ≡ ready.steps)
 
 abbrev pub AreReady : List Job → List Ready → Type 0
 AreReady = Pairs IsReady
 
 -- the calls of an ended pass are those of this job, answered so
 abbrev pub ReadyWentAs : Ready → Replied → Ended Call Reply → Type 0
-ReadyWentAs ready replies e = WentAs ready.buffer.cap ready.steps.items replies.items e
+ReadyWentAs ready replies e = WentAs ready.buffer.capacity ready.steps.items replies.items e
 
 module _ {X : Type 0} where
   -- a job that had its room went, from an empty buffer on
   abbrev pub ReadyWent : Ready → Replied → View X Call Reply → View X Call Reply → Type 0
-  ReadyWent ready replies v w = JobWent ready.buffer.cap ready.steps.items replies.items v w
+  ReadyWent ready replies v w = JobWent ready.buffer.capacity ready.steps.items replies.items v w
 
   -- the pass has seen more, and holds one pass for each of the jobs, whose calls are that job's, where all were started
   abbrev pub HasFanned : View X Call Reply → List Ready → Result (Unit {0}) NoThread → List Replied → View X Call Reply → Type 0

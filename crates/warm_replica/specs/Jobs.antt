@@ -25,53 +25,53 @@ use Rattle.warm_replica.specs.Working.{Working}
 abbrev pub Calls : Type 0
 Calls = List (Entry Call Reply)
 
--- What a step answers, where the buffer has room for `cap` references and holds these: what it holds then, and the calls of the pass of number n that the step made
-abbrev pub Gave : (cap n : ℕ) → List Reference → Step → StepReply → List Reference → Calls → Type 0
-Gave cap n held (Touch r) Touched held' made = (length held < cap) × (held' ≡ held ++ r ∷ []) × (made ≡ [])
-Gave cap n held (Touch r) (Full q) held' made = (cap ≤ length held) × (q ≡ r) × (held' ≡ held) × (made ≡ [])
-Gave cap n held Flush Flushed held' made = (held' ≡ []) × (made ≡ entry n (Absorb held) Done ∷ [])
-Gave cap n held Flush (Failed Memory) held' made = (held' ≡ held) × ((made ≡ []) ⊎ (made ≡ entry n (Absorb held) no_memory ∷ []))
-Gave cap n held Flush (Failed TurnsSpent) held' made = (held' ≡ held) × (made ≡ [])
-Gave cap n held (Make call) (Answered reply) held' made = (held' ≡ held) × (made ≡ entry n call reply ∷ [])
-Gave cap n held (Make call) (Failed TurnsSpent) held' made = (held' ≡ held) × (made ≡ [])
-Gave cap n held step reply held' made = ⊥
+-- What a step answers, where the buffer has room for `capacity` references and holds these: what it holds then, and the calls of the pass of number n that the step made
+abbrev pub Gave : (capacity n : ℕ) → List Reference → Step → StepReply → List Reference → Calls → Type 0
+Gave capacity n held (Touch r) Touched held' made = (length held < capacity) × (held' ≡ held ++ r ∷ []) × (made ≡ [])
+Gave capacity n held (Touch r) (Full q) held' made = (capacity ≤ length held) × (q ≡ r) × (held' ≡ held) × (made ≡ [])
+Gave capacity n held Flush Flushed held' made = (held' ≡ []) × (made ≡ entry n (Absorb held) Done ∷ [])
+Gave capacity n held Flush (Failed Memory) held' made = (held' ≡ held) × ((made ≡ []) ⊎ (made ≡ entry n (Absorb held) no_memory ∷ []))
+Gave capacity n held Flush (Failed TurnsSpent) held' made = (held' ≡ held) × (made ≡ [])
+Gave capacity n held (Make call) (Answered reply) held' made = (held' ≡ held) × (made ≡ entry n call reply ∷ [])
+Gave capacity n held (Make call) (Failed TurnsSpent) held' made = (held' ≡ held) × (made ≡ [])
+Gave capacity n held step reply held' made = ⊥
 
 -- the same of steps one after another
-abbrev pub AllGave : (cap n : ℕ) → List Reference → List Step → List StepReply → List Reference → Calls → Type 0
-AllGave cap n held [] [] held' made = (held ≡ held') × (made ≡ [])
-AllGave cap n held (s ∷ ss) (r ∷ rs) held' made =
-    (mid : List Reference) × (one : Calls) × (rest : Calls) × Gave cap n held s r mid one × (made ≡ one ++ rest) × AllGave cap n mid ss rs held' rest
-AllGave cap n held [] (r ∷ rs) held' made = ⊥
-AllGave cap n held (s ∷ ss) [] held' made = ⊥
+abbrev pub AllGave : (capacity n : ℕ) → List Reference → List Step → List StepReply → List Reference → Calls → Type 0
+AllGave capacity n held [] [] held' made = (held ≡ held') × (made ≡ [])
+AllGave capacity n held (s ∷ ss) (r ∷ rs) held' made =
+    (mid : List Reference) × (one : Calls) × (rest : Calls) × Gave capacity n held s r mid one × (made ≡ one ++ rest) × AllGave capacity n mid ss rs held' rest
+AllGave capacity n held [] (r ∷ rs) held' made = ⊥
+AllGave capacity n held (s ∷ ss) [] held' made = ⊥
 
 module _ {X : Type 0} where
   -- a worker took these steps, answered so
   abbrev pub StepsWent : Working X Call Reply → List Step → List StepReply → Working X Call Reply → Type 0
   StepsWent old steps replies new =
-      (made : Calls) × AllGave old.buffer.cap old.pass.view.number old.buffer.refs steps replies new.buffer.refs made
-      × (new.buffer.cap ≡ old.buffer.cap) × Extended old.pass.view made new.pass.view
+      (made : Calls) × AllGave old.buffer.capacity old.pass.view.number old.buffer.refs steps replies new.buffer.refs made
+      × (new.buffer.capacity ≡ old.buffer.capacity) × Extended old.pass.view made new.pass.view
 
   -- one of them
   abbrev pub StepWent : Working X Call Reply → Step → StepReply → Working X Call Reply → Type 0
   StepWent old step reply new =
-      (made : Calls) × Gave old.buffer.cap old.pass.view.number old.buffer.refs step reply new.buffer.refs made
-      × (new.buffer.cap ≡ old.buffer.cap) × Extended old.pass.view made new.pass.view
+      (made : Calls) × Gave old.buffer.capacity old.pass.view.number old.buffer.refs step reply new.buffer.refs made
+      × (new.buffer.capacity ≡ old.buffer.capacity) × Extended old.pass.view made new.pass.view
 
-  -- a job went, from an empty buffer with room for `cap` references on
+  -- a job went, from an empty buffer with room for `capacity` references on
   abbrev pub JobWent : ℕ → List Step → List StepReply → View X Call Reply → View X Call Reply → Type 0
-  JobWent cap steps replies v w =
-      (held : List Reference) × (made : Calls) × AllGave cap v.number [] steps replies held made × Extended v made w
+  JobWent capacity steps replies v w =
+      (held : List Reference) × (made : Calls) × AllGave capacity v.number [] steps replies held made × Extended v made w
 
 -- the calls of an ended pass are those of a job that was answered so
 abbrev pub WentAs : ℕ → List Step → List StepReply → Ended Call Reply → Type 0
-WentAs cap steps replies e = (held : List Reference) × AllGave cap e.number [] steps replies held e.calls
+WentAs capacity steps replies e = (held : List Reference) × AllGave capacity e.number [] steps replies held e.calls
 
 abbrev pub JobWentAs : Job → Replied → Ended Call Reply → Type 0
-JobWentAs job replies e = WentAs job.cap job.steps.items replies.items e
+JobWentAs job replies e = WentAs job.capacity job.steps.items replies.items e
 
 -- every job has a buffer that there can be
 abbrev pub HaveCapacities : List Job → Type 0
-HaveCapacities jobs = All (λ job. IsCapacity job.cap) jobs
+HaveCapacities jobs = All (λ job. IsCapacity job.capacity) jobs
 
 -- The jobs were run and answered so: the pass has seen more, and holds beside one pass that made no calls one for each job, whose calls are that job's
 abbrev pub JobsWent : {X : Type 0} → View X Call Reply → List Job → List Replied → View X Call Reply → Type 0

@@ -6,7 +6,7 @@ use std::marker::Model;
 use warm_gossip::{Call, Reply};
 
 /// A call in memory of its own, beside room for the reply to it: two pointers, where a [`Call`] and a [`Reply`] each have room for
-/// a frame's table of sums, which is some 2,080 bytes. Contracts see the call.
+/// a message's table of digests, which is some 2,080 bytes. Contracts see the call.
 #[derive(Drop)]
 pub struct BoxedCall {
     call: Box<Call>,
@@ -59,7 +59,7 @@ impl ReplyRoom {
     }
 }
 
-/// A reply in memory of its own: a pointer, where a [`Reply`] has room for a frame's table of sums. Contracts see the reply.
+/// A reply in memory of its own: a pointer, where a [`Reply`] has room for a message's table of digests. Contracts see the reply.
 #[derive(Drop)]
 pub struct BoxedReply {
     reply: Box<Reply>,

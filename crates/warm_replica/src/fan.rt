@@ -35,7 +35,7 @@ impl<M: Absorbing> Promise<(Pass<M>, Replies)> for Began<M> {
     ghost use Rattle.warm_replica.specs.Jobs.{JobWent};
 
     ghost kept_by = { λ p r. (r.0.table ≡ p.pass.value.table)
-        × JobWent p.buffer.value.cap p.steps.value.items r.1.items p.pass.value.view r.0.view };
+        × JobWent p.buffer.value.capacity p.steps.value.items r.1.items p.pass.value.view r.0.view };
 }
 
 // The steps of a job, with a pass of its own.
@@ -141,11 +141,11 @@ fn fan_out<'s, E, M: Absorbing + Send + 's, R: Threads + Wait + Sync, G: Gate + 
 
 // A job with its room. Its capacity is one that a buffer can have, so only memory can be refused.
 fn make_ready(alloc: Global, number: usize, job: Job) -> Result<Ready, AllocError>
-    requires { IsCapacity job.cap }
+    requires { IsCapacity job.capacity }
     ensures { IfOk result (IsReady job) }
 {
-    let Job { cap, steps } = job;
-    let Ok(buffer) = RefBuffer::new(alloc, cap) else {
+    let Job { capacity, steps } = job;
+    let Ok(buffer) = RefBuffer::new(alloc, capacity) else {
         return Err(AllocError);
     };
     let replies = Replies::with_capacity(alloc, steps.len())?;
@@ -175,7 +175,7 @@ fn have_capacities(jobs: &[Job]) -> bool
     ensures { IsTrue result ↔ HaveCapacities jobs.now }
 {
     jobs.iter()
-        .all(|job| 1 <= job.cap && job.cap <= MAX_CAPACITY)
+        .all(|job| 1 <= job.capacity && job.capacity <= MAX_CAPACITY)
 }
 
 // Runs the jobs that are ready, with a pass of their own.

@@ -43,7 +43,7 @@ pub enum StepReply {
 #[derive(Drop)]
 pub struct Job {
     /// How many references the buffer holds.
-    pub cap: usize,
+    pub capacity: usize,
     /// The steps, in order.
     pub steps: Vec<Step>,
 }

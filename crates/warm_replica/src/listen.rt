@@ -10,28 +10,28 @@ use crate::report::{MailReport, NOTHING, REFUSED};
 use crate::worker::Worker;
 use std::alloc::Global;
 use std::sync::Wait;
-use warm_frames::{Frame, decode, encode};
+use warm_frames::{Message, decode, encode};
 use warm_gossip::{Call, Reply};
 use warm_stamps::{ByteList, ReplicaId};
 use warm_turn::{Machine, Turn};
 
-// Who sent the frame.
-fn sender_of(frame: &Frame) -> ReplicaId
-    ensures { result ≡ sender_of frame.now }
+// Who sent the message.
+fn sender_of(message: &Message) -> ReplicaId
+    ensures { result ≡ sender_of message.now }
 {
-    match frame {
-        Frame::Entries { sender, .. } => *sender,
-        Frame::Digest { sender, .. } => *sender,
-        Frame::Want { sender, .. } => *sender,
+    match message {
+        Message::Entries { sender, .. } => *sender,
+        Message::Digest { sender, .. } => *sender,
+        Message::Want { sender, .. } => *sender,
     }
 }
 
-// Posts one frame, and counts it where it is lost.
-fn post_one<P: Post>(alloc: Global, post: &mut P, to: ReplicaId, frame: &Frame) -> u64
-    ensures posted { PostsTo P.keeps P.given to (frame.now ∷ []) post.old result post.new }
+// Posts one message, and counts it where it is lost.
+fn post_one<P: Post>(alloc: Global, post: &mut P, to: ReplicaId, message: &Message) -> u64
+    ensures posted { PostsTo P.keeps P.given to (message.now ∷ []) post.old result post.new }
     ensures bound { result ≤ 1 }
 {
-    let Ok(bytes) = encode(alloc, frame) else {
+    let Ok(bytes) = encode(alloc, message) else {
         return 1;
     };
     match post.post(to, ByteList::of(bytes)) {
@@ -40,19 +40,19 @@ fn post_one<P: Post>(alloc: Global, post: &mut P, to: ReplicaId, frame: &Frame) 
     }
 }
 
-// Posts the frames in their order, and counts those that are lost.
-fn post_all<P: Post>(alloc: Global, post: &mut P, to: ReplicaId, frames: &[Frame]) -> u64
-    ensures posted { PostsTo P.keeps P.given to frames.now post.old result post.new }
-    ensures bound { result ≤ length frames.now }
+// Posts the messages in their order, and counts those that are lost.
+fn post_all<P: Post>(alloc: Global, post: &mut P, to: ReplicaId, messages: &[Message]) -> u64
+    ensures posted { PostsTo P.keeps P.given to messages.now post.old result post.new }
+    ensures bound { result ≤ length messages.now }
 {
     let mut lost = 0;
-    for frame in frames {
-        lost += post_one(alloc, post, to, frame);
+    for message in messages {
+        lost += post_one(alloc, post, to, message);
     }
     lost
 }
 
-// Takes bytes: a frame that they spell is received in a turn of its own, and its answers are posted.
+// Takes bytes: a message that they spell is received in a turn of its own, and its answers are posted.
 fn hear<M: Machine<Call = Call, Reply = Reply>, P: Post, R: Wait>(
     rt: &R,
     alloc: Global,
@@ -68,17 +68,17 @@ fn hear<M: Machine<Call = Call, Reply = Reply>, P: Post, R: Wait>(
         worker.new post.new }
     ensures bound { (result.joined ≤ 1) × (result.refused ≤ 1) × (result.lost < 2 ^ 64) }
 {
-    let Ok(frame) = decode(alloc, bytes.as_slice()) else {
+    let Ok(message) = decode(alloc, bytes.as_slice()) else {
         return REFUSED;
     };
-    let to = sender_of(&frame);
-    let Ok(reply) = worker.call(rt, replica, Call::Receive(frame)) else {
+    let to = sender_of(&message);
+    let Ok(reply) = worker.call(rt, replica, Call::Receive(message)) else {
         return REFUSED;
     };
-    let Reply::Answers(frames) = reply else {
+    let Reply::Answers(messages) = reply else {
         return REFUSED;
     };
-    let lost = post_all(alloc, post, to, frames.as_slice());
+    let lost = post_all(alloc, post, to, messages.as_slice());
     MailReport {
         joined: 1,
         refused: 0,
@@ -96,10 +96,10 @@ fn next_item<I: Iterator<Item = Mail>>(mail: &mut I) -> Option<Mail>
 }
 
 /// Takes mail until `stops` Stops or `turns` items were taken, or the mail ends; nothing where `stops` or `turns` is 0. Bytes are
-/// decoded, the frame is received by the replica in a turn of its own, and the answers are posted to the frame's sender. The
+/// decoded, the message is received by the replica in a turn of its own, and the answers are posted to the message's sender. The
 /// worker's buffer stays as it is.
 ///
-/// No item ends the loop by its fault. Bytes that spell no frame, a frame that the replica refuses, one for whose decoding memory was
+/// No item ends the loop by its fault. Bytes that spell no message, a message that the replica refuses, one for whose decoding memory was
 /// refused, and one for which no ticket was left are counted as refused; answers that the post does not take, or that could not
 /// be encoded for want of memory, as lost. It may wait for the mail, for turns, and for the post.
 pub fn mail_loop<

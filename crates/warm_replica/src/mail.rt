@@ -10,7 +10,7 @@ use warm_stamps::ByteList;
 /// One item of mail: what a channel carries to the replica whose mail it is.
 #[derive(Drop)]
 pub enum Mail {
-    /// Bytes that are to spell a frame. Where they spell none, the item is counted as refused.
+    /// Bytes that are to spell a message. Where they spell none, the item is counted as refused.
     Bytes(ByteList),
     /// A sign that a sender is done. It says nothing of other senders.
     Stop,

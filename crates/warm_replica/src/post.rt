@@ -1,4 +1,4 @@
-//! Posts: where the frames go that a replica answers.
+//! Posts: where the messages go that a replica answers.
 ghost use Rattle.std.specs.Prelude.{◌≡◌, ◌≢◌, [], ◌∷◌, ◌++◌, true, false};
 ghost use Rattle.std.specs.Prelude.{IfErr, IsErr, OnErr, OnOk, Some, ◌==◌, position};
 ghost use Rattle.std.specs.List.{All};

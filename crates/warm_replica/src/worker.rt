@@ -79,10 +79,10 @@ impl<M: Machine<Call = Call, Reply = Reply>> Worker<M> {
     /// buffer hands the reference back and stays as it was.
     pub fn touch(&mut self, reference: Reference) -> Result<(), Full>
         ensures pass { self.new.pass ≡ self.old.pass }
-        ensures taken { length self.old.buffer.refs < self.old.buffer.cap
+        ensures taken { length self.old.buffer.refs < self.old.buffer.capacity
             → IsOk result
             × (self.new.buffer ≡ with_last self.old.buffer reference) }
-        ensures full { self.old.buffer.cap ≤ length self.old.buffer.refs
+        ensures full { self.old.buffer.capacity ≤ length self.old.buffer.refs
             → (result ≡ Err (record { 0 = reference }))
             × (self.new.buffer ≡ self.old.buffer) }
     {

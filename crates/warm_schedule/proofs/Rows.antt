@@ -16,7 +16,7 @@ use Rattle.warm_pool.specs.View.{PoolView}
 use Rattle.warm_gossip.specs.Answers.{IsDiffering, buckets_in}
 use Rattle.warm_gossip.specs.declared.fault.NodeFault.TheVariants.{Pool}
 use Rattle.warm_world.specs.Lists.{IsNumber}
-use Rattle.warm_world.specs.States.{ModelState, ReplicaState, FrameRecord, References, Sums, Mask, no_pool}
+use Rattle.warm_world.specs.States.{ModelState, ReplicaState, MessageRecord, References, Digests, Request, no_pool}
 use Rattle.warm_world.specs.declared.event.Answer.TheVariants.{Done, Shown, FrameNo, Took, Kept, Refused}
 use Rattle.warm_world.specs.declared.event.WorldFault.TheVariants.{Node}
 use Rattle.warm_schedule.specs.Text.{words}
@@ -73,7 +73,7 @@ has horizon given = one no_pool (kept horizon given) []
 abbrev alone : ReferenceSet → List Reference → ModelState
 alone reach waiting = record { room = 64; replicas = one no_pool reach waiting ∷ []; records = [] }
 
-abbrev both : ReplicaState → ReplicaState → List FrameRecord → ModelState
+abbrev both : ReplicaState → ReplicaState → List MessageRecord → ModelState
 both first second records = record { room = 64; replicas = first ∷ second ∷ []; records = records }
 
 number : (n count : ℕ) → 0 < n → n ≤ count → IsNumber n count
@@ -159,7 +159,7 @@ forgotten = printed (alone (kept 0 []) []) (alone (kept 0 []) []) 1 forgotten_ta
 
 -- ---- a frame brings its sender's horizon: replica 2 has the page at 8 and 9, replica 1 has it at 20
 
-abbrev newer_frame : FrameRecord
+abbrev newer_frame : MessageRecord
 newer_frame = References 1 (kept 9 (at 1 20 1 ∷ []))
 
 abbrev brought_table : List (List ℕ × List ℕ)
@@ -197,7 +197,7 @@ brought = printed (both (has 0 (at 1 20 1 ∷ [])) (has 0 (at 1 8 2 ∷ at 1 9 2
 
 -- ---- what a frame brought is forgotten too
 
-abbrev entry_frame : FrameRecord
+abbrev entry_frame : MessageRecord
 entry_frame = References 1 (kept 0 (at 1 10 1 ∷ []))
 
 abbrev sent_then_forgotten_table : List (List ℕ × List ℕ)
@@ -241,8 +241,8 @@ sent_then_forgotten = printed (both (has 0 []) (has 0 []) []) (both (has 0 (at 1
 -- ---- Digests and a request bring a horizon too. Replica 1 then sends its digests, which differ from those of nothing in bucket 1 alone:
 -- replica 2 has nothing to send and requests that bucket, and replica 1, which hears of the horizon with the request, forgets the page.
 
-abbrev request_frame : FrameRecord
-request_frame = Mask 2 50 2
+abbrev request_frame : MessageRecord
+request_frame = Request 2 50 2
 
 abbrev requested_table : List (List ℕ × List ℕ)
 requested_table =
@@ -252,19 +252,19 @@ requested_table =
     ∷ (codes "horizon 1 0", codes "horizon 50\n")
     ∷ []
 
-requested : (digests : List (List ℕ)) → IsDiffering digests (holding_since 50 []) 2 → Printed (both (has 0 (at 1 10 1 ∷ [])) (has 50 (at 1 10 1 ∷ [])) (entry_frame ∷ Sums 1 0 digests ∷ [])) (codes "deliver 2 2\ndeliver 1 3\nshow 1\nhorizon 1 0") (codes "took 1 from 3\ntook 0\nend 0\nhorizon 50\n") (both (has 50 (at 1 10 1 ∷ [])) (has 50 (at 1 10 1 ∷ [])) (entry_frame ∷ Sums 1 0 digests ∷ request_frame ∷ []))
+requested : (digests : List (List ℕ)) → IsDiffering digests (holding_since 50 []) 2 → Printed (both (has 0 (at 1 10 1 ∷ [])) (has 50 (at 1 10 1 ∷ [])) (entry_frame ∷ Digests 1 0 digests ∷ [])) (codes "deliver 2 2\ndeliver 1 3\nshow 1\nhorizon 1 0") (codes "took 1 from 3\ntook 0\nend 0\nhorizon 50\n") (both (has 50 (at 1 10 1 ∷ [])) (has 50 (at 1 10 1 ∷ [])) (entry_frame ∷ Digests 1 0 digests ∷ request_frame ∷ []))
 unfolding meaning line_of commands words number_up_to number_field deliver_of horizon_of show_of history buckets_in digits
-requested digests differ = printed (both (has 0 (at 1 10 1 ∷ [])) (has 50 (at 1 10 1 ∷ [])) (entry_frame ∷ Sums 1 0 digests ∷ [])) (both (has 50 (at 1 10 1 ∷ [])) (has 50 (at 1 10 1 ∷ [])) (entry_frame ∷ Sums 1 0 digests ∷ request_frame ∷ [])) 1 requested_table (
-  both (has 0 (at 1 10 1 ∷ [])) (has 50 (at 1 10 1 ∷ [])) (entry_frame ∷ Sums 1 0 digests ∷ request_frame ∷ []),
+requested digests differ = printed (both (has 0 (at 1 10 1 ∷ [])) (has 50 (at 1 10 1 ∷ [])) (entry_frame ∷ Digests 1 0 digests ∷ [])) (both (has 50 (at 1 10 1 ∷ [])) (has 50 (at 1 10 1 ∷ [])) (entry_frame ∷ Digests 1 0 digests ∷ request_frame ∷ [])) 1 requested_table (
+  both (has 0 (at 1 10 1 ∷ [])) (has 50 (at 1 10 1 ∷ [])) (entry_frame ∷ Digests 1 0 digests ∷ request_frame ∷ []),
   inl (Took 1 3, (record { replica_there = number 2 _ (omega arith) (omega arith); worker_there = tt; frame_there = number 2 _ (omega arith) (omega arith) }, record { added = request_frame ∷ []; answers = (2, omega arith, differ, refl); many = refl; from = refl; becomes = refl }), refl),
   (
-    both (has 50 (at 1 10 1 ∷ [])) (has 50 (at 1 10 1 ∷ [])) (entry_frame ∷ Sums 1 0 digests ∷ request_frame ∷ []),
+    both (has 50 (at 1 10 1 ∷ [])) (has 50 (at 1 10 1 ∷ [])) (entry_frame ∷ Digests 1 0 digests ∷ request_frame ∷ []),
     inl (Took 0 0, (record { replica_there = number 1 _ (omega arith) (omega arith); worker_there = tt; frame_there = number 3 _ (omega arith) (omega arith) }, record { added = []; answers = refl; many = refl; from = refl; becomes = refl }), refl),
     (
-      both (has 50 (at 1 10 1 ∷ [])) (has 50 (at 1 10 1 ∷ [])) (entry_frame ∷ Sums 1 0 digests ∷ request_frame ∷ []),
+      both (has 50 (at 1 10 1 ∷ [])) (has 50 (at 1 10 1 ∷ [])) (entry_frame ∷ Digests 1 0 digests ∷ request_frame ∷ []),
       inl (Shown (holding_since 50 []), (record { replica_there = number 1 _ (omega arith) (omega arith); worker_there = tt; frame_there = tt }, (refl, refl)), refl),
       (
-        both (has 50 (at 1 10 1 ∷ [])) (has 50 (at 1 10 1 ∷ [])) (entry_frame ∷ Sums 1 0 digests ∷ request_frame ∷ []),
+        both (has 50 (at 1 10 1 ∷ [])) (has 50 (at 1 10 1 ∷ [])) (entry_frame ∷ Digests 1 0 digests ∷ request_frame ∷ []),
         inl (Kept 50, (record { replica_there = number 1 _ (omega arith) (omega arith); worker_there = tt; frame_there = tt }, (refl, refl)), refl),
         refl,
       ),
@@ -284,7 +284,7 @@ knows given = one small (kept 0 given) []
 abbrev wide_reference : Reference
 wide_reference = at 4294967296 5 1
 
-abbrev wide_frame : FrameRecord
+abbrev wide_frame : MessageRecord
 wide_frame = References 1 (kept 0 (wide_reference ∷ []))
 
 abbrev wide_table : List (List ℕ × List ℕ)

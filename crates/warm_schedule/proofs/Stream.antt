@@ -13,7 +13,7 @@ use Rattle.warm_schedule.specs.Text.{IsLine, split, lines}
 use Rattle.warm_schedule.specs.Grammar.{meaning}
 use Rattle.warm_schedule.specs.Printed.{Answered, PrintedFrom, Played, EndsIn}
 use Rattle.warm_schedule.specs.Reading.{Reads, PutsBytes, IsPut}
-use Rattle.warm_schedule.specs.Stream.{SessionSeen, HoldsLine, Holds, AddsBytes, AnswersLine, Goes, Settles, PrintsLast, Ends}
+use Rattle.warm_schedule.specs.Stream.{SessionView, HoldsLine, Holds, AddsBytes, AnswersLine, Goes, Settles, PrintsLast, Ends}
 use Rattle.warm_schedule.specs.declared.parse.TheConstants.{MAX_LINE}
 use Rattle.warm_world.specs.States.{ModelState, nobody, no_pool, pool_of, replica}
 use Rattle.warm_pool.specs.View.{PoolView}
@@ -24,7 +24,7 @@ use Rattle.warm_gossip.specs.Step.{IsFailed}
 use Rattle.warm_gossip.specs.declared.fault.NodeFault.{NodeFault}
 use Rattle.warm_history.specs.Histories.{holding}
 use Rattle.warm_world.specs.Stands.{StandsFor, Steps, ReplicaStands}
-use Rattle.warm_world.specs.Seen.{ReplicaSeen, WorldSeen}
+use Rattle.warm_world.specs.Views.{ReplicaView, WorldView}
 use Rattle.warm_gossip.specs.declared.fault.NodeFault.TheVariants as node_fault
 use Rattle.warm_world.specs.declared.event.WorldFault.TheVariants.{Node}
 use Rattle.warm_schedule.specs.declared.parse.Line.{Line}
@@ -70,7 +70,7 @@ take_least room piece = elim (cases_lt room (length piece)) [
 ]
 
 -- bytes are held as they come, as far as there is room
-pub adds_held : (a b : SessionSeen) (piece : List ℕ) (room kept : ℕ) → IsLine piece → b.world ≡ a.world → b.number ≡ a.number → room ≡ MAX_LINE + 1 - length a.held → kept ≡ min (length piece) room
+pub adds_held : (a b : SessionView) (piece : List ℕ) (room kept : ℕ) → IsLine piece → b.world ≡ a.world → b.number ≡ a.number → room ≡ MAX_LINE + 1 - length a.held → kept ≡ min (length piece) room
     → b.held ≡ a.held ++ take kept piece → AddsBytes a piece b
 adds_held a b piece room kept more world number left least held =
     let taken : take kept piece ≡ take (MAX_LINE + 1 - length a.held) piece = ap (λ (n : ℕ). take n piece) least ∙ take_least room piece ∙ ap (λ (n : ℕ). take n piece) left in
@@ -164,11 +164,11 @@ line_last (c ∷ cs) h =
 
 -- ---- the session
 
-pub Goes-none : (s : SessionSeen) → Goes s [] [] s
+pub Goes-none : (s : SessionView) → Goes s [] [] s
 unfolding Goes
 Goes-none s = λ state begun h. (state, begun, h, λ tail rest last printed. printed)
 
-pub Goes-then : (a b c : SessionSeen) (x y o q : List ℕ) → Goes a x o b → Goes b y q c → Goes a (x ++ y) (o ++ q) c
+pub Goes-then : (a b c : SessionView) (x y o q : List ℕ) → Goes a x o b → Goes b y q c → Goes a (x ++ y) (o ++ q) c
 unfolding Goes
 Goes-then a b c x y o q ab bc = λ state begun h.
     let first = ab state begun h in
@@ -182,11 +182,11 @@ Goes-then a b c x y o q ab bc = λ state begun h.
     )
 
 -- the same world
-stands_too : (a b : WorldSeen) (state : ModelState) → b ≡ a → StandsFor a state → StandsFor b state
-stands_too a b state same stands = subst (λ (w : WorldSeen). StandsFor w state) (sym same) stands
+stands_too : (a b : WorldView) (state : ModelState) → b ≡ a → StandsFor a state → StandsFor b state
+stands_too a b state same stands = subst (λ (w : WorldView). StandsFor w state) (sym same) stands
 
 -- bytes that belong to the line
-pub Goes-add : (a b : SessionSeen) (bytes : List ℕ) → AddsBytes a bytes b → Goes a bytes [] b
+pub Goes-add : (a b : SessionView) (bytes : List ℕ) → AddsBytes a bytes b → Goes a bytes [] b
 unfolding Goes
 Goes-add a b bytes adds = λ state begun h. (
   state,
@@ -206,18 +206,18 @@ said_so : (old : ModelState) (number : ℕ) (read said : Option Line) (out : Lis
 said_so old number read said out new e answered = subst (λ (o : Option Line). Answered old number o out new) e answered
 
 -- the line that has begun and ends with these bytes was answered by this
-abbrev pub AnswersBegun : SessionSeen → List ℕ → List ℕ → WorldSeen → Type 0
+abbrev pub AnswersBegun : SessionView → List ℕ → List ℕ → WorldView → Type 0
 AnswersBegun old piece out world = (state : ModelState) (begun : List ℕ) → Holds old state begun
     → (next : ModelState) × StandsFor world next × Answered state old.number (meaning (begun ++ piece)) out next
 
 -- a line that stands whole in its last bytes
-pub answers_whole : (a : SessionSeen) (piece out : List ℕ) (w : WorldSeen) → length a.held ≡ 0 → AnswersLine a.world a.number piece out w → AnswersBegun a piece out w
+pub answers_whole : (a : SessionView) (piece out : List ℕ) (w : WorldView) → length a.held ≡ 0 → AnswersLine a.world a.number piece out w → AnswersBegun a piece out w
 answers_whole a piece out w none answered = λ state begun h.
     let next = answered state h.stands in
     (next.0, next.1, rw (none_begun a.held begun none h.begun) next.2)
 
 -- a line that is held when its last bytes have come
-pub answers_held : (a b : SessionSeen) (piece out : List ℕ) (w : WorldSeen) → AddsBytes a piece b → AnswersLine b.world b.number b.held out w → AnswersBegun a piece out w
+pub answers_held : (a b : SessionView) (piece out : List ℕ) (w : WorldView) → AddsBytes a piece b → AnswersLine b.world b.number b.held out w → AnswersBegun a piece out w
 answers_held a b piece out w adds answered = λ state begun h.
     let next = answered state (stands_too a.world b.world state adds.world h.stands) in
     let means : meaning b.held ≡ meaning (begun ++ piece) = says b.held (begun ++ piece) (adds.begun begun h.begun) in
@@ -225,7 +225,7 @@ answers_held a b piece out w adds answered = λ state begun h.
     (next.0, next.1, said_so state a.number (meaning b.held) (meaning (begun ++ piece)) out next.0 means numbered)
 
 -- the end of a line
-pub Goes-end : (a b : SessionSeen) (piece out : List ℕ) → IsLine piece → AnswersBegun a piece out b.world → b.number ≡ a.number + 1 → b.held ≡ [] → Goes a (piece ++ 10 ∷ []) out b
+pub Goes-end : (a b : SessionView) (piece out : List ℕ) → IsLine piece → AnswersBegun a piece out b.world → b.number ≡ a.number + 1 → b.held ≡ [] → Goes a (piece ++ 10 ∷ []) out b
 unfolding Goes
 Goes-end a b piece out line answered number none = λ state begun h.
     let next = answered state begun h in
@@ -241,7 +241,7 @@ Goes-end a b piece out line answered number none = λ state begun h.
 -- ---- a line, answered
 
 -- the same line is answered the same
-pub answers_same : (w v : WorldSeen) (number : ℕ) (line other out : List ℕ) → line ≡ other → AnswersLine w number line out v → AnswersLine w number other out v
+pub answers_same : (w v : WorldView) (number : ℕ) (line other out : List ℕ) → line ≡ other → AnswersLine w number line out v → AnswersLine w number other out v
 answers_same w v number line other out same answered = subst (λ (xs : List ℕ). AnswersLine w number xs out v) same answered
 
 module _ (line : List ℕ) (read : Result Line LineFault) (reads : Reads PutsBytes (meaning line) read) where
@@ -259,14 +259,14 @@ module _ (line : List ℕ) (read : Result Line LineFault) (reads : Reads PutsByt
       let put = read_put (meaning line) (read_as (Err Memory) is) in
       (put.0, sym put.1, put.2)
 
-module _ (world : WorldSeen) (number : ℕ) (line : List ℕ) where
+module _ (world : WorldView) (number : ℕ) (line : List ℕ) where
   pub answers_bad : None ≡ meaning line → AnswersLine world number line (bad_line number) world
   answers_bad means = λ state stands. (state, stands, said_so state number None _ _ state means (refl, refl))
 
   pub answers_nothing : Some Nothing ≡ meaning line → AnswersLine world number line [] world
   answers_nothing means = λ state stands. (state, stands, said_so state number (Some Nothing) _ _ state means (refl, refl))
 
-  pub answers_event : (event : Event) (answer : Answer) (w : WorldSeen) → Some (Act event) ≡ meaning line → Steps world event answer w → AnswersLine world number line (answer_text answer) w
+  pub answers_event : (event : Event) (answer : Answer) (w : WorldView) → Some (Act event) ≡ meaning line → Steps world event answer w → AnswersLine world number line (answer_text answer) w
   answers_event event answer w means steps = λ state stands.
       let step = steps state stands in
       (step.new, step.stands, said_so state number (Some (Act event)) _ _ step.new means (inl (answer, step.next, refl)))
@@ -275,7 +275,7 @@ module _ (world : WorldSeen) (number : ℕ) (line : List ℕ) where
   answers_no_room put = λ state stands. (state, stands, said_so state number (Some (Act put.0)) _ _ state put.1 (inr (put.2, refl, refl)))
 
 -- the last line is answered, and then it is the end
-pub Ends-answer : (a : SessionSeen) (out more : List ℕ) (w : WorldSeen) → AnswersLine a.world a.number a.held out w → Settles w more → Ends a (out ++ more)
+pub Ends-answer : (a : SessionView) (out more : List ℕ) (w : WorldView) → AnswersLine a.world a.number a.held out w → Settles w more → Ends a (out ++ more)
 unfolding Ends
 Ends-answer a out more w answered settles = λ state begun h.
     let next = answered state h.stands in
@@ -284,10 +284,10 @@ Ends-answer a out more w answered settles = λ state begun h.
     (out, next.0, printed, settles next.0 out next.1)
 
 -- the devices did not take what waited for them
-pub settles_ill : (old new : WorldSeen) (why : NodeFault) → FinishFails old why new → Settles old end_refused
+pub settles_ill : (old new : WorldView) (why : NodeFault) → FinishFails old why new → Settles old end_refused
 settles_ill old new why fails = λ m answers stands.
     let k : ℕ = fails.1.replica in
-    let none : ReplicaSeen = record { node = record { id = 0; history = holding []; pool = no_pool }; buffers = [] } in
+    let none : ReplicaView = record { node = record { id = 0; history = holding []; pool = no_pool }; buffers = [] } in
     let there : k < length m.replicas = omega (arith, fails.1.there, stands.replicas.same_length) in
     let here : ReplicaStands m.room k (get_or old.replicas k none) (replica m k) = stands.replicas.each k none nobody fails.1.there in
     let at : place (k + 1) ≡ k = omega arith in
@@ -305,7 +305,7 @@ settles_ill old new why fails = λ m answers stands.
     )
 
 -- the same bytes
-pub Goes-bytes : (a b : SessionSeen) (x y out : List ℕ) → x ≡ y → Goes a x out b → Goes a y out b
+pub Goes-bytes : (a b : SessionView) (x y out : List ℕ) → x ≡ y → Goes a x out b → Goes a y out b
 Goes-bytes a b x y out same goes = subst (λ (bytes : List ℕ). Goes a bytes out b) same goes
 
 -- what was printed before is printed first
@@ -314,7 +314,7 @@ ends_after m first answers out (inl same) = inl (ap (λ (xs : List ℕ). first +
 ends_after m first answers out (inr refused) = inr (refused.0, ap (λ (xs : List ℕ). first ++ xs) refused.1 ∙ sym (append_assoc first answers end_refused))
 
 -- a session that was fresh and came to the end of the input
-pub Goes-whole : (a b : SessionSeen) (state : ModelState) (bytes out last : List ℕ) → Goes a bytes out b → Ends b last → Holds a state [] → a.number ≡ 1 → Played state bytes (out ++ last)
+pub Goes-whole : (a b : SessionView) (state : ModelState) (bytes out last : List ℕ) → Goes a bytes out b → Ends b last → Holds a state [] → a.number ≡ 1 → Played state bytes (out ++ last)
 unfolding Goes Ends
 Goes-whole a b state bytes out last goes ends fresh first =
     let g = goes state [] fresh in

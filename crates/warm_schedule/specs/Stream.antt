@@ -1,7 +1,7 @@
 -- A schedule that is read piece by piece.
 use Rattle.std.specs.Prelude.{◌≡◌, ℕ, ◌+◌, List, [], ◌++◌, take}
 use Rattle.warm_world.specs.States.{ModelState}
-use Rattle.warm_world.specs.Seen.{WorldSeen, seen}
+use Rattle.warm_world.specs.Views.{WorldView, world_view}
 use Rattle.warm_world.specs.Stands.{StandsFor}
 use Rattle.warm_schedule.specs.Text.{IsLine, lines}
 use Rattle.warm_schedule.specs.Grammar.{meaning}
@@ -10,14 +10,14 @@ use Rattle.warm_schedule.specs.declared.parse.TheConstants.{MAX_LINE}
 use Rattle.warm_schedule.specs.declared.player.Session.{Session}
 
 -- what contracts see of a session: its world, the number of the line that has begun, and of its bytes those that are held
-pub record SessionSeen : Type 0 where
-  pub world : WorldSeen
+pub record SessionView : Type 0 where
+  pub world : WorldView
   pub number : ℕ
   pub held : List ℕ
 
 -- how it is read off a session
-abbrev pub session : {D : Type 0} → Session D → SessionSeen
-session s = record { world = seen s.world; number = s.number; held = s.line.items }
+abbrev pub session : {D : Type 0} → Session D → SessionView
+session s = record { world = world_view s.world; number = s.number; held = s.line.items }
 
 -- the line that has begun, of which no more is held than makes it too long
 pub record HoldsLine (held line : List ℕ) : Type 0 where
@@ -25,36 +25,36 @@ pub record HoldsLine (held line : List ℕ) : Type 0 where
   pub is_line : IsLine line
 
 -- the session's world stands for this state, and this line has begun
-pub record Holds (s : SessionSeen) (state : ModelState) (line : List ℕ) : Type 0 where
+pub record Holds (s : SessionView) (state : ModelState) (line : List ℕ) : Type 0 where
   pub stands : StandsFor s.world state
   pub begun : HoldsLine s.held line
 
 -- a world in this state, before the first line
-pub record IsFresh (s : SessionSeen) (state : ModelState) : Type 0 where
+pub record IsFresh (s : SessionView) (state : ModelState) : Type 0 where
   pub holds : Holds s state []
   pub first : s.number ≡ 1
 
 -- the line that has begun goes on with these bytes
-pub record AddsBytes (old : SessionSeen) (bytes : List ℕ) (new : SessionSeen) : Type 0 where
+pub record AddsBytes (old : SessionView) (bytes : List ℕ) (new : SessionView) : Type 0 where
   pub begun : (line : List ℕ) → HoldsLine old.held line → HoldsLine new.held (line ++ bytes)
   pub world : new.world ≡ old.world
   pub number : new.number ≡ old.number
 
 -- the line of this number was answered by this, and the world stands for the state that follows
-abbrev pub AnswersLine : WorldSeen → ℕ → List ℕ → List ℕ → WorldSeen → Type 0
+abbrev pub AnswersLine : WorldView → ℕ → List ℕ → List ℕ → WorldView → Type 0
 AnswersLine old number line out new = (state : ModelState) → StandsFor old state
     → (next : ModelState) × StandsFor new next × Answered state number (meaning line) out next
 
 -- The session took these bytes and printed this: whatever may be printed for the rest completes what may be printed for
 -- all.
-unfoldable pub Goes : SessionSeen → List ℕ → List ℕ → SessionSeen → Type 0
+unfoldable pub Goes : SessionView → List ℕ → List ℕ → SessionView → Type 0
 Goes old bytes out new = (state : ModelState) (begun : List ℕ) → Holds old state begun
     → (next : ModelState) × (line : List ℕ) × Holds new next line
     × ((tail rest : List ℕ) (last : ModelState) → PrintedFrom next new.number (lines (line ++ tail)) rest last
     → PrintedFrom state old.number (lines (begun ++ (bytes ++ tail))) (out ++ rest) last)
 
 -- the end of a play whose world is this one prints this after the answers
-abbrev pub Settles : WorldSeen → List ℕ → Type 0
+abbrev pub Settles : WorldView → List ℕ → Type 0
 Settles world out = (state : ModelState) (answers : List ℕ) → StandsFor world state → EndsIn state answers (answers ++ out)
 
 -- what is printed for the line that has begun and for the end
@@ -63,5 +63,5 @@ PrintsLast state number line out =
     (answers : List ℕ) × (last : ModelState) × PrintedFrom state number (lines line) answers last × EndsIn last answers out
 
 -- The input has ended, and the session printed this for the line that had begun, and for the end.
-unfoldable pub Ends : SessionSeen → List ℕ → Type 0
+unfoldable pub Ends : SessionView → List ℕ → Type 0
 Ends s out = (state : ModelState) (begun : List ℕ) → Holds s state begun → PrintsLast state s.number begun out

@@ -4,7 +4,7 @@ ghost use Rattle.std.specs.Io.KnownBytes.{Appends, Keeps, Consumes, IsAtEnd};
 ghost use Rattle.warm_world.specs.States.{ModelState, opening};
 ghost use Rattle.warm_play_fault.specs.declared.PlayFault.TheVariants.{BadDevices};
 ghost use Rattle.warm_world.specs.Opening.{AreFew, AreFitting};
-ghost use Rattle.warm_world.specs.Seen.{IsAtRest, listed, seen};
+ghost use Rattle.warm_world.specs.Views.{IsAtRest, listed, world_view};
 ghost use Rattle.warm_world.specs.Stands.{StandsFor};
 ghost use Rattle.warm_schedule.specs.Text.{IsLine};
 ghost use Rattle.warm_schedule.specs.Printed.{Played};
@@ -71,8 +71,8 @@ impl<D: PageDevice> Session<D> {
     fn answer<W: Write>(&mut self, line: &[u8], writer: &mut W) -> Result<(), PlayFault>
         ensures answered { OnOk result ((out : List ℕ)
             × Appends (W.contents writer.old) (W.contents writer.new) out
-            × AnswersLine (seen self.old.world) self.old.number line.now out
-            (seen self.new.world)) }
+            × AnswersLine (world_view self.old.world) self.old.number line.now out
+            (world_view self.new.world)) }
         ensures number { self.new.number ≡ self.old.number }
         ensures held { self.new.line ≡ self.old.line }
     {
@@ -99,8 +99,8 @@ impl<D: PageDevice> Session<D> {
     fn answer_held<W: Write>(&mut self, writer: &mut W) -> Result<(), PlayFault>
         ensures answered { OnOk result ((out : List ℕ)
             × Appends (W.contents writer.old) (W.contents writer.new) out
-            × AnswersLine (seen self.old.world) self.old.number self.old.line.items out
-            (seen self.new.world)) }
+            × AnswersLine (world_view self.old.world) self.old.number self.old.line.items out
+            (world_view self.new.world)) }
         ensures number { self.new.number ≡ self.old.number }
         ensures none { OnOk result (self.new.line.items ≡ []) }
     {
@@ -153,7 +153,7 @@ impl<D: PageDevice> Session<D> {
     fn settle<W: Write>(&mut self, writer: &mut W) -> Result<(), PlayFault>
         ensures { OnOk result ((out : List ℕ)
             × Appends (W.contents writer.old) (W.contents writer.new) out
-            × Settles (seen self.old.world) out
+            × Settles (world_view self.old.world) out
             × (out ≡ [] → IsAtRest self.new.world)) }
     {
         match self.world.finish() {

@@ -1,6 +1,6 @@
 pub mod SetupFaults
-pub mod SetupSeen
+pub mod SetupView
 pub mod Setups
 pub mod Words
-pub mod WordsSeen
+pub mod WordsView
 pub mod Endings

@@ -7,7 +7,7 @@ ghost use Rattle.clap.specs.Faults.{fault_of};
 ghost use Rattle.clap.specs.declared.builder.Command.TheViews.{out-Command};
 ghost use Rattle.warm_setup.specs.Endings.{command_fault_code, command_fault_name};
 ghost use Rattle.warm_setup.specs.Words.{with_play, line_by_line, setup, number, number_of, play, random, random_by, threads, threads_by, warmplay, command_by, Answers, IsRefusal};
-ghost use Rattle.warm_setup.specs.WordsSeen.{command_for};
+ghost use Rattle.warm_setup.specs.WordsView.{command_for};
 
 use crate::path::PathText;
 use clap::builder::ValueParser;
@@ -88,7 +88,7 @@ impl From<AllocError> for CmdFault {
 
 // clap's want of memory is the program's own.
 impl From<clap::Error> for CmdFault {
-    ghost use Rattle.warm_setup.specs.WordsSeen.{IsFaultOf};
+    ghost use Rattle.warm_setup.specs.WordsView.{IsFaultOf};
 
     ghost from_gives = { IsFaultOf };
 

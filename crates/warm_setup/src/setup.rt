@@ -12,7 +12,7 @@ ghost use Rattle.toml.specs.View.{view, table_view};
 ghost use Rattle.warm_world.specs.Limits.{IsWithin};
 ghost use Rattle.warm_setup.specs.SetupFaults.{Gives, code_of, name_of};
 ghost use Rattle.warm_setup.specs.Setups.{number_to, text_in, with_device_key, device_in, devices_of, devices_in, with_key, setup_of, setup_in, key_by_key, no_fields, each, is_table, defaults};
-ghost use Rattle.warm_setup.specs.SetupSeen.{fields_of, settings_of, setup_and_devices, AreWithin};
+ghost use Rattle.warm_setup.specs.SetupView.{fields_of, settings_of, setup_and_devices, AreWithin};
 
 use crate::path::PathText;
 use std::alloc::{AllocError, AllocFailed, Global};

@@ -25,9 +25,9 @@ has_numbers s i w there =
     (leb-true 1 i replica.0, leb-true i s.replicas replica.1, leb-true 1 w worker.0, leb-true w s.workers worker.1)
 
 -- what is asked last is planned last
-plan_asks_more : (cap : ℕ) (p : Planned) (before : List (Option Reference)) (a : Option Reference) → plan_asks cap p (before ++ a ∷ []) ≡ plan_ask cap (plan_asks cap p before) a
-plan_asks_more cap p [] a = refl
-plan_asks_more cap p (b ∷ bs) a = plan_asks_more cap (plan_ask cap p b) bs a
+plan_asks_more : (capacity : ℕ) (p : Planned) (before : List (Option Reference)) (a : Option Reference) → plan_asks capacity p (before ++ a ∷ []) ≡ plan_ask capacity (plan_asks capacity p before) a
+plan_asks_more capacity p [] a = refl
+plan_asks_more capacity p (b ∷ bs) a = plan_asks_more capacity (plan_ask capacity p b) bs a
 
 -- one ask alone
 one_asked : (i w : ℕ) (a : Ask) (there : Bool) → is_of i w a ≡ there → asked_of i w (a ∷ []) ≡ cond there (a.reference ∷ []) []
@@ -94,7 +94,7 @@ jobs_of_plans s asks plans jobs shape are do_them = record {
 }
   where
     job_of : (i w : ℕ) (plan : Planned) (job : Job) → DoesPlan s.buffer plan job → plan ≡ plan_of s asks i w → IsJobOf s asks i w job
-    job_of i w plan job does same = record { cap = does.cap_is; steps = rw same at does.steps }
+    job_of i w plan job does same = record { capacity = does.cap_is; steps = rw same at does.steps }
 
 -- plans of one replica more, of whose workers nothing is asked
 pub plans_begin : (s : Sizes) (n : ℕ) (plans new : List (Vec Planned)) (list : Vec Planned) → new ≡ plans ++ list ∷ [] → list.items ≡ replicate n nothing_planned → ArePlansOf s [] plans → ArePlansOf s [] new

@@ -18,12 +18,12 @@ plan_reference p false r = record { steps = p.steps ++ Flush ∷ Touch r ∷ [];
 
 -- the steps for one more reference, or for a flush
 abbrev pub plan_ask : ℕ → Planned → Option Reference → Planned
-plan_ask cap p (Some r) = plan_reference p (nat_lt p.held cap) r
-plan_ask cap p None = record { steps = p.steps ++ Flush ∷ []; held = 0 }
+plan_ask capacity p (Some r) = plan_reference p (nat_lt p.held capacity) r
+plan_ask capacity p None = record { steps = p.steps ++ Flush ∷ []; held = 0 }
 
 abbrev pub plan_asks : ℕ → Planned → List (Option Reference) → Planned
-plan_asks cap p [] = p
-plan_asks cap p (a ∷ rest) = plan_asks cap (plan_ask cap p a) rest
+plan_asks capacity p [] = p
+plan_asks capacity p (a ∷ rest) = plan_asks capacity (plan_ask capacity p a) rest
 
 -- something is asked of this worker of this replica
 abbrev pub is_of : ℕ → ℕ → Ask → Bool
@@ -47,18 +47,18 @@ abbrev pub ArePlansOf : Sizes → List Ask → List (Vec Planned) → Type 0
 ArePlansOf s asks plans = Numbered (λ i list. Numbered (λ w plan. plan ≡ plan_of s asks i w) list.items) plans
 
 -- a job that does what is planned, and flushes last
-pub record DoesPlan (cap : ℕ) (plan : Planned) (job : Job) : Type 0 where
-  pub cap_is : job.cap ≡ cap
+pub record DoesPlan (capacity : ℕ) (plan : Planned) (job : Job) : Type 0 where
+  pub cap_is : job.capacity ≡ capacity
   pub steps : job.steps.items ≡ plan.steps ++ Flush ∷ []
 
 -- jobs that do so, worker by worker and replica by replica
 abbrev pub DoPlans : ℕ → List (Vec Planned) → List (Vec Job) → Type 0
-DoPlans cap plans jobs = Pairs (λ ps js. Pairs (DoesPlan cap) ps.items js.items) plans jobs
+DoPlans capacity plans jobs = Pairs (λ ps js. Pairs (DoesPlan capacity) ps.items js.items) plans jobs
 
 -- The job of a worker of a replica: its buffer is as large as the setup says. It does what is asked of the worker, in its order, where a
 -- full buffer is flushed before a further reference, and it flushes last.
 pub record IsJobOf (s : Sizes) (asks : List Ask) (i w : ℕ) (job : Job) : Type 0 where
-  pub cap : job.cap ≡ s.buffer
+  pub capacity : job.capacity ≡ s.buffer
   pub steps : job.steps.items ≡ (plan_of s asks i w).steps ++ Flush ∷ []
 
 -- a list of jobs for each replica, in each the job of each worker; replicas and workers are counted from 1

@@ -47,7 +47,7 @@ fn work_one<M: Absorbing + Send + Drop, R: Threads + Wait + Sync>(
 ) -> Result<Knowing<M>, PlayFault>
     requires { length crew.jobs.items ≤ MAX_JOBS }
     ensures { IfOk result
-        (λ k. Works M.goes crew.jobs.items (M.meaning crew.machine) (M.meaning k.machine)) }
+        (λ k. Works M.goes crew.jobs.items (M.view crew.machine) (M.view k.machine)) }
 {
     let Crew {
         machine,
@@ -69,7 +69,7 @@ fn send_one<M: Absorbing + Drop, R: Wait>(
     one: Knowing<M>,
 ) -> Result<Hearing<M>, PlayFault>
     ensures { IfOk result
-        (λ h. Leads M.goes (M.meaning one.machine) (M.meaning h.machine)) }
+        (λ h. Leads M.goes (M.view one.machine) (M.view h.machine)) }
 {
     let Knowing {
         machine,
@@ -89,7 +89,7 @@ fn hear_one<M: Absorbing + Drop, R: Wait>(
     alloc: Global,
     one: Hearing<M>,
 ) -> Result<M, PlayFault>
-    ensures { IfOk result (λ m. Leads M.goes (M.meaning one.machine) (M.meaning m)) }
+    ensures { IfOk result (λ m. Leads M.goes (M.view one.machine) (M.view m)) }
 {
     let Hearing {
         machine,
@@ -122,12 +122,12 @@ fn all_work<M: Absorbing + Send + Drop, R: Threads + Wait + Sync>(
 ) -> Result<Vec<Knowing<M>>, PlayFault>
     requires { All (λ c. length c.jobs.items ≤ MAX_JOBS) crews.items }
     ensures { IfOk result (λ v. Pairs (λ c k. Works M.goes c.jobs.items
-        (M.meaning c.machine) (M.meaning k.machine)) crews.items v.items) }
+        (M.view c.machine) (M.view k.machine)) crews.items v.items) }
 {
     let run = move |crew: Crew<M>| -> Result<Knowing<M>, PlayFault>
         requires { length crew.jobs.items ≤ MAX_JOBS }
         ensures { IfOk result (λ k. Works M.goes crew.jobs.items
-            (M.meaning crew.machine) (M.meaning k.machine)) }
+            (M.view crew.machine) (M.view k.machine)) }
     { work_one(rt, alloc, crew) };
     let Ok(done) = thread::map_vec(rt, crews, &run) else {
         return Err(PlayFault::Memory);
@@ -142,10 +142,10 @@ fn all_send<M: Absorbing + Send + Drop, R: Threads + Wait + Sync>(
     knowing: Vec<Knowing<M>>,
 ) -> Result<Vec<Hearing<M>>, PlayFault>
     ensures { IfOk result (λ v. Pairs (λ k h. Leads M.goes
-        (M.meaning k.machine) (M.meaning h.machine)) knowing.items v.items) }
+        (M.view k.machine) (M.view h.machine)) knowing.items v.items) }
 {
     let run = move |one: Knowing<M>| -> Result<Hearing<M>, PlayFault>
-        ensures { IfOk result (λ h. Leads M.goes (M.meaning one.machine) (M.meaning h.machine)) }
+        ensures { IfOk result (λ h. Leads M.goes (M.view one.machine) (M.view h.machine)) }
     { send_one(rt, alloc, one) };
     let Ok(done) = thread::map_vec(rt, knowing, &run) else {
         return Err(PlayFault::Memory);
@@ -160,10 +160,10 @@ fn all_hear<M: Absorbing + Send + Drop, R: Threads + Wait + Sync>(
     hearing: Vec<Hearing<M>>,
 ) -> Result<Vec<M>, PlayFault>
     ensures { IfOk result (λ v. Pairs (λ h m. Leads M.goes
-        (M.meaning h.machine) (M.meaning m)) hearing.items v.items) }
+        (M.view h.machine) (M.view m)) hearing.items v.items) }
 {
     let run = move |one: Hearing<M>| -> Result<M, PlayFault>
-        ensures { IfOk result (λ m. Leads M.goes (M.meaning one.machine) (M.meaning m)) }
+        ensures { IfOk result (λ m. Leads M.goes (M.view one.machine) (M.view m)) }
     { hear_one(rt, alloc, one) };
     let Ok(done) = thread::map_vec(rt, hearing, &run) else {
         return Err(PlayFault::Memory);
@@ -249,8 +249,8 @@ pub(crate) fn run_all<M: Absorbing + Send + Drop, R: Threads + Wait + Sync>(
 ) -> Result<Vec<M>, PlayFault>
     requires each { length jobs.items ≡ length machines.items }
     requires few { All (λ list. length list.items ≤ MAX_JOBS) jobs.items }
-    ensures { IfOk result (λ v. Went M.goes (map M.meaning machines.items) jobs.items
-        (map M.meaning v.items)) }
+    ensures { IfOk result (λ v. Went M.goes (map M.view machines.items) jobs.items
+        (map M.view v.items)) }
 {
     let Ok(crews) = crews_of(alloc, machines, jobs) else {
         return Err(PlayFault::Memory);

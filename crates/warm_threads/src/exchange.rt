@@ -5,7 +5,7 @@ ghost use Rattle.warm_threads.specs.Works.{Leads};
 use crossbeam_channel::{Receiver, Sender};
 use std::alloc::Global;
 use std::sync::Wait;
-use warm_frames::{Frame, MAX_ENTRIES, encode};
+use warm_frames::{MAX_ENTRIES, Message, encode};
 use warm_gossip::{Call, Reply};
 use warm_play_fault::PlayFault;
 use warm_refbuffer::RefBuffer;
@@ -45,9 +45,9 @@ fn post_stops<R: Wait>(rt: &R, boxes: &[Sender<Mail>]) -> Result<(), PlayFault> 
     Ok(())
 }
 
-// The page after which more of the bucket may follow: the last one of a frame that is full. `None` where nothing follows.
-fn next_after(frame: &Frame) -> Option<PageId> {
-    let Frame::Entries { entries, .. } = frame else {
+// The page after which more of the bucket may follow: the last one of a message that is full. `None` where nothing follows.
+fn next_after(message: &Message) -> Option<PageId> {
+    let Message::Entries { entries, .. } = message else {
         return None;
     };
     let list = entries.as_slice();
@@ -60,22 +60,22 @@ fn next_after(frame: &Frame) -> Option<PageId> {
     }
 }
 
-// Asks for a frame of a bucket's entries, after a page where there is one.
-fn asked_frame<M: Machine<Call = Call, Reply = Reply>>(
+// Asks for a message of a bucket's entries, after a page where there is one.
+fn asked_message<M: Machine<Call = Call, Reply = Reply>>(
     machine: &mut M,
     bucket: Bucket,
     after: Option<PageId>,
-) -> Result<Frame, PlayFault>
-    ensures { Leads M.goes (M.meaning machine.old) (M.meaning machine.new) }
+) -> Result<Message, PlayFault>
+    ensures { Leads M.goes (M.view machine.old) (M.view machine.new) }
 {
     let reply = machine.call(Call::Send { bucket, after });
     match reply {
-        Reply::Sent(frame) => Ok(frame),
+        Reply::Sent(message) => Ok(message),
         _ => Err(PlayFault::Memory),
     }
 }
 
-// Sends a bucket whole: each frame after the last page of the one before.
+// Sends a bucket whole: each message after the last page of the one before.
 fn send_bucket<M: Machine<Call = Call, Reply = Reply>, R: Wait>(
     rt: &R,
     alloc: Global,
@@ -83,16 +83,16 @@ fn send_bucket<M: Machine<Call = Call, Reply = Reply>, R: Wait>(
     bucket: Bucket,
     boxes: &[Sender<Mail>],
 ) -> Result<(), PlayFault>
-    ensures { Leads M.goes (M.meaning machine.old) (M.meaning machine.new) }
+    ensures { Leads M.goes (M.view machine.old) (M.view machine.new) }
 {
     let mut after = None;
     for _ in rt.forever() {
-        let frame = asked_frame(machine, bucket, after)?;
-        let Ok(bytes) = encode(alloc, &frame) else {
+        let message = asked_message(machine, bucket, after)?;
+        let Ok(bytes) = encode(alloc, &message) else {
             return Err(PlayFault::Memory);
         };
         post_bytes(rt, alloc, &bytes, boxes)?;
-        let Some(last) = next_after(&frame) else {
+        let Some(last) = next_after(&message) else {
             return Ok(());
         };
         after = Some(last);
@@ -110,7 +110,7 @@ pub(crate) fn send_all<M: Machine<Call = Call, Reply = Reply> + Drop, R: Wait>(
     machine: M,
     boxes: &[Sender<Mail>],
 ) -> Result<M, PlayFault>
-    ensures { IfOk result (λ m. Leads M.goes (M.meaning machine) (M.meaning m)) }
+    ensures { IfOk result (λ m. Leads M.goes (M.view machine) (M.view m)) }
 {
     let mut machine = machine;
     for number in 0..BUCKETS {
@@ -134,7 +134,7 @@ pub(crate) fn hear_all<M: Machine<Call = Call, Reply = Reply> + Drop, R: Wait>(
     receiver: Receiver<Mail>,
     stops: u64,
 ) -> Result<M, PlayFault>
-    ensures { IfOk result (λ m. Leads M.goes (M.meaning machine) (M.meaning m)) }
+    ensures { IfOk result (λ m. Leads M.goes (M.view machine) (M.view m)) }
 {
     let Ok(buffer) = RefBuffer::new(alloc, 1) else {
         return Err(PlayFault::Memory);
@@ -144,7 +144,7 @@ pub(crate) fn hear_all<M: Machine<Call = Call, Reply = Reply> + Drop, R: Wait>(
     };
     let mut worker = Worker::new(pass, buffer);
     let mail = MailIter::new(rt, receiver, MOST_MAIL);
-    // Entries are answered by nothing, and no replica sends another kind of frame.
+    // Entries are answered by nothing, and no replica sends another kind of message.
     let mut post = Outboxes::new(rt, Vec::new(alloc));
     let report = mail_loop(
         rt,

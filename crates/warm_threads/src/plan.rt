@@ -45,17 +45,17 @@ impl Plan {
         }
     }
 
-    // Plans one more reference, or a flush where there is none. The buffer holds `cap` references.
-    fn add(&mut self, cap: usize, asked: Option<Reference>) -> Result<(), AllocError>
-        requires { IsCapacity cap }
-        ensures { OnOk result (self.new ≡ plan_ask cap self.old asked) }
+    // Plans one more reference, or a flush where there is none. The buffer holds `capacity` references.
+    fn add(&mut self, capacity: usize, asked: Option<Reference>) -> Result<(), AllocError>
+        requires { IsCapacity capacity }
+        ensures { OnOk result (self.new ≡ plan_ask capacity self.old asked) }
     {
         let Some(reference) = asked else {
             self.steps.push(Step::Flush)?;
             self.held = 0;
             return Ok(());
         };
-        if self.held < cap {
+        if self.held < capacity {
             self.steps.push(Step::Touch(reference))?;
             self.held += 1;
             return Ok(());
@@ -71,15 +71,15 @@ impl Plan {
 fn add_to(
     list: &mut Vec<Plan>,
     at: usize,
-    cap: usize,
+    capacity: usize,
     asked: Option<Reference>,
 ) -> Result<(), AllocError>
     requires there { at < length list.old.items }
-    requires cap { IsCapacity cap }
+    requires capacity { IsCapacity capacity }
     ensures adds { OnOk result (list.new.items ≡ slice_set list.old.items at
-        (plan_ask cap (slice_index_or list.old.items at nothing_planned) asked)) }
+        (plan_ask capacity (slice_index_or list.old.items at nothing_planned) asked)) }
 {
-    list[at].add(cap, asked)?;
+    list[at].add(capacity, asked)?;
     Ok(())
 }
 
@@ -93,8 +93,8 @@ fn add_ask(plans: &mut Vec<Vec<Plan>>, setup: Setup, ask: Ask) -> Result<(), All
 {
     let replica = ask.replica as usize - 1;
     let worker = ask.worker as usize - 1;
-    let cap = setup.buffer() as usize;
-    add_to(&mut plans[replica], worker, cap, ask.reference)?;
+    let capacity = setup.buffer() as usize;
+    add_to(&mut plans[replica], worker, capacity, ask.reference)?;
     Ok(())
 }
 
@@ -177,21 +177,21 @@ fn plan_text(alloc: Global, setup: Setup, text: &[u8]) -> Result<Vec<Vec<Plan>>,
 }
 
 // The job of a worker, which flushes last.
-fn job_of(plan: Plan, cap: usize) -> Result<Job, AllocError>
-    ensures { IfOk result (λ job. DoesPlan cap plan job) }
+fn job_of(plan: Plan, capacity: usize) -> Result<Job, AllocError>
+    ensures { IfOk result (λ job. DoesPlan capacity plan job) }
 {
     let Plan { mut steps, held: _ } = plan;
     steps.push(Step::Flush)?;
-    Ok(Job { cap, steps })
+    Ok(Job { capacity, steps })
 }
 
 // The jobs of a replica.
-fn jobs_of(alloc: Global, plans: Vec<Plan>, cap: usize) -> Result<Vec<Job>, AllocError>
-    ensures { IfOk result (λ jobs. Pairs (DoesPlan cap) plans.items jobs.items) }
+fn jobs_of(alloc: Global, plans: Vec<Plan>, capacity: usize) -> Result<Vec<Job>, AllocError>
+    ensures { IfOk result (λ jobs. Pairs (DoesPlan capacity) plans.items jobs.items) }
 {
     let mut jobs = Vec::with_capacity(alloc, plans.len())?;
     for plan in plans {
-        jobs.push(job_of(plan, cap)?)?;
+        jobs.push(job_of(plan, capacity)?)?;
     }
     Ok(jobs)
 }

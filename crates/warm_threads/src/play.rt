@@ -7,7 +7,7 @@ ghost use Rattle.std.specs.Io.KnownBytes.{Appends, IsAtEnd};
 ghost use Rattle.warm_stamps.specs.declared.TheConstants.{MAX_REPLICAS};
 ghost use Rattle.warm_pool.specs.declared.TheConstants.{MAX_DEVICES};
 ghost use Rattle.warm_gossip.specs.State.{node_view};
-ghost use Rattle.warm_world.specs.Seen.{listed};
+ghost use Rattle.warm_world.specs.Views.{listed};
 ghost use Rattle.warm_schedule.specs.Answers.{Prints};
 ghost use Rattle.warm_schedule.specs.Text.{lines};
 ghost use Rattle.warm_replica.specs.declared.job.Job.{Job};
@@ -178,7 +178,7 @@ fn play_over<M: Absorbing + Send + Drop, T: Threads + Wait + Sync, R: Read>(
     ensures each { IfOk result (λ v. length v.items ≡ setup.replicas) }
     ensures went { IfOk result (λ v. (jobs : List (Vec Job))
         × IfSome (R.remaining reader.old) (λ text. AreJobsOf setup (asks setup (lines text)) jobs)
-        × Went M.goes (map M.meaning machines.items) jobs (map M.meaning v.items)) }
+        × Went M.goes (map M.view machines.items) jobs (map M.view v.items)) }
 {
     let text = read_whole(alloc, reader)?;
     let jobs = jobs_in(alloc, setup, &text)?;

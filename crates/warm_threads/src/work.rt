@@ -41,7 +41,7 @@ pub(crate) fn work<M: Absorbing + Send + Drop, R: Threads + Wait + Sync>(
 ) -> Result<M, PlayFault>
     requires few { length jobs.items ≤ MAX_JOBS }
     ensures { IfOk result
-        (λ m. Works M.goes jobs.items (M.meaning machine) (M.meaning m)) }
+        (λ m. Works M.goes jobs.items (M.view machine) (M.view m)) }
 {
     let Ok((replica, mut pass)) = Turn::new(alloc, machine) else {
         return Err(PlayFault::Memory);

@@ -63,7 +63,7 @@ module _ {X C R : Type 0} where
     serving = λ h. let z = f.serving (sym serves ∙ h) in (seen ∙ z.0, state ∙ z.1);
   }
 
-module _ {M X C R : Type 0} (meaning : M → X) (goes : X → C → R → X → Type 0) (o : X) where
+module _ {M X C R : Type 0} (view_of : M → X) (goes : X → C → R → X → Type 0) (o : X) where
   abbrev V : Type 0
   V = View X C R
 
@@ -74,7 +74,7 @@ module _ {M X C R : Type 0} (meaning : M → X) (goes : X → C → R → X → 
   Homes = List (maybe.Option (Option H))
 
   abbrev One : ℕ → Homes → List V → Type 0
-  One = OneHistory meaning goes o
+  One = OneHistory view_of goes o
 
   -- a step that changes a view alone
   pub stays : {n : ℕ} (homes : Homes) (vs : List V) (r : One n homes vs) (me : ℕ) (v w : V) → get_elem? vs me ≡ some v → v.sees ≡ true → IsRecorded o r.log r.state r.owner (set vs me w) me w → One n homes (set vs me w)
@@ -143,9 +143,9 @@ module _ {M X C R : Type 0} (meaning : M → X) (goes : X → C → R → X → 
 
   -- a pass takes the machine, and sees the history so far
   pub takes_machine : {n : ℕ} (homes : Homes) (vs : List V) (r : One n homes vs) (me : ℕ) (v : V) (h : H) → get_elem? vs me ≡ some v → v.owns ≡ true → get_elem? homes 0 ≡ some (some (Some h))
-      → One n (set homes 0 maybe.none) (set vs me (server v r.log (meaning h.machine)))
+      → One n (set homes 0 maybe.none) (set vs me (server v r.log (view_of h.machine)))
   takes_machine homes vs r me v h at owns home =
-      let w : V = server v r.log (meaning h.machine) in
+      let w : V = server v r.log (view_of h.machine) in
       let ws : List V = set vs me w in
       let f = r.each me v at in
       let sees = (f.own owns).0 in
@@ -171,7 +171,7 @@ module _ {M X C R : Type 0} (meaning : M → X) (goes : X → C → R → X → 
 
   -- the pass that has the machine adds its call to the history and gives the machine back. It has then seen the whole history, and is idle
   pub passes_on : {n : ℕ} (homes : Homes) (vs : List V) (r : One n homes vs) (me : ℕ) (v : V) (h : H) (x : X) (e : Entry C R) → get_elem? vs me ≡ some v → v.owns ≡ true → v.serves ≡ true → v.also ≡ [] → v.state ≡ Some x
-      → length homes ≡ 1 → ((j : ℕ) (u : V) → j ≢ me → get_elem? vs j ≡ some u → u.serves ≡ true → ⊥) → e.by ≡ v.number → goes x e.call e.reply (meaning h.machine)
+      → length homes ≡ 1 → ((j : ℕ) (u : V) → j ≢ me → get_elem? vs j ≡ some u → u.serves ≡ true → ⊥) → e.by ≡ v.number → goes x e.call e.reply (view_of h.machine)
       → One (n + 1) (set homes 0 (some (Some h))) (set vs me (after_call v e)) × IsPass goes (after_call v e)
   passes_on homes vs r me v h x e at owns serves also state one alone by did =
       let f = r.each me v at in
@@ -180,7 +180,7 @@ module _ {M X C R : Type 0} (meaning : M → X) (goes : X → C → R → X → 
       let number : e.by ≡ me = by ∙ (f.own owns).1 in
       let w : V = after_call v e in
       let log : List (Entry C R) = r.log ++ e ∷ [] in
-      let y : X = meaning h.machine in
+      let y : X = view_of h.machine in
       let ws : List V = set vs me w in
       let same : x ≡ r.state = same_Some x r.state (sym state ∙ a.1) in
       let legal : Runs goes o log y = Runs-push goes o r.state y r.log e r.legal (subst (λ z. goes z e.call e.reply y) same did) in
@@ -196,7 +196,7 @@ module _ {M X C R : Type 0} (meaning : M → X) (goes : X → C → R → X → 
           owner = r.owner;
           legal = legal;
           count = length-append r.log (e ∷ []) ∙ ap (λ k. k + 1) r.count;
-          home = λ k there. ap (λ (z : H). meaning z.machine) (sym (same_Some h k (some-injective (Some h) (Some k) (some-injective (some (Some h)) (some (Some k)) (sym (set_here homes 0 (some (Some h)) (omega arith)) ∙ there)))));
+          home = λ k there. ap (λ (z : H). view_of z.machine) (sym (same_Some h k (some-injective (Some h) (Some k) (some-injective (some (Some h)) (some (Some k)) (sym (set_here homes 0 (some (Some h)) (omega arith)) ∙ there)))));
           each = each_set (IsRecorded o log y r.owner ws) vs me w
               record {
                 sight = λ _. (sight'.0, ([], append-nil (v.seen ++ e ∷ []) ∙ grown), IsPrefix-append v.also r.log (e ∷ []) sight'.2, sight'.3);
@@ -357,14 +357,14 @@ module _ {M X C R : Type 0} (meaning : M → X) (goes : X → C → R → X → 
         serving = i.serving;
       })
 
-  pub begins : (h : H) → meaning h.machine ≡ o → One 0 (some (Some h) ∷ []) (first_pass o ∷ [])
+  pub begins : (h : H) → view_of h.machine ≡ o → One 0 (some (Some h) ∷ []) (first_pass o ∷ [])
   begins h is = record {
     log = [];
     state = o;
     owner = λ _. 0;
     legal = refl;
     count = refl;
-    home = λ k there. ap (λ (z : H). meaning z.machine) (sym (same_Some h k (some-injective (Some h) (Some k) (some-injective (some (Some h)) (some (Some k)) there)))) ∙ is;
+    home = λ k there. ap (λ (z : H). view_of z.machine) (sym (same_Some h k (some-injective (Some h) (Some k) (some-injective (some (Some h)) (some (Some k)) there)))) ∙ is;
     each = λ j u e. subst (λ (z : V). IsRecorded o [] o (λ _. 0) (first_pass o ∷ []) j z) (one_member (first_pass o) u j e) record {
       sight = λ _. (refl, ([], refl), ([], refl), refl);
       unused = λ _ no. off refl no;

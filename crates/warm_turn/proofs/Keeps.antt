@@ -23,7 +23,7 @@ use Rattle.warm_turn.proofs.Lists.{off, never, same_at, same_carried}
 use Rattle.warm_turn.proofs.Tickets as tickets
 use Rattle.warm_turn.proofs.Histories as histories
 
-module _ {M X C R : Type 0} (meaning : M → X) (goes : X → C → R → X → Type 0) (o : X) where
+module _ {M X C R : Type 0} (view_of : M → X) (goes : X → C → R → X → Type 0) (o : X) where
   abbrev V : Type 0
   V = View X C R
 
@@ -34,11 +34,11 @@ module _ {M X C R : Type 0} (meaning : M → X) (goes : X → C → R → X → 
   St = State (Option H) V
 
   abbrev Rule : St → Type 0
-  Rule = Kept meaning goes o
+  Rule = Kept view_of goes o
 
   -- a history of as many calls
-  of_count : {n k : ℕ} (homes : List (maybe.Option (Option H))) (vs : List V) → k ≡ n → OneHistory meaning goes o n homes vs → OneHistory meaning goes o k homes vs
-  of_count homes vs e h = subst (λ m. OneHistory meaning goes o m homes vs) (sym e) h
+  of_count : {n k : ℕ} (homes : List (maybe.Option (Option H))) (vs : List V) → k ≡ n → OneHistory view_of goes o n homes vs → OneHistory view_of goes o k homes vs
+  of_count homes vs e h = subst (λ m. OneHistory view_of goes o m homes vs) (sym e) h
 
   -- a step that changes a view alone
   quiet : (s : St) (r : Rule s) (i me : ℕ) (cs : List (ℕ × Option H)) (v w : V) → get_elem? s.views me ≡ some v → v.sees ≡ true → (v.serves ≡ true → w.serves ≡ true)
@@ -46,7 +46,7 @@ module _ {M X C R : Type 0} (meaning : M → X) (goes : X → C → R → X → 
       → Rule (stepped s i (get_or s.words i 0) me cs w keeps)
   quiet s r i me cs v w at sees serves queued recorded = record {
     turns = tickets.stays s r.turns i me cs v w at serves queued;
-    history = of_count s.homes (set s.views me w) (ap (λ ws. get_or ws 1 0) (set-get_or s.words i 0)) (histories.stays meaning goes o s.homes s.views r.history me v w at sees recorded);
+    history = of_count s.homes (set s.views me w) (ap (λ ws. get_or ws 1 0) (set-get_or s.words i 0)) (histories.stays view_of goes o s.homes s.views r.history me v w at sees recorded);
   }
 
   -- a step that changes nothing
@@ -58,7 +58,7 @@ module _ {M X C R : Type 0} (meaning : M → X) (goes : X → C → R → X → 
       → Allows Rule slots me (v, cs) 0 (λ n. n) (caught_up goes (step slots 0 0 0 maybe.none) (v, cs))
   catches_up slots me v cs owns idle rests s r wide at small =
       let w : V = settled v r.history.log in
-      let t = histories.settles meaning goes o s.homes s.views r.history me v at owns idle rests in
+      let t = histories.settles view_of goes o s.homes s.views r.history me v at owns idle rests in
       let f = r.history.each me v at in
       let sees = (f.own owns).0 in
       let queued = tickets.same_queued (ticket_word s) (serving_word s) r.turns.taker me v w refl refl refl refl refl (r.turns.each me v at) in (
@@ -73,7 +73,7 @@ module _ {M X C R : Type 0} (meaning : M → X) (goes : X → C → R → X → 
       → Allows Rule slots me (v, cs) 0 (λ n. n) (became_pass goes (step slots 0 0 0 maybe.none) (v, cs))
   becomes_pass slots me v cs sees not_yet s r wide at small =
       let w : V = new_pass v me in
-      let t = histories.becomes meaning goes o s.homes s.views r.history me v at sees not_yet in
+      let t = histories.becomes view_of goes o s.homes s.views r.history me v at sees not_yet in
       let q = r.turns.each me v at in
       let never : v.serves ≡ true → w.serves ≡ true = λ h. off ((q.ticket (q.serving h).0).0) not_yet in
       let queued = tickets.idle_queued (ticket_word s) (serving_word s) r.turns.taker me w refl refl refl in (
@@ -97,7 +97,7 @@ module _ {M X C R : Type 0} (meaning : M → X) (goes : X → C → R → X → 
       let unmarked : v.found_last ≡ false = never v.found_last (λ h. let full = q.full h in omega arith) in
       let kept : Rule (stepped s 0 new me cs w keeps) = record {
         turns = tickets.takes_ticket s r.turns me cs v at owns rests new (up ∙ ap (λ k. k + 1) (sym hit)) small;
-        history = of_count s.homes (set s.views me w) (get_or-set_other s.words 0 1 new 0 (λ e. omega arith)) (histories.stays meaning goes o s.homes s.views r.history me v w at sees
+        history = of_count s.homes (set s.views me w) (get_or-set_other s.words 0 1 new 0 (λ e. omega arith)) (histories.stays view_of goes o s.homes s.views r.history me v w at sees
             (histories.same_recorded o r.history.log r.history.state r.history.owner s.views me v w at sees refl refl refl refl refl refl refl refl refl refl refl f));
       } in (
         w,
@@ -129,7 +129,7 @@ module _ {M X C R : Type 0} (meaning : M → X) (goes : X → C → R → X → 
         ((λ hit. absurd (miss hit)), (λ _ most. absurd (less most)), (λ _ _. refl)),
       )))
 
-  pub looks : (slots me : ℕ) (v : V) → v.waits ≡ true → v.serves ≡ false → Allows Rule slots me (v, []) 1 (λ n. n) (looked meaning (step slots 1 0 0 maybe.none) (v, []))
+  pub looks : (slots me : ℕ) (v : V) → v.waits ≡ true → v.serves ≡ false → Allows Rule slots me (v, []) 1 (λ n. n) (looked view_of (step slots 1 0 0 maybe.none) (v, []))
   looks slots me v waits rests s r wide at _ =
       let n : ℕ = serving_word s in
       let k = (r.turns.each me v at).ticket waits in
@@ -140,13 +140,13 @@ module _ {M X C R : Type 0} (meaning : M → X) (goes : X → C → R → X → 
       (λ (mine : n ≡ v.ticket). ⊎_elim
       (λ (a : (h : H) × (get_elem? s.homes 0 ≡ some (some (Some h)))).
       let h : H = a.0 in (
-        server v r.history.log (meaning h.machine),
+        server v r.history.log (view_of h.machine),
         takes 0 (Some h),
         a.1,
         record {
-          turns = tickets.takes_machine s r.turns me v h r.history.log (meaning h.machine) at waits mine a.1;
-          history = of_count (set s.homes 0 maybe.none) (set s.views me (server v r.history.log (meaning h.machine))) (ap (λ ws. get_or ws 1 0) (set-get_or s.words 1 0))
-              (histories.takes_machine meaning goes o s.homes s.views r.history me v h at owns a.1);
+          turns = tickets.takes_machine s r.turns me v h r.history.log (view_of h.machine) at waits mine a.1;
+          history = of_count (set s.homes 0 maybe.none) (set s.views me (server v r.history.log (view_of h.machine))) (ap (λ ws. get_or ws 1 0) (set-get_or s.words 1 0))
+              (histories.takes_machine view_of goes o s.homes s.views r.history me v h at owns a.1);
         },
         ((λ not. absurd (not mine)), (λ _. (r.history.log, h, refl, (f.sight sees).1))),
       ))
@@ -161,7 +161,7 @@ module _ {M X C R : Type 0} (meaning : M → X) (goes : X → C → R → X → 
         ((λ _. refl), (λ is. absurd (not is))),
       ))
 
-  pub passes : (slots me : ℕ) (v : V) (h : H) (d : Made C R) (x : X) → v.serves ≡ true → v.also ≡ [] → v.state ≡ Some x → h.made ≡ Some d → goes x d.call.value d.reply.value (meaning h.machine)
+  pub passes : (slots me : ℕ) (v : V) (h : H) (d : Made C R) (x : X) → v.serves ≡ true → v.also ≡ [] → v.state ≡ Some x → h.made ≡ Some d → goes x d.call.value d.reply.value (view_of h.machine)
       → Allows Rule slots me (v, (0, Some h) ∷ []) 1 (λ n. (n + 1) % 2 ^ 64) (passed goes (step slots 1 1 0 maybe.none) (v, (0, Some h) ∷ []))
   passes slots me v h d x serves also state made did s r wide at _ =
       let q = r.turns.each me v at in
@@ -169,7 +169,7 @@ module _ {M X C R : Type 0} (meaning : M → X) (goes : X → C → R → X → 
       let e : Entry C R = entry v.number d.call.value d.reply.value in
       let w : V = after_call v e in
       let alone : (j : ℕ) (u : V) → j ≢ me → get_elem? s.views j ≡ some u → u.serves ≡ true → ⊥ = λ j u other at' serves'. other (tickets.alone s r.turns me j v u at serves at' serves') in
-      let t = histories.passes_on meaning goes o s.homes s.views r.history me v h x e at owns serves also state r.turns.one alone refl did in (
+      let t = histories.passes_on view_of goes o s.homes s.views r.history me v h x e at owns serves also state r.turns.one alone refl did in (
         w,
         gives,
         tt,
@@ -189,7 +189,7 @@ module _ {M X C R : Type 0} (meaning : M → X) (goes : X → C → R → X → 
   sits : (s : St) (r : Rule s) (v : V) → v.opening ≡ Some o → IsPrefix v.seen r.history.log → Rule record { words = s.words; homes = s.homes; views = s.views ++ note_of v ∷ [] }
   sits s r v opens begins_with = record {
     turns = tickets.enters s r.turns v;
-    history = histories.enters meaning goes o s.homes s.views r.history v opens begins_with;
+    history = histories.enters view_of goes o s.homes s.views r.history v opens begins_with;
   }
 
   pub comes : (slots : ℕ) → Enters Rule slots 0 (λ n w. came {M = M} (step slots 0 0 0 maybe.none) (first_pass o, []) n (w, []))
@@ -204,25 +204,25 @@ module _ {M X C R : Type 0} (meaning : M → X) (goes : X → C → R → X → 
   learns me other v u owns note s r at apart there = record {
     turns = tickets.merges s r.turns me other v u (learned v u) at there note.2 (λ h. h)
         (tickets.same_queued (ticket_word s) (serving_word s) r.turns.taker me v (learned v u) refl refl refl refl refl (r.turns.each me v at));
-    history = histories.learns meaning goes o s.homes s.views r.history me other v u at apart there owns note;
+    history = histories.learns view_of goes o s.homes s.views r.history me other v u at apart there owns note;
   }
 
   pub ends : (me other : ℕ) (v u : V) → v.owns ≡ true → u.owns ≡ true → u.serves ≡ false → Joins Rule me v other u (joined v u) nobody
   ends me other v u owns owns' rests s r at apart there = record {
     turns = tickets.merges s r.turns me other v u (joined v u) at there rests (λ h. h)
         (tickets.same_queued (ticket_word s) (serving_word s) r.turns.taker me v (joined v u) refl refl refl refl refl (r.turns.each me v at));
-    history = histories.ends meaning goes o s.homes s.views r.history me other v u at apart there owns owns';
+    history = histories.ends view_of goes o s.homes s.views r.history me other v u at apart there owns owns';
   }
 
-  pub begins : (h : H) → meaning h.machine ≡ o → Rule (opening (0 ∷ 0 ∷ []) (Some h ∷ []) (first_pass o))
+  pub begins : (h : H) → view_of h.machine ≡ o → Rule (opening (0 ∷ 0 ∷ []) (Some h ∷ []) (first_pass o))
   begins h is = record {
     turns = tickets.begins h o;
-    history = histories.begins meaning goes o h is;
+    history = histories.begins view_of goes o h is;
   }
 
   -- at the end, where every ticket was served, the machine is at home
   pub closes : (me : ℕ) (v : V) (ws : List ℕ) (xs : List (Option H)) → IsPass goes v → Final (Seen Rule me v) ws xs → get_or ws 0 0 ≡ get_or ws 1 0 → (x : Option H) → get_elem? xs 0 ≡ some x
-      → (h : H) × (x ≡ Some h) × IsLast goes o v (meaning h.machine)
+      → (h : H) × (x ≡ Some h) × IsLast goes o v (view_of h.machine)
   closes me v ws xs pass last even x there =
       let s : St = last.0 in
       let r = last.1.0 in
@@ -256,7 +256,7 @@ module _ {M X C R : Type 0} (meaning : M → X) (goes : X → C → R → X → 
 
   -- at the end the words are those of a state that the rule allows, in which the pass has its view
   pub words_at_end : (me : ℕ) (v : V) (ws : List ℕ) (xs : List (Option H)) (found : Busy) → Final (Seen Rule me v) ws xs → get_or ws 0 0 ≡ found.ticket → get_or ws 1 0 ≡ found.serving
-      → AreWords meaning goes o v found
+      → AreWords view_of goes o v found
   words_at_end me v ws xs found last ticket serving = record {
     state = last.0;
     kept = last.1.0;

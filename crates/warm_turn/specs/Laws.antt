@@ -10,15 +10,15 @@ use Rattle.warm_turn.specs.Rule.{ticket_word, serving_word, Kept}
 
 -- where seats have the machine they are one seat, and its ticket is the served one, which is below the next
 abbrev pub MachineIsAlone : {M X C R : Type 0} → (M → X) → (X → C → R → X → Type 0) → Type 0
-MachineIsAlone {M} {X} {C} {R} meaning goes =
-    (opening : X) (s : State (Option (Held M C R)) (View X C R)) → Kept meaning goes opening s
+MachineIsAlone {M} {X} {C} {R} view_of goes =
+    (opening : X) (s : State (Option (Held M C R)) (View X C R)) → Kept view_of goes opening s
     → (i j : ℕ) (v u : View X C R) → get_elem? s.views i ≡ some v → v.serves ≡ true → get_elem? s.views j ≡ some u → u.serves ≡ true
     → (j ≡ i) × (v.ticket ≡ serving_word s) × (serving_word s < ticket_word s)
 
 -- a mark is that of the last number
 abbrev pub MarkIsOfTheLast : {M X C R : Type 0} → (M → X) → (X → C → R → X → Type 0) → Type 0
-MarkIsOfTheLast {M} {X} {C} {R} meaning goes =
-    (opening : X) (s : State (Option (Held M C R)) (View X C R)) → Kept meaning goes opening s
+MarkIsOfTheLast {M} {X} {C} {R} view_of goes =
+    (opening : X) (s : State (Option (Held M C R)) (View X C R)) → Kept view_of goes opening s
     → (j : ℕ) (v : View X C R) → get_elem? s.views j ≡ some v → v.found_last ≡ true → ticket_word s + 1 ≡ 2 ^ 64
 
 -- a pass that has the mark is answered no more

@@ -67,29 +67,29 @@ module _ {X C R : Type 0} where
     pub serving : v.serves ≡ true → (v.seen ≡ log) × (v.state ≡ Some state)
 
 -- there is one legal history, of as many calls as tickets were served, in which the calls of each pass stand once. A machine at home is in the state that it reaches
-pub record OneHistory {M X C R : Type 0} (meaning : M → X) (goes : X → C → R → X → Type 0) (opening : X) (served : ℕ) (homes : List (maybe.Option (Option (Held M C R)))) (views : List (View X C R)) : Type 0 where
+pub record OneHistory {M X C R : Type 0} (view_of : M → X) (goes : X → C → R → X → Type 0) (opening : X) (served : ℕ) (homes : List (maybe.Option (Option (Held M C R)))) (views : List (View X C R)) : Type 0 where
   pub log : List (Entry C R)
   pub state : X
   pub owner : ℕ → ℕ
   pub legal : Runs goes opening log state
   pub count : length log ≡ served
-  pub home : (h : Held M C R) → get_elem? homes 0 ≡ some (some (Some h)) → meaning h.machine ≡ state
+  pub home : (h : Held M C R) → get_elem? homes 0 ≡ some (some (Some h)) → view_of h.machine ≡ state
   pub each : (j : ℕ) (v : View X C R) → get_elem? views j ≡ some v → IsRecorded opening log state owner views j v
   pub unborn : (j : ℕ) → length views ≤ j → calls_by j log ≡ []
 
 -- The rule
-pub record Kept {M X C R : Type 0} (meaning : M → X) (goes : X → C → R → X → Type 0) (opening : X) (s : State (Option (Held M C R)) (View X C R)) : Type 0 where
+pub record Kept {M X C R : Type 0} (view_of : M → X) (goes : X → C → R → X → Type 0) (opening : X) (s : State (Option (Held M C R)) (View X C R)) : Type 0 where
   pub turns : InTurn s
-  pub history : OneHistory meaning goes opening (serving_word s) s.homes s.views
+  pub history : OneHistory view_of goes opening (serving_word s) s.homes s.views
 
 -- where a pass has the mark, the next ticket is the last number
 abbrev pub MarkShows : {X C R : Type 0} → View X C R → Busy → Type 0
 MarkShows v found = v.found_last ≡ true → found.ticket + 1 ≡ 2 ^ 64
 
 -- What the words of a refused close are: those of a state that the rule allows, in which a seat has this view
-pub record AreWords {M X C R : Type 0} (meaning : M → X) (goes : X → C → R → X → Type 0) (opening : X) (v : View X C R) (found : Busy) : Type 0 where
+pub record AreWords {M X C R : Type 0} (view_of : M → X) (goes : X → C → R → X → Type 0) (opening : X) (v : View X C R) (found : Busy) : Type 0 where
   pub state : State (Option (Held M C R)) (View X C R)
-  pub kept : Kept meaning goes opening state
+  pub kept : Kept view_of goes opening state
   pub seat : ℕ
   pub view : get_elem? state.views seat ≡ some v
   pub ticket : ticket_word state ≡ found.ticket

@@ -46,9 +46,9 @@ module _ {M X C R : Type 0} where
 
   -- at its turn the seat takes the machine, and has seen the history so far
   abbrev pub looked : (M → X) → At M C R → Sat M X C R → ℕ → Sat M X C R → Type 0
-  looked meaning st m found m' =
+  looked view_of st m found m' =
       (found ≢ m.0.ticket → m' ≡ m)
-      × (found ≡ m.0.ticket → (log : List (Entry C R)) × (h : Held M C R) × (m' ≡ (server m.0 log (meaning h.machine), (0, Some h) ∷ m.1)) × IsPrefix m.0.seen log)
+      × (found ≡ m.0.ticket → (log : List (Entry C R)) × (h : Held M C R) × (m' ≡ (server m.0 log (view_of h.machine), (0, Some h) ∷ m.1)) × IsPrefix m.0.seen log)
 
   -- the call that the slot names was added to the history, and the machine is at home
   abbrev pub passed : (X → C → R → X → Type 0) → At M C R → Sat M X C R → ℕ → Sat M X C R → Type 0
@@ -71,16 +71,16 @@ module _ {M X C R : Type 0} where
 
   -- the seat has the machine, in the state that the list which it has now seen reaches
   abbrev pub HasMachine : (M → X) → View X C R → Sat M X C R → Type 0
-  HasMachine meaning v m' = (log : List (Entry C R)) × (h : Held M C R) × (m' ≡ (server v log (meaning h.machine), (0, Some h) ∷ [])) × IsPrefix v.seen log
+  HasMachine view_of v m' = (log : List (Entry C R)) × (h : Held M C R) × (m' ≡ (server v log (view_of h.machine), (0, Some h) ∷ [])) × IsPrefix v.seen log
 
   -- the machine answered this call, and the slot says so
   abbrev pub Served : (M → X) → (X → C → R → X → Type 0) → Sat M X C R → C → R → Sat M X C R → Type 0
-  Served meaning goes m c r m' =
+  Served view_of goes m c r m' =
       (h : Held M C R) → m.1 ≡ (0, Some h) ∷ []
-      → (k : Held M C R) × (d : Made C R) × (m' ≡ (m.0, (0, Some k) ∷ [])) × (k.made ≡ Some d) × (d.call.value ≡ c) × (d.reply.value ≡ r) × goes (meaning h.machine) c r (meaning k.machine)
+      → (k : Held M C R) × (d : Made C R) × (m' ≡ (m.0, (0, Some k) ∷ [])) × (k.made ≡ Some d) × (d.call.value ≡ c) × (d.reply.value ≡ r) × goes (view_of h.machine) c r (view_of k.machine)
 
   -- the slot says which call the machine answered, and the history may be gone on with it
   abbrev pub IsMade : (M → X) → (X → C → R → X → Type 0) → Sat M X C R → C → R → Type 0
-  IsMade meaning goes m c r =
+  IsMade view_of goes m c r =
       (h : Held M C R) × (d : Made C R) × (x : X) × (m.1 ≡ (0, Some h) ∷ []) × (m.0.serves ≡ true) × (m.0.also ≡ []) × (m.0.state ≡ Some x) × (h.made ≡ Some d)
-      × (d.call.value ≡ c) × (d.reply.value ≡ r) × goes x c r (meaning h.machine)
+      × (d.call.value ≡ c) × (d.reply.value ≡ r) × goes x c r (view_of h.machine)

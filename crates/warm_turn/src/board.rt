@@ -106,7 +106,7 @@ impl<M> BoxedMachine<M> {
 impl<M: Machine> BoxedMachine<M> {
     // Has the machine answer the call.
     pub(crate) fn call(&mut self, call: M::Call) -> M::Reply
-        ensures goes { M.goes (M.meaning self.old) call result (M.meaning self.new) }
+        ensures goes { M.goes (M.view self.old) call result (M.view self.new) }
     {
         self.machine.call(call)
     }
@@ -133,9 +133,9 @@ impl<M: Machine> TableRule<
     ghost use Rattle.warm_turn.specs.Rule.{Kept};
     ghost use Rattle.warm_turn.specs.Turns.{first_pass};
 
-    ghost holds = { λ key. Kept M.meaning M.goes (M.meaning key.value) };
+    ghost holds = { λ key. Kept M.view M.goes (M.view key.value) };
 
-    ghost first = { λ key. first_pass (M.meaning key.value) };
+    ghost first = { λ key. first_pass (M.view key.value) };
 }
 
 /// What the slot of a turn over `M` has.

@@ -30,7 +30,7 @@ impl Machine for Counter {
 
     type State = u64;
 
-    ghost meaning = { λ c. c.total };
+    ghost view = { λ c. c.total };
 
     ghost goes = { Counts };
 

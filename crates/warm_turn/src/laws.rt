@@ -7,12 +7,12 @@ use crate::machine::Machine;
 
 /// The machine is at home, or it is out with one pass alone, the holder of the served ticket.
 pub fn machine_is_alone<M: Machine>()
-    ensures { MachineIsAlone M.meaning M.goes }
+    ensures { MachineIsAlone M.view M.goes }
 {}
 
 /// No pass has the mark that `u64::MAX` was found in the ticket word while the word is less.
 pub fn mark_is_of_the_last<M: Machine>()
-    ensures { MarkIsOfTheLast M.meaning M.goes }
+    ensures { MarkIsOfTheLast M.view M.goes }
 {}
 
 /// A pass that was once refused with `TurnsSpent` is never answered again.

@@ -15,12 +15,12 @@ pub trait Machine {
     type State;
 
     /// The state that a machine is in.
-    ghost meaning: { Self → Self.State };
+    ghost view: { Self → Self.State };
 
     /// The state before, the call, the reply and the state after.
     ghost goes: { Self.State → Self.Call → Self.Reply → Self.State → Type 0 };
 
     /// Answers the call. A refusal is a reply too.
     fn call(&mut self, call: Self::Call) -> Self::Reply
-        ensures goes { goes (meaning self.old) call result (meaning self.new) };
+        ensures goes { goes (view self.old) call result (view self.new) };
 }

@@ -19,7 +19,7 @@ impl<M: Machine> Play<Option<Held<M, M::Call, M::Reply>>, View<M::State, M::Call
     for Look {
     ghost use Rattle.warm_turn.specs.Steps.{looked};
 
-    ghost then = { looked M.meaning };
+    ghost then = { looked M.view };
 }
 
 // Gives the machine back and serves the next ticket. Here the call enters the history.

@@ -38,7 +38,7 @@ impl<M: Machine> Model for Turn<M> {
 
     ghost Value = { Shape M.State };
 
-    ghost view = { λ t. turn_at t.table.shared.table_id (M.meaning t.table.shared.key.value) };
+    ghost view = { λ t. turn_at t.table.shared.table_id (M.view t.table.shared.key.value) };
 
     ghost invariant = { λ t. IsBoard t.table.shared.table_id };
 }
@@ -171,7 +171,7 @@ fn wait_turn<M: Machine, R: Wait>(rt: &R, top: &Top<M>, place: &mut Place<M>, ti
     requires waits { (place.old.me.1 ≡ []) × (place.old.me.0.waits ≡ true)
         × (place.old.me.0.serves ≡ false) × (place.old.me.0.ticket ≡ ticket) }
     ensures table { (place.new.table_id ≡ place.old.table_id) × (place.new.id ≡ place.old.id) }
-    ensures serves { HasMachine M.meaning place.old.me.0 place.new.me }
+    ensures serves { HasMachine M.view place.old.me.0 place.new.me }
 {
     let mut looks = 0;
     for _ in rt.forever() {
@@ -193,7 +193,7 @@ fn serve<M: Machine>(top: &Top<M>, place: &mut Place<M>, call: M::Call) -> M::Re
     requires table { place.old.table_id ≡ top.now.table_id }
     requires has { (h : Held M M.Call M.Reply) × (place.old.me.1 ≡ (0, Some h) ∷ []) }
     ensures table { (place.new.table_id ≡ place.old.table_id) × (place.new.id ≡ place.old.id) }
-    ensures made { Served M.meaning M.goes place.old.me call result place.new.me }
+    ensures made { Served M.view M.goes place.old.me call result place.new.me }
 {
     let asked = Snapshot::of(&call);
     let out = top.exchange(place, 0, None);
@@ -215,10 +215,10 @@ fn serve<M: Machine>(top: &Top<M>, place: &mut Place<M>, call: M::Call) -> M::Re
 // Adds the call to the history, and puts the machine home for the next ticket.
 fn pass_on<M: Machine>(top: &Top<M>, place: &mut Place<M>)
     requires table { (place.old.table_id ≡ top.now.table_id) × IsBoard top.now.table_id }
-    requires made { (c : M.Call) × (r : M.Reply) × IsMade M.meaning M.goes place.old.me c r }
+    requires made { (c : M.Call) × (r : M.Reply) × IsMade M.view M.goes place.old.me c r }
     ensures table { (place.new.table_id ≡ place.old.table_id) × (place.new.id ≡ place.old.id) }
     ensures home { place.new.me.1 ≡ [] }
-    ensures added { (c : M.Call) (r : M.Reply) → IsMade M.meaning M.goes place.old.me c r
+    ensures added { (c : M.Call) (r : M.Reply) → IsMade M.view M.goes place.old.me c r
         → HasPassedOn M.goes place.old.me c r place.new.me }
 {
     top.fetch_add::<PassOn>(place, 1, 1);
@@ -275,8 +275,8 @@ impl<M: Machine> Turn<M> {
     /// hands the machine back as it was.
     pub fn new(alloc: Global, machine: M) -> Result<(Turn<M>, Pass<M>), Memory<M>>
         ensures table { IfOk result (λ t. t.1.table ≡ t.0.table) }
-        ensures opening { IfOk result (λ t. t.0.opening ≡ M.meaning machine) }
-        ensures first { IfOk result (λ t. t.1.view ≡ first_pass (M.meaning machine)) }
+        ensures opening { IfOk result (λ t. t.0.opening ≡ M.view machine) }
+        ensures first { IfOk result (λ t. t.1.view ≡ first_pass (M.view machine)) }
         ensures legal { IfOk result (λ t. IsPass M.goes t.1.view) }
         ensures err { IfErr result (λ e. e.machine ≡ machine) }
     {
@@ -410,9 +410,9 @@ impl<M: Machine> Turn<M> {
     where
         M: Drop,
         requires { pass.table ≡ self.table }
-        ensures last { IfOk result (λ m. IsLast M.goes self.opening pass.view (M.meaning m)) }
+        ensures last { IfOk result (λ m. IsLast M.goes self.opening pass.view (M.view m)) }
         ensures busy { IfErr result (λ b. b.serving < b.ticket) }
-        ensures words { IfErr result (AreWords M.meaning M.goes self.opening pass.view) }
+        ensures words { IfErr result (AreWords M.view M.goes self.opening pass.view) }
         ensures mark { IfErr result (MarkShows pass.view) }
     {
         let Turn { table } = self;

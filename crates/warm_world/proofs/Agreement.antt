@@ -5,20 +5,20 @@ use Rattle.warm_history.specs.Histories.{entries_of, holding, history}
 use Rattle.warm_history.proofs.SetLemmas.{history_of_set}
 use Rattle.warm_rank.proofs.LeavingLemmas.{same_references_rank_alike}
 use Rattle.warm_gossip.specs.State.{NodeView}
-use Rattle.warm_world.specs.Seen.{ReplicaSeen, WorldSeen}
+use Rattle.warm_world.specs.Views.{ReplicaView, WorldView}
 use Rattle.warm_world.specs.Lists.{place}
 use Rattle.warm_world.specs.States.{ModelState, ReplicaState, reach_of, nobody}
 use Rattle.warm_world.specs.Stands.{StandsFor, ReplicaStands, HistoriesAreExact, ReplicasAgree}
 use Rattle.warm_world.proofs.Pairs.{Pairwise-map}
 
-pub histories_are_exact : (w : WorldSeen) (m : ModelState) → StandsFor w m → HistoriesAreExact w m
+pub histories_are_exact : (w : WorldView) (m : ModelState) → StandsFor w m → HistoriesAreExact w m
 histories_are_exact w m st i number =
-    let same : map (λ (r : ReplicaSeen). r.node.history) w.replicas ≡ map (λ (r : ReplicaState). history r.reach) m.replicas =
-    Pairwise-map (ReplicaStands m.room) (λ r. r.node.history) (λ r. history r.reach) w.replicas m.replicas (λ k a b here. ap (λ (n : NodeView). n.history) here.node_is) st.replicas in
+    let same : map (λ (r : ReplicaView). r.node.history) w.replicas ≡ map (λ (r : ReplicaState). history r.reach) m.replicas =
+    Pairwise-map (ReplicaStands m.capacity) (λ r. r.node.history) (λ r. history r.reach) w.replicas m.replicas (λ k a b here. ap (λ (n : NodeView). n.history) here.node_is) st.replicas in
     let lt : place i < length m.replicas = omega (arith, number.from_one, number.in_range) in
     rw same (get_or-map (λ (r : ReplicaState). history r.reach) m.replicas (place i) nobody (holding []) lt)
 
-pub replicas_agree : (w : WorldSeen) (m : ModelState) → StandsFor w m → ReplicasAgree w m
+pub replicas_agree : (w : WorldView) (m : ModelState) → StandsFor w m → ReplicasAgree w m
 replicas_agree w m st i j number_i number_j same = record {
   histories = ap entries_of (histories_are_exact w m st i number_i) ∙ (history_of_set (reach_of m i) (reach_of m j) same ∙ sym (ap entries_of (histories_are_exact w m st j number_j)));
   ranking = same_references_rank_alike (reach_of m i) (reach_of m j) same;

@@ -7,7 +7,7 @@ use Rattle.warm_gossip.specs.declared.fault.NodeFault.{NodeFault}
 use Rattle.warm_gossip.specs.declared.fault.NodeFault.TheVariants.{Memory}
 use Rattle.warm_pool.specs.View.{PoolView}
 use Rattle.warm_stamps.specs.declared.PageId.{PageId}
-use Rattle.warm_frames.specs.declared.frame.Frame.{Frame}
+use Rattle.warm_frames.specs.declared.message.Message.{Message}
 use Rattle.warm_gossip.specs.State.{NodeView}
 use Rattle.warm_gossip.specs.Step.{Refuses}
 use Rattle.warm_gossip.proofs.Told.{refused_keeps, same_alone}
@@ -53,6 +53,6 @@ pub offer_refused : (old new : NodeView) (why : NodeFault) → Refuses old call.
 offer_refused old new Memory r = (refl, r)
 offer_refused old new why r = absurd r
 
-pub receive_refused : (old new : NodeView) (frame : Frame) (why : NodeFault) → Refuses old (call.Receive frame) why new → (why ≡ Memory) × (new ≡ old)
-receive_refused old new frame Memory r = (refl, r)
-receive_refused old new frame why r = absurd r
+pub receive_refused : (old new : NodeView) (message : Message) (why : NodeFault) → Refuses old (call.Receive message) why new → (why ≡ Memory) × (new ≡ old)
+receive_refused old new message Memory r = (refl, r)
+receive_refused old new message why r = absurd r

@@ -10,15 +10,15 @@ use Rattle.warm_gossip.specs.Step.{IsFailed, OnPool}
 use Rattle.warm_pool.specs.declared.fault.PoolFault.TheVariants.{Fault}
 use Rattle.warm_world.specs.Opening.{FailsOf, FinishFails, fails}
 use Rattle.warm_pool.specs.State.{IsSettled}
-use Rattle.warm_world.specs.Seen.{AreSettledBefore, ReplicaSeen, WorldSeen}
+use Rattle.warm_world.specs.Views.{AreSettledBefore, ReplicaView, WorldView}
 use Rattle.warm_world.proofs.Worlds.{world}
 
-module _ {A : Type 0} (f : A → ReplicaSeen) (xs : List A) (frames : List (List ℕ)) (k : ℕ) (x y : A) where
-  shows : k < length xs → x ≡ get_or xs k x → (other : ReplicaSeen) → get_or (map f xs) k other ≡ f x
+module _ {A : Type 0} (f : A → ReplicaView) (xs : List A) (frames : List (List ℕ)) (k : ℕ) (x y : A) where
+  shows : k < length xs → x ≡ get_or xs k x → (other : ReplicaView) → get_or (map f xs) k other ≡ f x
   shows lt is other = get_or-map f xs k x other lt ∙ ap f (sym is)
 
   stays : k < length xs → x ≡ get_or xs k x → f y ≡ f x → world f xs frames (set xs k y) ≡ world f xs frames xs
-  stays lt is same = ap (λ (rs : List ReplicaSeen). let w : WorldSeen = record { replicas = rs; frames = frames } in w)
+  stays lt is same = ap (λ (rs : List ReplicaView). let w : WorldView = record { replicas = rs; frames = frames } in w)
       (map-set f xs k y ∙ ap (set (map f xs) k) (same ∙ sym (shows lt is (f x))) ∙ set-get_or (map f xs) k (f x))
 
   -- where the replica's node shows what it showed, so does the world
@@ -31,12 +31,12 @@ module _ {A : Type 0} (f : A → ReplicaSeen) (xs : List A) (frames : List (List
     replica = k;
     there = subst (λ n. k < n) (sym (length-map xs f)) lt;
     pool = (f y).node.pool;
-    failed = λ other. subst (λ (r : ReplicaSeen). IsFailed r.node.pool (f y).node.pool) (sym (shows lt is other)) did.1;
-    becomes = λ other. ap (λ (rs : List ReplicaSeen). let w : WorldSeen = record { replicas = rs; frames = frames } in w)
+    failed = λ other. subst (λ (r : ReplicaView). IsFailed r.node.pool (f y).node.pool) (sym (shows lt is other)) did.1;
+    becomes = λ other. ap (λ (rs : List ReplicaView). let w : WorldView = record { replicas = rs; frames = frames } in w)
         (map-set f xs k y ∙ ap (set (map f xs) k)
-        (ap (λ (n : NodeView). let r : ReplicaSeen = record { node = n; buffers = (f y).buffers } in r) did.0
-        ∙ ap (λ bs. let r : ReplicaSeen = record { node = record (f x).node { pool = (f y).node.pool }; buffers = bs } in r) alike
-        ∙ ap (λ (r : ReplicaSeen). fails r (f y).node.pool) (sym (shows lt is other))));
+        (ap (λ (n : NodeView). let r : ReplicaView = record { node = n; buffers = (f y).buffers } in r) did.0
+        ∙ ap (λ bs. let r : ReplicaView = record { node = record (f x).node { pool = (f y).node.pool }; buffers = bs } in r) alike
+        ∙ ap (λ (r : ReplicaView). fails r (f y).node.pool) (sym (shows lt is other))));
   }
 
   -- where writing back has failed, it has for this replica
@@ -58,5 +58,5 @@ module _ {A : Type 0} (g : A → NodeState) (xs : List A) (k : ℕ) (y : A) wher
   settled_if (Err why) lt before here = tt
 
 -- what fails in a world that shows what it showed fails in that
-pub fails_since : (old mid new : WorldSeen) (why : NodeFault) → mid ≡ old → FinishFails mid why new → FinishFails old why new
+pub fails_since : (old mid new : WorldView) (why : NodeFault) → mid ≡ old → FinishFails mid why new → FinishFails old why new
 fails_since old mid new why same = subst (λ w. FinishFails w why new) same

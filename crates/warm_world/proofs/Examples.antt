@@ -7,7 +7,7 @@ use Rattle.warm_history.specs.ReferenceSets.{these, since}
 use Rattle.warm_history.specs.Histories.{HistoryView, holding, history}
 use Rattle.warm_history.specs.Carried.{carried}
 use Rattle.warm_world.specs.States.{ModelState, ReplicaState, no_pool, raised, referred, flushed, restarted}
-use Rattle.warm_world.specs.States.{References, Mask, Sums}
+use Rattle.warm_world.specs.States.{References, Request, Digests}
 use Rattle.warm_world.specs.Answered.{bucket_records, heard}
 use Rattle.warm_world.specs.Next.{Asked, Effect, Refuses, stamped}
 use Rattle.warm_world.specs.declared.event.Event.TheVariants.{Pin, Unpin, Put, Get, Victim, WarmStep, Horizon}
@@ -45,7 +45,7 @@ flush_moves = refl
 restart_forgets : restarted no_pool (told (at 10 1 ∷ []) (at 20 1 ∷ [])) ≡ told [] []
 restart_forgets = refl
 
--- a frame of bucket 1 brings all references to the page 0:1, not only the two that its entry shows
+-- a message of bucket 1 brings all references to the page 0:1, not only the two that its entry shows
 all_are_carried : carried (these (at 10 1 ∷ at 20 1 ∷ at 30 1 ∷ [])) 1 None 1000 ≡ these (at 10 1 ∷ at 20 1 ∷ at 30 1 ∷ [])
 all_are_carried = refl
 
@@ -63,7 +63,7 @@ hears_again : history (heard (restarted no_pool (told (at 10 1 ∷ []) (at 20 1 
 unfolding history
 hears_again = refl
 
--- what a replica sends of bucket 1, answering a wish: one frame, which brings both references to the page 0:1
+-- what a replica sends of bucket 1, answering a request: one message, which brings both references to the page 0:1
 bucket_in_one_frame : bucket_records 2 (these (at 10 1 ∷ at 20 1 ∷ [])) 1 ≡ References 2 (these (at 10 1 ∷ at 20 1 ∷ [])) ∷ []
 unfolding history
 bucket_in_one_frame = refl
@@ -74,7 +74,7 @@ unfolding history
 empty_bucket_in_none = refl
 
 -- a request without a horizon teaches nothing, and references are taken in
-request_teaches_nothing : heard (these (at 10 1 ∷ [])) (Mask 2 0 6) ≡ these (at 10 1 ∷ [])
+request_teaches_nothing : heard (these (at 10 1 ∷ [])) (Request 2 0 6) ≡ these (at 10 1 ∷ [])
 request_teaches_nothing = refl
 
 references_are_heard : heard (these (at 10 1 ∷ [])) (References 2 (these (at 20 2 ∷ []))) ≡ these (at 10 1 ∷ at 20 2 ∷ [])
@@ -107,17 +107,17 @@ horizon_stays = refl
 restart_lowers : restarted no_pool (raised 15 (told (at 20 1 ∷ []) [])) ≡ told [] []
 restart_lowers = refl
 
--- one replica has the page at 8 and 9, the other at 20 with horizon 9: its frame leaves 20 and 9
-frame_raises : history (heard (these (at 8 2 ∷ at 9 2 ∷ [])) (References 1 (since 9 (these (at 20 1 ∷ []))))) ≡ since_then 9 (known (at 20 1) (at 9 2) ∷ [])
+-- one replica has the page at 8 and 9, the other at 20 with horizon 9: its message leaves 20 and 9
+message_raises : history (heard (these (at 8 2 ∷ at 9 2 ∷ [])) (References 1 (since 9 (these (at 20 1 ∷ []))))) ≡ since_then 9 (known (at 20 1) (at 9 2) ∷ [])
 unfolding history
-frame_raises = refl
+message_raises = refl
 
 -- digests and a request bring their sender's horizon
-digests_raise : history (heard (these (at 10 1 ∷ [])) (Sums 2 50 [])) ≡ since_then 50 []
+digests_raise : history (heard (these (at 10 1 ∷ [])) (Digests 2 50 [])) ≡ since_then 50 []
 unfolding history
 digests_raise = refl
 
-request_raises : history (heard (these (at 10 1 ∷ [])) (Mask 2 50 2)) ≡ since_then 50 []
+request_raises : history (heard (these (at 10 1 ∷ [])) (Request 2 50 2)) ≡ since_then 50 []
 unfolding history
 request_raises = refl
 

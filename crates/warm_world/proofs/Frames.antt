@@ -2,7 +2,7 @@
 use Rattle.std.proofs.Common.{◌≡◌, ℕ, ◌+◌, ◌<◌, ◌++◌, List, [], ◌∷◌, length, map, take, get_or, refl, sym, ◌∙◌, ap, subst, arith}
 use Rattle.std.proofs.lemmas.List.{get_or-map, length-append, map-append, take_more, length-map}
 use Rattle.std.specs.Global.{Vec}
-use Rattle.warm_frames.specs.declared.frame.Frame.{Frame}
+use Rattle.warm_frames.specs.declared.message.Message.{Message}
 use Rattle.warm_frames.specs.Spelling.{spelling, Spells}
 use Rattle.warm_gossip.specs.declared.fault.NodeFault.TheVariants.{Memory}
 use Rattle.warm_world.specs.declared.event.Event.{Event}
@@ -11,58 +11,58 @@ use Rattle.warm_world.specs.declared.event.Answer.TheVariants.{FrameNo, Refused}
 use Rattle.warm_world.specs.declared.event.WorldFault.TheVariants.{Node}
 use Rattle.warm_world.specs.Lists.{IsNumber, Pairwise, place}
 use Rattle.warm_world.specs.Replicas.{Encodes, Keeps}
-use Rattle.warm_world.specs.Seen.{WorldSeen}
-use Rattle.warm_world.specs.States.{ModelState, FrameRecord, add_records, record_at, References}
+use Rattle.warm_world.specs.Views.{WorldView}
+use Rattle.warm_world.specs.States.{ModelState, MessageRecord, add_records, record_at, References}
 use Rattle.warm_history.specs.ReferenceSets.{these}
 use Rattle.warm_world.specs.Next.{Next}
-use Rattle.warm_world.specs.Stands.{SpellsRecord, StandsFor, Stepped, frame_kept}
+use Rattle.warm_world.specs.Stands.{SpellsRecord, StandsFor, Stepped, message_kept}
 use Rattle.warm_world.proofs.Pairs.{Pairwise-append, Pairwise-nil, Pairwise-push}
 
--- one frame more is encoded
-pub encoded_more : (all all' : List (Vec ℕ)) (v : Vec ℕ) (fs : List Frame) (i : ℕ) (f : Frame) → Pairwise (λ _ bytes frame. Encodes bytes frame) (map (λ b. b.items) all) (take i fs)
-    → i < length fs → f ≡ get_or fs i f → all' ≡ all ++ v ∷ [] → Encodes v.items f → Pairwise (λ _ bytes frame. Encodes bytes frame) (map (λ b. b.items) all') (take (i + 1) fs)
+-- one message more is encoded
+pub encoded_more : (all all' : List (Vec ℕ)) (v : Vec ℕ) (fs : List Message) (i : ℕ) (f : Message) → Pairwise (λ _ bytes message. Encodes bytes message) (map (λ b. b.items) all) (take i fs)
+    → i < length fs → f ≡ get_or fs i f → all' ≡ all ++ v ∷ [] → Encodes v.items f → Pairwise (λ _ bytes message. Encodes bytes message) (map (λ b. b.items) all') (take (i + 1) fs)
 encoded_more all all' v fs i f so_far lt is more here =
     let items : Vec ℕ → List ℕ = λ b. b.items in
-    let one : Pairwise (λ _ bytes frame. Encodes bytes frame) (v.items ∷ []) (get_or fs i f ∷ []) =
-    Pairwise-push (λ _ bytes frame. Encodes bytes frame) [] [] v.items (get_or fs i f) (Pairwise-nil (λ _ bytes frame. Encodes bytes frame)) (subst (Encodes v.items) is here) in
+    let one : Pairwise (λ _ bytes message. Encodes bytes message) (v.items ∷ []) (get_or fs i f ∷ []) =
+    Pairwise-push (λ _ bytes message. Encodes bytes message) [] [] v.items (get_or fs i f) (Pairwise-nil (λ _ bytes message. Encodes bytes message)) (subst (Encodes v.items) is here) in
     rw (more, map-append items all (v ∷ []), take_more fs i f lt) (Pairwise-append Encodes (map items all) (v.items ∷ []) (take i fs) (get_or fs i f ∷ []) so_far one)
 
--- the bytes of a record's frame spell the record
-pub spells_kept : (bytes : List ℕ) (frame : Frame) (kept : FrameRecord) → frame ≡ frame_kept kept → Encodes bytes frame → SpellsRecord bytes kept
-spells_kept bytes frame kept is codes = record { spells = subst (Spells bytes) is codes.spells; exact = codes.exact ∙ ap spelling is }
+-- the bytes of a record's message spell the record
+pub spells_kept : (bytes : List ℕ) (message : Message) (kept : MessageRecord) → message ≡ message_kept kept → Encodes bytes message → SpellsRecord bytes kept
+spells_kept bytes message kept is codes = record { spells = subst (Spells bytes) is codes.spells; exact = codes.exact ∙ ap spelling is }
 
--- frames are kept after the others
-pub frames_join : (w : WorldSeen) (m : ModelState) (added : List (List ℕ)) (rs : List FrameRecord) → StandsFor w m → Pairwise (λ _ bytes kept. SpellsRecord bytes kept) added rs → StandsFor (record w { frames = w.frames ++ added }) (add_records m rs)
-frames_join w m added rs st spell = record { replicas = st.replicas; frames = Pairwise-append SpellsRecord w.frames added m.records rs st.frames spell }
+-- messages are kept after the others
+pub messages_join : (w : WorldView) (m : ModelState) (added : List (List ℕ)) (rs : List MessageRecord) → StandsFor w m → Pairwise (λ _ bytes kept. SpellsRecord bytes kept) added rs → StandsFor (record w { messages = w.messages ++ added }) (add_records m rs)
+messages_join w m added rs st spell = record { replicas = st.replicas; messages = Pairwise-append SpellsRecord w.messages added m.records rs st.messages spell }
 
--- the frame at a place spells the record there
-pub frame_at : (w : WorldSeen) (m : ModelState) (k : ℕ) (bytes : List ℕ) → StandsFor w m → k < length w.frames → bytes ≡ get_or w.frames k bytes → SpellsRecord bytes (record_at m k)
-frame_at w m k bytes st lt is = subst (λ b. SpellsRecord b (record_at m k)) (sym is) (st.frames.each k bytes (References 0 (these [])) lt)
+-- the message at a place spells the record there
+pub frame_at : (w : WorldView) (m : ModelState) (k : ℕ) (bytes : List ℕ) → StandsFor w m → k < length w.messages → bytes ≡ get_or w.messages k bytes → SpellsRecord bytes (record_at m k)
+frame_at w m k bytes st lt is = subst (λ b. SpellsRecord b (record_at m k)) (sym is) (st.messages.each k bytes (References 0 (these [])) lt)
 
--- the same of frames that are kept as vectors
-pub kept_at : (w : WorldSeen) (m : ModelState) (k : ℕ) (vs : List (Vec ℕ)) (v : Vec ℕ) → StandsFor w m → w.frames ≡ map (λ b. b.items) vs → IsNumber k (length w.frames) → v ≡ get_or vs (place k) v → SpellsRecord v.items (record_at m (place k))
+-- the same of messages that are kept as vectors
+pub kept_at : (w : WorldView) (m : ModelState) (k : ℕ) (vs : List (Vec ℕ)) (v : Vec ℕ) → StandsFor w m → w.messages ≡ map (λ b. b.items) vs → IsNumber k (length w.messages) → v ≡ get_or vs (place k) v → SpellsRecord v.items (record_at m (place k))
 kept_at w m k vs v st are number is =
-    let lt : place k < length w.frames = omega (arith, number.from_one, number.in_range) in
+    let lt : place k < length w.messages = omega (arith, number.from_one, number.in_range) in
     let lt_vs : place k < length vs = omega (arith, lt, ap length are, length-map vs (λ (b : Vec ℕ). b.items)) in
-    let at : v.items ≡ get_or w.frames (place k) v.items =
+    let at : v.items ≡ get_or w.messages (place k) v.items =
     sym (ap (λ fs. get_or fs (place k) v.items) are ∙ get_or-map (λ (b : Vec ℕ). b.items) vs (place k) v v.items lt_vs ∙ ap (λ (b : Vec ℕ). b.items) (sym is)) in
     frame_at w m (place k) v.items st lt at
 
-one_spelled : (bytes : List ℕ) (kept : FrameRecord) → SpellsRecord bytes kept → Pairwise (λ _ bytes kept. SpellsRecord bytes kept) (bytes ∷ []) (kept ∷ [])
+one_spelled : (bytes : List ℕ) (kept : MessageRecord) → SpellsRecord bytes kept → Pairwise (λ _ bytes kept. SpellsRecord bytes kept) (bytes ∷ []) (kept ∷ [])
 one_spelled bytes kept spells = Pairwise-push (λ _ b r. SpellsRecord b r) [] [] bytes kept (Pairwise-nil (λ _ b r. SpellsRecord b r)) spells
 
--- the frame of a record is kept after the others, or refused
-pub kept_one : (w w' : WorldSeen) (m : ModelState) (event : Event) (frame : Frame) (answer : Answer) (kept : FrameRecord) → StandsFor w m → frame ≡ frame_kept kept → Keeps w frame answer w'
+-- the message of a record is kept after the others, or refused
+pub kept_one : (w w' : WorldView) (m : ModelState) (event : Event) (message : Message) (answer : Answer) (kept : MessageRecord) → StandsFor w m → message ≡ message_kept kept → Keeps w message answer w'
     → ((k : ℕ) (new : ModelState) → k ≡ length new.records → new ≡ add_records m (kept ∷ []) → Next m event (FrameNo k) new)
     → Next m event (Refused (Node Memory)) m → Stepped m event answer w'
-kept_one w w' m event frame (FrameNo k) kept st is keeps next none =
-    let spells = spells_kept keeps.0 frame kept is keeps.1 in
+kept_one w w' m event message (FrameNo k) kept st is keeps next none =
+    let spells = spells_kept keeps.0 message kept is keeps.1 in
     let number : k ≡ length (m.records ++ kept ∷ []) =
-    keeps.2 ∙ ap (λ (v : WorldSeen). length v.frames) keeps.3 ∙ omega (arith, length-append w.frames (keeps.0 ∷ []), length-append m.records (kept ∷ []), st.frames.same_length) in
+    keeps.2 ∙ ap (λ (v : WorldView). length v.messages) keeps.3 ∙ omega (arith, length-append w.messages (keeps.0 ∷ []), length-append m.records (kept ∷ []), st.messages.same_length) in
     record {
       new = add_records m (kept ∷ []);
       next = next k (add_records m (kept ∷ [])) number refl;
-      stands = subst (λ v. StandsFor v (add_records m (kept ∷ []))) (sym keeps.3) (frames_join w m (keeps.0 ∷ []) (kept ∷ []) st (one_spelled keeps.0 kept spells));
+      stands = subst (λ v. StandsFor v (add_records m (kept ∷ []))) (sym keeps.3) (messages_join w m (keeps.0 ∷ []) (kept ∷ []) st (one_spelled keeps.0 kept spells));
     }
-kept_one w w' m event frame (Refused (Node Memory)) kept st is keeps next none = record { new = m; next = none; stands = subst (λ v. StandsFor v m) (sym keeps) st }
-kept_one w w' m event frame answer kept st is keeps next none = absurd keeps
+kept_one w w' m event message (Refused (Node Memory)) kept st is keeps next none = record { new = m; next = none; stands = subst (λ v. StandsFor v m) (sym keeps) st }
+kept_one w w' m event message answer kept st is keeps next none = absurd keeps

@@ -14,18 +14,18 @@ use Rattle.warm_history.proofs.JoinLemmas.{history_first}
 use Rattle.warm_rank.specs.Ranking.{warm}
 use Rattle.warm_rank.proofs.LeavingLemmas.{order_kept}
 use Rattle.warm_frames.specs.declared.layout.TheConstants.{MAX_ENTRIES}
-use Rattle.warm_frames.specs.declared.frame.Frame.{Frame}
-use Rattle.warm_frames.specs.declared.frame.Frame.TheVariants.{Digest, Entries, Want}
+use Rattle.warm_frames.specs.declared.message.Message.{Message}
+use Rattle.warm_frames.specs.declared.message.Message.TheVariants.{Digest, Entries, Want}
 use Rattle.warm_frames.specs.declared.fault.FrameFault.{FrameFault}
 use Rattle.warm_frames.specs.Reading.{Gives}
-use Rattle.warm_digest.specs.BucketSums.{sums_of}
-use Rattle.warm_gossip.specs.Answers.{AnswersSums, IsAnswer, bucket_frames, buckets_in, pieces, sent, taught, wanted_frames}
+use Rattle.warm_digest.specs.BucketDigests.{digests_of}
+use Rattle.warm_gossip.specs.Answers.{AnswersDigests, IsAnswer, bucket_messages, buckets_in, pieces, sent, taught, requested_messages}
 use Rattle.warm_gossip.specs.Pieces.{AreInTurn, last_page}
 use Rattle.warm_gossip.proofs.PieceLemmas.{pieces_in_turn}
 use Rattle.warm_gossip.proofs.RoundLemmas.{entries_teach}
-use Rattle.warm_world.specs.States.{FrameRecord, References, Sums, Mask}
-use Rattle.warm_world.specs.Answered.{AreAnswers, bucket_records, heard, records_of, wanted_records}
-use Rattle.warm_world.specs.Stands.{frame_kept}
+use Rattle.warm_world.specs.States.{MessageRecord, References, Digests, Request}
+use Rattle.warm_world.specs.Answered.{AreAnswers, bucket_records, heard, records_of, requested_records}
+use Rattle.warm_world.specs.Stands.{message_kept}
 
 own_history : (S : ReferenceSet) → history (refs (history S)) ≡ history S
 own_history S = same_hists (refs (history S)) S (horizon-history S) (hist_refs-history S)
@@ -41,89 +41,89 @@ warm_alike h S n ps is are = are ∙ (order_kept h S is).warm_alike n
 horizon_is : (h : HistoryView) (S : ReferenceSet) → h ≡ history S → h.horizon ≡ S.horizon
 horizon_is h S is = ap (λ (g : HistoryView). g.horizon) is ∙ horizon-history S
 
--- what a node sends, and the sums that it offers, are those of the references for which its history stands
-pub sent_kept : (id i : ℕ) (h : HistoryView) (S : ReferenceSet) (bucket : ℕ) (after : Option PageId) → id ≡ i → h ≡ history S → sent id h bucket after ≡ frame_kept (References i (carried S bucket after MAX_ENTRIES))
+-- what a node sends, and the digests that it offers, are those of the references for which its history stands
+pub sent_kept : (id i : ℕ) (h : HistoryView) (S : ReferenceSet) (bucket : ℕ) (after : Option PageId) → id ≡ i → h ≡ history S → sent id h bucket after ≡ message_kept (References i (carried S bucket after MAX_ENTRIES))
 sent_kept id i h S bucket after same is =
     ap (λ n. sent n h bucket after) same
     ∙ ap (λ m. Entries i m (entries_of (history (carried (refs h) bucket after MAX_ENTRIES)))) (horizon_is h S is)
     ∙ ap (Entries i S.horizon) (carried_alike h S bucket after MAX_ENTRIES is)
 
-pub offered_kept : (id i : ℕ) (h : HistoryView) (S : ReferenceSet) → id ≡ i → h ≡ history S → Digest id h.horizon (sums_of (entries_of h)) ≡ frame_kept (Sums i S.horizon (sums_of (entries_of (history S))))
+pub offered_kept : (id i : ℕ) (h : HistoryView) (S : ReferenceSet) → id ≡ i → h ≡ history S → Digest id h.horizon (digests_of (entries_of h)) ≡ message_kept (Digests i S.horizon (digests_of (entries_of (history S))))
 offered_kept id i h S same is =
-    ap (λ n. Digest n h.horizon (sums_of (entries_of h))) same
-    ∙ ap (λ (g : HistoryView). Digest i g.horizon (sums_of (entries_of g))) is
-    ∙ ap (λ m. Digest i m (sums_of (entries_of (history S)))) (horizon-history S)
+    ap (λ n. Digest n h.horizon (digests_of (entries_of h))) same
+    ∙ ap (λ (g : HistoryView). Digest i g.horizon (digests_of (entries_of g))) is
+    ∙ ap (λ m. Digest i m (digests_of (entries_of (history S)))) (horizon-history S)
 
--- the frame that was decoded of bytes is the one that they spell
-pub same_frame : (result : Result Frame FrameFault) (room : Result ℕ FrameFault) (found frame : Frame) → result ≡ Ok found → Gives result (Ok frame) room → found ≡ frame
-same_frame result room found frame is (inl same) =
-    let frame_in : Result Frame FrameFault → Frame = λ r. elim r [ Ok f ↦ f | Err e ↦ found ] in
+-- the message that was decoded of bytes is the one that they spell
+pub same_message : (result : Result Message FrameFault) (capacity : Result ℕ FrameFault) (found message : Message) → result ≡ Ok found → Gives result (Ok message) capacity → found ≡ message
+same_message result capacity found message is (inl same) =
+    let frame_in : Result Message FrameFault → Message = λ r. elim r [ Ok f ↦ f | Err e ↦ found ] in
     ap frame_in (sym is ∙ same)
-same_frame result room found frame is (inr refused) = cc
+same_message result capacity found message is (inr refused) = cc
 
 -- ---- what a replica answers
 
-piece_frames : (i : ℕ) (S : ReferenceSet) (bucket : ℕ) (after : Option PageId) (ps : List (List Entry)) → AreInTurn S bucket MAX_ENTRIES after ps
-    → map (λ part. Entries i S.horizon part) ps ≡ map frame_kept (records_of i S bucket after ps)
-piece_frames i S bucket after [] turn = refl
-piece_frames i S bucket after (piece ∷ others) turn =
-    rw (← turn.0) (ap (λ fs. Entries i S.horizon piece ∷ fs) (piece_frames i S bucket (last_page piece) others turn.2))
+piece_messages : (i : ℕ) (S : ReferenceSet) (bucket : ℕ) (after : Option PageId) (ps : List (List Entry)) → AreInTurn S bucket MAX_ENTRIES after ps
+    → map (λ part. Entries i S.horizon part) ps ≡ map message_kept (records_of i S bucket after ps)
+piece_messages i S bucket after [] turn = refl
+piece_messages i S bucket after (piece ∷ others) turn =
+    rw (← turn.0) (ap (λ fs. Entries i S.horizon piece ∷ fs) (piece_messages i S bucket (last_page piece) others turn.2))
 
-bucket_kept : (i : ℕ) (S : ReferenceSet) (bucket : ℕ) → bucket_frames i (history S) bucket ≡ map frame_kept (bucket_records i S bucket)
+bucket_kept : (i : ℕ) (S : ReferenceSet) (bucket : ℕ) → bucket_messages i (history S) bucket ≡ map message_kept (bucket_records i S bucket)
 bucket_kept i S bucket =
     let parts = pieces MAX_ENTRIES (bucket_entries bucket (entries_of (history S))) in
-    ap (λ m. map (λ part. Entries i m part) parts) (horizon-history S) ∙ piece_frames i S bucket None parts (pieces_in_turn S bucket MAX_ENTRIES (omega arith))
+    ap (λ m. map (λ part. Entries i m part) parts) (horizon-history S) ∙ piece_messages i S bucket None parts (pieces_in_turn S bucket MAX_ENTRIES (omega arith))
 
-buckets_kept : (i : ℕ) (S : ReferenceSet) (bs : List ℕ) → flat_map (bucket_frames i (history S)) bs ≡ map frame_kept (flat_map (bucket_records i S) bs)
+buckets_kept : (i : ℕ) (S : ReferenceSet) (bs : List ℕ) → flat_map (bucket_messages i (history S)) bs ≡ map message_kept (flat_map (bucket_records i S) bs)
 buckets_kept i S [] = refl
 buckets_kept i S (b ∷ bs) =
-    rw (bucket_kept i S b, buckets_kept i S bs) (sym (map-append frame_kept (bucket_records i S b) (flat_map (bucket_records i S) bs)))
+    rw (bucket_kept i S b, buckets_kept i S bs) (sym (map-append message_kept (bucket_records i S b) (flat_map (bucket_records i S) bs)))
 
-pub wanted_kept : (i : ℕ) (S : ReferenceSet) (mask : ℕ) → wanted_frames i (history S) mask ≡ map frame_kept (wanted_records i S mask)
-wanted_kept i S mask = buckets_kept i S (buckets_in mask)
+pub wanted_kept : (i : ℕ) (S : ReferenceSet) (request : ℕ) → requested_messages i (history S) request ≡ map message_kept (requested_records i S request)
+wanted_kept i S request = buckets_kept i S (buckets_in request)
 
--- what a replica's history is once a record's frame came
-pub taught_heard : (S : ReferenceSet) (kept : FrameRecord) → taught (history S) (frame_kept kept) ≡ history (heard S kept)
+-- what a replica's history is once a record's message came
+pub taught_heard : (S : ReferenceSet) (kept : MessageRecord) → taught (history S) (message_kept kept) ≡ history (heard S kept)
 taught_heard S (References sender rs) = entries_teach sender S rs
-taught_heard S (Sums sender horizon sums) = history_first S (record { horizon = horizon; told = [] })
-taught_heard S (Mask sender horizon mask) = history_first S (record { horizon = horizon; told = [] })
+taught_heard S (Digests sender horizon digests) = history_first S (record { horizon = horizon; told = [] })
+taught_heard S (Request sender horizon request) = history_first S (record { horizon = horizon; told = [] })
 
--- The records of what a replica answers to a record's frame.
-pub record RecordsOf (i : ℕ) (S : ReferenceSet) (kept : FrameRecord) (frames : List Frame) : Type 0 where
-  pub added : List FrameRecord
+-- The records of what a replica answers to a record's message.
+pub record RecordsOf (i : ℕ) (S : ReferenceSet) (kept : MessageRecord) (messages : List Message) : Type 0 where
+  pub added : List MessageRecord
   pub answers : AreAnswers i (heard S kept) kept added
-  pub are : frames ≡ map frame_kept added
+  pub are : messages ≡ map message_kept added
 
--- a request for buckets, as a record and as a frame
-mask_kept : (i : ℕ) (S : ReferenceSet) (mask : ℕ) → Want i (history S).horizon mask ≡ frame_kept (Mask i S.horizon mask)
-mask_kept i S mask = ap (λ m. Want i m mask) (horizon-history S)
+-- a request for buckets, as a record and as a message
+request_kept : (i : ℕ) (S : ReferenceSet) (request : ℕ) → Want i (history S).horizon request ≡ message_kept (Request i S.horizon request)
+request_kept i S request = ap (λ m. Want i m request) (horizon-history S)
 
-asking_kept : (i : ℕ) (S : ReferenceSet) (mask : ℕ)
-    → wanted_frames i (history S) mask ++ Want i (history S).horizon mask ∷ [] ≡ map frame_kept (wanted_records i S mask ++ Mask i S.horizon mask ∷ [])
-asking_kept i S mask =
-    rw (wanted_kept i S mask, mask_kept i S mask) (sym (map-append frame_kept (wanted_records i S mask) (Mask i S.horizon mask ∷ [])))
+asking_kept : (i : ℕ) (S : ReferenceSet) (request : ℕ)
+    → requested_messages i (history S) request ++ Want i (history S).horizon request ∷ [] ≡ map message_kept (requested_records i S request ++ Request i S.horizon request ∷ [])
+asking_kept i S request =
+    rw (wanted_kept i S request, request_kept i S request) (sym (map-append message_kept (requested_records i S request) (Request i S.horizon request ∷ [])))
 
-pub asking_or_none : (i : ℕ) (S : ReferenceSet) (mask : ℕ) (none : Bool)
-    → cond none [] (wanted_frames i (history S) mask ++ Want i (history S).horizon mask ∷ []) ≡ map frame_kept (cond none [] (wanted_records i S mask ++ Mask i S.horizon mask ∷ []))
-asking_or_none i S mask true = refl
-asking_or_none i S mask false = asking_kept i S mask
+pub asking_or_none : (i : ℕ) (S : ReferenceSet) (request : ℕ) (none : Bool)
+    → cond none [] (requested_messages i (history S) request ++ Want i (history S).horizon request ∷ []) ≡ map message_kept (cond none [] (requested_records i S request ++ Request i S.horizon request ∷ []))
+asking_or_none i S request true = refl
+asking_or_none i S request false = asking_kept i S request
 
-pub answer_records : (i : ℕ) (S : ReferenceSet) (kept : FrameRecord) (frames : List Frame) → IsAnswer i (history S) (frame_kept kept) frames → RecordsOf i S kept frames
-answer_records i S (References sender rs) frames none = record { added = []; answers = refl; are = none }
-answer_records i S (Mask sender horizon mask) frames are =
-    let T = heard S (Mask sender horizon mask) in
+pub answer_records : (i : ℕ) (S : ReferenceSet) (kept : MessageRecord) (messages : List Message) → IsAnswer i (history S) (message_kept kept) messages → RecordsOf i S kept messages
+answer_records i S (References sender rs) messages none = record { added = []; answers = refl; are = none }
+answer_records i S (Request sender horizon request) messages are =
+    let T = heard S (Request sender horizon request) in
     record {
-      added = wanted_records i T mask;
+      added = requested_records i T request;
       answers = refl;
-      are = are ∙ ap (λ h. wanted_frames i h mask) (taught_heard S (Mask sender horizon mask)) ∙ wanted_kept i T mask;
+      are = are ∙ ap (λ h. requested_messages i h request) (taught_heard S (Request sender horizon request)) ∙ wanted_kept i T request;
     }
-answer_records i S (Sums sender horizon sums) frames answer =
-    let kept = Sums sender horizon sums in
+answer_records i S (Digests sender horizon digests) messages answer =
+    let kept = Digests sender horizon digests in
     let T = heard S kept in
-    let here : AnswersSums i (history T) sums frames = subst (λ h. AnswersSums i h sums frames) (taught_heard S kept) answer in
-    let mask = here.0 in
+    let here : AnswersDigests i (history T) digests messages = subst (λ h. AnswersDigests i h digests messages) (taught_heard S kept) answer in
+    let request = here.0 in
     record {
-      added = cond (mask == 0) [] (wanted_records i T mask ++ Mask i T.horizon mask ∷ []);
-      answers = (mask, here.1, here.2, refl);
-      are = here.3 ∙ asking_or_none i T mask (mask == 0);
+      added = cond (request == 0) [] (requested_records i T request ++ Request i T.horizon request ∷ []);
+      answers = (request, here.1, here.2, refl);
+      are = here.3 ∙ asking_or_none i T request (request == 0);
     }

@@ -9,7 +9,7 @@ use Rattle.warm_pool.specs.declared.TheConstants.{MAX_DEVICES}
 use Rattle.warm_pool.specs.DeviceCalls.{AreOfSize}
 use Rattle.warm_world.specs.Lists.{Pairwise}
 use Rattle.warm_world.specs.Opening.{AreFew, AreSized, devices_at}
-use Rattle.warm_world.specs.Seen.{ReplicaSeen}
+use Rattle.warm_world.specs.Views.{ReplicaView}
 use Rattle.warm_world.specs.Sizes.{Sizes}
 use Rattle.warm_world.specs.States.{opened_over}
 use Rattle.warm_world.specs.Stands.{ReplicaStands}
@@ -72,7 +72,7 @@ module _ {B : Type 0} (f : B → DeviceState) where
       subst (λ n. n ≤ MAX_DEVICES) (ap length (listed_at lists (length so_far) v there.0 there.1) ∙ length-map v.items f) (few (length so_far) (subst (λ n. length so_far < n) (sym (count lists)) there.0))
 
   -- a replica over one list more
-  pub one_more : {A : Type 0} (g : A → ReplicaSeen) (s : Sizes) (rs rs' : List A) (r : A) (so_far : List (Vec B)) (v : Vec B) → rs' ≡ rs ++ r ∷ []
+  pub one_more : {A : Type 0} (g : A → ReplicaView) (s : Sizes) (rs rs' : List A) (r : A) (so_far : List (Vec B)) (v : Vec B) → rs' ≡ rs ++ r ∷ []
       → Pairwise (ReplicaStands s.buffer) (map g rs) (map (opened_over s) (shown so_far)) → ReplicaStands s.buffer (length rs) (g r) (opened_over s (map f v.items))
       → Pairwise (ReplicaStands s.buffer) (map g rs') (map (opened_over s) (shown (so_far ++ v ∷ [])))
   one_more g s rs rs' r so_far v more stand here =

@@ -20,47 +20,47 @@ use Rattle.warm_pool.specs.State as pools
 use Rattle.warm_pool.specs.View.{PoolView, view_of}
 use Rattle.warm_gossip.specs.State.{NodeState, NodeView, node_view, opened}
 use Rattle.warm_world.specs.Sizes.{Sizes}
-use Rattle.warm_world.specs.Seen.{ReplicaSeen}
+use Rattle.warm_world.specs.Views.{ReplicaView}
 use Rattle.warm_refbuffer.specs.declared.Full.{Full}
 use Rattle.warm_refbuffer.specs.Buffered.{cleared, with_last}
 use Rattle.warm_world.specs.Stands.{ReplicaStands, buffered}
 
-pub buffer_at : (room : ℕ) (bs : List Buffered) (ps : List (List Reference)) (w : ℕ) (d : Buffered) → bs ≡ map (buffered room) ps → w < length bs → get_or bs w d ≡ buffered room (get_or ps w [])
-buffer_at room bs ps w d is lt =
-    let lt_ps : w < length ps = omega (arith, ap length is, length-map ps (buffered room)) in
-    rw is (get_or-map (buffered room) ps w [] d lt_ps)
+pub buffer_at : (capacity : ℕ) (bs : List Buffered) (ps : List (List Reference)) (w : ℕ) (d : Buffered) → bs ≡ map (buffered capacity) ps → w < length bs → get_or bs w d ≡ buffered capacity (get_or ps w [])
+buffer_at capacity bs ps w d is lt =
+    let lt_ps : w < length ps = omega (arith, ap length is, length-map ps (buffered capacity)) in
+    rw is (get_or-map (buffered capacity) ps w [] d lt_ps)
 
-pub buffer_set : (room : ℕ) (bs : List Buffered) (ps : List (List Reference)) (w : ℕ) (b : Buffered) (p : List Reference) → bs ≡ map (buffered room) ps → b ≡ buffered room p → set bs w b ≡ map (buffered room) (set ps w p)
-buffer_set room bs ps w b p is here = rw (is, here) (sym (map-set (buffered room) ps w p))
+pub buffer_set : (capacity : ℕ) (bs : List Buffered) (ps : List (List Reference)) (w : ℕ) (b : Buffered) (p : List Reference) → bs ≡ map (buffered capacity) ps → b ≡ buffered capacity p → set bs w b ≡ map (buffered capacity) (set ps w p)
+buffer_set capacity bs ps w b p is here = rw (is, here) (sym (map-set (buffered capacity) ps w p))
 
 -- each buffer is emptied
-pub buffers_emptied : (room : ℕ) (ps : List (List Reference)) → map cleared (map (buffered room) ps) ≡ map (buffered room) (map (λ _. []) ps)
-buffers_emptied room [] = refl
-buffers_emptied room (p ∷ ps) = ap (λ bs. buffered room [] ∷ bs) (buffers_emptied room ps)
+pub buffers_emptied : (capacity : ℕ) (ps : List (List Reference)) → map cleared (map (buffered capacity) ps) ≡ map (buffered capacity) (map (λ _. []) ps)
+buffers_emptied capacity [] = refl
+buffers_emptied capacity (p ∷ ps) = ap (λ bs. buffered capacity [] ∷ bs) (buffers_emptied capacity ps)
 
--- what a buffer is seen to hold
-pub buffer_is : (room : ℕ) (bs : List Buffered) (ps : List (List Reference)) (w : ℕ) (b : Buffered) → bs ≡ map (buffered room) ps → w < length bs → b ≡ get_or bs w b → b ≡ buffered room (get_or ps w [])
-buffer_is room bs ps w b is lt read = read ∙ buffer_at room bs ps w b is lt
+-- what a buffer is world_view to hold
+pub buffer_is : (capacity : ℕ) (bs : List Buffered) (ps : List (List Reference)) (w : ℕ) (b : Buffered) → bs ≡ map (buffered capacity) ps → w < length bs → b ≡ get_or bs w b → b ≡ buffered capacity (get_or ps w [])
+buffer_is capacity bs ps w b is lt read = read ∙ buffer_at capacity bs ps w b is lt
 
-pub referred_when_full : (room k : ℕ) (x : Reference) (m : ReplicaState) → room ≤ length (pending m k) → referred room k x m ≡ put_last k x (flushed k m)
-referred_when_full room k x m full = grind (arith, nat_tests)
+pub referred_when_full : (capacity k : ℕ) (x : Reference) (m : ReplicaState) → capacity ≤ length (pending m k) → referred capacity k x m ≡ put_last k x (flushed k m)
+referred_when_full capacity k x m full = grind (arith, nat_tests)
 
-pub referred_with_room : (room k : ℕ) (x : Reference) (m : ReplicaState) → length (pending m k) < room → referred room k x m ≡ put_last k x m
-referred_with_room room k x m few = grind (arith, nat_tests)
+pub referred_with_room : (capacity k : ℕ) (x : Reference) (m : ReplicaState) → length (pending m k) < capacity → referred capacity k x m ≡ put_last k x m
+referred_with_room capacity k x m few = grind (arith, nat_tests)
 
--- a buffer that took a reference had room for it
+-- a buffer that took a reference had capacity for it
 pub took_one : (b b' : Buffered) (x : Reference) (result : Result Unit Full) (done : Unit) → result ≡ Ok done
-    → (b.cap ≤ length b.refs → (result ≡ Err (record { 0 = x })) × (b' ≡ b)) → length b.refs < b.cap
-took_one b b' x result done is full = elim (cases_lt (length b.refs) b.cap) [
+    → (b.capacity ≤ length b.refs → (result ≡ Err (record { 0 = x })) × (b' ≡ b)) → length b.refs < b.capacity
+took_one b b' x result done is full = elim (cases_lt (length b.refs) b.capacity) [
   | inl few ↦ few
   | inr many ↦ let never : is_ok result ≡ false = ap is_ok (full many).0 in let ok : is_ok result ≡ true = ap is_ok is in absurd (cc)
 ]
 
 -- and one that gave a reference back was full, and is as it was
 pub gave_back : (b b' : Buffered) (x y : Reference) (result : Result Unit Full) → result ≡ Err (record { 0 = y })
-    → (length b.refs < b.cap → IsOk result × (b' ≡ with_last b x)) → (b.cap ≤ length b.refs → (result ≡ Err (record { 0 = x })) × (b' ≡ b))
-    → (b.cap ≤ length b.refs) × (b' ≡ b) × (y ≡ x)
-gave_back b b' x y result is taken full = elim (cases_lt (length b.refs) b.cap) [
+    → (length b.refs < b.capacity → IsOk result × (b' ≡ with_last b x)) → (b.capacity ≤ length b.refs → (result ≡ Err (record { 0 = x })) × (b' ≡ b))
+    → (b.capacity ≤ length b.refs) × (b' ≡ b) × (y ≡ x)
+gave_back b b' x y result is taken full = elim (cases_lt (length b.refs) b.capacity) [
   | inl few ↦ let ok : is_ok result ≡ true = (taken few).0 in let never : is_ok result ≡ false = ap is_ok is in absurd (cc)
   | inr many ↦
       let given : Result Unit Full → Reference = λ r. elim r [ Ok done ↦ y | Err back ↦ back.0 ] in
@@ -73,37 +73,37 @@ handed_on (Ok x) e P is p = tt
 handed_on (Err y) e P is p = subst P (sym is) p
 
 -- a reference is put last in a buffer
-pub puts : (room place k : ℕ) (old new : ReplicaSeen) (m : ReplicaState) (x : Reference) (b : Buffered) → ReplicaStands room place old m
-    → b ≡ buffered room (pending m k ++ x ∷ []) → (let r : ReplicaSeen = record old { buffers = set old.buffers k b } in new ≡ r) → ReplicaStands room place new (put_last k x m)
-puts room place k old new m x b st is becomes = record {
+pub puts : (capacity place k : ℕ) (old new : ReplicaView) (m : ReplicaState) (x : Reference) (b : Buffered) → ReplicaStands capacity place old m
+    → b ≡ buffered capacity (pending m k ++ x ∷ []) → (let r : ReplicaView = record old { buffers = set old.buffers k b } in new ≡ r) → ReplicaStands capacity place new (put_last k x m)
+puts capacity place k old new m x b st is becomes = record {
   has_room = st.has_room;
-  node_is = ap (λ (r : ReplicaSeen). r.node) becomes ∙ st.node_is;
-  buffers_are = ap (λ (r : ReplicaSeen). r.buffers) becomes ∙ buffer_set room old.buffers m.pending k b (pending m k ++ x ∷ []) st.buffers_are is;
+  node_is = ap (λ (r : ReplicaView). r.node) becomes ∙ st.node_is;
+  buffers_are = ap (λ (r : ReplicaView). r.buffers) becomes ∙ buffer_set capacity old.buffers m.pending k b (pending m k ++ x ∷ []) st.buffers_are is;
 }
 
 -- nothing waits in a buffer that was flushed
-pub flushed_is_empty : (room k : ℕ) (bs : List Buffered) (m : ReplicaState) → bs ≡ map (buffered room) m.pending → k < length bs → pending (flushed k m) k ≡ []
-flushed_is_empty room k bs m is lt =
-    let lt_ps : k < length m.pending = omega (arith, ap length is, length-map m.pending (buffered room)) in
+pub flushed_is_empty : (capacity k : ℕ) (bs : List Buffered) (m : ReplicaState) → bs ≡ map (buffered capacity) m.pending → k < length bs → pending (flushed k m) k ≡ []
+flushed_is_empty capacity k bs m is lt =
+    let lt_ps : k < length m.pending = omega (arith, ap length is, length-map m.pending (buffered capacity)) in
     get_or-set_same m.pending k [] [] lt_ps
 
 -- empty buffers, one for each worker
-pub empty_buffers_are : (room n : ℕ) → map (buffered room) (replicate n []) ≡ replicate n (buffered room [])
-empty_buffers_are room zero = refl
-empty_buffers_are room (suc n) = ap (λ bs. buffered room [] ∷ bs) (empty_buffers_are room n)
+pub empty_buffers_are : (capacity n : ℕ) → map (buffered capacity) (replicate n []) ≡ replicate n (buffered capacity [])
+empty_buffers_are capacity zero = refl
+empty_buffers_are capacity (suc n) = ap (λ bs. buffered capacity [] ∷ bs) (empty_buffers_are capacity n)
 
--- ---- a replica as it is seen
+-- ---- a replica as it is world_view
 
 -- what waits in a buffer reaches the replica
-pub flushes : (room place k : ℕ) (old new : ReplicaSeen) (m : ReplicaState) (batch : List Reference) → ReplicaStands room place old m
+pub flushes : (capacity place k : ℕ) (old new : ReplicaView) (m : ReplicaState) (batch : List Reference) → ReplicaStands capacity place old m
     → k < length old.buffers → batch ≡ get_or m.pending k [] → new.node ≡ record old.node { history = history (refs old.node.history ∪ these batch) }
-    → new.buffers ≡ set old.buffers k (buffered room []) → ReplicaStands room place new (flushed k m)
-flushes room place k old new m batch st lt is told emptied = record {
+    → new.buffers ≡ set old.buffers k (buffered capacity []) → ReplicaStands capacity place new (flushed k m)
+flushes capacity place k old new m batch st lt is told emptied = record {
   has_room = st.has_room;
   node_is = told
       ∙ ap (λ (n : NodeView). let v : NodeView = record n { history = history (refs n.history ∪ these batch) } in v) st.node_is
       ∙ ap (λ (h : HistoryView). let v : NodeView = record { id = place + 1; history = h; pool = m.pool } in v) (history_first m.reach (these batch) ∙ ap (λ b. history (m.reach ∪ these b)) is);
-  buffers_are = emptied ∙ buffer_set room old.buffers m.pending k (buffered room []) [] st.buffers_are refl;
+  buffers_are = emptied ∙ buffer_set capacity old.buffers m.pending k (buffered capacity []) [] st.buffers_are refl;
 }
 
 history_of_nothing : history (these []) ≡ holding []
@@ -111,10 +111,10 @@ unfolding history
 history_of_nothing = refl
 
 -- a replica that was told nothing, over a pool that was made so
-pub opened_stands : (s : Sizes) (devices : List DeviceState) (place id room workers frames size : ℕ) (n : NodeState) (p : PoolState) (bs : List Buffered)
-    → 1 ≤ room → room ≡ s.buffer → workers ≡ s.workers → frames ≡ s.frames → size ≡ s.page_size → id ≡ place + 1 → n ≡ opened id p → p ≡ pools.opened frames size devices
-    → bs ≡ replicate workers (buffered room []) → ReplicaStands s.buffer place (record { node = node_view n; buffers = bs }) (opened_over s devices)
-opened_stands s devices place id room workers frames size n p bs some of_room of_workers of_frames of_size number node made empty = record {
+pub opened_stands : (s : Sizes) (devices : List DeviceState) (place id capacity workers frames size : ℕ) (n : NodeState) (p : PoolState) (bs : List Buffered)
+    → 1 ≤ capacity → capacity ≡ s.buffer → workers ≡ s.workers → frames ≡ s.frames → size ≡ s.page_size → id ≡ place + 1 → n ≡ opened id p → p ≡ pools.opened frames size devices
+    → bs ≡ replicate workers (buffered capacity []) → ReplicaStands s.buffer place (record { node = node_view n; buffers = bs }) (opened_over s devices)
+opened_stands s devices place id capacity workers frames size n p bs some of_room of_workers of_frames of_size number node made empty = record {
   has_room = omega (arith, some, of_room);
   node_is = ap node_view node
       ∙ ap (λ (q : PoolState). let v : NodeView = record { id = id; history = holding []; pool = view_of q } in v)
@@ -125,29 +125,29 @@ opened_stands s devices place id room workers frames size n p bs some of_room of
 }
 
 -- a replica whose horizon has risen, or stayed
-pub raises : (room place time : ℕ) (old new : ReplicaSeen) (m : ReplicaState) → ReplicaStands room place old m
-    → (let r : ReplicaSeen = record old { node = record old.node { history = history (since time (refs old.node.history)) } } in new ≡ r)
-    → ReplicaStands room place new (raised time m)
-raises room place time old new m st becomes = record {
+pub raises : (capacity place time : ℕ) (old new : ReplicaView) (m : ReplicaState) → ReplicaStands capacity place old m
+    → (let r : ReplicaView = record old { node = record old.node { history = history (since time (refs old.node.history)) } } in new ≡ r)
+    → ReplicaStands capacity place new (raised time m)
+raises capacity place time old new m st becomes = record {
   has_room = st.has_room;
-  node_is = ap (λ (r : ReplicaSeen). r.node) becomes
+  node_is = ap (λ (r : ReplicaView). r.node) becomes
       ∙ ap (λ (n : NodeView). let v : NodeView = record n { history = history (since time (refs n.history)) } in v) st.node_is
       ∙ ap (λ (h : HistoryView). let v : NodeView = record { id = place + 1; history = h; pool = m.pool } in v) (history_first m.reach (record { horizon = time; told = [] }));
-  buffers_are = ap (λ (r : ReplicaSeen). r.buffers) becomes ∙ st.buffers_are;
+  buffers_are = ap (λ (r : ReplicaView). r.buffers) becomes ∙ st.buffers_are;
 }
 
 -- its horizon is that of what reached it
-pub horizon_seen : (room place : ℕ) (r : ReplicaSeen) (m : ReplicaState) → ReplicaStands room place r m → r.node.history.horizon ≡ m.reach.horizon
-horizon_seen room place r m st = ap (λ (n : NodeView). n.history.horizon) st.node_is ∙ horizon-history m.reach
+pub horizon_seen : (capacity place : ℕ) (r : ReplicaView) (m : ReplicaState) → ReplicaStands capacity place r m → r.node.history.horizon ≡ m.reach.horizon
+horizon_seen capacity place r m st = ap (λ (n : NodeView). n.history.horizon) st.node_is ∙ horizon-history m.reach
 
 -- a replica whose node has restarted
-pub restarts : (room place : ℕ) (old new : ReplicaSeen) (m : ReplicaState) (pool : PoolView) → ReplicaStands room place old m
-    → (let r : ReplicaSeen = record { node = record old.node { history = holding []; pool = pool }; buffers = map cleared old.buffers } in new ≡ r)
-    → ReplicaStands room place new (restarted pool m)
-restarts room place old new m pool st becomes = record {
+pub restarts : (capacity place : ℕ) (old new : ReplicaView) (m : ReplicaState) (pool : PoolView) → ReplicaStands capacity place old m
+    → (let r : ReplicaView = record { node = record old.node { history = holding []; pool = pool }; buffers = map cleared old.buffers } in new ≡ r)
+    → ReplicaStands capacity place new (restarted pool m)
+restarts capacity place old new m pool st becomes = record {
   has_room = st.has_room;
-  node_is = ap (λ (r : ReplicaSeen). r.node) becomes
+  node_is = ap (λ (r : ReplicaView). r.node) becomes
       ∙ ap (λ (n : NodeView). let v : NodeView = record n { history = holding []; pool = pool } in v) st.node_is
       ∙ ap (λ (h : HistoryView). let v : NodeView = record { id = place + 1; history = h; pool = pool } in v) (sym history_of_nothing);
-  buffers_are = ap (λ (r : ReplicaSeen). r.buffers) becomes ∙ ap (map cleared) st.buffers_are ∙ buffers_emptied room m.pending;
+  buffers_are = ap (λ (r : ReplicaView). r.buffers) becomes ∙ ap (map cleared) st.buffers_are ∙ buffers_emptied capacity m.pending;
 }

@@ -1,4 +1,4 @@
--- Deliveries of a world are frames that a node hears.
+-- Deliveries of a world are messages that a node hears.
 use Rattle.std.proofs.Common.{◌≡◌, ◌≢◌, ◌⊎◌, inl, inr, ℕ, ◌+◌, ◌-◌, ◌<◌, List, [], ◌∷◌, ◌++◌, length, map, refl, sym, ap, subst, ◌∙◌, append_assoc, arith}
 use Rattle.std.specs.Prelude.{◌==◌, slice_index_or}
 use Rattle.std.specs.List.{AllByRecursion}
@@ -8,41 +8,41 @@ use Rattle.warm_history.specs.ReferenceSets.{ReferenceSet, these, since}
 use Rattle.warm_history.specs.Histories.{HistoryView, entries_of, history, join}
 use Rattle.warm_history.proofs.HistoryLemmas.{IsHistory-history, horizon-history}
 use Rattle.warm_history.proofs.JoinLemmas.{join_repeats, raised_to_no_later}
-use Rattle.warm_frames.specs.declared.frame.Frame.{Frame}
-use Rattle.warm_frames.specs.declared.frame.Frame.TheVariants.{Digest}
-use Rattle.warm_digest.specs.BucketSums.{sums_of}
+use Rattle.warm_frames.specs.declared.message.Message.{Message}
+use Rattle.warm_frames.specs.declared.message.Message.TheVariants.{Digest}
+use Rattle.warm_digest.specs.BucketDigests.{digests_of}
 use Rattle.warm_digest.specs.Exchange.{Fits, IsCollision}
-use Rattle.warm_gossip.specs.Answers.{wanted_frames, AnswersSums, IsAnswer, taught}
+use Rattle.warm_gossip.specs.Answers.{requested_messages, AnswersDigests, IsAnswer, taught}
 use Rattle.warm_gossip.specs.Round.{Hears, offer}
 use Rattle.warm_gossip.specs.Round as node
-use Rattle.warm_gossip.proofs.RoundLemmas.{own_sums_unanswered, entries_teach}
+use Rattle.warm_gossip.proofs.RoundLemmas.{own_digests_unanswered, entries_teach}
 use Rattle.warm_gossip.proofs.RoundLemmas as node_rounds
 use Rattle.warm_world.specs.declared.event.Event.TheVariants.{Offer, Deliver}
 use Rattle.warm_world.specs.declared.event.Answer.{Answer}
 use Rattle.warm_world.specs.declared.event.Answer.TheVariants.{FrameNo, Took, Refused}
 use Rattle.warm_world.specs.Lists.{place}
-use Rattle.warm_world.specs.States.{ModelState, FrameRecord, References, Sums, Mask, ReplicaState, add_records, nobody, replica, reach_of, record_at}
+use Rattle.warm_world.specs.States.{ModelState, MessageRecord, References, Digests, Request, ReplicaState, add_records, nobody, replica, reach_of, record_at}
 use Rattle.warm_world.specs.Answered.{AreAnswers, heard}
 use Rattle.warm_world.specs.Next.{Next, Run, Delivered, IsNamed, shape}
-use Rattle.warm_world.specs.Stands.{frame_kept}
+use Rattle.warm_world.specs.Stands.{message_kept}
 use Rattle.std.proofs.Math.Nat.{le_refl}
 use Rattle.warm_world.proofs.Histories.{asking_or_none, taught_heard, wanted_kept}
 use Rattle.warm_world.proofs.WidthLemmas.{histories_fit}
-use Rattle.warm_world.specs.Rounds.{IsTaken, NoneRefused, deliveries, new_frames_to, GossipRound, known_to, AreJoined, GossipRoundJoins}
+use Rattle.warm_world.specs.Rounds.{IsTaken, NoneRefused, deliveries, new_messages_to, GossipRound, known_to, AreJoined, GossipRoundJoins}
 
--- ---- the records of an answer, as the frames that a node answers
+-- ---- the records of an answer, as the messages that a node answers
 
 -- the answers of the model are answers of the node
-pub answers_kept : (i : ℕ) (S : ReferenceSet) (kept : FrameRecord) (added : List FrameRecord) → AreAnswers i (heard S kept) kept added → IsAnswer i (history S) (frame_kept kept) (map frame_kept added)
-answers_kept i S (References sender refs) added is = ap (map frame_kept) is
-answers_kept i S (Mask sender horizon mask) added is =
-    let kept = Mask sender horizon mask in
-    ap (map frame_kept) is ∙ sym (wanted_kept i (heard S kept) mask) ∙ ap (λ (h : HistoryView). wanted_frames i h mask) (sym (taught_heard S kept))
-answers_kept i S (Sums sender horizon sums) added is =
-    let kept = Sums sender horizon sums in
-    let here : AnswersSums i (history (heard S kept)) sums (map frame_kept added) =
-    (is.0, is.1, is.2, ap (map frame_kept) is.3 ∙ sym (asking_or_none i (heard S kept) is.0 (is.0 == 0))) in
-    subst (λ (h : HistoryView). AnswersSums i h sums (map frame_kept added)) (sym (taught_heard S kept)) here
+pub answers_kept : (i : ℕ) (S : ReferenceSet) (kept : MessageRecord) (added : List MessageRecord) → AreAnswers i (heard S kept) kept added → IsAnswer i (history S) (message_kept kept) (map message_kept added)
+answers_kept i S (References sender refs) added is = ap (map message_kept) is
+answers_kept i S (Request sender horizon request) added is =
+    let kept = Request sender horizon request in
+    ap (map message_kept) is ∙ sym (wanted_kept i (heard S kept) request) ∙ ap (λ (h : HistoryView). requested_messages i h request) (sym (taught_heard S kept))
+answers_kept i S (Digests sender horizon digests) added is =
+    let kept = Digests sender horizon digests in
+    let here : AnswersDigests i (history (heard S kept)) digests (map message_kept added) =
+    (is.0, is.1, is.2, ap (map message_kept) is.3 ∙ sym (asking_or_none i (heard S kept) is.0 (is.0 == 0))) in
+    subst (λ (h : HistoryView). AnswersDigests i h digests (map message_kept added)) (sym (taught_heard S kept)) here
 
 -- ---- one delivery
 
@@ -58,23 +58,23 @@ delivery old j k (Took count first) new taken next = record { named = next.0; co
 delivery old j k (Refused fault) new taken next = absurd taken
 delivery old j k answer new taken next = absurd next.1
 
-abbrev nth : List FrameRecord → ℕ → FrameRecord
+abbrev nth : List MessageRecord → ℕ → MessageRecord
 nth records k = slice_index_or records k (References 0 (these []))
 
 -- the record after the first ones
-next_record : (records before : List FrameRecord) (kept : FrameRecord) (after : List FrameRecord) → records ≡ before ++ kept ∷ after → nth records (place (length before + 1)) ≡ kept
+next_record : (records before : List MessageRecord) (kept : MessageRecord) (after : List MessageRecord) → records ≡ before ++ kept ∷ after → nth records (place (length before + 1)) ≡ kept
 next_record records before kept after is =
     let at : place (length before + 1) ≡ length before + 0 = omega arith in
-    ap (nth records) at ∙ ap (λ (all : List FrameRecord). nth all (length before + 0)) is ∙ get_or-append-add before (kept ∷ after) 0 (References 0 (these []))
+    ap (nth records) at ∙ ap (λ (all : List MessageRecord). nth all (length before + 0)) is ∙ get_or-append-add before (kept ∷ after) 0 (References 0 (these []))
 
 -- what a delivery does to what reached the replicas, and to the records
-record IsHeard (j : ℕ) (kept : FrameRecord) (added : List FrameRecord) (old new : ModelState) : Type 0 where
-  answers : IsAnswer j (known_to old j) (frame_kept kept) (map frame_kept added)
-  taught_it : known_to new j ≡ taught (known_to old j) (frame_kept kept)
+record IsHeard (j : ℕ) (kept : MessageRecord) (added : List MessageRecord) (old new : ModelState) : Type 0 where
+  answers : IsAnswer j (known_to old j) (message_kept kept) (map message_kept added)
+  taught_it : known_to new j ≡ taught (known_to old j) (message_kept kept)
   others : (i : ℕ) → place i ≢ place j → reach_of new i ≡ reach_of old i
   records : new.records ≡ old.records ++ added
 
-is_heard : (old : ModelState) (j k : ℕ) (kept : FrameRecord) (new : ModelState) (d : IsDelivery old j k new) → record_at old (place k) ≡ kept → IsHeard j kept d.done.added old new
+is_heard : (old : ModelState) (j k : ℕ) (kept : MessageRecord) (new : ModelState) (d : IsDelivery old j k new) → record_at old (place k) ≡ kept → IsHeard j kept d.done.added old new
 is_heard old j k kept new d is =
     let S : ReferenceSet = reach_of old j in
     let next : ReplicaState = record (replica old (place j)) { reach = heard S (record_at old (place k)) } in
@@ -82,8 +82,8 @@ is_heard old j k kept new d is =
     let own : reach_of new j ≡ heard S (record_at old (place k)) =
     ap (λ (m : ModelState). reach_of m j) d.done.becomes ∙ ap (λ (r : ReplicaState). r.reach) (get_or-set_same old.replicas (place j) next nobody there) in
     record {
-      answers = subst (λ (r : FrameRecord). IsAnswer j (known_to old j) (frame_kept r) (map frame_kept d.done.added)) is (answers_kept j S (record_at old (place k)) d.done.added d.done.answers);
-      taught_it = ap history own ∙ sym (taught_heard S (record_at old (place k))) ∙ ap (λ (r : FrameRecord). taught (known_to old j) (frame_kept r)) is;
+      answers = subst (λ (r : MessageRecord). IsAnswer j (known_to old j) (message_kept r) (map message_kept d.done.added)) is (answers_kept j S (record_at old (place k)) d.done.added d.done.answers);
+      taught_it = ap history own ∙ sym (taught_heard S (record_at old (place k))) ∙ ap (λ (r : MessageRecord). taught (known_to old j) (message_kept r)) is;
       others = λ i other. ap (λ (m : ModelState). reach_of m i) d.done.becomes ∙ ap (λ (r : ReplicaState). r.reach) (get_or-set_other old.replicas (place j) (place i) next nobody other);
       records = ap (λ (m : ModelState). m.records) d.done.becomes;
     }
@@ -91,13 +91,13 @@ is_heard old j k kept new d is =
 -- ---- deliveries one after the other
 
 -- the replica j has heard these records, its answers were kept, and nothing else reached a replica
-record HeardAll (j : ℕ) (heard_ones : List FrameRecord) (old new : ModelState) : Type 0 where
-  added : List FrameRecord
+record HeardAll (j : ℕ) (heard_ones : List MessageRecord) (old new : ModelState) : Type 0 where
+  added : List MessageRecord
   records : new.records ≡ old.records ++ added
-  hears : Hears j (known_to old j) (map frame_kept heard_ones) (map frame_kept added) (known_to new j)
+  hears : Hears j (known_to old j) (map message_kept heard_ones) (map message_kept added) (known_to new j)
   others : (i : ℕ) → place i ≢ place j → reach_of new i ≡ reach_of old i
 
-hears_run : (j : ℕ) (fs before after : List FrameRecord) (old new : ModelState) (answers : List Answer) → old.records ≡ before ++ (fs ++ after)
+hears_run : (j : ℕ) (fs before after : List MessageRecord) (old new : ModelState) (answers : List Answer) → old.records ≡ before ++ (fs ++ after)
     → Run old (deliveries j (length before) (length fs)) answers new → AllByRecursion IsTaken answers → HeardAll j fs old new
 hears_run j [] before after old new [] is run taken = record {
   added = [];
@@ -113,41 +113,41 @@ hears_run j (f ∷ fs) before after old new (answer ∷ answers) is run taken =
     let one : IsHeard j f d.done.added old mid = is_heard old j (length before + 1) f mid d (next_record old.records before f (fs ++ after) is) in
     let parts : mid.records ≡ (before ++ f ∷ []) ++ (fs ++ (after ++ d.done.added)) =
     one.records
-    ∙ ap (λ (rs : List FrameRecord). rs ++ d.done.added) is
+    ∙ ap (λ (rs : List MessageRecord). rs ++ d.done.added) is
     ∙ append_assoc before (f ∷ (fs ++ after)) d.done.added
-    ∙ ap (λ (rs : List FrameRecord). before ++ f ∷ rs) (append_assoc fs after d.done.added)
+    ∙ ap (λ (rs : List MessageRecord). before ++ f ∷ rs) (append_assoc fs after d.done.added)
     ∙ sym (append_assoc before (f ∷ []) (fs ++ (after ++ d.done.added))) in
     let longer : length before + 1 ≡ length (before ++ f ∷ []) = sym (length-append before (f ∷ [])) in
     let rest : HeardAll j fs mid new =
     hears_run j fs (before ++ f ∷ []) (after ++ d.done.added) mid new answers parts (subst (λ (n : ℕ). Run mid (deliveries j n (length fs)) answers new) longer run.2) taken.1 in
     record {
       added = d.done.added ++ rest.added;
-      records = rest.records ∙ ap (λ (rs : List FrameRecord). rs ++ rest.added) one.records ∙ append_assoc old.records d.done.added rest.added;
+      records = rest.records ∙ ap (λ (rs : List MessageRecord). rs ++ rest.added) one.records ∙ append_assoc old.records d.done.added rest.added;
       hears = (
-        map frame_kept d.done.added,
-        map frame_kept rest.added,
+        map message_kept d.done.added,
+        map message_kept rest.added,
         one.answers,
-        subst (λ (h : HistoryView). Hears j h (map frame_kept fs) (map frame_kept rest.added) (known_to new j)) one.taught_it rest.hears,
-        map-append frame_kept d.done.added rest.added,
+        subst (λ (h : HistoryView). Hears j h (map message_kept fs) (map message_kept rest.added) (known_to new j)) one.taught_it rest.hears,
+        map-append message_kept d.done.added rest.added,
       );
       others = λ i other. rest.others i other ∙ one.others i other;
     }
 
 -- what was kept between two states comes to the replica j
-hears_new : (j : ℕ) (fs : List FrameRecord) (before after new : ModelState) → after.records ≡ before.records ++ fs → NoneRefused after (new_frames_to j before after) new → HeardAll j fs after new
+hears_new : (j : ℕ) (fs : List MessageRecord) (before after new : ModelState) → after.records ≡ before.records ++ fs → NoneRefused after (new_messages_to j before after) new → HeardAll j fs after new
 hears_new j fs before after new is come =
     let many : length after.records - length before.records ≡ length fs = omega (arith, ap length is, length-append before.records fs) in
-    hears_run j fs before.records [] after new come.answers (is ∙ ap (λ (rs : List FrameRecord). before.records ++ rs) (sym (append-nil fs)))
+    hears_run j fs before.records [] after new come.answers (is ∙ ap (λ (rs : List MessageRecord). before.records ++ rs) (sym (append-nil fs)))
     (subst (λ (n : ℕ). Run after (deliveries j (length before.records) n) come.answers new) many come.run) come.taken
 
 -- ---- the offer
 
-abbrev offer_record : ModelState → ℕ → FrameRecord
-offer_record m i = Sums i (reach_of m i).horizon (sums_of (entries_of (known_to m i)))
+abbrev offer_record : ModelState → ℕ → MessageRecord
+offer_record m i = Digests i (reach_of m i).horizon (digests_of (entries_of (known_to m i)))
 
 -- it is the offer of the node
-offer_is : (m : ModelState) (i : ℕ) → frame_kept (offer_record m i) ≡ offer i (known_to m i)
-offer_is m i = ap (λ (horizon : ℕ). Digest i horizon (sums_of (entries_of (known_to m i)))) (sym (horizon-history (reach_of m i)))
+offer_is : (m : ModelState) (i : ℕ) → message_kept (offer_record m i) ≡ offer i (known_to m i)
+offer_is m i = ap (λ (horizon : ℕ). Digest i horizon (digests_of (entries_of (known_to m i)))) (sym (horizon-history (reach_of m i)))
 
 offer_kept : (old : ModelState) (i : ℕ) (answer : Answer) (new : ModelState) → IsTaken answer → Next old (Offer i) answer new → new ≡ add_records old (offer_record old i ∷ [])
 offer_kept old i (FrameNo k) new taken next = next.1.1
@@ -161,15 +161,15 @@ offered_is old i (answer ∷ other ∷ answers) new run taken = absurd run.2
 
 -- ---- the round
 
-none_mapped : (rs : List FrameRecord) → map frame_kept rs ≡ [] → rs ≡ []
+none_mapped : (rs : List MessageRecord) → map message_kept rs ≡ [] → rs ≡ []
 none_mapped [] is = refl
 none_mapped (r ∷ rs) is = absurd (cc)
 
 -- who hears nothing answers nothing, and knows what it knew
-hears_nothing : (j : ℕ) (fs : List FrameRecord) (old new : ModelState) → fs ≡ [] → (all : HeardAll j fs old new) → (all.added ≡ []) × (known_to new j ≡ known_to old j)
+hears_nothing : (j : ℕ) (fs : List MessageRecord) (old new : ModelState) → fs ≡ [] → (all : HeardAll j fs old new) → (all.added ≡ []) × (known_to new j ≡ known_to old j)
 hears_nothing j fs old new none all =
-    let hears : Hears j (known_to old j) [] (map frame_kept all.added) (known_to new j) =
-    subst (λ (rs : List FrameRecord). Hears j (known_to old j) (map frame_kept rs) (map frame_kept all.added) (known_to new j)) none all.hears in
+    let hears : Hears j (known_to old j) [] (map message_kept all.added) (known_to new j) =
+    subst (λ (rs : List MessageRecord). Hears j (known_to old j) (map message_kept rs) (map message_kept all.added) (known_to new j)) none all.hears in
     (none_mapped all.added hears.0, hears.1)
 
 -- what the second replica knows once the offer came
@@ -211,18 +211,18 @@ round_joins i j old new fits others round = elim (cases_eq (place i) (place j)) 
     third = hears_new j second.added round.asked round.given new second.records round.ends
 
     no_more : first.added ≡ [] → round.asked.records ≡ round.offered.records
-    no_more none = first.records ∙ ap (λ (rs : List FrameRecord). round.offered.records ++ rs) none ∙ append-nil round.offered.records
+    no_more none = first.records ∙ ap (λ (rs : List MessageRecord). round.offered.records ++ rs) none ∙ append-nil round.offered.records
 
     -- what j hears of the offer
-    offer_heard : Hears j g (offer i h ∷ []) (map frame_kept first.added) (known_to round.asked j)
+    offer_heard : Hears j g (offer i h ∷ []) (map message_kept first.added) (known_to round.asked j)
     offer_heard =
-        subst (λ (k : HistoryView). Hears j k (offer i h ∷ []) (map frame_kept first.added) (known_to round.asked j)) (knew j)
-        (subst (λ (f : Frame). Hears j (known_to round.offered j) (f ∷ []) (map frame_kept first.added) (known_to round.asked j)) (offer_is old i) first.hears)
+        subst (λ (k : HistoryView). Hears j k (offer i h ∷ []) (map message_kept first.added) (known_to round.asked j)) (knew j)
+        (subst (λ (f : Message). Hears j (known_to round.offered j) (f ∷ []) (map message_kept first.added) (known_to round.asked j)) (offer_is old i) first.hears)
 
     -- what j answers to the digests of h, and that these taught it their horizon alone
-    answered : IsAnswer j g (offer i h) (map frame_kept first.added)
+    answered : IsAnswer j g (offer i h) (map message_kept first.added)
     answered =
-        let whole : offer_heard.0 ≡ map frame_kept first.added = sym (offer_heard.4 ∙ ap (λ (fs : List Frame). offer_heard.0 ++ fs) offer_heard.3.0 ∙ append-nil offer_heard.0) in
+        let whole : offer_heard.0 ≡ map message_kept first.added = sym (offer_heard.4 ∙ ap (λ (fs : List Message). offer_heard.0 ++ fs) offer_heard.3.0 ∙ append-nil offer_heard.0) in
         subst (IsAnswer j g (offer i h)) whole offer_heard.2
 
     knows : known_to round.asked j ≡ taught g (offer i h)
@@ -234,16 +234,16 @@ round_joins i j old new fits others round = elim (cases_eq (place i) (place j)) 
         let before : known_to round.asked i ≡ h = ap history (first.others i other) ∙ knew i in
         let after : known_to round.given i ≡ known_to new i = sym (ap history (third.others i other)) in
         let kept : known_to round.given j ≡ taught g (offer i h) = ap history (second.others j back) ∙ knows in
-        let heard_it : Hears i h (map frame_kept first.added) (map frame_kept second.added) (known_to new i) =
-        subst (Hears i h (map frame_kept first.added) (map frame_kept second.added)) after
-        (subst (λ (k : HistoryView). Hears i k (map frame_kept first.added) (map frame_kept second.added) (known_to round.given i)) before second.hears) in
+        let heard_it : Hears i h (map message_kept first.added) (map message_kept second.added) (known_to new i) =
+        subst (Hears i h (map message_kept first.added) (map message_kept second.added)) after
+        (subst (λ (k : HistoryView). Hears i k (map message_kept first.added) (map message_kept second.added) (known_to round.given i)) before second.hears) in
         record {
-          asked = map frame_kept first.added;
-          given = map frame_kept second.added;
-          last = map frame_kept third.added;
+          asked = map message_kept first.added;
+          given = map message_kept second.added;
+          last = map message_kept third.added;
           offered = answered;
           heard = heard_it;
-          back = subst (λ (k : HistoryView). Hears j k (map frame_kept second.added) (map frame_kept third.added) (known_to new j)) kept third.hears;
+          back = subst (λ (k : HistoryView). Hears j k (map message_kept second.added) (map message_kept third.added) (known_to new j)) kept third.hears;
         }
 
     -- a replica that gossips with itself hears of nothing
@@ -252,7 +252,7 @@ round_joins i j old new fits others round = elim (cases_eq (place i) (place j)) 
         let one : (m : ModelState) → known_to m i ≡ known_to m j = λ m. ap (λ (k : ℕ). history (replica m k).reach) same in
         let whole = IsHistory-history (reach_of old i) in
         let none : first.added ≡ [] =
-        none_mapped first.added (own_sums_unanswered i j h (map frame_kept first.added) whole (subst (λ (k : HistoryView). IsAnswer j k (offer i h) (map frame_kept first.added)) (sym (one old)) answered)) in
+        none_mapped first.added (own_digests_unanswered i j h (map message_kept first.added) whole (subst (λ (k : HistoryView). IsAnswer j k (offer i h) (map message_kept first.added)) (sym (one old)) answered)) in
         let then_i = hears_nothing i first.added round.asked round.given none second in
         let then_j = hears_nothing j second.added round.given new then_i.0 third in
         let still : known_to round.asked j ≡ g = knows ∙ ap (λ (k : HistoryView). taught k (offer i h)) (sym (one old)) ∙ raised_to_no_later h h.horizon whole (le_refl h.horizon) ∙ one old in

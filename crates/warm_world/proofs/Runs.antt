@@ -1,6 +1,6 @@
 -- A run goes on by one event.
 use Rattle.std.proofs.Common.{List, [], ◌∷◌, ◌++◌, refl, subst}
-use Rattle.warm_world.specs.Seen.{WorldSeen}
+use Rattle.warm_world.specs.Views.{WorldView}
 use Rattle.warm_world.specs.declared.event.Event.{Event}
 use Rattle.warm_world.specs.declared.event.Answer.{Answer}
 use Rattle.warm_world.specs.States.{ModelState}
@@ -26,7 +26,7 @@ victims_more old [] (a ∷ answers) mid event answer new never next so_far = abs
 victims_more old (e ∷ events) [] mid event answer new never next so_far = absurd never
 victims_more old (e ∷ events) (a ∷ answers) mid event answer new run next so_far = (so_far.0, victims_more run.0 events answers mid event answer new run.2 next so_far.1)
 
-pub ran_more : (old : ModelState) (events : List Event) (answers : List Answer) (w w' : WorldSeen) (event : Event) (answer : Answer) → Ran old events answers w → ((m : ModelState) → StandsFor w m → Stepped m event answer w') → Ran old (events ++ event ∷ []) (answers ++ answer ∷ []) w'
+pub ran_more : (old : ModelState) (events : List Event) (answers : List Answer) (w w' : WorldView) (event : Event) (answer : Answer) → Ran old events answers w → ((m : ModelState) → StandsFor w m → Stepped m event answer w') → Ran old (events ++ event ∷ []) (answers ++ answer ∷ []) w'
 ran_more old events answers w w' event answer ran steps =
     let stepped = steps ran.new ran.stands in
     record {
@@ -39,5 +39,5 @@ ran_more old events answers w w' event answer ran steps =
     }
 
 -- before the first event
-pub ran_none : (m : ModelState) (w : WorldSeen) → StandsFor w m → Ran m [] [] w
+pub ran_none : (m : ModelState) (w : WorldView) → StandsFor w m → Ran m [] [] w
 ran_none m w st = record { new = m; run = refl; stands = st; exact = histories_are_exact w m st; agree = replicas_agree w m st; victims = tt }

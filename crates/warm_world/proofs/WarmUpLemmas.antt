@@ -19,7 +19,7 @@ use Rattle.warm_world.specs.declared.event.Answer.{Answer}
 use Rattle.warm_world.specs.declared.event.Answer.TheVariants.{Done, Pinned, Bytes, Page, Pages, Loaded, Refused}
 use Rattle.warm_world.specs.Lists.{place}
 use Rattle.warm_world.specs.States.{ModelState, ReplicaState, nobody, no_pool, node_of, pool_of, reach_of, replica, set_pool}
-use Rattle.warm_world.specs.Seen.{ReplicaSeen, WorldSeen}
+use Rattle.warm_world.specs.Views.{ReplicaView, WorldView}
 use Rattle.warm_world.specs.Next.{Asked, IsNamed, Next, Run, shape}
 use Rattle.warm_world.specs.Stands.{ReplicaStands, StandsFor}
 use Rattle.warm_world.specs.Rounds.{IsTaken}
@@ -80,28 +80,28 @@ bare_differs i j p first second = absurd (let never : None ≡ Some p = first in
 no_node : NodeState
 no_node = opened 0 (opened_pool 0 0 [])
 
-abbrev unseen : ReplicaSeen
+abbrev unseen : ReplicaView
 unseen = record { node = node_view no_node; buffers = [] }
 
-module _ {A : Type 0} (g : A → NodeState) (f : A → ReplicaSeen) (shown : (x : A) → (f x).node ≡ node_view (g x)) where
-  same_nodes : (xs : List A) → map (λ (r : ReplicaSeen). r.node) (map f xs) ≡ map node_view (map g xs)
+module _ {A : Type 0} (g : A → NodeState) (f : A → ReplicaView) (shown : (x : A) → (f x).node ≡ node_view (g x)) where
+  same_nodes : (xs : List A) → map (λ (r : ReplicaView). r.node) (map f xs) ≡ map node_view (map g xs)
   same_nodes [] = refl
-  same_nodes (x ∷ xs) = let head : (f x).node ≡ node_view (g x) = shown x in let tail : map (λ (r : ReplicaSeen). r.node) (map f xs) ≡ map node_view (map g xs) = same_nodes xs in cc
+  same_nodes (x ∷ xs) = let head : (f x).node ≡ node_view (g x) = shown x in let tail : map (λ (r : ReplicaView). r.node) (map f xs) ≡ map node_view (map g xs) = same_nodes xs in cc
 
   node_shown : (xs : List A) (k : ℕ) → (get_or (map f xs) k unseen).node ≡ node_view (get_or (map g xs) k no_node)
   node_shown xs k =
-      sym (get_or-map (λ (r : ReplicaSeen). r.node) (map f xs) k unseen)
+      sym (get_or-map (λ (r : ReplicaView). r.node) (map f xs) k unseen)
       ∙ ap (λ (ns : List NodeView). get_or ns k (node_view no_node)) (same_nodes xs)
       ∙ get_or-map node_view (map g xs) k no_node
 
   -- no page of its pools is in two frames
-  pub pools_differ : (xs : List A) (frames : List (List ℕ)) (m : ModelState) → ArePools (map g xs) → (let w : WorldSeen = record { replicas = map f xs; frames = frames } in StandsFor w m) → PoolsDiffer m
+  pub pools_differ : (xs : List A) (frames : List (List ℕ)) (m : ModelState) → ArePools (map g xs) → (let w : WorldView = record { replicas = map f xs; frames = frames } in StandsFor w m) → PoolsDiffer m
   pools_differ xs frames m fit stands i =
       let k : ℕ = place i in
       elim (cases_lt k (length xs)) [
         | inl there ↦
             let low : k < length (map f xs) = omega (arith, there, length-map xs f) in
-            let one : ReplicaStands m.room k (get_or (map f xs) k unseen) (replica m k) = stands.replicas.each k unseen nobody low in
+            let one : ReplicaStands m.capacity k (get_or (map f xs) k unseen) (replica m k) = stands.replicas.each k unseen nobody low in
             let pool : view_of (get_or (map g xs) k no_node).pool ≡ pool_of m i = ap (λ (n : NodeView). n.pool) (sym (node_shown xs k) ∙ one.node_is) in
             subst PagesDiffer pool (pages_differ (get_or (map g xs) k no_node).pool (fit k no_node (omega (arith, there, length-map xs g))))
         | inr beyond ↦

@@ -41,8 +41,8 @@ use Rattle.warm_world.specs.declared.event.Answer.{Answer}
 use Rattle.warm_world.specs.declared.event.Answer.TheVariants.{Done, Shown, FrameNo, Took, Pages, Kept, Refused}
 use Rattle.warm_world.specs.declared.event.WorldFault.TheVariants.{Node}
 use Rattle.warm_world.specs.Lists.{place}
-use Rattle.warm_world.specs.States.{ModelState, ReplicaState, FrameRecord, References, Sums, Mask, nobody, replica, reach_of, set_replica, set_pool, record_at, add_records, pending, flushed, put_last, raised, referred, restarted, opened_over}
-use Rattle.warm_world.specs.Answered.{records_of, bucket_records, wanted_records, AreAnswers, heard, refs_of}
+use Rattle.warm_world.specs.States.{ModelState, ReplicaState, MessageRecord, References, Digests, Request, nobody, replica, reach_of, set_replica, set_pool, record_at, add_records, pending, flushed, put_last, raised, referred, restarted, opened_over}
+use Rattle.warm_world.specs.Answered.{records_of, bucket_records, requested_records, AreAnswers, heard, refs_of}
 use Rattle.warm_world.specs.Next.{Next, Delivered, Effect, Refuses, Replied, IsNamed, call_of, replica_of, reply_of, shape, stamped}
 use Rattle.warm_world.specs.Widths.{IsReference, AreReferences, EventFits, ReachFits, ReplicaFits, RecordFits, ModelFits, OpeningFits, RunsFit, HistoriesFit}
 
@@ -146,7 +146,7 @@ replica_set m k r fits own = record {
   records = fits.records;
 }
 
-records_added : (m : ModelState) (rs : List FrameRecord) → ModelFits m → AllByRecursion RecordFits rs → ModelFits (add_records m rs)
+records_added : (m : ModelState) (rs : List MessageRecord) → ModelFits m → AllByRecursion RecordFits rs → ModelFits (add_records m rs)
 records_added m rs fits all = record {
   few = fits.few;
   replicas = fits.replicas;
@@ -173,8 +173,8 @@ put_last_fits k x r own fits = record {
   waiting = all_set AreReferences r.pending k (pending r k ++ x ∷ []) fits.waiting (all_append IsReference (pending r k) (x ∷ []) (pending_fits r k fits) (own, tt));
 }
 
-referred_fits : (room k : ℕ) (x : Reference) (r : ReplicaState) → IsReference x → ReplicaFits r → ReplicaFits (referred room k x r)
-referred_fits room k x r own fits = elim (nat_le room (length (pending r k))) as (λ b. ReplicaFits (put_last k x (if b then flushed k r else r))) [
+referred_fits : (capacity k : ℕ) (x : Reference) (r : ReplicaState) → IsReference x → ReplicaFits r → ReplicaFits (referred capacity k x r)
+referred_fits capacity k x r own fits = elim (nat_le capacity (length (pending r k))) as (λ b. ReplicaFits (put_last k x (if b then flushed k r else r))) [
   | true ↦ put_last_fits k x (flushed k r) own (flushed_fits k r fits)
   | false ↦ put_last_fits k x r own fits
 ]
@@ -205,23 +205,23 @@ buckets_fit i S [] all = tt
 buckets_fit i S (bucket ∷ buckets) all =
     all_append RecordFits (bucket_records i S bucket) (flat_map (bucket_records i S) buckets) (records_fit i S bucket None _ all) (buckets_fit i S buckets all)
 
-wanted_fit : (i : ℕ) (S : ReferenceSet) (mask : ℕ) → ReachFits S → AllByRecursion RecordFits (wanted_records i S mask)
-wanted_fit i S mask all = buckets_fit i S (buckets_in mask) all
+wanted_fit : (i : ℕ) (S : ReferenceSet) (request : ℕ) → ReachFits S → AllByRecursion RecordFits (requested_records i S request)
+wanted_fit i S request all = buckets_fit i S (buckets_in request) all
 
-asking_fits : (i : ℕ) (S : ReferenceSet) (mask : ℕ) (none : Bool) → ReachFits S → AllByRecursion RecordFits (if none then [] else wanted_records i S mask ++ Mask i S.horizon mask ∷ [])
-asking_fits i S mask true all = tt
-asking_fits i S mask false all =
-    all_append RecordFits (wanted_records i S mask) (Mask i S.horizon mask ∷ []) (wanted_fit i S mask all) (record { horizon = all.horizon; references = tt }, tt)
+asking_fits : (i : ℕ) (S : ReferenceSet) (request : ℕ) (none : Bool) → ReachFits S → AllByRecursion RecordFits (if none then [] else requested_records i S request ++ Request i S.horizon request ∷ [])
+asking_fits i S request true all = tt
+asking_fits i S request false all =
+    all_append RecordFits (requested_records i S request) (Request i S.horizon request ∷ []) (wanted_fit i S request all) (record { horizon = all.horizon; references = tt }, tt)
 
-answers_fit : (i : ℕ) (S : ReferenceSet) (kept : FrameRecord) (added : List FrameRecord) → ReachFits S → AreAnswers i S kept added → AllByRecursion RecordFits added
+answers_fit : (i : ℕ) (S : ReferenceSet) (kept : MessageRecord) (added : List MessageRecord) → ReachFits S → AreAnswers i S kept added → AllByRecursion RecordFits added
 answers_fit i S (References sender refs) added all is = subst (AllByRecursion RecordFits) (sym is) tt
-answers_fit i S (Mask sender horizon mask) added all is = subst (AllByRecursion RecordFits) (sym is) (wanted_fit i S mask all)
-answers_fit i S (Sums sender horizon sums) added all is = subst (AllByRecursion RecordFits) (sym is.3) (asking_fits i S is.0 (is.0 == 0) all)
+answers_fit i S (Request sender horizon request) added all is = subst (AllByRecursion RecordFits) (sym is) (wanted_fit i S request all)
+answers_fit i S (Digests sender horizon digests) added all is = subst (AllByRecursion RecordFits) (sym is.3) (asking_fits i S is.0 (is.0 == 0) all)
 
 delivered_fits : (old : ModelState) (j k count first : ℕ) (new : ModelState) → ModelFits old → Delivered old j (record_at old k) count first new → ModelFits new
 delivered_fits old j k count first new fits done =
     let own : ReplicaFits (replica old (place j)) = replica_fits old (place j) fits in
-    let kept : FrameRecord = record_at old k in
+    let kept : MessageRecord = record_at old k in
     let brings : RecordFits kept = all_get RecordFits old.records k (References 0 (these [])) fits.records (these_fit [] tt) in
     let next : ReplicaState = record (replica old (place j)) { reach = heard (reach_of old j) kept } in
     let after : ReachFits (heard (reach_of old j) kept) = both_fit (reach_of old j) (refs_of kept) own.reached brings in
@@ -253,7 +253,7 @@ effect_fits : (old : ModelState) (event : Event) (answer : Answer) (new : ModelS
 effect_fits old (Refer i w page time) Done new fits own named done =
     let low : i ≤ MAX_REPLICAS = omega (arith, named.replica_there.in_range, fits.few, length-map old.replicas (λ r. length r.pending)) in
     let told_it : IsReference (stamped i page time) = record { page = own.0; stamp = record { time = own.1; replica = (named.replica_there.from_one, low) } } in
-    same_fits _ new done (replica_set old (place i) _ fits (referred_fits old.room (place w) (stamped i page time) (replica old (place i)) told_it (replica_fits old (place i) fits)))
+    same_fits _ new done (replica_set old (place i) _ fits (referred_fits old.capacity (place w) (stamped i page time) (replica old (place i)) told_it (replica_fits old (place i) fits)))
 effect_fits old (Flush i w) Done new fits own named done = same_fits _ new done (replica_set old (place i) _ fits (flushed_fits (place w) (replica old (place i)) (replica_fits old (place i) fits)))
 effect_fits old (Send i bucket after) (FrameNo k) new fits own named done =
     same_fits _ new done.1 (records_added old _ fits (carried_fits (reach_of old i) bucket after (replica_fits old (place i) fits).reached, tt))

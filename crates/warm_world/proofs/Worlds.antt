@@ -15,75 +15,75 @@ use Rattle.warm_world.specs.declared.event.Answer.TheVariants.{Refused}
 use Rattle.warm_world.specs.declared.event.WorldFault.{WorldFault}
 use Rattle.warm_world.specs.declared.event.WorldFault.TheVariants.{Node, NoSuchReplica, NoSuchWorker, NoSuchFrame}
 use Rattle.warm_world.specs.Lists.{IsNumber, Pairwise, place}
-use Rattle.warm_world.specs.Seen.{ReplicaSeen, WorldSeen}
+use Rattle.warm_world.specs.Views.{ReplicaView, WorldView}
 use Rattle.warm_world.specs.States.{ModelState, ReplicaState, node_of, nobody, replica, set_replica}
 use Rattle.warm_world.specs.Next.{Asked, IsMissing, IsNamed, Next, Replied, Shape, call_of, replica_of, reply_of, shape}
 use Rattle.warm_world.specs.Replicas.{Replies}
-use Rattle.warm_world.specs.Stands.{ReplicaStands, StandsFor, Stepped, buffered, seen_shape}
+use Rattle.warm_world.specs.Stands.{ReplicaStands, StandsFor, Stepped, buffered, view_shape}
 use Rattle.warm_world.proofs.Alone.{IsAlone, replies_alone}
 use Rattle.warm_world.proofs.Calls.{next_of_reply}
 use Rattle.warm_world.proofs.Pairs.{Pairwise-set, Pairwise-map}
 
--- ---- as many replicas, workers and frames
+-- ---- as many replicas, workers and messages
 
-pub same_shape : (w : WorldSeen) (m : ModelState) → StandsFor w m → seen_shape w ≡ shape m
+pub same_shape : (w : WorldView) (m : ModelState) → StandsFor w m → view_shape w ≡ shape m
 same_shape w m st =
-    let workers : map (λ (r : ReplicaSeen). length r.buffers) w.replicas ≡ map (λ (r : ReplicaState). length r.pending) m.replicas =
-    Pairwise-map (ReplicaStands m.room) (λ r. length r.buffers) (λ r. length r.pending) w.replicas m.replicas (λ i a b here. ap length here.buffers_are ∙ length-map b.pending (buffered m.room)) st.replicas in
-    let frames : length w.frames ≡ length m.records = st.frames.same_length in
+    let workers : map (λ (r : ReplicaView). length r.buffers) w.replicas ≡ map (λ (r : ReplicaState). length r.pending) m.replicas =
+    Pairwise-map (ReplicaStands m.capacity) (λ r. length r.buffers) (λ r. length r.pending) w.replicas m.replicas (λ i a b here. ap length here.buffers_are ∙ length-map b.pending (buffered m.capacity)) st.replicas in
+    let messages : length w.messages ≡ length m.records = st.messages.same_length in
     cc
 
-pub named_too : (w : WorldSeen) (m : ModelState) (event : Event) → StandsFor w m → IsNamed (seen_shape w) event → IsNamed (shape m) event
+pub named_too : (w : WorldView) (m : ModelState) (event : Event) → StandsFor w m → IsNamed (view_shape w) event → IsNamed (shape m) event
 named_too w m event st named = let P : Shape → Type 0 = λ s. IsNamed s event in subst P (same_shape w m st) named
 
 -- what is named is not there: the event is refused, and nothing changes
-pub missing_too : (w : WorldSeen) (m : ModelState) (event : Event) (fault : WorldFault) → StandsFor w m → IsMissing (seen_shape w) event fault → Stepped m event (Refused fault) w
+pub missing_too : (w : WorldView) (m : ModelState) (event : Event) (fault : WorldFault) → StandsFor w m → IsMissing (view_shape w) event fault → Stepped m event (Refused fault) w
 missing_too w m event (Node why) st missing = absurd missing
 missing_too w m event NoSuchReplica st missing = let P : Shape → Type 0 = λ s. IsMissing s event NoSuchReplica in record { new = m; next = (subst P (same_shape w m st) missing, refl); stands = st }
 missing_too w m event NoSuchWorker st missing = let P : Shape → Type 0 = λ s. IsMissing s event NoSuchWorker in record { new = m; next = (subst P (same_shape w m st) missing, refl); stands = st }
 missing_too w m event NoSuchFrame st missing = let P : Shape → Type 0 = λ s. IsMissing s event NoSuchFrame in record { new = m; next = (subst P (same_shape w m st) missing, refl); stands = st }
 
 -- memory is wanting, and nothing changes
-pub no_memory_still : (w : WorldSeen) (m : ModelState) (event : Event) (why : NodeFault) → StandsFor w m → why ≡ Memory → Next m event (Refused (Node Memory)) m → Stepped m event (Refused (Node why)) w
+pub no_memory_still : (w : WorldView) (m : ModelState) (event : Event) (why : NodeFault) → StandsFor w m → why ≡ Memory → Next m event (Refused (Node Memory)) m → Stepped m event (Refused (Node why)) w
 no_memory_still w m event why st is next = record { new = m; next = subst (λ f. Next m event (Refused (Node f)) m) (sym is) next; stands = st }
 
 -- ---- what the replicas of a world show, with that of one of them changed
 
-module _ {A : Type 0} (f : A → ReplicaSeen) (xs : List A) (frames : List (List ℕ)) where
+module _ {A : Type 0} (f : A → ReplicaView) (xs : List A) (messages : List (List ℕ)) where
   -- the world of these replicas
-  abbrev pub world : List A → WorldSeen
-  world ys = record { replicas = map f ys; frames = frames }
+  abbrev pub world : List A → WorldView
+  world ys = record { replicas = map f ys; messages = messages }
 
   -- the replica that an event names has a place
-  pub place_in : (event : Event) → IsNamed (seen_shape (world xs)) event → place (replica_of event) < length xs
-  place_in event named = omega (arith, named.replica_there.from_one, named.replica_there.in_range, length-map xs f, length-map (map f xs) (λ (r : ReplicaSeen). length r.buffers))
+  pub place_in : (event : Event) → IsNamed (view_shape (world xs)) event → place (replica_of event) < length xs
+  place_in event named = omega (arith, named.replica_there.from_one, named.replica_there.in_range, length-map xs f, length-map (map f xs) (λ (r : ReplicaView). length r.buffers))
 
   -- the worker that an event names has a buffer
-  pub worker_in : (i w : ℕ) (x : A) → place i < length xs → x ≡ get_or xs (place i) x → IsNumber w (get_or (map (λ (r : ReplicaSeen). length r.buffers) (map f xs)) (place i) 0) → place w < length (f x).buffers
+  pub worker_in : (i w : ℕ) (x : A) → place i < length xs → x ≡ get_or xs (place i) x → IsNumber w (get_or (map (λ (r : ReplicaView). length r.buffers) (map f xs)) (place i) 0) → place w < length (f x).buffers
   worker_in i w x lt is number =
-      let at : get_or (map (λ (r : ReplicaSeen). length r.buffers) (map f xs)) (place i) 0 ≡ length (f x).buffers =
-      get_or-map (λ (r : ReplicaSeen). length r.buffers) (map f xs) (place i) (f x) 0 (subst (λ n. place i < n) (sym (length-map xs f)) lt)
-      ∙ ap (λ (r : ReplicaSeen). length r.buffers) (get_or-map f xs (place i) x (f x) lt ∙ ap f (sym is)) in
+      let at : get_or (map (λ (r : ReplicaView). length r.buffers) (map f xs)) (place i) 0 ≡ length (f x).buffers =
+      get_or-map (λ (r : ReplicaView). length r.buffers) (map f xs) (place i) (f x) 0 (subst (λ n. place i < n) (sym (length-map xs f)) lt)
+      ∙ ap (λ (r : ReplicaView). length r.buffers) (get_or-map f xs (place i) x (f x) lt ∙ ap f (sym is)) in
       omega (arith, number.from_one, number.in_range, at)
 
   -- as many workers as its buffers are
-  pub workers_at : (i : ℕ) (x : A) → IsNumber i (length (map (λ (r : ReplicaSeen). length r.buffers) (map f xs))) → x ≡ get_or xs (place i) x → length (f x).buffers ≡ get_or (map (λ (r : ReplicaSeen). length r.buffers) (map f xs)) (place i) 0
+  pub workers_at : (i : ℕ) (x : A) → IsNumber i (length (map (λ (r : ReplicaView). length r.buffers) (map f xs))) → x ≡ get_or xs (place i) x → length (f x).buffers ≡ get_or (map (λ (r : ReplicaView). length r.buffers) (map f xs)) (place i) 0
   workers_at i x number is =
-      let lt : place i < length xs = omega (arith, number.from_one, number.in_range, length-map xs f, length-map (map f xs) (λ (r : ReplicaSeen). length r.buffers)) in
-      sym (get_or-map (λ (r : ReplicaSeen). length r.buffers) (map f xs) (place i) (f x) 0 (subst (λ n. place i < n) (sym (length-map xs f)) lt)
-      ∙ ap (λ (r : ReplicaSeen). length r.buffers) (get_or-map f xs (place i) x (f x) lt ∙ ap f (sym is)))
+      let lt : place i < length xs = omega (arith, number.from_one, number.in_range, length-map xs f, length-map (map f xs) (λ (r : ReplicaView). length r.buffers)) in
+      sym (get_or-map (λ (r : ReplicaView). length r.buffers) (map f xs) (place i) (f x) 0 (subst (λ n. place i < n) (sym (length-map xs f)) lt)
+      ∙ ap (λ (r : ReplicaView). length r.buffers) (get_or-map f xs (place i) x (f x) lt ∙ ap f (sym is)))
 
   -- the replica at a place stands for that of the model
-  pub stands_at : (m : ModelState) (k : ℕ) (x : A) → StandsFor (world xs) m → k < length xs → x ≡ get_or xs k x → ReplicaStands m.room k (f x) (replica m k)
+  pub stands_at : (m : ModelState) (k : ℕ) (x : A) → StandsFor (world xs) m → k < length xs → x ≡ get_or xs k x → ReplicaStands m.capacity k (f x) (replica m k)
   stands_at m k x st lt is =
       let at : get_or (map f xs) k (f x) ≡ f x = get_or-map f xs k x (f x) lt ∙ ap f (sym is) in
-      subst (λ r. ReplicaStands m.room k r (replica m k)) at (st.replicas.each k (f x) nobody (subst (λ n. k < n) (sym (length-map xs f)) lt))
+      subst (λ r. ReplicaStands m.capacity k r (replica m k)) at (st.replicas.each k (f x) nobody (subst (λ n. k < n) (sym (length-map xs f)) lt))
 
-  pub replica_changes : (m : ModelState) (k : ℕ) (y : A) (r : ReplicaState) → StandsFor (world xs) m → k < length xs → ReplicaStands m.room k (f y) r → StandsFor (world (set xs k y)) (set_replica m k r)
+  pub replica_changes : (m : ModelState) (k : ℕ) (y : A) (r : ReplicaState) → StandsFor (world xs) m → k < length xs → ReplicaStands m.capacity k (f y) r → StandsFor (world (set xs k y)) (set_replica m k r)
   replica_changes m k y r st lt here = record {
-    replicas = subst (λ rs. Pairwise (ReplicaStands m.room) rs (set m.replicas k r)) (sym (map-set f xs k y))
-        (Pairwise-set (ReplicaStands m.room) (map f xs) m.replicas k (f y) r st.replicas (subst (λ n. k < n) (sym (length-map xs f)) lt) here);
-    frames = st.frames;
+    replicas = subst (λ rs. Pairwise (ReplicaStands m.capacity) rs (set m.replicas k r)) (sym (map-set f xs k y))
+        (Pairwise-set (ReplicaStands m.capacity) (map f xs) m.replicas k (f y) r st.replicas (subst (λ n. k < n) (sym (length-map xs f)) lt) here);
+    messages = st.messages;
   }
 
   -- a replica that shows what it showed
@@ -91,10 +91,10 @@ module _ {A : Type 0} (f : A → ReplicaSeen) (xs : List A) (frames : List (List
   replica_stays m k x y st lt is same =
       let at : get_or (map f xs) k (f x) ≡ f x = get_or-map f xs k x (f x) lt ∙ ap f (sym is) in
       let e : map f (set xs k y) ≡ map f xs = map-set f xs k y ∙ ap (set (map f xs) k) (same ∙ sym at) ∙ set-get_or (map f xs) k (f x) in
-      record { replicas = subst (λ rs. Pairwise (ReplicaStands m.room) rs m.replicas) (sym e) st.replicas; frames = st.frames }
+      record { replicas = subst (λ rs. Pairwise (ReplicaStands m.capacity) rs m.replicas) (sym e) st.replicas; messages = st.messages }
 
   -- an event that changes one replica
-  pub changes : (m : ModelState) (event : Event) (answer : Answer) (k : ℕ) (y : A) (r : ReplicaState) → StandsFor (world xs) m → k < length xs → ReplicaStands m.room k (f y) r → Next m event answer (set_replica m k r) → Stepped m event answer (world (set xs k y))
+  pub changes : (m : ModelState) (event : Event) (answer : Answer) (k : ℕ) (y : A) (r : ReplicaState) → StandsFor (world xs) m → k < length xs → ReplicaStands m.capacity k (f y) r → Next m event answer (set_replica m k r) → Stepped m event answer (world (set xs k y))
   changes m event answer k y r st lt here next = record { new = set_replica m k r; next = next; stands = replica_changes m k y r st lt here }
 
   -- an event that memory is wanting for, and that leaves the replica as it was
@@ -108,7 +108,7 @@ module _ {A : Type 0} (f : A → ReplicaSeen) (xs : List A) (frames : List (List
 
   -- The node answers the call so, and nothing but its pool is changed; the buffers are as they were.
   pub asked : (m : ModelState) (event : Event) (call : Call) (reply : Reply) (answer : Answer) (x y : A)
-      → StandsFor (world xs) m → IsNamed (seen_shape (world xs)) event → x ≡ get_or xs (place (replica_of event)) x
+      → StandsFor (world xs) m → IsNamed (view_shape (world xs)) event → x ≡ get_or xs (place (replica_of event)) x
       → (f y).buffers ≡ (f x).buffers → IsAlone (f x).node (f y).node → Step (f x).node call reply (f y).node
       → ((new : ModelState) → IsNamed (shape m) event → Asked m (replica_of event) call reply new → Next m event answer new)
       → Stepped m event answer (world (set xs (place (replica_of event)) y))
@@ -122,7 +122,7 @@ module _ {A : Type 0} (f : A → ReplicaSeen) (xs : List A) (frames : List (List
       let was : (f x).node ≡ node_of m i = here.node_is ∙ ap (λ (j : ℕ). let v : NodeView = record { id = j; history = history (replica m k).reach; pool = (replica m k).pool } in v) number in
       let now : n ≡ record (node_of m i) { pool = n.pool } = alone ∙ ap (λ (v : NodeView). let u : NodeView = record v { pool = n.pool } in u) was in
       let r : ReplicaState = record (replica m k) { pool = n.pool } in
-      let stands : ReplicaStands m.room k (f y) r = record {
+      let stands : ReplicaStands m.capacity k (f y) r = record {
         has_room = here.has_room;
         node_is = alone ∙ ap (λ (v : NodeView). let u : NodeView = record v { pool = n.pool } in u) here.node_is;
         buffers_are = same ∙ here.buffers_are;
@@ -132,7 +132,7 @@ module _ {A : Type 0} (f : A → ReplicaSeen) (xs : List A) (frames : List (List
       (n.pool, subst (λ v. Step v call reply (record (node_of m i) { pool = n.pool })) was (subst (Step (f x).node call reply) now step), refl))
 
   asked_if : (m : ModelState) (event : Event) (call : Option Call) (reply : Option Reply) (answer : Answer) (x y : A)
-      → StandsFor (world xs) m → IsNamed (seen_shape (world xs)) event → x ≡ get_or xs (place (replica_of event)) x
+      → StandsFor (world xs) m → IsNamed (view_shape (world xs)) event → x ≡ get_or xs (place (replica_of event)) x
       → (f y).buffers ≡ (f x).buffers → IsAlone (f x).node (f y).node → Replies (f x).node call reply (f y).node
       → ((new : ModelState) → IsNamed (shape m) event → Replied m (replica_of event) call reply new → Next m event answer new)
       → Stepped m event answer (world (set xs (place (replica_of event)) y))
@@ -141,7 +141,7 @@ module _ {A : Type 0} (f : A → ReplicaSeen) (xs : List A) (frames : List (List
 
   -- The node of the replica that the event names replies to the call that the event makes of it.
   pub asks : (m : ModelState) (event : Event) (i : ℕ) (answer : Answer) (x y : A) → i ≡ replica_of event
-      → StandsFor (world xs) m → IsNamed (seen_shape (world xs)) event → x ≡ get_or xs (place i) x
+      → StandsFor (world xs) m → IsNamed (view_shape (world xs)) event → x ≡ get_or xs (place i) x
       → (f y).buffers ≡ (f x).buffers → Replies (f x).node (call_of event) (reply_of answer) (f y).node
       → Stepped m event answer (world (set xs (place i) y))
   asks m event i answer x y number st named is same step =

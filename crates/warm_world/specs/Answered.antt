@@ -1,4 +1,4 @@
--- What a replica answers to a frame, as the references that the answered frames bring.
+-- What a replica answers to a message, as the references that the answered messages bring.
 use Rattle.std.specs.Prelude.{◌≡◌, ◌^◌, ℕ, ◌<◌, ◌==◌, List, [], ◌∷◌, ◌++◌, Option, None, if◌then◌else◌}
 use Rattle.std.specs.List.{flat_map}
 use Rattle.warm_stamps.specs.declared.PageId.{PageId}
@@ -9,37 +9,37 @@ use Rattle.warm_history.specs.Carried.{bucket_entries, carried}
 use Rattle.warm_frames.specs.declared.layout.TheConstants.{MAX_ENTRIES}
 use Rattle.warm_gossip.specs.Answers.{buckets_in, pieces, IsDiffering}
 use Rattle.warm_gossip.specs.Pieces.{last_page}
-use Rattle.warm_world.specs.States.{FrameRecord, References, Sums, Mask}
+use Rattle.warm_world.specs.States.{MessageRecord, References, Digests, Request}
 
 -- the pieces of a bucket, one after the other: each brings all references of S to its pages
-abbrev pub records_of : ℕ → ReferenceSet → ℕ → Option PageId → List (List Entry) → List FrameRecord
+abbrev pub records_of : ℕ → ReferenceSet → ℕ → Option PageId → List (List Entry) → List MessageRecord
 records_of i S bucket after [] = []
 records_of i S bucket after (piece ∷ others) =
     References i (carried S bucket after MAX_ENTRIES) ∷ records_of i S bucket (last_page piece) others
 
--- what a replica that S reached sends of a bucket, in frames that are as full as can be
-abbrev pub bucket_records : ℕ → ReferenceSet → ℕ → List FrameRecord
+-- what a replica that S reached sends of a bucket, in messages that are as full as can be
+abbrev pub bucket_records : ℕ → ReferenceSet → ℕ → List MessageRecord
 bucket_records i S bucket =
     records_of i S bucket None (pieces MAX_ENTRIES (bucket_entries bucket (entries_of (history S))))
 
 -- the same of the buckets whose bit is set, one after the other
-abbrev pub wanted_records : ℕ → ReferenceSet → ℕ → List FrameRecord
-wanted_records i S mask = flat_map (bucket_records i S) (buckets_in mask)
+abbrev pub requested_records : ℕ → ReferenceSet → ℕ → List MessageRecord
+requested_records i S request = flat_map (bucket_records i S) (buckets_in request)
 
--- the references that a frame brings, with its sender's horizon
-abbrev pub refs_of : FrameRecord → ReferenceSet
+-- the references that a message brings, with its sender's horizon
+abbrev pub refs_of : MessageRecord → ReferenceSet
 refs_of (References sender refs) = refs
-refs_of (Sums sender horizon sums) = record { horizon = horizon; told = [] }
-refs_of (Mask sender horizon mask) = record { horizon = horizon; told = [] }
+refs_of (Digests sender horizon digests) = record { horizon = horizon; told = [] }
+refs_of (Request sender horizon request) = record { horizon = horizon; told = [] }
 
--- what has reached a replica once a frame came: its horizon is then the greater one
-abbrev pub heard : ReferenceSet → FrameRecord → ReferenceSet
+-- what has reached a replica once a message came: its horizon is then the greater one
+abbrev pub heard : ReferenceSet → MessageRecord → ReferenceSet
 heard S kept = S ∪ refs_of kept
 
--- What replica i answers to a frame, where S has reached it once the frame came: nothing to references; to a request its
+-- What replica i answers to a message, where S has reached it once the message came: nothing to references; to a request its
 -- references of these buckets; to digests those of the buckets whose digests differ, and then a request for these.
-abbrev pub AreAnswers : ℕ → ReferenceSet → FrameRecord → List FrameRecord → Type 0
+abbrev pub AreAnswers : ℕ → ReferenceSet → MessageRecord → List MessageRecord → Type 0
 AreAnswers i S (References sender refs) added = added ≡ []
-AreAnswers i S (Mask sender horizon mask) added = added ≡ wanted_records i S mask
-AreAnswers i S (Sums sender horizon sums) added = (mask : ℕ) × (mask < 2 ^ 64) × IsDiffering sums (history S) mask
-    × (added ≡ if mask == 0 then [] else wanted_records i S mask ++ Mask i S.horizon mask ∷ [])
+AreAnswers i S (Request sender horizon request) added = added ≡ requested_records i S request
+AreAnswers i S (Digests sender horizon digests) added = (request : ℕ) × (request < 2 ^ 64) × IsDiffering digests (history S) request
+    × (added ≡ if request == 0 then [] else requested_records i S request ++ Request i S.horizon request ∷ [])

@@ -5,7 +5,7 @@ pub mod States
 pub mod Answered
 pub mod Faults
 pub mod Next
-pub mod Seen
+pub mod Views
 pub mod Replicas
 pub mod Opening
 pub mod Stands

@@ -6,7 +6,7 @@ use Rattle.warm_history.specs.Histories.{entries_of, history}
 use Rattle.warm_history.specs.Carried.{carried}
 use Rattle.warm_frames.specs.declared.layout.TheConstants.{MAX_ENTRIES}
 use Rattle.warm_rank.specs.Ranking.{warm}
-use Rattle.warm_digest.specs.BucketSums.{sums_of}
+use Rattle.warm_digest.specs.BucketDigests.{digests_of}
 use Rattle.warm_pool.specs.View.{PoolView}
 use Rattle.warm_pool.specs.Retiring.{Emptied}
 use Rattle.warm_gossip.specs.declared.call.Call.{Call}
@@ -23,7 +23,7 @@ use Rattle.warm_world.specs.declared.event.Answer.TheVariants.{Done, Shown, Fram
 use Rattle.warm_world.specs.declared.event.WorldFault.{WorldFault}
 use Rattle.warm_world.specs.declared.event.WorldFault.TheVariants.{Node, NoSuchReplica, NoSuchWorker, NoSuchFrame}
 use Rattle.warm_world.specs.Lists.{IsNumber, place}
-use Rattle.warm_world.specs.States.{ModelState, FrameRecord, References, Sums, replica, reach_of, pool_of, node_of, set_replica, set_pool, record_at, add_records, pending, flushed, raised, referred, restarted}
+use Rattle.warm_world.specs.States.{ModelState, MessageRecord, References, Digests, replica, reach_of, pool_of, node_of, set_replica, set_pool, record_at, add_records, pending, flushed, raised, referred, restarted}
 use Rattle.warm_world.specs.Answered.{AreAnswers, heard}
 
 -- the replica that an event names
@@ -50,40 +50,40 @@ worker_of (Refer i w page time) = Some w
 worker_of (Flush i w) = Some w
 worker_of _ = None
 
--- the frame that it names
-abbrev pub frame_of : Event → Option ℕ
-frame_of (Deliver j k) = Some k
-frame_of _ = None
+-- the message that it names
+abbrev pub message_of : Event → Option ℕ
+message_of (Deliver j k) = Some k
+message_of _ = None
 
--- how many workers each replica has, and how many frames were sent
+-- how many workers each replica has, and how many messages were sent
 pub record Shape : Type 0 where
   pub workers : List ℕ
-  pub frames : ℕ
+  pub messages : ℕ
 
 abbrev pub shape : ModelState → Shape
-shape m = record { workers = map (λ r. length r.pending) m.replicas; frames = length m.records }
+shape m = record { workers = map (λ r. length r.pending) m.replicas; messages = length m.records }
 
--- the replica, worker or frame that an event names is there
+-- the replica, worker or message that an event names is there
 abbrev pub HasReplica : Shape → Event → Type 0
 HasReplica s event = IsNumber (replica_of event) (length s.workers)
 
 abbrev pub IsWorker : Shape → Event → ℕ → Type 0
 IsWorker s event w = IsNumber w (slice_index_or s.workers (place (replica_of event)) 0)
 
-abbrev pub IsFrame : Shape → ℕ → Type 0
-IsFrame s k = IsNumber k s.frames
+abbrev pub IsMessage : Shape → ℕ → Type 0
+IsMessage s k = IsNumber k s.messages
 
 -- all that an event names is there
 pub record IsNamed (s : Shape) (event : Event) : Type 0 where
   pub replica_there : HasReplica s event
   pub worker_there : MatchOption (worker_of event) (Unit {0}) (IsWorker s event)
-  pub frame_there : MatchOption (frame_of event) (Unit {0}) (IsFrame s)
+  pub message_there : MatchOption (message_of event) (Unit {0}) (IsMessage s)
 
 -- what the fault names isn't there; the replica is looked for first
 abbrev pub IsMissing : Shape → Event → WorldFault → Type 0
 IsMissing s event NoSuchReplica = ¬ HasReplica s event
 IsMissing s event NoSuchWorker = HasReplica s event × MatchOption (worker_of event) ⊥ (λ w. ¬ IsWorker s event w)
-IsMissing s event NoSuchFrame = HasReplica s event × MatchOption (frame_of event) ⊥ (λ k. ¬ IsFrame s k)
+IsMissing s event NoSuchFrame = HasReplica s event × MatchOption (message_of event) ⊥ (λ k. ¬ IsMessage s k)
 IsMissing s event (Node why) = ⊥
 
 -- the node of the replica i answers the call so, and of the world nothing but that replica's pool may have changed
@@ -121,7 +121,7 @@ Replied old i call reply new = ⊥
 -- why an event is refused though all that it names is there, and what that leaves: want of memory, or what the node says to its call
 abbrev pub Refuses : ModelState → Event → NodeFault → ModelState → Type 0
 Refuses old (Restart i) why new = Asked old i call.Restart (reply.Refused why) new
-Refuses old (Refer i w page time) Memory new = (old.room ≤ length (pending (replica old (place i)) (place w))) × (new ≡ old)
+Refuses old (Refer i w page time) Memory new = (old.capacity ≤ length (pending (replica old (place i)) (place w))) × (new ≡ old)
 Refuses old (Flush i w) Memory new = new ≡ old
 Refuses old (Send i bucket after) Memory new = new ≡ old
 Refuses old (Offer i) Memory new = new ≡ old
@@ -135,9 +135,9 @@ abbrev pub IsRefused : ModelState → Event → WorldFault → ModelState → Ty
 IsRefused old event (Node why) new = IsNamed (shape old) event × Refuses old event why new
 IsRefused old event fault new = IsMissing (shape old) event fault × (new ≡ old)
 
--- a frame comes to the replica j: it takes in what the frame brings, and its answers to that are numbered on from the frames so far
-pub record Delivered (old : ModelState) (j : ℕ) (kept : FrameRecord) (count first : ℕ) (new : ModelState) : Type 0 where
-  pub added : List FrameRecord
+-- a message comes to the replica j: it takes in what the message brings, and its answers to that are numbered on from the messages so far
+pub record Delivered (old : ModelState) (j : ℕ) (kept : MessageRecord) (count first : ℕ) (new : ModelState) : Type 0 where
+  pub added : List MessageRecord
   pub answers : AreAnswers j (heard (reach_of old j) kept) kept added
   pub many : count ≡ length added
   pub from : first ≡ if count == 0 then 0 else length old.records + 1
@@ -151,13 +151,13 @@ stamped i page time = record { page = page; stamp = record { time = time; replic
 -- that reached the replica.
 abbrev pub Effect : ModelState → Event → Answer → ModelState → Type 0
 Effect old (Refer i w page time) Done new =
-    new ≡ set_replica old (place i) (referred old.room (place w) (stamped i page time) (replica old (place i)))
+    new ≡ set_replica old (place i) (referred old.capacity (place w) (stamped i page time) (replica old (place i)))
 Effect old (Flush i w) Done new =
     new ≡ set_replica old (place i) (flushed (place w) (replica old (place i)))
 Effect old (Send i bucket after) (FrameNo k) new =
     (k ≡ length new.records) × (new ≡ add_records old (References i (carried (reach_of old i) bucket after MAX_ENTRIES) ∷ []))
 Effect old (Offer i) (FrameNo k) new =
-    (k ≡ length new.records) × (new ≡ add_records old (Sums i (reach_of old i).horizon (sums_of (entries_of (history (reach_of old i)))) ∷ []))
+    (k ≡ length new.records) × (new ≡ add_records old (Digests i (reach_of old i).horizon (digests_of (entries_of (history (reach_of old i)))) ∷ []))
 Effect old (Deliver j k) (Took count first) new =
     Delivered old j (record_at old (place k)) count first new
 Effect old (Warm i n) (Pages pages) new =

@@ -10,7 +10,7 @@ use Rattle.warm_gossip.specs.declared.fault.NodeFault.TheVariants.{Pool}
 use Rattle.warm_gossip.specs.Step.{IsFailed}
 use Rattle.warm_world.specs.declared.event.BadWorld.{BadWorld}
 use Rattle.warm_world.specs.declared.event.BadWorld.TheVariants.{Memory, SizeDiffers, DevicesDiffer}
-use Rattle.warm_world.specs.Seen.{ReplicaSeen, WorldSeen}
+use Rattle.warm_world.specs.Views.{ReplicaView, WorldView}
 use Rattle.warm_world.specs.Sizes.{Sizes}
 
 -- the devices of the replica at a place
@@ -36,16 +36,16 @@ NewRefused s devices SizeDiffers = (length devices ≡ s.replicas) × (AreSized 
 NewRefused s devices Memory = AreFitting s devices
 
 -- the replica, with this pool
-abbrev pub fails : ReplicaSeen → PoolView → ReplicaSeen
+abbrev pub fails : ReplicaView → PoolView → ReplicaView
 fails r pool = record r { node = record r.node { pool = pool } }
 
 -- a write or a flush has failed, which may fail: of one replica's pool a count of failures has grown, and nothing else has changed
-pub record FailsOf (old : WorldSeen) (new : WorldSeen) : Type 0 where
+pub record FailsOf (old : WorldView) (new : WorldView) : Type 0 where
   pub replica : ℕ
   pub there : replica < length old.replicas
   pub pool : PoolView
-  pub failed : (other : ReplicaSeen) → IsFailed (slice_index_or old.replicas replica other).node.pool pool
-  pub becomes : (other : ReplicaSeen) → new ≡ record old { replicas = set old.replicas replica (fails (slice_index_or old.replicas replica other) pool) }
+  pub failed : (other : ReplicaView) → IsFailed (slice_index_or old.replicas replica other).node.pool pool
+  pub becomes : (other : ReplicaView) → new ≡ record old { replicas = set old.replicas replica (fails (slice_index_or old.replicas replica other) pool) }
 
-abbrev pub FinishFails : WorldSeen → NodeFault → WorldSeen → Type 0
+abbrev pub FinishFails : WorldView → NodeFault → WorldView → Type 0
 FinishFails old why new = (why ≡ Pool Fault) × FailsOf old new

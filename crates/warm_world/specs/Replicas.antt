@@ -1,9 +1,9 @@
--- What becomes of a replica, and of the frames that are kept.
+-- What becomes of a replica, and of the messages that are kept.
 use Rattle.std.specs.Prelude.{◌≡◌, ◌≢◌, ◌==◌, ◌+◌, ◌-◌, if◌then◌else◌, ℕ, List, [], ◌∷◌, ◌++◌, length, map, Option, Some, None, Result, Ok, Err}
 use Rattle.warm_history.specs.Histories.{holding}
 use Rattle.warm_refbuffer.specs.Buffered.{cleared}
-use Rattle.warm_frames.specs.declared.frame.Frame.{Frame}
-use Rattle.warm_frames.specs.declared.frame.Frame.TheVariants.{Entries, Digest, Want}
+use Rattle.warm_frames.specs.declared.message.Message.{Message}
+use Rattle.warm_frames.specs.declared.message.Message.TheVariants.{Entries, Digest, Want}
 use Rattle.warm_frames.specs.Spelling.{spelling, Spells}
 use Rattle.warm_pool.specs.View.{PoolView}
 use Rattle.warm_pool.specs.Retiring.{Emptied}
@@ -19,10 +19,10 @@ use Rattle.warm_world.specs.declared.event.Answer.{Answer}
 use Rattle.warm_world.specs.declared.event.Answer.TheVariants.{FrameNo, Took, Refused}
 use Rattle.warm_world.specs.declared.event.WorldFault.TheVariants.{Node}
 use Rattle.warm_world.specs.Lists.{Pairwise}
-use Rattle.warm_world.specs.Seen.{ReplicaSeen, WorldSeen}
+use Rattle.warm_world.specs.Views.{ReplicaView, WorldView}
 
 -- the replica has restarted, or its node has refused to
-abbrev pub Restarts : ReplicaSeen → Result Unit NodeFault → ReplicaSeen → Type 0
+abbrev pub Restarts : ReplicaView → Result Unit NodeFault → ReplicaView → Type 0
 Restarts old (Ok done) new =
     (pool : PoolView) × Emptied old.node.pool pool
     × (new ≡ record { node = record old.node { history = holding []; pool = pool }; buffers = map cleared old.buffers })
@@ -34,30 +34,30 @@ Replies old (Some call) (Some reply) new = Step old call reply new
 Replies old call reply new = ⊥
 
 -- the horizon to which digests or a request raise a replica; none for entries, which bring theirs along
-abbrev pub raised_to : Frame → Option ℕ
+abbrev pub raised_to : Message → Option ℕ
 raised_to (Entries sender horizon entries) = None
-raised_to (Digest sender horizon sums) = Some horizon
-raised_to (Want sender horizon mask) = Some horizon
+raised_to (Digest sender horizon digests) = Some horizon
+raised_to (Want sender horizon request) = Some horizon
 
--- the bytes are the spelling of the frame, and can be read so
-pub record Encodes (bytes : List ℕ) (frame : Frame) : Type 0 where
-  pub spells : Spells bytes frame
-  pub exact : bytes ≡ spelling frame
+-- the bytes are the spelling of the message, and can be read so
+pub record Encodes (bytes : List ℕ) (message : Message) : Type 0 where
+  pub spells : Spells bytes message
+  pub exact : bytes ≡ spelling message
 
--- the frame is kept after the others, and its number answered; or there is no memory for it
-abbrev pub Keeps : WorldSeen → Frame → Answer → WorldSeen → Type 0
-Keeps old frame (FrameNo k) new =
-    (bytes : List ℕ) × Encodes bytes frame × (k ≡ length new.frames) × (new ≡ record old { frames = old.frames ++ bytes ∷ [] })
-Keeps old frame (Refused (Node Memory)) new = new ≡ old
-Keeps old frame answer new = ⊥
+-- the message is kept after the others, and its number answered; or there is no memory for it
+abbrev pub Keeps : WorldView → Message → Answer → WorldView → Type 0
+Keeps old message (FrameNo k) new =
+    (bytes : List ℕ) × Encodes bytes message × (k ≡ length new.messages) × (new ≡ record old { messages = old.messages ++ bytes ∷ [] })
+Keeps old message (Refused (Node Memory)) new = new ≡ old
+Keeps old message answer new = ⊥
 
--- the frames are kept after the others
-abbrev pub KeepsAll : List (List ℕ) → List Frame → List (List ℕ) → Type 0
-KeepsAll old frames new = (added : List (List ℕ)) × Pairwise (λ _ bytes frame. Encodes bytes frame) added frames × (new ≡ old ++ added)
+-- the messages are kept after the others
+abbrev pub KeepsAll : List (List ℕ) → List Message → List (List ℕ) → Type 0
+KeepsAll old messages new = (added : List (List ℕ)) × Pairwise (λ _ bytes message. Encodes bytes message) added messages × (new ≡ old ++ added)
 
--- The frames that answer a delivered one are kept after the others, and counted on from these; or there is no memory for them.
-abbrev pub Takes : List (List ℕ) → List Frame → Answer → List (List ℕ) → Type 0
-Takes old frames (Took count first) new =
-    KeepsAll old frames new × (count ≡ length frames) × (first ≡ if count == 0 then 0 else length new - count + 1)
-Takes old frames (Refused (Node Memory)) new = (frames ≢ []) × (new ≡ old)
-Takes old frames answer new = ⊥
+-- The messages that answer a delivered one are kept after the others, and counted on from these; or there is no memory for them.
+abbrev pub Takes : List (List ℕ) → List Message → Answer → List (List ℕ) → Type 0
+Takes old messages (Took count first) new =
+    KeepsAll old messages new × (count ≡ length messages) × (first ≡ if count == 0 then 0 else length new - count + 1)
+Takes old messages (Refused (Node Memory)) new = (messages ≢ []) × (new ≡ old)
+Takes old messages answer new = ⊥

@@ -23,23 +23,23 @@ pub record NoneRefused (old : ModelState) (events : List Event) (new : ModelStat
   pub run : Run old events answers new
   pub taken : AllByRecursion IsTaken answers
 
--- so many frames come to the replica j one after the other: those after the first `from`
+-- so many messages come to the replica j one after the other: those after the first `from`
 abbrev pub deliveries : ℕ → ℕ → ℕ → List Event
 deliveries j from many = map (λ k. Deliver j (k + 1)) (range_with_len from many)
 
 -- those kept in the second state and not yet in the first come to the replica j
-abbrev pub new_frames_to : ℕ → ModelState → ModelState → List Event
-new_frames_to j before after = deliveries j (length before.records) (length after.records - length before.records)
+abbrev pub new_messages_to : ℕ → ModelState → ModelState → List Event
+new_messages_to j before after = deliveries j (length before.records) (length after.records - length before.records)
 
--- A round: i offers its sums, and they come to j; all that this answered comes to i; all that those answered comes to j.
+-- A round: i offers its digests, and they come to j; all that this answered comes to i; all that those answered comes to j.
 pub record GossipRound (i j : ℕ) (old new : ModelState) : Type 0 where
   pub offered : ModelState
   pub asked : ModelState
   pub given : ModelState
   pub offers : NoneRefused old (Offer i ∷ []) offered
-  pub asks : NoneRefused offered (new_frames_to j old offered) asked
-  pub gives : NoneRefused asked (new_frames_to i offered asked) given
-  pub ends : NoneRefused given (new_frames_to j asked given) new
+  pub asks : NoneRefused offered (new_messages_to j old offered) asked
+  pub gives : NoneRefused asked (new_messages_to i offered asked) given
+  pub ends : NoneRefused given (new_messages_to j asked given) new
 
 -- the history of what reached the replica of a number
 abbrev pub known_to : ModelState → ℕ → HistoryView
@@ -50,7 +50,7 @@ abbrev pub joined : ℕ → ℕ → ModelState → HistoryView
 joined i j m = join (known_to m i) (known_to m j)
 
 -- Both replicas have the entries of the join of their histories before. The second has its horizon too, the greater one, and so has
--- the first if the second answered a frame.
+-- the first if the second answered a message.
 pub record AreJoined {i j : ℕ} {old new : ModelState} (round : GossipRound i j old new) : Type 0 where
   pub first : entries_of (known_to new i) ≡ entries_of (joined i j old)
   pub second : known_to new j ≡ joined i j old

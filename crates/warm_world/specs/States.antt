@@ -16,18 +16,18 @@ pub record ReplicaState : Type 0 where
   pub pending : List (List Reference)
   pub pool : PoolView
 
--- what a kept frame stands for: its sender and the sender's horizon, with the references that it brings, or the digests of the
+-- what a kept message stands for: its sender and the sender's horizon, with the references that it brings, or the digests of the
 -- sender's buckets, or which buckets the sender requests
-pub data FrameRecord : Type 0 where
-  References : (sender : ℕ) (refs : ReferenceSet) → FrameRecord
-  Sums : (sender horizon : ℕ) (sums : List (List ℕ)) → FrameRecord
-  Mask : (sender horizon mask : ℕ) → FrameRecord
+pub data MessageRecord : Type 0 where
+  References : (sender : ℕ) (refs : ReferenceSet) → MessageRecord
+  Digests : (sender horizon : ℕ) (digests : List (List ℕ)) → MessageRecord
+  Request : (sender horizon request : ℕ) → MessageRecord
 
--- of all replicas; room is how many references a buffer holds
+-- of all replicas; capacity is how many references a buffer holds
 pub record ModelState : Type 0 where
-  pub room : ℕ
+  pub capacity : ℕ
   pub replicas : List ReplicaState
-  pub records : List FrameRecord
+  pub records : List MessageRecord
 
 abbrev pub no_pool : PoolView
 no_pool = record { page_size = 0; devices = []; frames = []; contents = []; failures = [] }
@@ -60,11 +60,11 @@ abbrev pub set_pool : ModelState → ℕ → PoolView → ModelState
 set_pool m i pool = set_replica m (place i) (record (replica m (place i)) { pool = pool })
 
 -- the record at a place
-abbrev pub record_at : ModelState → ℕ → FrameRecord
+abbrev pub record_at : ModelState → ℕ → MessageRecord
 record_at m k = slice_index_or m.records k (References 0 (these []))
 
 -- records are kept after the others
-abbrev pub add_records : ModelState → List FrameRecord → ModelState
+abbrev pub add_records : ModelState → List MessageRecord → ModelState
 add_records m rs = record m { records = m.records ++ rs }
 
 -- what waits in the buffer of the worker at a place
@@ -81,7 +81,7 @@ put_last k x r = record r { pending = slice_set r.pending k (pending r k ++ x �
 
 -- the same, where a full buffer moves first
 abbrev pub referred : ℕ → ℕ → Reference → ReplicaState → ReplicaState
-referred room k x r = put_last k x (if nat_le room (length (pending r k)) then flushed k r else r)
+referred capacity k x r = put_last k x (if nat_le capacity (length (pending r k)) then flushed k r else r)
 
 -- its horizon rises to this time, or stays
 abbrev pub raised : ℕ → ReplicaState → ReplicaState
@@ -101,4 +101,4 @@ opened_over s devices = fresh s.workers (view_of (opened s.frames s.page_size de
 
 -- a world with a replica over each list of devices, before the first event
 abbrev pub opening : Sizes → List (List DeviceState) → ModelState
-opening s devices = record { room = s.buffer; replicas = map (opened_over s) devices; records = [] }
+opening s devices = record { capacity = s.buffer; replicas = map (opened_over s) devices; records = [] }

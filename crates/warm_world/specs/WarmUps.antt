@@ -8,7 +8,7 @@ use Rattle.warm_gossip.specs.WarmUps.{IsWarm, PagesDiffer}
 use Rattle.warm_world.specs.declared.event.Event.{Event}
 use Rattle.warm_world.specs.declared.event.Event.TheVariants.{WarmStep}
 use Rattle.warm_world.specs.States.{ModelState, pool_of, reach_of}
-use Rattle.warm_world.specs.Seen.{WorldSeen}
+use Rattle.warm_world.specs.Views.{WorldView}
 use Rattle.warm_world.specs.Stands.{StandsFor}
 use Rattle.warm_world.specs.Rounds.{NoneRefused}
 
@@ -25,7 +25,7 @@ abbrev pub PoolsDiffer : ModelState → Type 0
 PoolsDiffer m = (i : ℕ) → PagesDiffer (pool_of m i)
 
 -- so it is in each state that the world stands for
-abbrev pub ShowsPoolsDiffer : WorldSeen → Type 0
+abbrev pub ShowsPoolsDiffer : WorldView → Type 0
 ShowsPoolsDiffer w = (m : ModelState) → StandsFor w m → PoolsDiffer m
 
 -- No page of the replica is fixed: after a warm-up, none of it refused, every page of the warm-up list, cut to the frames of

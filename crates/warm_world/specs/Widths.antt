@@ -12,7 +12,7 @@ use Rattle.warm_world.specs.declared.event.Event.{Event}
 use Rattle.warm_world.specs.declared.event.Event.TheVariants.{Refer, Horizon}
 use Rattle.warm_world.specs.declared.event.Answer.{Answer}
 use Rattle.warm_world.specs.Sizes.{Sizes}
-use Rattle.warm_world.specs.States.{ModelState, ReplicaState, FrameRecord, reach_of, opening}
+use Rattle.warm_world.specs.States.{ModelState, ReplicaState, MessageRecord, reach_of, opening}
 use Rattle.warm_world.specs.Answered.{refs_of}
 use Rattle.warm_world.specs.Next.{Run}
 
@@ -40,8 +40,8 @@ pub record ReplicaFits (r : ReplicaState) : Type 0 where
   pub reached : ReachFits r.reach
   pub waiting : AllByRecursion AreReferences r.pending
 
--- and all that a kept frame brings
-abbrev pub RecordFits : FrameRecord → Type 0
+-- and all that a kept message brings
+abbrev pub RecordFits : MessageRecord → Type 0
 RecordFits kept = ReachFits (refs_of kept)
 
 -- and there are no more replicas than have numbers

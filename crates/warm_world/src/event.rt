@@ -4,7 +4,7 @@ ghost use Rattle.warm_world.specs.Faults.{bad_code_of, bad_name_of, code_of, nam
 ghost use Rattle.warm_gossip.specs.declared.fault.NodeFault.TheVariants as node;
 ghost use Rattle.warm_world.specs.declared.event.WorldFault.TheVariants as fault;
 ghost use Rattle.warm_world.specs.declared.event.BadWorld.TheVariants as bad;
-ghost use Rattle.warm_world.specs.Next.{replica_of, worker_of, frame_of};
+ghost use Rattle.warm_world.specs.Next.{replica_of, worker_of, message_of};
 
 use std::alloc::AllocError;
 use thiserror::Error;
@@ -13,7 +13,7 @@ use warm_history::History;
 use warm_pool::Slot;
 use warm_stamps::{Bucket, ByteList, PageId, PageList};
 
-/// What happens to a world. Replicas, workers and frames are numbered from 1.
+/// What happens to a world. Replicas, workers and messages are numbered from 1.
 #[derive(Debug, Drop)]
 pub enum Event {
     /// A worker of a replica references a page at a time: replica, worker, page, time. The reference
@@ -22,13 +22,13 @@ pub enum Event {
     /// What waits in a worker's buffer reaches the replica's history: replica, worker.
     Flush(u16, u16),
     /// A replica sends its first [`warm_frames::MAX_ENTRIES`] entries of a bucket, of those on pages after
-    /// the one given, as a frame: replica, bucket, page.
+    /// the one given, as a message: replica, bucket, page.
     Send(u16, Bucket, Option<PageId>),
-    /// A replica sends the sums of all its buckets as a frame.
+    /// A replica sends the digests of all its buckets as a message.
     Offer(u16),
-    /// A kept frame comes to a replica, its sender or another: replica, number of the frame. The replica's
-    /// horizon becomes the frame's if that is greater. Entries are joined into the replica's history, all of
-    /// them or none. Sums and a wish are answered by frames, which are kept after the others, all of them or
+    /// A kept message comes to a replica, its sender or another: replica, number of the message. The replica's
+    /// horizon becomes the message's if that is greater. Entries are joined into the replica's history, all of
+    /// them or none. Digests and a request are answered by messages, which are kept after the others, all of them or
     /// none.
     Deliver(u16, u64),
     /// A replica's page is given a fix, and put into a frame of its pool where it is in none: replica,
@@ -64,9 +64,9 @@ pub enum Answer {
     Done,
     /// Show: a copy of the history.
     Shown(History),
-    /// Send and Offer: the number of the frame, counted from 1 over all frames of the world.
+    /// Send and Offer: the number of the message, counted from 1 over all messages of the world.
     FrameNo(u64),
-    /// Deliver: how many frames it was answered by, and the number of the first of them; 0 and 0 where
+    /// Deliver: how many messages it was answered by, and the number of the first of them; 0 and 0 where
     /// there is none.
     Took { count: u64, first: u64 },
     /// Pin: where the page is.
@@ -89,7 +89,7 @@ pub enum Answer {
 /// says.
 #[derive(Clone, Copy, Debug, PartialEq, Eq, Error)]
 pub enum WorldFault {
-    /// 1 and 4 to 13: what the replica's node says. `Memory`, which is 1, also where a frame could not be
+    /// 1 and 4 to 13: what the replica's node says. `Memory`, which is 1, also where a message could not be
     /// kept or a history not copied; of Refer only where the buffer is full, and of Pin, Unpin, Put, Victim,
     /// Restart and Horizon never.
     #[error("{}", .0.name())]
@@ -100,7 +100,7 @@ pub enum WorldFault {
     /// 15: the replica has no worker of the number.
     #[error("NoSuchWorker")]
     NoSuchWorker,
-    /// 16: no frame has the number.
+    /// 16: no message has the number.
     #[error("NoSuchFrame")]
     NoSuchFrame,
 }
@@ -228,9 +228,9 @@ impl Event {
         }
     }
 
-    // The number of the frame that it names.
-    pub(crate) fn frame(&self) -> Option<u64>
-        ensures { result ≡ frame_of self.now }
+    // The number of the message that it names.
+    pub(crate) fn message(&self) -> Option<u64>
+        ensures { result ≡ message_of self.now }
     {
         match self {
             Event::Deliver(_, k) => Some(*k),

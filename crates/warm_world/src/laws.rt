@@ -6,7 +6,7 @@ ghost use Rattle.std.specs.Prelude.{◌<◌, ◌^◌, map};
 ghost use Rattle.std.specs.List.{AllByRecursion};
 ghost use Rattle.warm_stamps.specs.Bytes.{IsPage};
 ghost use Rattle.warm_world.specs.Rounds.{GossipRoundJoins};
-ghost use Rattle.warm_world.specs.Seen.{seen};
+ghost use Rattle.warm_world.specs.Views.{world_view};
 ghost use Rattle.warm_world.specs.WarmUps.{ArePools, ShowsPoolsDiffer, WarmUpLoads};
 ghost use Rattle.warm_world.specs.Widths.{EventFits, HistoriesFit, OpeningFits, RunsFit};
 
@@ -15,7 +15,7 @@ use crate::{Event, World};
 use warm_devices::PageDevice;
 use warm_stamps::PageId;
 
-/// A round of gossip: a replica offers its sums to another, and all that is answered comes to whom it answers, with no
+/// A round of gossip: a replica offers its digests to another, and all that is answered comes to whom it answers, with no
 /// event refused. Afterwards the histories of both are the join of the two that were; or two different texts of one
 /// bucket, one of each replica, have one SHA-256. It holds in each state whose numbers are within their widths, and
 /// so, by the three laws below, after whatever events.
@@ -74,7 +74,7 @@ pub fn warm_up_loads()
 
 /// No pool of a world has a page in two frames. Nothing is done.
 pub fn pools_differ<D: PageDevice>(world: &World<D>)
-    ensures { ShowsPoolsDiffer (seen world.now) }
+    ensures { ShowsPoolsDiffer (world_view world.now) }
 {
     are_pools(&world.replicas);
 }

@@ -3,7 +3,7 @@
 //! A *world* holds up to [`warm_stamps::MAX_REPLICAS`] replicas. Each replica is a node and a buffer of
 //! references for each of its workers: the node keeps a history, the two latest stamps of every page that
 //! it heard of, and a buffer pool over its devices, whose pages that history ranks. The world also keeps
-//! every frame that a replica sent, so that a frame may be delivered to any replica, never, once or many
+//! every message that a replica sent, so that a message may be delivered to any replica, never, once or many
 //! times, and in any order.
 //!
 //! [`World::step`] answers one event and [`World::run`] a list of them. What they promise is told over

@@ -10,7 +10,7 @@ use warm_gossip::Node;
 
 /// Asks the node the call that the event makes of it, and answers what it replies.
 ///
-/// Each call is made by its method, not as a value: a `Call` and a `Reply` have room for a frame's sums, 2 KB, which each function
+/// Each call is made by its method, not as a value: a `Call` and a `Reply` have room for a frame's digests, 2 KB, which each function
 /// on the way of a pin would clear. A `Result` of an answer, which has room for a history, would cost as much.
 pub(crate) fn ask<D: PageDevice>(node: &mut Node<D>, event: Event) -> Answer
     requires calls { IsSome (call_of event) }

@@ -7,7 +7,7 @@ ghost use Rattle.warm_pool.specs.declared.TheConstants.{MAX_DEVICES};
 ghost use Rattle.warm_gossip.specs.declared.fault.NodeFault.TheVariants.{Memory};
 ghost use Rattle.warm_world.specs.States.{flushed, opened_over, referred};
 ghost use Rattle.warm_world.specs.Next.{stamped};
-ghost use Rattle.warm_world.specs.Seen.{seen_replica};
+ghost use Rattle.warm_world.specs.Views.{replica_view};
 ghost use Rattle.warm_world.specs.Stands.{buffered, ReplicaStands, Becomes, IsFull};
 ghost use Rattle.warm_refbuffer.specs.Buffered.{cleared};
 ghost use Rattle.warm_world.specs.Replicas.{Restarts};
@@ -63,7 +63,7 @@ impl<D: PageDevice> Replica<D> {
     ) -> Result<Self, AllocError>
         requires { length devices.items ≤ MAX_DEVICES }
         ensures { (place : ℕ) → id ≡ place + 1
-            → IfOk result (λ r. ReplicaStands setup.buffer place (seen_replica r)
+            → IfOk result (λ r. ReplicaStands setup.buffer place (replica_view r)
             (opened_over setup (map D.state devices.items))) }
     {
         let frames = setup.frames() as usize;
@@ -81,10 +81,10 @@ impl<D: PageDevice> Replica<D> {
     /// What waits in a worker's buffer reaches the node.
     pub(crate) fn flush(&mut self, worker: usize) -> Result<(), NodeFault>
         requires there { worker < length self.old.buffers.items }
-        ensures ok { (room : ℕ) → OnOk result (Becomes room (seen_replica self.old)
-            (seen_replica self.new) (flushed worker)) }
+        ensures ok { (room : ℕ) → OnOk result (Becomes room (replica_view self.old)
+            (replica_view self.new) (flushed worker)) }
         ensures err { IfErr result (λ why. (why ≡ Memory)
-            × (seen_replica self.new ≡ seen_replica self.old)) }
+            × (replica_view self.new ≡ replica_view self.old)) }
         ensures same { length self.new.buffers.items ≡ length self.old.buffers.items }
     {
         self.node.absorb(self.buffers[worker].refs())?;
@@ -96,11 +96,11 @@ impl<D: PageDevice> Replica<D> {
     pub(crate) fn refer(&mut self, worker: usize, page: PageId, time: u64) -> Result<(), NodeFault>
         requires there { worker < length self.old.buffers.items }
         ensures ok { (room : ℕ) (made : Reference) → made ≡ stamped self.old.node.id page time
-            → OnOk result (Becomes room (seen_replica self.old)
-            (seen_replica self.new) (referred room worker made)) }
+            → OnOk result (Becomes room (replica_view self.old)
+            (replica_view self.new) (referred room worker made)) }
         ensures err { IfErr result (λ why. (why ≡ Memory)
-            × (seen_replica self.new ≡ seen_replica self.old)) }
-        ensures full { OnErr result (IsFull (seen_replica self.old) worker) }
+            × (replica_view self.new ≡ replica_view self.old)) }
+        ensures full { OnErr result (IsFull (replica_view self.old) worker) }
     {
         let stamp = Stamp {
             time,
@@ -116,8 +116,8 @@ impl<D: PageDevice> Replica<D> {
 
     /// The node restarts, and nothing waits any more.
     pub(crate) fn restart(&mut self) -> Result<(), NodeFault>
-        ensures { Restarts (seen_replica self.old) result
-            (seen_replica self.new) }
+        ensures { Restarts (replica_view self.old) result
+            (replica_view self.new) }
     {
         self.node.restart()?;
         clear_all(&mut self.buffers);

@@ -1,4 +1,4 @@
-//! The world: its replicas and the frames that were sent.
+//! The world: its replicas and the messages that were sent.
 ghost use Rattle.std.specs.Prelude.{◌≡◌, ◌+◌, ◌<◌, ◌≤◌, length, map, slice_index_or};
 ghost use Rattle.std.specs.Prelude.{OnOk, IfOk, IfErr, IsTrue, ◌↔◌};
 ghost use Rattle.warm_stamps.specs.declared.TheConstants.{MAX_REPLICAS};
@@ -6,9 +6,9 @@ ghost use Rattle.warm_world.specs.Lists.{IsNumber, Pairwise, place};
 ghost use Rattle.warm_world.specs.States.{opened_over, opening};
 ghost use Rattle.warm_world.specs.Opening.{AreFew, AreFitting, AreSized, FinishFails, NewRefused};
 ghost use Rattle.warm_world.specs.Next.{IsNamed, IsMissing};
-ghost use Rattle.warm_world.specs.Seen.{listed, seen, seen_replica};
-ghost use Rattle.warm_world.specs.Seen.{IsAtRest, IsSettledBefore};
-ghost use Rattle.warm_world.specs.Stands.{ReplicaStands, seen_shape, StandsFor, Steps, Runs};
+ghost use Rattle.warm_world.specs.Views.{listed, world_view, replica_view};
+ghost use Rattle.warm_world.specs.Views.{IsAtRest, IsSettledBefore};
+ghost use Rattle.warm_world.specs.Stands.{ReplicaStands, view_shape, StandsFor, Steps, Runs};
 
 use crate::event::{Answer, BadWorld, Event, WorldFault};
 use crate::pool_events::ask;
@@ -20,17 +20,17 @@ use warm_gossip::NodeFault;
 use warm_pool::all_sized;
 use warm_stamps::{PageId, ReplicaId};
 
-/// Replicas, their workers' buffers, and every frame that was sent.
+/// Replicas, their workers' buffers, and every message that was sent.
 ///
 /// Contracts tell of a world by the model states that it stands for (`StandsFor`): lists of all
-/// references that reached each replica, that wait in each buffer, and that each kept frame brings, and
+/// references that reached each replica, that wait in each buffer, and that each kept message brings, and
 /// what each replica's pool shows.
 ///
-/// A kept frame stays for as long as the world does, so memory grows with what is sent.
+/// A kept message stays for as long as the world does, so memory grows with what is sent.
 pub struct World<D: PageDevice> {
     pub(crate) alloc: Global,
     pub(crate) replicas: Vec<Replica<D>>,
-    pub(crate) frames: Vec<Vec<u8>>,
+    pub(crate) messages: Vec<Vec<u8>>,
 }
 
 // By hand, so that an owner makes one call at each way out (see `History`).
@@ -39,10 +39,10 @@ impl<D: PageDevice> Drop for World<D> {
         let Self {
             alloc: _,
             replicas,
-            frames,
+            messages,
         } = self;
         drop(replicas);
-        drop(frames);
+        drop(messages);
     }
 }
 
@@ -73,7 +73,7 @@ fn replicas_over<D: PageDevice>(
     requires few { AreFew (listed D.state devices.items) }
     requires many { length devices.items ≤ MAX_REPLICAS }
     ensures stand { IfOk result (λ made. Pairwise (ReplicaStands setup.buffer)
-        (map seen_replica made.items)
+        (map replica_view made.items)
         (map (opened_over setup) (listed D.state devices.items))) }
 {
     let mut replicas = Vec::with_capacity(alloc, devices.len())?;
@@ -89,7 +89,7 @@ fn replicas_over<D: PageDevice>(
 
 impl<D: PageDevice> World<D> {
     /// A world in which nothing has happened, with a replica over each list of devices: no replica has
-    /// heard of a page or has one in its pool, nothing waits, and no frame was sent. The room of every
+    /// heard of a page or has one in its pool, nothing waits, and no message was sent. The room of every
     /// buffer and pool is taken here.
     ///
     /// No list has more devices than [`warm_pool::MAX_DEVICES`].
@@ -99,7 +99,7 @@ impl<D: PageDevice> World<D> {
     /// device have another size than the setup says. `Memory`. All devices are dropped.
     pub fn new(alloc: Global, setup: Setup, devices: Vec<Vec<D>>) -> Result<World<D>, BadWorld>
         requires few { AreFew (listed D.state devices.items) }
-        ensures stands { IfOk result (λ world. StandsFor (seen world)
+        ensures stands { IfOk result (λ world. StandsFor (world_view world)
             (opening setup (listed D.state devices.items))) }
         ensures fitting { OnOk result (AreFitting setup (listed D.state devices.items)) }
         ensures refused { IfErr result (λ why.
@@ -115,37 +115,37 @@ impl<D: PageDevice> World<D> {
         Ok(World {
             alloc,
             replicas,
-            frames: Vec::new(alloc),
+            messages: Vec::new(alloc),
         })
     }
 
     // How many replicas there are.
     fn replica_count(&self) -> usize
-        ensures { result ≡ length (seen_shape (seen self.now)).workers }
+        ensures { result ≡ length (view_shape (world_view self.now)).workers }
     {
         self.replicas.len()
     }
 
     // How many workers the replica of a number has.
     fn worker_count(&self, i: u16) -> usize
-        requires { IsNumber i (length (seen_shape (seen self.now)).workers) }
-        ensures { result ≡ slice_index_or (seen_shape (seen self.now)).workers (place i) 0 }
+        requires { IsNumber i (length (view_shape (world_view self.now)).workers) }
+        ensures { result ≡ slice_index_or (view_shape (world_view self.now)).workers (place i) 0 }
     {
         self.replicas[i as usize - 1].buffers.len()
     }
 
-    // How many frames were sent.
-    fn frame_count(&self) -> usize
-        ensures { result ≡ (seen_shape (seen self.now)).frames }
+    // How many messages were sent.
+    fn message_count(&self) -> usize
+        ensures { result ≡ (view_shape (world_view self.now)).messages }
     {
-        self.frames.len()
+        self.messages.len()
     }
 
     // Whether all that an event names is there.
     fn check(&self, event: &Event) -> Result<(), WorldFault>
-        ensures named { OnOk result (IsNamed (seen_shape (seen self.now)) event.now) }
+        ensures named { OnOk result (IsNamed (view_shape (world_view self.now)) event.now) }
         ensures missing { IfErr result (λ fault.
-            IsMissing (seen_shape (seen self.now)) event.now fault) }
+            IsMissing (view_shape (world_view self.now)) event.now fault) }
     {
         let i = event.replica();
         if !is_number(i as u64, self.replica_count()) {
@@ -156,8 +156,8 @@ impl<D: PageDevice> World<D> {
                 return Err(WorldFault::NoSuchWorker);
             }
         }
-        if let Some(k) = event.frame() {
-            if !is_number(k, self.frame_count()) {
+        if let Some(k) = event.message() {
+            if !is_number(k, self.message_count()) {
                 return Err(WorldFault::NoSuchFrame);
             }
         }
@@ -165,9 +165,9 @@ impl<D: PageDevice> World<D> {
     }
 
     fn refer(&mut self, i: u16, w: u16, page: PageId, time: u64) -> Answer
-        requires named { IsNamed (seen_shape (seen self.old)) (Event.Refer i w page time) }
-        ensures { Steps (seen self.old) (Event.Refer i w page time) result
-            (seen self.new) }
+        requires named { IsNamed (view_shape (world_view self.old)) (Event.Refer i w page time) }
+        ensures { Steps (world_view self.old) (Event.Refer i w page time) result
+            (world_view self.new) }
     {
         let worker = w as usize - 1;
         match self.replicas[i as usize - 1].refer(worker, page, time) {
@@ -177,8 +177,8 @@ impl<D: PageDevice> World<D> {
     }
 
     fn flush(&mut self, i: u16, w: u16) -> Answer
-        requires named { IsNamed (seen_shape (seen self.old)) (Event.Flush i w) }
-        ensures { Steps (seen self.old) (Event.Flush i w) result (seen self.new) }
+        requires named { IsNamed (view_shape (world_view self.old)) (Event.Flush i w) }
+        ensures { Steps (world_view self.old) (Event.Flush i w) result (world_view self.new) }
     {
         let worker = w as usize - 1;
         match self.replicas[i as usize - 1].flush(worker) {
@@ -188,8 +188,8 @@ impl<D: PageDevice> World<D> {
     }
 
     fn restart(&mut self, i: u16) -> Answer
-        requires named { IsNamed (seen_shape (seen self.old)) (Event.Restart i) }
-        ensures { Steps (seen self.old) (Event.Restart i) result (seen self.new) }
+        requires named { IsNamed (view_shape (world_view self.old)) (Event.Restart i) }
+        ensures { Steps (world_view self.old) (Event.Restart i) result (world_view self.new) }
     {
         match self.replicas[i as usize - 1].restart() {
             Ok(()) => Answer::Done,
@@ -201,7 +201,7 @@ impl<D: PageDevice> World<D> {
     /// and its answer, to one that the world stands for afterwards. A refused event changes nothing but
     /// counts of devices' failures.
     pub fn step(&mut self, event: Event) -> Answer
-        ensures { Steps (seen self.old) event result (seen self.new) }
+        ensures { Steps (world_view self.old) event result (world_view self.new) }
     {
         if let Err(fault) = self.check(&event) {
             return Answer::Refused(fault);
@@ -235,7 +235,7 @@ impl<D: PageDevice> World<D> {
     /// and nothing has happened.
     pub fn run(&mut self, events: Vec<Event>) -> Result<Vec<Answer>, Vec<Event>>
         ensures ran { IfOk result (λ answers.
-            Runs (seen self.old) events.items answers.items (seen self.new)) }
+            Runs (world_view self.old) events.items answers.items (world_view self.new)) }
         ensures refused { IfErr result (λ back. (back ≡ events) × (self.new ≡ self.old)) }
     {
         let Ok(mut answers) = Vec::with_capacity(self.alloc, events.len()) else {
@@ -255,10 +255,10 @@ impl<D: PageDevice> World<D> {
     /// `Pool(Fault)` at the first write or flush that fails. Of what the world shows, one count of failures
     /// alone has changed.
     pub fn finish(&mut self) -> Result<(), NodeFault>
-        ensures same { OnOk result (seen self.new ≡ seen self.old) }
+        ensures same { OnOk result (world_view self.new ≡ world_view self.old) }
         ensures settled { OnOk result (IsAtRest self.new) }
-        ensures refused { IfErr result (λ why. FinishFails (seen self.old) why
-            (seen self.new)) }
+        ensures refused { IfErr result (λ why. FinishFails (world_view self.old) why
+            (world_view self.new)) }
     {
         for k in 0..self.replicas.len() {
             self.write_back(k)?;
@@ -269,11 +269,11 @@ impl<D: PageDevice> World<D> {
     // Writes the pages of the replica at a place back.
     fn write_back(&mut self, k: usize) -> Result<(), NodeFault>
         requires there { k < length self.old.replicas.items }
-        ensures same { OnOk result (seen self.new ≡ seen self.old) }
+        ensures same { OnOk result (world_view self.new ≡ world_view self.old) }
         ensures settled { IsSettledBefore k self.old
             → OnOk result (IsSettledBefore (k + 1) self.new) }
-        ensures refused { IfErr result (λ why. FinishFails (seen self.old) why
-            (seen self.new)) }
+        ensures refused { IfErr result (λ why. FinishFails (world_view self.old) why
+            (world_view self.new)) }
         ensures many { length self.new.replicas.items ≡ length self.old.replicas.items }
     {
         self.replicas[k].node.write_back()

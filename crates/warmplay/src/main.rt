@@ -14,8 +14,8 @@ use warm_devices::{FileDevice, MemDevice, OpenFault, PageDevice};
 use warm_pool::MAX_DEVICES;
 use warm_schedule::{PlayFault, play, random_schedule};
 use warm_setup::{
-    Cmd, CmdFault, DeviceSpec, PathText, ProgramFault, SetupFault, command_of, not_text, outcome_of,
-    read_setup, read_setup_file,
+    Cmd, CmdFault, DeviceSpec, PathText, ProgramFault, SetupFault, command_of, not_text,
+    outcome_of, read_setup, read_setup_file,
 };
 use warm_threads::play_threads;
 use warm_world::Setup;

@@ -5,7 +5,7 @@ use std::alloc::Global;
 use std::process::Abort;
 use test_kit::{bucket, page, seen};
 use warm_devices::MemDevice;
-use warm_frames::{Frame, decode};
+use warm_frames::{Message, decode};
 use warm_gossip::{Call, Node, Reply};
 use warm_stamps::{PageId, RefList};
 
@@ -39,7 +39,7 @@ fn length_sent(
     }
 }
 
-fn has_length(rt: &impl Abort, alloc: Global, frame: &Frame, bytes: usize) -> bool {
+fn has_length(rt: &impl Abort, alloc: Global, frame: &Message, bytes: usize) -> bool {
     bytes_of(rt, alloc, frame).len() == bytes
 }
 
@@ -67,10 +67,10 @@ const REQUEST: [u8; 27] = [
     0x4C, 0x32, 0x47, 0x32, 3, 0, 2, 0, 0, 0, 0, 0, 0, 0, 0, 0, 0, 0, 8, 0, 0, 0, 0, 0, 0, 0, 6,
 ];
 
-// A node that knows a page of bucket 2 is offered the sums of one of bucket 1.
+// A node that knows a page of bucket 2 is offered the digests of one of bucket 1.
 fn requests_both(rt: &impl Abort, alloc: Global, node: &mut Node<MemDevice>) {
     runs(rt, alloc, node, &[Row::Absorbs(&[(0, 2, 11, 2)])]);
-    let offer = frame_of(rt, alloc, Sent::Sums(0, &[(0, 1, 10, 1)]));
+    let offer = frame_of(rt, alloc, Sent::Digests(0, &[(0, 1, 10, 1)]));
     let frames = answers(rt, node, offer);
     let [_, request] = frames.as_slice() else {
         panic!(rt; "two frames are answered")

@@ -64,13 +64,13 @@ const DIFFERING: &[Sent] = &[PAGE_1, Sent::Request(15, 0b10)];
 const BY_SUMS_AND_REQUESTS: &[Row] = &[
     Row::Absorbs(&[(0, 1, 10, 1), (0, 1, 20, 1), (0, 2, 5, 1)]),
     // At 15 bucket 1 alone differs from nothing.
-    Row::WouldAnswer(Sent::Sums(15, &[]), DIFFERING),
+    Row::WouldAnswer(Sent::Digests(15, &[]), DIFFERING),
     Row::WouldAnswer(Sent::Request(15, LAST), &[PAGE_1]),
     Row::Knows(0, &[(1, 20, 10), (2, 5, 0)]),
-    Row::Receives(Sent::Sums(15, &[]), DIFFERING),
+    Row::Receives(Sent::Digests(15, &[]), DIFFERING),
     Row::Knows(15, &[(1, 20, 0)]),
     // At 21 nothing is left, and nothing differs.
-    Row::Receives(Sent::Sums(21, &[]), &[]),
+    Row::Receives(Sent::Digests(21, &[]), &[]),
     Row::Knows(21, &[]),
     Row::Absorbs(&[(0, 1, 30, 1), (0, 2, 40, 1)]),
     Row::Receives(
@@ -78,16 +78,16 @@ const BY_SUMS_AND_REQUESTS: &[Row] = &[
         &[Sent::Entries(35, &[(0, 2, 40, 1)])],
     ),
     Row::Knows(35, &[(2, 40, 0)]),
-    // The sums of a lesser horizon are of what the node has forgotten: of bucket 5 it has nothing to send.
+    // The digests of a lesser horizon are of what the node has forgotten: of bucket 5 it has nothing to send.
     Row::Receives(
-        Sent::Sums(4, &[(0, 2, 40, 1), (0, 5, 6, 1)]),
+        Sent::Digests(4, &[(0, 2, 40, 1), (0, 5, 6, 1)]),
         &[Sent::Request(35, 0b100000)],
     ),
     Row::Knows(35, &[(2, 40, 0)]),
 ];
 
 #[test]
-fn sums_and_requests_bring_their_horizon(rt: HostRuntime) {
+fn digests_and_requests_bring_their_horizon(rt: HostRuntime) {
     lives(&rt, rt.alloc(), BY_SUMS_AND_REQUESTS)
 }
 
@@ -112,7 +112,7 @@ const VICTIMS: &[Row] = &[
     Row::Victim(Some(1)),
     Row::Receives(Sent::Request(21, 0), &[]),
     Row::Victim(Some(1)),
-    Row::Receives(Sent::Sums(28, &[(0, 2, 30, 1), (0, 7, 40, 1)]), &[]),
+    Row::Receives(Sent::Digests(28, &[(0, 2, 30, 1), (0, 7, 40, 1)]), &[]),
     Row::Victim(Some(0)),
 ];
 

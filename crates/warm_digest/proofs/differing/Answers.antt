@@ -1,7 +1,7 @@
 use Rattle.std.proofs.Common.{◌≡◌, ◌≢◌, ◌↔◌, ap, arith, subst, not, ◌∙◌}
 use Rattle.std.specs.Prelude.{bytes_eq}
 use Rattle.std.specs.Int.{from_bool}
-use Rattle.warm_frames.specs.Sums.{sum_at}
+use Rattle.warm_frames.specs.Digests.{digest_at}
 use Rattle.warm_digest.proofs.Masks.{is_set, seen_more, rest_more}
 use Rattle.warm_digest.proofs.differing.Goals as goal
 
@@ -12,11 +12,11 @@ loop-index-preserved c =
     let left = c.args.left.now in
     let right = c.args.right.now in
     let given = c.from.ensures ∙ ap from_bool c.ne.ensures in
-    let here = is_set c.sum.result c.sum-in-loop-index.result c.from.result given in
-    let both = subst (λ x. (c.from.result ≡ 1) ↔ (x ≢ c.sum-in-loop-index.result)) (c.sum.ensures ∙ ap (sum_at left) c.in-Some.ensures.value) here in
+    let here = is_set c.digest.result c.digest-in-loop-index.result c.from.result given in
+    let both = subst (λ x. (c.from.result ≡ 1) ↔ (x ≢ c.digest-in-loop-index.result)) (c.digest.ensures ∙ ap (digest_at left) c.in-Some.ensures.value) here in
     record {
-      seen = seen_more (λ b bit. (bit ≡ 1) ↔ (sum_at left b ≢ sum_at right b)) c.loop-index.mask index c.from.result (not (bytes_eq c.sum.result c.sum-in-loop-index.result)) c.loop-index-test.true given
+      seen = seen_more (λ b bit. (bit ≡ 1) ↔ (digest_at left b ≢ digest_at right b)) c.loop-index.mask index c.from.result (not (bytes_eq c.digest.result c.digest-in-loop-index.result)) c.loop-index-test.true given
           (so_far.rest index (omega arith))
-          (subst (λ y. (c.from.result ≡ 1) ↔ (sum_at left index ≢ y)) (c.sum-in-loop-index.ensures ∙ ap (sum_at right) c.in-Some.ensures.value) both) so_far.seen;
+          (subst (λ y. (c.from.result ≡ 1) ↔ (digest_at left index ≢ y)) (c.digest-in-loop-index.ensures ∙ ap (digest_at right) c.in-Some.ensures.value) both) so_far.seen;
       rest = rest_more c.loop-index.mask index c.from.result c.ne.result c.loop-index-test.true c.from.ensures so_far.rest;
     }

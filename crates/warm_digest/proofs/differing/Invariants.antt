@@ -1,10 +1,10 @@
 use Rattle.std.proofs.Common.{◌≡◌, ◌≤◌, ◌<◌, ◌↔◌, ◌≢◌, ℕ}
 use Rattle.std.specs.Int.{bit_at}
-use Rattle.warm_frames.specs.Sums.{sum_at}
+use Rattle.warm_frames.specs.Digests.{digest_at}
 use Rattle.warm_digest.proofs.differing.Given as goal
 
 abbrev pub invariant-loop-index : goal.invariant-loop-index
 invariant-loop-index l = record {
-  seen : (bucket : ℕ) → bucket < l.index → (bit_at l.mask bucket ≡ 1) ↔ (sum_at l.left bucket ≢ sum_at l.right bucket);
+  seen : (bucket : ℕ) → bucket < l.index → (bit_at l.mask bucket ≡ 1) ↔ (digest_at l.left bucket ≢ digest_at l.right bucket);
   rest : (bucket : ℕ) → l.index ≤ bucket → bit_at l.mask bucket ≡ 0;
 }

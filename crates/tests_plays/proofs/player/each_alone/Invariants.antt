@@ -1,5 +1,5 @@
 use Rattle.warm_world.specs.Opening.{AreFew}
-use Rattle.warm_world.specs.Seen.{listed}
+use Rattle.warm_world.specs.Views.{listed}
 use Rattle.tests_plays.proofs.player.each_alone.Given as goal
 
 -- each list so far has few devices

@@ -18,9 +18,9 @@ returns-in-Err-clause-fanned g t c =
     let n = c.pass-mine.ensures.given.0 in
     let v = c.args.pass.now.view in
     let end = c.join-theirs.result.0.view in
-    let ran = job_as c.in-Ok.child.promise.buffer.value.cap c.in-Some.ready.buffer.cap c.in-Ok.child.promise.steps.value.items c.in-Some.ready.steps.items c.join-theirs.result.1.items c.in-Ok.child.promise.pass.value.view (new_pass v n) end (ap (λ b. b.cap) room) (ap (λ s. s.items) steps) (ap (λ p. p.view) start ∙ c.pass-mine.ensures.given.1) c.join-theirs.ensures.1 in
+    let ran = job_as c.in-Ok.child.promise.buffer.value.capacity c.in-Some.ready.buffer.capacity c.in-Ok.child.promise.steps.value.items c.in-Some.ready.steps.items c.join-theirs.result.1.items c.in-Ok.child.promise.pass.value.view (new_pass v n) end (ap (λ b. b.capacity) room) (ap (λ s. s.items) steps) (ap (λ p. p.view) start ∙ c.pass-mine.ensures.given.1) c.join-theirs.ensures.1 in
     let kept = c.fan_out-rest.ensures.fanned in
-    fan_err g.M.Machine.goes v c.pass-mine.new.pass.view c.fan_out-rest.new.pass.view end c.end.new.pass.view kept.0 (ap (λ p. p.view) c.pass-mine.ensures.same) kept.1 c.end.ensures.seen (none_ended c.in-Some.ready.buffer.cap c.in-Some.ready.steps.items c.join-theirs.result.1.items v end n ran)
+    fan_err g.M.Machine.goes v c.pass-mine.new.pass.view c.fan_out-rest.new.pass.view end c.end.new.pass.view kept.0 (ap (λ p. p.view) c.pass-mine.ensures.same) kept.1 c.end.ensures.seen (none_ended c.in-Some.ready.buffer.capacity c.in-Some.ready.steps.items c.join-theirs.result.1.items v end n ran)
 
 pub push_reserved-requires : goal.push_reserved-requires
 push_reserved-requires g t c =
@@ -36,8 +36,8 @@ returns-clause-fanned g t c =
     let n = c.pass-mine.ensures.given.0 in
     let v = c.args.pass.now.view in
     let end = c.join-theirs.result.0.view in
-    let ran = job_as c.in-Ok.child.promise.buffer.value.cap c.in-Some.ready.buffer.cap c.in-Ok.child.promise.steps.value.items c.in-Some.ready.steps.items c.join-theirs.result.1.items c.in-Ok.child.promise.pass.value.view (new_pass v n) end (ap (λ b. b.cap) room) (ap (λ s. s.items) steps) (ap (λ p. p.view) start ∙ c.pass-mine.ensures.given.1) c.join-theirs.ensures.1 in
+    let ran = job_as c.in-Ok.child.promise.buffer.value.capacity c.in-Some.ready.buffer.capacity c.in-Ok.child.promise.steps.value.items c.in-Some.ready.steps.items c.join-theirs.result.1.items c.in-Ok.child.promise.pass.value.view (new_pass v n) end (ap (λ b. b.capacity) room) (ap (λ s. s.items) steps) (ap (λ p. p.view) start ∙ c.pass-mine.ensures.given.1) c.join-theirs.ensures.1 in
     let kept = c.in_default-rest.ensures.fanned in
     rw (c.in-Some.ensures.items, c.push_reserved.ensures.items)
     (fan_more ReadyWentAs g.M.Machine.goes v c.pass-mine.new.pass.view c.fan_out-rest.new.pass.view end c.end.new.pass.view c.pop.new.self.items c.in-Some.ready c.fan_out-rest.new.all.items c.join-theirs.result.1 kept.0 (ap (λ p. p.view) c.pass-mine.ensures.same) kept.1 kept.2 c.end.ensures.seen
-    (none_ended c.in-Some.ready.buffer.cap c.in-Some.ready.steps.items c.join-theirs.result.1.items v end n ran) (ran_as c.in-Some.ready.buffer.cap c.in-Some.ready.steps.items c.join-theirs.result.1.items v end n ran))
+    (none_ended c.in-Some.ready.buffer.capacity c.in-Some.ready.steps.items c.join-theirs.result.1.items v end n ran) (ran_as c.in-Some.ready.buffer.capacity c.in-Some.ready.steps.items c.join-theirs.result.1.items v end n ran))

@@ -1,6 +1,6 @@
 use Rattle.std.proofs.Common.{◌≡◌}
 use Rattle.toml.specs.View.{members_view}
-use Rattle.warm_setup.specs.SetupSeen.{fields_of}
+use Rattle.warm_setup.specs.SetupView.{fields_of}
 use Rattle.warm_setup.specs.Setups.{key_by_key, with_device_key, no_fields}
 use Rattle.warm_setup.proofs.setup.device_keys.Given as goal
 

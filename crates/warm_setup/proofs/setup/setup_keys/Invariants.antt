@@ -1,6 +1,6 @@
 use Rattle.std.proofs.Common.{◌≡◌}
 use Rattle.toml.specs.View.{members_view}
-use Rattle.warm_setup.specs.SetupSeen.{settings_of, AreWithin}
+use Rattle.warm_setup.specs.SetupView.{settings_of, AreWithin}
 use Rattle.warm_setup.specs.Setups.{key_by_key, with_key, setup_of}
 use Rattle.warm_setup.proofs.setup.setup_keys.Given as goal
 

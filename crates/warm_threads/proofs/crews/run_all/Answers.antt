@@ -10,7 +10,7 @@ all_work-requires g c κs within = all_mapped _ (λ list. length list.items ≤ 
 pub returns : goal.returns
 returns g c =
     if_ok_then _ _ c.all_hear.result
-    (λ v heard. went_all g.M.Machine.goes g.M.Machine.meaning c.args.machines.items c.args.jobs.items c.in-Ok.crews.items c.in_ok-knowing.knowing.items c.in_ok-hearing.hearing.items v.items
+    (λ v heard. went_all g.M.Machine.goes g.M.Machine.view c.args.machines.items c.args.jobs.items c.in-Ok.crews.items c.in_ok-knowing.knowing.items c.in_ok-hearing.hearing.items v.items
     (λ r. r.machine) (λ r. r.jobs) (λ k. k.machine) (λ h. h.machine)
     c.in-Ok.ensures.machines c.in-Ok.ensures.jobs c.in_ok-knowing.ensures c.in_ok-hearing.ensures heard)
     c.all_hear.ensures

@@ -11,4 +11,4 @@ returns-clause-adds c = λ before are.
     let low : a.replica - 1 < length plans = omega (arith, numbers.0, numbers.1, c.requires.shape.replicas) in
     let many : length list.items ≡ c.args.setup.workers = rw (← c.index_mut.ensures.value) at (c.requires.shape.workers (a.replica - 1) list low) in
     plans_more c.args.setup before a plans (a.replica - 1) (a.worker - 1) list c.add_to.new.list (omega (arith, numbers.0)) (omega (arith, numbers.2)) low c.index_mut.ensures.value
-    (omega (arith, numbers.2, numbers.3, many)) (rw c.buffer-cap.ensures.value at c.in_ok-add_to.ensures.adds) are
+    (omega (arith, numbers.2, numbers.3, many)) (rw c.buffer-capacity.ensures.value at c.in_ok-add_to.ensures.adds) are

@@ -8,5 +8,5 @@ use Rattle.warm_threads.proofs.plan.jobs_of.Given as goal
 abbrev pub invariant-loop-plan : goal.invariant-loop-plan
 invariant-loop-plan l = record {
   rest : l.yielded ++ into_iter_items l.plan-iterator ≡ l.fn.plans.items;
-  pairs : Pairs (DoesPlan l.cap) l.yielded l.jobs.items;
+  pairs : Pairs (DoesPlan l.capacity) l.yielded l.jobs.items;
 }

@@ -1,6 +1,6 @@
 use Rattle.std.proofs.Common.{◌≡◌, ◌++◌, length}
 use Rattle.std.specs.Vec.Iter.{into_iter_items}
-use Rattle.warm_world.specs.Seen.{listed}
+use Rattle.warm_world.specs.Views.{listed}
 use Rattle.warm_threads.specs.Opened.{opened_nodes}
 use Rattle.warm_threads.proofs.play.nodes_of.Given as goal
 

@@ -5,7 +5,7 @@ use Rattle.warm_play_fault.specs.declared.PlayFault.TheVariants.{BadLine, WriteF
 use Rattle.warm_schedule.specs.Answers.{Prints}
 use Rattle.warm_threads.specs.Opened.{opened_nodes}
 use Rattle.warm_threads.specs.Shown.{replicas_text}
-use Rattle.warm_world.specs.Seen.{listed}
+use Rattle.warm_world.specs.Views.{listed}
 use Rattle.warm_threads.proofs.Playings.{played_of}
 use Rattle.warm_threads.proofs.play.play_threads.Goals as goal
 

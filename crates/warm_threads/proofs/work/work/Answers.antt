@@ -8,8 +8,8 @@ use Rattle.warm_threads.proofs.work.work.Goals as goal
 
 pub returns-in-Ok-closed : goal.returns-in-Ok-closed
 returns-in-Ok-closed g c =
-    let x = g.M.Machine.meaning c.args.machine in
-    let z = g.M.Machine.meaning c.in-Ok-closed.machine in
+    let x = g.M.Machine.view c.args.machine in
+    let z = g.M.Machine.view c.in-Ok-closed.machine in
     let w = c.run_workers-ran.new.pass.view in
     let jobs = c.args.jobs.items in
     let replies = c.in-Ok-ran.all.items in

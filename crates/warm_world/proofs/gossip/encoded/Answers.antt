@@ -5,15 +5,15 @@ use Rattle.warm_world.proofs.Frames.{encoded_more}
 use Rattle.warm_world.proofs.Pairs.{Pairwise-nil}
 use Rattle.warm_world.proofs.gossip.encoded.Goals as goal
 
-pub loop-frame-init : goal.loop-frame-init
-loop-frame-init c = rw c.in_ok-all.ensures.items (Pairwise-nil (λ _ bytes frame. Encodes bytes frame))
+pub loop-message-init : goal.loop-message-init
+loop-message-init c = rw c.in_ok-all.ensures.items (Pairwise-nil (λ _ bytes message. Encodes bytes message))
 
-pub loop-frame-preserved : goal.loop-frame-preserved
-loop-frame-preserved c =
-    encoded_more c.loop-frame.all.items _ c.in_ok-encode.field-0 c.args.frames.now c.loop-frame.frame-index c.frame-item.result c.loop-frame.invariant
-    (omega (arith, c.loop-frame-test.true)) c.frame-item.is c.in_ok-push.ensures.items (record { spells = c.in_ok-encode.ensures.spells; exact = c.in_ok-encode.ensures.exact })
+pub loop-message-preserved : goal.loop-message-preserved
+loop-message-preserved c =
+    encoded_more c.loop-message.all.items _ c.in_ok-encode.field-0 c.args.messages.now c.loop-message.message-index c.message-item.result c.loop-message.invariant
+    (omega (arith, c.loop-message-test.true)) c.message-item.is c.in_ok-push.ensures.items (record { spells = c.in_ok-encode.ensures.spells; exact = c.in_ok-encode.ensures.exact })
 
 pub returns : goal.returns
 returns c =
-    let past : length c.args.frames.now ≤ c.loop-frame.frame-index = omega (arith, c.loop-frame-test.false) in
-    rw (← take_all _ c.args.frames.now past) c.loop-frame.invariant
+    let past : length c.args.messages.now ≤ c.loop-message.message-index = omega (arith, c.loop-message-test.false) in
+    rw (← take_all _ c.args.messages.now past) c.loop-message.invariant

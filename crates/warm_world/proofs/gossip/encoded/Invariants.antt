@@ -3,6 +3,6 @@ use Rattle.warm_world.specs.Lists.{Pairwise}
 use Rattle.warm_world.specs.Replicas.{Encodes}
 use Rattle.warm_world.proofs.gossip.encoded.Given as goal
 
--- the frames so far are encoded
-abbrev pub invariant-loop-frame : goal.invariant-loop-frame
-invariant-loop-frame l = Pairwise (λ _ bytes frame. Encodes bytes frame) (map (λ b. b.items) l.all.items) (take l.frame-index l.frames)
+-- the messages so far are encoded
+abbrev pub invariant-loop-message : goal.invariant-loop-message
+invariant-loop-message l = Pairwise (λ _ bytes message. Encodes bytes message) (map (λ b. b.items) l.all.items) (take l.message-index l.messages)

@@ -3,4 +3,4 @@ use Rattle.warm_world.specs.Stands.{buffered}
 use Rattle.warm_world.proofs.replica.empty_buffers.Given as goal
 
 abbrev pub invariant-loop-worker : goal.invariant-loop-worker
-invariant-loop-worker l = l.buffers.items ≡ replicate l._worker (buffered l.room [])
+invariant-loop-worker l = l.buffers.items ≡ replicate l._worker (buffered l.capacity [])

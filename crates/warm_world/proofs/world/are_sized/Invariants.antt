@@ -1,7 +1,7 @@
 use Rattle.std.proofs.Common.{ℕ, ◌<◌, length}
 use Rattle.warm_pool.specs.DeviceCalls.{AreOfSize}
 use Rattle.warm_world.specs.Opening.{devices_at}
-use Rattle.warm_world.specs.Seen.{listed}
+use Rattle.warm_world.specs.Views.{listed}
 use Rattle.warm_world.proofs.world.are_sized.Given as goal
 
 -- the lists so far have devices of the size

@@ -17,5 +17,5 @@ loop-list-preserved g c =
       stand = one_more _ _ c.args.setup c.loop-list.replicas.items _ c.in_ok-replica.replica so_far list c.push_reserved.ensures.items c.loop-list.invariant.stand
           (c.in_ok-replica.ensures (length c.loop-list.replicas.items) number);
       count = ap length c.push_reserved.ensures.items ∙ omega (arith, length-append c.loop-list.replicas.items (c.in_ok-replica.replica ∷ []), length-append so_far (list ∷ []), c.loop-list.invariant.count);
-      room = omega (arith, c.push_reserved.ensures.capacity, c.loop-list.invariant.room);
+      capacity = omega (arith, c.push_reserved.ensures.capacity, c.loop-list.invariant.capacity);
     }

@@ -3,7 +3,7 @@ use Rattle.warm_history.specs.Carried.{carried}
 use Rattle.warm_history.specs.Histories.{HistoryView, entries_of, history, refs}
 use Rattle.warm_history.proofs.JoinLemmas.{history_of_own_references}
 use Rattle.warm_frames.specs.declared.layout.TheConstants.{MAX_ENTRIES}
-use Rattle.warm_frames.specs.declared.frame.Frame.TheVariants.{Entries}
+use Rattle.warm_frames.specs.declared.message.Message.TheVariants.{Entries}
 use Rattle.warm_gossip.specs.Answers.{sent}
 use Rattle.warm_gossip.specs.State.{NodeState}
 use Rattle.warm_gossip.proofs.node.Node.send.Goals as goal

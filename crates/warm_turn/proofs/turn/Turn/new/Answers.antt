@@ -13,14 +13,14 @@ new-requires g c =
     let H = Held g.row.M.Denot g.row.M-Call.Denot g.row.M-Reply.Denot in
     let h : H = record { machine = c.in_ok-machine.machine; made = None } in
     let items = only_one c.push.new.self.items c.new-slots.result.items (Some h) c.in_default.ensures.items c.new-slots.ensures.items in
-    let o = g.M.Machine.meaning c.of-about.result.value in
+    let o = g.M.Machine.view c.of-about.result.value in
     let same = c.in_ok-machine.ensures.ok in
-    subst (λ (l : List (Option H)). Kept g.M.Machine.meaning g.M.Machine.goes o (opening (0 ∷ 0 ∷ []) l (first_pass o))) (sym items) (begins g.M.Machine.meaning g.M.Machine.goes o h (ap g.M.Machine.meaning (same ∙ sym c.of-about.ensures)))
+    subst (λ (l : List (Option H)). Kept g.M.Machine.view g.M.Machine.goes o (opening (0 ∷ 0 ∷ []) l (first_pass o))) (sym items) (begins g.M.Machine.view g.M.Machine.goes o h (ap g.M.Machine.view (same ∙ sym c.of-about.ensures)))
 
 pub invariant_of-result-in-Ok : goal.invariant_of-result-in-Ok
 invariant_of-result-in-Ok g c =
     let me = c.in-Ok.ensures.ok.4 in
-    (ap (λ m. m.1) me, subst (IsPass g.M.Machine.goes) (sym (ap (λ m. m.0) me)) (first_is_pass g.M.Machine.goes (g.M.Machine.meaning c.of-about.result.value)))
+    (ap (λ m. m.1) me, subst (IsPass g.M.Machine.goes) (sym (ap (λ m. m.0) me)) (first_is_pass g.M.Machine.goes (g.M.Machine.view c.of-about.result.value)))
 
 pub machine_of-requires-in-Err-new : goal.machine_of-requires-in-Err-new
 machine_of-requires-in-Err-new g c =
@@ -30,4 +30,4 @@ machine_of-requires-in-Err-new g c =
     (h, last_one c.pop.new.self.items c.in-Some.slot (Some h) (sym items ∙ (sym c.in-Err-new.ensures.err ∙ c.in-Some.ensures.items)))
 
 pub returns-in-Ok-clause-legal : goal.returns-in-Ok-clause-legal
-returns-in-Ok-clause-legal g c = subst (IsPass g.M.Machine.goes) (sym (ap (λ m. m.0) c.in-Ok.ensures.ok.4)) (first_is_pass g.M.Machine.goes (g.M.Machine.meaning c.of-about.result.value))
+returns-in-Ok-clause-legal g c = subst (IsPass g.M.Machine.goes) (sym (ap (λ m. m.0) c.in-Ok.ensures.ok.4)) (first_is_pass g.M.Machine.goes (g.M.Machine.view c.of-about.result.value))

@@ -1,11 +1,11 @@
 use Rattle.std.proofs.Common.{◌≡◌, length}
-use Rattle.warm_world.specs.Seen.{IsSettledBefore, seen}
+use Rattle.warm_world.specs.Views.{IsSettledBefore, world_view}
 use Rattle.warm_world.proofs.world.World.finish.Given as goal
 
 -- nothing that the world shows has changed so far
 abbrev pub invariant-loop-k : goal.invariant-loop-k
 invariant-loop-k g l = record {
-  same : seen l.self ≡ seen l.fn.self;
+  same : world_view l.self ≡ world_view l.fn.self;
   settled : IsSettledBefore l.k l.self;
   many : length l.self.replicas.items ≡ length l.fn.self.replicas.items;
 }

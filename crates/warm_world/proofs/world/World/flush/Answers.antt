@@ -17,7 +17,7 @@ returns-in-Ok g c = λ m st.
     let lt = place_in _ _ _ event c.requires.named in
     let here = stands_at _ _ _ m k c.index_mut.result.now st lt c.index_mut.ensures.value in
     changes _ _ _ m event Done k _ (flushed (c.args.w - 1) (replica m k)) st lt
-    (c.in-Ok.ensures.ok m.room k (replica m k) here)
+    (c.in-Ok.ensures.ok m.capacity k (replica m k) here)
     (named_too _ m event st c.requires.named, refl)
 
 pub returns-in-Err : goal.returns-in-Err

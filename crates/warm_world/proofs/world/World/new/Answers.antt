@@ -4,7 +4,7 @@ use Rattle.warm_devices.specs.Device.{DeviceState}
 use Rattle.warm_world.specs.declared.event.BadWorld.{BadWorld}
 use Rattle.warm_world.specs.declared.event.BadWorld.TheVariants.{Memory}
 use Rattle.warm_world.specs.Opening.{AreFitting, NewRefused}
-use Rattle.warm_world.specs.Seen.{listed}
+use Rattle.warm_world.specs.Views.{listed}
 use Rattle.warm_world.specs.Sizes.{Sizes}
 use Rattle.warm_world.proofs.Openings.{counted, sized_as}
 use Rattle.warm_world.proofs.world.World.new.Goals as goal

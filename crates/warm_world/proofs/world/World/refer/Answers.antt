@@ -23,8 +23,8 @@ returns-in-Ok g c = λ m st.
     let id : c.index_mut.result.now.node.id ≡ c.args.i = ap (λ (v : NodeView). v.id) here.node_is ∙ number in
     let is : made ≡ stamped c.index_mut.result.now.node.id c.args.page c.args.time =
     sym (ap (λ (i : ℕ). stamped i c.args.page c.args.time) id) in
-    changes _ _ _ m event Done k _ (referred m.room (c.args.w - 1) made (replica m k)) st lt
-    (c.in-Ok.ensures.ok m.room made is k (replica m k) here)
+    changes _ _ _ m event Done k _ (referred m.capacity (c.args.w - 1) made (replica m k)) st lt
+    (c.in-Ok.ensures.ok m.capacity made is k (replica m k) here)
     (named_too _ m event st c.requires.named, refl)
 
 pub returns-in-Err : goal.returns-in-Err
@@ -34,4 +34,4 @@ returns-in-Err g c = λ m st.
     let lt = place_in _ _ _ event c.requires.named in
     let here = stands_at _ _ _ m k c.index_mut.result.now st lt c.index_mut.ensures.value in
     no_memory _ _ _ m event k _ _ c.in-Err.why st lt c.index_mut.ensures.value c.in-Err.ensures.err.1 c.in-Err.ensures.err.0
-    (named_too _ m event st c.requires.named, (c.in-Err.ensures.full m.room k (replica m k) here, refl))
+    (named_too _ m event st c.requires.named, (c.in-Err.ensures.full m.capacity k (replica m k) here, refl))

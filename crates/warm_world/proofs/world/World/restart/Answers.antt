@@ -20,7 +20,7 @@ returns-in-Ok g c = λ m st.
     let here = stands_at _ _ _ m k c.index_mut.result.now st lt c.index_mut.ensures.value in
     let did = c.in-Ok.ensures in
     changes _ _ _ m event answer.Done k _ (restarted did.0 (replica m k)) st lt
-    (restarts m.room k _ _ (replica m k) did.0 here did.2)
+    (restarts m.capacity k _ _ (replica m k) did.0 here did.2)
     (named_too _ m event st c.requires.named, (did.0, subst (λ (v : NodeView). Emptied v.pool did.0) here.node_is did.1, refl))
 
 pub returns-in-Err : goal.returns-in-Err

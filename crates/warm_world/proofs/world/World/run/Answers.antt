@@ -8,7 +8,7 @@ loop-event-init g c = record {
   ran = λ m st. rw c.in-Ok.ensures.items (ran_none m _ st);
   rest = c.into_iter-event-iterator.ensures.into_iter_gives.0;
   count = ap length c.in-Ok.ensures.items;
-  room = omega (arith, c.in-Ok.ensures.exact, c.len.ensures, c.args.events.ok.0);
+  capacity = omega (arith, c.in-Ok.ensures.exact, c.len.ensures, c.args.events.ok.0);
 }
 
 pub loop-event-preserved : goal.loop-event-preserved
@@ -20,5 +20,5 @@ loop-event-preserved g c =
           (ran_more m so_far c.loop-event.answers.items _ _ event c.step-answer.result (c.loop-event.invariant.ran m st) c.step-answer.ensures);
       rest = append_assoc so_far (event ∷ []) c.next.new.self.rest.items ∙ (ap (λ r. so_far ++ r) (sym c.in-Some.ensures.steps.0) ∙ c.loop-event.invariant.rest);
       count = ap length c.push_reserved.ensures.items ∙ omega (arith, length-append c.loop-event.answers.items (c.step-answer.result ∷ []), length-append so_far (event ∷ []), c.loop-event.invariant.count);
-      room = omega (arith, c.push_reserved.ensures.capacity, c.loop-event.invariant.room);
+      capacity = omega (arith, c.push_reserved.ensures.capacity, c.loop-event.invariant.capacity);
     }

@@ -5,7 +5,7 @@ use Rattle.warm_frames.specs.declared.layout.TheConstants.{MAX_ENTRIES}
 use Rattle.warm_gossip.specs.State.{NodeView}
 use Rattle.warm_world.specs.declared.event.Event.TheVariants.{Send}
 use Rattle.warm_world.specs.States.{References, replica}
-use Rattle.warm_world.specs.Stands.{frame_kept}
+use Rattle.warm_world.specs.Stands.{message_kept}
 use Rattle.warm_world.proofs.Alone.{send_refused}
 use Rattle.warm_world.proofs.Frames.{kept_one}
 use Rattle.warm_world.proofs.Histories.{sent_kept}
@@ -23,9 +23,9 @@ returns-in-Ok g c = λ m st.
     let id : c.index.result.now.node.id ≡ c.args.i = ap (λ (v : NodeView). v.id) here.node_is ∙ number in
     let holds : c.index.result.now.node.history ≡ history (replica m k).reach = ap (λ (v : NodeView). v.history) here.node_is in
     let kept = References c.args.i (carried (replica m k).reach c.args.bucket c.args.after MAX_ENTRIES) in
-    let frame : c.in-Ok.frame ≡ frame_kept kept =
+    let message : c.in-Ok.message ≡ message_kept kept =
     c.in-Ok.ensures.0 ∙ sent_kept _ _ _ (replica m k).reach c.args.bucket c.args.after id holds in
-    kept_one _ _ m event c.in-Ok.frame c.keep.result kept st frame c.keep.ensures (λ n new is becomes. (named, (is, becomes))) (named, refl)
+    kept_one _ _ m event c.in-Ok.message c.keep.result kept st message c.keep.ensures (λ n new is becomes. (named, (is, becomes))) (named, refl)
 
 pub returns-in-Err : goal.returns-in-Err
 returns-in-Err g c = λ m st.

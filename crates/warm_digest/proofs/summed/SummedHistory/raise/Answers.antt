@@ -1,6 +1,0 @@
-use Rattle.warm_digest.proofs.KeptLemmas.{kept_raised}
-use Rattle.warm_digest.proofs.summed.SummedHistory.raise.Goals as goal
-
-pub invariant_of-self : goal.invariant_of-self
-invariant_of-self c =
-    kept_raised c.self.inside.history c.raise.new.self c.args.time c.self.inside.changed c.losing-lost.result c.self.inside.sums c.raise.ensures.exact c.self.invariant c.losing-lost.ensures

@@ -1,0 +1,197 @@
+//! A history whose bucket digests are kept.
+ghost use Rattle.std.specs.Prelude.{◌≡◌, [], IfOk, OnOk, OnErr};
+ghost use Rattle.warm_history.specs.ReferenceSets.{these, since, ◌∪◌};
+ghost use Rattle.warm_history.specs.Histories.{entries_of, history, holding, holding_since, join, refs};
+ghost use Rattle.warm_digest.specs.BucketDigests.{digests_of, digests_since};
+ghost use Rattle.warm_digest.specs.KeptDigests.{Marks, MarksLosing, MarksPage};
+
+use crate::kept::Digests;
+use std::alloc::{AllocError, Global};
+use std::marker::Model;
+use warm_frames::DigestTable;
+use warm_history::laws::is_history;
+use warm_history::{Entry, History};
+use warm_stamps::{BUCKETS, Bucket, PageId, Reference, bucket_of};
+
+/// A history whose bucket digests are kept: what it takes in marks buckets, which takes no memory, and
+/// [`DigestedHistory::digests`] takes anew only the digests of the marked ones.
+///
+/// Contracts see it as its history.
+#[derive(Debug)]
+pub struct DigestedHistory {
+    alloc: Global,
+    history: History,
+    digests: Digests,
+    // The buckets of which a page may have changed since their digest was taken.
+    changed: u64,
+}
+
+// By hand, so that an owner makes one call at each way out (see `History`).
+impl Drop for DigestedHistory {
+    fn drop(mut self) {
+        let Self {
+            alloc: _,
+            history,
+            digests,
+            changed: _,
+        } = self;
+        drop(history);
+        drop(digests);
+    }
+}
+
+impl Model for DigestedHistory {
+    ghost use Rattle.warm_history.specs.Histories.{HistoryView, entries_of};
+    ghost use Rattle.warm_digest.specs.KeptDigests.{IsKept};
+
+    ghost Value = { HistoryView };
+
+    ghost view = { λ digested. digested.history };
+
+    ghost invariant = { λ digested. IsKept digested.changed (entries_of digested.history) digested.digests };
+}
+
+impl DigestedHistory {
+    /// A history that holds nothing, with its digests. Takes no memory.
+    pub fn new(alloc: Global) -> DigestedHistory
+        ensures { result ≡ holding [] }
+    {
+        DigestedHistory {
+            alloc,
+            history: History::new(alloc),
+            digests: Digests::new(alloc),
+            changed: 0,
+        }
+    }
+
+    /// The history.
+    pub fn history(&self) -> &History
+        ensures { result.now ≡ self.now }
+    {
+        &self.history
+    }
+
+    /// Takes in references, as [`History::absorb`] does: `AllocError` changes nothing.
+    pub fn absorb(&mut self, batch: &[Reference]) -> Result<(), AllocError>
+        ensures exact { OnOk result (self.new ≡ history (refs self.old ∪ these batch.now)) }
+        ensures err { OnErr result (self.new ≡ self.old) }
+    {
+        // Pages rise, so the entries of a bucket without a reference of the batch stay.
+        is_history(&self.history);
+        self.history.absorb(batch)?;
+        self.changed = mark_references(self.changed, batch);
+        Ok(())
+    }
+
+    /// Takes in all that these entries hold, as [`History::join_entries`] does: `AllocError` changes
+    /// nothing.
+    pub fn join_entries(&mut self, horizon: u64, more: &[Entry]) -> Result<(), AllocError>
+        ensures exact { OnOk result (self.new ≡ join self.old (holding_since horizon more.now)) }
+        ensures err { OnErr result (self.new ≡ self.old) }
+    {
+        let lost = losing(&self.history, horizon);
+        self.history.join_entries(horizon, more)?;
+        self.changed = mark_entries(self.changed | lost, more);
+        Ok(())
+    }
+
+    /// The time before which stamps are forgotten. Takes no memory.
+    pub fn horizon(&self) -> u64
+        ensures { result ≡ self.now.horizon }
+    {
+        self.history.horizon()
+    }
+
+    /// Forgets all stamps before this time, as [`History::raise`] does.
+    ///
+    /// Where the time is past the horizon, the next digests of the buckets that lost a stamp are taken again, and of no other. To know
+    /// them each bucket is gone over once more, up to its first older stamp.
+    pub fn raise(&mut self, time: u64)
+        ensures exact { self.new ≡ history (since time (refs self.old)) }
+    {
+        let lost = losing(&self.history, time);
+        self.history.raise(time);
+        self.changed |= lost;
+    }
+
+    /// Forgets everything. Takes no memory.
+    pub fn clear(&mut self)
+        ensures { self.new ≡ holding [] }
+    {
+        self.history = History::new(self.alloc);
+        self.digests = Digests::new(self.alloc);
+        self.changed = 0;
+    }
+
+    /// The digests of its buckets.
+    ///
+    /// Costs nothing where nothing was taken in since the last call, and else what [`Digests::renew`] costs
+    /// for the buckets of what was. `AllocError` comes only where that was refused room; the next call
+    /// takes the same digests anew.
+    pub fn digests(&mut self) -> Result<DigestTable, AllocError>
+        ensures table { IfOk result (λ table. table ≡ digests_of (entries_of self.old)) }
+        ensures same { self.new ≡ self.old }
+    {
+        self.digests.renew(&self.history, self.changed)?;
+        self.changed = 0;
+        Ok(self.digests.table())
+    }
+
+    /// The digests that its buckets would have, were the history raised to a horizon: what [`DigestedHistory::digests`] would give then.
+    ///
+    /// Nothing is forgotten. Where the horizon is not past the own one, it costs what [`DigestedHistory::digests`] does. Else each bucket
+    /// is gone over up to its first older stamp. Only the buckets that have one, and those changed since the last call, are hashed:
+    /// their entries as they are read, without what is older. `AllocError` comes only where room for the bytes of one entry was refused.
+    pub fn digests_since(&mut self, horizon: u64) -> Result<DigestTable, AllocError>
+        ensures table { IfOk result (λ table. table ≡ digests_since horizon self.old) }
+        ensures same { self.new ≡ self.old }
+    {
+        let lost = losing(&self.history, horizon);
+        self.digests.renew(&self.history, self.changed & !lost)?;
+        self.changed &= lost;
+        self.digests.table_since(&self.history, horizon, lost)
+    }
+}
+
+// The mask with the bit of the page's bucket.
+fn mark(mask: u64, page: PageId) -> u64
+    ensures { MarksPage mask page result }
+{
+    mask | 1 << bucket_of(page).get()
+}
+
+// The mask with the buckets of the references' pages.
+fn mark_references(changed: u64, batch: &[Reference]) -> u64
+    ensures { Marks (λ r. r.page) changed batch.now result }
+{
+    let mut mask = changed;
+    for reference in batch {
+        mask = mark(mask, reference.page);
+    }
+    mask
+}
+
+// The buckets that would lose a stamp at the horizon, as a mask: bit b, of value 2^b, stands for bucket b.
+fn losing(history: &History, horizon: u64) -> u64
+    ensures { MarksLosing horizon history.now result }
+{
+    let mut mask: u64 = 0;
+    for index in 0..BUCKETS {
+        let Some(bucket) = Bucket::new(index) else {
+            unreachable!()
+        };
+        mask |= u64::from(history.loses(bucket, horizon)) << index;
+    }
+    mask
+}
+
+// The mask with the buckets of the entries' pages.
+fn mark_entries(changed: u64, more: &[Entry]) -> u64
+    ensures { Marks (λ e. e.page) changed more.now result }
+{
+    let mut mask = changed;
+    for entry in more {
+        mask = mark(mask, entry.page);
+    }
+    mask
+}

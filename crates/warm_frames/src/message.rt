@@ -1,0 +1,144 @@
+//! Frames, and their spelling.
+ghost use Rattle.std.specs.Prelude.{◌≡◌, ◌⊎◌, IfOk, Err};
+ghost use Rattle.warm_frames.specs.Spelling.{spelling, Spells};
+ghost use Rattle.warm_frames.specs.Reading.{Gives, FindsSpelled, read_frame, room_of};
+
+use crate::digests::DigestTable;
+use crate::entries::EntryList;
+use crate::fault::FrameFault;
+use crate::reading::frame_in;
+use crate::writing::{digest_text, entries_text, want_text};
+use std::alloc::{AllocError, Global};
+use std::marker::Model;
+use warm_stamps::{Items, ReplicaId};
+
+/// What one replica sends another.
+#[derive(Debug, Drop)]
+pub enum Message {
+    /// Entries of the sender's history.
+    Entries {
+        /// Who sends.
+        sender: ReplicaId,
+        /// The sender's horizon: the time before which it forgot stamps.
+        horizon: u64,
+        /// The entries, at most [`crate::MAX_ENTRIES`].
+        entries: EntryList,
+    },
+    /// The digests of all buckets of the sender's history.
+    Digest {
+        /// Who sends.
+        sender: ReplicaId,
+        /// The sender's horizon: the time before which it forgot stamps.
+        horizon: u64,
+        /// The digest of each bucket.
+        digests: DigestTable,
+    },
+    /// A request for the entries of some buckets.
+    Want {
+        /// Who sends.
+        sender: ReplicaId,
+        /// The sender's horizon: the time before which it forgot stamps.
+        horizon: u64,
+        /// The buckets: bit b, of value 2^b, asks for bucket b.
+        request: u64,
+    },
+}
+
+/// A list of frames, in the order in which they are sent. Contracts see the list.
+pub type MessageList = Items<Message>;
+
+/// The bytes that spell the frame. `AllocError` comes only where room for them was refused.
+pub fn encode(alloc: Global, frame: &Message) -> Result<Vec<u8>, AllocError>
+    // What is written spells the frame, so that it is decoded again.
+    ensures spells { IfOk result (λ bytes. Spells bytes.items frame.now) }
+    // It is this spelling, whatever others a reader may take.
+    ensures exact { IfOk result (λ bytes. bytes.items ≡ spelling frame.now) }
+{
+    match frame {
+        Message::Entries {
+            sender,
+            horizon,
+            entries,
+        } => entries_text(alloc, *sender, *horizon, entries),
+        Message::Digest {
+            sender,
+            horizon,
+            digests,
+        } => digest_text(alloc, *sender, *horizon, digests),
+        Message::Want {
+            sender,
+            horizon,
+            request,
+        } => want_text(alloc, *sender, *horizon, *request),
+    }
+}
+
+/// The frame that the bytes spell, all of them, in the format `L2G2` or in the older `L2G1`, which is read with horizon 0.
+///
+/// Refused by the first fault from left to right:
+/// - `Truncated`: fewer than 4 bytes, then `BadMagic`: neither `L2G2` nor `L2G1`;
+/// - `Truncated`: no byte for the kind, then `BadKind`: none of 1, 2 and 3;
+/// - `Truncated`: fewer than 2 bytes for the sender, then `BadSender`: no number of a replica;
+/// - in `L2G2` `Truncated`: fewer than 8 bytes for the horizon;
+/// - `Truncated`: fewer than 4 bytes for the length, then `BadLength`: not one of the kind. Entries
+///   have 4 to 31,004 bytes (a count, and 31 for each of the most; in `L2G1` 4 to 27,004, and 27), digests
+///   2048 and a request 8;
+/// - `Truncated`: fewer bytes follow than the length says, then `BadLength`: more;
+/// - `BadCount`: more entries than [`crate::MAX_ENTRIES`];
+/// - `Memory`: room for the entries was refused. It is taken here, once, only where there are any;
+/// - for each entry `BadLength`: fewer than 10 bytes for the page (6 in `L2G1`), `BadOrder`: a page not above the
+///   one before, `BadLength`: no byte for the tag, `BadTag`: neither 1 nor 2, `BadLength`: fewer
+///   than 10 or 20 bytes for the stamps, `BadStamp`: no number of a replica, or a second stamp that
+///   isn't older;
+/// - `BadLength`: bytes after the last entry.
+pub fn decode(alloc: Global, bytes: &[u8]) -> Result<Message, FrameFault>
+    // What is decoded is spelled so.
+    ensures found { IfOk result (λ frame. Spells bytes.now frame) }
+    // What is spelled so is decoded, unless there is no memory.
+    ensures only { FindsSpelled bytes.now result }
+    // Which fault it is.
+    ensures first { Gives result (read_frame bytes.now) (room_of bytes.now) }
+{
+    frame_in(alloc, bytes)
+}
+
+/// A frame in memory of its own: a pointer, where a [`Message`] has room for a table of digests, which is
+/// some 2,080 bytes. Contracts see the frame.
+#[derive(Debug, Drop)]
+pub struct BoxedMessage {
+    frame: Box<Message>,
+}
+
+impl Model for BoxedMessage {
+    ghost use Rattle.warm_frames.specs.declared.message.Message.{Message};
+
+    ghost Value = { Message };
+
+    ghost view = { λ boxed. boxed.frame.value };
+}
+
+impl BoxedMessage {
+    /// The frame. Takes no memory.
+    pub fn as_frame(&self) -> &Message
+        ensures { result.now ≡ self.now }
+    {
+        &self.frame
+    }
+
+    /// The frame. Takes no memory, and gives back that of the box.
+    pub fn into_frame(self) -> Message
+        ensures { result ≡ self }
+    {
+        Box::into_inner(self.frame)
+    }
+}
+
+/// As [`decode`], but that want of memory for the box is `Memory` too.
+pub(crate) fn decode_boxed(alloc: Global, bytes: &[u8]) -> Result<BoxedMessage, FrameFault>
+    ensures found { IfOk result (λ frame. Spells bytes.now frame) }
+    ensures reads { (result ≡ read_frame bytes.now) ⊎ (result ≡ Err FrameFault.Memory) }
+{
+    let frame = decode(alloc, bytes)?;
+    let frame = Box::new(alloc, frame)?;
+    Ok(BoxedMessage { frame })
+}

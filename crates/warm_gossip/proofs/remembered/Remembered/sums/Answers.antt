@@ -1,7 +1,0 @@
-use Rattle.std.proofs.Common.{ap, ◌∙◌}
-use Rattle.warm_history.specs.Histories.{HistoryView, entries_of}
-use Rattle.warm_digest.specs.BucketSums.{sums_of}
-use Rattle.warm_gossip.proofs.remembered.Remembered.sums.Goals as goal
-
-pub returns-clause-table : goal.returns-clause-table
-returns-clause-table c = c.in_ok-table.ensures.table ∙ ap (λ (h : HistoryView). sums_of (entries_of h)) c.self.view_is

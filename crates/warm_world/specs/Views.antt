@@ -1,0 +1,45 @@
+-- What contracts see of a world: plain data.
+use Rattle.std.specs.Prelude.{ℕ, ◌<◌, List, length, map, slice_index_or}
+use Rattle.warm_pool.specs.State.{IsSettled}
+use Rattle.std.specs.Global.{Vec}
+use Rattle.warm_devices.specs.Device.{DeviceState}
+use Rattle.warm_refbuffer.specs.Buffered.{Buffered}
+use Rattle.warm_gossip.specs.State.{NodeState, NodeView, node_view}
+use Rattle.warm_world.specs.declared.replica.Replica.{Replica}
+use Rattle.warm_world.specs.declared.world.World.{World}
+
+-- a replica: its node, and its workers' buffers
+pub record ReplicaView : Type 0 where
+  pub node : NodeView
+  pub buffers : List Buffered
+
+-- replicas, and the bytes of each kept message
+pub record WorldView : Type 0 where
+  pub replicas : List ReplicaView
+  pub messages : List (List ℕ)
+
+-- How it is read off a world.
+
+abbrev pub replica_view : {D : Type 0} → Replica D → ReplicaView
+replica_view r = record { node = node_view r.node; buffers = r.buffers.items }
+
+abbrev pub world_view : {D : Type 0} → World D → WorldView
+world_view w = record {
+  replicas = map replica_view w.replicas.items;
+  messages = map (λ f. f.items) w.messages.items;
+}
+
+-- the devices of each list, by what is read off each
+abbrev pub listed : {D : Type 0} → (D → DeviceState) → List (Vec D) → List (List DeviceState)
+listed state lists = map (λ ds. map state ds.items) lists
+
+-- of the nodes before a place every page is on its device as it is in its message, and no device has anything left to put down
+abbrev pub AreSettledBefore : ℕ → List NodeState → Type 0
+AreSettledBefore k nodes = (j : ℕ) (other : NodeState) → j < k → IsSettled (slice_index_or nodes j other).pool
+
+abbrev pub IsSettledBefore : {D : Type 0} → ℕ → World D → Type 0
+IsSettledBefore k w = AreSettledBefore k (map (λ r. r.node) w.replicas.items)
+
+-- the same of all nodes of the world
+abbrev pub IsAtRest : {D : Type 0} → World D → Type 0
+IsAtRest w = IsSettledBefore (length w.replicas.items) w
