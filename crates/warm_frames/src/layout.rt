@@ -12,7 +12,7 @@
 //! | length of the body | [`LENGTH_SIZE`] | [`LENGTH_SIZE`] |
 //!
 //! The body of a frame of entries is their count ([`COUNT_SIZE`]) and the entries: each is a page, a tag and one or two stamps,
-//! the later one first. The body of a digest is a table of digests, and that of a request is a request of buckets.
+//! the later one first. The body of a message of digests is the digest of each bucket, and that of a request is a number with a bit for each bucket.
 use warm_stamps::BUCKETS;
 
 /// The magic number of the wide format: the letters `L2G2`.
@@ -24,7 +24,7 @@ pub const NARROW_MAGIC: u32 = 0x4C32_4731;
 /// The kind of a frame of entries.
 pub const ENTRIES_KIND: u8 = 1;
 
-/// The kind of a digest.
+/// The kind of a message of digests.
 pub const DIGEST_KIND: u8 = 2;
 
 /// The kind of a request.
@@ -87,14 +87,14 @@ pub const MAX_ENTRY_SIZE: usize = PAGE_ID_SIZE + TWICE_SIZE;
 /// The most bytes that an entry of the narrow format has: 27.
 pub const NARROW_MAX_ENTRY_SIZE: usize = NARROW_PAGE_ID_SIZE + TWICE_SIZE;
 
-/// How many digests a digest has: one for each bucket.
+/// How many digests a message of them has: one for each bucket.
 pub const DIGESTS: usize = BUCKETS as usize;
 
 /// The size of a digest.
 pub const DIGEST_SIZE: usize = 32;
 
-/// The size of the body of a digest: 2048.
+/// The size of the body of a message of digests: 2048.
 pub const TABLE_SIZE: usize = DIGEST_SIZE * DIGESTS;
 
-/// The size of the body of a request: a request with a bit for each bucket.
-pub const MASK_SIZE: usize = 8;
+/// The size of the body of a request: a number with a bit for each bucket.
+pub const REQUEST_SIZE: usize = 8;

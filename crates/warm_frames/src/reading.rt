@@ -11,7 +11,7 @@ use crate::entries::EntryList;
 use crate::fault::FrameFault;
 use crate::format::{Format, entry_size, format_of, header_size};
 use crate::layout::{
-    COUNT_SIZE, DIGEST_KIND, DIGEST_SIZE, DIGESTS, ENTRIES_KIND, MASK_SIZE, MAX_ENTRIES,
+    COUNT_SIZE, DIGEST_KIND, DIGEST_SIZE, DIGESTS, ENTRIES_KIND, REQUEST_SIZE, MAX_ENTRIES,
     NARROW_PAGE_ID_SIZE, ONCE_TAG, PAGE_ID_SIZE, STAMP_SIZE, TABLE_SIZE, TWICE_TAG, WANT_KIND,
 };
 use crate::message::Message;
@@ -91,7 +91,7 @@ fn may_have(format: Format, kind: Kind, len: usize) -> bool
             COUNT_SIZE <= len && len <= COUNT_SIZE + entry_size(format) * MAX_ENTRIES
         }
         Kind::Digest => len == TABLE_SIZE,
-        Kind::Want => len == MASK_SIZE,
+        Kind::Want => len == REQUEST_SIZE,
     }
 }
 

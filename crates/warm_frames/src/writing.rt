@@ -10,7 +10,7 @@ ghost use Rattle.warm_frames.specs.Spelling.{header_bytes, SpellsIn};
 use crate::digests::DigestTable;
 use crate::entries::EntryList;
 use crate::layout::{
-    COUNT_SIZE, DIGEST_KIND, ENTRIES_KIND, HEADER_SIZE, MAGIC, MASK_SIZE, ONCE_SIZE, ONCE_TAG,
+    COUNT_SIZE, DIGEST_KIND, ENTRIES_KIND, HEADER_SIZE, MAGIC, REQUEST_SIZE, ONCE_SIZE, ONCE_TAG,
     PAGE_ID_SIZE, TABLE_SIZE, TWICE_SIZE, TWICE_TAG, WANT_KIND,
 };
 use std::alloc::{AllocError, Global};
@@ -142,7 +142,7 @@ pub(crate) fn want_text(
 ) -> Result<Vec<u8>, AllocError>
     ensures { IfOk result (λ text. SpellsIn Wide text.items (frames.Want sender horizon request)) }
 {
-    let mut text = header(alloc, WANT_KIND, sender, horizon, MASK_SIZE as u32)?;
+    let mut text = header(alloc, WANT_KIND, sender, horizon, REQUEST_SIZE as u32)?;
     text.extend_from_slice(&request.to_be_bytes())?;
     Ok(text)
 }
