@@ -12,7 +12,8 @@
 //! | length of the body | [`LENGTH_SIZE`] | [`LENGTH_SIZE`] |
 //!
 //! The body of a frame of entries is their count ([`COUNT_SIZE`]) and the entries: each is a page, a tag and one or two stamps,
-//! the later one first. The body of a message of digests is the digest of each bucket, and that of a request is a number with a bit for each bucket.
+//! the later one first. The body of a message of digests is the digest of each bucket, and that of a request is a number with
+//! a bit for each bucket.
 use warm_stamps::BUCKETS;
 
 /// The magic number of the wide format: the letters `L2G2`.

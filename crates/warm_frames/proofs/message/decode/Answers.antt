@@ -1,7 +1,7 @@
 use Rattle.std.proofs.Common.{arith}
 use Rattle.warm_frames.specs.Reading.{room_of}
 use Rattle.warm_frames.proofs.DecodeLemmas.{decoded_spelled, spelled_decoded}
-use Rattle.warm_frames.proofs.frame.decode.Goals as goal
+use Rattle.warm_frames.proofs.message.decode.Goals as goal
 
 pub returns-clause-found : goal.returns-clause-found
 returns-clause-found c = decoded_spelled c.args.bytes.now c.frame_in.result (room_of c.args.bytes.now) (λ i. omega (arith, c.type_inv.bytes i)) c.frame_in.ensures
