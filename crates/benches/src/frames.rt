@@ -104,7 +104,7 @@ fn sum_often(alloc: Global, history: &History, rounds: u64) -> Result<[u8; 32]> 
     let mut first = [0u8; 32];
     for _ in 0..rounds {
         match digests(alloc, history) {
-            Ok(table) => first = table.sum(bucket),
+            Ok(table) => first = table.digest(bucket),
             Err(_) => bail!("no memory"),
         }
     }

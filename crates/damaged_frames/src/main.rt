@@ -35,7 +35,7 @@ fn put_digests<W: Write>(alloc: Global, writer: &mut W, digests: &DigestTable) -
         let Some(bucket) = Bucket::new(index) else {
             bail!("there is no bucket {index}")
         };
-        write!(writer, "{}", hex::encode(alloc, digests.sum(bucket))?)?;
+        write!(writer, "{}", hex::encode(alloc, digests.digest(bucket))?)?;
     }
     Ok(())
 }

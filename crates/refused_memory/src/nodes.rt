@@ -6,7 +6,7 @@ use warm_devices::MemDevice;
 use warm_frames::{DIGEST_SIZE, DigestTable, Message};
 use warm_gossip::{Call, Node, NodeFault, Reply};
 use warm_history::PageHist;
-use warm_pool::{MAX_DEVICES, Pool, PoolFault, Slot};
+use warm_pool::{MAX_DEVICES, NewPoolFault, Pool, Slot};
 use warm_stamps::{BUCKETS, Bucket, ByteList, PageId, RefList};
 
 // A node of two frames over a device of 8 pages. A pool that is refused hands the device back, over which it is asked for once more.
@@ -20,7 +20,7 @@ pub(crate) fn opened(met: &mut Met, alloc: Global, number: u16) -> Result<Node<M
     };
     let is_back = unmade.devices.len() == 1;
     met.refuse(
-        is_back && unmade.fault == PoolFault::Memory,
+        is_back && unmade.fault == NewPoolFault::Memory,
         "the device comes back",
     )?;
     if unmade.devices.len() > MAX_DEVICES {

@@ -19,7 +19,7 @@ use std::process::Abort;
 use test_kit::{alone, both, flaky, memory, page, page_on};
 use warm_devices::PageDevice;
 use warm_history::History;
-use warm_pool::{Pool, PoolFault, Slot, Unretired};
+use warm_pool::{NewPoolFault, Pool, PoolFault, Slot, Unretired};
 use warm_stamps::PageId;
 
 const fn slot(index: u32, generation: u64) -> Slot {
@@ -44,7 +44,7 @@ fn pool_of<D: PageDevice>(
         Ok(pool) => pool,
         Err(unmade) => {
             let given = (unmade.fault, unmade.devices.len());
-            assert!(rt; given == (PoolFault::Memory, count));
+            assert!(rt; given == (NewPoolFault::Memory, count));
             match Pool::new(alloc, frames, page_size, unmade.devices) {
                 Ok(pool) => pool,
                 Err(_) => panic!(rt; "no memory for the pool"),
@@ -454,7 +454,7 @@ fn unmade<D: PageDevice>(
     frames: usize,
     page_size: usize,
     device: D,
-) -> (PoolFault, usize) {
+) -> (NewPoolFault, usize) {
     let devices = alone(alloc, device).expect(rt, ONE_REFUSED);
     match Pool::new(alloc, frames, page_size, devices) {
         Ok(_) => panic!(rt; "the pool is made"),
@@ -466,9 +466,9 @@ fn unmade<D: PageDevice>(
 fn refused_pools_hand_their_devices_back(rt: HostRuntime) {
     let alloc = rt.alloc();
     for (frames, page_size, fault) in [
-        (0, 16, PoolFault::BadFrames),
-        (65_537, 16, PoolFault::BadFrames),
-        (2, 8, PoolFault::SizeDiffers),
+        (0, 16, NewPoolFault::BadFrames),
+        (65_537, 16, NewPoolFault::BadFrames),
+        (2, 8, NewPoolFault::SizeDiffers),
     ] {
         let device = memory(alloc, 8).expect(&rt, ONE_REFUSED);
         assert!(rt; unmade(&rt, alloc, frames, page_size, device) == (fault, 1));

@@ -90,7 +90,7 @@ fn are_spread(bytes: &[u8]) -> bool {
 fn bring_digests(rt: &impl Abort, alloc: Global, bytes: &[u8], since: u64) -> bool {
     let frame = decode(alloc, bytes).expect(rt, "a frame");
     let (sender, horizon, digests) = digests_in(rt, frame);
-    let first = digests.sum(bucket(0)) == [7; 32];
+    let first = digests.digest(bucket(0)) == [7; 32];
     first && sender == 64 && horizon == since && digests == DigestTable::of(spread_digests())
 }
 

@@ -83,7 +83,7 @@ fn digest_of(index: u8, pages: Pages) -> [u8; 32] {
 // Whether each bucket has the sum of those of the pages that it has.
 fn has_digests(table: &DigestTable, pages: Pages) -> bool {
     for index in 0..64 {
-        if table.sum(bucket(index)) != digest_of(index, pages) {
+        if table.digest(bucket(index)) != digest_of(index, pages) {
             return false;
         }
     }
