@@ -1,5 +1,5 @@
 #!/usr/bin/env python3
-"""Measures frames and bucket sums beside the same in plain Rust, and prints the table of docs/PERFORMANCE.md.
+"""Measures frames and bucket digests beside the same in plain Rust, and prints the table of docs/PERFORMANCE.md.
 
 usage: measure.py [ROUNDS]      how often each is done in a run (30, where no number is given)
 

@@ -1,4 +1,4 @@
-//! The frames and sums of `benches frames` in plain Rust, for the same measurements.
+//! The frames and digests of `benches frames` in plain Rust, for the same measurements.
 //!
 //! With no argument each is done once; with a number each is done so many times, and the nanoseconds are printed too; the stream is then
 //! of 1000 frames.
@@ -6,7 +6,7 @@
 #[path = "../parts/mod.rs"]
 mod parts;
 
-use parts::frames::{Decoder, decode, encode, sums};
+use parts::frames::{Decoder, decode, encode, digests};
 use parts::hist::{Entry, Hist, Page, Stamp};
 use std::collections::BTreeMap;
 use std::hint::black_box;
@@ -67,13 +67,13 @@ fn main() {
     let start = Instant::now();
     let mut first = [0; 32];
     for _ in 0..rounds {
-        first = sums(black_box(&history).iter().map(|(&page, &hist)| Entry { page, hist }))[0];
+        first = digests(black_box(&history).iter().map(|(&page, &hist)| Entry { page, hist }))[0];
     }
     let summing = start.elapsed();
 
     println!("encode: {} bytes {}", bytes.len(), check_sum(&bytes));
     println!("decode: {count} entries");
-    println!("sums: {}", check_sum(&first));
+    println!("digests: {}", check_sum(&first));
     if asked.is_some() {
         println!("{} {} {} ns", encoding.as_nanos(), decoding.as_nanos(), summing.as_nanos());
     }

@@ -1,6 +1,6 @@
 //! The gossip and the warm-up of `benches gossip` in plain Rust, for the same measurements.
 //!
-//! A replica is a `BTreeMap` with a horizon, and a pool that finds its pages by a `HashMap`. It keeps the sums of its buckets and its
+//! A replica is a `BTreeMap` with a horizon, and a pool that finds its pages by a `HashMap`. It keeps the digests of its buckets and its
 //! warm-up list until its history changes. Nothing is undone where memory runs out, as nothing is refused here. The arguments are those
 //! of the proved program, which has to take, beside `round`, `warm`, `offer` and `history`:
 //! - `raised PAGES OFFERS`: that many offers by a replica that knows so many pages by two stamps each, of the times 2^40 + i and
@@ -102,8 +102,8 @@ struct Node {
     horizon: u64,
     history: BTreeMap<Page, Hist>,
     pool: Pool,
-    sums: Vec<[u8; 32]>,
-    // The buckets whose sums are not those of the history.
+    digests: Vec<[u8; 32]>,
+    // The buckets whose digests are not those of the history.
     changed: u64,
     hottest: Option<Vec<Page>>,
 }
@@ -111,7 +111,7 @@ struct Node {
 impl Node {
     fn new(id: u16, frames: usize, pages: u64) -> Node {
         let pool = Pool::new(frames, pages);
-        Node { id, horizon: 0, history: BTreeMap::new(), pool, sums: vec![[0; 32]; 64], changed: u64::MAX, hottest: None }
+        Node { id, horizon: 0, history: BTreeMap::new(), pool, digests: vec![[0; 32]; 64], changed: u64::MAX, hottest: None }
     }
 
     fn take(&mut self, page: Page, more: Hist) {
@@ -157,14 +157,14 @@ impl Node {
 
     fn renewed(&mut self) -> &[[u8; 32]] {
         let history = self.history.iter().map(|(page, hist)| Entry { page: *page, hist: *hist });
-        renew(&mut self.sums, self.changed, history);
+        renew(&mut self.digests, self.changed, history);
         self.changed = 0;
-        &self.sums
+        &self.digests
     }
 
     fn offer(&mut self) -> Vec<u8> {
-        let sums = self.renewed().concat();
-        self.framed(2, &sums)
+        let digests = self.renewed().concat();
+        self.framed(2, &digests)
     }
 
     fn framed(&self, kind: u8, body: &[u8]) -> Vec<u8> {
@@ -271,12 +271,12 @@ fn answers(node: &mut Node, sent: &[Vec<u8>]) -> Vec<Vec<u8>> {
 }
 
 fn round(first: &mut Node, second: &mut Node) -> u64 {
-    let sums = first.offer();
-    let entries_and_wish = second.receive(&sums);
-    let wanted = answers(first, &entries_and_wish);
+    let digests = first.offer();
+    let entries_and_request = second.receive(&digests);
+    let wanted = answers(first, &entries_and_request);
     answers(second, &wanted);
-    let sent: usize = entries_and_wish.iter().chain(&wanted).map(Vec::len).sum();
-    (sums.len() + sent) as u64
+    let sent: usize = entries_and_request.iter().chain(&wanted).map(Vec::len).sum();
+    (digests.len() + sent) as u64
 }
 
 fn rounds(pages: u64, buckets: u64, rounds: u64) -> (u64, u128) {

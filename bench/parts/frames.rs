@@ -1,4 +1,4 @@
-//! Frames of entries as bytes, and the sums of all buckets.
+//! Frames of entries as bytes, and the digests of all buckets.
 
 use super::hist::{Entry, Hist, Page, Stamp};
 use super::sha256::Sha256;
@@ -219,8 +219,8 @@ fn size_of(header: &[u8]) -> Option<Option<usize>> {
     (4..=4 + longest * MOST).contains(&len).then_some(Some(whole + len))
 }
 
-/// Takes the sums of the buckets of a mask anew.
-pub fn renew(sums: &mut [[u8; 32]], mask: u64, history: impl Iterator<Item = Entry>) {
+/// Takes the digests of the buckets of a mask anew.
+pub fn renew(digests: &mut [[u8; 32]], mask: u64, history: impl Iterator<Item = Entry>) {
     if mask == 0 {
         return;
     }
@@ -236,13 +236,13 @@ pub fn renew(sums: &mut [[u8; 32]], mask: u64, history: impl Iterator<Item = Ent
     }
     for (bucket, hasher) in hashers.into_iter().enumerate() {
         if mask >> bucket & 1 == 1 {
-            sums[bucket] = hasher.finalize();
+            digests[bucket] = hasher.finalize();
         }
     }
 }
 
-pub fn sums(history: impl Iterator<Item = Entry>) -> Vec<[u8; 32]> {
-    let mut sums = vec![[0; 32]; 64];
-    renew(&mut sums, u64::MAX, history);
-    sums
+pub fn digests(history: impl Iterator<Item = Entry>) -> Vec<[u8; 32]> {
+    let mut digests = vec![[0; 32]; 64];
+    renew(&mut digests, u64::MAX, history);
+    digests
 }

@@ -189,7 +189,7 @@ fn last_time(hist: PageHist) -> u64 {
 }
 
 // A sum over all entries, so that what was made is seen.
-fn digest_of(history: &History) -> u64 {
+fn checksum_of(history: &History) -> u64 {
     let mut sum = 0u64;
     for entry in history.iter() {
         sum = added(sum, entry.page.no).wrapping_add(last_time(entry.hist));
@@ -208,10 +208,10 @@ fn gossiped(
     let start = Instant::now(clock)?;
     let sent = rounds_of(alloc, first, second, buckets, rounds)?;
     let nanos = start.elapsed(clock)?.as_nanos();
-    if digest_of(first.history()) != digest_of(second.history()) {
+    if checksum_of(first.history()) != checksum_of(second.history()) {
         bail!("the histories differ")
     }
-    let sum = digest_of(second.history()).wrapping_add(sent);
+    let sum = checksum_of(second.history()).wrapping_add(sent);
     Ok(Made { sum, nanos })
 }
 
@@ -352,7 +352,7 @@ fn remembered(clock: &impl Clock, alloc: Global, pages: u32) -> Result<Made> {
     let start = Instant::now(clock)?;
     remember(&mut node, pages)?;
     let nanos = start.elapsed(clock)?.as_nanos();
-    let sum = digest_of(node.history());
+    let sum = checksum_of(node.history());
     Ok(Made { sum, nanos })
 }
 

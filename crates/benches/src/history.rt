@@ -90,7 +90,7 @@ fn absorb_all(history: &mut History, all: &[Reference]) -> Result<()> {
 }
 
 // A sum over all entries, so that what was made is seen.
-fn digest_of(history: &History) -> u64 {
+fn checksum_of(history: &History) -> u64 {
     let mut sum = 0u64;
     for entry in history.iter() {
         sum = added(sum, entry.page.no);
@@ -135,7 +135,7 @@ fn absorb_timed(
     let start = Instant::now(rt)?;
     absorb_all(&mut seen, references)?;
     let spent = start.elapsed(rt)?;
-    told(rt, timed, what, digest_of(&seen), spent)?;
+    told(rt, timed, what, checksum_of(&seen), spent)?;
     Ok(seen)
 }
 
@@ -151,14 +151,14 @@ fn join_some(rt: &HostRuntime, timed: bool, large: &mut History, more: &[Entry])
     let start = Instant::now(rt)?;
     large.join_entries(0, more)?;
     let spent = start.elapsed(rt)?;
-    told(rt, timed, "join 1,000 entries", digest_of(large), spent)
+    told(rt, timed, "join 1,000 entries", checksum_of(large), spent)
 }
 
 fn copy(rt: &HostRuntime, timed: bool, large: &History) -> Result<History> {
     let start = Instant::now(rt)?;
     let copied = large.copy()?;
     let spent = start.elapsed(rt)?;
-    told(rt, timed, "copy", digest_of(&copied), spent)?;
+    told(rt, timed, "copy", checksum_of(&copied), spent)?;
     Ok(copied)
 }
 
@@ -172,7 +172,7 @@ fn join(
     let start = Instant::now(rt)?;
     history.join(other)?;
     let spent = start.elapsed(rt)?;
-    told(rt, timed, what, digest_of(history), spent)
+    told(rt, timed, what, checksum_of(history), spent)
 }
 
 fn join_all(rt: &HostRuntime, timed: bool, large: &mut History) -> Result<()> {
@@ -184,7 +184,7 @@ fn join_all(rt: &HostRuntime, timed: bool, large: &mut History) -> Result<()> {
 
 fn look_up(rt: &HostRuntime, timed: bool, large: &History, pages: u64) -> Result<()> {
     let start = Instant::now(rt)?;
-    let sum = digest_of(large);
+    let sum = checksum_of(large);
     let spent = start.elapsed(rt)?;
     told(rt, timed, "go over all", sum, spent)?;
     let start = Instant::now(rt)?;
@@ -199,7 +199,7 @@ fn raise(rt: &HostRuntime, timed: bool, what: &str, whole: &History, time: u64) 
     let start = Instant::now(rt)?;
     raised.raise(time);
     let spent = start.elapsed(rt)?;
-    told(rt, timed, what, digest_of(&raised), spent)
+    told(rt, timed, what, checksum_of(&raised), spent)
 }
 
 fn raises(rt: &HostRuntime, timed: bool, pages: u64, replica: ReplicaId) -> Result<()> {

@@ -168,7 +168,7 @@ fn bring_four<M: Absorbing + Send, R: Threads + Wait + AllocGlobal + Sync>(
 }
 
 // A sum over the numbers of the hottest pages, so that what was brought is seen.
-fn digest_of(pages: &[PageId]) -> u64 {
+fn checksum_of(pages: &[PageId]) -> u64 {
     let mut sum = 0u64;
     for page in pages {
         sum = added(sum, page.no);
@@ -196,7 +196,7 @@ fn brought<R: Threads + Wait + Clock + AllocGlobal + Sync>(
     let spent = start.elapsed(rt)?;
     let hottest = replica.call(rt, &mut pass, Call::WarmList(HOTTEST));
     match (refused, hottest) {
-        (0, Ok(Reply::Pages(pages))) => Ok((digest_of(pages.as_slice()), spent)),
+        (0, Ok(Reply::Pages(pages))) => Ok((checksum_of(pages.as_slice()), spent)),
         _ => bail!("a call was refused"),
     }
 }
