@@ -13,26 +13,26 @@ use Rattle.warm_pool.specs.State.{IsSettled}
 use Rattle.warm_world.specs.Views.{AreSettledBefore, ReplicaView, WorldView}
 use Rattle.warm_world.proofs.Worlds.{world}
 
-module _ {A : Type 0} (f : A → ReplicaView) (xs : List A) (frames : List (List ℕ)) (k : ℕ) (x y : A) where
+module _ {A : Type 0} (f : A → ReplicaView) (xs : List A) (messages : List (List ℕ)) (k : ℕ) (x y : A) where
   shows : k < length xs → x ≡ get_or xs k x → (other : ReplicaView) → get_or (map f xs) k other ≡ f x
   shows lt is other = get_or-map f xs k x other lt ∙ ap f (sym is)
 
-  stays : k < length xs → x ≡ get_or xs k x → f y ≡ f x → world f xs frames (set xs k y) ≡ world f xs frames xs
-  stays lt is same = ap (λ (rs : List ReplicaView). let w : WorldView = record { replicas = rs; frames = frames } in w)
+  stays : k < length xs → x ≡ get_or xs k x → f y ≡ f x → world f xs messages (set xs k y) ≡ world f xs messages xs
+  stays lt is same = ap (λ (rs : List ReplicaView). let w : WorldView = record { replicas = rs; messages = messages } in w)
       (map-set f xs k y ∙ ap (set (map f xs) k) (same ∙ sym (shows lt is (f x))) ∙ set-get_or (map f xs) k (f x))
 
   -- where the replica's node shows what it showed, so does the world
-  pub same_if : {T E : Type 0} (result : Result T E) → k < length xs → x ≡ get_or xs k x → (f y).buffers ≡ (f x).buffers → OnOk result ((f y).node ≡ (f x).node) → OnOk result (world f xs frames (set xs k y) ≡ world f xs frames xs)
+  pub same_if : {T E : Type 0} (result : Result T E) → k < length xs → x ≡ get_or xs k x → (f y).buffers ≡ (f x).buffers → OnOk result ((f y).node ≡ (f x).node) → OnOk result (world f xs messages (set xs k y) ≡ world f xs messages xs)
   same_if (Ok done) lt is alike same = stays lt is (rw (← same, ← alike) refl)
   same_if (Err why) lt is alike same = tt
 
-  failed : k < length xs → x ≡ get_or xs k x → (f y).buffers ≡ (f x).buffers → OnPool IsFailed (f x).node (f y).node → FailsOf (world f xs frames xs) (world f xs frames (set xs k y))
+  failed : k < length xs → x ≡ get_or xs k x → (f y).buffers ≡ (f x).buffers → OnPool IsFailed (f x).node (f y).node → FailsOf (world f xs messages xs) (world f xs messages (set xs k y))
   failed lt is alike did = record {
     replica = k;
     there = subst (λ n. k < n) (sym (length-map xs f)) lt;
     pool = (f y).node.pool;
     failed = λ other. subst (λ (r : ReplicaView). IsFailed r.node.pool (f y).node.pool) (sym (shows lt is other)) did.1;
-    becomes = λ other. ap (λ (rs : List ReplicaView). let w : WorldView = record { replicas = rs; frames = frames } in w)
+    becomes = λ other. ap (λ (rs : List ReplicaView). let w : WorldView = record { replicas = rs; messages = messages } in w)
         (map-set f xs k y ∙ ap (set (map f xs) k)
         (ap (λ (n : NodeView). let r : ReplicaView = record { node = n; buffers = (f y).buffers } in r) did.0
         ∙ ap (λ bs. let r : ReplicaView = record { node = record (f x).node { pool = (f y).node.pool }; buffers = bs } in r) alike
@@ -41,7 +41,7 @@ module _ {A : Type 0} (f : A → ReplicaView) (xs : List A) (frames : List (List
 
   -- where writing back has failed, it has for this replica
   pub fails_if : {T : Type 0} (result : Result T NodeFault) → k < length xs → x ≡ get_or xs k x → (f y).buffers ≡ (f x).buffers
-      → IfErr result (λ why. (why ≡ Pool Fault) × OnPool IsFailed (f x).node (f y).node) → IfErr result (λ why. FinishFails (world f xs frames xs) why (world f xs frames (set xs k y)))
+      → IfErr result (λ why. (why ≡ Pool Fault) × OnPool IsFailed (f x).node (f y).node) → IfErr result (λ why. FinishFails (world f xs messages xs) why (world f xs messages (set xs k y)))
   fails_if (Ok done) lt is alike did = tt
   fails_if (Err why) lt is alike did = (did.0, failed lt is alike did.1)
 

@@ -95,7 +95,7 @@ module _ {A : Type 0} (g : A → NodeState) (f : A → ReplicaView) (shown : (x 
       ∙ get_or-map node_view (map g xs) k no_node
 
   -- no page of its pools is in two frames
-  pub pools_differ : (xs : List A) (frames : List (List ℕ)) (m : ModelState) → ArePools (map g xs) → (let w : WorldView = record { replicas = map f xs; frames = frames } in StandsFor w m) → PoolsDiffer m
+  pub pools_differ : (xs : List A) (frames : List (List ℕ)) (m : ModelState) → ArePools (map g xs) → (let w : WorldView = record { replicas = map f xs; messages = frames } in StandsFor w m) → PoolsDiffer m
   pools_differ xs frames m fit stands i =
       let k : ℕ = place i in
       elim (cases_lt k (length xs)) [

@@ -28,24 +28,24 @@ pub(crate) struct Replica<D: PageDevice> {
 }
 
 // A buffer's capacity is within its limits, so only memory can be refused.
-fn empty_buffer(alloc: Global, room: usize) -> Result<RefBuffer, AllocError>
-    requires { IsCapacity room }
-    ensures { IfOk result (λ b. b ≡ buffered room []) }
+fn empty_buffer(alloc: Global, capacity: usize) -> Result<RefBuffer, AllocError>
+    requires { IsCapacity capacity }
+    ensures { IfOk result (λ b. b ≡ buffered capacity []) }
 {
-    match RefBuffer::new(alloc, room) {
+    match RefBuffer::new(alloc, capacity) {
         Ok(buffer) => Ok(buffer),
         Err(BufferFault::Memory) => Err(AllocError),
         Err(BufferFault::BadCapacity) => unreachable!(),
     }
 }
 
-fn empty_buffers(alloc: Global, workers: u16, room: usize) -> Result<Vec<RefBuffer>, AllocError>
-    requires { IsCapacity room }
-    ensures { IfOk result (λ v. v.items ≡ replicate workers (buffered room [])) }
+fn empty_buffers(alloc: Global, workers: u16, capacity: usize) -> Result<Vec<RefBuffer>, AllocError>
+    requires { IsCapacity capacity }
+    ensures { IfOk result (λ v. v.items ≡ replicate workers (buffered capacity [])) }
 {
     let mut buffers = Vec::with_capacity(alloc, workers as usize)?;
     for _worker in 0..workers {
-        buffers.push(empty_buffer(alloc, room)?)?;
+        buffers.push(empty_buffer(alloc, capacity)?)?;
     }
     Ok(buffers)
 }
@@ -81,7 +81,7 @@ impl<D: PageDevice> Replica<D> {
     /// What waits in a worker's buffer reaches the node.
     pub(crate) fn flush(&mut self, worker: usize) -> Result<(), NodeFault>
         requires there { worker < length self.old.buffers.items }
-        ensures ok { (room : ℕ) → OnOk result (Becomes room (replica_view self.old)
+        ensures ok { (capacity : ℕ) → OnOk result (Becomes capacity (replica_view self.old)
             (replica_view self.new) (flushed worker)) }
         ensures err { IfErr result (λ why. (why ≡ Memory)
             × (replica_view self.new ≡ replica_view self.old)) }
@@ -95,9 +95,9 @@ impl<D: PageDevice> Replica<D> {
     /// A worker references a page: its buffer is flushed first if it is full.
     pub(crate) fn refer(&mut self, worker: usize, page: PageId, time: u64) -> Result<(), NodeFault>
         requires there { worker < length self.old.buffers.items }
-        ensures ok { (room : ℕ) (made : Reference) → made ≡ stamped self.old.node.id page time
-            → OnOk result (Becomes room (replica_view self.old)
-            (replica_view self.new) (referred room worker made)) }
+        ensures ok { (capacity : ℕ) (made : Reference) → made ≡ stamped self.old.node.id page time
+            → OnOk result (Becomes capacity (replica_view self.old)
+            (replica_view self.new) (referred capacity worker made)) }
         ensures err { IfErr result (λ why. (why ≡ Memory)
             × (replica_view self.new ≡ replica_view self.old)) }
         ensures full { OnErr result (IsFull (replica_view self.old) worker) }
