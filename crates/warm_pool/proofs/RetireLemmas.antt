@@ -114,7 +114,7 @@ seen_vacated dev (f ∷ frames) = ap₂ (λ (x : FrameView) (rest : List FrameVi
 
 -- The pool with the other device
 
-module _ (dev : ℕ) (t : PoolState) (device : DeviceState) (w : IsPool t) (there : dev < length t.devices) (size : device.page_size ≡ t.page_size) (unfixed : AreUnfixed (Some dev) t.frames) where
+module _ (dev : ℕ) (t : PoolState) (device : DeviceState) (there : dev < length t.devices) (size : device.page_size ≡ t.page_size) (unfixed : AreUnfixed (Some dev) t.frames) where
   abbrev u : PoolState
   u = retired t dev device
 
@@ -127,8 +127,8 @@ module _ (dev : ℕ) (t : PoolState) (device : DeviceState) (w : IsPool t) (ther
   same_count : length u.devices ≡ length t.devices
   same_count = length-set t.devices dev device
 
-  pub retired_pool : IsPool u
-  retired_pool =
+  pub retired_pool : IsPool t → IsPool u
+  retired_pool w =
       let v = vacated_pool (Some dev) t unfixed w in
       record {
         some_frames = v.some_frames;
@@ -195,7 +195,7 @@ pub took_in : (old new : FramesState) (spare : ℕ) (devices later : List Device
 took_in old new spare devices later dev device w there size unfixed is becomes =
     subst (λ (f : FramesState). IsPool (pool_from f spare later)) (sym is)
     (subst (λ ds. IsPool (pool_from (record old { frames = vacated_chosen (Some dev) old.frames }) spare ds)) (sym becomes)
-    (retired_pool dev (pool_from old spare devices) device w there size unfixed))
+    (retired_pool dev (pool_from old spare devices) device there size unfixed w))
 
 -- Why a device isn't retired
 
@@ -225,14 +225,10 @@ way_unfixed s t dev size way = unfixed_to (Some dev) (length s.frames) s.frames 
 pub way_clean : (s t : PoolState) (dev size : ℕ) → MakesWay s dev size t → AreClean (Some dev) t.frames
 way_clean s t dev size way = clean_to (Some dev) s.frames t.frames way.down.becomes
 
-pub retire_pool : (s t u : PoolState) (dev size : ℕ) (device : DeviceState) → IsPool t → MakesWay s dev size t → size ≡ device.page_size → u ≡ retired t dev device → IsPool u
-retire_pool s t u dev size device w way same is =
-    subst (λ x. IsPool x) (sym is) (retired_pool dev t device w (way_there s t dev size way) (sym same ∙ way.size ∙ sym way.down.same.0) (way_unfixed s t dev size way))
-
-pub retire_view : (s t u : PoolState) (dev size : ℕ) (device : DeviceState) → IsPool t → MakesWay s dev size t → size ≡ device.page_size → u ≡ retired t dev device → Retired (view_of s) dev device (view_of u)
-retire_view s t u dev size device w way same is =
+pub retire_view : (s t u : PoolState) (dev size : ℕ) (device : DeviceState) → MakesWay s dev size t → size ≡ device.page_size → u ≡ retired t dev device → Retired (view_of s) dev device (view_of u)
+retire_view s t u dev size device way same is =
     subst (λ x. Retired (view_of s) dev device (view_of x)) (sym is)
-    (retired_view dev t device w (way_there s t dev size way) (sym same ∙ way.size ∙ sym way.down.same.0) (way_unfixed s t dev size way) s (down_view (Some dev) (length s.frames) s t way.down))
+    (retired_view dev t device (way_there s t dev size way) (sym same ∙ way.size ∙ sym way.down.same.0) (way_unfixed s t dev size way) s (down_view (Some dev) (length s.frames) s t way.down))
 
-pub retire_ranked : (t u : PoolState) (dev : ℕ) (device : DeviceState) (h : HistoryView) → IsPool t → u ≡ retired t dev device → RankedBy t h → RankedBy u h
-retire_ranked t u dev device h w is ranked = subst (λ x. RankedBy x h) (sym is) (vacated_ranked (Some dev) t.frames h ranked)
+pub retire_ranked : (t u : PoolState) (dev : ℕ) (device : DeviceState) (h : HistoryView) → u ≡ retired t dev device → RankedBy t h → RankedBy u h
+retire_ranked t u dev device h is ranked = subst (λ x. RankedBy x h) (sym is) (vacated_ranked (Some dev) t.frames h ranked)

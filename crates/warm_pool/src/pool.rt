@@ -311,8 +311,6 @@ impl<D: PageDevice> Pool<D> {
         ensures same { view_of self.new ≡ view_of self.old }
         ensures kept { KeepsBytes self.old self.new }
     {
-        // A law, for the case of no page.
-        self.is_pool();
         for page in pages {
             self.renew(history, *page);
         }
@@ -332,7 +330,6 @@ impl<D: PageDevice> Pool<D> {
     // Renews the rank of the page in a frame, if there is one.
     fn renew_at(&mut self, history: &History, at: usize)
         requires there { at < length self.old.frames }
-        ensures pool { IsPool self.new }
         ensures same { view_of self.new ≡ view_of self.old }
         ensures kept { KeepsBytes self.old self.new }
         ensures keys { RenewsFrame self.old at history.now self.new }
@@ -345,7 +342,6 @@ impl<D: PageDevice> Pool<D> {
 
     // Renews the rank of a page, where it is resident.
     fn renew(&mut self, history: &History, page: PageId)
-        ensures pool { IsPool self.new }
         ensures same { view_of self.new ≡ view_of self.old }
         ensures kept { KeepsBytes self.old self.new }
         ensures keys { Renews self.old page
@@ -388,7 +384,6 @@ impl<D: PageDevice> Pool<D> {
     fn add_fix(&mut self, at: usize) -> Result<Slot, PoolFault>
         requires there { at < length self.old.frames }
         requires held { (nth_frame self.old.frames at).page ≢ None }
-        ensures pool { IsPool self.new }
         ensures ranked { KeepsRanks self.old self.new }
         ensures fixed { FixesPage
             self.old at result self.new }
@@ -428,7 +423,6 @@ impl<D: PageDevice> Pool<D> {
         requires ranked { RankedBy self.old history.now }
         requires known { HasPage (view_of self.old) page }
         requires absent { IsNowhere self.old.frames page }
-        ensures pool { IsPool self.new }
         ensures ranked { RankedBy self.new history.now }
         ensures put { IfOk result (λ slot. PutsIn history.now
             (view_of self.old) page fixes slot
@@ -472,7 +466,6 @@ impl<D: PageDevice> Pool<D> {
         requires device { page.dev < length self.old.devices }
         requires known { page.no < (nth_device self.old.devices page.dev).pages }
         requires absent { IsNowhere self.old.frames page }
-        ensures pool { IsPool self.new }
         ensures put { OnOk result (LoadsInto self.old at page key fixes
             self.new) }
         ensures refused { IfErr result (λ fault. LoadFails
@@ -490,14 +483,17 @@ impl<D: PageDevice> Pool<D> {
 }
 
 // Writes the page of a frame to its device, where it isn't there as it is in the frame.
+//
+// Frames and devices fit each other where they are those of a pool. A page that comes in is in the spare buffer by now, and the value
+// of a pool leaves the bytes of that buffer out: so this is over the fields, of which no type's invariant speaks.
 pub(crate) fn write_back<D: PageDevice>(
     frames: &mut Frames,
     devices: &mut Vec<D>,
     at: usize,
 ) -> Result<(), DeviceFault>
-    requires pool { IsPool (pool_of D.state frames.old frames.old.page_size devices.old.items) }
+    requires fit { IsPool (pool_of D.state frames.old frames.old.page_size devices.old.items) }
     requires there { at < length frames.old.frames }
-    ensures pool { IsPool (pool_of D.state frames.new frames.old.page_size devices.new.items) }
+    ensures fit { IsPool (pool_of D.state frames.new frames.old.page_size devices.new.items) }
     ensures done { OnOk result (Cleans
         (pool_of D.state frames.old frames.old.page_size devices.old.items) at
         (pool_of D.state frames.new frames.old.page_size devices.new.items)) }

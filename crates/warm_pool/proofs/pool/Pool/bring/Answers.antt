@@ -21,22 +21,22 @@ load_into-requires-clause-known g c = has_number (subst (λ s. IsPool s) c.self.
 
 pub returns-in-Err-clause-ranked : goal.returns-in-Err-clause-ranked
 returns-in-Err-clause-ranked g c =
-    failed_ranked (subst (λ s. IsPool s) c.self.view_is c.self.invariant) c.load_into.ensures.pool c.in-Some.at c.args.page c.in-Err.fault c.in-Err.ensures.refused c.args.history.now c.requires.ranked
+    failed_ranked c.args.self.now c.load_into.new.self c.in-Some.at c.args.page c.in-Err.fault c.in-Err.ensures.refused c.args.history.now c.requires.ranked
 
 pub returns-in-Err-clause-refused : goal.returns-in-Err-clause-refused
 returns-in-Err-clause-refused g c =
-    put_refused (subst (λ s. IsPool s) c.self.view_is c.self.invariant) c.load_into.ensures.pool c.args.history.now c.in-Some.at c.args.page (c.in-Some.ensures.place _ c.requires.ranked)
+    put_refused c.args.self.now c.load_into.new.self c.args.history.now c.in-Some.at c.args.page (c.in-Some.ensures.place _ c.requires.ranked)
     (subst (λ n. n < 18446744073709551615) (c.generation-generation.ensures ∙ ap (λ s. (nth_frame s.frames c.in-Some.at).generation) c.self.view_is) c.if-generation-lt18446744073709551615.true)
     c.in-Err.fault c.in-Err.ensures.refused
 
 pub returns-then-generation-lt18446744073709551615-clause-ranked : goal.returns-then-generation-lt18446744073709551615-clause-ranked
 returns-then-generation-lt18446744073709551615-clause-ranked g c =
-    loaded_ranked (subst (λ s. IsPool s) c.self.view_is c.self.invariant) c.load_into.ensures.pool c.in-Some.at c.args.page c.known_key-key.result c.args.fixes c.in_default-load_into.ensures.put
+    loaded_ranked c.args.self.now c.load_into.new.self c.in-Some.at c.args.page c.known_key-key.result c.args.fixes c.in_default-load_into.ensures.put
     c.in-Some.ensures.there c.args.history.now c.known_key-key.ensures c.requires.ranked
 
 pub returns-then-generation-lt18446744073709551615-clause-put : goal.returns-then-generation-lt18446744073709551615-clause-put
 returns-then-generation-lt18446744073709551615-clause-put g c =
-    loaded_puts (subst (λ s. IsPool s) c.self.view_is c.self.invariant) c.load_into.ensures.pool c.in-Some.at c.args.page c.known_key-key.result c.args.fixes c.in_default-load_into.ensures.put
+    loaded_puts c.args.self.now c.load_into.new.self c.in-Some.at c.args.page c.known_key-key.result c.args.fixes c.in_default-load_into.ensures.put
     c.args.history.now c.requires.absent (c.in-Some.ensures.place _ c.requires.ranked) c.generation-generation.result
     (c.generation-generation.ensures ∙ ap (λ s. (nth_frame s.frames c.in-Some.at).generation) c.self.view_is) c.if-generation-lt18446744073709551615.true
 

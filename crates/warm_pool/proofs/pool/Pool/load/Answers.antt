@@ -24,16 +24,16 @@ bring-requires-clause-absent g c = found_nowhere (subst (λ s. IsPool s) c.self.
 
 pub returns-in-None-clause-loaded : goal.returns-in-None-clause-loaded
 returns-in-None-clause-loaded g c =
-    load_puts (subst (λ s. IsPool s) c.self.view_is c.self.invariant) c.bring.ensures.pool c.args.history.now c.args.page c.in_default.ensures.known _ c.bring.ensures.put
+    load_puts c.args.self.now c.bring.new.self c.args.history.now c.args.page c.in_default.ensures.known _ c.bring.ensures.put
 
 pub returns-in-None-clause-refused : goal.returns-in-None-clause-refused
 returns-in-None-clause-refused g c =
-    load_put_refused (subst (λ s. IsPool s) c.self.view_is c.self.invariant) c.bring.ensures.pool c.args.history.now c.args.page c.in_default.ensures.known
+    load_put_refused c.args.self.now c.bring.new.self c.args.history.now c.args.page c.in_default.ensures.known
     (found_nowhere (subst (λ s. IsPool s) c.self.view_is c.self.invariant) _ (subst (λ s. IsPlaceOf (pages_held s.frames) c.args.page None) c.self.view_is c.in-None.ensures)) _ c.bring.ensures.refused
 
 pub returns-in-None-clause-stays : goal.returns-in-None-clause-stays
 returns-in-None-clause-stays g c =
-    stays_put (subst (λ s. IsPool s) c.self.view_is c.self.invariant) c.bring.ensures.pool c.args.history.now c.args.page c.in_default.ensures.known _ c.bring.ensures.refused
+    stays_put c.args.self.now c.bring.new.self c.args.history.now c.args.page c.in_default.ensures.known _ c.bring.ensures.refused
 
 pub returns-in-Err-clause-writes : goal.returns-in-Err-clause-writes
 returns-in-Err-clause-writes g c =
