@@ -1,5 +1,5 @@
 -- What a call of one device does to a list of devices, and to a pool over them.
-use Rattle.std.proofs.Common.{◌≡◌, ◌≢◌, ℕ, ◌+◌, ◌<◌, cond, Bool, true, false, IsTrue, List, [], ◌++◌, length, map, set, get_or, take, drop, Some, Result, Ok, Err, OnOk, IsOk, refl, sym, ◌∙◌, ap, subst, inl, inr, arith}
+use Rattle.std.proofs.Common.{◌≡◌, ◌≢◌, ℕ, ◌+◌, ◌<◌, cond, Bool, true, false, IsTrue, List, [], ◌++◌, length, map, set, get_or, take, drop, Some, Result, Ok, OnOk, IsOk, refl, sym, ◌∙◌, ap, subst, inl, inr, arith}
 use Rattle.std.proofs.Math.Path.{ap₂}
 use Rattle.std.proofs.Math.ListN.{get_or-map as mapped}
 use Rattle.std.proofs.lemmas.Grind.{common_steps}
@@ -132,14 +132,6 @@ read_same old new k n bytes result r ok =
       unfailing = r.shape.unfailing i;
     } in
     r.becomes ∙ ap (set old k) same ∙ set-get_or old k no_device
-
--- a device that answered an error isn't unfailing
-pub may_fail : (unfailing : Bool) (fault : DeviceFault) (result : Result (Unit {0}) DeviceFault) → result ≡ Err fault → (IsTrue unfailing → IsOk result) → unfailing ≡ false
-may_fail false fault result e ok = refl
-may_fail true fault result e ok = absurd (never fault (subst IsOk e (ok refl)))
-  where
-    never : (fault : DeviceFault) → IsOk (let r : Result (Unit {0}) DeviceFault = Err fault in r) → ⊥
-    never fault h = absurd (cc)
 
 -- what a call of one device says, of that device in the list
 pub record ReadsPage (d after : DeviceState) (n : ℕ) (bytes : List ℕ) (result : Result (Unit {0}) DeviceFault) : Type 0 where

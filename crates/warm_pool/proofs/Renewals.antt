@@ -1,8 +1,8 @@
 -- The ranks of resident pages are renewed.
-use Rattle.std.proofs.Common.{◌≡◌, ◌≢◌, ◌⊎◌, ℕ, ◌+◌, ◌<◌, ◌≤◌, List, [], length, map, set, get_or, Option, Some, None, refl, sym, ◌∙◌, ap, subst, inl, inr, arith}
+use Rattle.std.proofs.Common.{◌≡◌, ◌≢◌, ◌⊎◌, ℕ, ◌+◌, ◌<◌, ◌≤◌, true, false, List, [], length, map, set, get_or, Option, Some, None, refl, sym, ◌∙◌, ap, subst, inl, inr, arith}
 use Rattle.std.specs.Option.{option_map}
 use Rattle.std.proofs.Math.ListN.{get_or-map as mapped}
-use Rattle.std.proofs.lemmas.Bool.{cases_eq, cases_lt}
+use Rattle.std.proofs.lemmas.Bool.{cases_eq, cases_lt, cases_Bool}
 use Rattle.std.proofs.lemmas.Option.{same_Some}
 use Rattle.std.proofs.lemmas.List.{set-get_or, get_or_past, length-map}
 use Rattle.warm_stamps.specs.declared.PageId.{PageId}
@@ -12,11 +12,11 @@ use Rattle.warm_rank.specs.Keys.{rank_key}
 use Rattle.warm_devices.specs.Device.{DeviceState}
 use Rattle.warm_pool.specs.Frames.{FrameState, FramesState, nth_frame, fresh_frame}
 use Rattle.warm_pool.specs.State.{PoolState, IsPool, RankedBy, IsNowhere}
-use Rattle.warm_pool.specs.View.{frame_view, view_of, PoolView, FrameView}
+use Rattle.warm_pool.specs.View.{is_page, frame_view, view_of, PoolView, FrameView}
 use Rattle.warm_pool.specs.Keeping.{KeepsBytes}
 use Rattle.warm_pool.specs.Refreshing.{AgreeOutside, Renews, RenewsFrame}
 use Rattle.warm_pool.proofs.Slots.{at_set}
-use Rattle.warm_pool.proofs.Bytes.{same_page}
+use Rattle.warm_pool.proofs.Bytes.{page_found, found_page}
 use Rattle.warm_pool.proofs.KeepingLemmas.{same_bytes, more_bytes}
 use Rattle.warm_pool.proofs.Keeps.{IsAlike, pool_from, step_pool, step_view}
 
@@ -62,12 +62,9 @@ pub none_renewed : (s : PoolState) (h : HistoryView) (pages : List PageId) → R
 none_renewed s h pages = record { same = refl; kept = same_bytes s; held = λ i. refl; vacant = λ i e. refl; keys = λ i p e. inr (refl, λ j lt. absurd (omega arith)) }
 
 page_cases : (p q : PageId) → (p ≡ q) ⊎ (p ≢ q)
-page_cases p q = elim (cases_eq p.dev q.dev) [
-  | inl a ↦ elim (cases_eq p.no q.no) [
-    | inl b ↦ inl (same_page p q a b)
-    | inr ne ↦ inr (λ e. ne (ap (λ r. r.no) e))
-  ]
-  | inr ne ↦ inr (λ e. ne (ap (λ r. r.dev) e))
+page_cases p q = elim (cases_Bool (is_page q (Some p))) [
+  | inl e ↦ inl (same_Some p q (page_found q (Some p) e))
+  | inr e ↦ inr (λ is. let no : true ≡ false = sym (found_page q (Some p) (ap Some is)) ∙ e in absurd (cc))
 ]
 
 pub one_renewed : {s t u : PoolState} (h : HistoryView) (pages : List PageId) (k : ℕ) (q : PageId) → Renewed s t h pages k → ((d : PageId) → get_or pages k d ≡ q)

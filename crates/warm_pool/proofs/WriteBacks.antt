@@ -13,8 +13,8 @@ use Rattle.warm_pool.specs.View.{frame_view, view_of, PoolView, FrameView}
 use Rattle.warm_pool.specs.WritingBack.{KeptDevices, Cleans, CleanFails}
 use Rattle.warm_pool.specs.DeviceCalls.{PageWrite}
 use Rattle.warm_pool.proofs.Keeps.{pool_from, set_keeps_pool, view-set, devices_keep_pool, view_of_kept}
-use Rattle.warm_pool.proofs.FlushLemmas.{same_shape}
-use Rattle.warm_pool.proofs.DeviceSteps.{write_keeps, failures_kept, fails_at, may_fail}
+use Rattle.warm_pool.proofs.FlushLemmas.{same_shape, may_fail}
+use Rattle.warm_pool.proofs.DeviceSteps.{write_keeps, failures_kept, fails_at}
 use Rattle.warm_pool.proofs.Loads.{Failed, on_ok}
 
 -- a page q in frame i that was written to was written to its device
