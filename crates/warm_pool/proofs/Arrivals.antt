@@ -57,12 +57,12 @@ module _ {s : PoolState} {ds : List DeviceState} {p : PageId} {bytes : List ℕ}
 
   pub fetch_failed : Failed result → FailsAt (view_of s) p.dev (view_of (record s { devices = ds }))
   fetch_failed f = fails_at s ds p.dev h.call.after h.device h.call.becomes kept
-      (may_fail (nth_device s.devices p.dev).unfailing f.fault result f.is h.call.unfailing)
-      (subst (λ r. CountsFault Read r (nth_device s.devices p.dev) h.call.after) f.is h.call.faults).1
+      (may_fail (nth_device s.devices p.dev).unfailing f.fault result f.is h.call.call.unfailing)
+      (subst (λ r. CountsFault Read r (nth_device s.devices p.dev) h.call.after) f.is h.call.call.faults).1
 
   module _ (ok : result ≡ Ok tt) where
     fetched_view : view_of (record s { devices = ds }) ≡ view_of s
-    fetched_view = same_view s ds p.dev h.call.after h.call.becomes kept (subst (λ r. CountsFault Read r (nth_device s.devices p.dev) h.call.after) ok h.call.faults)
+    fetched_view = same_view s ds p.dev h.call.after h.call.becomes kept (subst (λ r. CountsFault Read r (nth_device s.devices p.dev) h.call.after) ok h.call.call.faults)
 
     -- the page that was to leave was not written
     pub leave_failed : {n : ℕ} (i : ℕ) (t : PoolState) → CleanFails (record s { spare = n; devices = ds }) i t
@@ -100,7 +100,7 @@ module _ {s : PoolState} {ds : List DeviceState} {p : PageId} {bytes : List ℕ}
       from_device o =
           let mid : IsTrue (nth_device ds p.dev).honest = subst IsTrue (c.devices.shape p.dev).honest o in
           let first : IsTrue (nth_device s.devices p.dev).honest = subst IsTrue (kept.shape p.dev).honest mid in
-          on_ok result ok h.call.read first ∙ sym (stored_honest s.devices p first) ∙ sym (kept.absent p h.nowhere) ∙ sym (c.devices.absent p h.nowhere)
+          on_ok result ok h.call.call.read first ∙ sym (stored_honest s.devices p first) ∙ sym (kept.absent p h.nowhere) ∙ sym (c.devices.absent p h.nowhere)
           ∙ stored_honest es p o
 
       module _ (key : RankKey) (fixes : ℕ) (b : List ℕ) (b_is : b ≡ bytes) where
