@@ -12,7 +12,7 @@ use Rattle.warm_pool.specs.Frames.{FrameState, FramesState, nth_frame, fresh_fra
 use Rattle.warm_pool.specs.State.{PoolState, IsPool, IsNowhere, IsSettled, nth_device}
 use Rattle.warm_pool.specs.View.{stored, view_of, frame_view, bytes_of, PoolView, HasPage, contents_at, device_at}
 use Rattle.warm_pool.specs.Keeping.{KeepsContents}
-use Rattle.warm_pool.specs.WritingBack.{PutsDown, is_chosen, clean_if, cleaned_chosen}
+use Rattle.warm_pool.specs.WritingBack.{PutsDown, is_chosen, cleaned_chosen}
 use Rattle.warm_pool.specs.Retiring.{Emptied, emptied, AreUnfixed, vacate_if, vacated_chosen}
 use Rattle.warm_pool.specs.Flushes.{NoneWaits}
 use Rattle.warm_pool.proofs.Bytes.{bytes_nowhere, where_is, contents_seen, device_seen, frame_seen}

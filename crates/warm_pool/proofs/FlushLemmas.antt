@@ -1,5 +1,5 @@
 -- Devices that are flushed one after the other.
-use Rattle.std.proofs.Common.{◌≡◌, ◌≢◌, ℕ, zero, suc, ◌+◌, ◌<◌, Bool, true, false, IsTrue, List, [], ◌∷◌, ◌++◌, length, map, set, get_or, Result, Ok, Err, IsOk, OnOk, OnErr, refl, sym, ap, ◌∙◌, subst, inl, inr, arith, get_or-set_same, get_or-set_other}
+use Rattle.std.proofs.Common.{◌≡◌, ◌≢◌, ℕ, zero, suc, ◌+◌, ◌<◌, Bool, true, false, IsTrue, List, [], ◌∷◌, ◌++◌, length, map, set, get_or, Result, Ok, Err, IsOk, OnOk, OnErr, IfErr, IsErrAnd, refl, sym, ap, ◌∙◌, subst, inl, inr, arith, get_or-set_same, get_or-set_other}
 use Rattle.std.proofs.lemmas.List.{length-set, get_or-map, map-set, set-get_or}
 use Rattle.std.proofs.lemmas.Bool.{cases_eq}
 use Rattle.warm_devices.specs.Device.{DeviceState, SameShape, CountsFault}
@@ -114,3 +114,8 @@ none_front f xs front x is none = front_of f front x (subst (λ ys. NoneWaits (m
 pub on_err : {T E : Type 0} (result : Result T E) (P : Type 0) → P → OnErr result P
 on_err (Ok x) P is = tt
 on_err (Err e) P is = is
+
+-- an error that is handed on
+pub handed_on : {T E : Type 0} (r : Result T E) (e : E) (P : E → Type 0) → IsErrAnd r (λ y. y ≡ e) → P e → IfErr r P
+handed_on (Ok x) e P is p = tt
+handed_on (Err y) e P is p = subst P (sym is) p

@@ -198,9 +198,7 @@ impl<D: PageDevice> Pool<D> {
         ensures writes { IfErr result (λ fault. WritesDirty history.now
             self.old fault) }
     {
-        if let Err(fault) = self.check(page) {
-            return Err(fault);
-        }
+        self.check(page)?;
         match self.frames.find(page) {
             Some(at) => self.add_fix(at),
             None => self.bring(page, history, 1),
@@ -227,9 +225,7 @@ impl<D: PageDevice> Pool<D> {
         ensures writes { IfErr result (λ fault. WritesDirty history.now
             self.old fault) }
     {
-        if let Err(fault) = self.check(page) {
-            return Err(fault);
-        }
+        self.check(page)?;
         match self.frames.find(page) {
             Some(at) => {
                 let generation = self.frames.generation(at);
@@ -442,9 +438,7 @@ impl<D: PageDevice> Pool<D> {
         let generation = self.frames.generation(at);
         if generation < u64::MAX {
             let key = known_key(history, page);
-            if let Err(fault) = self.load_into(at, page, key, fixes) {
-                return Err(fault);
-            }
+            self.load_into(at, page, key, fixes)?;
             return Ok(Slot {
                 index: at as u32,
                 generation: generation + 1,
