@@ -1,8 +1,6 @@
 //! Writing a pool's pages back, and emptying it.
-ghost use Rattle.std.specs.Prelude.{◌≡◌, ℕ, List, ◌<◌, ◌+◌, length, set, map, true, false, Some, None, Option, IsTrue, ◌↔◌, OnOk, OnErr, IfErr, MatchBool};
-ghost use Rattle.warm_history.specs.Histories.{HistoryView};
+ghost use Rattle.std.specs.Prelude.{◌≡◌, ◌<◌, length, true, false, Some, None, Option, OnOk, OnErr, IfErr, MatchBool};
 ghost use Rattle.warm_devices.specs.Device.{DeviceState};
-ghost use Rattle.warm_pool.specs.Frames.{nth_frame};
 ghost use Rattle.warm_pool.specs.State.{IsSettled, IsRankedByAll, nth_device};
 ghost use Rattle.warm_pool.specs.View.{IsUnfixed, view_of};
 ghost use Rattle.warm_pool.specs.Keeping.{FailsAt, KeepsRanks};

@@ -1,13 +1,12 @@
 //! The pool.
-ghost use Rattle.std.specs.Prelude.{◌≡◌, ◌≢◌, ◌↔◌, ◌⊎◌, ℕ, ◌+◌, ◌-◌, ◌^◌, ◌<◌, ◌≤◌, List, map, length, set, true, false, Some, None, MatchOption, MatchResult, OnOk, OnErr, IfOk, IfErr, IfSome, IsTrue, replicate};
+ghost use Rattle.std.specs.Prelude.{◌≡◌, ◌≢◌, ◌↔◌, ◌+◌, ◌-◌, ◌^◌, ◌<◌, ◌≤◌, map, length, true, false, Some, None, MatchResult, OnOk, OnErr, IfOk, IfErr, IfSome, IsTrue};
 ghost use Rattle.warm_stamps.specs.declared.PageId.{PageId};
 ghost use Rattle.warm_history.specs.Histories.{HistoryView, hist, refs};
 ghost use Rattle.warm_rank.specs.Keys.{rank_key};
-ghost use Rattle.warm_rank.specs.Ranking.{IsVictim};
 ghost use Rattle.warm_pool.specs.Frames.{nth_frame};
 ghost use Rattle.warm_pool.specs.FrameSteps.{fresh_frames};
 ghost use Rattle.warm_pool.specs.State.{PoolState, IsPool, pool_of, RankedBy, IsRankedByAll, IsNowhere, opened, nth_device};
-ghost use Rattle.warm_pool.specs.View.{view_of, PoolView, HasPage, IsResident, Holds};
+ghost use Rattle.warm_pool.specs.View.{view_of, HasPage, IsResident, Holds};
 ghost use Rattle.warm_pool.specs.Keeping.{SameButFailures, KeepsRanks, KeepsBytes, KeepsFrames, KeepsOthers};
 ghost use Rattle.warm_pool.specs.Opening.{IsUpTo, IsSize, NewRefused};
 ghost use Rattle.warm_pool.specs.WritingBack.{Cleans, CleanFails};

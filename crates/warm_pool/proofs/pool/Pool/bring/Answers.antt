@@ -21,8 +21,7 @@ pub load_into-requires-clause-known : goal.load_into-requires-clause-known
 load_into-requires-clause-known g c = has_number (subst (λ s. IsPool s) c.self.view_is c.self.invariant) _ c.requires.known
 
 pub returns-in_err-load_into-clause-ranked : goal.returns-in_err-load_into-clause-ranked
-returns-in_err-load_into-clause-ranked g c =
-    failed_ranked c.args.self.now c.load_into.new.self c.in-Some.at c.args.page _ c.in_err-load_into.ensures.refused c.args.history.now c.requires.ranked
+returns-in_err-load_into-clause-ranked g c = failed_ranked c.args.self.now c.load_into.new.self c.in-Some.at c.args.page _ c.in_err-load_into.ensures.refused c.args.history.now c.requires.ranked
 
 pub returns-in_err-load_into-clause-refused : goal.returns-in_err-load_into-clause-refused
 returns-in_err-load_into-clause-refused g c =
@@ -57,5 +56,4 @@ returns-then-generation-lt18446744073709551615-clause-frame g c =
     loaded_takes _ _ c.in-Some.at c.args.page c.known_key-key.result c.args.fixes c.in_ok-load_into.ensures.put c.in-Some.ensures.there c.requires.absent _ refl
 
 pub returns-in_err-load_into-clause-writes : goal.returns-in_err-load_into-clause-writes
-returns-in_err-load_into-clause-writes g c =
-    handed_on c.from_residual.result c.in_err-load_into.field-0.0 _ c.from_residual.ensures.1 (failed_writes_dirty c.args.history.now c.args.self.now _ c.in-Some.at c.args.page (c.in-Some.ensures.place _ c.requires.ranked) _ c.in_err-load_into.ensures.refused)
+returns-in_err-load_into-clause-writes g c = handed_on c.from_residual.result c.in_err-load_into.field-0.0 _ c.from_residual.ensures.1 (failed_writes_dirty c.args.history.now c.args.self.now _ c.in-Some.at c.args.page (c.in-Some.ensures.place _ c.requires.ranked) _ c.in_err-load_into.ensures.refused)

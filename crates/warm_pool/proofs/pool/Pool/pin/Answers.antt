@@ -51,8 +51,7 @@ returns-in-None-clause-stays g c =
     stays_put c.args.self.now c.bring.new.self c.args.history.now c.args.page c.in_ok-check.ensures.known _ c.bring.ensures.refused
 
 pub returns-in_err-check-clause-writes : goal.returns-in_err-check-clause-writes
-returns-in_err-check-clause-writes g c =
-    handed_on c.from_residual.result c.in_err-check.field-0.0 _ c.from_residual.ensures.1 (unknown_writes_none c.args.history.now c.args.self.now c.args.page c.in_err-check.ensures.unknown _ (c.in_err-check.ensures.load c.args.history.now))
+returns-in_err-check-clause-writes g c = handed_on c.from_residual.result c.in_err-check.field-0.0 _ c.from_residual.ensures.1 (unknown_writes_none c.args.history.now c.args.self.now c.args.page c.in_err-check.ensures.unknown _ (c.in_err-check.ensures.load c.args.history.now))
 
 pub returns-in-Some-clause-frame : goal.returns-in-Some-clause-frame
 returns-in-Some-clause-frame g c =
