@@ -16,7 +16,8 @@ use Rattle.warm_pool.specs.Pinning.{LoadsInto}
 use Rattle.warm_pool.specs.DeviceCalls.{PageRead}
 use Rattle.warm_pool.proofs.Slots.{at_set}
 use Rattle.warm_pool.proofs.Keeps.{pool_from, stored_honest, devices_keep_pool}
-use Rattle.warm_pool.proofs.DeviceSteps.{read_keeps, read_same, fails_at, same_view, may_fail}
+use Rattle.warm_pool.proofs.FlushLemmas.{may_fail}
+use Rattle.warm_pool.proofs.DeviceSteps.{read_keeps, read_same, fails_at, same_view}
 use Rattle.warm_pool.proofs.Loads.{Failed, on_ok, PutsPage, put_pool, put_keeps}
 use Rattle.warm_pool.proofs.WriteBacks.{cleans_view}
 
@@ -28,23 +29,20 @@ pub record Fetched (s : PoolState) (ds : List DeviceState) (p : PageId) (bytes :
   pub nowhere : IsNowhere s.frames p
   pub call : PageRead s.devices ds p.dev p.no bytes result
 
+-- the same, of a pool that is seen as v
+pub fetched_in : {s v : PoolState} {ds : List DeviceState} {p : PageId} {bytes : List ℕ} {result : Result (Unit {0}) DeviceFault} → s ≡ v → IsPool s
+    → p.dev < length v.devices → p.no < (nth_device v.devices p.dev).pages → IsNowhere v.frames p → PageRead s.devices ds p.dev p.no bytes result → Fetched s ds p bytes result
+fetched_in {p = p} seen w device number nowhere call = record {
+  pool = w;
+  device = subst (λ x. p.dev < length x.devices) (sym seen) device;
+  number = subst (λ x. p.no < (nth_device x.devices p.dev).pages) (sym seen) number;
+  nowhere = subst (λ x. IsNowhere x.frames p) (sym seen) nowhere;
+  call = call;
+}
+
 -- the buffers change places
 pub spare_keeps : (s : PoolState) (n : ℕ) → n ≡ s.page_size → IsPool s → IsPool (record s { spare = n })
-spare_keeps s n e w = record {
-  some_frames = w.some_frames;
-  few_frames = w.few_frames;
-  some_bytes = w.some_bytes;
-  few_bytes = w.few_bytes;
-  few_devices = w.few_devices;
-  spare_size = e;
-  frame_size = w.frame_size;
-  device_size = w.device_size;
-  has_device = w.has_device;
-  has_page = w.has_page;
-  once = w.once;
-  clean = w.clean;
-  bare = w.bare;
-}
+spare_keeps s n e w = subst (λ m. IsPool (record s { spare = m })) (w.spare_size ∙ sym e) w
 
 -- the frame after the page came into it
 abbrev pub arrival : List FrameState → ℕ → PageId → RankKey → ℕ → List ℕ → FrameState
@@ -59,12 +57,12 @@ module _ {s : PoolState} {ds : List DeviceState} {p : PageId} {bytes : List ℕ}
 
   pub fetch_failed : Failed result → FailsAt (view_of s) p.dev (view_of (record s { devices = ds }))
   fetch_failed f = fails_at s ds p.dev h.call.after h.device h.call.becomes kept
-      (may_fail (nth_device s.devices p.dev).unfailing f.fault result f.is h.call.unfailing)
-      (subst (λ r. CountsFault Read r (nth_device s.devices p.dev) h.call.after) f.is h.call.faults).1
+      (may_fail (nth_device s.devices p.dev).unfailing f.fault result f.is h.call.call.unfailing)
+      (subst (λ r. CountsFault Read r (nth_device s.devices p.dev) h.call.after) f.is h.call.call.faults).1
 
   module _ (ok : result ≡ Ok tt) where
     fetched_view : view_of (record s { devices = ds }) ≡ view_of s
-    fetched_view = same_view s ds p.dev h.call.after h.call.becomes kept (subst (λ r. CountsFault Read r (nth_device s.devices p.dev) h.call.after) ok h.call.faults)
+    fetched_view = same_view s ds p.dev h.call.after h.call.becomes kept (subst (λ r. CountsFault Read r (nth_device s.devices p.dev) h.call.after) ok h.call.call.faults)
 
     -- the page that was to leave was not written
     pub leave_failed : {n : ℕ} (i : ℕ) (t : PoolState) → CleanFails (record s { spare = n; devices = ds }) i t
@@ -102,7 +100,7 @@ module _ {s : PoolState} {ds : List DeviceState} {p : PageId} {bytes : List ℕ}
       from_device o =
           let mid : IsTrue (nth_device ds p.dev).honest = subst IsTrue (c.devices.shape p.dev).honest o in
           let first : IsTrue (nth_device s.devices p.dev).honest = subst IsTrue (kept.shape p.dev).honest mid in
-          on_ok result ok h.call.read first ∙ sym (stored_honest s.devices p first) ∙ sym (kept.absent p h.nowhere) ∙ sym (c.devices.absent p h.nowhere)
+          on_ok result ok h.call.call.read first ∙ sym (stored_honest s.devices p first) ∙ sym (kept.absent p h.nowhere) ∙ sym (c.devices.absent p h.nowhere)
           ∙ stored_honest es p o
 
       module _ (key : RankKey) (fixes : ℕ) (b : List ℕ) (b_is : b ≡ bytes) where

@@ -7,31 +7,25 @@ use Rattle.warm_pool.specs.View.{view_of}
 use Rattle.warm_pool.specs.Keeping.{FailsAt}
 use Rattle.warm_pool.specs.WritingBack.{KeptDevices, CleanFails, PutsDown, StopsAt, clean_if, cleaned_chosen, is_chosen}
 
--- a frame that may have been cleaned has the page that it had, and isn't dirty if it wasn't
-pub clean_page : (which : Option ℕ) (f : FrameState) → (clean_if which f).page ≡ f.page
-clean_page which f = elim (is_chosen which f.page) as (λ t. (cond t (cleaned f) f).page ≡ f.page) [ true ↦ refl | false ↦ refl ]
-
-pub clean_dirty : (which : Option ℕ) (f : FrameState) → f.dirty ≡ false → (clean_if which f).dirty ≡ false
-clean_dirty which f is = elim (is_chosen which f.page) as (λ t. (cond t (cleaned f) f).dirty ≡ false) [ true ↦ refl | false ↦ is ]
-
 -- one frame more
 pub clean_more : (which : Option ℕ) (n : ℕ) (frames : List FrameState) → n < length frames → set (cleaned_chosen which n frames) n (clean_if which (nth_frame (cleaned_chosen which n frames) n)) ≡ cleaned_chosen which (suc n) frames
 clean_more which n [] lt = absurd (omega arith)
 clean_more which zero (f ∷ frames) lt = refl
 clean_more which (suc n) (f ∷ frames) lt = ap (λ rest. clean_if which f ∷ rest) (clean_more which n frames (omega arith))
 
--- each frame as it was or clean
-pub nth_page : (which : Option ℕ) (n : ℕ) (frames : List FrameState) (i : ℕ) → (nth_frame (cleaned_chosen which n frames) i).page ≡ (nth_frame frames i).page
-nth_page which zero frames i = refl
-nth_page which (suc n) [] i = refl
-nth_page which (suc n) (f ∷ frames) zero = clean_page which f
-nth_page which (suc n) (f ∷ frames) (suc i) = nth_page which n frames i
+-- what holds of a frame as it was, and of it clean, holds of it where it may have been cleaned
+pub clean_each : (P : FrameState → Type 0) (which : Option ℕ) (n : ℕ) (frames : List FrameState) (i : ℕ) → P (nth_frame frames i) → P (cleaned (nth_frame frames i)) → P (nth_frame (cleaned_chosen which n frames) i)
+clean_each P which zero frames i was is = was
+clean_each P which (suc n) [] i was is = was
+clean_each P which (suc n) (f ∷ frames) zero was is = elim (is_chosen which f.page) as (λ t. P (cond t (cleaned f) f)) [ true ↦ is | false ↦ was ]
+clean_each P which (suc n) (f ∷ frames) (suc i) was is = clean_each P which n frames i was is
 
-pub nth_dirty : (which : Option ℕ) (n : ℕ) (frames : List FrameState) (i : ℕ) → (nth_frame frames i).dirty ≡ false → (nth_frame (cleaned_chosen which n frames) i).dirty ≡ false
-nth_dirty which zero frames i is = is
-nth_dirty which (suc n) [] i is = is
-nth_dirty which (suc n) (f ∷ frames) zero is = clean_dirty which f is
-nth_dirty which (suc n) (f ∷ frames) (suc i) is = nth_dirty which n frames i is
+-- it has the page that it had, and isn't dirty if it wasn't
+pub nth_page : (which : Option ℕ) (n : ℕ) (frames : List FrameState) (i : ℕ) → (nth_frame (cleaned_chosen which n frames) i).page ≡ (nth_frame frames i).page
+nth_page which n frames i = clean_each (λ f. f.page ≡ (nth_frame frames i).page) which n frames i refl refl
+
+nth_dirty : (which : Option ℕ) (n : ℕ) (frames : List FrameState) (i : ℕ) → (nth_frame frames i).dirty ≡ false → (nth_frame (cleaned_chosen which n frames) i).dirty ≡ false
+nth_dirty which n frames i is = clean_each (λ f. f.dirty ≡ false) which n frames i is refl
 
 -- those not yet reached are as they were
 pub nth_rest : (which : Option ℕ) (n : ℕ) (frames : List FrameState) (i : ℕ) → n ≤ i → nth_frame (cleaned_chosen which n frames) i ≡ nth_frame frames i

@@ -1,20 +1,20 @@
 -- What a call of one device does to a list of devices, and to a pool over them.
-use Rattle.std.proofs.Common.{◌≡◌, ◌≢◌, ℕ, ◌+◌, ◌<◌, cond, Bool, true, false, IsTrue, List, [], ◌++◌, length, map, set, get_or, take, drop, Some, Result, Ok, Err, OnOk, IsOk, refl, sym, ◌∙◌, ap, subst, inl, inr, arith}
+use Rattle.std.proofs.Common.{◌≡◌, ◌≢◌, ℕ, ◌+◌, ◌<◌, cond, Bool, true, false, List, [], ◌++◌, length, map, set, get_or, take, drop, Some, Result, Ok, OnOk, refl, sym, ◌∙◌, ap, subst, inl, inr, arith}
 use Rattle.std.proofs.Math.Path.{ap₂}
 use Rattle.std.proofs.Math.ListN.{get_or-map as mapped}
 use Rattle.std.proofs.lemmas.Grind.{common_steps}
 use Rattle.std.proofs.lemmas.Bool.{cases_eq}
 use Rattle.std.proofs.lemmas.List.{length-set, length-map, map-set, set-get_or, get_or_read}
 use Rattle.warm_stamps.specs.declared.PageId.{PageId}
-use Rattle.warm_devices.specs.declared.fault.DeviceFault.TheVariants.{Read, Write}
-use Rattle.warm_devices.specs.Device.{DeviceState, SameShape, CountsFault, ChangesPage, page_at, one_more}
+use Rattle.warm_devices.specs.declared.fault.DeviceFault.TheVariants.{Read}
+use Rattle.warm_devices.specs.Device.{DeviceState, SameShape, CountsFault, page_at, one_more}
 use Rattle.warm_devices.specs.declared.fault.DeviceFault.{DeviceFault}
 use Rattle.warm_pool.specs.Frames.{FrameState, nth_frame}
 use Rattle.warm_pool.specs.State.{PoolState, IsPool, no_device, nth_device}
 use Rattle.warm_pool.specs.View.{stored, view_of, device_view, PoolView}
 use Rattle.warm_pool.specs.Keeping.{FailsAt}
 use Rattle.warm_pool.specs.WritingBack.{KeptDevices}
-use Rattle.warm_pool.specs.DeviceCalls.{PageRead, PageWrite}
+use Rattle.warm_pool.specs.DeviceCalls.{PageRead, PageWrite, ReadsPage, WritesPage}
 use Rattle.warm_pool.proofs.Slots.{at_set}
 use Rattle.warm_pool.proofs.FlushLemmas.{same_shape}
 use Rattle.warm_pool.proofs.Bytes.{same_page, device_seen}
@@ -58,10 +58,10 @@ stored_set old new k e h is shape p same =
 pub read_keeps : (frames : List FrameState) (old new : List DeviceState) (k n : ℕ) (bytes : List ℕ) (result : Result (Unit {0}) DeviceFault)
     → k < length old → PageRead old new k n bytes result → KeptDevices frames old new
 read_keeps frames old new k n bytes result h r =
-    let all : (p : PageId) → stored new p ≡ stored old p = λ p. stored_set old new k r.after h r.becomes r.shape p (λ _. ap (λ c. page_at c p.no) r.contents) in
+    let all : (p : PageId) → stored new p ≡ stored old p = λ p. stored_set old new k r.after h r.becomes r.call.shape p (λ _. ap (λ c. page_at c p.no) r.call.contents) in
     record {
       count = ap length r.becomes ∙ length-set old k r.after;
-      shape = shapes_set old new k r.after h r.becomes r.shape;
+      shape = shapes_set old new k r.after h r.becomes r.call.shape;
       absent = λ p _. all p;
       clean = λ i p _ _. all p;
     }
@@ -73,11 +73,11 @@ pub write_keeps : (s : PoolState) (new : List DeviceState) (i : ℕ) (q : PageId
 write_keeps s new i q bytes result w holds dirty r =
     let there : q.dev < length s.devices = w.has_device i q holds in
     let others : (p : PageId) → p ≢ q → stored new p ≡ stored s.devices p = λ p ne.
-    stored_set s.devices new q.dev r.after there r.becomes r.shape p
-    (λ e. r.others.others p.no (λ n. ne (same_page p q e n))) in
+    stored_set s.devices new q.dev r.after there r.becomes r.call.shape p
+    (λ e. r.call.others.others p.no (λ n. ne (same_page p q e n))) in
     record {
       count = ap length r.becomes ∙ length-set s.devices q.dev r.after;
-      shape = shapes_set s.devices new q.dev r.after there r.becomes r.shape;
+      shape = shapes_set s.devices new q.dev r.after there r.becomes r.call.shape;
       absent = λ p away. others p (λ e. away i (holds ∙ ap Some (sym e)));
       clean = λ j p at not. others p (λ e.
           let same : j ≡ i = w.once j i q (at ∙ ap Some e) holds in
@@ -121,53 +121,26 @@ same_view s new k e is kept same =
 pub read_same : (old new : List DeviceState) (k n : ℕ) (bytes : List ℕ) (result : Result (Unit {0}) DeviceFault)
     → PageRead old new k n bytes result → result ≡ Ok tt → new ≡ old
 read_same old new k n bytes result r ok =
-    let failures : r.after.failures ≡ (nth_device old k).failures = subst (λ x. CountsFault Read x (nth_device old k) r.after) ok r.faults in
+    let failures : r.after.failures ≡ (nth_device old k).failures = subst (λ x. CountsFault Read x (nth_device old k) r.after) ok r.call.faults in
     let same : r.after ≡ nth_device old k = λ i. record {
-      pages = r.shape.pages i;
-      page_size = r.shape.page_size i;
-      contents = r.contents i;
-      waiting = r.waiting i;
+      pages = r.call.shape.pages i;
+      page_size = r.call.shape.page_size i;
+      contents = r.call.contents i;
+      waiting = r.call.waiting i;
       failures = failures i;
-      honest = r.shape.honest i;
-      unfailing = r.shape.unfailing i;
+      honest = r.call.shape.honest i;
+      unfailing = r.call.shape.unfailing i;
     } in
     r.becomes ∙ ap (set old k) same ∙ set-get_or old k no_device
 
--- a device that answered an error isn't unfailing
-pub may_fail : (unfailing : Bool) (fault : DeviceFault) (result : Result (Unit {0}) DeviceFault) → result ≡ Err fault → (IsTrue unfailing → IsOk result) → unfailing ≡ false
-may_fail false fault result e ok = refl
-may_fail true fault result e ok = absurd (never fault (subst IsOk e (ok refl)))
-  where
-    never : (fault : DeviceFault) → IsOk (let r : Result (Unit {0}) DeviceFault = Err fault in r) → ⊥
-    never fault h = absurd (cc)
-
 -- what a call of one device says, of that device in the list
-pub record ReadsPage (d after : DeviceState) (n : ℕ) (bytes : List ℕ) (result : Result (Unit {0}) DeviceFault) : Type 0 where
-  pub shape : SameShape d after
-  pub faults : CountsFault Read result d after
-  pub unfailing : IsTrue d.unfailing → IsOk result
-  pub waiting : after.waiting ≡ d.waiting
-  pub contents : after.contents ≡ d.contents
-  pub read : OnOk result (IsTrue d.honest → bytes ≡ page_at d.contents n)
-
 pub page_read : (old new : List DeviceState) (k n : ℕ) (d after : DeviceState) (bytes : List ℕ) (result : Result (Unit {0}) DeviceFault)
     → d ≡ nth_device old k → new ≡ set old k after → ReadsPage d after n bytes result → PageRead old new k n bytes result
-page_read old new k n d after bytes result e is given =
-    let r : ReadsPage (nth_device old k) after n bytes result = subst (λ x. ReadsPage x after n bytes result) e given in
-    record { after = after; becomes = is; shape = r.shape; faults = r.faults; unfailing = r.unfailing; waiting = r.waiting; contents = r.contents; read = r.read }
-
-pub record WritesPage (d after : DeviceState) (n : ℕ) (bytes : List ℕ) (result : Result (Unit {0}) DeviceFault) : Type 0 where
-  pub shape : SameShape d after
-  pub faults : CountsFault Write result d after
-  pub unfailing : IsTrue d.unfailing → IsOk result
-  pub others : ChangesPage n d.contents after.contents
-  pub written : OnOk result (IsTrue d.honest → page_at after.contents n ≡ bytes)
+page_read old new k n d after bytes result e is given = record { after = after; becomes = is; call = subst (λ x. ReadsPage x after n bytes result) e given }
 
 pub page_written : (old new : List DeviceState) (k n : ℕ) (d after : DeviceState) (bytes : List ℕ) (result : Result (Unit {0}) DeviceFault)
     → d ≡ nth_device old k → new ≡ set old k after → WritesPage d after n bytes result → PageWrite old new k n bytes result
-page_written old new k n d after bytes result e is given =
-    let r : WritesPage (nth_device old k) after n bytes result = subst (λ x. WritesPage x after n bytes result) e given in
-    record { after = after; becomes = is; shape = r.shape; faults = r.faults; unfailing = r.unfailing; others = r.others; written = r.written }
+page_written old new k n d after bytes result e is given = record { after = after; becomes = is; call = subst (λ x. WritesPage x after n bytes result) e given }
 
 -- all devices up to one more have this size
 pub sized_more : {B : Type 0} (shown : B → DeviceState) (size : ℕ) (bs : List B) (i : ℕ) (b : B) → b ≡ get_or bs i b → i < length bs → (shown b).page_size ≡ size

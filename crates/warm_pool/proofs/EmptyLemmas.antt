@@ -1,37 +1,31 @@
 -- A pool of which pages left.
 use Rattle.std.proofs.Common.{◌≡◌, ℕ, zero, suc, ◌<◌, ◌≤◌, cond, true, false, IsTrue, List, [], ◌∷◌, length, map, get_or, Option, Some, None, refl, sym, ap, ◌∙◌, subst, inl, inr}
 use Rattle.std.specs.Option.{option_map}
-use Rattle.std.proofs.lemmas.Bool.{cases_lt}
 use Rattle.std.proofs.lemmas.List.{length-map}
 use Rattle.std.proofs.Math.ListN.{get_or-map as mapped}
 use Rattle.warm_stamps.specs.declared.PageId.{PageId}
 use Rattle.warm_history.specs.Histories.{HistoryView, hist, refs}
 use Rattle.warm_rank.specs.Keys.{rank_key}
-use Rattle.warm_devices.specs.Device.{DeviceState, page_at}
+use Rattle.warm_devices.specs.Device.{DeviceState}
 use Rattle.warm_rank.specs.declared.TheConstants.{MAX_SLOTS}
 use Rattle.warm_pool.specs.Frames.{FrameState, FramesState, nth_frame, fresh_frame, vacated}
 use Rattle.warm_pool.specs.State.{PoolState, IsPool, IsNowhere, IsSettled, nth_device}
 use Rattle.warm_pool.specs.View.{stored, view_of, frame_view, bytes_of, PoolView, HasPage, contents_at, device_at}
 use Rattle.warm_pool.specs.Keeping.{KeepsContents}
-use Rattle.warm_pool.specs.WritingBack.{PutsDown, is_chosen, clean_if, cleaned_chosen}
+use Rattle.warm_pool.specs.WritingBack.{PutsDown, is_chosen, cleaned_chosen}
 use Rattle.warm_pool.specs.Retiring.{Emptied, emptied, AreUnfixed, vacate_if, vacated_chosen}
 use Rattle.warm_pool.specs.Flushes.{NoneWaits}
-use Rattle.warm_pool.proofs.Bytes.{bytes_nowhere, where_is, contents_seen, contents_beyond, device_seen, device_there, frame_seen}
+use Rattle.warm_pool.proofs.Bytes.{bytes_nowhere, where_is, contents_seen, device_seen, frame_seen}
 use Rattle.warm_pool.proofs.Keeps.{pool_from, stored_honest}
-use Rattle.warm_pool.proofs.ClosingLemmas.{nth_page}
+use Rattle.warm_pool.proofs.Loads.{contents_absent}
+use Rattle.warm_pool.proofs.ClosingLemmas.{clean_each, nth_page}
 use Rattle.warm_pool.proofs.SettleLemmas.{down_view, settled}
 use Rattle.warm_pool.proofs.VacateLemmas.{length-vacated}
 
 -- Fixes
 
-clean_fixes : (which : Option ℕ) (f : FrameState) → (clean_if which f).fixes ≡ f.fixes
-clean_fixes which f = elim (is_chosen which f.page) as (λ t. (cond t (record f { dirty = false }) f).fixes ≡ f.fixes) [ true ↦ refl | false ↦ refl ]
-
 nth_fixes : (which : Option ℕ) (n : ℕ) (frames : List FrameState) (i : ℕ) → (nth_frame (cleaned_chosen which n frames) i).fixes ≡ (nth_frame frames i).fixes
-nth_fixes which zero frames i = refl
-nth_fixes which (suc n) [] i = refl
-nth_fixes which (suc n) (f ∷ frames) zero = clean_fixes which f
-nth_fixes which (suc n) (f ∷ frames) (suc i) = nth_fixes which n frames i
+nth_fixes which n frames i = clean_each (λ f. f.fixes ≡ (nth_frame frames i).fixes) which n frames i refl refl
 
 pub unfixed_to : (which : Option ℕ) (n : ℕ) (old new : List FrameState) → new ≡ cleaned_chosen which n old → AreUnfixed which old → AreUnfixed which new
 unfixed_to which n old new becomes unfixed i chosen =
@@ -51,9 +45,6 @@ vacate_held which f p = elim (is_chosen which f.page) as (λ t. (cond t (vacated
 
 vacate_size : (which : Option ℕ) (f : FrameState) → (vacate_if which f).bytes ≡ f.bytes
 vacate_size which f = elim (is_chosen which f.page) as (λ t. (cond t (vacated f) f).bytes ≡ f.bytes) [ true ↦ refl | false ↦ refl ]
-
-vacate_dirty : (which : Option ℕ) (f : FrameState) → f.dirty ≡ false → (vacate_if which f).dirty ≡ false
-vacate_dirty which f is = elim (is_chosen which f.page) as (λ t. (cond t (vacated f) f).dirty ≡ false) [ true ↦ refl | false ↦ is ]
 
 abbrev IsBare : FrameState → Type 0
 IsBare f = (f.key ≡ None) × (f.fixes ≡ 0) × (f.dirty ≡ false)
@@ -145,19 +136,11 @@ module _ (t : PoolState) (w : IsPool t) (clean : (i : ℕ) → (nth_frame t.fram
       let is_honest : IsTrue (nth_device t.devices p.dev).honest = subst (λ d. IsTrue d.honest) (device_seen t p.dev) honest in
       contents_seen u p device number ∙ bytes_nowhere u.frames p (stored t.devices p) (empty_away t.frames p) ∙ sym (on_device p is_honest) ∙ sym (contents_seen t p device number)
 
-  absent_none : (p : PageId) → (device_at (view_of u) p.dev).honest ≡ false → contents_at (view_of u) p ≡ []
-  absent_none p isnt = elim (cases_lt p.no (nth_device t.devices p.dev).pages) [
-    | inl number ↦
-        contents_seen u p (device_there t.devices p.dev p.no number) number ∙ bytes_nowhere u.frames p (stored t.devices p) (empty_away t.frames p)
-        ∙ ap (λ b. cond b (page_at (nth_device t.devices p.dev).contents p.no) []) (sym (ap (λ d. d.honest) (device_seen u p.dev)) ∙ isnt)
-    | inr beyond ↦ contents_beyond u p beyond
-  ]
-
   empty_keeps : KeepsContents (view_of t) (view_of u)
   empty_keeps = record {
     honest = honest_kept;
     resident = λ p was is. absurd (empty_away t.frames p is.frame (sym (ap (λ f. f.page) (frame_seen u is.frame)) ∙ is.holds));
-    absent = λ p isnt away. absent_none p isnt;
+    absent = λ p isnt away. contents_absent u p (sym (ap (λ d. d.honest) (device_seen u p.dev)) ∙ isnt) (empty_away t.frames p);
     sized = λ p is. absurd (empty_away t.frames p is.frame (sym (ap (λ f. f.page) (frame_seen u is.frame)) ∙ is.holds));
   }
 
@@ -169,7 +152,7 @@ module _ (t : PoolState) (w : IsPool t) (clean : (i : ℕ) → (nth_frame t.fram
   }
 
   pub empty_settled : NoneWaits t.devices → IsSettled u
-  empty_settled none = record { clean = λ i. ap (λ f. f.dirty) (nth_vacated None t.frames i) ∙ vacate_dirty None (nth_frame t.frames i) (clean i); flushed = none }
+  empty_settled none = record { clean = λ i. ap (λ f. f.dirty) (nth_vacated None t.frames i); flushed = none }
 
 -- the same, where the frames are said by an equation
 pub becomes_empty : (P : PoolState → Type 0) (which : Option ℕ) (old new : FramesState) (spare : ℕ) (devices : List DeviceState) → new ≡ record old { frames = vacated_chosen which old.frames } → P (record (pool_from old spare devices) { frames = vacated_chosen which old.frames }) → P (pool_from new spare devices)

@@ -1,7 +1,7 @@
 -- Devices that are flushed one after the other.
-use Rattle.std.proofs.Common.{◌≡◌, ◌≢◌, ℕ, zero, suc, ◌+◌, ◌<◌, true, false, IsTrue, List, [], ◌∷◌, ◌++◌, length, map, set, get_or, Result, Ok, Err, IsOk, OnOk, OnErr, refl, sym, ap, ◌∙◌, subst, inl, inr, arith, get_or-set_same, get_or-set_other}
+use Rattle.std.proofs.Common.{◌≡◌, ◌≢◌, ℕ, zero, suc, ◌+◌, ◌<◌, Bool, true, false, IsTrue, List, [], ◌∷◌, ◌++◌, length, map, set, get_or, Result, Ok, Err, IsOk, OnOk, OnErr, IfErr, IsErrAnd, refl, sym, ap, ◌∙◌, subst, inl, inr, arith, get_or-set_same, get_or-set_other}
 use Rattle.std.proofs.lemmas.List.{length-set, get_or-map, map-set, set-get_or}
-use Rattle.std.proofs.lemmas.Bool.{cases_eq, cases_Bool, false≢true}
+use Rattle.std.proofs.lemmas.Bool.{cases_eq}
 use Rattle.warm_devices.specs.Device.{DeviceState, SameShape, CountsFault}
 use Rattle.warm_devices.specs.declared.fault.DeviceFault.{DeviceFault}
 use Rattle.warm_devices.specs.declared.fault.DeviceFault.TheVariants.{Flush}
@@ -12,15 +12,12 @@ use Rattle.warm_pool.specs.Flushes.{IsFlushed, FlushFails, DeviceFlush, FlushedT
 pub same_shape : (d : DeviceState) → SameShape d d
 same_shape d = record { pages = refl; page_size = refl; honest = refl; unfailing = refl }
 
-nth_other : (devices : List DeviceState) (n k : ℕ) (after : DeviceState) → k ≢ n → nth_device (set devices n after) k ≡ nth_device devices k
-nth_other devices n k after ne = get_or-set_other devices n k after no_device ne
-
 module _ (n : ℕ) (old mid new : List DeviceState) (after : DeviceState) (to : FlushedTo n old mid) (lt : n < length old) (becomes : new ≡ set mid n after) where
   here : nth_device new n ≡ after
   here = ap (λ ds. nth_device ds n) becomes ∙ get_or-set_same mid n after no_device (subst (λ m. n < m) (sym to.count) lt)
 
   others : (k : ℕ) → k ≢ n → nth_device new k ≡ nth_device mid k
-  others k ne = ap (λ ds. nth_device ds k) becomes ∙ nth_other mid n k after ne
+  others k ne = ap (λ ds. nth_device ds k) becomes ∙ get_or-set_other mid n k after no_device ne
 
   same_count : length new ≡ length old
   same_count = ap length becomes ∙ length-set mid n after ∙ to.count
@@ -68,11 +65,13 @@ needs_none f xs i x lt is quiet =
       failed = tt;
     }
 
-may_fail : (d : DeviceState) (fault : DeviceFault) → (IsTrue d.unfailing → IsOk (let r : Result (Unit {0}) DeviceFault = Err fault in r)) → d.unfailing ≡ false
-may_fail d fault never = elim (cases_Bool d.unfailing) [
-  | inl is ↦ absurd (false≢true (never is))
-  | inr isnt ↦ isnt
-]
+-- a device that answered an error isn't unfailing
+pub may_fail : (unfailing : Bool) (fault : DeviceFault) (result : Result (Unit {0}) DeviceFault) → result ≡ Err fault → (IsTrue unfailing → IsOk result) → unfailing ≡ false
+may_fail false fault result e ok = refl
+may_fail true fault result e ok = absurd (never fault (subst IsOk e (ok refl)))
+  where
+    never : (fault : DeviceFault) → IsOk (let r : Result (Unit {0}) DeviceFault = Err fault in r) → ⊥
+    never fault h = absurd (cc)
 
 -- what the flush of a device does to the list
 pub flushes : {A : Type 0} (f : A → DeviceState) (xs : List A) (i : ℕ) (x y z : A) (result : Result (Unit {0}) DeviceFault) → i < length xs → x ≡ get_or xs i x → y ≡ get_or xs i y
@@ -93,7 +92,7 @@ flushes f xs i x y z (Err fault) lt is_x is_y waits shape counts never flushed k
       after = f z;
       becomes = map-set f xs i z;
       done = tt;
-      failed = subst (λ d. FlushFails d (f z)) (sym nth) (record { may = may_fail (f y) fault never; shape = shape; contents = contents; failures = counts.1; waiting = kept ∙ waited });
+      failed = subst (λ d. FlushFails d (f z)) (sym nth) (record { may = may_fail (f y).unfailing fault (Err fault) refl never; shape = shape; contents = contents; failures = counts.1; waiting = kept ∙ waited });
     }
 
 -- the last of devices on which nothing waits, and those before it
@@ -115,3 +114,8 @@ none_front f xs front x is none = front_of f front x (subst (λ ys. NoneWaits (m
 pub on_err : {T E : Type 0} (result : Result T E) (P : Type 0) → P → OnErr result P
 on_err (Ok x) P is = tt
 on_err (Err e) P is = is
+
+-- an error that is handed on
+pub handed_on : {T E : Type 0} (r : Result T E) (e : E) (P : E → Type 0) → IsErrAnd r (λ y. y ≡ e) → P e → IfErr r P
+handed_on (Ok x) e P is p = tt
+handed_on (Err y) e P is p = subst P (sym is) p

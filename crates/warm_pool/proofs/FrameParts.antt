@@ -53,43 +53,35 @@ contest_count {ps} {ss} {bs} t = ap length t.contest_is ∙ length-map (frames_o
 
 -- What is seen of them
 
--- a frame that is seen has a page, a status and a body
-pub has_page : {ps : List (Option PageId)} {ss : List Status} {bs : List FrameBody} {contest : _} {size : ℕ} {v : FramesState}
-    → AreTied ps ss bs contest → kept size ps ss bs ≡ v → (i : ℕ) → i < length v.frames → i < length ps
-has_page {ps} {ss} {bs} t e i h = subst (λ n. i < n) (count ps ss bs t.status_each t.body_each) (subst (λ w. i < length w.frames) (sym e) h)
+module _ {ps : List (Option PageId)} {ss : List Status} {bs : List FrameBody} {contest : List (Option RankKey)} {size : ℕ} {v : FramesState}
+    (t : AreTied ps ss bs contest) (e : kept size ps ss bs ≡ v) where
+  -- a frame that is seen has a page, a status and a body
+  pub has_page : (i : ℕ) → i < length v.frames → i < length ps
+  has_page i h = subst (λ n. i < n) (count ps ss bs t.status_each t.body_each) (subst (λ w. i < length w.frames) (sym e) h)
 
--- where the vector of statuses, or that of bodies, has this length
-pub has_status : {ps : List (Option PageId)} {ss : List Status} {bs : List FrameBody} {contest : _} {size : ℕ} {v : FramesState}
-    → AreTied ps ss bs contest → kept size ps ss bs ≡ v → (i : ℕ) → i < length v.frames → {n : ℕ} → n ≡ length ss → i < n
-has_status t e i h count = subst (λ n. i < n) (sym (count ∙ t.status_each)) (has_page t e i h)
+  -- where the vector of statuses, or that of bodies, has this length
+  pub has_status : (i : ℕ) → i < length v.frames → {n : ℕ} → n ≡ length ss → i < n
+  has_status i h count = subst (λ n. i < n) (sym (count ∙ t.status_each)) (has_page i h)
 
-pub has_body : {ps : List (Option PageId)} {ss : List Status} {bs : List FrameBody} {contest : _} {size : ℕ} {v : FramesState}
-    → AreTied ps ss bs contest → kept size ps ss bs ≡ v → (i : ℕ) → i < length v.frames → {n : ℕ} → n ≡ length bs → i < n
-has_body t e i h count = subst (λ n. i < n) (sym (count ∙ t.body_each)) (has_page t e i h)
+  pub has_body : (i : ℕ) → i < length v.frames → {n : ℕ} → n ≡ length bs → i < n
+  has_body i h count = subst (λ n. i < n) (sym (count ∙ t.body_each)) (has_page i h)
 
--- how many are seen, which pages they hold, and one of them
-pub seen_count : {ps : List (Option PageId)} {ss : List Status} {bs : List FrameBody} {contest : _} {size : ℕ} {v : FramesState}
-    → AreTied ps ss bs contest → kept size ps ss bs ≡ v → length bs ≡ length v.frames
-seen_count {ps} {ss} {bs} t e = t.body_each ∙ sym (count ps ss bs t.status_each t.body_each) ∙ ap (λ w. length w.frames) e
+  -- how many are seen, which pages they hold, and one of them
+  pub seen_count : length bs ≡ length v.frames
+  seen_count = t.body_each ∙ sym (count ps ss bs t.status_each t.body_each) ∙ ap (λ w. length w.frames) e
 
-pub seen_pages : {ps : List (Option PageId)} {ss : List Status} {bs : List FrameBody} {contest : _} {size : ℕ} {v : FramesState}
-    → AreTied ps ss bs contest → kept size ps ss bs ≡ v → ps ≡ pages_held v.frames
-seen_pages {ps} {ss} {bs} t e = sym (held ps ss bs t.status_each t.body_each) ∙ ap (λ w. pages_held w.frames) e
+  pub seen_pages : ps ≡ pages_held v.frames
+  seen_pages = sym (held ps ss bs t.status_each t.body_each) ∙ ap (λ w. pages_held w.frames) e
 
-pub seen : {ps : List (Option PageId)} {ss : List Status} {bs : List FrameBody} {contest : _} {size : ℕ} {v : FramesState}
-    → AreTied ps ss bs contest → kept size ps ss bs ≡ v → (i : ℕ) → i < length v.frames → frame_kept ps ss bs i ≡ nth_frame v.frames i
-seen {ps} {ss} {bs} t e i h = sym (nth ps ss bs i (has_page t e i h) t.status_each t.body_each) ∙ ap (λ w. nth_frame w.frames i) e
+  pub seen : (i : ℕ) → i < length v.frames → frame_kept ps ss bs i ≡ nth_frame v.frames i
+  seen i h = sym (nth ps ss bs i (has_page i h) t.status_each t.body_each) ∙ ap (λ w. nth_frame w.frames i) e
 
--- a status that was read
-pub status_is : {ps : List (Option PageId)} {ss : List Status} {bs : List FrameBody} {contest : _} {size : ℕ} {v : FramesState}
-    → AreTied ps ss bs contest → kept size ps ss bs ≡ v → (i : ℕ) → i < length v.frames → (s : Status) → s ≡ get_or ss i s → s ≡ get_or ss i unused_status
-status_is {ss = ss} t e i h s is = get_or_read ss i s (has_status t e i h refl) is unused_status
+  -- a status and a body that were read
+  pub status_is : (i : ℕ) → i < length v.frames → (s : Status) → s ≡ get_or ss i s → s ≡ get_or ss i unused_status
+  status_is i h s is = get_or_read ss i s (has_status i h refl) is unused_status
 
--- a body that was read
-pub body_is : {ps : List (Option PageId)} {ss : List Status} {bs : List FrameBody} {contest : _} {size : ℕ} {v : FramesState}
-    → AreTied ps ss bs contest → kept size ps ss bs ≡ v → (i : ℕ) → i < length v.frames → (b x : FrameBody) → b ≡ x → x ≡ get_or bs i x
-    → b ≡ get_or bs i (fresh_body [])
-body_is {bs = bs} t e i h b x same is = same ∙ get_or_read bs i x (has_body t e i h refl) is (fresh_body [])
+  pub body_is : (i : ℕ) → i < length v.frames → (b x : FrameBody) → b ≡ x → x ≡ get_or bs i x → b ≡ get_or bs i (fresh_body [])
+  body_is i h b x same is = same ∙ get_or_read bs i x (has_body i h refl) is (fresh_body [])
 
 -- the rank left in a frame is that of its page, where it has one
 pub rank_of_page : (page : Option PageId) (key : Option RankKey) → page ≢ None → rank_in page key ≡ key

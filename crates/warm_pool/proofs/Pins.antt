@@ -1,7 +1,7 @@
 -- What a pin and a load come to, from their steps.
 use Rattle.std.proofs.Common.{◌≡◌, ℕ, ◌+◌, ◌-◌, ◌^◌, ◌<◌, false, List, length, map, set, Some, Result, Ok, Err, OnErr, IfOk, IfErr, sym, ◌∙◌, ap, subst, inl, inr, arith}
 use Rattle.std.specs.Option.{option_map}
-use Rattle.std.proofs.lemmas.List.{map-set, get_or-set_same, length-set}
+use Rattle.std.proofs.lemmas.List.{map-set, get_or-set_same, length-set, length-map}
 use Rattle.warm_stamps.specs.declared.PageId.{PageId}
 use Rattle.warm_history.specs.Histories.{HistoryView, hist, refs}
 use Rattle.warm_rank.specs.declared.RankKey.{RankKey}
@@ -10,47 +10,46 @@ use Rattle.warm_pool.specs.declared.slot.Slot.{Slot}
 use Rattle.warm_pool.specs.declared.fault.PoolFault.{PoolFault}
 use Rattle.warm_pool.specs.declared.fault.PoolFault.TheVariants.{NoDevice, NoPage, AllFixed, ReadFault, WriteBack, FixesFull}
 use Rattle.warm_pool.specs.Frames.{nth_frame}
-use Rattle.warm_pool.specs.State.{PoolState, IsPool, RankedBy, IsNowhere}
+use Rattle.warm_pool.specs.State.{PoolState, RankedBy, IsNowhere}
 use Rattle.warm_pool.specs.View.{frame_view, view_of, PoolView, FrameView, frame_at, HasPage, IsAbsent, Holds}
 use Rattle.warm_pool.specs.Keeping.{SameButFailures}
 use Rattle.warm_pool.specs.Pinning.{IsPlace, AddsFix, PutsIn, Pinned, Loaded, PutRefused, LoadRefused, PinRefused, LoadsInto, LoadFails}
 use Rattle.warm_pool.proofs.Bytes.{frame_seen, absent_seen}
 use Rattle.warm_pool.proofs.Keeps.{ranked_set}
-use Rattle.warm_pool.proofs.PoolSteps.{seen_there, seen_page}
 
 -- nothing but counts of failures has changed
 pub stays_by : (old new : PoolView) (failures : List ℕ) → new ≡ record old { failures = failures } → SameButFailures old new
 stays_by old new failures e = e ∙ ap (λ (f : List ℕ). let v : PoolView = record old { failures = f } in v) (sym (ap (λ v. v.failures) e))
 
 -- a page that was not put into a frame
-pub put_refused : {s t : PoolState} → IsPool s → IsPool t → (h : HistoryView) (i : ℕ) (p : PageId) → IsPlace h (view_of s) (Some i) → (nth_frame s.frames i).generation < 2 ^ 64 - 1
+pub put_refused : (s t : PoolState) (h : HistoryView) (i : ℕ) (p : PageId) → IsPlace h (view_of s) (Some i) → (nth_frame s.frames i).generation < 2 ^ 64 - 1
     → (why : PoolFault) → LoadFails s i p why t → PutRefused h (view_of s) p why (view_of t)
-put_refused {s} {t} w v h i p place room ReadFault l =
+put_refused s t h i p place room ReadFault l =
     ((i, record { place = place; room = subst (λ f. f.generation < 2 ^ 64 - 1) (sym (frame_seen s i)) room }), l.1)
-put_refused {s} {t} w v h i p place room WriteBack l =
+put_refused s t h i p place room WriteBack l =
     (i, l.page, record { place = place; room = subst (λ f. f.generation < 2 ^ 64 - 1) (sym (frame_seen s i)) room }, ap (λ f. f.page) (frame_seen s i) ∙ l.holds, l.fails)
-put_refused {s} {t} w v h i p place room why l = absurd l
+put_refused s t h i p place room why l = absurd l
 
 pub same_frames : (s t : PoolState) (i : ℕ) (p : PageId) (why : PoolFault) → LoadFails s i p why t → t.frames ≡ s.frames
 same_frames s t i p ReadFault l = l.0
 same_frames s t i p WriteBack l = l.frames
 same_frames s t i p why l = absurd l
 
-pub failed_ranked : {s t : PoolState} → IsPool s → IsPool t → (i : ℕ) (p : PageId) (why : PoolFault) → LoadFails s i p why t → (h : HistoryView) → RankedBy s h → RankedBy t h
-failed_ranked {s} {t} w v i p why l h r =
+pub failed_ranked : (s t : PoolState) (i : ℕ) (p : PageId) (why : PoolFault) → LoadFails s i p why t → (h : HistoryView) → RankedBy s h → RankedBy t h
+failed_ranked s t i p why l h r =
     subst (λ fs. (j : ℕ) → (nth_frame fs j).key ≡ option_map (λ q. rank_key q (hist (refs h) q)) (nth_frame fs j).page) (sym (same_frames s t i p why l)) r
 
 -- a page that was put into a frame
-pub loaded_ranked : {s t : PoolState} → IsPool s → IsPool t → (i : ℕ) (p : PageId) (key : RankKey) (n : ℕ) → LoadsInto s i p key n t → i < length s.frames
+pub loaded_ranked : (s t : PoolState) (i : ℕ) (p : PageId) (key : RankKey) (n : ℕ) → LoadsInto s i p key n t → i < length s.frames
     → (h : HistoryView) → key ≡ rank_key p (hist (refs h) p) → RankedBy s h → RankedBy t h
-loaded_ranked {s} {t} w v i p key n l there h is r =
+loaded_ranked s t i p key n l there h is r =
     subst (λ fs. (j : ℕ) → (nth_frame fs j).key ≡ option_map (λ q. rank_key q (hist (refs h) q)) (nth_frame fs j).page) (sym l.frames)
     (ranked_set s i (record { page = Some p; key = Some key; generation = (nth_frame s.frames i).generation + 1; fixes = n; dirty = false; bytes = l.bytes }) h there (ap Some is) r)
 
-pub loaded_puts : {s t : PoolState} → IsPool s → IsPool t → (i : ℕ) (p : PageId) (key : RankKey) (n : ℕ) → LoadsInto s i p key n t → (h : HistoryView)
+pub loaded_puts : (s t : PoolState) (i : ℕ) (p : PageId) (key : RankKey) (n : ℕ) → LoadsInto s i p key n t → (h : HistoryView)
     → IsNowhere s.frames p → IsPlace h (view_of s) (Some i) → (gen : ℕ) → gen ≡ (nth_frame s.frames i).generation → gen < 2 ^ 64 - 1
     → PutsIn h (view_of s) p n (record { index = i; generation = gen + 1 }) (view_of t)
-loaded_puts {s} {t} w v i p key n l h away place gen is room = record {
+loaded_puts s t i p key n l h away place gen is room = record {
   absent = absent_seen s p away;
   place = place;
   room = subst (λ f. f.generation < 2 ^ 64 - 1) (sym (frame_seen s i)) (subst (λ g. g < 2 ^ 64 - 1) is room);
@@ -97,7 +96,7 @@ put_stays h old p new WriteBack x = stays_by old new _ x.4.becomes
 put_stays h old p new why x = absurd x
 
 -- the outcome of a pin, from that of its last step
-module _ {s t : PoolState} (w : IsPool s) (v : IsPool t) (h : HistoryView) (p : PageId) (has : HasPage (view_of s) p) where
+module _ (s t : PoolState) (h : HistoryView) (p : PageId) (has : HasPage (view_of s) p) where
   pub pin_adds : (r : Result Slot PoolFault) → IfOk r (λ slot. AddsFix (view_of s) p slot (view_of t)) → IfOk r (λ slot. Pinned h (view_of s) p slot (view_of t))
   pin_adds (Ok slot) x = (has, inl x)
   pin_adds (Err why) x = tt
@@ -127,14 +126,14 @@ module _ {s t : PoolState} (w : IsPool s) (v : IsPool t) (h : HistoryView) (p : 
   stays_put (Err why) x = put_stays h (view_of s) p (view_of t) why x
 
 -- a page with as many fixes as can be
-pub pin_full : {s t : PoolState} → IsPool s → IsPool t → (h : HistoryView) (p : PageId) (i : ℕ) → HasPage (view_of s) p → i < length s.frames → (nth_frame s.frames i).page ≡ Some p
+pub pin_full : (s t : PoolState) (h : HistoryView) (p : PageId) (i : ℕ) → HasPage (view_of s) p → i < length s.frames → (nth_frame s.frames i).page ≡ Some p
     → (r : Result Slot PoolFault) → IfErr r (λ why. (why ≡ FixesFull) × ((nth_frame s.frames i).fixes ≡ 2 ^ 32 - 1) × (t ≡ s)) → IfErr r (λ why. PinRefused h (view_of s) p why (view_of t))
-pin_full {s} {t} w v h p i has there holds (Ok slot) x = tt
-pin_full {s} {t} w v h p i has there holds (Err why) x =
+pin_full s t h p i has there holds (Ok slot) x = tt
+pin_full s t h p i has there holds (Err why) x =
     subst (λ y. PinRefused h (view_of s) p y (view_of t)) (sym x.0)
-    (inl (has, record { frame = i; there = seen_there w i there; resident = seen_page w i p holds; full = ap (λ f. f.fixes) (frame_seen s i) ∙ x.1 }, ap view_of x.2))
+    (inl (has, record { frame = i; there = subst (λ m. i < m) (sym (length-map s.frames frame_view)) there; resident = ap (λ f. f.page) (frame_seen s i) ∙ holds; full = ap (λ f. f.fixes) (frame_seen s i) ∙ x.1 }, ap view_of x.2))
 
-pub full_stays : {s t : PoolState} → IsPool s → IsPool t → (i : ℕ) (r : Result Slot PoolFault)
+pub full_stays : (s t : PoolState) (i : ℕ) (r : Result Slot PoolFault)
     → IfErr r (λ why. (why ≡ FixesFull) × ((nth_frame s.frames i).fixes ≡ 2 ^ 32 - 1) × (t ≡ s)) → OnErr r (SameButFailures (view_of s) (view_of t))
-full_stays {s} {t} w v i (Ok slot) x = tt
-full_stays {s} {t} w v i (Err why) x = stays_by (view_of s) (view_of t) (view_of s).failures (ap view_of x.2)
+full_stays s t i (Ok slot) x = tt
+full_stays s t i (Err why) x = stays_by (view_of s) (view_of t) (view_of s).failures (ap view_of x.2)

@@ -1,6 +1,6 @@
 -- A page is found along the chain of its chain, and the least free frame at the head of its own.
 use Rattle.std.proofs.Common.{◌≡◌, ◌≢◌, ℕ, zero, suc, ◌+◌, ◌<◌, ◌≤◌, List, [], ◌∷◌, length, map, get_or, set, replicate, sym, ap, refl, ◌∙◌, subst, Option, Some, None, inl, inr, arith, add-one, get_or-set_same, get_or-set_other}
-use Rattle.std.proofs.lemmas.List.{length-set, length-map, length-replicate, get_or-map, get_or-replicate, get_or_read, map-set}
+use Rattle.std.proofs.lemmas.List.{length-set, length-map, length-replicate, get_or-map, get_or-replicate, get_or_read, map-set, set-set}
 use Rattle.std.proofs.lemmas.Bool.{cases_eq, cases_lt}
 use Rattle.warm_stamps.specs.declared.PageId.{PageId}
 use Rattle.warm_pool.specs.Chains.{IsFirstFrom, AreChains, AreInTurn, AreLinked, chain_of, chains_of, page_in}
@@ -92,11 +92,6 @@ free_full pages heads next frames at linked count is le frame lt = none_below pa
 chains_set : (pages : List (Option PageId)) (frame : ℕ) (held : Option PageId) → chains_of (set pages frame held) ≡ set (chains_of pages) frame (chain_of (length pages) held)
 chains_set pages frame held = ap (λ n. map (chain_of n) (set pages frame held)) (length-set pages frame held) ∙ map-set (chain_of (length pages)) pages frame held
 
-set_twice : {A : Type 0} (xs : List A) (i : ℕ) (x y : A) → set (set xs i x) i y ≡ set xs i y
-set_twice [] i x y = refl
-set_twice (z ∷ xs) zero x y = refl
-set_twice (z ∷ xs) (suc i) x y = ap (λ rest. z ∷ rest) (set_twice xs i x y)
-
 -- the frames once one of them has changed
 set_linked : (pages : List (Option PageId)) (heads next new_heads new_next : List ℕ) (frame : ℕ) (held : Option PageId) → AreLinked pages heads next → frame < length pages → length new_heads ≡ length heads → AreChains (set (chains_of pages) frame (chain_of (length pages) held)) new_heads new_next → AreLinked (set pages frame held) new_heads new_next
 set_linked pages heads next new_heads new_next frame held linked lt same chains =
@@ -112,7 +107,7 @@ pub moved_linked : (frames : List ℕ) (pages : List (Option PageId)) (heads nex
     → frames ≡ chains_of pages → AreLinked pages heads next → frame < length pages → length new_heads ≡ length heads → to ≡ chain_of (length pages) held
     → AreChains (set (set frames frame out) frame to) new_heads new_next → AreLinked (set pages frame held) new_heads new_next
 moved_linked frames pages heads next new_heads new_next frame out to held are linked lt same is chains =
-    let now = ap (λ frames. set (set frames frame out) frame to) are ∙ set_twice (chains_of pages) frame out to ∙ ap (set (chains_of pages) frame) is in
+    let now = ap (λ frames. set (set frames frame out) frame to) are ∙ set-set (chains_of pages) frame out to ∙ ap (set (chains_of pages) frame) is in
     set_linked pages heads next new_heads new_next frame held linked lt same (subst (λ frames. AreChains frames new_heads new_next) now chains)
 
 -- frames without a page: each is followed by the next

@@ -1,22 +1,22 @@
 -- The ranks of resident pages are renewed.
-use Rattle.std.proofs.Common.{◌≡◌, ◌≢◌, ◌⊎◌, ℕ, suc, ◌+◌, ◌<◌, ◌≤◌, List, [], ◌∷◌, length, map, set, get_or, Option, Some, None, refl, sym, ◌∙◌, ap, subst, inl, inr, arith}
+use Rattle.std.proofs.Common.{◌≡◌, ◌≢◌, ◌⊎◌, ℕ, ◌+◌, ◌<◌, ◌≤◌, true, false, List, [], length, map, set, get_or, Option, Some, None, refl, sym, ◌∙◌, ap, subst, inl, inr, arith}
 use Rattle.std.specs.Option.{option_map}
 use Rattle.std.proofs.Math.ListN.{get_or-map as mapped}
-use Rattle.std.proofs.lemmas.Bool.{cases_eq, cases_lt}
+use Rattle.std.proofs.lemmas.Bool.{cases_eq, cases_lt, cases_Bool}
 use Rattle.std.proofs.lemmas.Option.{same_Some}
-use Rattle.std.proofs.lemmas.List.{set-get_or, get_or_past}
+use Rattle.std.proofs.lemmas.List.{set-get_or, get_or_past, length-map}
 use Rattle.warm_stamps.specs.declared.PageId.{PageId}
 use Rattle.warm_history.specs.Histories.{HistoryView, hist, refs}
 use Rattle.warm_rank.specs.declared.RankKey.{RankKey}
 use Rattle.warm_rank.specs.Keys.{rank_key}
 use Rattle.warm_devices.specs.Device.{DeviceState}
-use Rattle.warm_pool.specs.Frames.{FramesState, nth_frame, fresh_frame}
+use Rattle.warm_pool.specs.Frames.{FrameState, FramesState, nth_frame, fresh_frame}
 use Rattle.warm_pool.specs.State.{PoolState, IsPool, RankedBy, IsNowhere}
-use Rattle.warm_pool.specs.View.{frame_view, view_of, PoolView, FrameView}
+use Rattle.warm_pool.specs.View.{is_page, frame_view, view_of, PoolView, FrameView}
 use Rattle.warm_pool.specs.Keeping.{KeepsBytes}
 use Rattle.warm_pool.specs.Refreshing.{AgreeOutside, Renews, RenewsFrame}
 use Rattle.warm_pool.proofs.Slots.{at_set}
-use Rattle.warm_pool.proofs.Bytes.{same_page}
+use Rattle.warm_pool.proofs.Bytes.{page_found, found_page}
 use Rattle.warm_pool.proofs.KeepingLemmas.{same_bytes, more_bytes}
 use Rattle.warm_pool.proofs.Keeps.{IsAlike, pool_from, step_pool, step_view}
 
@@ -50,33 +50,30 @@ renews_none {s} w p key away = record { pages = λ i. refl; here = λ i e. absur
 
 -- the first k of the pages were renewed
 pub record Renewed (s t : PoolState) (h : HistoryView) (pages : List PageId) (k : ℕ) : Type 0 where
-  pub pool : IsPool t
   pub same : view_of t ≡ view_of s
   pub kept : KeepsBytes s t
   pub held : (i : ℕ) → (nth_frame t.frames i).page ≡ (nth_frame s.frames i).page
+  pub vacant : (i : ℕ) → (nth_frame s.frames i).page ≡ None → (nth_frame t.frames i).key ≡ (nth_frame s.frames i).key
   pub keys : (i : ℕ) (p : PageId) → (nth_frame s.frames i).page ≡ Some p
       → ((nth_frame t.frames i).key ≡ Some (rank_key p (hist (refs h) p)))
       ⊎ (((nth_frame t.frames i).key ≡ (nth_frame s.frames i).key) × ((j : ℕ) → j < k → get_or pages j p ≢ p))
 
-pub none_renewed : {s : PoolState} → IsPool s → (h : HistoryView) (pages : List PageId) → Renewed s s h pages 0
-none_renewed {s} w h pages = record { pool = w; same = refl; kept = same_bytes s; held = λ i. refl; keys = λ i p e. inr (refl, λ j lt. absurd (omega arith)) }
+pub none_renewed : (s : PoolState) (h : HistoryView) (pages : List PageId) → Renewed s s h pages 0
+none_renewed s h pages = record { same = refl; kept = same_bytes s; held = λ i. refl; vacant = λ i e. refl; keys = λ i p e. inr (refl, λ j lt. absurd (omega arith)) }
 
 page_cases : (p q : PageId) → (p ≡ q) ⊎ (p ≢ q)
-page_cases p q = elim (cases_eq p.dev q.dev) [
-  | inl a ↦ elim (cases_eq p.no q.no) [
-    | inl b ↦ inl (same_page p q a b)
-    | inr ne ↦ inr (λ e. ne (ap (λ r. r.no) e))
-  ]
-  | inr ne ↦ inr (λ e. ne (ap (λ r. r.dev) e))
+page_cases p q = elim (cases_Bool (is_page q (Some p))) [
+  | inl e ↦ inl (same_Some p q (page_found q (Some p) e))
+  | inr e ↦ inr (λ is. let no : true ≡ false = sym (found_page q (Some p) (ap Some is)) ∙ e in absurd (cc))
 ]
 
-pub one_renewed : {s t u : PoolState} (h : HistoryView) (pages : List PageId) (k : ℕ) (q : PageId) → Renewed s t h pages k → ((d : PageId) → get_or pages k d ≡ q) → IsPool u
+pub one_renewed : {s t u : PoolState} (h : HistoryView) (pages : List PageId) (k : ℕ) (q : PageId) → Renewed s t h pages k → ((d : PageId) → get_or pages k d ≡ q)
     → view_of u ≡ view_of t → KeepsBytes t u → Renews t q (rank_key q (hist (refs h) q)) u → Renewed s u h pages (k + 1)
-one_renewed {s} {t} {u} h pages k q r at w same kept n = record {
-  pool = w;
+one_renewed {s} {t} {u} h pages k q r at same kept n = record {
   same = same ∙ r.same;
   kept = more_bytes s t u r.kept kept;
   held = λ i. n.pages i ∙ r.held i;
+  vacant = λ i e. n.others i (λ o. let never : None ≡ Some q = sym (r.held i ∙ e) ∙ o in absurd (cc)) ∙ r.vacant i e;
   keys = λ i p e. elim (page_cases p q) [
     | inl is ↦ inl (n.here i (r.held i ∙ e ∙ ap Some is) ∙ ap (λ x. Some (rank_key x (hist (refs h) x))) (sym is))
     | inr ne ↦
@@ -101,8 +98,7 @@ all_renewed {s} {t} h pages k r all g ranked agree i = of_page (nth_frame s.fram
   where
     of_page : (o : Option PageId) → (nth_frame s.frames i).page ≡ o → (nth_frame t.frames i).key ≡ option_map (λ p. rank_key p (hist (refs h) p)) (nth_frame t.frames i).page
     of_page None e =
-        let none : (nth_frame t.frames i).page ≡ None = r.held i ∙ e in
-        (r.pool.bare i none).0 ∙ ap (option_map (λ p. rank_key p (hist (refs h) p))) (sym none)
+        r.vacant i e ∙ ranked i ∙ ap (option_map (λ p. rank_key p (hist (refs g) p))) e ∙ ap (option_map (λ p. rank_key p (hist (refs h) p))) (sym (r.held i ∙ e))
     of_page (Some p) e =
         let some : (nth_frame t.frames i).page ≡ Some p = r.held i ∙ e in
         elim (r.keys i p e) [
@@ -118,63 +114,48 @@ all_renewed {s} {t} h pages k r all g ranked agree i = of_page (nth_frame s.fram
 
 -- the pages of the first k frames were renewed
 pub record RenewedFirst (s t : PoolState) (h : HistoryView) (k : ℕ) : Type 0 where
-  pub pool : IsPool t
   pub same : view_of t ≡ view_of s
   pub kept : KeepsBytes s t
   pub count : length t.frames ≡ length s.frames
-  pub keys : (i : ℕ) (p : PageId) → i < k → (nth_frame t.frames i).page ≡ Some p → (nth_frame t.frames i).key ≡ Some (rank_key p (hist (refs h) p))
+  pub keys : (i : ℕ) → i < k → (nth_frame t.frames i).key ≡ option_map (λ p. rank_key p (hist (refs h) p)) (nth_frame t.frames i).page
 
-pub none_first : {s : PoolState} → IsPool s → (h : HistoryView) → RenewedFirst s s h 0
-none_first {s} w h = record { pool = w; same = refl; kept = same_bytes s; count = refl; keys = λ i p lt e. absurd (omega (arith, lt)) }
+pub none_first : (s : PoolState) (h : HistoryView) → RenewedFirst s s h 0
+none_first s h = record { same = refl; kept = same_bytes s; count = refl; keys = λ i lt. absurd (omega (arith, lt)) }
 
 -- as many frames are shown
 as_many_frames : (t u : PoolState) → view_of u ≡ view_of t → length u.frames ≡ length t.frames
-as_many_frames t u same = sym (count frame_view u.frames) ∙ ap (λ (v : PoolView). length v.frames) same ∙ count frame_view t.frames
-  where
-    count : {A B : Type 0} (f : A → B) (xs : List A) → length (map f xs) ≡ length xs
-    count f [] = refl
-    count f (x ∷ xs) = ap suc (count f xs)
+as_many_frames t u same = sym (length-map u.frames frame_view) ∙ ap (λ (v : PoolView). length v.frames) same ∙ length-map t.frames frame_view
 
--- the page in a frame is renewed
+-- the page in a frame is renewed, or there is none
 pub frame_renewed : {s u : PoolState} (at : ℕ) (h : HistoryView) (q : PageId) → IsPool s → (nth_frame s.frames at).page ≡ Some q → Renews s q (rank_key q (hist (refs h) q)) u → RenewsFrame s at h u
 frame_renewed {s} {u} at h q w there n = record {
   pages = n.pages;
-  here = λ p e. let same : p ≡ q = same_Some p q (sym e ∙ there) in n.here at there ∙ ap (λ x. Some (rank_key x (hist (refs h) x))) (sym same);
-  others = λ i p e apart. n.others i (λ o. apart (w.once i at q o there));
+  here = n.here at there ∙ sym (ap (option_map (λ p. rank_key p (hist (refs h) p))) (n.pages at ∙ there));
+  others = λ i apart. n.others i (λ o. apart (w.once i at q o there));
 }
 
-pub frame_bare : {s : PoolState} (at : ℕ) (h : HistoryView) → (nth_frame s.frames at).page ≡ None → RenewsFrame s at h s
-frame_bare {s} at h none = record {
+pub frame_bare : {s : PoolState} (at : ℕ) (h : HistoryView) → IsPool s → (nth_frame s.frames at).page ≡ None → RenewsFrame s at h s
+frame_bare {s} at h w none = record {
   pages = λ i. refl;
-  here = λ p e. (let never : Some p ≡ None = sym e ∙ none in absurd (cc));
-  others = λ i p e apart. refl;
+  here = (w.bare at none).0 ∙ sym (ap (option_map (λ p. rank_key p (hist (refs h) p))) none);
+  others = λ i apart. refl;
 }
 
 -- one frame more
-pub next_first : {s t u : PoolState} (h : HistoryView) (k : ℕ) → RenewedFirst s t h k → IsPool u → view_of u ≡ view_of t → KeepsBytes t u → RenewsFrame t k h u → RenewedFirst s u h (k + 1)
-next_first {s} {t} {u} h k r w same kept n = record {
-  pool = w;
+pub next_first : {s t u : PoolState} (h : HistoryView) (k : ℕ) → RenewedFirst s t h k → view_of u ≡ view_of t → KeepsBytes t u → RenewsFrame t k h u → RenewedFirst s u h (k + 1)
+next_first {s} {t} {u} h k r same kept n = record {
   same = same ∙ r.same;
   kept = more_bytes s t u r.kept kept;
   count = as_many_frames t u same ∙ r.count;
-  keys = λ i p lt e.
-      let was : (nth_frame t.frames i).page ≡ Some p = sym (n.pages i) ∙ e in
-      elim (cases_eq i k) [
-        | inl here ↦ ap (λ j. (nth_frame u.frames j).key) here ∙ n.here p (ap (λ j. (nth_frame t.frames j).page) (sym here) ∙ was)
-        | inr apart ↦ n.others i p was apart ∙ r.keys i p (omega (arith, lt, apart)) was
-      ];
+  keys = λ i lt. elim (cases_eq i k) [
+    | inl here ↦ subst (λ j. (nth_frame u.frames j).key ≡ option_map (λ p. rank_key p (hist (refs h) p)) (nth_frame u.frames j).page) (sym here) n.here
+    | inr apart ↦ n.others i apart ∙ r.keys i (omega (arith, lt, apart)) ∙ sym (ap (option_map (λ p. rank_key p (hist (refs h) p))) (n.pages i))
+  ];
 }
 
 -- after all of them the history ranks the pool
 pub all_first : {s t : PoolState} (h : HistoryView) (k : ℕ) → RenewedFirst s t h k → length t.frames ≤ k → RankedBy t h
-all_first {s} {t} h k r all i = of_page (nth_frame t.frames i).page refl
-  where
-    past : length t.frames ≤ i → (nth_frame t.frames i).page ≡ None
-    past le = ap (λ f. f.page) (get_or_past t.frames i (fresh_frame []) le)
-
-    of_page : (o : Option PageId) → (nth_frame t.frames i).page ≡ o → (nth_frame t.frames i).key ≡ option_map (λ p. rank_key p (hist (refs h) p)) (nth_frame t.frames i).page
-    of_page None e = (r.pool.bare i e).0 ∙ ap (option_map (λ p. rank_key p (hist (refs h) p))) (sym e)
-    of_page (Some p) e = elim (cases_lt i (length t.frames)) [
-      | inl lt ↦ r.keys i p (omega (arith, lt, all)) e ∙ ap (option_map (λ q. rank_key q (hist (refs h) q))) (sym e)
-      | inr le ↦ (let never : Some p ≡ None = sym e ∙ past le in absurd (cc))
-    ]
+all_first {s} {t} h k r all i = elim (cases_lt i (length t.frames)) [
+  | inl lt ↦ r.keys i (omega (arith, lt, all))
+  | inr le ↦ subst (λ (f : FrameState). f.key ≡ option_map (λ p. rank_key p (hist (refs h) p)) f.page) (sym (get_or_past t.frames i (fresh_frame []) le)) refl
+]

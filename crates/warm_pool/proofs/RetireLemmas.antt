@@ -1,11 +1,11 @@
 -- A pool one of whose devices was replaced.
-use Rattle.std.proofs.Common.{◌≡◌, ◌≢◌, ℕ, ◌<◌, ◌≤◌, cond, true, false, IsTrue, List, [], ◌∷◌, length, map, set, get_or, Option, Some, None, refl, sym, ap, ◌∙◌, subst, inl, inr, get_or-set_same, get_or-set_other}
+use Rattle.std.proofs.Common.{◌≡◌, ◌≢◌, ℕ, ◌<◌, ◌≤◌, cond, true, false, IsTrue, List, [], ◌∷◌, length, map, set, Option, Some, None, refl, sym, ap, ◌∙◌, subst, inl, inr, get_or-set_same, get_or-set_other}
 use Rattle.std.proofs.Math.Path.{ap₂}
 use Rattle.std.proofs.lemmas.Bool.{cases_eq, cases_Bool, eqb-true, eq-eqb, false≢true}
-use Rattle.std.proofs.lemmas.List.{length-map, length-set, map-set, set-get_or}
+use Rattle.std.proofs.lemmas.List.{length-map, length-set, map-set}
 use Rattle.warm_stamps.specs.declared.PageId.{PageId}
 use Rattle.warm_history.specs.Histories.{HistoryView}
-use Rattle.warm_devices.specs.Device.{DeviceState, SameShape, one_more, page_at}
+use Rattle.warm_devices.specs.Device.{DeviceState, SameShape, page_at}
 use Rattle.warm_pool.specs.Frames.{FrameState, FramesState, nth_frame, vacated}
 use Rattle.warm_pool.specs.State.{PoolState, IsPool, RankedBy, nth_device, no_device}
 use Rattle.warm_pool.specs.View.{stored, view_of, frame_view, device_view, is_page, bytes_in, FrameView, HasPage, contents_at}
@@ -14,9 +14,11 @@ use Rattle.warm_pool.specs.WritingBack.{is_on, KeptDevices, PutsDown, cleaned_ch
 use Rattle.warm_pool.specs.Retiring.{Retired, MayRetire, IsFixedOn, emptied, IsFixedIn, AreUnfixed, AreClean, MakesWay, retired, vacate_if, vacated_chosen}
 use Rattle.warm_pool.specs.Flushes.{IsFlushed, FlushFails}
 use Rattle.warm_pool.proofs.FlushLemmas.{same_shape}
+use Rattle.warm_pool.proofs.Slots.{at_set}
+use Rattle.warm_pool.proofs.DeviceSteps.{failures_kept, failures_grown}
 use Rattle.warm_pool.proofs.Bytes.{bytes_nowhere, contents_seen, device_seen, frame_seen, page_found}
 use Rattle.warm_pool.proofs.Keeps.{pool_from, view_of_kept}
-use Rattle.warm_pool.proofs.SettleLemmas.{AreAlike, counts, count_at, alike_kept, down_view, flush_down, flush_fails_at}
+use Rattle.warm_pool.proofs.SettleLemmas.{AreAlike, counts, alike_kept, down_view, flush_down, flush_fails_at}
 use Rattle.warm_pool.proofs.VacateLemmas.{clean_to}
 use Rattle.warm_pool.proofs.EmptyLemmas.{nth_vacated, vacated_pool, vacated_ranked, unfixed_to}
 
@@ -25,51 +27,28 @@ use Rattle.warm_pool.proofs.EmptyLemmas.{nth_vacated, vacated_pool, vacated_rank
 pub exchanged : {A : Type 0} (f : A → DeviceState) (xs : List A) (at : ℕ) (x y : A) → y ≡ x → map f (set xs at y) ≡ set (map f xs) at (f x)
 exchanged f xs at x y same = map-set f xs at y ∙ ap (λ z. set (map f xs) at (f z)) same
 
-module _ (devices : List DeviceState) (k : ℕ) (after : DeviceState) (lt : k < length devices) where
-  abbrev changed : List DeviceState
-  changed = set devices k after
-
-  here : nth_device changed k ≡ after
-  here = get_or-set_same devices k after no_device lt
-
-  other : (j : ℕ) → j ≢ k → nth_device changed j ≡ nth_device devices j
-  other j ne = get_or-set_other devices k j after no_device ne
-
-  pub one_alike : SameShape (nth_device devices k) after → after.contents ≡ (nth_device devices k).contents → AreAlike devices changed
-  one_alike shape contents = record {
-    count = length-set devices k after;
-    shape = λ j. elim (cases_eq j k) [
-      | inl e ↦ subst (λ m. SameShape (nth_device devices m) (nth_device changed m)) (sym e) (subst (λ d. SameShape (nth_device devices k) d) (sym here) shape)
-      | inr ne ↦ subst (λ d. SameShape (nth_device devices j) d) (sym (other j ne)) (same_shape (nth_device devices j))
-    ];
-    contents = λ j. elim (cases_eq j k) [
-      | inl e ↦ subst (λ m. (nth_device changed m).contents ≡ (nth_device devices m).contents) (sym e) (ap (λ d. d.contents) here ∙ contents)
-      | inr ne ↦ ap (λ d. d.contents) (other j ne)
-    ];
-  }
+pub one_alike : (devices : List DeviceState) (k : ℕ) (after : DeviceState) → k < length devices → SameShape (nth_device devices k) after → after.contents ≡ (nth_device devices k).contents → AreAlike devices (set devices k after)
+one_alike devices k after lt shape contents = record {
+  count = length-set devices k after;
+  each = at_set no_device (λ j d. SameShape (nth_device devices j) d × (d.contents ≡ (nth_device devices j).contents)) devices k after lt (shape, contents) (λ j ne. (same_shape (nth_device devices j), refl));
+}
 
 pub one_kept : (frames : List FrameState) (old new : List DeviceState) (k : ℕ) (after : DeviceState) → k < length old → new ≡ set old k after → SameShape (nth_device old k) after → after.contents ≡ (nth_device old k).contents → KeptDevices frames old new
 one_kept frames old new k after lt is shape contents = alike_kept frames old new (subst (λ ds. AreAlike old ds) (sym is) (one_alike old k after lt shape contents))
-
-same_counts : (devices : List DeviceState) (k : ℕ) (after : DeviceState) → after.failures ≡ (nth_device devices k).failures → counts (set devices k after) ≡ counts devices
-same_counts devices k after same = map-set (λ d. d.failures) devices k after ∙ ap (λ n. set (counts devices) k n) (same ∙ sym (count_at devices k)) ∙ set-get_or (counts devices) k 0
 
 -- the flush of the device after its pages were put down
 pub flush_one_down : (which : Option ℕ) (n : ℕ) (s t u : PoolState) (k : ℕ) (after : DeviceState) → PutsDown (cleaned_chosen which n s.frames) s t → k < length t.devices → u.frames ≡ t.frames → (u.page_size ≡ t.page_size) × (u.spare ≡ t.spare) → u.devices ≡ set t.devices k after → IsFlushed (nth_device t.devices k) after → PutsDown (cleaned_chosen which n s.frames) s u
 flush_one_down which n s t u k after down lt frames same is flushed =
     flush_down which n s t u down frames same
     (subst (λ ds. AreAlike t.devices ds) (sym is) (one_alike t.devices k after lt flushed.shape flushed.contents))
-    (ap counts is ∙ same_counts t.devices k after flushed.failures)
+    (failures_kept t.devices u.devices k after is flushed.failures)
 
 pub flush_one_fails : (which : Option ℕ) (n : ℕ) (s t u : PoolState) (k : ℕ) (after : DeviceState) → PutsDown (cleaned_chosen which n s.frames) s t → k < length t.devices → u.frames ≡ t.frames → (u.page_size ≡ t.page_size) × (u.spare ≡ t.spare) → u.devices ≡ set t.devices k after → FlushFails (nth_device t.devices k) after → FailsAt (view_of s) k (view_of u)
 flush_one_fails which n s t u k after down lt frames same is fails =
     let alike : AreAlike t.devices u.devices = subst (λ ds. AreAlike t.devices ds) (sym is) (one_alike t.devices k after lt fails.shape fails.contents) in
-    let grown : counts u.devices ≡ set (counts t.devices) k (one_more (get_or (counts t.devices) k 0)) =
-    ap counts is ∙ map-set (λ d. d.failures) t.devices k after ∙ ap (λ m. set (counts t.devices) k m) (fails.failures ∙ ap one_more (sym (count_at t.devices k)))
-    in
     let moved : view_of u ≡ view_of (record t { devices = u.devices }) = λ i. view_of (record { page_size = same.0 i; spare = same.1 i; frames = frames i; devices = u.devices }) in
     let seen : view_of u ≡ record (view_of t) { failures = counts u.devices } = moved ∙ view_of_kept t u.devices (alike_kept t.frames t.devices u.devices alike) in
-    flush_fails_at which n s t u k down (seen ∙ (λ i. record (view_of t) { failures = grown i })) lt fails.may
+    flush_fails_at which n s t u k down (seen ∙ (λ i. record (view_of t) { failures = failures_grown t.devices u.devices k after is fails.failures i })) lt fails.may
 
 -- Frames of which those of one device were emptied
 
@@ -114,7 +93,14 @@ seen_vacated dev (f ∷ frames) = ap₂ (λ (x : FrameView) (rest : List FrameVi
 
 -- The pool with the other device
 
-module _ (dev : ℕ) (t : PoolState) (device : DeviceState) (w : IsPool t) (there : dev < length t.devices) (size : device.page_size ≡ t.page_size) (unfixed : AreUnfixed (Some dev) t.frames) where
+pub may_retire : (s : PoolState) (dev : ℕ) (device : DeviceState) → dev < length s.devices → device.page_size ≡ s.page_size → AreUnfixed (Some dev) s.frames → MayRetire (view_of s) dev device
+may_retire s dev device there size unfixed = record {
+  there = subst (λ n. dev < n) (sym (length-map s.devices _)) there;
+  size = size;
+  unfixed = λ i on. ap (λ f. f.fixes) (frame_seen s i) ∙ unfixed i (subst (λ f. IsTrue (is_on dev f.page)) (frame_seen s i) on);
+}
+
+module _ (dev : ℕ) (t : PoolState) (device : DeviceState) (there : dev < length t.devices) (size : device.page_size ≡ t.page_size) (unfixed : AreUnfixed (Some dev) t.frames) where
   abbrev u : PoolState
   u = retired t dev device
 
@@ -127,8 +113,8 @@ module _ (dev : ℕ) (t : PoolState) (device : DeviceState) (w : IsPool t) (ther
   same_count : length u.devices ≡ length t.devices
   same_count = length-set t.devices dev device
 
-  pub retired_pool : IsPool u
-  retired_pool =
+  pub retired_pool : IsPool t → IsPool u
+  retired_pool w =
       let v = vacated_pool (Some dev) t unfixed w in
       record {
         some_frames = v.some_frames;
@@ -170,11 +156,7 @@ module _ (dev : ℕ) (t : PoolState) (device : DeviceState) (w : IsPool t) (ther
 
   retired_seen : Retired (view_of t) dev device (view_of u)
   retired_seen = record {
-    may = record {
-      there = subst (λ n. dev < n) (sym (length-map t.devices _)) there;
-      size = size;
-      unfixed = λ i on. ap (λ f. f.fixes) (frame_seen t i) ∙ unfixed i (subst (λ f. IsTrue (is_on dev f.page)) (frame_seen t i) on);
-    };
+    may = may_retire t dev device there size unfixed;
     becomes = λ i. record {
       page_size = t.page_size;
       devices = map-set device_view t.devices dev device i;
@@ -195,17 +177,9 @@ pub took_in : (old new : FramesState) (spare : ℕ) (devices later : List Device
 took_in old new spare devices later dev device w there size unfixed is becomes =
     subst (λ (f : FramesState). IsPool (pool_from f spare later)) (sym is)
     (subst (λ ds. IsPool (pool_from (record old { frames = vacated_chosen (Some dev) old.frames }) spare ds)) (sym becomes)
-    (retired_pool dev (pool_from old spare devices) device w there size unfixed))
+    (retired_pool dev (pool_from old spare devices) device there size unfixed w))
 
--- Why a device isn't retired
-
-pub may_retire : (s : PoolState) (dev : ℕ) (device : DeviceState) → IsPool s → dev < length s.devices → device.page_size ≡ s.page_size → AreUnfixed (Some dev) s.frames → MayRetire (view_of s) dev device
-may_retire s dev device w there size unfixed = record {
-  there = subst (λ n. dev < n) (sym (length-map s.devices _)) there;
-  size = size;
-  unfixed = λ i on. ap (λ f. f.fixes) (frame_seen s i) ∙ unfixed i (subst (λ f. IsTrue (is_on dev f.page)) (frame_seen s i) on);
-}
-
+-- why a device isn't retired
 pub fixed_on : (s : PoolState) (dev : ℕ) → IsPool s → IsFixedIn (Some dev) s.frames → IsFixedOn (view_of s) dev
 fixed_on s dev w fixed = record {
   frame = fixed.frame;
@@ -225,14 +199,10 @@ way_unfixed s t dev size way = unfixed_to (Some dev) (length s.frames) s.frames 
 pub way_clean : (s t : PoolState) (dev size : ℕ) → MakesWay s dev size t → AreClean (Some dev) t.frames
 way_clean s t dev size way = clean_to (Some dev) s.frames t.frames way.down.becomes
 
-pub retire_pool : (s t u : PoolState) (dev size : ℕ) (device : DeviceState) → IsPool t → MakesWay s dev size t → size ≡ device.page_size → u ≡ retired t dev device → IsPool u
-retire_pool s t u dev size device w way same is =
-    subst (λ x. IsPool x) (sym is) (retired_pool dev t device w (way_there s t dev size way) (sym same ∙ way.size ∙ sym way.down.same.0) (way_unfixed s t dev size way))
-
-pub retire_view : (s t u : PoolState) (dev size : ℕ) (device : DeviceState) → IsPool t → MakesWay s dev size t → size ≡ device.page_size → u ≡ retired t dev device → Retired (view_of s) dev device (view_of u)
-retire_view s t u dev size device w way same is =
+pub retire_view : (s t u : PoolState) (dev size : ℕ) (device : DeviceState) → MakesWay s dev size t → size ≡ device.page_size → u ≡ retired t dev device → Retired (view_of s) dev device (view_of u)
+retire_view s t u dev size device way same is =
     subst (λ x. Retired (view_of s) dev device (view_of x)) (sym is)
-    (retired_view dev t device w (way_there s t dev size way) (sym same ∙ way.size ∙ sym way.down.same.0) (way_unfixed s t dev size way) s (down_view (Some dev) (length s.frames) s t way.down))
+    (retired_view dev t device (way_there s t dev size way) (sym same ∙ way.size ∙ sym way.down.same.0) (way_unfixed s t dev size way) s (down_view (Some dev) (length s.frames) s t way.down))
 
-pub retire_ranked : (t u : PoolState) (dev : ℕ) (device : DeviceState) (h : HistoryView) → IsPool t → u ≡ retired t dev device → RankedBy t h → RankedBy u h
-retire_ranked t u dev device h w is ranked = subst (λ x. RankedBy x h) (sym is) (vacated_ranked (Some dev) t.frames h ranked)
+pub retire_ranked : (t u : PoolState) (dev : ℕ) (device : DeviceState) (h : HistoryView) → u ≡ retired t dev device → RankedBy t h → RankedBy u h
+retire_ranked t u dev device h is ranked = subst (λ x. RankedBy x h) (sym is) (vacated_ranked (Some dev) t.frames h ranked)

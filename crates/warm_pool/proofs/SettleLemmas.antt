@@ -1,9 +1,9 @@
 -- A pool whose pages were put down, and whose devices were flushed, is to a caller what it was.
-use Rattle.std.proofs.Common.{◌≡◌, ◌≢◌, ℕ, zero, suc, ◌<◌, ◌≤◌, cond, Bool, true, false, List, [], ◌∷◌, length, map, set, get_or, Option, None, refl, sym, ap, ◌∙◌, subst, inl, inr, arith, get_or-set_same, get_or-set_other}
+use Rattle.std.proofs.Common.{◌≡◌, ◌≢◌, ℕ, zero, suc, ◌<◌, ◌≤◌, cond, Bool, true, false, List, [], ◌∷◌, length, map, set, get_or, Option, None, refl, sym, ap, ◌∙◌, subst, inl, inr, arith}
 use Rattle.std.proofs.Math.Path.{ap₂}
 use Rattle.std.specs.Option.{option_map}
 use Rattle.std.proofs.lemmas.Bool.{cases_eq, cases_lt}
-use Rattle.std.proofs.lemmas.List.{length-set, length-map, get_or_past, ext_get_or}
+use Rattle.std.proofs.lemmas.List.{length-set, length-map, map-set, get_or_past}
 use Rattle.std.proofs.Math.ListN.{get_or-map as mapped}
 use Rattle.warm_stamps.specs.declared.PageId.{PageId}
 use Rattle.warm_history.specs.Histories.{HistoryView, hist, refs}
@@ -16,8 +16,8 @@ use Rattle.warm_pool.specs.Keeping.{FailsAt}
 use Rattle.warm_pool.specs.WritingBack.{WriteBackFails, KeptDevices, PutsDown, clean_if, cleaned_chosen, is_chosen}
 use Rattle.warm_pool.specs.Flushes.{FlushedTo, FlushStops, NoneWaits}
 use Rattle.warm_pool.proofs.FlushLemmas.{same_shape}
-use Rattle.warm_pool.proofs.ClosingLemmas.{nth_page, kept_both}
-use Rattle.warm_pool.proofs.Slots.{same_maps}
+use Rattle.warm_pool.proofs.ClosingLemmas.{clean_each, nth_page, kept_both}
+use Rattle.warm_pool.proofs.Slots.{at_set, same_maps}
 use Rattle.warm_pool.proofs.Bytes.{contents_same, device_seen}
 use Rattle.warm_pool.proofs.Keeps.{view_of_kept}
 
@@ -25,9 +25,6 @@ use Rattle.warm_pool.proofs.Keeps.{view_of_kept}
 
 seen_clean : (which : Option ℕ) (f : FrameState) → frame_view (clean_if which f) ≡ frame_view f
 seen_clean which f = elim (is_chosen which f.page) as (λ t. frame_view (cond t (cleaned f) f) ≡ frame_view f) [ true ↦ refl | false ↦ refl ]
-
-clean_key : (which : Option ℕ) (f : FrameState) → (clean_if which f).key ≡ f.key
-clean_key which f = elim (is_chosen which f.page) as (λ t. (cond t (cleaned f) f).key ≡ f.key) [ true ↦ refl | false ↦ refl ]
 
 held_clean : (which : Option ℕ) (f : FrameState) (p : PageId) (others : List ℕ) → cond (is_page p (clean_if which f).page) (clean_if which f).bytes others ≡ cond (is_page p f.page) f.bytes others
 held_clean which f p others = elim (is_chosen which f.page) as (λ t. cond (is_page p (cond t (cleaned f) f).page) (cond t (cleaned f) f).bytes others ≡ cond (is_page p f.page) f.bytes others) [ true ↦ refl | false ↦ refl ]
@@ -43,10 +40,7 @@ bytes_to which (suc n) [] p others = refl
 bytes_to which (suc n) (f ∷ frames) p others = held_clean which f p (bytes_in (cleaned_chosen which n frames) p others) ∙ ap (λ rest. cond (is_page p f.page) f.bytes rest) (bytes_to which n frames p others)
 
 key_to : (which : Option ℕ) (n : ℕ) (frames : List FrameState) (i : ℕ) → (nth_frame (cleaned_chosen which n frames) i).key ≡ (nth_frame frames i).key
-key_to which zero frames i = refl
-key_to which (suc n) [] i = refl
-key_to which (suc n) (f ∷ frames) zero = clean_key which f
-key_to which (suc n) (f ∷ frames) (suc i) = key_to which n frames i
+key_to which n frames i = clean_each (λ f. f.key ≡ (nth_frame frames i).key) which n frames i refl refl
 
 all_clean : (frames : List FrameState) (i : ℕ) → (nth_frame (cleaned_chosen None (length frames) frames) i).dirty ≡ false
 all_clean [] i = refl
@@ -81,24 +75,23 @@ ranked_to which n old new h becomes ranked i =
 
 pub record AreAlike (old new : List DeviceState) : Type 0 where
   pub count : length new ≡ length old
-  pub shape : (k : ℕ) → SameShape (nth_device old k) (nth_device new k)
-  pub contents : (k : ℕ) → (nth_device new k).contents ≡ (nth_device old k).contents
+  pub each : (k : ℕ) → SameShape (nth_device old k) (nth_device new k) × ((nth_device new k).contents ≡ (nth_device old k).contents)
 
 pub alike_kept : (frames : List FrameState) (old new : List DeviceState) → AreAlike old new → KeptDevices frames old new
 alike_kept frames old new alike =
-    let stays : (p : PageId) → stored new p ≡ stored old p = λ p. ap₂ (λ (honest : Bool) (contents : List (List ℕ)). cond honest (page_at contents p.no) []) (alike.shape p.dev).honest (alike.contents p.dev) in
-    record { count = alike.count; shape = alike.shape; absent = λ p away. stays p; clean = λ i p holds is. stays p }
+    let stays : (p : PageId) → stored new p ≡ stored old p = λ p. ap₂ (λ (honest : Bool) (contents : List (List ℕ)). cond honest (page_at contents p.no) []) (alike.each p.dev).0.honest (alike.each p.dev).1 in
+    record { count = alike.count; shape = λ k. (alike.each k).0; absent = λ p away. stays p; clean = λ i p holds is. stays p }
+
+-- a device that is as it was
+untouched : (d e : DeviceState) → e ≡ d → SameShape d e × (e.contents ≡ d.contents)
+untouched d e is = (subst (λ x. SameShape d x) (sym is) (same_shape d), ap (λ x. x.contents) is)
 
 pub flushed_alike : (n : ℕ) (old new : List DeviceState) → FlushedTo n old new → AreAlike old new
 flushed_alike n old new to = record {
   count = to.count;
-  shape = λ k. elim (cases_lt k n) [
-    | inl lt ↦ (to.done k lt).shape
-    | inr ge ↦ subst (λ d. SameShape (nth_device old k) d) (sym (to.rest k ge)) (same_shape (nth_device old k))
-  ];
-  contents = λ k. elim (cases_lt k n) [
-    | inl lt ↦ (to.done k lt).contents
-    | inr ge ↦ ap (λ d. d.contents) (to.rest k ge)
+  each = λ k. elim (cases_lt k n) [
+    | inl lt ↦ ((to.done k lt).shape, (to.done k lt).contents)
+    | inr ge ↦ untouched (nth_device old k) (nth_device new k) (to.rest k ge)
   ];
 }
 
@@ -117,18 +110,11 @@ flushed_quiet n old new all to k = elim (cases_lt k n) [
 pub stopped_alike : (old new : List DeviceState) → FlushStops old new → AreAlike old new
 stopped_alike old new stops = record {
   count = stops.count;
-  shape = λ k. elim (cases_eq k stops.device) [
-    | inl e ↦ subst (λ m. SameShape (nth_device old m) (nth_device new m)) (sym e) stops.fails.shape
+  each = λ k. elim (cases_eq k stops.device) [
+    | inl e ↦ subst (λ m. SameShape (nth_device old m) (nth_device new m) × ((nth_device new m).contents ≡ (nth_device old m).contents)) (sym e) (stops.fails.shape, stops.fails.contents)
     | inr ne ↦ elim (cases_lt k stops.device) [
-      | inl lt ↦ (stops.done k lt).shape
-      | inr ge ↦ subst (λ d. SameShape (nth_device old k) d) (sym (stops.rest k (omega arith))) (same_shape (nth_device old k))
-    ]
-  ];
-  contents = λ k. elim (cases_eq k stops.device) [
-    | inl e ↦ subst (λ m. (nth_device new m).contents ≡ (nth_device old m).contents) (sym e) stops.fails.contents
-    | inr ne ↦ elim (cases_lt k stops.device) [
-      | inl lt ↦ (stops.done k lt).contents
-      | inr ge ↦ ap (λ d. d.contents) (stops.rest k (omega arith))
+      | inl lt ↦ ((stops.done k lt).shape, (stops.done k lt).contents)
+      | inr ge ↦ untouched (nth_device old k) (nth_device new k) (stops.rest k (omega arith))
     ]
   ];
 }
@@ -142,13 +128,10 @@ count_at devices k = mapped (λ d. d.failures) devices k no_device
 stopped_failures : (old new : List DeviceState) (stops : FlushStops old new) → counts new ≡ set (counts old) stops.device (one_more (get_or (counts old) stops.device 0))
 stopped_failures old new stops =
     let k : ℕ = stops.device in
-    let more : ℕ = one_more (get_or (counts old) k 0) in
-    let there : k < length (counts old) = subst (λ n. k < n) (sym (length-map old (λ d. d.failures))) stops.there in
-    let room : length (counts new) ≡ length (set (counts old) k more) = length-map new (λ d. d.failures) ∙ stops.count ∙ sym (length-map old (λ d. d.failures)) ∙ sym (length-set (counts old) k more) in
-    ext_get_or 0 (counts new) (set (counts old) k more) room (λ i _. elim (cases_eq i k) [
-      | inl e ↦ subst (λ m. get_or (counts new) m 0 ≡ get_or (set (counts old) k more) m 0) (sym e) (count_at new k ∙ stops.fails.failures ∙ ap one_more (sym (count_at old k)) ∙ sym (get_or-set_same (counts old) k more 0 there))
-      | inr ne ↦ count_at new i ∙ same_elsewhere i ne ∙ sym (count_at old i) ∙ sym (get_or-set_other (counts old) k i more 0 ne)
-    ])
+    let e : DeviceState = nth_device new k in
+    same_maps (λ d. d.failures) no_device new (set old k e) (stops.count ∙ sym (length-set old k e))
+    (at_set no_device (λ i d. (nth_device new i).failures ≡ d.failures) old k e stops.there refl same_elsewhere)
+    ∙ map-set (λ d. d.failures) old k e ∙ ap (set (counts old) k) (stops.fails.failures ∙ ap one_more (sym (count_at old k)))
   where
     same_elsewhere : (i : ℕ) → i ≢ stops.device → (nth_device new i).failures ≡ (nth_device old i).failures
     same_elsewhere i ne = elim (cases_lt i stops.device) [

@@ -13,8 +13,8 @@ use Rattle.warm_pool.specs.View.{frame_view, view_of, PoolView, FrameView}
 use Rattle.warm_pool.specs.WritingBack.{KeptDevices, Cleans, CleanFails}
 use Rattle.warm_pool.specs.DeviceCalls.{PageWrite}
 use Rattle.warm_pool.proofs.Keeps.{pool_from, set_keeps_pool, view-set, devices_keep_pool, view_of_kept}
-use Rattle.warm_pool.proofs.FlushLemmas.{same_shape}
-use Rattle.warm_pool.proofs.DeviceSteps.{write_keeps, failures_kept, fails_at, may_fail}
+use Rattle.warm_pool.proofs.FlushLemmas.{same_shape, may_fail}
+use Rattle.warm_pool.proofs.DeviceSteps.{write_keeps, failures_kept, fails_at}
 use Rattle.warm_pool.proofs.Loads.{Failed, on_ok}
 
 -- a page q in frame i that was written to was written to its device
@@ -48,11 +48,11 @@ module _ (s : PoolState) (new : List DeviceState) (i : ℕ) (q : PageId) (bytes 
     holds = h.holds;
     dirty = h.dirty;
     frames = refl;
-    fails = fails_at s new q.dev h.call.after device h.call.becomes kept (may_fail (nth_device s.devices q.dev).unfailing f.fault result f.is h.call.unfailing) grown;
+    fails = fails_at s new q.dev h.call.after device h.call.becomes kept (may_fail (nth_device s.devices q.dev).unfailing f.fault result f.is h.call.call.unfailing) grown;
   }
     where
       grown : h.call.after.failures ≡ one_more (nth_device s.devices q.dev).failures
-      grown = (subst (λ r. CountsFault Write r (nth_device s.devices q.dev) h.call.after) f.is h.call.faults).1
+      grown = (subst (λ r. CountsFault Write r (nth_device s.devices q.dev) h.call.after) f.is h.call.call.faults).1
 
   module _ (ok : result ≡ Ok tt) where
     after_is : nth_device new q.dev ≡ h.call.after
@@ -60,7 +60,7 @@ module _ (s : PoolState) (new : List DeviceState) (i : ℕ) (q : PageId) (bytes 
 
     on_device : IsTrue (nth_device new q.dev).honest → (nth_frame s.frames i).bytes ≡ page_at (nth_device new q.dev).contents q.no
     on_device o =
-        sym h.bytes_are ∙ sym (on_ok result ok h.call.written (subst IsTrue (kept.shape q.dev).honest o)) ∙ ap (λ d. page_at d.contents q.no) (sym after_is)
+        sym h.bytes_are ∙ sym (on_ok result ok h.call.call.written (subst IsTrue (kept.shape q.dev).honest o)) ∙ ap (λ d. page_at d.contents q.no) (sym after_is)
 
     pub cleaned_pool : IsPool (record s { frames = set s.frames i (cleaned (nth_frame s.frames i)); devices = new })
     cleaned_pool = set_keeps_pool (record s { devices = new }) i (cleaned (nth_frame s.frames i)) (record {
@@ -84,7 +84,7 @@ module _ (s : PoolState) (new : List DeviceState) (i : ℕ) (q : PageId) (bytes 
     }
       where
         same : h.call.after.failures ≡ (nth_device s.devices q.dev).failures
-        same = subst (λ r. CountsFault Write r (nth_device s.devices q.dev) h.call.after) ok h.call.faults
+        same = subst (λ r. CountsFault Write r (nth_device s.devices q.dev) h.call.after) ok h.call.call.faults
 
 -- a frame that isn't dirty is clean already
 pub already_clean : (s : PoolState) (i : ℕ) → (nth_frame s.frames i).dirty ≡ false → Cleans s i s

@@ -9,23 +9,30 @@ use Rattle.warm_pool.specs.State.{nth_device}
 abbrev pub AreOfSize : ℕ → ℕ → List DeviceState → Type 0
 AreOfSize size n devices = (k : ℕ) → k < n → (nth_device devices k).page_size ≡ size
 
--- page n of device k was read into bytes
+-- page n of a device was read into bytes
+pub record ReadsPage (d after : DeviceState) (n : ℕ) (bytes : List ℕ) (result : Result (Unit {0}) DeviceFault) : Type 0 where
+  pub shape : SameShape d after
+  pub faults : CountsFault Read result d after
+  pub unfailing : IsTrue d.unfailing → IsOk result
+  pub waiting : after.waiting ≡ d.waiting
+  pub contents : after.contents ≡ d.contents
+  pub read : OnOk result (IsTrue d.honest → bytes ≡ page_at d.contents n)
+
+-- bytes were written to page n of a device
+pub record WritesPage (d after : DeviceState) (n : ℕ) (bytes : List ℕ) (result : Result (Unit {0}) DeviceFault) : Type 0 where
+  pub shape : SameShape d after
+  pub faults : CountsFault Write result d after
+  pub unfailing : IsTrue d.unfailing → IsOk result
+  pub others : ChangesPage n d.contents after.contents
+  pub written : OnOk result (IsTrue d.honest → page_at after.contents n ≡ bytes)
+
+-- the same, of device k of a list
 pub record PageRead (old new : List DeviceState) (k n : ℕ) (bytes : List ℕ) (result : Result (Unit {0}) DeviceFault) : Type 0 where
   pub after : DeviceState
   pub becomes : new ≡ set old k after
-  pub shape : SameShape (nth_device old k) after
-  pub faults : CountsFault Read result (nth_device old k) after
-  pub unfailing : IsTrue (nth_device old k).unfailing → IsOk result
-  pub waiting : after.waiting ≡ (nth_device old k).waiting
-  pub contents : after.contents ≡ (nth_device old k).contents
-  pub read : OnOk result (IsTrue (nth_device old k).honest → bytes ≡ page_at (nth_device old k).contents n)
+  pub call : ReadsPage (nth_device old k) after n bytes result
 
--- bytes were written to page n of device k
 pub record PageWrite (old new : List DeviceState) (k n : ℕ) (bytes : List ℕ) (result : Result (Unit {0}) DeviceFault) : Type 0 where
   pub after : DeviceState
   pub becomes : new ≡ set old k after
-  pub shape : SameShape (nth_device old k) after
-  pub faults : CountsFault Write result (nth_device old k) after
-  pub unfailing : IsTrue (nth_device old k).unfailing → IsOk result
-  pub others : ChangesPage n (nth_device old k).contents after.contents
-  pub written : OnOk result (IsTrue (nth_device old k).honest → page_at after.contents n ≡ bytes)
+  pub call : WritesPage (nth_device old k) after n bytes result

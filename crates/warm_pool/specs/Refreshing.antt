@@ -1,5 +1,6 @@
 -- Renewing ranks.
 use Rattle.std.specs.Prelude.{ℕ, ◌≡◌, ◌≢◌, List, Some, Contains}
+use Rattle.std.specs.Option.{option_map}
 use Rattle.warm_stamps.specs.declared.PageId.{PageId}
 use Rattle.warm_history.specs.Histories.{HistoryView, hist, refs}
 use Rattle.warm_pool.specs.Frames.{nth_frame}
@@ -17,11 +18,11 @@ pub record Renews (old : PoolState) (p : PageId) (key : RankKey) (new : PoolStat
   pub here : (i : ℕ) → (nth_frame old.frames i).page ≡ Some p → (nth_frame new.frames i).key ≡ Some key
   pub others : (i : ℕ) → (nth_frame old.frames i).page ≢ Some p → (nth_frame new.frames i).key ≡ (nth_frame old.frames i).key
 
--- the page in this frame, if there is one, has the rank that the history gives it, and pages in others have the ranks that they had
+-- this frame has the rank that the history gives its page, if it has one, and the others have the ranks that they had
 pub record RenewsFrame (old : PoolState) (at : ℕ) (h : HistoryView) (new : PoolState) : Type 0 where
   pub pages : (i : ℕ) → (nth_frame new.frames i).page ≡ (nth_frame old.frames i).page
-  pub here : (p : PageId) → (nth_frame old.frames at).page ≡ Some p → (nth_frame new.frames at).key ≡ Some (rank_key p (hist (refs h) p))
-  pub others : (i : ℕ) (p : PageId) → (nth_frame old.frames i).page ≡ Some p → i ≢ at → (nth_frame new.frames i).key ≡ (nth_frame old.frames i).key
+  pub here : (nth_frame new.frames at).key ≡ option_map (λ p. rank_key p (hist (refs h) p)) (nth_frame new.frames at).page
+  pub others : (i : ℕ) → i ≢ at → (nth_frame new.frames i).key ≡ (nth_frame old.frames i).key
 
 -- a history that agrees with one that ranked the old pool, but for these pages, ranks the new one
 abbrev pub RefreshesRanks : List PageId → HistoryView → PoolState → PoolState → Type 0

@@ -1,9 +1,7 @@
 //! Writing a pool's pages back, and emptying it.
-ghost use Rattle.std.specs.Prelude.{◌≡◌, ℕ, List, ◌<◌, ◌+◌, length, set, map, true, false, Some, None, Option, IsTrue, ◌↔◌, OnOk, OnErr, IfErr, MatchBool};
-ghost use Rattle.warm_history.specs.Histories.{HistoryView};
+ghost use Rattle.std.specs.Prelude.{◌≡◌, ◌<◌, length, true, false, Some, None, Option, OnOk, OnErr, IfErr, MatchBool};
 ghost use Rattle.warm_devices.specs.Device.{DeviceState};
-ghost use Rattle.warm_pool.specs.Frames.{nth_frame};
-ghost use Rattle.warm_pool.specs.State.{IsPool, IsSettled, IsRankedByAll, nth_device};
+ghost use Rattle.warm_pool.specs.State.{IsSettled, IsRankedByAll, nth_device};
 ghost use Rattle.warm_pool.specs.View.{IsUnfixed, view_of};
 ghost use Rattle.warm_pool.specs.Keeping.{FailsAt, KeepsRanks};
 ghost use Rattle.warm_pool.specs.WritingBack.{WriteBackFails, PutsAllDown, PutsOneDown, ChosenFails, StopsAt, clean_if};
@@ -124,7 +122,6 @@ impl<D: PageDevice> Pool<D> {
 
     // Writes the pages of a device back and flushes it, where a device with pages of this size may take its place.
     fn make_way(&mut self, dev: u16, page_size: usize) -> Result<(), PoolFault>
-        ensures pool { IsPool self.new }
         ensures way { OnOk result (MakesWay
             self.old dev page_size self.new) }
         ensures refused { IfErr result (λ fault. (device : DeviceState) → device.page_size
@@ -150,7 +147,6 @@ impl<D: PageDevice> Pool<D> {
     // Writes the pages of one device back and flushes it.
     fn settle_device(&mut self, dev: u16) -> Result<(), DeviceFault>
         requires there { dev < length self.old.devices }
-        ensures pool { IsPool self.new }
         ensures down { OnOk result (PutsAllDown (Some dev)
             self.old self.new) }
         ensures flushed { OnOk result ((nth_device
@@ -179,7 +175,6 @@ impl<D: PageDevice> Pool<D> {
 
     // Writes all pages back and flushes all devices, where no page is fixed.
     fn put_down(&mut self) -> Result<(), PoolFault>
-        ensures pool { IsPool self.new }
         ensures unfixed { OnOk result (AreUnfixed None self.old.frames) }
         ensures down { OnOk result (PutsAllDown None
             self.old self.new) }
@@ -199,7 +194,6 @@ impl<D: PageDevice> Pool<D> {
 
     // Writes all pages back and flushes all devices.
     fn settle(&mut self) -> Result<(), DeviceFault>
-        ensures pool { IsPool self.new }
         ensures down { OnOk result (PutsAllDown None
             self.old self.new) }
         ensures flushed { OnOk result (NoneWaits self.new.devices) }
@@ -214,7 +208,6 @@ impl<D: PageDevice> Pool<D> {
 
     // Writes the pages of the frames that are concerned back.
     fn clean_chosen(&mut self, which: Option<u16>) -> Result<(), DeviceFault>
-        ensures pool { IsPool self.new }
         ensures down { OnOk result (PutsAllDown which
             self.old self.new) }
         ensures stopped { OnErr result (StopsAt which
@@ -229,7 +222,6 @@ impl<D: PageDevice> Pool<D> {
     // Writes the page of a frame back, where it is concerned.
     fn clean_if(&mut self, at: usize, which: Option<u16>) -> Result<(), DeviceFault>
         requires there { at < length self.old.frames }
-        ensures pool { IsPool self.new }
         ensures down { OnOk result (PutsOneDown which
             self.old at self.new) }
         ensures failed { OnErr result (ChosenFails which

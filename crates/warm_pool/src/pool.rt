@@ -1,13 +1,12 @@
 //! The pool.
-ghost use Rattle.std.specs.Prelude.{◌≡◌, ◌≢◌, ◌↔◌, ◌⊎◌, ℕ, ◌+◌, ◌-◌, ◌^◌, ◌<◌, ◌≤◌, List, map, length, set, true, false, Some, None, MatchOption, MatchResult, OnOk, OnErr, IfOk, IfErr, IfSome, IsTrue, replicate};
+ghost use Rattle.std.specs.Prelude.{◌≡◌, ◌≢◌, ◌↔◌, ◌+◌, ◌-◌, ◌^◌, ◌<◌, ◌≤◌, map, length, true, false, Some, None, MatchResult, OnOk, OnErr, IfOk, IfErr, IfSome, IsTrue};
 ghost use Rattle.warm_stamps.specs.declared.PageId.{PageId};
 ghost use Rattle.warm_history.specs.Histories.{HistoryView, hist, refs};
 ghost use Rattle.warm_rank.specs.Keys.{rank_key};
-ghost use Rattle.warm_rank.specs.Ranking.{IsVictim};
 ghost use Rattle.warm_pool.specs.Frames.{nth_frame};
 ghost use Rattle.warm_pool.specs.FrameSteps.{fresh_frames};
 ghost use Rattle.warm_pool.specs.State.{PoolState, IsPool, pool_of, RankedBy, IsRankedByAll, IsNowhere, opened, nth_device};
-ghost use Rattle.warm_pool.specs.View.{view_of, PoolView, HasPage, IsResident, Holds};
+ghost use Rattle.warm_pool.specs.View.{view_of, HasPage, IsResident, Holds};
 ghost use Rattle.warm_pool.specs.Keeping.{SameButFailures, KeepsRanks, KeepsBytes, KeepsFrames, KeepsOthers};
 ghost use Rattle.warm_pool.specs.Opening.{IsUpTo, IsSize, NewRefused};
 ghost use Rattle.warm_pool.specs.WritingBack.{Cleans, CleanFails};
@@ -198,9 +197,7 @@ impl<D: PageDevice> Pool<D> {
         ensures writes { IfErr result (λ fault. WritesDirty history.now
             self.old fault) }
     {
-        if let Err(fault) = self.check(page) {
-            return Err(fault);
-        }
+        self.check(page)?;
         match self.frames.find(page) {
             Some(at) => self.add_fix(at),
             None => self.bring(page, history, 1),
@@ -227,9 +224,7 @@ impl<D: PageDevice> Pool<D> {
         ensures writes { IfErr result (λ fault. WritesDirty history.now
             self.old fault) }
     {
-        if let Err(fault) = self.check(page) {
-            return Err(fault);
-        }
+        self.check(page)?;
         match self.frames.find(page) {
             Some(at) => {
                 let generation = self.frames.generation(at);
@@ -311,8 +306,6 @@ impl<D: PageDevice> Pool<D> {
         ensures same { view_of self.new ≡ view_of self.old }
         ensures kept { KeepsBytes self.old self.new }
     {
-        // A law, for the case of no page.
-        self.is_pool();
         for page in pages {
             self.renew(history, *page);
         }
@@ -332,7 +325,6 @@ impl<D: PageDevice> Pool<D> {
     // Renews the rank of the page in a frame, if there is one.
     fn renew_at(&mut self, history: &History, at: usize)
         requires there { at < length self.old.frames }
-        ensures pool { IsPool self.new }
         ensures same { view_of self.new ≡ view_of self.old }
         ensures kept { KeepsBytes self.old self.new }
         ensures keys { RenewsFrame self.old at history.now self.new }
@@ -345,7 +337,6 @@ impl<D: PageDevice> Pool<D> {
 
     // Renews the rank of a page, where it is resident.
     fn renew(&mut self, history: &History, page: PageId)
-        ensures pool { IsPool self.new }
         ensures same { view_of self.new ≡ view_of self.old }
         ensures kept { KeepsBytes self.old self.new }
         ensures keys { Renews self.old page
@@ -388,7 +379,6 @@ impl<D: PageDevice> Pool<D> {
     fn add_fix(&mut self, at: usize) -> Result<Slot, PoolFault>
         requires there { at < length self.old.frames }
         requires held { (nth_frame self.old.frames at).page ≢ None }
-        ensures pool { IsPool self.new }
         ensures ranked { KeepsRanks self.old self.new }
         ensures fixed { FixesPage
             self.old at result self.new }
@@ -428,7 +418,6 @@ impl<D: PageDevice> Pool<D> {
         requires ranked { RankedBy self.old history.now }
         requires known { HasPage (view_of self.old) page }
         requires absent { IsNowhere self.old.frames page }
-        ensures pool { IsPool self.new }
         ensures ranked { RankedBy self.new history.now }
         ensures put { IfOk result (λ slot. PutsIn history.now
             (view_of self.old) page fixes slot
@@ -448,9 +437,7 @@ impl<D: PageDevice> Pool<D> {
         let generation = self.frames.generation(at);
         if generation < u64::MAX {
             let key = known_key(history, page);
-            if let Err(fault) = self.load_into(at, page, key, fixes) {
-                return Err(fault);
-            }
+            self.load_into(at, page, key, fixes)?;
             return Ok(Slot {
                 index: at as u32,
                 generation: generation + 1,
@@ -472,7 +459,6 @@ impl<D: PageDevice> Pool<D> {
         requires device { page.dev < length self.old.devices }
         requires known { page.no < (nth_device self.old.devices page.dev).pages }
         requires absent { IsNowhere self.old.frames page }
-        ensures pool { IsPool self.new }
         ensures put { OnOk result (LoadsInto self.old at page key fixes
             self.new) }
         ensures refused { IfErr result (λ fault. LoadFails
@@ -490,14 +476,17 @@ impl<D: PageDevice> Pool<D> {
 }
 
 // Writes the page of a frame to its device, where it isn't there as it is in the frame.
+//
+// Frames and devices fit each other where they are those of a pool. A page that comes in is in the spare buffer by now, and the value
+// of a pool leaves the bytes of that buffer out: so this is over the fields, of which no type's invariant speaks.
 pub(crate) fn write_back<D: PageDevice>(
     frames: &mut Frames,
     devices: &mut Vec<D>,
     at: usize,
 ) -> Result<(), DeviceFault>
-    requires pool { IsPool (pool_of D.state frames.old frames.old.page_size devices.old.items) }
+    requires fit { IsPool (pool_of D.state frames.old frames.old.page_size devices.old.items) }
     requires there { at < length frames.old.frames }
-    ensures pool { IsPool (pool_of D.state frames.new frames.old.page_size devices.new.items) }
+    ensures fit { IsPool (pool_of D.state frames.new frames.old.page_size devices.new.items) }
     ensures done { OnOk result (Cleans
         (pool_of D.state frames.old frames.old.page_size devices.old.items) at
         (pool_of D.state frames.new frames.old.page_size devices.new.items)) }

@@ -15,6 +15,3 @@ returns-then-fixes-lt4294967295-clause-fixed g c = rw (← c.self.view_is) (λ p
 
 pub returns-then-fixes-lt4294967295-clause-holds : goal.returns-then-fixes-lt4294967295-clause-holds
 returns-then-fixes-lt4294967295-clause-holds g c = (step_holds c.self.inside.frames c.fix.new.self c.self.invariant c.args.at _ c.fix.ensures (subst (λ s. c.args.at < length s.frames) (sym c.self.view_is) c.requires.there) (alike_fixes c.self.invariant _ _ (subst (λ s. (nth_frame s.frames c.args.at).page ≢ None) (sym c.self.view_is) c.requires.held)) _ refl c.generation-generation.ensures (omega arith))
-
-pub returns-then-fixes-lt4294967295-clause-pool : goal.returns-then-fixes-lt4294967295-clause-pool
-returns-then-fixes-lt4294967295-clause-pool g c = (step_pool c.self.inside.frames c.fix.new.self c.self.invariant c.args.at _ c.fix.ensures (subst (λ s. c.args.at < length s.frames) (sym c.self.view_is) c.requires.there) (alike_fixes c.self.invariant _ _ (subst (λ s. (nth_frame s.frames c.args.at).page ≢ None) (sym c.self.view_is) c.requires.held)))

@@ -4,6 +4,7 @@ use Rattle.warm_pool.specs.Frames.{nth_frame}
 use Rattle.warm_pool.proofs.PoolSteps.{has_device, has_number, seen_generation}
 use Rattle.warm_pool.proofs.Pins.{put_refused, failed_ranked, loaded_ranked, loaded_puts}
 use Rattle.warm_pool.proofs.KeepingLemmas.{loaded_takes, failed_writes_dirty}
+use Rattle.warm_pool.proofs.FlushLemmas.{handed_on}
 use Rattle.warm_pool.proofs.pool.Pool.bring.Goals as goal
 
 pub returns-in_default-clause-refused : goal.returns-in_default-clause-refused
@@ -19,24 +20,23 @@ load_into-requires-clause-device g c = has_device (subst (λ s. IsPool s) c.self
 pub load_into-requires-clause-known : goal.load_into-requires-clause-known
 load_into-requires-clause-known g c = has_number (subst (λ s. IsPool s) c.self.view_is c.self.invariant) _ c.requires.known
 
-pub returns-in-Err-clause-ranked : goal.returns-in-Err-clause-ranked
-returns-in-Err-clause-ranked g c =
-    failed_ranked (subst (λ s. IsPool s) c.self.view_is c.self.invariant) c.load_into.ensures.pool c.in-Some.at c.args.page c.in-Err.fault c.in-Err.ensures.refused c.args.history.now c.requires.ranked
+pub returns-in_err-load_into-clause-ranked : goal.returns-in_err-load_into-clause-ranked
+returns-in_err-load_into-clause-ranked g c = failed_ranked c.args.self.now c.load_into.new.self c.in-Some.at c.args.page _ c.in_err-load_into.ensures.refused c.args.history.now c.requires.ranked
 
-pub returns-in-Err-clause-refused : goal.returns-in-Err-clause-refused
-returns-in-Err-clause-refused g c =
-    put_refused (subst (λ s. IsPool s) c.self.view_is c.self.invariant) c.load_into.ensures.pool c.args.history.now c.in-Some.at c.args.page (c.in-Some.ensures.place _ c.requires.ranked)
+pub returns-in_err-load_into-clause-refused : goal.returns-in_err-load_into-clause-refused
+returns-in_err-load_into-clause-refused g c =
+    handed_on c.from_residual.result c.in_err-load_into.field-0.0 _ c.from_residual.ensures.1 (put_refused c.args.self.now c.load_into.new.self c.args.history.now c.in-Some.at c.args.page (c.in-Some.ensures.place _ c.requires.ranked)
     (subst (λ n. n < 18446744073709551615) (c.generation-generation.ensures ∙ ap (λ s. (nth_frame s.frames c.in-Some.at).generation) c.self.view_is) c.if-generation-lt18446744073709551615.true)
-    c.in-Err.fault c.in-Err.ensures.refused
+    _ c.in_err-load_into.ensures.refused)
 
 pub returns-then-generation-lt18446744073709551615-clause-ranked : goal.returns-then-generation-lt18446744073709551615-clause-ranked
 returns-then-generation-lt18446744073709551615-clause-ranked g c =
-    loaded_ranked (subst (λ s. IsPool s) c.self.view_is c.self.invariant) c.load_into.ensures.pool c.in-Some.at c.args.page c.known_key-key.result c.args.fixes c.in_default-load_into.ensures.put
+    loaded_ranked c.args.self.now c.load_into.new.self c.in-Some.at c.args.page c.known_key-key.result c.args.fixes c.in_ok-load_into.ensures.put
     c.in-Some.ensures.there c.args.history.now c.known_key-key.ensures c.requires.ranked
 
 pub returns-then-generation-lt18446744073709551615-clause-put : goal.returns-then-generation-lt18446744073709551615-clause-put
 returns-then-generation-lt18446744073709551615-clause-put g c =
-    loaded_puts (subst (λ s. IsPool s) c.self.view_is c.self.invariant) c.load_into.ensures.pool c.in-Some.at c.args.page c.known_key-key.result c.args.fixes c.in_default-load_into.ensures.put
+    loaded_puts c.args.self.now c.load_into.new.self c.in-Some.at c.args.page c.known_key-key.result c.args.fixes c.in_ok-load_into.ensures.put
     c.args.history.now c.requires.absent (c.in-Some.ensures.place _ c.requires.ranked) c.generation-generation.result
     (c.generation-generation.ensures ∙ ap (λ s. (nth_frame s.frames c.in-Some.at).generation) c.self.view_is) c.if-generation-lt18446744073709551615.true
 
@@ -53,8 +53,7 @@ returns-clause-refused g c =
 
 pub returns-then-generation-lt18446744073709551615-clause-frame : goal.returns-then-generation-lt18446744073709551615-clause-frame
 returns-then-generation-lt18446744073709551615-clause-frame g c =
-    loaded_takes _ _ c.in-Some.at c.args.page c.known_key-key.result c.args.fixes c.in_default-load_into.ensures.put c.in-Some.ensures.there c.requires.absent _ refl
+    loaded_takes _ _ c.in-Some.at c.args.page c.known_key-key.result c.args.fixes c.in_ok-load_into.ensures.put c.in-Some.ensures.there c.requires.absent _ refl
 
-pub returns-in-Err-clause-writes : goal.returns-in-Err-clause-writes
-returns-in-Err-clause-writes g c =
-    failed_writes_dirty c.args.history.now _ _ c.in-Some.at c.args.page (c.in-Some.ensures.place _ c.requires.ranked) c.in-Err.fault c.in-Err.ensures.refused
+pub returns-in_err-load_into-clause-writes : goal.returns-in_err-load_into-clause-writes
+returns-in_err-load_into-clause-writes g c = handed_on c.from_residual.result c.in_err-load_into.field-0.0 _ c.from_residual.ensures.1 (failed_writes_dirty c.args.history.now c.args.self.now _ c.in-Some.at c.args.page (c.in-Some.ensures.place _ c.requires.ranked) _ c.in_err-load_into.ensures.refused)

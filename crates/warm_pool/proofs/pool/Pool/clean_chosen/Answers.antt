@@ -7,14 +7,11 @@ use Rattle.warm_pool.proofs.pool.Pool.clean_chosen.Goals as goal
 pub loop-at-preserved : goal.loop-at-preserved
 loop-at-preserved g c =
     let seen = ap (λ s. length s.frames) c.self.view_is in
-    record {
-      pool = c.clean_if.ensures.pool;
-      down = down_more c.args.which c.loop-at.at _ _ _ (omega (arith, seen)) c.loop-at.invariant.down c.in_ok-clean_if.ensures.down;
-    }
+    down_more c.args.which c.loop-at.at _ _ _ (omega (arith, seen)) c.loop-at.invariant c.in_ok-clean_if.ensures.down
 
 pub returns-in_err-clean_if-clause-stopped : goal.returns-in_err-clean_if-clause-stopped
 returns-in_err-clean_if-clause-stopped g c =
     let seen = ap (λ s. length s.frames) c.self.view_is in
     let failed = c.in_err-clean_if.ensures.failed in
-    let down = c.loop-at.invariant.down in
+    let down = c.loop-at.invariant in
     on_err _ _ (one_stops c.args.which c.loop-at.at _ _ _ (omega (arith, seen)) down (down_view c.args.which c.loop-at.at _ _ down) failed.0 failed.1)

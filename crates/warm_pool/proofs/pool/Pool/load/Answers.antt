@@ -6,11 +6,12 @@ use Rattle.warm_pool.specs.Residents.{IsPlaceOf}
 use Rattle.warm_pool.proofs.PoolSteps.{found_there, found_holds, found_nowhere, seen_there, seen_page, seen_generation}
 use Rattle.warm_pool.proofs.Pins.{load_puts, load_put_refused, stays_put}
 use Rattle.warm_pool.proofs.KeepingLemmas.{same_bytes, stays_in_frame, unknown_writes_none}
+use Rattle.warm_pool.proofs.FlushLemmas.{handed_on}
 use Rattle.warm_pool.proofs.pool.Pool.load.Goals as goal
 
 pub returns-in-Some-clause-loaded : goal.returns-in-Some-clause-loaded
 returns-in-Some-clause-loaded g c = (
-  c.in_default.ensures.known,
+  c.in_ok-check.ensures.known,
   inl (record {
     there = seen_there (subst (λ s. IsPool s) c.self.view_is c.self.invariant) c.in-Some.at (found_there (subst (λ s. IsPool s) c.self.view_is c.self.invariant) _ _ (subst (λ s. IsPlaceOf (pages_held s.frames) c.args.page (Some c.in-Some.at)) c.self.view_is c.in-Some.ensures));
     resident = seen_page (subst (λ s. IsPool s) c.self.view_is c.self.invariant) c.in-Some.at c.args.page (found_holds (subst (λ s. IsPool s) c.self.view_is c.self.invariant) _ _ (subst (λ s. IsPlaceOf (pages_held s.frames) c.args.page (Some c.in-Some.at)) c.self.view_is c.in-Some.ensures));
@@ -24,20 +25,19 @@ bring-requires-clause-absent g c = found_nowhere (subst (λ s. IsPool s) c.self.
 
 pub returns-in-None-clause-loaded : goal.returns-in-None-clause-loaded
 returns-in-None-clause-loaded g c =
-    load_puts (subst (λ s. IsPool s) c.self.view_is c.self.invariant) c.bring.ensures.pool c.args.history.now c.args.page c.in_default.ensures.known _ c.bring.ensures.put
+    load_puts c.args.self.now c.bring.new.self c.args.history.now c.args.page c.in_ok-check.ensures.known _ c.bring.ensures.put
 
 pub returns-in-None-clause-refused : goal.returns-in-None-clause-refused
 returns-in-None-clause-refused g c =
-    load_put_refused (subst (λ s. IsPool s) c.self.view_is c.self.invariant) c.bring.ensures.pool c.args.history.now c.args.page c.in_default.ensures.known
+    load_put_refused c.args.self.now c.bring.new.self c.args.history.now c.args.page c.in_ok-check.ensures.known
     (found_nowhere (subst (λ s. IsPool s) c.self.view_is c.self.invariant) _ (subst (λ s. IsPlaceOf (pages_held s.frames) c.args.page None) c.self.view_is c.in-None.ensures)) _ c.bring.ensures.refused
 
 pub returns-in-None-clause-stays : goal.returns-in-None-clause-stays
 returns-in-None-clause-stays g c =
-    stays_put (subst (λ s. IsPool s) c.self.view_is c.self.invariant) c.bring.ensures.pool c.args.history.now c.args.page c.in_default.ensures.known _ c.bring.ensures.refused
+    stays_put c.args.self.now c.bring.new.self c.args.history.now c.args.page c.in_ok-check.ensures.known _ c.bring.ensures.refused
 
-pub returns-in-Err-clause-writes : goal.returns-in-Err-clause-writes
-returns-in-Err-clause-writes g c =
-    unknown_writes_none c.args.history.now _ c.args.page c.in-Err.ensures.unknown _ (c.in-Err.ensures.load c.args.history.now)
+pub returns-in_err-check-clause-writes : goal.returns-in_err-check-clause-writes
+returns-in_err-check-clause-writes g c = handed_on c.from_residual.result c.in_err-check.field-0.0 _ c.from_residual.ensures.1 (unknown_writes_none c.args.history.now c.args.self.now c.args.page c.in_err-check.ensures.unknown _ (c.in_err-check.ensures.load c.args.history.now))
 
 pub returns-in-Some-clause-frame : goal.returns-in-Some-clause-frame
 returns-in-Some-clause-frame g c =

@@ -1,6 +1,5 @@
 use Rattle.std.proofs.Common.{◌∙◌, Some, length, arith, ap, refl, sym, subst}
 use Rattle.std.proofs.lemmas.List.{length-map}
-use Rattle.warm_pool.specs.State.{IsPool}
 use Rattle.warm_pool.specs.Retiring.{AreUnfixed}
 use Rattle.warm_pool.proofs.RetireLemmas.{fixed_on, may_retire}
 use Rattle.warm_pool.proofs.pool.Pool.make_way.Goals as goal
@@ -8,7 +7,7 @@ use Rattle.warm_pool.proofs.pool.Pool.make_way.Goals as goal
 pub returns-in-Err-clause-refused : goal.returns-in-Err-clause-refused
 returns-in-Err-clause-refused g c = λ device size.
     let there = ap (λ s. length s.devices) (sym c.self.view_is) in (
-      may_retire _ c.args.dev device (subst (λ s. IsPool s) c.self.view_is c.self.invariant) (rw there (rw length-map (omega arith)))
+      may_retire c.args.self.now c.args.dev device (rw there (rw length-map (omega arith)))
           (size ∙ c.if-page_size.false ∙ c.page_size.ensures ∙ ap (λ s. s.page_size) c.self.view_is)
           (subst (λ s. AreUnfixed (Some c.args.dev) s.frames) c.self.view_is c.if-is_fixed.ensures),
       c.in-Err.ensures.stopped,

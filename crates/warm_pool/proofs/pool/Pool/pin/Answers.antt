@@ -5,6 +5,7 @@ use Rattle.warm_pool.specs.Residents.{IsPlaceOf}
 use Rattle.warm_pool.proofs.PoolSteps.{found_there, found_holds, found_nowhere}
 use Rattle.warm_pool.proofs.Pins.{pin_adds, pin_puts, pin_holds, pin_put_refused, stays_put, pin_full, full_stays}
 use Rattle.warm_pool.proofs.KeepingLemmas.{unknown_writes_none, fix_takes}
+use Rattle.warm_pool.proofs.FlushLemmas.{handed_on}
 use Rattle.warm_pool.proofs.pool.Pool.pin.Goals as goal
 
 pub add_fix-requires-clause-there : goal.add_fix-requires-clause-there
@@ -18,40 +19,39 @@ returns-in-Some-clause-ranked g c = c.add_fix.ensures.ranked c.args.history.now 
 
 pub returns-in-Some-clause-pinned : goal.returns-in-Some-clause-pinned
 returns-in-Some-clause-pinned g c =
-    pin_adds (subst (λ s. IsPool s) c.self.view_is c.self.invariant) c.add_fix.ensures.pool c.args.history.now c.args.page c.in_default.ensures.known _
+    pin_adds c.args.self.now c.add_fix.new.self c.args.history.now c.args.page c.in_ok-check.ensures.known _
     (c.add_fix.ensures.fixed c.args.page (found_holds (subst (λ s. IsPool s) c.self.view_is c.self.invariant) _ _ (subst (λ s. IsPlaceOf (pages_held s.frames) c.args.page (Some c.in-Some.at)) c.self.view_is c.in-Some.ensures)))
 
 pub returns-in-Some-clause-refused : goal.returns-in-Some-clause-refused
 returns-in-Some-clause-refused g c =
-    pin_full (subst (λ s. IsPool s) c.self.view_is c.self.invariant) c.add_fix.ensures.pool c.args.history.now c.args.page c.in-Some.at c.in_default.ensures.known
+    pin_full c.args.self.now c.add_fix.new.self c.args.history.now c.args.page c.in-Some.at c.in_ok-check.ensures.known
     (found_there (subst (λ s. IsPool s) c.self.view_is c.self.invariant) _ _ (subst (λ s. IsPlaceOf (pages_held s.frames) c.args.page (Some c.in-Some.at)) c.self.view_is c.in-Some.ensures)) (found_holds (subst (λ s. IsPool s) c.self.view_is c.self.invariant) _ _ (subst (λ s. IsPlaceOf (pages_held s.frames) c.args.page (Some c.in-Some.at)) c.self.view_is c.in-Some.ensures)) _ c.add_fix.ensures.refused
 
 pub returns-in-Some-clause-stays : goal.returns-in-Some-clause-stays
-returns-in-Some-clause-stays g c = full_stays (subst (λ s. IsPool s) c.self.view_is c.self.invariant) c.add_fix.ensures.pool c.in-Some.at _ c.add_fix.ensures.refused
+returns-in-Some-clause-stays g c = full_stays c.args.self.now c.add_fix.new.self c.in-Some.at _ c.add_fix.ensures.refused
 
 pub bring-requires-clause-absent : goal.bring-requires-clause-absent
 bring-requires-clause-absent g c = found_nowhere (subst (λ s. IsPool s) c.self.view_is c.self.invariant) _ (subst (λ s. IsPlaceOf (pages_held s.frames) c.args.page None) c.self.view_is c.in-None.ensures)
 
 pub returns-in-None-clause-pinned : goal.returns-in-None-clause-pinned
 returns-in-None-clause-pinned g c =
-    pin_puts (subst (λ s. IsPool s) c.self.view_is c.self.invariant) c.bring.ensures.pool c.args.history.now c.args.page c.in_default.ensures.known _ c.bring.ensures.put
+    pin_puts c.args.self.now c.bring.new.self c.args.history.now c.args.page c.in_ok-check.ensures.known _ c.bring.ensures.put
 
 pub returns-in-None-clause-holds : goal.returns-in-None-clause-holds
 returns-in-None-clause-holds g c =
-    pin_holds (subst (λ s. IsPool s) c.self.view_is c.self.invariant) c.bring.ensures.pool c.args.history.now c.args.page c.in_default.ensures.known _ c.bring.ensures.put
+    pin_holds c.args.self.now c.bring.new.self c.args.history.now c.args.page c.in_ok-check.ensures.known _ c.bring.ensures.put
 
 pub returns-in-None-clause-refused : goal.returns-in-None-clause-refused
 returns-in-None-clause-refused g c =
-    pin_put_refused (subst (λ s. IsPool s) c.self.view_is c.self.invariant) c.bring.ensures.pool c.args.history.now c.args.page c.in_default.ensures.known
+    pin_put_refused c.args.self.now c.bring.new.self c.args.history.now c.args.page c.in_ok-check.ensures.known
     (found_nowhere (subst (λ s. IsPool s) c.self.view_is c.self.invariant) _ (subst (λ s. IsPlaceOf (pages_held s.frames) c.args.page None) c.self.view_is c.in-None.ensures)) _ c.bring.ensures.refused
 
 pub returns-in-None-clause-stays : goal.returns-in-None-clause-stays
 returns-in-None-clause-stays g c =
-    stays_put (subst (λ s. IsPool s) c.self.view_is c.self.invariant) c.bring.ensures.pool c.args.history.now c.args.page c.in_default.ensures.known _ c.bring.ensures.refused
+    stays_put c.args.self.now c.bring.new.self c.args.history.now c.args.page c.in_ok-check.ensures.known _ c.bring.ensures.refused
 
-pub returns-in-Err-clause-writes : goal.returns-in-Err-clause-writes
-returns-in-Err-clause-writes g c =
-    unknown_writes_none c.args.history.now _ c.args.page c.in-Err.ensures.unknown _ (c.in-Err.ensures.load c.args.history.now)
+pub returns-in_err-check-clause-writes : goal.returns-in_err-check-clause-writes
+returns-in_err-check-clause-writes g c = handed_on c.from_residual.result c.in_err-check.field-0.0 _ c.from_residual.ensures.1 (unknown_writes_none c.args.history.now c.args.self.now c.args.page c.in_err-check.ensures.unknown _ (c.in_err-check.ensures.load c.args.history.now))
 
 pub returns-in-Some-clause-frame : goal.returns-in-Some-clause-frame
 returns-in-Some-clause-frame g c =

@@ -3,11 +3,11 @@ use Rattle.warm_pool.proofs.Renewals.{none_renewed, one_renewed, all_renewed}
 use Rattle.warm_pool.proofs.pool.Pool.refresh.Goals as goal
 
 pub loop-page-init : goal.loop-page-init
-loop-page-init g c = none_renewed c.is_pool.ensures _ _
+loop-page-init g c = none_renewed _ _ _
 
 pub loop-page-preserved : goal.loop-page-preserved
 loop-page-preserved g c =
-    one_renewed _ _ _ _ c.loop-page.invariant (λ d. get_or_default _ _ _ _ c.loop-page-test.true) c.renew.ensures.pool c.renew.ensures.same c.renew.ensures.kept c.renew.ensures.keys
+    one_renewed _ _ _ _ c.loop-page.invariant (λ d. get_or_default _ _ _ _ c.loop-page-test.true) c.renew.ensures.same c.renew.ensures.kept c.renew.ensures.keys
 
 pub returns-clause-same : goal.returns-clause-same
 returns-clause-same g c = c.loop-page.invariant.same

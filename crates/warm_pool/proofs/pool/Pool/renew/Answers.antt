@@ -25,8 +25,3 @@ returns-in-Some-clause-keys g c = rw (← c.self.view_is) (
 
 pub returns-in_default-clause-keys : goal.returns-in_default-clause-keys
 returns-in_default-clause-keys g c = rw (← c.self.view_is) (renews_none c.self.invariant _ _ (found_nowhere c.self.invariant _ c.in_default.ensures))
-
-pub returns-in-Some-clause-pool : goal.returns-in-Some-clause-pool
-returns-in-Some-clause-pool g c =
-    renewed_pool c.self.inside.frames c.rank.new.self c.self.invariant c.in-Some.at c.args.page c.known_key-key.result _ c.known_key-key.ensures c.rank.ensures
-    (found_there c.self.invariant _ _ c.in-Some.ensures) (found_holds c.self.invariant _ _ c.in-Some.ensures)

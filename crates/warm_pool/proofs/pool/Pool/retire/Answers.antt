@@ -12,7 +12,7 @@ pub take_in-requires-clause-sized : goal.take_in-requires-clause-sized
 take_in-requires-clause-sized g c = sym c.page_size.ensures ∙ c.in-Ok.ensures.way.size ∙ sym c.in-Ok.ensures.way.down.same.0
 
 pub returns-in-Ok-clause-retired : goal.returns-in-Ok-clause-retired
-returns-in-Ok-clause-retired g c = retire_view _ _ _ c.args.dev _ _ c.make_way.ensures.pool c.in-Ok.ensures.way c.page_size.ensures c.take_in.ensures
+returns-in-Ok-clause-retired g c = retire_view _ _ _ c.args.dev _ _ c.in-Ok.ensures.way c.page_size.ensures c.take_in.ensures
 
 pub returns-in-Ok-clause-ranked : goal.returns-in-Ok-clause-ranked
-returns-in-Ok-clause-ranked g c = λ h ranked. retire_ranked _ _ c.args.dev _ h c.make_way.ensures.pool c.take_in.ensures (c.make_way.ensures.ranked h ranked)
+returns-in-Ok-clause-ranked g c = λ h ranked. retire_ranked _ _ c.args.dev _ h c.take_in.ensures (c.make_way.ensures.ranked h ranked)

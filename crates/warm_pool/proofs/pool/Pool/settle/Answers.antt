@@ -12,9 +12,6 @@ returns-in_err-clean_chosen-clause-ranked g c = λ h ranked. let stopped = c.in_
 pub invariant_of-self : goal.invariant_of-self
 invariant_of-self g c = devices_keep_pool _ _ (alike_kept _ _ _ (stopped_alike _ _ c.in_err-flush_all.ensures.stopped)) c.self.invariant
 
-pub returns-in_err-flush_all-clause-pool : goal.returns-in_err-flush_all-clause-pool
-returns-in_err-flush_all-clause-pool g c = devices_keep_pool _ _ (alike_kept _ _ _ (stopped_alike _ _ c.in_err-flush_all.ensures.stopped)) c.self.invariant
-
 pub returns-in_err-flush_all-clause-stopped : goal.returns-in_err-flush_all-clause-stopped
 returns-in_err-flush_all-clause-stopped g c =
     let down = subst (λ t. PutsDown (cleaned_chosen None (length c.args.self.now.frames) c.args.self.now.frames) c.args.self.now t) (sym c.self.view_is) c.in_ok-clean_chosen.ensures.down in
@@ -27,9 +24,6 @@ returns-in_err-flush_all-clause-ranked g c = λ h ranked.
 
 pub invariant_of-self-2 : goal.invariant_of-self-2
 invariant_of-self-2 g c = devices_keep_pool _ _ (alike_kept _ _ _ (flushed_alike _ _ _ c.in_ok-flush_all.ensures.flushed)) c.self.invariant
-
-pub returns-clause-pool : goal.returns-clause-pool
-returns-clause-pool g c = devices_keep_pool _ _ (alike_kept _ _ _ (flushed_alike _ _ _ c.in_ok-flush_all.ensures.flushed)) c.self.invariant
 
 pub returns-clause-down : goal.returns-clause-down
 returns-clause-down g c =

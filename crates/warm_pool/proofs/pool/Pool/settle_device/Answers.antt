@@ -15,12 +15,6 @@ invariant_of-self g c =
     let call = c.in_err-flush_device.ensures in
     devices_keep_pool _ _ (one_kept _ _ _ c.args.dev call.after (subst (λ n. c.args.dev < n) (sym down.devices.count) c.requires.there) call.becomes call.failed.shape call.failed.contents) c.self.invariant
 
-pub returns-in_err-flush_device-clause-pool : goal.returns-in_err-flush_device-clause-pool
-returns-in_err-flush_device-clause-pool g c =
-    let down = subst (λ t. PutsDown (cleaned_chosen (Some c.args.dev) (length c.args.self.now.frames) c.args.self.now.frames) c.args.self.now t) (sym c.self.view_is) c.in_ok-clean_chosen.ensures.down in
-    let call = c.in_err-flush_device.ensures in
-    devices_keep_pool _ _ (one_kept _ _ _ c.args.dev call.after (subst (λ n. c.args.dev < n) (sym down.devices.count) c.requires.there) call.becomes call.failed.shape call.failed.contents) c.self.invariant
-
 pub returns-in_err-flush_device-clause-stopped : goal.returns-in_err-flush_device-clause-stopped
 returns-in_err-flush_device-clause-stopped g c =
     let down = subst (λ t. PutsDown (cleaned_chosen (Some c.args.dev) (length c.args.self.now.frames) c.args.self.now.frames) c.args.self.now t) (sym c.self.view_is) c.in_ok-clean_chosen.ensures.down in
@@ -34,12 +28,6 @@ returns-in_err-flush_device-clause-ranked g c = λ h ranked.
 
 pub invariant_of-self-2 : goal.invariant_of-self-2
 invariant_of-self-2 g c =
-    let down = subst (λ t. PutsDown (cleaned_chosen (Some c.args.dev) (length c.args.self.now.frames) c.args.self.now.frames) c.args.self.now t) (sym c.self.view_is) c.in_ok-clean_chosen.ensures.down in
-    let call = c.in_ok-flush_device.ensures in
-    devices_keep_pool _ _ (one_kept _ _ _ c.args.dev call.after (subst (λ n. c.args.dev < n) (sym down.devices.count) c.requires.there) call.becomes call.done.shape call.done.contents) c.self.invariant
-
-pub returns-clause-pool : goal.returns-clause-pool
-returns-clause-pool g c =
     let down = subst (λ t. PutsDown (cleaned_chosen (Some c.args.dev) (length c.args.self.now.frames) c.args.self.now.frames) c.args.self.now t) (sym c.self.view_is) c.in_ok-clean_chosen.ensures.down in
     let call = c.in_ok-flush_device.ensures in
     devices_keep_pool _ _ (one_kept _ _ _ c.args.dev call.after (subst (λ n. c.args.dev < n) (sym down.devices.count) c.requires.there) call.becomes call.done.shape call.done.contents) c.self.invariant
