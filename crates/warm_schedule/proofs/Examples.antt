@@ -254,7 +254,7 @@ seen = record { page = page 0 1; stamp = stamp 10 1 }
 
 -- a replica of two workers, with what reached it and what waits for its first worker
 abbrev told : List Reference → List Reference → ModelState
-told reach waiting = record { room = 64; replicas = record { reach = these reach; pending = waiting ∷ [] ∷ []; pool = no_pool } ∷ []; records = [] }
+told reach waiting = record { capacity = 64; replicas = record { reach = these reach; pending = waiting ∷ [] ∷ []; pool = no_pool } ∷ []; records = [] }
 
 -- one replica with two workers: refusals, a comment and a bad line
 refusals : Printed (told [] []) (codes "ref 2 1 0:1 5\nflush 1 3\n# x\nbad\n") (codes "refused 14 NoSuchReplica\nrefused 15 NoSuchWorker\nbad line 4\n") (told [] [])

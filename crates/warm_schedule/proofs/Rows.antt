@@ -71,10 +71,10 @@ abbrev has : ℕ → List Reference → ReplicaState
 has horizon given = one no_pool (kept horizon given) []
 
 abbrev alone : ReferenceSet → List Reference → ModelState
-alone reach waiting = record { room = 64; replicas = one no_pool reach waiting ∷ []; records = [] }
+alone reach waiting = record { capacity = 64; replicas = one no_pool reach waiting ∷ []; records = [] }
 
 abbrev both : ReplicaState → ReplicaState → List MessageRecord → ModelState
-both first second records = record { room = 64; replicas = first ∷ second ∷ []; records = records }
+both first second records = record { capacity = 64; replicas = first ∷ second ∷ []; records = records }
 
 number : (n count : ℕ) → 0 < n → n ≤ count → IsNumber n count
 number n count some low = record { from_one = omega (arith, some); in_range = omega (arith, low) }

@@ -289,7 +289,7 @@ settles_ill old new why fails = λ m answers stands.
     let k : ℕ = fails.1.replica in
     let none : ReplicaView = record { node = record { id = 0; history = holding []; pool = no_pool }; buffers = [] } in
     let there : k < length m.replicas = omega (arith, fails.1.there, stands.replicas.same_length) in
-    let here : ReplicaStands m.room k (get_or old.replicas k none) (replica m k) = stands.replicas.each k none nobody fails.1.there in
+    let here : ReplicaStands m.capacity k (get_or old.replicas k none) (replica m k) = stands.replicas.each k none nobody fails.1.there in
     let at : place (k + 1) ≡ k = omega arith in
     let pool : (get_or old.replicas k none).node.pool ≡ pool_of m (k + 1) = ap (λ (v : NodeView). v.pool) here.node_is ∙ ap (λ (n : ℕ). (replica m n).pool) (sym at) in
     let failed : IsFailed (pool_of m (k + 1)) fails.1.pool = subst (λ (p : PoolView). IsFailed p fails.1.pool) pool (fails.1.failed none) in

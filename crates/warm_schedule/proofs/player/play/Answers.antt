@@ -7,7 +7,7 @@ pub loop-init : goal.loop-init
 loop-init g c = record {
   goes = ([], [], Consumes-none _, Appends-none _, Goes-none _);
   number = omega (arith, c.in_ok-session.ensures.fresh.first);
-  room = c.in-Ok.ensures.len;
+  room = c.in_ok-buffer.ensures.len;
   fresh = c.in_ok-session.ensures.fresh;
 }
 
