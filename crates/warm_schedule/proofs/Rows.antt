@@ -109,40 +109,40 @@ forgotten : Printed (alone (kept 0 []) []) (codes "ref 1 1 0:1 10\nref 1 1 0:1 2
 unfolding meaning line_of commands words number_up_to page_of number_field page_field refer_of flush_of restart_of horizon_of show_of history digits
 forgotten = printed (alone (kept 0 []) []) (alone (kept 0 []) []) 1 forgotten_table (
   alone (kept 0 []) (at 1 10 1 ∷ []),
-  inl (Done, (record { replica_there = number 1 _ (omega arith) (omega arith); worker_there = number 1 _ (omega arith) (omega arith); frame_there = tt }, refl), refl),
+  inl (Done, (record { replica_there = number 1 _ (omega arith) (omega arith); worker_there = number 1 _ (omega arith) (omega arith); message_there = tt }, refl), refl),
   (
     alone (kept 0 []) (at 1 10 1 ∷ at 1 20 1 ∷ []),
-    inl (Done, (record { replica_there = number 1 _ (omega arith) (omega arith); worker_there = number 1 _ (omega arith) (omega arith); frame_there = tt }, refl), refl),
+    inl (Done, (record { replica_there = number 1 _ (omega arith) (omega arith); worker_there = number 1 _ (omega arith) (omega arith); message_there = tt }, refl), refl),
     (
       alone (kept 0 []) (at 1 10 1 ∷ at 1 20 1 ∷ at 2 5 1 ∷ []),
-      inl (Done, (record { replica_there = number 1 _ (omega arith) (omega arith); worker_there = number 1 _ (omega arith) (omega arith); frame_there = tt }, refl), refl),
+      inl (Done, (record { replica_there = number 1 _ (omega arith) (omega arith); worker_there = number 1 _ (omega arith) (omega arith); message_there = tt }, refl), refl),
       (
         alone (kept 0 (at 1 10 1 ∷ at 1 20 1 ∷ at 2 5 1 ∷ [])) [],
-        inl (Done, (record { replica_there = number 1 _ (omega arith) (omega arith); worker_there = number 1 _ (omega arith) (omega arith); frame_there = tt }, refl), refl),
+        inl (Done, (record { replica_there = number 1 _ (omega arith) (omega arith); worker_there = number 1 _ (omega arith) (omega arith); message_there = tt }, refl), refl),
         (
           alone (kept 15 (at 1 10 1 ∷ at 1 20 1 ∷ at 2 5 1 ∷ [])) [],
-          inl (Kept 15, (record { replica_there = number 1 _ (omega arith) (omega arith); worker_there = tt; frame_there = tt }, (refl, refl)), refl),
+          inl (Kept 15, (record { replica_there = number 1 _ (omega arith) (omega arith); worker_there = tt; message_there = tt }, (refl, refl)), refl),
           (
             alone (kept 15 (at 1 10 1 ∷ at 1 20 1 ∷ at 2 5 1 ∷ [])) [],
-            inl (Shown (holding_since 15 (entry 1 (Once (stamp 20 1)) ∷ [])), (record { replica_there = number 1 _ (omega arith) (omega arith); worker_there = tt; frame_there = tt }, (refl, refl)), refl),
+            inl (Shown (holding_since 15 (entry 1 (Once (stamp 20 1)) ∷ [])), (record { replica_there = number 1 _ (omega arith) (omega arith); worker_there = tt; message_there = tt }, (refl, refl)), refl),
             (
               alone (kept 15 (at 1 10 1 ∷ at 1 20 1 ∷ at 2 5 1 ∷ [])) (at 1 12 1 ∷ []),
-              inl (Done, (record { replica_there = number 1 _ (omega arith) (omega arith); worker_there = number 1 _ (omega arith) (omega arith); frame_there = tt }, refl), refl),
+              inl (Done, (record { replica_there = number 1 _ (omega arith) (omega arith); worker_there = number 1 _ (omega arith) (omega arith); message_there = tt }, refl), refl),
               (
                 alone (kept 15 (at 1 10 1 ∷ at 1 20 1 ∷ at 2 5 1 ∷ at 1 12 1 ∷ [])) [],
-                inl (Done, (record { replica_there = number 1 _ (omega arith) (omega arith); worker_there = number 1 _ (omega arith) (omega arith); frame_there = tt }, refl), refl),
+                inl (Done, (record { replica_there = number 1 _ (omega arith) (omega arith); worker_there = number 1 _ (omega arith) (omega arith); message_there = tt }, refl), refl),
                 (
                   alone (kept 15 (at 1 10 1 ∷ at 1 20 1 ∷ at 2 5 1 ∷ at 1 12 1 ∷ [])) [],
-                  inl (Shown (holding_since 15 (entry 1 (Once (stamp 20 1)) ∷ [])), (record { replica_there = number 1 _ (omega arith) (omega arith); worker_there = tt; frame_there = tt }, (refl, refl)), refl),
+                  inl (Shown (holding_since 15 (entry 1 (Once (stamp 20 1)) ∷ [])), (record { replica_there = number 1 _ (omega arith) (omega arith); worker_there = tt; message_there = tt }, (refl, refl)), refl),
                   (
                     alone (kept 15 (at 1 10 1 ∷ at 1 20 1 ∷ at 2 5 1 ∷ at 1 12 1 ∷ [])) [],
-                    inl (Kept 15, (record { replica_there = number 1 _ (omega arith) (omega arith); worker_there = tt; frame_there = tt }, (refl, refl)), refl),
+                    inl (Kept 15, (record { replica_there = number 1 _ (omega arith) (omega arith); worker_there = tt; message_there = tt }, (refl, refl)), refl),
                     (
                       alone (kept 0 []) [],
-                      inl (Done, (record { replica_there = number 1 _ (omega arith) (omega arith); worker_there = tt; frame_there = tt }, (no_pool, nothing_to_empty, refl)), refl),
+                      inl (Done, (record { replica_there = number 1 _ (omega arith) (omega arith); worker_there = tt; message_there = tt }, (no_pool, nothing_to_empty, refl)), refl),
                       (
                         alone (kept 0 []) [],
-                        inl (Kept 0, (record { replica_there = number 1 _ (omega arith) (omega arith); worker_there = tt; frame_there = tt }, (refl, refl)), refl),
+                        inl (Kept 0, (record { replica_there = number 1 _ (omega arith) (omega arith); worker_there = tt; message_there = tt }, (refl, refl)), refl),
                         refl,
                       ),
                     ),
@@ -175,19 +175,19 @@ brought : Printed (both (has 0 (at 1 20 1 ∷ [])) (has 0 (at 1 8 2 ∷ at 1 9 2
 unfolding meaning line_of commands words number_up_to number_field after_field send_of deliver_of horizon_of show_of history digits
 brought = printed (both (has 0 (at 1 20 1 ∷ [])) (has 0 (at 1 8 2 ∷ at 1 9 2 ∷ [])) []) (both (has 9 (at 1 20 1 ∷ [])) (has 9 (at 1 8 2 ∷ at 1 9 2 ∷ at 1 20 1 ∷ [])) (newer_frame ∷ [])) 1 brought_table (
   both (has 9 (at 1 20 1 ∷ [])) (has 0 (at 1 8 2 ∷ at 1 9 2 ∷ [])) [],
-  inl (Kept 9, (record { replica_there = number 1 _ (omega arith) (omega arith); worker_there = tt; frame_there = tt }, (refl, refl)), refl),
+  inl (Kept 9, (record { replica_there = number 1 _ (omega arith) (omega arith); worker_there = tt; message_there = tt }, (refl, refl)), refl),
   (
     both (has 9 (at 1 20 1 ∷ [])) (has 0 (at 1 8 2 ∷ at 1 9 2 ∷ [])) (newer_frame ∷ []),
-    inl (FrameNo 1, (record { replica_there = number 1 _ (omega arith) (omega arith); worker_there = tt; frame_there = tt }, (refl, refl)), refl),
+    inl (FrameNo 1, (record { replica_there = number 1 _ (omega arith) (omega arith); worker_there = tt; message_there = tt }, (refl, refl)), refl),
     (
       both (has 9 (at 1 20 1 ∷ [])) (has 9 (at 1 8 2 ∷ at 1 9 2 ∷ at 1 20 1 ∷ [])) (newer_frame ∷ []),
-      inl (Took 0 0, (record { replica_there = number 2 _ (omega arith) (omega arith); worker_there = tt; frame_there = number 1 _ (omega arith) (omega arith) }, record { added = []; answers = refl; many = refl; from = refl; becomes = refl }), refl),
+      inl (Took 0 0, (record { replica_there = number 2 _ (omega arith) (omega arith); worker_there = tt; message_there = number 1 _ (omega arith) (omega arith) }, record { added = []; answers = refl; many = refl; from = refl; becomes = refl }), refl),
       (
         both (has 9 (at 1 20 1 ∷ [])) (has 9 (at 1 8 2 ∷ at 1 9 2 ∷ at 1 20 1 ∷ [])) (newer_frame ∷ []),
-        inl (Shown (holding_since 9 (entry 1 (Twice (record { last = stamp 20 1; prev = stamp 9 2 })) ∷ [])), (record { replica_there = number 2 _ (omega arith) (omega arith); worker_there = tt; frame_there = tt }, (refl, refl)), refl),
+        inl (Shown (holding_since 9 (entry 1 (Twice (record { last = stamp 20 1; prev = stamp 9 2 })) ∷ [])), (record { replica_there = number 2 _ (omega arith) (omega arith); worker_there = tt; message_there = tt }, (refl, refl)), refl),
         (
           both (has 9 (at 1 20 1 ∷ [])) (has 9 (at 1 8 2 ∷ at 1 9 2 ∷ at 1 20 1 ∷ [])) (newer_frame ∷ []),
-          inl (Kept 9, (record { replica_there = number 2 _ (omega arith) (omega arith); worker_there = tt; frame_there = tt }, (refl, refl)), refl),
+          inl (Kept 9, (record { replica_there = number 2 _ (omega arith) (omega arith); worker_there = tt; message_there = tt }, (refl, refl)), refl),
           refl,
         ),
       ),
@@ -214,22 +214,22 @@ sent_then_forgotten : Printed (both (has 0 []) (has 0 []) []) (codes "ref 1 1 0:
 unfolding meaning line_of commands words number_up_to page_of number_field page_field after_field refer_of flush_of send_of deliver_of horizon_of show_of history digits
 sent_then_forgotten = printed (both (has 0 []) (has 0 []) []) (both (has 0 (at 1 10 1 ∷ [])) (has 50 (at 1 10 1 ∷ [])) (entry_frame ∷ [])) 1 sent_then_forgotten_table (
   both (one no_pool (kept 0 []) (at 1 10 1 ∷ [])) (has 0 []) [],
-  inl (Done, (record { replica_there = number 1 _ (omega arith) (omega arith); worker_there = number 1 _ (omega arith) (omega arith); frame_there = tt }, refl), refl),
+  inl (Done, (record { replica_there = number 1 _ (omega arith) (omega arith); worker_there = number 1 _ (omega arith) (omega arith); message_there = tt }, refl), refl),
   (
     both (has 0 (at 1 10 1 ∷ [])) (has 0 []) [],
-    inl (Done, (record { replica_there = number 1 _ (omega arith) (omega arith); worker_there = number 1 _ (omega arith) (omega arith); frame_there = tt }, refl), refl),
+    inl (Done, (record { replica_there = number 1 _ (omega arith) (omega arith); worker_there = number 1 _ (omega arith) (omega arith); message_there = tt }, refl), refl),
     (
       both (has 0 (at 1 10 1 ∷ [])) (has 0 []) (entry_frame ∷ []),
-      inl (FrameNo 1, (record { replica_there = number 1 _ (omega arith) (omega arith); worker_there = tt; frame_there = tt }, (refl, refl)), refl),
+      inl (FrameNo 1, (record { replica_there = number 1 _ (omega arith) (omega arith); worker_there = tt; message_there = tt }, (refl, refl)), refl),
       (
         both (has 0 (at 1 10 1 ∷ [])) (has 0 (at 1 10 1 ∷ [])) (entry_frame ∷ []),
-        inl (Took 0 0, (record { replica_there = number 2 _ (omega arith) (omega arith); worker_there = tt; frame_there = number 1 _ (omega arith) (omega arith) }, record { added = []; answers = refl; many = refl; from = refl; becomes = refl }), refl),
+        inl (Took 0 0, (record { replica_there = number 2 _ (omega arith) (omega arith); worker_there = tt; message_there = number 1 _ (omega arith) (omega arith) }, record { added = []; answers = refl; many = refl; from = refl; becomes = refl }), refl),
         (
           both (has 0 (at 1 10 1 ∷ [])) (has 50 (at 1 10 1 ∷ [])) (entry_frame ∷ []),
-          inl (Kept 50, (record { replica_there = number 2 _ (omega arith) (omega arith); worker_there = tt; frame_there = tt }, (refl, refl)), refl),
+          inl (Kept 50, (record { replica_there = number 2 _ (omega arith) (omega arith); worker_there = tt; message_there = tt }, (refl, refl)), refl),
           (
             both (has 0 (at 1 10 1 ∷ [])) (has 50 (at 1 10 1 ∷ [])) (entry_frame ∷ []),
-            inl (Shown (holding_since 50 []), (record { replica_there = number 2 _ (omega arith) (omega arith); worker_there = tt; frame_there = tt }, (refl, refl)), refl),
+            inl (Shown (holding_since 50 []), (record { replica_there = number 2 _ (omega arith) (omega arith); worker_there = tt; message_there = tt }, (refl, refl)), refl),
             refl,
           ),
         ),
@@ -256,16 +256,16 @@ requested : (digests : List (List ℕ)) → IsDiffering digests (holding_since 5
 unfolding meaning line_of commands words number_up_to number_field deliver_of horizon_of show_of history buckets_in digits
 requested digests differ = printed (both (has 0 (at 1 10 1 ∷ [])) (has 50 (at 1 10 1 ∷ [])) (entry_frame ∷ Digests 1 0 digests ∷ [])) (both (has 50 (at 1 10 1 ∷ [])) (has 50 (at 1 10 1 ∷ [])) (entry_frame ∷ Digests 1 0 digests ∷ request_frame ∷ [])) 1 requested_table (
   both (has 0 (at 1 10 1 ∷ [])) (has 50 (at 1 10 1 ∷ [])) (entry_frame ∷ Digests 1 0 digests ∷ request_frame ∷ []),
-  inl (Took 1 3, (record { replica_there = number 2 _ (omega arith) (omega arith); worker_there = tt; frame_there = number 2 _ (omega arith) (omega arith) }, record { added = request_frame ∷ []; answers = (2, omega arith, differ, refl); many = refl; from = refl; becomes = refl }), refl),
+  inl (Took 1 3, (record { replica_there = number 2 _ (omega arith) (omega arith); worker_there = tt; message_there = number 2 _ (omega arith) (omega arith) }, record { added = request_frame ∷ []; answers = (2, omega arith, differ, refl); many = refl; from = refl; becomes = refl }), refl),
   (
     both (has 50 (at 1 10 1 ∷ [])) (has 50 (at 1 10 1 ∷ [])) (entry_frame ∷ Digests 1 0 digests ∷ request_frame ∷ []),
-    inl (Took 0 0, (record { replica_there = number 1 _ (omega arith) (omega arith); worker_there = tt; frame_there = number 3 _ (omega arith) (omega arith) }, record { added = []; answers = refl; many = refl; from = refl; becomes = refl }), refl),
+    inl (Took 0 0, (record { replica_there = number 1 _ (omega arith) (omega arith); worker_there = tt; message_there = number 3 _ (omega arith) (omega arith) }, record { added = []; answers = refl; many = refl; from = refl; becomes = refl }), refl),
     (
       both (has 50 (at 1 10 1 ∷ [])) (has 50 (at 1 10 1 ∷ [])) (entry_frame ∷ Digests 1 0 digests ∷ request_frame ∷ []),
-      inl (Shown (holding_since 50 []), (record { replica_there = number 1 _ (omega arith) (omega arith); worker_there = tt; frame_there = tt }, (refl, refl)), refl),
+      inl (Shown (holding_since 50 []), (record { replica_there = number 1 _ (omega arith) (omega arith); worker_there = tt; message_there = tt }, (refl, refl)), refl),
       (
         both (has 50 (at 1 10 1 ∷ [])) (has 50 (at 1 10 1 ∷ [])) (entry_frame ∷ Digests 1 0 digests ∷ request_frame ∷ []),
-        inl (Kept 50, (record { replica_there = number 1 _ (omega arith) (omega arith); worker_there = tt; frame_there = tt }, (refl, refl)), refl),
+        inl (Kept 50, (record { replica_there = number 1 _ (omega arith) (omega arith); worker_there = tt; message_there = tt }, (refl, refl)), refl),
         refl,
       ),
     ),
@@ -301,22 +301,22 @@ wide : Printed (both (knows []) (knows []) []) (codes "ref 1 1 0:4294967296 5\nf
 unfolding meaning line_of commands words number_up_to page_of number_field page_field after_field refer_of flush_of send_of deliver_of pin_of show_of history digits
 wide = printed (both (knows []) (knows []) []) (both (knows (wide_reference ∷ [])) (knows (wide_reference ∷ [])) (wide_frame ∷ [])) 1 wide_table (
   both (one small (kept 0 []) (wide_reference ∷ [])) (knows []) [],
-  inl (Done, (record { replica_there = number 1 _ (omega arith) (omega arith); worker_there = number 1 _ (omega arith) (omega arith); frame_there = tt }, refl), refl),
+  inl (Done, (record { replica_there = number 1 _ (omega arith) (omega arith); worker_there = number 1 _ (omega arith) (omega arith); message_there = tt }, refl), refl),
   (
     both (knows (wide_reference ∷ [])) (knows []) [],
-    inl (Done, (record { replica_there = number 1 _ (omega arith) (omega arith); worker_there = number 1 _ (omega arith) (omega arith); frame_there = tt }, refl), refl),
+    inl (Done, (record { replica_there = number 1 _ (omega arith) (omega arith); worker_there = number 1 _ (omega arith) (omega arith); message_there = tt }, refl), refl),
     (
       both (knows (wide_reference ∷ [])) (knows []) (wide_frame ∷ []),
-      inl (FrameNo 1, (record { replica_there = number 1 _ (omega arith) (omega arith); worker_there = tt; frame_there = tt }, (refl, refl)), refl),
+      inl (FrameNo 1, (record { replica_there = number 1 _ (omega arith) (omega arith); worker_there = tt; message_there = tt }, (refl, refl)), refl),
       (
         both (knows (wide_reference ∷ [])) (knows (wide_reference ∷ [])) (wide_frame ∷ []),
-        inl (Took 0 0, (record { replica_there = number 2 _ (omega arith) (omega arith); worker_there = tt; frame_there = number 1 _ (omega arith) (omega arith) }, record { added = []; answers = refl; many = refl; from = refl; becomes = refl }), refl),
+        inl (Took 0 0, (record { replica_there = number 2 _ (omega arith) (omega arith); worker_there = tt; message_there = number 1 _ (omega arith) (omega arith) }, record { added = []; answers = refl; many = refl; from = refl; becomes = refl }), refl),
         (
           both (knows (wide_reference ∷ [])) (knows (wide_reference ∷ [])) (wide_frame ∷ []),
-          inl (Shown (holding_since 0 (entry 4294967296 (Once (stamp 5 1)) ∷ [])), (record { replica_there = number 2 _ (omega arith) (omega arith); worker_there = tt; frame_there = tt }, (refl, refl)), refl),
+          inl (Shown (holding_since 0 (entry 4294967296 (Once (stamp 5 1)) ∷ [])), (record { replica_there = number 2 _ (omega arith) (omega arith); worker_there = tt; message_there = tt }, (refl, refl)), refl),
           (
             both (knows (wide_reference ∷ [])) (knows (wide_reference ∷ [])) (wide_frame ∷ []),
-            inl (Refused (Node (Pool NoPage)), (record { replica_there = number 1 _ (omega arith) (omega arith); worker_there = tt; frame_there = tt }, (small, (refl, (omega arith, omega arith, refl)), refl)), refl),
+            inl (Refused (Node (Pool NoPage)), (record { replica_there = number 1 _ (omega arith) (omega arith); worker_there = tt; message_there = tt }, (small, (refl, (omega arith, omega arith, refl)), refl)), refl),
             refl,
           ),
         ),
