@@ -7,5 +7,5 @@ use Rattle.warm_setup.proofs.command.command_of.Goals as goal
 pub returns-in_default : goal.returns-in_default
 returns-in_default g c =
     refused_for_value (map g.S.AsStr.text c.args.words.now) c.refused.result
-    (lacks_value (map g.S.AsStr.text c.args.words.now) c.in-Ok.ensures.kinds (c.in_default.ensures ∙ ap (option_and_then command_by) c.in-Ok.ensures.rows))
+    (lacks_value (map g.S.AsStr.text c.args.words.now) c.in_ok-matches.ensures.kinds (c.in_default.ensures ∙ ap (option_and_then command_by) c.in_ok-matches.ensures.rows))
     c.refused.ensures
