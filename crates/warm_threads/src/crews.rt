@@ -120,7 +120,7 @@ fn all_work<M: Absorbing + Send + Drop, R: Threads + Wait + Sync>(
     alloc: Global,
     crews: Vec<Crew<M>>,
 ) -> Result<Vec<Knowing<M>>, PlayFault>
-    requires { All (λ c. length c.jobs.items ≤ MAX_JOBS) crews.items }
+    requires few { All (λ c. length c.jobs.items ≤ MAX_JOBS) crews.items }
     ensures { IfOk result (λ v. Pairs (λ c k. Works M.goes c.jobs.items
         (M.view c.machine) (M.view k.machine)) crews.items v.items) }
 {

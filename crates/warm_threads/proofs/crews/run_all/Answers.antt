@@ -4,8 +4,8 @@ use Rattle.warm_threads.proofs.Pairings.{all_mapped, if_ok_then}
 use Rattle.warm_threads.proofs.Runnings.{went_all}
 use Rattle.warm_threads.proofs.crews.run_all.Goals as goal
 
-pub all_work-requires : goal.all_work-requires
-all_work-requires g c κs within = all_mapped _ (λ list. length list.items ≤ MAX_JOBS) c.in-Ok.crews.items c.args.jobs.items c.in-Ok.ensures.jobs c.requires.few
+pub all_work-requires-clause-few : goal.all_work-requires-clause-few
+all_work-requires-clause-few g c κs within = all_mapped _ (λ list. length list.items ≤ MAX_JOBS) c.in-Ok.crews.items c.args.jobs.items c.in-Ok.ensures.jobs c.requires.few
 
 pub returns : goal.returns
 returns g c =
