@@ -1,7 +1,7 @@
 -- Pages that stand one after the other.
 use Rattle.std.specs.Prelude.{ℕ, zero, suc, List, [], ◌∷◌, ◌++◌, take, drop}
 
--- so many pieces of one size
+-- this many pieces of one size
 unfoldable pub pieces : ℕ → ℕ → List ℕ → List (List ℕ)
 pieces zero size bytes = []
 pieces (suc n) size bytes = take size bytes ∷ pieces n size (drop size bytes)

@@ -1,6 +1,6 @@
 //! Page devices: numbered pages of one size, that flush what waits when they are dropped.
 //!
-//! [`PageDevice`] is the contract that a buffer pool stands on. A device is seen as plain data, its `state`: how many pages it has
+//! [`PageDevice`] is the contract that a buffer pool relies on. A device is seen as plain data, its `state`: how many pages it has
 //! and of what size, what they hold, whether a written page still waits for a flush, and how many of its calls have failed. A call
 //! refuses only where the count of failures grew by one in that call, where a count of `u64::MAX` stays and counts as grown.
 //!

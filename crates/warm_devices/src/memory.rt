@@ -43,7 +43,7 @@ impl MemDevice {
     /// A device of zero pages: `pages` of them, of `page_size` bytes each.
     ///
     /// # Errors
-    /// Where the room for the pages is refused, or is more than any memory.
+    /// Where memory for the pages is refused, or is more than any memory.
     pub fn new(alloc: Global, pages: u64, page_size: usize) -> Result<MemDevice, AllocError>
         ensures { IfOk result (λ device. device ≡ zeroed pages page_size) }
     {

@@ -156,10 +156,10 @@ either_list xs ys = cases _ (bytes_eq-Decides xs ys)
 
 -- the bucket is exchanged, or both have one text of it
 abbrev Settled : HistoryView → HistoryView → ℕ → ℕ → Type 0
-Settled h g mask bucket = (bit_at mask bucket ≡ 1) ⊎ (bucket_text h bucket ≡ bucket_text g bucket)
+Settled h g buckets bucket = (bit_at buckets bucket ≡ 1) ⊎ (bucket_text h bucket ≡ bucket_text g bucket)
 
-settled_or_not : (h g : HistoryView) (mask bucket : ℕ) → bucket < BUCKETS → IsDifferenceOf h g mask → Settled h g mask bucket ⊎ IsCollision h g
-settled_or_not h g mask bucket low differ = elim (cases_eq (bit_at mask bucket) 1) [
+settled_or_not : (h g : HistoryView) (buckets bucket : ℕ) → bucket < BUCKETS → IsDifferenceOf h g buckets → Settled h g buckets bucket ⊎ IsCollision h g
+settled_or_not h g buckets bucket low differ = elim (cases_eq (bit_at buckets bucket) 1) [
   | inl set ↦ inl (inl set)
   | inr clear ↦ elim (either_list (bucket_text h bucket) (bucket_text g bucket)) [
     | inl same ↦ inl (inr same)
@@ -170,14 +170,14 @@ settled_or_not h g mask bucket low differ = elim (cases_eq (bit_at mask bucket) 
   ]
 ]
 
-all_settled : (h g : HistoryView) (mask n : ℕ) → n ≤ BUCKETS → IsDifferenceOf h g mask → ((bucket : ℕ) → bucket < n → Settled h g mask bucket) ⊎ IsCollision h g
-all_settled h g mask zero few differ = inl (λ bucket below. absurd (omega (arith, below)))
-all_settled h g mask (suc n) few differ = elim (all_settled h g mask n (omega arith) differ) [
+all_settled : (h g : HistoryView) (buckets n : ℕ) → n ≤ BUCKETS → IsDifferenceOf h g buckets → ((bucket : ℕ) → bucket < n → Settled h g buckets bucket) ⊎ IsCollision h g
+all_settled h g buckets zero few differ = inl (λ bucket below. absurd (omega (arith, below)))
+all_settled h g buckets (suc n) few differ = elim (all_settled h g buckets n (omega arith) differ) [
   | inr collision ↦ inr collision
-  | inl before ↦ elim (settled_or_not h g mask n (omega arith) differ) [
+  | inl before ↦ elim (settled_or_not h g buckets n (omega arith) differ) [
     | inr collision ↦ inr collision
     | inl this ↦ inl (λ bucket below. elim (cases_eq bucket n) [
-      | inl same ↦ subst (Settled h g mask) (sym same) this
+      | inl same ↦ subst (Settled h g buckets) (sym same) this
       | inr other ↦ before bucket (omega arith)
     ])
   ]
@@ -188,27 +188,27 @@ all_settled h g mask (suc n) few differ = elim (all_settled h g mask n (omega ar
 low_bucket : (p : PageId) → page_bucket p < BUCKETS
 low_bucket p = omega arith
 
-exchanged : (S T : ReferenceSet) (mask : ℕ) → Fits (history S) → Fits (history T) → ((bucket : ℕ) → bucket < BUCKETS → Settled (history S) (history T) mask bucket) → history (T ∪ in_buckets mask S) ≡ history (T ∪ S)
-exchanged S T mask fits others settled =
-    let test : PageId → Bool = λ q. bit_at mask (page_bucket q) == 1 in
+exchanged : (S T : ReferenceSet) (buckets : ℕ) → Fits (history S) → Fits (history T) → ((bucket : ℕ) → bucket < BUCKETS → Settled (history S) (history T) buckets bucket) → history (T ∪ in_buckets buckets S) ≡ history (T ∪ S)
+exchanged S T buckets fits others settled =
+    let test : PageId → Bool = λ q. bit_at buckets (page_bucket q) == 1 in
     let m = max T.horizon S.horizon in
     let alike : (p : PageId) → hist (references T ++ kept test (references S)) p ≡ hist (references T ++ references S) p = λ p.
     hist_exchanged test (references S) (references T) p (λ clear. elim (settled (page_bucket p) (low_bucket p)) [
-      | inl set ↦ (let never : true ≡ false = sym (eq-eqb (bit_at mask (page_bucket p)) 1 set) ∙ clear in absurd (cc))
+      | inl set ↦ (let never : true ≡ false = sym (eq-eqb (bit_at buckets (page_bucket p)) 1 set) ∙ clear in absurd (cc))
       | inr text ↦ same_bucket_same_hist S T p (same_entries
           (bucket_entries (page_bucket p) (entries_of (history S))) (bucket_entries (page_bucket p) (entries_of (history T)))
           (all_filter IsEntry (λ e. page_bucket e.page == page_bucket p) (entries_of (history S)) fits)
           (all_filter IsEntry (λ e. page_bucket e.page == page_bucket p) (entries_of (history T)) others)
           text)
     ]) in
-    same_hists (T ∪ in_buckets mask S) (T ∪ S) refl (λ p.
-    ap (λ rs. hist rs p) (references-both T (in_buckets mask S))
+    same_hists (T ∪ in_buckets buckets S) (T ∪ S) refl (λ p.
+    ap (λ rs. hist rs p) (references-both T (in_buckets buckets S))
     ∙ ap (λ rs. hist (recent m (references T ++ rs)) p) (references-those (λ r. test r.page) S)
     ∙ kept_alike m (references T ++ kept test (references S)) (references T ++ references S) alike p
     ∙ ap (λ rs. hist rs p) (sym (references-both T S)))
 
 pub exchange_joins : ExchangeJoins
-exchange_joins S T mask fits others differ = elim (all_settled (history S) (history T) mask BUCKETS (omega arith) differ) [
-  | inl settled ↦ inl (exchanged S T mask fits others settled)
+exchange_joins S T buckets fits others differ = elim (all_settled (history S) (history T) buckets BUCKETS (omega arith) differ) [
+  | inl settled ↦ inl (exchanged S T buckets fits others settled)
   | inr collision ↦ inr collision
 ]

@@ -110,7 +110,7 @@ kept_with_references h g batch old new digests whole is kept marks bucket low cl
     ∙ ap (λ (k : HistoryView). bucket_entries bucket (entries_of k)) (raised_to_no_later h 0 whole (omega arith)) in
     kept bucket low (marks bucket clear).0 ∙ sym (ap digest_from same)
 
--- a bit of two masks together is clear where both are
+-- a bit of two sets of buckets together is clear where both are
 pub both_clear : (a b i : ℕ) → bit_at (bit_or a b) i ≡ 0 → (bit_at a i ≡ 0) × (bit_at b i ≡ 0)
 both_clear a b i clear = let is = bit_at_or a b i in (omega (arith, is, clear), omega (arith, is, clear))
 
@@ -164,13 +164,13 @@ all_renewed h digests count has = all_done digests h count (λ bucket low. has b
 pub others_right : (changed lost : ℕ) (h : List Entry) (old new : List (List ℕ)) → lost < 2 ^ 64 → IsKept changed h old → HasDigestsOf (bit_and changed (bit_not w64 lost)) h new → SameDigestsOutside (bit_and changed (bit_not w64 lost)) old new
     → IsKept (bit_and changed lost) h new
 others_right changed lost h old new fits kept has same bucket low clear =
-    let mask = bit_and changed (bit_not w64 lost) in
+    let buckets = bit_and changed (bit_not w64 lost) in
     let not_lost : bit_at (bit_not w64 lost) bucket ≡ 1 - bit_at lost bucket = bit_at_not w64 lost bucket fits low in
-    let chosen : bit_at mask bucket ≡ min (bit_at changed bucket) (1 - bit_at lost bucket) = bit_at_and changed (bit_not w64 lost) bucket ∙ ap (min (bit_at changed bucket)) not_lost in
+    let chosen : bit_at buckets bucket ≡ min (bit_at changed bucket) (1 - bit_at lost bucket) = bit_at_and changed (bit_not w64 lost) bucket ∙ ap (min (bit_at changed bucket)) not_lost in
     let left : min (bit_at changed bucket) (bit_at lost bucket) ≡ 0 = sym (bit_at_and changed lost bucket) ∙ clear in
     elim (cases_eq (bit_at changed bucket) 0) [
-      | inl unchanged ↦ (let out : bit_at mask bucket ≡ 0 = omega (arith, chosen, unchanged) in same bucket low out ∙ kept bucket low unchanged)
-      | inr marked ↦ (let in_it : bit_at mask bucket ≡ 1 = omega (arith, chosen, left, marked, bit_at-lt changed bucket, bit_at-lt lost bucket) in has bucket low in_it)
+      | inl unchanged ↦ (let out : bit_at buckets bucket ≡ 0 = omega (arith, chosen, unchanged) in same bucket low out ∙ kept bucket low unchanged)
+      | inr marked ↦ (let in_it : bit_at buckets bucket ≡ 1 = omega (arith, chosen, left, marked, bit_at-lt changed bucket, bit_at-lt lost bucket) in has bucket low in_it)
     ]
 
 -- digests of a history, with those that it would have at a horizon of the buckets that lose something there
@@ -192,10 +192,10 @@ right_since (Err why) changed lost horizon h own kept loses has same count = tt
 -- ---- marks
 
 -- a bit that is clear once another is set was so before, and is not that one
-pub marked : (mask i bucket : ℕ) → i < 64 → bit_at (bit_or mask (1 * 2 ^ i % 2 ^ 64)) bucket ≡ 0 → (bit_at mask bucket ≡ 0) × (i ≢ bucket)
-marked mask i bucket low clear = elim (cases_eq bucket i) [
-  | inl same ↦ (let one : bit_at (bit_or mask (1 * 2 ^ i % 2 ^ 64)) i ≡ 1 = bit_at_set_same w64 mask i low in
-      let none : bit_at (bit_or mask (1 * 2 ^ i % 2 ^ 64)) i ≡ 0 = subst (λ b. bit_at (bit_or mask (1 * 2 ^ i % 2 ^ 64)) b ≡ 0) same clear in
+pub marked : (buckets i bucket : ℕ) → i < 64 → bit_at (bit_or buckets (1 * 2 ^ i % 2 ^ 64)) bucket ≡ 0 → (bit_at buckets bucket ≡ 0) × (i ≢ bucket)
+marked buckets i bucket low clear = elim (cases_eq bucket i) [
+  | inl same ↦ (let one : bit_at (bit_or buckets (1 * 2 ^ i % 2 ^ 64)) i ≡ 1 = bit_at_set_same w64 buckets i low in
+      let none : bit_at (bit_or buckets (1 * 2 ^ i % 2 ^ 64)) i ≡ 0 = subst (λ b. bit_at (bit_or buckets (1 * 2 ^ i % 2 ^ 64)) b ≡ 0) same clear in
       absurd (omega (arith, one, none)))
-  | inr other ↦ (sym (bit_at_set_other w64 mask i low bucket other) ∙ clear, λ is. other (sym is))
+  | inr other ↦ (sym (bit_at_set_other w64 buckets i low bucket other) ∙ clear, λ is. other (sym is))
 ]

@@ -1,4 +1,4 @@
 mod Examples
 pub mod ExchangeLemmas
 pub mod KeptLemmas
-mod Masks
+mod BucketSets

@@ -23,6 +23,6 @@ digests_of h = map (bucket_digest h) (range_with_len 0 BUCKETS)
 abbrev pub digests_since : ℕ → HistoryView → List (List ℕ)
 digests_since horizon h = digests_of (entries_of (raised horizon h))
 
--- a bit of the mask is set exactly where the digests of the bucket of its number differ
+-- a bit of the set is set exactly where the digests of the bucket of its number differ
 abbrev pub MarksDiffering : ℕ → List (List ℕ) → List (List ℕ) → Type 0
-MarksDiffering mask left right = (bucket : ℕ) → bucket < BUCKETS → (bit_at mask bucket ≡ 1) ↔ (digest_at left bucket ≢ digest_at right bucket)
+MarksDiffering buckets left right = (bucket : ℕ) → bucket < BUCKETS → (bit_at buckets bucket ≡ 1) ↔ (digest_at left bucket ≢ digest_at right bucket)

@@ -23,12 +23,12 @@ pub record IsCollision (h g : HistoryView) : Type 0 where
 
 -- the bits of the buckets of which both have other digests
 abbrev pub IsDifferenceOf : HistoryView → HistoryView → ℕ → Type 0
-IsDifferenceOf h g mask = (bucket : ℕ) → bucket < BUCKETS
-    → (bit_at mask bucket ≡ 1) ↔ (sha256 (bucket_text h bucket) ≢ sha256 (bucket_text g bucket))
+IsDifferenceOf h g buckets = (bucket : ℕ) → bucket < BUCKETS
+    → (bit_at buckets bucket ≡ 1) ↔ (sha256 (bucket_text h bucket) ≢ sha256 (bucket_text g bucket))
 
--- the references of S to pages of the buckets of the mask
+-- the references of S to pages of these buckets
 abbrev pub in_buckets : ℕ → ReferenceSet → ReferenceSet
-in_buckets mask S = those (λ r. bit_at mask (page_bucket r.page) == 1) S
+in_buckets buckets S = those (λ r. bit_at buckets (page_bucket r.page) == 1) S
 
 -- the entries of a history are ones that there are
 abbrev pub Fits : HistoryView → Type 0
@@ -36,5 +36,5 @@ Fits h = AllByRecursion IsEntry (entries_of h)
 
 -- of S those in the buckets that differ, taken in with T, give the history of both, or there is a collision
 abbrev pub ExchangeJoins : Type 0
-ExchangeJoins = (S T : ReferenceSet) (mask : ℕ) → Fits (history S) → Fits (history T) → IsDifferenceOf (history S) (history T) mask
-    → (history (T ∪ in_buckets mask S) ≡ history (T ∪ S)) ⊎ IsCollision (history S) (history T)
+ExchangeJoins = (S T : ReferenceSet) (buckets : ℕ) → Fits (history S) → Fits (history T) → IsDifferenceOf (history S) (history T) buckets
+    → (history (T ∪ in_buckets buckets S) ≡ history (T ∪ S)) ⊎ IsCollision (history S) (history T)

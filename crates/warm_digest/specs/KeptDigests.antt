@@ -13,11 +13,11 @@ use Rattle.warm_digest.specs.BucketDigests.{bucket_digest}
 
 -- each bucket whose bit is set has its digest of the entries
 abbrev pub HasDigestsOf : ℕ → List Entry → List (List ℕ) → Type 0
-HasDigestsOf mask h digests = (bucket : ℕ) → bucket < BUCKETS → bit_at mask bucket ≡ 1 → digest_at digests bucket ≡ bucket_digest h bucket
+HasDigestsOf buckets h digests = (bucket : ℕ) → bucket < BUCKETS → bit_at buckets bucket ≡ 1 → digest_at digests bucket ≡ bucket_digest h bucket
 
 -- each bucket whose bit is clear has the digest that it had
 abbrev pub SameDigestsOutside : ℕ → List (List ℕ) → List (List ℕ) → Type 0
-SameDigestsOutside mask old new = (bucket : ℕ) → bucket < BUCKETS → bit_at mask bucket ≡ 0 → digest_at new bucket ≡ digest_at old bucket
+SameDigestsOutside buckets old new = (bucket : ℕ) → bucket < BUCKETS → bit_at buckets bucket ≡ 0 → digest_at new bucket ≡ digest_at old bucket
 
 -- each bucket that isn't marked as changed has its digest of the entries
 abbrev pub IsKept : ℕ → List Entry → List (List ℕ) → Type 0
@@ -35,6 +35,6 @@ Marks page old items new = (bucket : ℕ) → bit_at new bucket ≡ 0 → (bit_a
 abbrev pub TellsLoss : ℕ → HistoryView → ℕ → ℕ → Type 0
 TellsLoss horizon h bucket bit = (bit ≡ 1 → LosesIn horizon bucket h) × (bit ≡ 0 → KeepsIn horizon bucket h)
 
--- and so each bit of the mask
+-- and so each bit of the set
 abbrev pub MarksLosing : ℕ → HistoryView → ℕ → Type 0
-MarksLosing horizon h mask = (bucket : ℕ) → bucket < BUCKETS → TellsLoss horizon h bucket (bit_at mask bucket)
+MarksLosing horizon h buckets = (bucket : ℕ) → bucket < BUCKETS → TellsLoss horizon h bucket (bit_at buckets bucket)

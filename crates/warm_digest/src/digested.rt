@@ -14,7 +14,7 @@ use warm_history::{Entry, History};
 use warm_stamps::{BUCKETS, Bucket, PageId, Reference, bucket_of};
 
 /// A history whose bucket digests are kept: what it takes in marks buckets, which takes no memory, and
-/// [`DigestedHistory::digests`] takes anew only the digests of the marked ones.
+/// [`DigestedHistory::digests`] computes again only the digests of the marked ones.
 ///
 /// Contracts see it as its history.
 #[derive(Debug)]
@@ -104,7 +104,7 @@ impl DigestedHistory {
 
     /// Forgets all stamps before this time, as [`History::raise`] does.
     ///
-    /// Where the time is past the horizon, the next digests of the buckets that lost a stamp are taken again, and of no other. To know
+    /// Where the time is past the horizon, the next digests of the buckets that lost a stamp are computed again, and of no other. To know
     /// them each bucket is gone over once more, up to its first older stamp.
     pub fn raise(&mut self, time: u64)
         ensures exact { self.new ≡ history (since time (refs self.old)) }
@@ -126,8 +126,8 @@ impl DigestedHistory {
     /// The digests of its buckets.
     ///
     /// Costs nothing where nothing was taken in since the last call, and else what [`Digests::renew`] costs
-    /// for the buckets of what was. `AllocError` comes only where that was refused room; the next call
-    /// takes the same digests anew.
+    /// for the buckets of what was. `AllocError` comes only where memory for that was refused; the next call
+    /// computes the same digests again.
     pub fn digests(&mut self) -> Result<DigestTable, AllocError>
         ensures table { IfOk result (λ table. table ≡ digests_of (entries_of self.old)) }
         ensures same { self.new ≡ self.old }
@@ -141,7 +141,7 @@ impl DigestedHistory {
     ///
     /// Nothing is forgotten. Where the horizon is not past the own one, it costs what [`DigestedHistory::digests`] does. Else each bucket
     /// is gone over up to its first older stamp. Only the buckets that have one, and those changed since the last call, are hashed:
-    /// their entries as they are read, without what is older. `AllocError` comes only where room for the bytes of one entry was refused.
+    /// their entries as they are read, without what is older. `AllocError` comes only where memory for the bytes of one entry was refused.
     pub fn digests_since(&mut self, horizon: u64) -> Result<DigestTable, AllocError>
         ensures table { IfOk result (λ table. table ≡ digests_since horizon self.old) }
         ensures same { self.new ≡ self.old }
@@ -153,45 +153,45 @@ impl DigestedHistory {
     }
 }
 
-// The mask with the bit of the page's bucket.
-fn mark(mask: u64, page: PageId) -> u64
-    ensures { MarksPage mask page result }
+// The set of buckets, with the page's bucket.
+fn mark(buckets: u64, page: PageId) -> u64
+    ensures { MarksPage buckets page result }
 {
-    mask | 1 << bucket_of(page).get()
+    buckets | 1 << bucket_of(page).get()
 }
 
-// The mask with the buckets of the references' pages.
+// The set of buckets, with those of the references' pages.
 fn mark_references(changed: u64, batch: &[Reference]) -> u64
     ensures { Marks (λ r. r.page) changed batch.now result }
 {
-    let mut mask = changed;
+    let mut buckets = changed;
     for reference in batch {
-        mask = mark(mask, reference.page);
+        buckets = mark(buckets, reference.page);
     }
-    mask
+    buckets
 }
 
-// The buckets that would lose a stamp at the horizon, as a mask: bit b, of value 2^b, stands for bucket b.
+// The buckets that would lose a stamp at the horizon, as a set: bit b, of value 2^b, is set for bucket b.
 fn losing(history: &History, horizon: u64) -> u64
     ensures { MarksLosing horizon history.now result }
 {
-    let mut mask: u64 = 0;
+    let mut buckets: u64 = 0;
     for index in 0..BUCKETS {
         let Some(bucket) = Bucket::new(index) else {
             unreachable!()
         };
-        mask |= u64::from(history.loses(bucket, horizon)) << index;
+        buckets |= u64::from(history.loses(bucket, horizon)) << index;
     }
-    mask
+    buckets
 }
 
-// The mask with the buckets of the entries' pages.
+// The set of buckets, with those of the entries' pages.
 fn mark_entries(changed: u64, more: &[Entry]) -> u64
     ensures { Marks (λ e. e.page) changed more.now result }
 {
-    let mut mask = changed;
+    let mut buckets = changed;
     for entry in more {
-        mask = mark(mask, entry.page);
+        buckets = mark(buckets, entry.page);
     }
-    mask
+    buckets
 }

@@ -1,4 +1,5 @@
-//! Digests that are kept, and taken anew only of the buckets that changed.
+//! Digests that are kept, and computed again only for the buckets that changed. A set of buckets is a number of 64 bits: bit b, of value
+//! 2^b, is set where bucket b is in the set.
 ghost use Rattle.std.specs.Prelude.{◌≡◌, [], length, IfOk, OnOk, OnErr};
 ghost use Rattle.sha2.specs.Sha256.{sha256};
 ghost use Rattle.warm_stamps.specs.declared.TheConstants.{BUCKETS};
@@ -17,7 +18,7 @@ use warm_history::laws::is_history;
 use warm_history::{EntriesSince, Entry, History};
 use warm_stamps::{BUCKETS, Bucket};
 
-/// The digests of a history's buckets as they were when each was last taken.
+/// The digests of a history's buckets as they were when each was last computed.
 ///
 /// Contracts see the list of the digests, that of bucket 0 first.
 #[derive(Debug, Drop)]
@@ -56,41 +57,41 @@ impl Digests {
         DigestTable::of(self.digests)
     }
 
-    /// Takes the digests of the buckets whose bit is set in the mask anew, from this history; each other digest
-    /// stays as it is. Bit b, of value 2^b, stands for bucket b.
+    /// Computes the digests of these buckets again, from this history; each other digest stays as it is. Bit b of
+    /// `buckets`, of value 2^b, is set for bucket b.
     ///
-    /// Costs what going over the wanted buckets' entries and the hashing of their bytes cost; a mask of 0
-    /// costs nothing. `AllocError` comes only where room for the bytes of one entry was refused, and
+    /// Costs what going over the entries of these buckets and hashing their bytes cost; no bucket costs
+    /// nothing. `AllocError` occurs only where memory for the bytes of one entry was refused, and
     /// changes nothing.
-    pub fn renew(&mut self, history: &History, mask: u64) -> Result<(), AllocError>
-        ensures wanted { OnOk result (HasDigestsOf mask (entries_of history.now) self.new) }
-        ensures others { OnOk result (SameDigestsOutside mask self.old self.new) }
+    pub fn renew(&mut self, history: &History, buckets: u64) -> Result<(), AllocError>
+        ensures wanted { OnOk result (HasDigestsOf buckets (entries_of history.now) self.new) }
+        ensures others { OnOk result (SameDigestsOutside buckets self.old self.new) }
         ensures err { OnErr result (self.new ≡ self.old) }
     {
-        if mask == 0 {
+        if buckets == 0 {
             return Ok(());
         }
         // Nothing is older than the horizon, so digests since time 0 are digests of all entries.
         is_history(history);
-        self.digests = renewed(self.alloc, self.digests, history, 0, mask)?;
+        self.digests = renewed(self.alloc, self.digests, history, 0, buckets)?;
         Ok(())
     }
 
-    // These digests, but those of the wanted buckets as they would be of the history raised to the horizon. A mask of 0 costs nothing.
+    // These digests, but those of the wanted buckets as they would be of the history raised to the horizon. No bucket costs nothing.
     pub(crate) fn table_since(
         &self,
         history: &History,
         horizon: u64,
-        mask: u64,
+        buckets: u64,
     ) -> Result<DigestTable, AllocError>
-        ensures wanted { IfOk result (HasDigestsOf mask (entries_of (raised horizon history.now))) }
-        ensures others { IfOk result (SameDigestsOutside mask self.now) }
+        ensures wanted { IfOk result (HasDigestsOf buckets (entries_of (raised horizon history.now))) }
+        ensures others { IfOk result (SameDigestsOutside buckets self.now) }
         ensures count { IfOk result (λ table. length table ≡ BUCKETS) }
     {
-        if mask == 0 {
+        if buckets == 0 {
             return Ok(self.table());
         }
-        let digests = renewed(self.alloc, self.digests, history, horizon, mask)?;
+        let digests = renewed(self.alloc, self.digests, history, horizon, buckets)?;
         Ok(DigestTable::of(digests))
     }
 }
@@ -105,7 +106,7 @@ fn take_entry(hasher: &mut Sha256, text: &mut Vec<u8>, entry: Entry) -> Result<(
     Ok(())
 }
 
-// The digest of entries. The text is room for the bytes of one of them, and is written over.
+// The digest of entries. The text has capacity for the bytes of one of them, and is written over.
 fn digest_of(entries: EntriesSince<'_>, text: &mut Vec<u8>) -> Result<[u8; DIGEST_SIZE], AllocError>
     ensures { IfOk result (λ digest. digest ≡ sha256 (entries_bytes entries.entry)) }
 {
@@ -116,21 +117,21 @@ fn digest_of(entries: EntriesSince<'_>, text: &mut Vec<u8>) -> Result<[u8; DIGES
     Ok(hasher.finalize())
 }
 
-// The digests, of which those of the wanted buckets are taken again, from the history as it would be at the horizon: what is older is
+// The digests, of which those of the wanted buckets are computed again, from the history as it would be at the horizon: what is older is
 // skipped as it is read.
 fn renewed(
     alloc: Global,
     mut digests: [[u8; DIGEST_SIZE]; BUCKETS as usize],
     history: &History,
     horizon: u64,
-    mask: u64,
+    buckets: u64,
 ) -> Result<[[u8; DIGEST_SIZE]; BUCKETS as usize], AllocError>
-    ensures wanted { IfOk result (HasDigestsOf mask (entries_of (raised horizon history.now))) }
-    ensures others { IfOk result (SameDigestsOutside mask digests) }
+    ensures wanted { IfOk result (HasDigestsOf buckets (entries_of (raised horizon history.now))) }
+    ensures others { IfOk result (SameDigestsOutside buckets digests) }
 {
     let mut text = Vec::with_capacity(alloc, MAX_ENTRY_SIZE)?;
     for index in 0..BUCKETS {
-        if (mask >> index) % 2 == 1 {
+        if (buckets >> index) % 2 == 1 {
             let Some(bucket) = Bucket::new(index) else {
                 unreachable!()
             };

@@ -20,9 +20,9 @@ use warm_frames::DigestTable;
 use warm_history::History;
 use warm_stamps::{BUCKETS, Bucket};
 
-/// The digests of a history's buckets, all taken anew. It goes over the history once, bucket by bucket.
+/// The digests of a history's buckets, all computed again. It goes over the history once, bucket by bucket.
 ///
-/// `AllocError` comes only where room for the bytes of one entry was refused.
+/// `AllocError` comes only where memory for the bytes of one entry was refused.
 pub fn digests(alloc: Global, history: &History) -> Result<DigestTable, AllocError>
     ensures { IfOk result (λ table. table ≡ digests_of (entries_of history.now)) }
 {
@@ -31,17 +31,17 @@ pub fn digests(alloc: Global, history: &History) -> Result<DigestTable, AllocErr
     Ok(digests.table())
 }
 
-/// The buckets at which two tables differ, as a mask: bit b, of value 2^b, is set exactly where the
+/// The buckets at which two tables differ, as a set: bit b, of value 2^b, is set exactly where the
 /// digests of bucket b differ. Takes no memory.
 pub fn differing(left: &DigestTable, right: &DigestTable) -> u64
     ensures { MarksDiffering result left.now right.now }
 {
-    let mut mask: u64 = 0;
+    let mut buckets: u64 = 0;
     for index in 0..BUCKETS {
         let Some(bucket) = Bucket::new(index) else {
             unreachable!()
         };
-        mask |= u64::from(left.digest(bucket) != right.digest(bucket)) << index;
+        buckets |= u64::from(left.digest(bucket) != right.digest(bucket)) << index;
     }
-    mask
+    buckets
 }

@@ -171,7 +171,7 @@ entry_at format before bytes = do
 abbrev pub written_entry_at : Option PageId → List ℕ → Result (Entry × List ℕ) FrameFault
 written_entry_at before bytes = entry_at Wide before bytes
 
--- so many entries
+-- this many entries
 unfoldable pub entries_at : Format → ℕ → Option PageId → List ℕ → Result (List Entry × List ℕ) FrameFault
 entries_at format zero before bytes = Ok ([], bytes)
 entries_at format (suc n) before bytes = do
@@ -179,7 +179,7 @@ entries_at format (suc n) before bytes = do
   later ← entries_at format n (Some first.0.page) first.1
   Ok (first.0 ∷ later.0, later.1)
 
--- so many entries, the first of which comes after none
+-- this many entries, the first of which comes after none
 abbrev pub entries_from : Format → ℕ → List ℕ → Result (List Entry × List ℕ) FrameFault
 entries_from format count bytes = entries_at format count None bytes
 
@@ -190,7 +190,7 @@ count_at body = do
   few ← want (nat_le count.0 MAX_ENTRIES) BadCount
   Ok count
 
--- all of these bytes as so many entries
+-- all of these bytes as this many entries
 unfoldable pub all_entries : Format → ℕ → List ℕ → Result (List Entry) FrameFault
 all_entries format count bytes = do
   entries ← entries_from format count bytes
@@ -230,32 +230,32 @@ read_frame bytes = do
   body ← body_at start.0.format start.0.kind start.1
   frame_of start.0 body
 
--- how many entries of a body room is taken for
-abbrev pub entries_room : List ℕ → Result ℕ FrameFault
-entries_room body = do
+-- for how many entries of a body capacity is reserved
+abbrev pub entries_reserved : List ℕ → Result ℕ FrameFault
+entries_reserved body = do
   count ← count_at body
   Ok count.0
 
-abbrev pub room_in : Kind → List ℕ → Result ℕ FrameFault
-room_in kinds.Entries body = entries_room body
-room_in kinds.Digest body = Ok 0
-room_in kinds.Want body = Ok 0
+abbrev pub reserved_in : Kind → List ℕ → Result ℕ FrameFault
+reserved_in kinds.Entries body = entries_reserved body
+reserved_in kinds.Digest body = Ok 0
+reserved_in kinds.Want body = Ok 0
 
--- how many entries room is taken for: none, but where a frame of entries was read up to its count
-unfoldable pub room_of : List ℕ → Result ℕ FrameFault
-room_of bytes = do
+-- for how many entries capacity is reserved: none, but where a frame of entries was read up to its count
+unfoldable pub reserved_by : List ℕ → Result ℕ FrameFault
+reserved_by bytes = do
   start ← start_at bytes
   body ← body_at start.0.format start.0.kind start.1
-  room_in start.0.kind body
+  reserved_in start.0.kind body
 
--- room is taken, for one entry at least
-abbrev pub TakesRoom : Result ℕ FrameFault → Type 0
-TakesRoom room = (n : ℕ) × (0 < n) × (room ≡ Ok n)
+-- capacity is reserved, for one entry at least
+abbrev pub Reserves : Result ℕ FrameFault → Type 0
+Reserves reserved = (n : ℕ) × (0 < n) × (reserved ≡ Ok n)
 
--- A function answered what reading gives, or, where it takes room, that there was no memory for it.
+-- A function answered what reading gives, or, where it reserves capacity, that there was no memory for it.
 abbrev pub Gives : {X : Type 0} → Result X FrameFault → Result X FrameFault → Result ℕ FrameFault → Type 0
-Gives result read room = (result ≡ read) ⊎ ((result ≡ Err Memory) × TakesRoom room)
+Gives result read reserved = (result ≡ read) ⊎ ((result ≡ Err Memory) × Reserves reserved)
 
 -- The frame that the bytes spell, if one does, was answered, unless there was no memory for it.
 abbrev pub FindsSpelled : List ℕ → Result Message FrameFault → Type 0
-FindsSpelled bytes result = (frame : Message) → Spells bytes frame → Gives result (Ok frame) (room_of bytes)
+FindsSpelled bytes result = (frame : Message) → Spells bytes frame → Gives result (Ok frame) (reserved_by bytes)

@@ -25,7 +25,7 @@ pub struct Fed {
 /// Decodes frames that follow one another in a stream, however it is cut into pieces.
 ///
 /// It holds the bytes of the frame that has begun, never more, and gives a frame as soon as its last
-/// byte is there. Contracts see where it stands: inside a frame of which so many bytes have come, or
+/// byte is there. Contracts see where it stands: inside a frame of which that many bytes have come, or
 /// behind a fault.
 #[derive(Debug, Drop)]
 pub struct Decoder {
@@ -92,7 +92,7 @@ fn hold(held: &mut Vec<u8>, piece: &[u8]) -> Result<(), FrameFault>
     Ok(())
 }
 
-// What is told of a piece of which all was taken, and with which the frame isn't whole yet.
+// The answer to a piece of which all was taken, and with which the frame is not whole yet.
 fn all_of(piece: &[u8]) -> Fed
     ensures taken { result.taken ≡ length piece.now }
     ensures none { result.frame ≡ None }
@@ -140,7 +140,7 @@ impl Decoder {
     /// of them, where it isn't whole yet. What wasn't taken belongs to the next frame: it is fed again.
     ///
     /// Refused:
-    /// - `Memory`: room for the bytes, for the frame or for its entries was refused. Nothing was taken,
+    /// - `Memory`: memory for the bytes, for the frame or for its entries was refused. Nothing was taken,
     ///   and the same piece may be fed again;
     /// - any fault of [`decode`] but `Truncated`, as soon as the byte is there at which it is known: that
     ///   of a field of the header with the field's last byte, that of the body with the body's last byte.

@@ -29,7 +29,7 @@ impl Model for EntryList {
 impl EntryList {
     /// The entries as a list that a frame may carry. Takes no memory.
     ///
-    /// They are handed back where their pages don't rise, each above the one before it, or where
+    /// They are given back where their pages don't rise, each above the one before it, or where
     /// there are more than [`MAX_ENTRIES`].
     pub fn of(entries: Vec<Entry>) -> Result<EntryList, Vec<Entry>>
         ensures value { IfOk result (λ list. list ≡ entries.items) }

@@ -1,7 +1,7 @@
 //! Frames, and their spelling.
 ghost use Rattle.std.specs.Prelude.{◌≡◌, ◌⊎◌, IfOk, Err};
 ghost use Rattle.warm_frames.specs.Spelling.{spelling, Spells};
-ghost use Rattle.warm_frames.specs.Reading.{Gives, FindsSpelled, read_frame, room_of};
+ghost use Rattle.warm_frames.specs.Reading.{Gives, FindsSpelled, read_frame, reserved_by};
 
 use crate::digests::DigestTable;
 use crate::entries::EntryList;
@@ -47,7 +47,7 @@ pub enum Message {
 /// A list of frames, in the order in which they are sent. Contracts see the list.
 pub type MessageList = Items<Message>;
 
-/// The bytes that spell the frame. `AllocError` comes only where room for them was refused.
+/// The bytes that spell the frame. `AllocError` comes only where memory for them was refused.
 pub fn encode(alloc: Global, frame: &Message) -> Result<Vec<u8>, AllocError>
     // What is written spells the frame, so that it is decoded again.
     ensures spells { IfOk result (λ bytes. Spells bytes.items frame.now) }
@@ -85,7 +85,7 @@ pub fn encode(alloc: Global, frame: &Message) -> Result<Vec<u8>, AllocError>
 ///   2048 and a request 8;
 /// - `Truncated`: fewer bytes follow than the length says, then `BadLength`: more;
 /// - `BadCount`: more entries than [`crate::MAX_ENTRIES`];
-/// - `Memory`: room for the entries was refused. It is taken here, once, only where there are any;
+/// - `Memory`: memory for the entries was refused. It is allocated here, once, only where there are any;
 /// - for each entry `BadLength`: fewer than 10 bytes for the page (6 in `L2G1`), `BadOrder`: a page not above the
 ///   one before, `BadLength`: no byte for the tag, `BadTag`: neither 1 nor 2, `BadLength`: fewer
 ///   than 10 or 20 bytes for the stamps, `BadStamp`: no number of a replica, or a second stamp that
@@ -97,12 +97,12 @@ pub fn decode(alloc: Global, bytes: &[u8]) -> Result<Message, FrameFault>
     // What is spelled so is decoded, unless there is no memory.
     ensures only { FindsSpelled bytes.now result }
     // Which fault it is.
-    ensures first { Gives result (read_frame bytes.now) (room_of bytes.now) }
+    ensures first { Gives result (read_frame bytes.now) (reserved_by bytes.now) }
 {
     frame_in(alloc, bytes)
 }
 
-/// A frame in memory of its own: a pointer, where a [`Message`] has room for a table of digests, which is
+/// A frame in memory of its own: a pointer, where a [`Message`] has space for a table of digests, which is
 /// some 2,080 bytes. Contracts see the frame.
 #[derive(Debug, Drop)]
 pub struct BoxedMessage {

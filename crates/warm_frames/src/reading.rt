@@ -3,7 +3,7 @@
 ghost use Rattle.std.specs.Prelude.{◌≡◌, ◌≤◌, [], vec_capacity};
 ghost use Rattle.std.specs.Int.{w16, w32, w64};
 ghost use Rattle.warm_history.specs.Carried.{comes_after};
-ghost use Rattle.warm_frames.specs.Reading.{Reads, number_at, byte_at, kind_of, may_have, horizon_at, start_at, length_at, body_at, front_at, stamp_in, two_in, hist_at, page_at, entry_at, entries_from, count_at, all_entries, entries_of, digests_of, read_frame, room_of, entries_room, Gives};
+ghost use Rattle.warm_frames.specs.Reading.{Reads, number_at, byte_at, kind_of, may_have, horizon_at, start_at, length_at, body_at, front_at, stamp_in, two_in, hist_at, page_at, entry_at, entries_from, count_at, all_entries, entries_of, digests_of, read_frame, reserved_by, entries_reserved, Gives};
 ghost use Rattle.warm_frames.specs.Sizes.{frame_size};
 
 use crate::digests::DigestTable;
@@ -261,7 +261,7 @@ fn entries_at<'a>(
     bytes: &'a [u8],
 ) -> Result<&'a [u8], FrameFault>
     requires empty { entries.old.items ≡ [] }
-    requires room { count ≤ vec_capacity entries.old }
+    requires capacity { count ≤ vec_capacity entries.old }
     ensures { Reads (λ rest. (entries.new.items, rest.now)) result
         (entries_from format count bytes.now) }
 {
@@ -291,7 +291,7 @@ fn count_at(body: &[u8]) -> Result<(u32, &[u8]), FrameFault>
     Ok((count, rest))
 }
 
-// All of these bytes as entries, in a vector that has room for them.
+// All of these bytes as entries, in a vector with capacity for them.
 #[tactic(auto, unfolding(crate::specs::Reading::all_entries))]
 fn all_entries(
     mut entries: Vec<Entry>,
@@ -300,7 +300,7 @@ fn all_entries(
     bytes: &[u8],
 ) -> Result<Vec<Entry>, FrameFault>
     requires empty { entries.items ≡ [] }
-    requires room { count ≤ vec_capacity entries }
+    requires capacity { count ≤ vec_capacity entries }
     ensures { Reads (λ all. all.items) result (all_entries format count bytes.now) }
 {
     let rest = entries_at(&mut entries, format, count, bytes)?;
@@ -313,7 +313,7 @@ fn all_entries(
 // The entries of a body. Room for them is taken once.
 #[tactic(auto, unfolding(crate::specs::Reading::entries_of))]
 fn entries_of(alloc: Global, format: Format, body: &[u8]) -> Result<EntryList, FrameFault>
-    ensures { Gives result (entries_of format body.now) (entries_room body.now) }
+    ensures { Gives result (entries_of format body.now) (entries_reserved body.now) }
 {
     let (count, rest) = count_at(body)?;
     let entries = Vec::with_capacity(alloc, count as usize)?;
@@ -333,9 +333,9 @@ fn digests_of(body: &[u8]) -> Result<DigestTable, FrameFault>
 }
 
 /// The frame that the bytes spell, or the first fault.
-#[tactic(auto, unfolding(crate::specs::Reading::read_frame, crate::specs::Reading::frame_of, crate::specs::Reading::room_of))]
+#[tactic(auto, unfolding(crate::specs::Reading::read_frame, crate::specs::Reading::frame_of, crate::specs::Reading::reserved_by))]
 pub(crate) fn frame_in(alloc: Global, bytes: &[u8]) -> Result<Message, FrameFault>
-    ensures { Gives result (read_frame bytes.now) (room_of bytes.now) }
+    ensures { Gives result (read_frame bytes.now) (reserved_by bytes.now) }
 {
     let (format, kind, sender, horizon, rest) = match start_at(bytes) {
         Ok(start) => start,

@@ -1,4 +1,4 @@
-//! Writing frames. The room for all bytes is taken first.
+//! Writing frames. The capacity for all bytes is allocated first.
 ghost use Rattle.std.specs.Prelude.{◌≡◌, ◌≤◌, ◌*◌, ◌++◌, length, IfOk, OnOk};
 ghost use Rattle.warm_stamps.specs.Bytes.{IsReplica, bytes_of_stamp};
 ghost use Rattle.warm_frames.specs.declared.layout.TheConstants.{MAX_ENTRIES, MAX_ENTRY_SIZE, TWICE_SIZE};
@@ -17,7 +17,7 @@ use std::alloc::{AllocError, Global};
 use warm_history::{Entry, PageHist};
 use warm_stamps::{ReplicaId, Stamp, page_bytes};
 
-// The header of a frame, with room for a body of this length.
+// The header of a frame, with capacity for a body of this length.
 fn header(
     alloc: Global,
     kind: u8,
@@ -69,7 +69,7 @@ fn put_hist(text: &mut Vec<u8>, hist: PageHist) -> Result<(), AllocError>
 /// Puts the bytes of an entry, as they stand in a frame and as they are digested, behind the text: its
 /// page, a tag, which is the number of its stamps, and the stamps, the later one first.
 ///
-/// `AllocError` comes only where room for them was refused, so never where the text has room for
+/// `AllocError` comes only where memory for them was refused, so never where the text has capacity for
 /// [`crate::MAX_ENTRY_SIZE`] bytes more. A part of them may then stand there.
 pub fn put_entry(text: &mut Vec<u8>, entry: &Entry) -> Result<(), AllocError>
     ensures { OnOk result (text.new.items ≡ text.old.items ++ entry_bytes entry.now) }

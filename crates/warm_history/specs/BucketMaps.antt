@@ -67,7 +67,7 @@ PlacesRise pairs = IsRising (on (λ e. e.0) nat_cmp) pairs
 abbrev pub found : ℕ → Pairs → Option PageHist
 found place pairs = lookup (is_at (nat_cmp place)) pairs
 
--- the note tells what the pairs had at the place; without one, they are as they were
+-- the note says what the pairs had at the place; without one, they are as they were
 abbrev pub IsNote : Option Known → ℕ → Pairs → Pairs → Type 0
 IsNote None place old new = new ≡ old
 IsNote (Some k) place old new = (k.place ≡ place) × (k.hist ≡ found place old)

@@ -39,7 +39,7 @@ pub record AreKept (pairs : Pairs) : Type 0 where
   pub are_places : AllByRecursion (λ e. IsPlace e.0) pairs
   pub stamps_fall : AllByRecursion (λ e. IsFalling e.1) pairs
 
--- what is told by a page's stamps
+-- the references of a page's stamps
 abbrev pub told_at : ℕ → PageHist → List Reference
 told_at place h = entry_refs (record { page = page_at place; hist = h })
 

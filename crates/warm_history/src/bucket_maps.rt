@@ -21,7 +21,7 @@ use warm_stamps::BUCKETS;
 // How many maps there are.
 const MAPS: usize = BUCKETS as usize;
 
-// No map has as many pairs as this, so that those of all maps can be counted. So many have no room in any memory.
+// No map has as many pairs as this, so that those of all maps can be counted. No memory holds that many.
 pub(crate) const MOST: usize = 288_230_376_151_711_744;
 
 // What was known of the page at a place before it changed.
@@ -105,7 +105,7 @@ impl BucketMaps {
         self.maps[bucket_at(place)].get(&place).copied()
     }
 
-    // Takes in what is told of the page at a place, and tells what was known of it, where that changes.
+    // Takes in the stamps given for the page at a place, and returns what was known of it, where that changes.
     pub(crate) fn record(
         &mut self,
         place: u128,
@@ -199,7 +199,7 @@ fn count_all(maps: &[BTreeMap<u128, PageHist>]) -> usize
     count
 }
 
-// Takes in what is told of the page at a place of the map's own bucket.
+// Takes in the stamps given for the page at a place of the map's own bucket.
 fn record_in(
     map: &mut BTreeMap<u128, PageHist>,
     place: u128,
@@ -225,7 +225,7 @@ fn record_in(
     Ok(Some(Known { place, hist: None }))
 }
 
-// Takes more into what is known of a page, and tells what was known before, where that changes.
+// Takes more into what is known of a page, and returns what was known before, where that changes.
 fn raise(known: &mut PageHist, more: PageHist) -> Option<PageHist>
     ensures now { Some known.new ≡ latest_of (stamps_held more ++ stamps_held known.old) }
     ensures before { IfSome result (λ h. h ≡ known.old) }

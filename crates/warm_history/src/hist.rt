@@ -168,7 +168,7 @@ fn since_both(two: Two, horizon: u64) -> Option<PageHist>
     Some(PageHist::Twice(two))
 }
 
-// Forgets the stamps older than the horizon, and tells whether one is left.
+// Forgets the stamps older than the horizon, and returns whether one is left.
 pub(crate) fn keep_since(hist: &mut PageHist, horizon: u64) -> bool
     ensures { cond result (Some hist.new) None ≡ kept_hist horizon hist.old }
 {

@@ -174,7 +174,7 @@ impl History {
     /// Takes in references, in any order, of which any may be known already.
     ///
     /// Time grows with the batch, and with the logarithm of the number of pages. `AllocError` comes
-    /// only where room for what was known of the batch's pages, or for a new page, was refused, and
+    /// only where memory for what was known of the batch's pages, or for a new page, was refused, and
     /// changes nothing.
     pub fn absorb(&mut self, batch: &[Reference]) -> Result<(), AllocError>
         ensures ok { OnOk result (TakesIn self.old (these batch.now) self.new) }
@@ -188,7 +188,7 @@ impl History {
     /// Takes in all that the other history holds.
     ///
     /// The other is gone over once, and each of its pages is looked up here. `AllocError` comes only
-    /// where room for what was known of these pages, or for a new page, was refused, and changes
+    /// where memory for what was known of these pages, or for a new page, was refused, and changes
     /// nothing.
     pub fn join(&mut self, other: &History) -> Result<(), AllocError>
         ensures ok { OnOk result (TakesIn self.old (refs other.now) self.new) }
@@ -204,7 +204,7 @@ impl History {
     /// Takes in all that these entries hold, which may come in any order and name a page often.
     ///
     /// The entries are gone over once, and each page is looked up here. `AllocError` comes only where
-    /// room for what was known of these pages, or for a new page, was refused, and changes nothing.
+    /// memory for what was known of these pages, or for a new page, was refused, and changes nothing.
     pub fn join_entries(&mut self, horizon: u64, more: &[Entry]) -> Result<(), AllocError>
         ensures ok { OnOk result
             (TakesIn self.old (refs (holding_since horizon more.now)) self.new) }
@@ -217,7 +217,7 @@ impl History {
         Ok(())
     }
 
-    /// A second history, equal to this one. `AllocError` comes only where its room was refused.
+    /// A second history, equal to this one. `AllocError` comes only where its memory was refused.
     pub fn copy(&self) -> Result<History, AllocError>
         ensures { IfOk result (λ copied. copied ≡ self.now) }
     {
@@ -234,7 +234,7 @@ impl History {
     /// pages rise, and the stamps of each page fall. The page `after` may be of any bucket.
     ///
     /// It costs a look-up, and a step for each entry that is given: no other is read. `AllocError`
-    /// comes only where room for them was refused.
+    /// comes only where memory for them was refused.
     pub fn entries(
         &self,
         bucket: Bucket,
@@ -266,7 +266,7 @@ pub struct Entries<'a> {
     left: AllParts<'a>,
 }
 
-// It shows the name alone: the parts of all buckets would tell a reader little.
+// It shows the name alone: the parts of all buckets would say little to a reader.
 impl fmt::Debug for Entries<'_> {
     fn fmt<W: fmt::Write>(&self, f: &mut fmt::Formatter<W>) -> fmt::Result {
         f.write_str("Entries")

@@ -94,7 +94,7 @@ pub(crate) fn take_pairs(
     Ok(())
 }
 
-// Takes in what is told of the page at a place, and notes what was known of it.
+// Takes in the stamps given for the page at a place, and notes what was known of it.
 fn take(
     maps: &mut BucketMaps,
     undo: &mut Vec<Known>,
@@ -115,7 +115,7 @@ fn take(
     Ok(())
 }
 
-// Takes in what is told of the page at a place that isn't older than the horizon.
+// Takes in the stamps given for the page at a place that are not older than the horizon.
 fn take_recent(
     maps: &mut BucketMaps,
     undo: &mut Vec<Known>,
@@ -190,7 +190,7 @@ fn take_each_pair(
     Ok(())
 }
 
-// Forgets what is older than a time that is past the horizon, and tells the horizon from then on.
+// Forgets what is older than a time that is past the horizon, and returns the horizon from then on.
 pub(crate) fn raise(maps: &mut BucketMaps, horizon: u64, time: u64) -> u64
     requires kept { AreKept maps.old }
     requires recent { NoneOlder horizon (kept maps.old) }

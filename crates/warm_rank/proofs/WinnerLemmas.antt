@@ -77,10 +77,10 @@ pub played_shape : (n : ℕ) (nodes : List ℕ) → HasLeaves n nodes → (p w :
 played_shape n nodes shape p w lt below = record {
   some = shape.some;
   few = shape.few;
-  room = length-set nodes p w ∙ shape.room;
+  size = length-set nodes p w ∙ shape.size;
   leaves = λ s in_range. let ne : n + s ≢ p = omega arith in get_or-set_other nodes p (n + s) w 0 ne ∙ shape.leaves s in_range;
   in_range = λ j high. elim (cases_eq j p) [
-    | inl e ↦ let room : p < length nodes = omega (arith, shape.room) in let is : get_or (set nodes p w) j 0 ≡ w = ap (λ t. get_or (set nodes p w) t 0) e ∙ get_or-set_same nodes p w 0 room in subst (λ t. t < n) (sym is) below
+    | inl e ↦ let room : p < length nodes = omega (arith, shape.size) in let is : get_or (set nodes p w) j 0 ≡ w = ap (λ t. get_or (set nodes p w) t 0) e ∙ get_or-set_same nodes p w 0 room in subst (λ t. t < n) (sym is) below
     | inr ne ↦ subst (λ t. t < n) (sym (get_or-set_other nodes p j w 0 ne)) (shape.in_range j high)
   ];
 }
@@ -88,7 +88,7 @@ played_shape n nodes shape p w lt below = record {
 -- ---- the leaves
 
 pub record HasLeavesBelow (n : ℕ) (nodes : List ℕ) (next : ℕ) : Type 0 where
-  pub room : length nodes ≡ 2 * n
+  pub size : length nodes ≡ 2 * n
   pub leaves : (s : ℕ) → s < next → get_or nodes (n + s) 0 ≡ s
   pub in_range : (j : ℕ) → j < 2 * n → get_or nodes j 0 < n
 
@@ -102,7 +102,7 @@ read_at nodes i x is lt = is ∙ any_default nodes i x 0 lt
 
 -- what is read at a node is a slot
 pub read_below : (n : ℕ) (nodes : List ℕ) → HasLeaves n nodes → (i x : ℕ) → i < 2 * n → x ≡ get_or nodes i x → x < n
-read_below n nodes shape i x lt is = subst (λ t. t < n) (sym (read_at nodes i x is (omega (arith, shape.room, lt)))) (shape.in_range i lt)
+read_below n nodes shape i x lt is = subst (λ t. t < n) (sym (read_at nodes i x is (omega (arith, shape.size, lt)))) (shape.in_range i lt)
 
 module _ {K : Type 0} (cmp : K → K → Ordering) where
   -- ---- two slots
@@ -181,7 +181,7 @@ module _ {K : Type 0} (cmp : K → K → Ordering) where
   play_step keys nodes node shape low high rest j jlow jhigh =
       let p : ℕ = node / 2 in
       let plow : 0 < p = omega arith in
-      let phigh : p < length nodes = omega (arith, shape.room) in
+      let phigh : p < length nodes = omega (arith, shape.size) in
       elim (cases_eq j p) [
         | inl e ↦ inl (subst (λ t. IsPlayed cmp keys (set nodes p (match_at keys nodes p)) t) (sym e) (now_played keys nodes p plow phigh))
         | inr ne ↦ elim (cases_eq (2 * j) p) [
@@ -279,7 +279,7 @@ module _ {K : Type 0} (cmp : K → K → Ordering) where
       let p : ℕ = node / 2 in
       let inner : p < length keys = omega (arith, high) in
       let under : p < node = omega (arith, low) in
-      let room : p < length nodes = omega (arith, shape.room, high) in
+      let room : p < length nodes = omega (arith, shape.size, high) in
       let old : List (Option K) = changed.0 in
       let key : Option K = changed.1 in
       let is : keys ≡ set old slot key = changed.3 in
@@ -304,15 +304,15 @@ module _ {K : Type 0} (cmp : K → K → Ordering) where
 
   pub play_next : (keys : List (Option K)) (nodes : List ℕ) (p : ℕ) → HasLeaves (length keys) nodes → 0 < p → p < length keys → ArePlayedFrom keys nodes (p + 1) → ArePlayedFrom keys (set nodes p (match_at keys nodes p)) p
   play_next keys nodes p shape low high rest j jlow jhigh = elim (cases_eq j p) [
-    | inl e ↦ let lt : p < length nodes = omega (arith, shape.room) in subst (λ t. IsPlayed cmp keys (set nodes p (match_at keys nodes p)) t) (sym e) (now_played keys nodes p low lt)
+    | inl e ↦ let lt : p < length nodes = omega (arith, shape.size) in subst (λ t. IsPlayed cmp keys (set nodes p (match_at keys nodes p)) t) (sym e) (now_played keys nodes p low lt)
     | inr ne ↦ still_played keys nodes p (match_at keys nodes p) j ne (omega arith) (omega arith) (rest j (omega arith) jhigh)
   ]
 
   -- what was read and played is the match
   pub match_read : (keys : List (Option K)) (nodes : List ℕ) (p a b w : ℕ) → HasLeaves (length keys) nodes → p < length keys → a ≡ get_or nodes (2 * p) a → b ≡ get_or nodes (2 * p + 1) b → w ≡ winner cmp keys a b → w ≡ match_at keys nodes p
   match_read keys nodes p a b w shape lt is_a is_b is =
-      let in_a : 2 * p < length nodes = omega (arith, shape.room) in
-      let in_b : 2 * p + 1 < length nodes = omega (arith, shape.room) in
+      let in_a : 2 * p < length nodes = omega (arith, shape.size) in
+      let in_b : 2 * p + 1 < length nodes = omega (arith, shape.size) in
       is ∙ winner_same keys _ _ _ _ (read_at nodes (2 * p) a is_a in_a) (read_at nodes (2 * p + 1) b is_b in_b)
 
 module _ {K : Type 0} (cmp : K → K → Ordering) (total : IsTotalOrder cmp) where
@@ -413,7 +413,7 @@ module _ {K : Type 0} (cmp : K → K → Ordering) (total : IsTotalOrder cmp) wh
 
   -- the root, as it is read
   pub root_read : (keys : List (Option K)) (nodes : List ℕ) → IsTree cmp keys nodes → (root : ℕ) → root ≡ get_or nodes 1 root → root ≡ get_or nodes 1 0
-  root_read keys nodes tree root is = let some : 0 < length keys = tree.shape.some in let lt : 1 < length nodes = omega (arith, tree.shape.room) in read_at nodes 1 root is lt
+  root_read keys nodes tree root is = let some : 0 < length keys = tree.shape.some in let lt : 1 < length nodes = omega (arith, tree.shape.size) in read_at nodes 1 root is lt
 
   -- the least slot, from the root and its key as they are read
   pub least_read : (keys : List (Option K)) (nodes : List ℕ) → IsTree cmp keys nodes → (root : ℕ) → root ≡ get_or nodes 1 root → record { within : root < length keys; none : is_some (key_at keys root) ≡ false → IsLeast cmp keys None; some : is_some (key_at keys root) ≡ true → IsLeast cmp keys (Some root) }

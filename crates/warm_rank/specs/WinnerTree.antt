@@ -17,7 +17,7 @@ IsPlayed cmp keys nodes j = slice_index nodes j ≡ winner cmp keys (slice_index
 pub record HasLeaves (n : ℕ) (nodes : List ℕ) : Type 0 where
   pub some : 0 < n
   pub few : n ≤ MAX_SLOTS
-  pub room : length nodes ≡ 2 * n
+  pub size : length nodes ≡ 2 * n
   pub leaves : (slot : ℕ) → slot < n → slice_index nodes (n + slot) ≡ slot
   pub in_range : (j : ℕ) → j < 2 * n → slice_index nodes j < n
 

@@ -96,7 +96,7 @@ fn none_set(alloc: Global, slots: usize) -> Result<Vec<bool>, AllocError>
     Ok(is_set)
 }
 
-// Room for keys. What stands there means nothing until it is set.
+// Capacity for keys. What stands there means nothing until it is set.
 fn no_keys<K: Copy>(alloc: Global, slots: usize, unused: K) -> Result<Vec<K>, AllocError>
     ensures { IfOk result (λ keys. length keys.items ≡ slots) }
 {

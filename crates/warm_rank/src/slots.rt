@@ -12,7 +12,7 @@ use warm_stamps::PageId;
 
 /// Slots that each may have a key, and the slot of the least of them. Contracts see the list of the keys.
 ///
-/// A pool sets the key of a slot whose page may leave; the least key is then that of the victim. All room is taken when
+/// A pool sets the key of a slot whose page may leave; the least key is then that of the victim. All memory is allocated when
 /// the contest is made. It is a winner tree (Knuth, The Art of Computer Programming, volume 3, section 5.4.1): a changed
 /// key is compared at most once for each level, and the least is read at the root.
 #[derive(Debug, Drop)]

@@ -33,7 +33,7 @@ fn keys_of(alloc: Global, history: &History) -> Result<Vec<PackedKey>, AllocErro
     Ok(keys)
 }
 
-// The keys of entries; room for `count` of them is taken first.
+// The keys of entries; capacity for `count` of them is allocated first.
 fn keys_of_entries(
     alloc: Global,
     count: usize,

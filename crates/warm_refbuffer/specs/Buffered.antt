@@ -23,11 +23,11 @@ pub record IsCapacity (capacity : ℕ) : Type 0 where
   pub from_one : 1 ≤ capacity
   pub in_range : capacity ≤ MAX_CAPACITY
 
--- a buffer in which so many references wait has a capacity for them, and room for its capacity
-pub record IsBuffer (waiting capacity room : ℕ) : Type 0 where
+-- a buffer with this many references waiting has a capacity for them, and has allocated that capacity
+pub record IsBuffer (waiting capacity allocated : ℕ) : Type 0 where
   pub is_capacity : IsCapacity capacity
   pub within : waiting ≤ capacity
-  pub has_room : capacity ≤ room
+  pub is_allocated : capacity ≤ allocated
 
 -- the number and the name of each refusal
 abbrev pub code_of : BufferFault → ℕ

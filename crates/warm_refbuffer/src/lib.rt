@@ -1,7 +1,7 @@
 //! A worker's buffer of references.
 //!
 //! A worker that references pages puts each reference into a buffer of its own, and the buffer moves to
-//! the replica's history in one piece. A buffer takes all its room when it is made, so that putting a
+//! the replica's history in one piece. A buffer allocates its whole capacity when it is made, so that putting a
 //! reference into it takes no memory.
 #![tactic(auto)]
 
@@ -39,7 +39,7 @@ impl Model for RefBuffer {
 /// Why no buffer was made.
 #[derive(Clone, Copy, Debug, PartialEq, Eq, Error)]
 pub enum BufferFault {
-    /// 1: there was no memory for the room.
+    /// 1: there was no memory for the buffer.
     #[error("Memory")]
     Memory,
     /// 2: the capacity is outside 1 to [`MAX_CAPACITY`].
@@ -47,7 +47,7 @@ pub enum BufferFault {
     BadCapacity,
 }
 
-// Where the room is refused, that is `Memory`.
+// Where the allocation is refused, that is `Memory`.
 impl From<AllocError> for BufferFault {
     ghost use Rattle.std.specs.Prelude.{◌≡◌};
     ghost use Rattle.warm_refbuffer.specs.declared.BufferFault.TheVariants.{Memory};
@@ -103,10 +103,10 @@ impl Full {
 }
 
 impl RefBuffer {
-    /// An empty buffer for `capacity` references, whose room is taken here.
+    /// An empty buffer for `capacity` references, whose memory is allocated here.
     ///
     /// Refused as `BadCapacity` where `capacity` is outside 1 to [`MAX_CAPACITY`], and else as `Memory` where
-    /// the room is refused.
+    /// the memory is refused.
     pub fn new(alloc: Global, capacity: usize) -> Result<RefBuffer, BufferFault>
         ensures value { IfOk result (λ b. b ≡ record { refs = []; capacity = capacity }) }
         ensures capacity { IsOk result → IsCapacity capacity }
@@ -156,7 +156,7 @@ impl RefBuffer {
         self.capacity <= self.refs.len()
     }
 
-    /// Puts a reference last. It takes no memory. A full buffer hands the reference back and stays as
+    /// Puts a reference last. It takes no memory. A full buffer gives the reference back and stays as
     /// it was.
     pub fn touch(&mut self, reference: Reference) -> Result<(), Full>
         ensures taken { length self.old.refs < self.old.capacity
@@ -171,14 +171,14 @@ impl RefBuffer {
         Err(Full(reference))
     }
 
-    /// Empties the buffer, and keeps its room.
+    /// Empties the buffer, and keeps its capacity.
     pub fn clear(&mut self)
         ensures { self.new ≡ record self.old { refs = [] } }
     {
         self.refs.clear();
     }
 
-    /// Empties the buffer, keeps its room, and puts this reference in as the first. Any capacity has room for one, so nothing is
+    /// Empties the buffer, keeps its capacity, and puts this reference in as the first. Any capacity is one at least, so nothing is
     /// refused. It takes no memory.
     pub fn start_with(&mut self, reference: Reference)
         ensures { self.new ≡ with_last (cleared self.old) reference }

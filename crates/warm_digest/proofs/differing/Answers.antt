@@ -2,7 +2,7 @@ use Rattle.std.proofs.Common.{◌≡◌, ◌≢◌, ◌↔◌, ap, arith, subst,
 use Rattle.std.specs.Prelude.{bytes_eq}
 use Rattle.std.specs.Int.{from_bool}
 use Rattle.warm_frames.specs.Digests.{digest_at}
-use Rattle.warm_digest.proofs.Masks.{is_set, seen_more, rest_more}
+use Rattle.warm_digest.proofs.BucketSets.{is_set, seen_more, rest_more}
 use Rattle.warm_digest.proofs.differing.Goals as goal
 
 pub loop-index-preserved : goal.loop-index-preserved
@@ -15,8 +15,8 @@ loop-index-preserved c =
     let here = is_set c.digest.result c.digest-in-loop-index.result c.from.result given in
     let both = subst (λ x. (c.from.result ≡ 1) ↔ (x ≢ c.digest-in-loop-index.result)) (c.digest.ensures ∙ ap (digest_at left) c.in-Some.ensures.value) here in
     record {
-      seen = seen_more (λ b bit. (bit ≡ 1) ↔ (digest_at left b ≢ digest_at right b)) c.loop-index.mask index c.from.result (not (bytes_eq c.digest.result c.digest-in-loop-index.result)) c.loop-index-test.true given
+      seen = seen_more (λ b bit. (bit ≡ 1) ↔ (digest_at left b ≢ digest_at right b)) c.loop-index.buckets index c.from.result (not (bytes_eq c.digest.result c.digest-in-loop-index.result)) c.loop-index-test.true given
           (so_far.rest index (omega arith))
           (subst (λ y. (c.from.result ≡ 1) ↔ (digest_at left index ≢ y)) (c.digest-in-loop-index.ensures ∙ ap (digest_at right) c.in-Some.ensures.value) both) so_far.seen;
-      rest = rest_more c.loop-index.mask index c.from.result c.ne.result c.loop-index-test.true c.from.ensures so_far.rest;
+      rest = rest_more c.loop-index.buckets index c.from.result c.ne.result c.loop-index-test.true c.from.ensures so_far.rest;
     }

@@ -5,6 +5,6 @@ use Rattle.warm_digest.proofs.digested.losing.Given as goal
 
 abbrev pub invariant-loop-index : goal.invariant-loop-index
 invariant-loop-index l = record {
-  seen : (bucket : ℕ) → bucket < l.index → TellsLoss l.horizon l.history bucket (bit_at l.mask bucket);
-  rest : (bucket : ℕ) → l.index ≤ bucket → bit_at l.mask bucket ≡ 0;
+  seen : (bucket : ℕ) → bucket < l.index → TellsLoss l.horizon l.history bucket (bit_at l.buckets bucket);
+  rest : (bucket : ℕ) → l.index ≤ bucket → bit_at l.buckets bucket ≡ 0;
 }

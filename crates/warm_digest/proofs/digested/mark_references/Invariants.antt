@@ -8,5 +8,5 @@ use Rattle.warm_digest.proofs.digested.mark_references.Given as goal
 -- a bucket whose bit is clear was so at first, and none of the pages so far is in it
 abbrev pub invariant-loop-reference : goal.invariant-loop-reference
 invariant-loop-reference l =
-    (bucket : ℕ) → bit_at l.mask bucket ≡ 0
+    (bucket : ℕ) → bit_at l.buckets bucket ≡ 0
     → (bit_at l.changed bucket ≡ 0) × ((k : ℕ) (other : Reference) → k < l.reference-index → page_bucket (slice_index_or l.batch k other).page ≢ bucket)

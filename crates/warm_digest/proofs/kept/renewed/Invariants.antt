@@ -12,6 +12,6 @@ use Rattle.warm_digest.proofs.kept.renewed.Given as goal
 abbrev pub invariant-loop-index : goal.invariant-loop-index
 invariant-loop-index l = record {
   all : length l.digests ≡ BUCKETS;
-  wanted : (bucket : ℕ) → bucket < l.index → bit_at l.mask bucket ≡ 1 → digest_at l.digests bucket ≡ bucket_digest (entries_of (raised l.horizon l.history)) bucket;
-  others : SameDigestsOutside l.mask l.fn.digests l.digests;
+  wanted : (bucket : ℕ) → bucket < l.index → bit_at l.buckets bucket ≡ 1 → digest_at l.digests bucket ≡ bucket_digest (entries_of (raised l.horizon l.history)) bucket;
+  others : SameDigestsOutside l.buckets l.fn.digests l.digests;
 }
