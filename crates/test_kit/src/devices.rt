@@ -28,8 +28,8 @@ pub fn flaky(alloc: Global, pages: u64, n: u64) -> Result<Flaky<MemDevice>, Allo
 }
 
 // An empty list with the capacity for a number of devices.
-fn room<D: PageDevice>(alloc: Global, count: usize) -> Result<Vec<D>, AllocError>
-    ensures room { IfOk result (λ devices. count ≤ vec_capacity devices) }
+fn reserved<D: PageDevice>(alloc: Global, count: usize) -> Result<Vec<D>, AllocError>
+    ensures capacity { IfOk result (λ devices. count ≤ vec_capacity devices) }
     ensures empty { IfOk result (λ devices. length devices.items ≡ 0) }
 {
     if let Ok(devices) = Vec::with_capacity(alloc, count) {
@@ -46,7 +46,7 @@ fn room<D: PageDevice>(alloc: Global, count: usize) -> Result<Vec<D>, AllocError
 pub fn alone<D: PageDevice>(alloc: Global, device: D) -> Result<Vec<D>, AllocError>
     ensures { IfOk result (λ devices. length devices.items ≡ 1) }
 {
-    let mut devices = room(alloc, 1)?;
+    let mut devices = reserved(alloc, 1)?;
     devices.push_reserved(device);
     Ok(devices)
 }
@@ -58,7 +58,7 @@ pub fn alone<D: PageDevice>(alloc: Global, device: D) -> Result<Vec<D>, AllocErr
 pub fn both<D: PageDevice>(alloc: Global, first: D, second: D) -> Result<Vec<D>, AllocError>
     ensures { IfOk result (λ devices. length devices.items ≡ 2) }
 {
-    let mut devices = room(alloc, 2)?;
+    let mut devices = reserved(alloc, 2)?;
     devices.push_reserved(first);
     devices.push_reserved(second);
     Ok(devices)

@@ -8,7 +8,7 @@ use warm_stamps::Reference;
 /// A reference in plain numbers: the page's device and its number there, a time, and a replica.
 pub type SeenAt = (u16, u64, u64, u16);
 
-fn room(alloc: Global, count: usize) -> Result<Vec<Reference>, AllocError> {
+fn reserved(alloc: Global, count: usize) -> Result<Vec<Reference>, AllocError> {
     match Vec::with_capacity(alloc, count) {
         Ok(batch) => Ok(batch),
         Err(_) => Vec::with_capacity(alloc, count),
@@ -20,7 +20,7 @@ fn room(alloc: Global, count: usize) -> Result<Vec<Reference>, AllocError> {
 /// # Errors
 /// Where the memory for them is refused twice.
 pub fn references(alloc: Global, given: &[SeenAt]) -> Result<Vec<Reference>, AllocError> {
-    let mut batch = room(alloc, given.len())?;
+    let mut batch = reserved(alloc, given.len())?;
     for (dev, no, time, number) in given {
         batch.push(seen(page_on(*dev, *no), *time, *number))?;
     }

@@ -28,7 +28,7 @@ impl Note {
     /// A note without entries, for a device of `pages` pages of `page_size` bytes.
     ///
     /// # Errors
-    /// Where the room for it is refused.
+    /// Where memory for it is refused.
     pub fn blank(
         alloc: Global,
         pages: u64,

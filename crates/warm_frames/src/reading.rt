@@ -11,8 +11,8 @@ use crate::entries::EntryList;
 use crate::fault::FrameFault;
 use crate::format::{Format, entry_size, format_of, header_size};
 use crate::layout::{
-    COUNT_SIZE, DIGEST_KIND, DIGEST_SIZE, DIGESTS, ENTRIES_KIND, REQUEST_SIZE, MAX_ENTRIES,
-    NARROW_PAGE_ID_SIZE, ONCE_TAG, PAGE_ID_SIZE, STAMP_SIZE, TABLE_SIZE, TWICE_TAG, WANT_KIND,
+    COUNT_SIZE, DIGEST_KIND, DIGEST_SIZE, DIGESTS, ENTRIES_KIND, MAX_ENTRIES, NARROW_PAGE_ID_SIZE,
+    ONCE_TAG, PAGE_ID_SIZE, REQUEST_SIZE, STAMP_SIZE, TABLE_SIZE, TWICE_TAG, WANT_KIND,
 };
 use crate::message::Message;
 use std::alloc::Global;

@@ -10,8 +10,8 @@ ghost use Rattle.warm_frames.specs.Spelling.{header_bytes, SpellsIn};
 use crate::digests::DigestTable;
 use crate::entries::EntryList;
 use crate::layout::{
-    COUNT_SIZE, DIGEST_KIND, ENTRIES_KIND, HEADER_SIZE, MAGIC, REQUEST_SIZE, ONCE_SIZE, ONCE_TAG,
-    PAGE_ID_SIZE, TABLE_SIZE, TWICE_SIZE, TWICE_TAG, WANT_KIND,
+    COUNT_SIZE, DIGEST_KIND, ENTRIES_KIND, HEADER_SIZE, MAGIC, ONCE_SIZE, ONCE_TAG, PAGE_ID_SIZE,
+    REQUEST_SIZE, TABLE_SIZE, TWICE_SIZE, TWICE_TAG, WANT_KIND,
 };
 use std::alloc::{AllocError, Global};
 use warm_history::{Entry, PageHist};
