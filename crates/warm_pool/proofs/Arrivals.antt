@@ -86,8 +86,8 @@ module _ {s : PoolState} {ds : List DeviceState} {p : PageId} {bytes : List ℕ}
       pub still_there : i < length fs.frames
       still_there = subst (λ k. i < k) (sym (ap length c.frames ∙ length-set s.frames i (cleaned (nth_frame s.frames i)))) there
 
-      pub still_room : (k : ℕ) → (nth_frame s.frames i).generation < k → (nth_frame fs.frames i).generation < k
-      still_room k lt = subst (λ g. g < k) (sym (ap (λ f. f.generation) nth_old)) lt
+      pub still_below : (k : ℕ) → (nth_frame s.frames i).generation < k → (nth_frame fs.frames i).generation < k
+      still_below k lt = subst (λ g. g < k) (sym (ap (λ f. f.generation) nth_old)) lt
 
       pub still_size : length (nth_frame fs.frames i).bytes ≡ fs.page_size
       still_size = w.frame_size i still_there

@@ -115,7 +115,7 @@ pub on_err : {T E : Type 0} (result : Result T E) (P : Type 0) → P → OnErr r
 on_err (Ok x) P is = tt
 on_err (Err e) P is = is
 
--- an error that is handed on
+-- an error that is passed on
 pub handed_on : {T E : Type 0} (r : Result T E) (e : E) (P : E → Type 0) → IsErrAnd r (λ y. y ≡ e) → P e → IfErr r P
 handed_on (Ok x) e P is p = tt
 handed_on (Err y) e P is p = subst P (sym is) p

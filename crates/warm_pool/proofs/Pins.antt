@@ -25,9 +25,9 @@ stays_by old new failures e = e ∙ ap (λ (f : List ℕ). let v : PoolView = re
 pub put_refused : (s t : PoolState) (h : HistoryView) (i : ℕ) (p : PageId) → IsPlace h (view_of s) (Some i) → (nth_frame s.frames i).generation < 2 ^ 64 - 1
     → (why : PoolFault) → LoadFails s i p why t → PutRefused h (view_of s) p why (view_of t)
 put_refused s t h i p place room ReadFault l =
-    ((i, record { place = place; room = subst (λ f. f.generation < 2 ^ 64 - 1) (sym (frame_seen s i)) room }), l.1)
+    ((i, record { place = place; below = subst (λ f. f.generation < 2 ^ 64 - 1) (sym (frame_seen s i)) room }), l.1)
 put_refused s t h i p place room WriteBack l =
-    (i, l.page, record { place = place; room = subst (λ f. f.generation < 2 ^ 64 - 1) (sym (frame_seen s i)) room }, ap (λ f. f.page) (frame_seen s i) ∙ l.holds, l.fails)
+    (i, l.page, record { place = place; below = subst (λ f. f.generation < 2 ^ 64 - 1) (sym (frame_seen s i)) room }, ap (λ f. f.page) (frame_seen s i) ∙ l.holds, l.fails)
 put_refused s t h i p place room why l = absurd l
 
 pub same_frames : (s t : PoolState) (i : ℕ) (p : PageId) (why : PoolFault) → LoadFails s i p why t → t.frames ≡ s.frames
@@ -52,7 +52,7 @@ pub loaded_puts : (s t : PoolState) (i : ℕ) (p : PageId) (key : RankKey) (n : 
 loaded_puts s t i p key n l h away place gen is room = record {
   absent = absent_seen s p away;
   place = place;
-  room = subst (λ f. f.generation < 2 ^ 64 - 1) (sym (frame_seen s i)) (subst (λ g. g < 2 ^ 64 - 1) is room);
+  below = subst (λ f. f.generation < 2 ^ 64 - 1) (sym (frame_seen s i)) (subst (λ g. g < 2 ^ 64 - 1) is room);
   current = ap (λ g. g + 1) (is ∙ sym (ap (λ f. f.generation) (frame_seen s i)));
   becomes = l.rest ∙ ap (λ (fs : List FrameView). let x : PoolView = record (view_of s) { frames = fs; contents = (view_of t).contents } in x)
       (ap (map frame_view) l.frames

@@ -55,7 +55,7 @@ passed_more pages page at to passed other first frame less is = elim (cases_lt f
 -- the link of a frame in the page's chain
 pub next_in_chain : (pages : List (Option PageId)) (heads next : List ℕ) (page : PageId) (from at : ℕ) → AreLinked pages heads next → at < length pages → IsFirstFrom (chains_of pages) (chain_of (length pages) (Some page)) from at → IsFirstFrom (chains_of pages) (chain_of (length pages) (Some page)) (suc at) (get_or next at 0)
 next_in_chain pages heads next page from at linked lt first =
-    let room : length heads ≡ length pages + 1 = linked.room in
+    let room : length heads ≡ length pages + 1 = linked.size in
     let b : ℕ = chain_of (length pages) (Some page) in
     let less = chain_of_page (length pages) page (omega arith) in
     let lt_chains : at < length (chains_of pages) = subst (λ n. at < n) (sym (count_chains pages)) lt in
@@ -73,11 +73,11 @@ first_is_free pages at first lt =
 
 -- the head of that chain, and as the code reads it
 first_free : (pages : List (Option PageId)) (heads next : List ℕ) → AreLinked pages heads next → IsFirstFrom (chains_of pages) (length pages) 0 (get_or heads (length pages) 0)
-first_free pages heads next linked = linked.chains.heads_are (length pages) (let room : length heads ≡ length pages + 1 = linked.room in omega arith)
+first_free pages heads next linked = linked.chains.heads_are (length pages) (let room : length heads ≡ length pages + 1 = linked.size in omega arith)
 
 head_read : (pages : List (Option PageId)) (heads next : List ℕ) (frames at : ℕ) → AreLinked pages heads next → frames ≡ length pages → at ≡ get_or heads frames at → IsFirstFrom (chains_of pages) (length pages) 0 at
 head_read pages heads next frames at linked count is =
-    let room : length heads ≡ length pages + 1 = linked.room in
+    let room : length heads ≡ length pages + 1 = linked.size in
     let read : at ≡ get_or heads (length pages) 0 = get_or_read heads frames at (omega arith) is 0 ∙ ap (λ m. get_or heads m 0) count in
     subst (λ m. IsFirstFrom (chains_of pages) (length pages) 0 m) (sym read) (first_free pages heads next linked)
 
@@ -98,7 +98,7 @@ set_linked pages heads next new_heads new_next frame held linked lt same chains 
     let count : length (set pages frame held) ≡ length pages = length-set pages frame held in
     record {
       few = subst (λ n. n ≤ 65536) (sym count) linked.few;
-      room = same ∙ linked.room ∙ ap (λ n. n + 1) (sym count);
+      size = same ∙ linked.size ∙ ap (λ n. n + 1) (sym count);
       chains = subst (λ bs. AreChains bs new_heads new_next) (sym (chains_set pages frame held)) chains;
     }
 
@@ -166,6 +166,6 @@ module _ (n : ℕ) (pages : List (Option PageId)) (heads next : List ℕ) (no_pa
   pub none_linked : n ≤ 65536 → AreLinked pages heads next
   none_linked few = record {
     few = subst (λ m. m ≤ 65536) (sym count) few;
-    room = heads_count ∙ ap (λ m. m + 1) (sym count);
-    chains = record { next_room = turn.count ∙ sym count_all; heads_are = heads_of_none; next_are = λ frame low in_chain. next_of_none frame low };
+    size = heads_count ∙ ap (λ m. m + 1) (sym count);
+    chains = record { next_size = turn.count ∙ sym count_all; heads_are = heads_of_none; next_are = λ frame low in_chain. next_of_none frame low };
   }

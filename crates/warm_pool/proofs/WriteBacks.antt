@@ -111,7 +111,7 @@ cleans_view s t i c =
     unseen : set (map frame_view s.frames) i (frame_view (nth_frame s.frames i)) ≡ map frame_view s.frames
     unseen = ap (set (map frame_view s.frames) i) (sym (mapped frame_view s.frames i (fresh_frame []))) ∙ set-get_or (map frame_view s.frames) i (frame_view (fresh_frame []))
 
--- the same, of a pool whose frames were told so
+-- the same, of a pool whose frames are given by an equation
 pub cleaned_pool_to : (old new : FramesState) {spare : ℕ} {devices ds : List DeviceState} {i : ℕ} {q : PageId} {bytes : List ℕ} {result : Result (Unit {0}) DeviceFault}
     → WroteBack (pool_from old spare devices) ds i q bytes result → result ≡ Ok tt → new ≡ record old { frames = set old.frames i (cleaned (nth_frame old.frames i)) }
     → IsPool (pool_from new spare ds)

@@ -48,7 +48,7 @@ IsNextVictim s page = (h : HistoryView) → RankedBy s h → IsVictim (refs h) (
 pub record AddsFix (old : PoolView) (p : PageId) (slot : Slot) (new : PoolView) : Type 0 where
   pub there : slot.index < length old.frames
   pub resident : (frame_at old slot.index).page ≡ Some p
-  pub room : (frame_at old slot.index).fixes < 2 ^ 32 - 1
+  pub below : (frame_at old slot.index).fixes < 2 ^ 32 - 1
   pub current : slot.generation ≡ (frame_at old slot.index).generation
   pub becomes : new ≡ record old { frames = set old.frames slot.index (record (frame_at old slot.index) { fixes = (frame_at old slot.index).fixes + 1 }) }
 
@@ -59,11 +59,11 @@ pub record StaysIn (old : PoolView) (p : PageId) (slot : Slot) (new : PoolView) 
   pub current : slot.generation ≡ (frame_at old slot.index).generation
   pub same : new ≡ old
 
--- the page was in no frame, and was put into the slot's frame with so many fixes
+-- the page was in no frame, and was put into the slot's frame with this many fixes
 pub record PutsIn (h : HistoryView) (old : PoolView) (p : PageId) (fixes : ℕ) (slot : Slot) (new : PoolView) : Type 0 where
   pub absent : IsAbsent old p
   pub place : IsPlace h old (Some slot.index)
-  pub room : (frame_at old slot.index).generation < 2 ^ 64 - 1
+  pub below : (frame_at old slot.index).generation < 2 ^ 64 - 1
   pub current : slot.generation ≡ (frame_at old slot.index).generation + 1
   pub becomes : new ≡ record old { frames = set old.frames slot.index (record { page = Some p; generation = slot.generation; fixes = fixes }); contents = new.contents }
   pub contents : KeepsContents old new
@@ -88,10 +88,10 @@ pub record TakesFrame (old : PoolState) (p : PageId) (slot : Slot) (new : PoolSt
 
 -- Why it is refused
 
--- there is a frame for a page that comes in, with room for a generation more
+-- there is a frame for a page that comes in, whose generation can rise by one
 pub record HasRoom (h : HistoryView) (old : PoolView) (i : ℕ) : Type 0 where
   pub place : IsPlace h old (Some i)
-  pub room : (frame_at old i).generation < 2 ^ 64 - 1
+  pub below : (frame_at old i).generation < 2 ^ 64 - 1
 
 -- a page that is in no frame isn't put into one: all pages are fixed, the frame's generation is the last, the page wasn't read, or
 -- the page that would leave wasn't written
@@ -142,7 +142,7 @@ FixRefused old i fault new = (fault ≡ FixesFull) × ((nth_frame old.frames i).
 abbrev pub IsNextPlace : PoolState → Option ℕ → Type 0
 IsNextPlace s place = (h : HistoryView) → RankedBy s h → IsPlace h (view_of s) place
 
--- the page is in the frame, as its device has it, with this rank and so many fixes
+-- the page is in the frame, as its device has it, with this rank and this many fixes
 pub record LoadsInto (old : PoolState) (i : ℕ) (p : PageId) (key : RankKey) (n : ℕ) (new : PoolState) : Type 0 where
   pub bytes : List ℕ
   pub frames : new.frames ≡ set old.frames i (record { page = Some p; key = Some key; generation = (nth_frame old.frames i).generation + 1; fixes = n; dirty = false; bytes = bytes })

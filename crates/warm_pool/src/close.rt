@@ -97,7 +97,7 @@ impl<D: PageDevice> Pool<D> {
     /// their frames, and it is dropped, with nothing waiting on it. The new device may have another number of pages.
     ///
     /// # Errors
-    /// In this order; each hands the new device back, and leaves pages, fixes and contents as they were.
+    /// In this order; each gives the new device back, and leaves pages, fixes and contents as they were.
     /// - `NoDevice`: there is no device of this number.
     /// - `SizeDiffers`: the pages of the new device have another size than those of the pool.
     /// - `Fixed`: a page of the device is fixed.

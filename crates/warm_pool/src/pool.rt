@@ -83,13 +83,13 @@ impl<D: PageDevice> Pool<D> {
         devices
     }
 
-    /// A pool of this many frames, none with a page, over these devices. All room that it needs is taken here.
+    /// A pool of this many frames, none with a page, over these devices. All memory that it needs is allocated here.
     ///
     /// There may be [`MAX_DEVICES`] devices at most.
     ///
     /// # Errors
     /// `BadFrames` where `frames` is outside 1 to [`warm_rank::MAX_SLOTS`]; else `SizeDiffers` where `page_size` is outside 1 to
-    /// [`MAX_PAGE_SIZE`], or is not that of each device; else `Memory`. Each hands the devices back.
+    /// [`MAX_PAGE_SIZE`], or is not that of each device; else `Memory`. Each gives the devices back.
     pub fn new(
         alloc: Global,
         frames: usize,
@@ -367,7 +367,7 @@ impl<D: PageDevice> Pool<D> {
         Ok(())
     }
 
-    // Whether so many bytes from `at` on are within a page.
+    // Whether `len` bytes from `at` on are within a page.
     fn is_within(&self, at: usize, len: usize) -> bool
         ensures { IsTrue result ↔ (at + len ≤ (view_of self.now).page_size) }
     {
@@ -413,7 +413,7 @@ impl<D: PageDevice> Pool<D> {
         }
     }
 
-    // Puts a page that is in no frame into one, with so many fixes.
+    // Puts a page that is in no frame into one, with this many fixes.
     fn bring(&mut self, page: PageId, history: &History, fixes: u32) -> Result<Slot, PoolFault>
         requires ranked { RankedBy self.old history.now }
         requires known { HasPage (view_of self.old) page }
@@ -455,7 +455,7 @@ impl<D: PageDevice> Pool<D> {
         fixes: u32,
     ) -> Result<(), PoolFault>
         requires there { at < length self.old.frames }
-        requires room { (nth_frame self.old.frames at).generation < 2 ^ 64 - 1 }
+        requires below { (nth_frame self.old.frames at).generation < 2 ^ 64 - 1 }
         requires device { page.dev < length self.old.devices }
         requires known { page.no < (nth_device self.old.devices page.dev).pages }
         requires absent { IsNowhere self.old.frames page }

@@ -1,7 +1,7 @@
 use Rattle.std.proofs.Common.{◌<◌, ◌∙◌, ap, refl, length, sym, subst}
 use Rattle.warm_pool.specs.Frames.{nth_frame}
 use Rattle.warm_pool.proofs.Loads.{ok_if_no_err, err_if, on_ok, on_err}
-use Rattle.warm_pool.proofs.Arrivals.{fetched_in, fetched_pool, fetch_failed, leave_failed, still_there, still_room, still_size, arrived_pool, loads_into}
+use Rattle.warm_pool.proofs.Arrivals.{fetched_in, fetched_pool, fetch_failed, leave_failed, still_there, still_below, still_size, arrived_pool, loads_into}
 use Rattle.warm_pool.proofs.pool.Pool.load_into.Goals as goal
 
 pub put-requires-clause-there : goal.put-requires-clause-there
@@ -9,10 +9,10 @@ put-requires-clause-there g c =
     let fetched = fetched_in c.self.view_is c.self.invariant c.requires.device c.requires.known c.requires.absent c.read_page.ensures.call in
     still_there fetched (ok_if_no_err _ c.if-is_err.ensures.value) c.write_back.new.frames c.args.at (subst (λ s. c.args.at < length s.frames) (sym c.self.view_is) c.requires.there) (c.read_page.ensures.len ∙ c.self.invariant.spare_size) c.write_back.ensures.fit (on_ok _ (ok_if_no_err _ c.if-is_err-2.ensures.value) c.write_back.ensures.done)
 
-pub put-requires-clause-room : goal.put-requires-clause-room
-put-requires-clause-room g c =
+pub put-requires-clause-below : goal.put-requires-clause-below
+put-requires-clause-below g c =
     let fetched = fetched_in c.self.view_is c.self.invariant c.requires.device c.requires.known c.requires.absent c.read_page.ensures.call in
-    still_room fetched (ok_if_no_err _ c.if-is_err.ensures.value) c.write_back.new.frames c.args.at (subst (λ s. c.args.at < length s.frames) (sym c.self.view_is) c.requires.there) (c.read_page.ensures.len ∙ c.self.invariant.spare_size) c.write_back.ensures.fit (on_ok _ (ok_if_no_err _ c.if-is_err-2.ensures.value) c.write_back.ensures.done) _ (subst (λ s. (nth_frame s.frames c.args.at).generation < 18446744073709551615) (sym c.self.view_is) c.requires.room)
+    still_below fetched (ok_if_no_err _ c.if-is_err.ensures.value) c.write_back.new.frames c.args.at (subst (λ s. c.args.at < length s.frames) (sym c.self.view_is) c.requires.there) (c.read_page.ensures.len ∙ c.self.invariant.spare_size) c.write_back.ensures.fit (on_ok _ (ok_if_no_err _ c.if-is_err-2.ensures.value) c.write_back.ensures.done) _ (subst (λ s. (nth_frame s.frames c.args.at).generation < 18446744073709551615) (sym c.self.view_is) c.requires.below)
 
 pub returns-then-is_err-clause-refused : goal.returns-then-is_err-clause-refused
 returns-then-is_err-clause-refused g c = rw (← c.self.view_is) (
