@@ -12,12 +12,12 @@ use Rattle.warm_pool.specs.State.{PoolState, IsPool, IsNowhere, nth_device}
 use Rattle.warm_pool.specs.View.{view_of, PoolView}
 use Rattle.warm_pool.specs.Keeping.{FailsAt, KeepsContents}
 use Rattle.warm_pool.specs.WritingBack.{KeptDevices, Cleans, CleanFails}
-use Rattle.warm_pool.specs.Pinning.{LoadsInto}
+use Rattle.warm_pool.specs.Pinning.{LoadsInto, ReadFails}
 use Rattle.warm_pool.specs.DeviceCalls.{PageRead}
 use Rattle.warm_pool.proofs.Slots.{at_set}
 use Rattle.warm_pool.proofs.Keeps.{pool_from, stored_honest, devices_keep_pool}
 use Rattle.warm_pool.proofs.FlushLemmas.{may_fail}
-use Rattle.warm_pool.proofs.DeviceSteps.{read_keeps, read_same, fails_at, same_view}
+use Rattle.warm_pool.proofs.DeviceSteps.{read_keeps, read_same, read_counted, fails_at, same_view}
 use Rattle.warm_pool.proofs.Loads.{Failed, on_ok, PutsPage, put_pool, put_keeps}
 use Rattle.warm_pool.proofs.WriteBacks.{cleans_view}
 
@@ -55,10 +55,14 @@ module _ {s : PoolState} {ds : List DeviceState} {p : PageId} {bytes : List ℕ}
   pub fetched_pool : (n : ℕ) → n ≡ s.spare → IsPool (record s { spare = n; devices = ds })
   fetched_pool n e = spare_keeps (record s { devices = ds }) n (e ∙ h.pool.spare_size) (devices_keep_pool s ds kept h.pool)
 
-  pub fetch_failed : Failed result → FailsAt (view_of s) p.dev (view_of (record s { devices = ds }))
-  fetch_failed f = fails_at s ds p.dev h.call.after h.device h.call.becomes kept
-      (may_fail (nth_device s.devices p.dev).unfailing f.fault result f.is h.call.call.unfailing)
-      (subst (λ r. CountsFault Read r (nth_device s.devices p.dev) h.call.after) f.is h.call.call.faults).1
+  pub fetch_failed : Failed result → ReadFails s p (record s { devices = ds })
+  fetch_failed f = record {
+    frames = refl;
+    devices = read_counted s.devices ds p.dev p.no bytes result f.fault h.call f.is;
+    fails = fails_at s ds p.dev h.call.after h.device h.call.becomes kept
+        (may_fail (nth_device s.devices p.dev).unfailing f.fault result f.is h.call.call.unfailing)
+        (subst (λ r. CountsFault Read r (nth_device s.devices p.dev) h.call.after) f.is h.call.call.faults).1;
+  }
 
   module _ (ok : result ≡ Ok tt) where
     fetched_view : view_of (record s { devices = ds }) ≡ view_of s
@@ -72,6 +76,8 @@ module _ {s : PoolState} {ds : List DeviceState} {p : PageId} {bytes : List ℕ}
       holds = c.holds;
       dirty = c.dirty;
       frames = c.frames;
+      waits = c.waits;
+      others = λ k ne. c.others k ne ∙ ap (λ l. nth_device l k) (read_same s.devices ds p.dev p.no bytes result h.call ok);
       fails = subst (λ v. FailsAt v c.page.dev (view_of t)) fetched_view c.fails;
     }
 
@@ -134,6 +140,7 @@ module _ {s : PoolState} {ds : List DeviceState} {p : PageId} {bytes : List ℕ}
                 ∙ set-set s.frames i (cleaned (nth_frame s.frames i)) (arrival fs.frames i p key fixes b)
                 ∙ ap (λ (f : FrameState). let r : FrameState = record { page = Some p; key = Some key; generation = f.generation + 1; fixes = fixes; dirty = false; bytes = b } in set s.frames i r) nth_old;
             devices = λ clean. c.untouched clean ∙ read_same s.devices ds p.dev p.no bytes result h.call ok;
+            waits = c.waits;
             rest = ap (λ (v : PoolView). let x : PoolView = record v {
               frames = (view_of (pool_from (record fs { frames = set fs.frames i (arrival fs.frames i p key fixes b) }) k es)).frames;
               contents = (view_of (pool_from (record fs { frames = set fs.frames i (arrival fs.frames i p key fixes b) }) k es)).contents;

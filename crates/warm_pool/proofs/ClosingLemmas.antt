@@ -1,5 +1,5 @@
 -- Frames whose pages go to their devices one after the other.
-use Rattle.std.proofs.Common.{◌≡◌, ℕ, zero, suc, ◌+◌, ◌<◌, ◌≤◌, cond, true, false, IsTrue, List, [], ◌∷◌, length, set, Option, refl, sym, ap, ◌∙◌, subst, arith}
+use Rattle.std.proofs.Common.{◌≡◌, ℕ, zero, suc, ◌+◌, ◌<◌, ◌≤◌, cond, Bool, true, false, IsTrue, List, [], ◌∷◌, length, set, Option, refl, sym, ap, ◌∙◌, subst, arith}
 use Rattle.warm_devices.specs.Device.{DeviceState, SameShape}
 use Rattle.warm_pool.specs.Frames.{FrameState, nth_frame, cleaned}
 use Rattle.warm_pool.specs.State.{PoolState, nth_device}
@@ -33,6 +33,13 @@ nth_rest which zero frames i le = refl
 nth_rest which (suc n) [] i le = refl
 nth_rest which (suc n) (f ∷ frames) zero le = absurd (omega arith)
 nth_rest which (suc n) (f ∷ frames) (suc i) le = nth_rest which n frames i (omega arith)
+
+-- a frame that is not concerned is as it was
+pub nth_other : (which : Option ℕ) (n : ℕ) (frames : List FrameState) (i : ℕ) → is_chosen which (nth_frame frames i).page ≡ false → nth_frame (cleaned_chosen which n frames) i ≡ nth_frame frames i
+nth_other which zero frames i not = refl
+nth_other which (suc n) [] i not = refl
+nth_other which (suc n) (f ∷ frames) zero not = ap (λ (t : Bool). cond t (cleaned f) f) not
+nth_other which (suc n) (f ∷ frames) (suc i) not = nth_other which n frames i not
 
 shape_both : (a b c : DeviceState) → SameShape a b → SameShape b c → SameShape a c
 shape_both a b c ab bc = record { pages = bc.pages ∙ ab.pages; page_size = bc.page_size ∙ ab.page_size; honest = bc.honest ∙ ab.honest; unfailing = bc.unfailing ∙ ab.unfailing }

@@ -1,5 +1,5 @@
 -- What a call of one device does to a list of devices, and to a pool over them.
-use Rattle.std.proofs.Common.{◌≡◌, ◌≢◌, ℕ, ◌+◌, ◌<◌, cond, Bool, true, false, List, [], ◌++◌, length, map, set, get_or, take, drop, Some, Result, Ok, OnOk, refl, sym, ◌∙◌, ap, subst, inl, inr, arith}
+use Rattle.std.proofs.Common.{◌≡◌, ◌≢◌, ℕ, ◌+◌, ◌<◌, cond, Bool, true, false, List, [], ◌++◌, length, map, set, get_or, take, drop, Some, Result, Ok, Err, OnOk, refl, sym, ◌∙◌, ap, subst, inl, inr, arith}
 use Rattle.std.proofs.Math.Path.{ap₂}
 use Rattle.std.proofs.Math.ListN.{get_or-map as mapped}
 use Rattle.std.proofs.lemmas.Grind.{common_steps}
@@ -14,7 +14,7 @@ use Rattle.warm_pool.specs.State.{PoolState, IsPool, no_device, nth_device}
 use Rattle.warm_pool.specs.View.{stored, view_of, device_view, PoolView}
 use Rattle.warm_pool.specs.Keeping.{FailsAt}
 use Rattle.warm_pool.specs.WritingBack.{KeptDevices}
-use Rattle.warm_pool.specs.DeviceCalls.{PageRead, PageWrite, ReadsPage, WritesPage}
+use Rattle.warm_pool.specs.DeviceCalls.{PageRead, PageWrite, ReadsPage, WritesPage, failed_at}
 use Rattle.warm_pool.proofs.Slots.{at_set}
 use Rattle.warm_pool.proofs.FlushLemmas.{same_shape}
 use Rattle.warm_pool.proofs.Bytes.{same_page, device_seen}
@@ -132,6 +132,24 @@ read_same old new k n bytes result r ok =
       unfailing = r.call.shape.unfailing i;
     } in
     r.becomes ∙ ap (set old k) same ∙ set-get_or old k no_device
+
+-- where a page was not read, a failure of its device is counted, and nothing else has changed
+pub read_counted : (old new : List DeviceState) (k n : ℕ) (bytes : List ℕ) (result : Result (Unit {0}) DeviceFault) (fault : DeviceFault)
+    → PageRead old new k n bytes result → result ≡ Err fault → new ≡ failed_at k old
+read_counted old new k n bytes result fault r failed =
+    let failures : r.after.failures ≡ one_more (nth_device old k).failures =
+    (subst (λ x. CountsFault Read x (nth_device old k) r.after) failed r.call.faults).1 in
+    let counted : DeviceState = record (nth_device old k) { failures = one_more (nth_device old k).failures } in
+    let same : r.after ≡ counted = λ i. record {
+      pages = r.call.shape.pages i;
+      page_size = r.call.shape.page_size i;
+      contents = r.call.contents i;
+      waiting = r.call.waiting i;
+      failures = failures i;
+      honest = r.call.shape.honest i;
+      unfailing = r.call.shape.unfailing i;
+    } in
+    r.becomes ∙ ap (set old k) same
 
 -- what a call of one device says, of that device in the list
 pub page_read : (old new : List DeviceState) (k n : ℕ) (d after : DeviceState) (bytes : List ℕ) (result : Result (Unit {0}) DeviceFault)

@@ -25,13 +25,13 @@ stays_by old new failures e = e ∙ ap (λ (f : List ℕ). let v : PoolView = re
 pub put_refused : (s t : PoolState) (h : HistoryView) (i : ℕ) (p : PageId) → IsPlace h (view_of s) (Some i) → (nth_frame s.frames i).generation < 2 ^ 64 - 1
     → (why : PoolFault) → LoadFails s i p why t → PutRefused h (view_of s) p why (view_of t)
 put_refused s t h i p place room ReadFault l =
-    ((i, record { place = place; below = subst (λ f. f.generation < 2 ^ 64 - 1) (sym (frame_seen s i)) room }), l.1)
+    ((i, record { place = place; below = subst (λ f. f.generation < 2 ^ 64 - 1) (sym (frame_seen s i)) room }), l.fails)
 put_refused s t h i p place room WriteBack l =
     (i, l.page, record { place = place; below = subst (λ f. f.generation < 2 ^ 64 - 1) (sym (frame_seen s i)) room }, ap (λ f. f.page) (frame_seen s i) ∙ l.holds, l.fails)
 put_refused s t h i p place room why l = absurd l
 
 pub same_frames : (s t : PoolState) (i : ℕ) (p : PageId) (why : PoolFault) → LoadFails s i p why t → t.frames ≡ s.frames
-same_frames s t i p ReadFault l = l.0
+same_frames s t i p ReadFault l = l.frames
 same_frames s t i p WriteBack l = l.frames
 same_frames s t i p why l = absurd l
 

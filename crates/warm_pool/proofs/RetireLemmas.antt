@@ -1,5 +1,5 @@
 -- A pool one of whose devices was replaced.
-use Rattle.std.proofs.Common.{◌≡◌, ◌≢◌, ℕ, ◌<◌, ◌≤◌, cond, true, false, IsTrue, List, [], ◌∷◌, length, map, set, Option, Some, None, refl, sym, ap, ◌∙◌, subst, inl, inr, get_or-set_same, get_or-set_other}
+use Rattle.std.proofs.Common.{◌≡◌, ◌≢◌, ℕ, ◌<◌, ◌≤◌, cond, true, false, IsTrue, List, [], ◌∷◌, length, map, set, Bool, Option, Some, None, refl, sym, ap, ◌∙◌, subst, inl, inr, get_or-set_same, get_or-set_other}
 use Rattle.std.proofs.Math.Path.{ap₂}
 use Rattle.std.proofs.lemmas.Bool.{cases_eq, cases_Bool, eqb-true, eq-eqb, false≢true}
 use Rattle.std.proofs.lemmas.List.{length-map, length-set, map-set}
@@ -11,7 +11,7 @@ use Rattle.warm_pool.specs.State.{PoolState, IsPool, RankedBy, nth_device, no_de
 use Rattle.warm_pool.specs.View.{stored, view_of, frame_view, device_view, is_page, bytes_in, FrameView, HasPage, contents_at}
 use Rattle.warm_pool.specs.Keeping.{FailsAt}
 use Rattle.warm_pool.specs.WritingBack.{is_on, KeptDevices, PutsDown, cleaned_chosen}
-use Rattle.warm_pool.specs.Retiring.{Retired, MayRetire, IsFixedOn, emptied, IsFixedIn, AreUnfixed, AreClean, MakesWay, retired, vacate_if, vacated_chosen}
+use Rattle.warm_pool.specs.Retiring.{Retired, MayRetire, IsFixedOn, emptied, IsFixedIn, AreUnfixed, AreClean, KeepsElsewhere, MakesWay, retired, vacate_if, vacated_chosen}
 use Rattle.warm_pool.specs.Flushes.{IsFlushed, FlushFails}
 use Rattle.warm_pool.proofs.FlushLemmas.{same_shape}
 use Rattle.warm_pool.proofs.Slots.{at_set}
@@ -19,6 +19,7 @@ use Rattle.warm_pool.proofs.DeviceSteps.{failures_kept, failures_grown}
 use Rattle.warm_pool.proofs.Bytes.{bytes_nowhere, contents_seen, device_seen, frame_seen, page_found}
 use Rattle.warm_pool.proofs.Keeps.{pool_from, view_of_kept}
 use Rattle.warm_pool.proofs.SettleLemmas.{AreAlike, counts, alike_kept, down_view, flush_down, flush_fails_at}
+use Rattle.warm_pool.proofs.ClosingLemmas.{nth_other}
 use Rattle.warm_pool.proofs.VacateLemmas.{clean_to}
 use Rattle.warm_pool.proofs.EmptyLemmas.{nth_vacated, vacated_pool, vacated_ranked, unfixed_to}
 
@@ -206,3 +207,14 @@ retire_view s t u dev size device way same is =
 
 pub retire_ranked : (t u : PoolState) (dev : ℕ) (device : DeviceState) (h : HistoryView) → u ≡ retired t dev device → RankedBy t h → RankedBy u h
 retire_ranked t u dev device h is ranked = subst (λ x. RankedBy x h) (sym is) (vacated_ranked (Some dev) t.frames h ranked)
+
+-- frames of other devices, once the pages of one went to it, and once these have left
+pub elsewhere_cleaned : (dev n : ℕ) (old new : List FrameState) → new ≡ cleaned_chosen (Some dev) n old
+    → (i : ℕ) → is_on dev (nth_frame old i).page ≡ false → nth_frame new i ≡ nth_frame old i
+elsewhere_cleaned dev n old new is i not = ap (λ frames. nth_frame frames i) is ∙ nth_other (Some dev) n old i not
+
+pub elsewhere_retired : (s t u : PoolState) (dev : ℕ) (device : DeviceState) → KeepsElsewhere dev s t → u ≡ retired t dev device → KeepsElsewhere dev s u
+elsewhere_retired s t u dev device kept is i not =
+    let stays : is_on dev (nth_frame t.frames i).page ≡ false = ap (λ f. is_on dev f.page) (kept i not) ∙ not in
+    ap (λ x. nth_frame x.frames i) is ∙ nth_vacated (Some dev) t.frames i
+    ∙ ap (λ (b : Bool). cond b (vacated (nth_frame t.frames i)) (nth_frame t.frames i)) stays ∙ kept i not

@@ -3,7 +3,7 @@ use Rattle.warm_pool.specs.State.{IsPool}
 use Rattle.warm_pool.specs.Frames.{nth_frame}
 use Rattle.warm_pool.proofs.PoolSteps.{has_device, has_number, seen_generation}
 use Rattle.warm_pool.proofs.Pins.{put_refused, failed_ranked, loaded_ranked, loaded_puts}
-use Rattle.warm_pool.proofs.KeepingLemmas.{loaded_takes, failed_writes_dirty}
+use Rattle.warm_pool.proofs.KeepingLemmas.{loaded_takes, failed_leaves}
 use Rattle.warm_pool.proofs.FlushLemmas.{handed_on}
 use Rattle.warm_pool.proofs.pool.Pool.bring.Goals as goal
 
@@ -55,5 +55,5 @@ pub returns-then-generation-lt18446744073709551615-clause-frame : goal.returns-t
 returns-then-generation-lt18446744073709551615-clause-frame g c =
     loaded_takes _ _ c.in-Some.at c.args.page c.known_key-key.result c.args.fixes c.in_ok-load_into.ensures.put c.in-Some.ensures.there c.requires.absent _ refl
 
-pub returns-in_err-load_into-clause-writes : goal.returns-in_err-load_into-clause-writes
-returns-in_err-load_into-clause-writes g c = handed_on c.from_residual.result c.in_err-load_into.field-0.0 _ c.from_residual.ensures.1 (failed_writes_dirty c.args.history.now c.args.self.now _ c.in-Some.at c.args.page (c.in-Some.ensures.place _ c.requires.ranked) _ c.in_err-load_into.ensures.refused)
+pub returns-in_err-load_into-clause-devices : goal.returns-in_err-load_into-clause-devices
+returns-in_err-load_into-clause-devices g c = handed_on c.from_residual.result c.in_err-load_into.field-0.0 _ c.from_residual.ensures.1 (failed_leaves c.args.history.now c.args.self.now _ c.in-Some.at c.args.page (c.in-Some.ensures.place _ c.requires.ranked) _ c.in_err-load_into.ensures.refused)

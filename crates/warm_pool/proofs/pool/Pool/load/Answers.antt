@@ -5,7 +5,7 @@ use Rattle.warm_pool.specs.FrameSteps.{pages_held}
 use Rattle.warm_pool.specs.Residents.{IsPlaceOf}
 use Rattle.warm_pool.proofs.PoolSteps.{found_there, found_holds, found_nowhere, seen_there, seen_page, seen_generation}
 use Rattle.warm_pool.proofs.Pins.{load_puts, load_put_refused, stays_put}
-use Rattle.warm_pool.proofs.KeepingLemmas.{same_bytes, stays_in_frame, unknown_writes_none}
+use Rattle.warm_pool.proofs.KeepingLemmas.{same_bytes, stays_in_frame, unknown_leaves}
 use Rattle.warm_pool.proofs.FlushLemmas.{handed_on}
 use Rattle.warm_pool.proofs.pool.Pool.load.Goals as goal
 
@@ -36,8 +36,8 @@ pub returns-in-None-clause-stays : goal.returns-in-None-clause-stays
 returns-in-None-clause-stays g c =
     stays_put c.args.self.now c.bring.new.self c.args.history.now c.args.page c.in_ok-check.ensures.known _ c.bring.ensures.refused
 
-pub returns-in_err-check-clause-writes : goal.returns-in_err-check-clause-writes
-returns-in_err-check-clause-writes g c = handed_on c.from_residual.result c.in_err-check.field-0.0 _ c.from_residual.ensures.1 (unknown_writes_none c.args.history.now c.args.self.now c.args.page c.in_err-check.ensures.unknown _ (c.in_err-check.ensures.load c.args.history.now))
+pub returns-in_err-check-clause-devices : goal.returns-in_err-check-clause-devices
+returns-in_err-check-clause-devices g c = handed_on c.from_residual.result c.in_err-check.field-0.0 _ c.from_residual.ensures.1 (unknown_leaves c.args.history.now c.args.self.now c.args.page c.in_err-check.ensures.unknown _ (c.in_err-check.ensures.load c.args.history.now))
 
 pub returns-in-Some-clause-frame : goal.returns-in-Some-clause-frame
 returns-in-Some-clause-frame g c =

@@ -17,7 +17,7 @@ put-requires-clause-below g c =
 pub returns-then-is_err-clause-refused : goal.returns-then-is_err-clause-refused
 returns-then-is_err-clause-refused g c = rw (← c.self.view_is) (
     let fetched = fetched_in c.self.view_is c.self.invariant c.requires.device c.requires.known c.requires.absent c.read_page.ensures.call in
-    (refl, fetch_failed fetched (err_if _ c.if-is_err.ensures.value)))
+    let x = fetch_failed fetched (err_if _ c.if-is_err.ensures.value) in record { frames = x.frames; devices = x.devices; fails = x.fails })
 
 pub write_back-requires-clause-fit : goal.write_back-requires-clause-fit
 write_back-requires-clause-fit g c =
@@ -27,7 +27,7 @@ write_back-requires-clause-fit g c =
 pub returns-then-is_err-2-clause-refused : goal.returns-then-is_err-2-clause-refused
 returns-then-is_err-2-clause-refused g c = rw (← c.self.view_is) (
     let fetched = fetched_in c.self.view_is c.self.invariant c.requires.device c.requires.known c.requires.absent c.read_page.ensures.call in
-    let x = leave_failed fetched (ok_if_no_err _ c.if-is_err.ensures.value) _ _ (on_err _ (err_if _ c.if-is_err-2.ensures.value) c.write_back.ensures.failed) in record { page = x.page; holds = x.holds; dirty = x.dirty; frames = x.frames; fails = x.fails })
+    let x = leave_failed fetched (ok_if_no_err _ c.if-is_err.ensures.value) _ _ (on_err _ (err_if _ c.if-is_err-2.ensures.value) c.write_back.ensures.failed) in record { page = x.page; holds = x.holds; dirty = x.dirty; frames = x.frames; waits = x.waits; others = x.others; fails = x.fails })
 
 pub invariant_of-self-2 : goal.invariant_of-self-2
 invariant_of-self-2 g c =

@@ -4,7 +4,7 @@ use Rattle.warm_pool.specs.FrameSteps.{pages_held}
 use Rattle.warm_pool.specs.Residents.{IsPlaceOf}
 use Rattle.warm_pool.proofs.PoolSteps.{found_there, found_holds, found_nowhere}
 use Rattle.warm_pool.proofs.Pins.{pin_adds, pin_puts, pin_holds, pin_put_refused, stays_put, pin_full, full_stays}
-use Rattle.warm_pool.proofs.KeepingLemmas.{unknown_writes_none, fix_takes}
+use Rattle.warm_pool.proofs.KeepingLemmas.{unknown_leaves, full_leaves, fix_takes}
 use Rattle.warm_pool.proofs.FlushLemmas.{handed_on}
 use Rattle.warm_pool.proofs.pool.Pool.pin.Goals as goal
 
@@ -50,9 +50,12 @@ pub returns-in-None-clause-stays : goal.returns-in-None-clause-stays
 returns-in-None-clause-stays g c =
     stays_put c.args.self.now c.bring.new.self c.args.history.now c.args.page c.in_ok-check.ensures.known _ c.bring.ensures.refused
 
-pub returns-in_err-check-clause-writes : goal.returns-in_err-check-clause-writes
-returns-in_err-check-clause-writes g c = handed_on c.from_residual.result c.in_err-check.field-0.0 _ c.from_residual.ensures.1 (unknown_writes_none c.args.history.now c.args.self.now c.args.page c.in_err-check.ensures.unknown _ (c.in_err-check.ensures.load c.args.history.now))
+pub returns-in_err-check-clause-devices : goal.returns-in_err-check-clause-devices
+returns-in_err-check-clause-devices g c = handed_on c.from_residual.result c.in_err-check.field-0.0 _ c.from_residual.ensures.1 (unknown_leaves c.args.history.now c.args.self.now c.args.page c.in_err-check.ensures.unknown _ (c.in_err-check.ensures.load c.args.history.now))
 
 pub returns-in-Some-clause-frame : goal.returns-in-Some-clause-frame
 returns-in-Some-clause-frame g c =
     fix_takes _ _ c.in-Some.at c.args.page (found_holds (subst (λ s. IsPool s) c.self.view_is c.self.invariant) _ _ (subst (λ s. IsPlaceOf (pages_held s.frames) c.args.page (Some c.in-Some.at)) c.self.view_is c.in-Some.ensures)) c.add_fix.ensures.kept _ c.add_fix.ensures.others
+
+pub returns-in-Some-clause-devices : goal.returns-in-Some-clause-devices
+returns-in-Some-clause-devices g c = full_leaves c.args.history.now c.args.self.now c.add_fix.new.self c.in-Some.at c.args.page _ c.add_fix.ensures.refused

@@ -3,7 +3,7 @@ use Rattle.warm_pool.specs.WritingBack.{PutsDown, cleaned_chosen}
 use Rattle.warm_pool.proofs.FlushLemmas.{on_err}
 use Rattle.warm_pool.proofs.Keeps.{devices_keep_pool}
 use Rattle.warm_pool.proofs.SettleLemmas.{ranked_to}
-use Rattle.warm_pool.proofs.RetireLemmas.{flush_one_down, flush_one_fails, one_kept}
+use Rattle.warm_pool.proofs.RetireLemmas.{flush_one_down, flush_one_fails, one_kept, elsewhere_cleaned}
 use Rattle.warm_pool.proofs.pool.Pool.settle_device.Goals as goal
 
 pub returns-in_err-clean_chosen-clause-ranked : goal.returns-in_err-clean_chosen-clause-ranked
@@ -42,3 +42,16 @@ pub returns-clause-ranked : goal.returns-clause-ranked
 returns-clause-ranked g c = λ h ranked.
     let down = subst (λ t. PutsDown (cleaned_chosen (Some c.args.dev) (length c.args.self.now.frames) c.args.self.now.frames) c.args.self.now t) (sym c.self.view_is) c.in_ok-clean_chosen.ensures.down in
     ranked_to (Some c.args.dev) _ _ _ h down.becomes ranked
+
+pub returns-in_err-clean_chosen-clause-elsewhere : goal.returns-in_err-clean_chosen-clause-elsewhere
+returns-in_err-clean_chosen-clause-elsewhere g c = let stopped = c.in_err-clean_chosen.ensures.stopped in elsewhere_cleaned c.args.dev stopped.frame _ _ stopped.frames
+
+pub returns-in_err-flush_device-clause-elsewhere : goal.returns-in_err-flush_device-clause-elsewhere
+returns-in_err-flush_device-clause-elsewhere g c =
+    let down = subst (λ t. PutsDown (cleaned_chosen (Some c.args.dev) (length c.args.self.now.frames) c.args.self.now.frames) c.args.self.now t) (sym c.self.view_is) c.in_ok-clean_chosen.ensures.down in
+    elsewhere_cleaned c.args.dev _ _ _ down.becomes
+
+pub returns-clause-elsewhere : goal.returns-clause-elsewhere
+returns-clause-elsewhere g c =
+    let down = subst (λ t. PutsDown (cleaned_chosen (Some c.args.dev) (length c.args.self.now.frames) c.args.self.now.frames) c.args.self.now t) (sym c.self.view_is) c.in_ok-clean_chosen.ensures.down in
+    elsewhere_cleaned c.args.dev _ _ _ down.becomes
