@@ -111,7 +111,7 @@ impl<D: PageDevice> World<D> {
         ensures { Steps (world_view self.old) (Event.Deliver j k) result
             (world_view self.new) }
     {
-        // The bytes spell a message, so nothing but memory can be wanting.
+        // The bytes spell a message, so nothing but an allocation can fail.
         let Ok(message) = decode(self.alloc, &self.messages[k as usize - 1]) else {
             return Answer::Refused(WorldFault::Node(NodeFault::Memory));
         };
