@@ -18,9 +18,10 @@ use Rattle.warm_digest.specs.BucketDigests.{digests_of}
 use Rattle.warm_gossip.specs.Answers.{AnswersDigests, IsAnswer, bucket_messages, buckets_in, pieces, sent, taught, requested_messages}
 use Rattle.warm_gossip.specs.Pieces.{AreInTurn, last_page}
 use Rattle.warm_gossip.specs.Round.{offer}
+use Rattle.warm_gossip.specs.State.{NodeView}
 use Rattle.warm_gossip.proofs.PieceLemmas.{pieces_in_turn}
 use Rattle.warm_gossip.proofs.RoundLemmas.{entries_teach}
-use Rattle.warm_world.specs.States.{MessageRecord, References, Digests, Request}
+use Rattle.warm_world.specs.States.{MessageRecord, ModelState, References, Digests, Request, node_of, reach_of}
 use Rattle.warm_world.specs.Answered.{AreAnswers, bucket_records, heard, records_of, requested_records}
 use Rattle.warm_world.specs.Stands.{message_kept}
 
@@ -32,15 +33,20 @@ carried_alike : (S : ReferenceSet) (bucket : ℕ) (after : Option PageId) (limit
 carried_alike S bucket after limit = sym (history-carried (refs (history S)) bucket after limit) ∙ rw (own_history S) (history-carried S bucket after limit)
 
 -- what a node sends, and the digests that it offers, are those of the references for which its history stands
-pub sent_kept : (i : ℕ) (S : ReferenceSet) (bucket : ℕ) (after : Option PageId) → sent i (history S) bucket after ≡ message_kept (References i (carried S bucket after MAX_ENTRIES))
-sent_kept i S bucket after =
-    ap (λ m. Entries i m (entries_of (history (carried (refs (history S)) bucket after MAX_ENTRIES)))) (horizon-history S) ∙ ap (Entries i S.horizon) (carried_alike S bucket after MAX_ENTRIES)
+pub sent_kept : (m : ModelState) (n : NodeView) (message : Message) (i bucket : ℕ) (after : Option PageId) → message ≡ sent n.id n.history bucket after → n ≡ node_of m i → message ≡ message_kept (References i (carried (reach_of m i) bucket after MAX_ENTRIES))
+sent_kept m n message i bucket after is node =
+    let S = reach_of m i in
+    is ∙ ap (λ (v : NodeView). sent v.id v.history bucket after) node
+    ∙ ap (λ time. Entries i time (entries_of (history (carried (refs (history S)) bucket after MAX_ENTRIES)))) (horizon-history S) ∙ ap (Entries i S.horizon) (carried_alike S bucket after MAX_ENTRIES)
 
 abbrev pub offer_record : ℕ → ReferenceSet → MessageRecord
 offer_record i S = Digests i S.horizon (digests_of (entries_of (history S)))
 
 pub offered_kept : (i : ℕ) (S : ReferenceSet) → offer i (history S) ≡ message_kept (offer_record i S)
 offered_kept i S = ap (λ m. Digest i m (digests_of (entries_of (history S)))) (horizon-history S)
+
+pub offers_kept : (m : ModelState) (n : NodeView) (message : Message) (i : ℕ) → message ≡ offer n.id n.history → n ≡ node_of m i → message ≡ message_kept (offer_record i (reach_of m i))
+offers_kept m n message i is node = is ∙ ap (λ (v : NodeView). offer v.id v.history) node ∙ offered_kept i (reach_of m i)
 
 -- ---- what a replica answers
 

@@ -172,7 +172,7 @@ impl<D: PageDevice> World<D> {
         let worker = w as usize - 1;
         match self.replicas[i as usize - 1].refer(worker, page, time) {
             Ok(()) => Answer::Done,
-            Err(why) => Answer::Refused(WorldFault::Node(why)),
+            Err(why) => Answer::Refused(why.into()),
         }
     }
 
@@ -183,7 +183,7 @@ impl<D: PageDevice> World<D> {
         let worker = w as usize - 1;
         match self.replicas[i as usize - 1].flush(worker) {
             Ok(()) => Answer::Done,
-            Err(why) => Answer::Refused(WorldFault::Node(why)),
+            Err(why) => Answer::Refused(why.into()),
         }
     }
 
@@ -193,7 +193,7 @@ impl<D: PageDevice> World<D> {
     {
         match self.replicas[i as usize - 1].restart() {
             Ok(()) => Answer::Done,
-            Err(why) => Answer::Refused(WorldFault::Node(why)),
+            Err(why) => Answer::Refused(why.into()),
         }
     }
 

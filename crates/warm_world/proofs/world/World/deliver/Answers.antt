@@ -23,14 +23,14 @@ returns-in-Ok-receive g c = λ m st.
 pub returns-in-Err : goal.returns-in-Err
 returns-in-Err g c = λ m st.
     let refused = receive_refused _ _ c.in-Ok.message c.in-Err.why c.in-Err.ensures in
-    no_memory _ _ _ m (Deliver c.args.j c.args.k) c.index_mut.result.now _ c.in-Err.why st c.requires.named c.index_mut.ensures.value
-    (ap (λ (n : NodeView). let r : ReplicaView = record { node = n; buffers = c.index_mut.result.now.buffers.items } in r) refused.1) refused.0 (λ named here. (named, refl))
+    rw c.into.ensures (no_memory _ _ _ m (Deliver c.args.j c.args.k) c.index_mut.result.now _ c.in-Err.why st c.requires.named c.index_mut.ensures.value
+    (ap (λ (n : NodeView). let r : ReplicaView = record { node = n; buffers = c.index_mut.result.now.buffers.items } in r) refused.1) refused.0 (λ named here. (named, refl)))
 
 pub returns-in-Err-answers : goal.returns-in-Err-answers
 returns-in-Err-answers g c = λ m st.
-    no_memory _ _ _ m (Deliver c.args.j c.args.k) c.index_mut-2.result.now _ c.in-Err-answers.why st c.requires.named c.index_mut-2.ensures.value
+    rw c.into-in-Err-answers.ensures (no_memory _ _ _ m (Deliver c.args.j c.args.k) c.index_mut-2.result.now _ c.in-Err-answers.why st c.requires.named c.index_mut-2.ensures.value
     (ap (λ (n : NodeView). let r : ReplicaView = record { node = n; buffers = c.index_mut-2.result.now.buffers.items } in r) c.in-Err-answers.ensures.same)
-    c.in-Err-answers.ensures.refused (λ named here. (named, refl))
+    c.in-Err-answers.ensures.refused (λ named here. (named, refl)))
 
 pub returns-in_default-answer : goal.returns-in_default-answer
 returns-in_default-answer g c = λ m st.

@@ -16,5 +16,5 @@ returns-in-Ok g c = λ m st.
 
 pub returns-in-Err : goal.returns-in-Err
 returns-in-Err g c = λ m st.
-    no_memory _ _ _ m (Flush c.args.i c.args.w) c.index_mut.result.now _ c.in-Err.why st c.requires.named c.index_mut.ensures.value
-    c.in-Err.ensures.err.1 c.in-Err.ensures.err.0 (λ named here. (named, refl))
+    rw c.into.ensures (no_memory _ _ _ m (Flush c.args.i c.args.w) c.index_mut.result.now _ c.in-Err.why st c.requires.named c.index_mut.ensures.value
+    c.in-Err.ensures.err.1 c.in-Err.ensures.err.0 (λ named here. (named, refl)))

@@ -22,5 +22,5 @@ returns-in-Ok g c = λ m st.
 pub returns-in-Err : goal.returns-in-Err
 returns-in-Err g c = λ m st.
     let k = c.args.i - 1 in
-    no_memory _ _ _ m (Refer c.args.i c.args.w c.args.page c.args.time) c.index_mut.result.now _ c.in-Err.why st c.requires.named c.index_mut.ensures.value
-    c.in-Err.ensures.err.1 c.in-Err.ensures.err.0 (λ named here. (named, (c.in-Err.ensures.full m.capacity k (replica m k) here, refl)))
+    rw c.into.ensures (no_memory _ _ _ m (Refer c.args.i c.args.w c.args.page c.args.time) c.index_mut.result.now _ c.in-Err.why st c.requires.named c.index_mut.ensures.value
+    c.in-Err.ensures.err.1 c.in-Err.ensures.err.0 (λ named here. (named, (c.in-Err.ensures.full m.capacity k (replica m k) here, refl))))

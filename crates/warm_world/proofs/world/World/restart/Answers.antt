@@ -24,5 +24,5 @@ returns-in-Ok g c = λ m st.
 
 pub returns-in-Err : goal.returns-in-Err
 returns-in-Err g c = λ m st.
-    asked _ _ _ m (Restart c.args.i) call.Restart (reply.Refused c.in-Err.why) (answer.Refused (Node c.in-Err.why)) _ _ st c.requires.named c.index_mut.ensures.value
-    c.in-Err.ensures.1 (refused_keeps _ call.Restart c.in-Err.why _ c.in-Err.ensures.0) c.in-Err.ensures.0 (λ new named asks. (named, asks))
+    rw c.into.ensures (asked _ _ _ m (Restart c.args.i) call.Restart (reply.Refused c.in-Err.why) (answer.Refused (Node c.in-Err.why)) _ _ st c.requires.named c.index_mut.ensures.value
+    c.in-Err.ensures.1 (refused_keeps _ call.Restart c.in-Err.why _ c.in-Err.ensures.0) c.in-Err.ensures.0 (λ new named asks. (named, asks)))
