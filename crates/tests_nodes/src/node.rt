@@ -23,7 +23,7 @@ const fn slot(index: u32, generation: u64) -> Slot {
     Slot { index, generation }
 }
 
-// A node of a replica with so many frames over a device.
+// A node of a replica with this many frames over a device.
 fn over<D: PageDevice>(
     rt: &impl Abort,
     alloc: Global,
@@ -31,7 +31,7 @@ fn over<D: PageDevice>(
     frames: usize,
     device: D,
 ) -> Node<D> {
-    let devices = alone(alloc, device).expect(rt, "room for a list");
+    let devices = alone(alloc, device).expect(rt, "memory for a list");
     match Pool::new(alloc, frames, 16, devices) {
         Ok(pool) => Node::new(alloc, replica(number), pool),
         Err(_) => panic!(rt; "no pool"),
@@ -40,7 +40,7 @@ fn over<D: PageDevice>(
 
 // A node of four frames over a device of 256 pages.
 fn fresh(rt: &impl Abort, alloc: Global, number: u16) -> Node<MemDevice> {
-    let device = memory(alloc, 256).expect(rt, "room for a device");
+    let device = memory(alloc, 256).expect(rt, "memory for a device");
     over(rt, alloc, number, 4, device)
 }
 
@@ -140,7 +140,10 @@ enum Row {
 
 // All entries of a history.
 fn entries_in(rt: &impl Abort, alloc: Global, history: &History) -> EntryList {
-    let entries = history.iter().collect(alloc).expect(rt, "room for entries");
+    let entries = history
+        .iter()
+        .collect(alloc)
+        .expect(rt, "memory for entries");
     EntryList::of(entries).ok().expect(rt, "the pages rise")
 }
 
@@ -148,7 +151,7 @@ fn frame_of(rt: &impl Abort, alloc: Global, sent: Sent) -> Message {
     let sender = replica(1);
     match sent {
         Sent::Entries(horizon, known) => {
-            let history = history_of(alloc, known).expect(rt, "room for a history");
+            let history = history_of(alloc, known).expect(rt, "memory for a history");
             let entries = entries_in(rt, alloc, &history);
             Message::Entries {
                 sender,
@@ -157,8 +160,8 @@ fn frame_of(rt: &impl Abort, alloc: Global, sent: Sent) -> Message {
             }
         }
         Sent::Digests(horizon, known) => {
-            let history = history_of(alloc, known).expect(rt, "room for a history");
-            let digests = digests(alloc, &history).expect(rt, "room for the digests");
+            let history = history_of(alloc, known).expect(rt, "memory for a history");
+            let digests = digests(alloc, &history).expect(rt, "memory for the digests");
             Message::Digest {
                 sender,
                 horizon,
@@ -177,14 +180,14 @@ fn frame_of(rt: &impl Abort, alloc: Global, sent: Sent) -> Message {
 fn asked(rt: &impl Abort, alloc: Global, row: Row) -> (Call, Said) {
     match row {
         Row::Absorbs(given) => {
-            let batch = references(alloc, given).expect(rt, "room for the batch");
+            let batch = references(alloc, given).expect(rt, "memory for the batch");
             (Call::Absorb(RefList::of(batch)), Said::Done)
         }
         Row::Pins(no, wanted) => (Call::Pin(page(no)), wanted),
         Row::Unpins(index, generation) => (Call::Unpin(slot(index, generation)), Said::Done),
         Row::Writes(index, generation, text) => {
             let slot = slot(index, generation);
-            let bytes = ByteList::of(text.to_vec(alloc).expect(rt, "room for the bytes"));
+            let bytes = ByteList::of(text.to_vec(alloc).expect(rt, "memory for the bytes"));
             (Call::Write { slot, at: 0, bytes }, Said::Done)
         }
         Row::Victim(no) => (Call::Victim, Said::Leaves(no)),
@@ -240,7 +243,7 @@ fn knows(history: &History, horizon: u64, wanted: &[(u64, u64, u64)]) -> bool {
 }
 
 fn bytes_of(rt: &impl Abort, alloc: Global, frame: &Message) -> Vec<u8> {
-    encode(alloc, frame).expect(rt, "room for the bytes")
+    encode(alloc, frame).expect(rt, "memory for the bytes")
 }
 
 // Whether these are just the frames of replica 1 that are wanted, by their bytes.
@@ -345,7 +348,10 @@ const OVER_A_BOX: &[Row] = &[
 #[test]
 fn a_node_lives_over_a_boxed_device(rt: HostRuntime) {
     let alloc = rt.alloc();
-    let device = flaky(alloc, 8, 1).expect(&rt, "room for a device");
-    let device: Box<dyn PageDevice + Send> = Box::new(alloc, device).expect(&rt, "room for a box");
+    let device = flaky(alloc, 8, 1).expect(&rt, "memory for a device");
+    let device: Box<dyn PageDevice + Send> = Box::new(alloc, device).expect(
+        &rt,
+        "memory for a box",
+    );
     lives_over(&rt, alloc, device, OVER_A_BOX)
 }

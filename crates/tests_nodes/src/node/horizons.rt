@@ -61,7 +61,7 @@ const PAGE_1: Sent = Sent::Entries(15, &[(0, 1, 20, 1)]);
 const DIFFERING: &[Sent] = &[PAGE_1, Sent::Request(15, 0b10)];
 
 // What a node would answer is what it answers when the frame comes, and changes nothing.
-const BY_SUMS_AND_REQUESTS: &[Row] = &[
+const BY_DIGESTS_AND_REQUESTS: &[Row] = &[
     Row::Absorbs(&[(0, 1, 10, 1), (0, 1, 20, 1), (0, 2, 5, 1)]),
     // At 15 bucket 1 alone differs from nothing.
     Row::WouldAnswer(Sent::Digests(15, &[]), DIFFERING),
@@ -88,7 +88,7 @@ const BY_SUMS_AND_REQUESTS: &[Row] = &[
 
 #[test]
 fn digests_and_requests_bring_their_horizon(rt: HostRuntime) {
-    lives(&rt, rt.alloc(), BY_SUMS_AND_REQUESTS)
+    lives(&rt, rt.alloc(), BY_DIGESTS_AND_REQUESTS)
 }
 
 // Of pages 0, 1 and 2 the last was referenced once, and leaves first. At 10 page 1 has one stamp, the older one; at 28 pages 0 and
