@@ -9,7 +9,7 @@ use warm_history::PageHist;
 use warm_pool::{MAX_DEVICES, NewPoolFault, Pool, Slot};
 use warm_stamps::{BUCKETS, Bucket, ByteList, PageId, RefList};
 
-// A node of two frames over a device of 8 pages. A pool that is refused hands the device back, over which it is asked for once more.
+// A node of two frames over a device of 8 pages. A pool that is refused gives the device back, over which it is asked for once more.
 pub(crate) fn opened(met: &mut Met, alloc: Global, number: u16) -> Result<Node<MemDevice>, Ended> {
     let id = replica(number)?;
     let mut devices = Vec::with_capacity(alloc, 1)?;
@@ -43,22 +43,22 @@ fn time_of(hist: PageHist) -> u64 {
     }
 }
 
-// What can be seen of a node without memory: its horizon, how many pages it knows, a sum over what it knows of them, and the page that
-// leaves next.
+// What can be seen of a node without memory: its horizon, how many pages it knows, a checksum of what it knows of them, and the page
+// that leaves next.
 #[derive(Clone, Copy, PartialEq, Eq)]
 struct Face {
     horizon: u64,
     pages: usize,
-    sum: u64,
+    checksum: u64,
     victim: Option<PageId>,
 }
 
 fn face_of(node: &Node<MemDevice>) -> Face {
     let history = node.history();
-    let mut sum = 0u64;
+    let mut checksum = 0u64;
     for place in 0..history.len() {
         if let Some(entry) = history.at(place) {
-            sum = sum
+            checksum = checksum
                 .wrapping_mul(31)
                 .wrapping_add(entry.page.no)
                 .wrapping_mul(31)
@@ -68,7 +68,7 @@ fn face_of(node: &Node<MemDevice>) -> Face {
     Face {
         horizon: history.horizon(),
         pages: history.len(),
-        sum,
+        checksum,
         victim: node.victim(),
     }
 }
@@ -182,20 +182,20 @@ fn ask(
 }
 
 // A frame of entries, by another node, comes to this one.
-fn tell(
+fn inform(
     met: &mut Met,
     node: &mut Node<MemDevice>,
     other: &mut Node<MemDevice>,
 ) -> Result<(), Ended> {
     if other.absorb(&[reference(1, 5)?]).is_err() {
-        return Err(Ended::NoRoom);
+        return Err(Ended::NoMemory);
     }
     let Some(bucket) = Bucket::new(1) else {
         return Err(met.broken("1 is a bucket"));
     };
     let before = face_of(node);
     let Ok(frame) = other.send(bucket, None) else {
-        return Err(Ended::NoRoom);
+        return Err(Ended::NoMemory);
     };
     if node.receive(frame).is_ok() {
         return Ok(());
@@ -241,7 +241,7 @@ fn answer(met: &mut Met, node: &mut Node<MemDevice>) -> Result<(), Ended> {
     answered(met, node, &request(21)?, 0)
 }
 
-// Asks a node for the call of a place. Behind the third another tells it of a page, and it is asked for answers.
+// Asks a node for the call of a place. After the third another informs it of a page, and it is asked for answers.
 fn ask_at(
     met: &mut Met,
     alloc: Global,
@@ -253,7 +253,7 @@ fn ask_at(
     if place != 2 {
         return Ok(());
     }
-    tell(met, node, other)?;
+    inform(met, node, other)?;
     answer(met, node)
 }
 

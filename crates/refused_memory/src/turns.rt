@@ -49,7 +49,7 @@ fn flush<R: Wait>(
 {
     let both = [reference(1, 10)?, reference(1, 20)?];
     let is_taken = worker.touch(both[0]).is_ok() && worker.touch(both[1]).is_ok();
-    met.holds(is_taken, "there is room for two")?;
+    met.holds(is_taken, "the buffer takes two")?;
     let Err(fault) = worker.flush(rt, alloc, replica) else {
         return Ok(worker);
     };
@@ -112,7 +112,7 @@ fn jobs(alloc: Global) -> Result<Vec<Job>, Ended> {
         let list = BoxedCall::new(alloc, Call::WarmList(1))?;
         steps.push_reserved(Step::Make(list));
         if all.push(Job { capacity: 1, steps }).is_err() {
-            return Err(Ended::NoRoom);
+            return Err(Ended::NoMemory);
         }
     }
     Ok(all)
@@ -283,7 +283,7 @@ pub(crate) fn rows<R: Threads + Wait + Sync>(
 ) -> Result<(), Ended> {
     posted(met, alloc)?;
     let Ok(buffer) = RefBuffer::new(alloc, 2) else {
-        return Err(Ended::NoRoom);
+        return Err(Ended::NoMemory);
     };
     let (replica, pass) = shared(met, alloc, node)?;
     let mut worker = flush(met, rt, alloc, &replica, Worker::new(pass, buffer))?;

@@ -5,7 +5,7 @@ use warm_pool::Slot;
 use warm_stamps::{Bucket, ByteList, PageId};
 use warm_world::Event;
 
-// How many events there are. Replica 1 tells 2 of its pages, and 2 tells it of its own.
+// How many events there are. Replica 1 informs 2 of its pages, and 2 informs it of its own.
 pub(crate) const EVENTS: usize = 41;
 
 fn page(no: u64) -> PageId {
@@ -18,7 +18,7 @@ const FIRST: Slot = Slot {
     generation: 1,
 };
 
-// Whether what is said of the events of a place says that these take no memory: of a `Refer` into a buffer that has room.
+// Whether what is said of the events of a place says that these take no memory: of a `Refer` into a buffer that is not full.
 pub(crate) fn is_free(place: usize) -> bool {
     matches!(
         place,
@@ -119,7 +119,7 @@ pub(crate) fn all_events(alloc: Global) -> Result<Vec<Event>, Ended> {
     let mut events = Vec::new(alloc);
     for place in 0..EVENTS {
         let Ok(()) = events.push(event_at(alloc, place)?) else {
-            return Err(Ended::NoRoom);
+            return Err(Ended::NoMemory);
         };
     }
     Ok(events)
