@@ -19,7 +19,7 @@ const FRAMES: usize = 4;
 
 const PAGE_SIZE: usize = 16;
 
-// How often the replicas gossip at most. Where all frames arrive, one round makes them equal.
+// How often the replicas gossip at most. Where all messages arrive, one round makes them equal.
 const MOST_ROUNDS: u32 = 3;
 
 // A page of device 0.

@@ -181,7 +181,7 @@ fn ask(
     Err(met.broken("a call is refused again"))
 }
 
-// A frame of entries, by another node, comes to this one.
+// Entries of another node come to this one.
 fn inform(
     met: &mut Met,
     node: &mut Node<MemDevice>,
@@ -194,33 +194,33 @@ fn inform(
         return Err(met.broken("1 is a bucket"));
     };
     let before = face_of(node);
-    let Ok(frame) = other.send(bucket, None) else {
+    let Ok(message) = other.send(bucket, None) else {
         return Err(Ended::NoMemory);
     };
-    if node.receive(frame).is_ok() {
+    if node.receive(message).is_ok() {
         return Ok(());
     }
-    met.refuse(face_of(node) == before, "a refused frame changes nothing")?;
-    let Ok(frame) = other.send(bucket, None) else {
+    met.refuse(face_of(node) == before, "a refused message changes nothing")?;
+    let Ok(message) = other.send(bucket, None) else {
         return Err(met.broken("a send is refused later"));
     };
-    met.holds(node.receive(frame).is_ok(), "a frame is refused again")
+    met.holds(node.receive(message).is_ok(), "a message is refused again")
 }
 
-// Asks what a node would answer to a frame, which changes nothing, whether it is refused or not.
+// Asks what a node would answer to a message, which changes nothing, whether it is refused or not.
 fn answered(
     met: &mut Met,
     node: &mut Node<MemDevice>,
-    frame: &Message,
+    message: &Message,
     wanted: usize,
 ) -> Result<(), Ended> {
     let before = face_of(node);
-    let answers = match node.answers(frame) {
+    let answers = match node.answers(message) {
         Ok(answers) => answers,
         Err(fault) => {
             let same = fault == NodeFault::Memory && face_of(node) == before;
             met.refuse(same, "refused answers change nothing")?;
-            let Ok(answers) = node.answers(frame) else {
+            let Ok(answers) = node.answers(message) else {
                 return Err(met.broken("answers are refused again"));
             };
             answers

@@ -249,7 +249,10 @@ fn listen<R: Wait>(
     // a request of all buckets, and an answer for each of the pages 0:1 to 0:3
     let kept = post.given().len() as u128;
     if report.refused == 1 {
-        return met.refuse(kept == 0 && report.lost == 0, "a refused frame is answered");
+        return met.refuse(
+            kept == 0 && report.lost == 0,
+            "a refused message is answered",
+        );
     }
     if report.lost > 0 {
         met.refuse(report.lost == 1, "one answer is lost")?;

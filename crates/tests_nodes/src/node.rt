@@ -3,7 +3,7 @@
 //! Each call stands in a function of its own, so that what is proved of a test does not grow with its rows. What must not fail ends
 //! the process where it does: a `?` would be one more way out, on which the drop of all that is owned is proved.
 
-mod frames;
+mod formats;
 mod horizons;
 
 use std::alloc::Global;
@@ -95,7 +95,7 @@ fn says<D: PageDevice>(node: &mut Node<D>, call: Call) -> Said {
     said_in(answer(node, call))
 }
 
-// A frame of replica 1, by its horizon and what it holds.
+// A message of replica 1, by its horizon and what it holds.
 #[derive(Clone, Copy)]
 enum Sent {
     // All entries of the history of these references.
@@ -132,7 +132,7 @@ enum Row {
     Forgets(u64, u64),
     // The horizon, and all pages known, with the time of the last stamp and that of the one before, or 0.
     Knows(u64, &'static [(u64, u64, u64)]),
-    // A frame is received, and answered by these.
+    // A message is received, and answered by these.
     Receives(Sent, &'static [Sent]),
     // It would be answered by these.
     WouldAnswer(Sent, &'static [Sent]),
@@ -147,7 +147,7 @@ fn entries_in(rt: &impl Abort, alloc: Global, history: &History) -> EntryList {
     EntryList::of(entries).ok().expect(rt, "the pages rise")
 }
 
-fn frame_of(rt: &impl Abort, alloc: Global, sent: Sent) -> Message {
+fn message_of(rt: &impl Abort, alloc: Global, sent: Sent) -> Message {
     let sender = replica(1);
     match sent {
         Sent::Entries(horizon, known) => {
@@ -242,38 +242,38 @@ fn knows(history: &History, horizon: u64, wanted: &[(u64, u64, u64)]) -> bool {
     history.len() == wanted.len() && history.horizon() == horizon
 }
 
-fn bytes_of(rt: &impl Abort, alloc: Global, frame: &Message) -> Vec<u8> {
-    encode(alloc, frame).expect(rt, "memory for the bytes")
+fn bytes_of(rt: &impl Abort, alloc: Global, message: &Message) -> Vec<u8> {
+    encode(alloc, message).expect(rt, "memory for the bytes")
 }
 
-// Whether these are just the frames of replica 1 that are wanted, by their bytes.
-fn are_frames(rt: &impl Abort, alloc: Global, frames: &[Message], wanted: &[Sent]) -> bool {
+// Whether these are just the messages of replica 1 that are wanted, by their bytes.
+fn are_messages(rt: &impl Abort, alloc: Global, messages: &[Message], wanted: &[Sent]) -> bool {
     for (place, sent) in wanted.iter().enumerate() {
-        let Some(frame) = frames.get(place) else {
+        let Some(message) = messages.get(place) else {
             return false;
         };
-        let wanted = bytes_of(rt, alloc, &frame_of(rt, alloc, *sent));
-        if bytes_of(rt, alloc, frame).as_slice() != wanted.as_slice() {
+        let wanted = bytes_of(rt, alloc, &message_of(rt, alloc, *sent));
+        if bytes_of(rt, alloc, message).as_slice() != wanted.as_slice() {
             return false;
         }
     }
-    frames.len() == wanted.len()
+    messages.len() == wanted.len()
 }
 
-// The frames that a node answers to one.
-fn answers<D: PageDevice>(rt: &impl Abort, node: &mut Node<D>, frame: Message) -> MessageList {
-    match answer(node, Call::Receive(frame)) {
-        Reply::Answers(frames) => frames,
-        _ => panic!(rt; "the frame is received"),
+// The messages that a node answers to one.
+fn answers<D: PageDevice>(rt: &impl Abort, node: &mut Node<D>, message: Message) -> MessageList {
+    match answer(node, Call::Receive(message)) {
+        Reply::Answers(messages) => messages,
+        _ => panic!(rt; "the message is received"),
     }
 }
 
 fn would_answer<D: PageDevice>(
     rt: &impl Abort,
     node: &mut Node<D>,
-    frame: &Message,
+    message: &Message,
 ) -> MessageList {
-    node.answers(frame).ok().expect(rt, "memory is ample")
+    node.answers(message).ok().expect(rt, "memory is ample")
 }
 
 // Makes the call of a row, and whether it is answered so.
@@ -287,12 +287,12 @@ fn meets<D: PageDevice>(rt: &impl Abort, alloc: Global, node: &mut Node<D>, row:
         }
         Row::Hottest(wanted) => has_pages(answer(node, Call::WarmList(wanted.len())), wanted),
         Row::Receives(sent, wanted) => {
-            let frames = answers(rt, node, frame_of(rt, alloc, sent));
-            are_frames(rt, alloc, frames.as_slice(), wanted)
+            let messages = answers(rt, node, message_of(rt, alloc, sent));
+            are_messages(rt, alloc, messages.as_slice(), wanted)
         }
         Row::WouldAnswer(sent, wanted) => {
-            let frames = would_answer(rt, node, &frame_of(rt, alloc, sent));
-            are_frames(rt, alloc, frames.as_slice(), wanted)
+            let messages = would_answer(rt, node, &message_of(rt, alloc, sent));
+            are_messages(rt, alloc, messages.as_slice(), wanted)
         }
         call => is_said(rt, alloc, node, call),
     }

@@ -53,12 +53,12 @@ const fn request_at(horizon: u8, request: u8) -> [u8; 27] {
 // The bytes of a digest of the empty history at a horizon, from replica 9.
 fn digest(rt: &impl Abort, alloc: Global, horizon: u64) -> Vec<u8> {
     let digests = digests(alloc, &History::new(alloc)).expect(rt, "memory for digests");
-    let frame = Message::Digest {
+    let message = Message::Digest {
         sender: replica(9),
         horizon,
         digests,
     };
-    encode(alloc, &frame).expect(rt, "memory for a frame")
+    encode(alloc, &message).expect(rt, "memory for the bytes")
 }
 
 // After how many Stops and turns a loop ends, and how many items its channel gives.
@@ -100,7 +100,7 @@ fn heard_alone<R: Wait + Abort>(
     heard(rt, alloc, fresh(rt, alloc), mail, &mut post, bounds)
 }
 
-// Entries, a byte that is no frame, and a Stop come. Where a second Stop is waited for the channel is closed.
+// Entries, a byte that is no message, and a Stop come. Where a second Stop is waited for the channel is closed.
 #[test]
 fn a_loop_ends_at_its_bounds(rt: HostRuntime) {
     let rows = [
@@ -256,7 +256,7 @@ fn ended<M: Absorbing + Drop + Send, R: Threads + Wait + Abort + Sync>(
     }
 }
 
-// What two nodes count: one hears of entries and a byte that is no frame, the other of entries and a digest, whose two answers
+// What two nodes count: one hears of entries and a byte that is no message, the other of entries and a digest, whose two answers
 // reach these outboxes.
 fn heard_by_nodes<R: Threads + Wait + Abort + Sync>(
     rt: &R,

@@ -120,7 +120,7 @@ fn shown_twice(rt: &impl Abort, alloc: Global) -> String {
     )
 }
 
-// Two pages of a bucket of 1,001 are sent in a second frame.
+// Two pages of a bucket of 1,001 are sent in a second message.
 #[test]
 fn a_bucket_is_sent_whole(rt: HostRuntime) {
     let text = lines_of(&rt, rt.alloc(), "ref 1 1 ", " 7");

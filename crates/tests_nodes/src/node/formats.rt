@@ -1,4 +1,4 @@
-//! Frames of both formats that come to a node, and the pages of whose numbers no device has one.
+//! Messages that come to a node in either format, and those of pages that no device has.
 
 use super::{NO_PAGE, Row, Said, answers, fresh, runs};
 use std::alloc::Global;
@@ -6,7 +6,7 @@ use std::process::Abort;
 use test_kit::{NARROW, WIDE};
 use warm_frames::decode;
 
-// The frame `WIDE`, of the page of device 0 whose number is in these bytes. Its stamp 10@1 is older than its horizon 12.
+// The bytes `WIDE`, of the page of device 0 whose number is in these bytes. Its stamp 10@1 is older than its horizon 12.
 fn wide(number: [u8; 8]) -> [u8; 54] {
     let mut bytes = WIDE;
     bytes[25..33].copy_from_slice(&number);
@@ -16,10 +16,10 @@ fn wide(number: [u8; 8]) -> [u8; 54] {
 // An empty node receives these bytes, and then lives through the rows.
 fn takes(rt: &impl Abort, alloc: Global, bytes: &[u8], rows: &[Row]) {
     let mut node = fresh(rt, alloc, 2);
-    let frame = decode(alloc, bytes)
+    let message = decode(alloc, bytes)
         .ok()
-        .expect(rt, "the bytes are a frame");
-    assert!(rt; answers(rt, &mut node, frame).as_slice().is_empty());
+        .expect(rt, "the bytes are a message");
+    assert!(rt; answers(rt, &mut node, message).as_slice().is_empty());
     runs(rt, alloc, &mut node, rows)
 }
 
@@ -39,7 +39,7 @@ const LAST_WIDE: &[Row] = &[
 ];
 
 #[test]
-fn frames_of_both_formats_are_received(rt: HostRuntime) {
+fn messages_of_both_formats_are_received(rt: HostRuntime) {
     let alloc = rt.alloc();
     takes(&rt, alloc, &NARROW, &[Row::Knows(0, &[(7, 20, 10)])]);
     takes(&rt, alloc, &WIDE, &[Row::Knows(12, &[(7, 20, 0)])]);
