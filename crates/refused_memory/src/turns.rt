@@ -11,8 +11,8 @@ use warm_frames::{DIGEST_SIZE, DigestTable, Message, encode};
 use warm_gossip::{Call, Node, NodeFault, Reply};
 use warm_refbuffer::RefBuffer;
 use warm_replica::{
-    BoxedCall, FlushFault, Gate, Job, MAX_JOBS, Mail, MemPost, Post, Replica, Replies, RunFault,
-    Step, StepReply, Worker, mail_loop, run_workers,
+    BoxedCall, FlushFault, Gate, Job, MAX_JOBS, Mail, MailReport, MemPost, Post, Replica, Replies,
+    RunFault, Step, StepReply, Worker, mail_loop, run_workers,
 };
 use warm_stamps::{BUCKETS, ByteList, PageId, ReplicaId};
 use warm_turn::{Memory, Pass, Turn};
@@ -219,7 +219,29 @@ fn mail(alloc: Global) -> Result<Vec<Mail>, Ended> {
     Ok(items)
 }
 
-// A replica takes mail, and what it answers is kept. What is refused for memory is counted.
+// What a loop counted of the one item, and how many answers were kept: a request of all buckets, and an answer for each of the pages
+// 0:1 to 0:3. What is refused for memory is counted.
+fn counted(met: &mut Met, report: MailReport, kept: u128) -> Result<(), Ended> {
+    met.holds(
+        report.joined.wrapping_add(report.refused) == 1,
+        "one item is counted",
+    )?;
+    if report.refused == 1 {
+        return met.refuse(
+            kept == 0 && report.lost == 0,
+            "a refused message is answered",
+        );
+    }
+    if report.lost > 0 {
+        met.refuse(report.lost == 1, "one answer is lost")?;
+    }
+    met.holds(
+        kept.wrapping_add(report.lost) == 4,
+        "each answer is kept or lost",
+    )
+}
+
+// A replica takes mail, and what it answers is kept.
 fn listen<R: Wait>(
     met: &mut Met,
     rt: &R,
@@ -242,25 +264,7 @@ fn listen<R: Wait>(
         1,
         9,
     );
-    met.holds(
-        report.joined.wrapping_add(report.refused) == 1,
-        "one item is counted",
-    )?;
-    // a request of all buckets, and an answer for each of the pages 0:1 to 0:3
-    let kept = post.given().len() as u128;
-    if report.refused == 1 {
-        return met.refuse(
-            kept == 0 && report.lost == 0,
-            "a refused message is answered",
-        );
-    }
-    if report.lost > 0 {
-        met.refuse(report.lost == 1, "one answer is lost")?;
-    }
-    met.holds(
-        kept.wrapping_add(report.lost) == 4,
-        "each answer is kept or lost",
-    )
+    counted(met, report, post.given().len() as u128)
 }
 
 fn posted(met: &mut Met, alloc: Global) -> Result<(), Ended> {
