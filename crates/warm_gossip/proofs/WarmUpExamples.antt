@@ -102,7 +102,7 @@ puts_2 : PutsIn (history heated) (pool (held 0 1) free) (page 2) 0 (record { ind
 puts_2 = record {
   absent = next_is_2.3.1;
   place = inl (record { there = omega arith; free = refl; least = taken });
-  room = omega arith;
+  below = omega arith;
   current = refl;
   becomes = refl;
   contents = keeps (held 0 1) free 0 2 1 1 refl refl;
@@ -138,7 +138,7 @@ puts_1 : PutsIn (history heated) (pool (held 0 1) (held 2 1)) (page 1) 0 (record
 puts_1 = record {
   absent = next_is_1.3.1;
   place = inr (record { there = omega arith; full = full; page = page 0; holds = refl; unfixed = refl; victim = victim_is_0 });
-  room = omega arith;
+  below = omega arith;
   current = refl;
   becomes = refl;
   contents = keeps (held 0 1) (held 2 1) 1 2 2 1 refl refl;
