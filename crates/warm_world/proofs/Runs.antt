@@ -19,7 +19,7 @@ Run-more old (e ∷ events) [] mid event answer new never next = absurd never
 Run-more old (e ∷ events) (a ∷ answers) mid event answer new run next = (run.0, run.1, Run-more run.0 events answers mid event answer new run.2 next)
 
 -- each victim so far is right, and so are those of the event more
-victims_more : (old : ModelState) (events : List Event) (answers : List Answer) (mid : ModelState) (event : Event) (answer : Answer) (new : ModelState) (run : Run old events answers mid) (next : Next mid event answer new) → EachVictim old events answers mid run → EachVictim (old) (events ++ event ∷ []) (answers ++ answer ∷ []) new (Run-more old events answers mid event answer new run next)
+victims_more : (old : ModelState) (events : List Event) (answers : List Answer) (mid : ModelState) (event : Event) (answer : Answer) (new : ModelState) (run : Run old events answers mid) (next : Next mid event answer new) → EachVictim old events answers mid run → EachVictim old (events ++ event ∷ []) (answers ++ answer ∷ []) new (Run-more old events answers mid event answer new run next)
 unfolding Run-more
 victims_more old [] [] mid event answer new is next so_far = (victims_are_farthest old event answer new (subst (λ m. Next m event answer new) is next), tt)
 victims_more old [] (a ∷ answers) mid event answer new never next so_far = absurd never
