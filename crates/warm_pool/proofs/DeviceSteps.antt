@@ -117,39 +117,31 @@ same_view s new k e is kept same =
     view_of_kept s new kept
     ∙ ap (λ (failures : List ℕ). let v : PoolView = record (view_of s) { failures = failures } in v) (failures_kept s.devices new k e is same)
 
--- a device of which a page was read is as it was
+-- a device of which a page was read is as it was, but for its failures
+read_after : {old new : List DeviceState} {k n : ℕ} {bytes : List ℕ} {result : Result (Unit {0}) DeviceFault} (r : PageRead old new k n bytes result) (failures : ℕ)
+    → r.after.failures ≡ failures → r.after ≡ record (nth_device old k) { failures = failures }
+read_after r failures is i = record {
+  pages = r.call.shape.pages i;
+  page_size = r.call.shape.page_size i;
+  contents = r.call.contents i;
+  waiting = r.call.waiting i;
+  failures = is i;
+  honest = r.call.shape.honest i;
+  unfailing = r.call.shape.unfailing i;
+}
+
 pub read_same : (old new : List DeviceState) (k n : ℕ) (bytes : List ℕ) (result : Result (Unit {0}) DeviceFault)
     → PageRead old new k n bytes result → result ≡ Ok tt → new ≡ old
 read_same old new k n bytes result r ok =
     let failures : r.after.failures ≡ (nth_device old k).failures = subst (λ x. CountsFault Read x (nth_device old k) r.after) ok r.call.faults in
-    let same : r.after ≡ nth_device old k = λ i. record {
-      pages = r.call.shape.pages i;
-      page_size = r.call.shape.page_size i;
-      contents = r.call.contents i;
-      waiting = r.call.waiting i;
-      failures = failures i;
-      honest = r.call.shape.honest i;
-      unfailing = r.call.shape.unfailing i;
-    } in
-    r.becomes ∙ ap (set old k) same ∙ set-get_or old k no_device
+    r.becomes ∙ ap (set old k) (read_after r (nth_device old k).failures failures) ∙ set-get_or old k no_device
 
--- where a page was not read, a failure of its device is counted, and nothing else has changed
+-- where it was not read, a failure is counted
 pub read_counted : (old new : List DeviceState) (k n : ℕ) (bytes : List ℕ) (result : Result (Unit {0}) DeviceFault) (fault : DeviceFault)
     → PageRead old new k n bytes result → result ≡ Err fault → new ≡ failed_at k old
 read_counted old new k n bytes result fault r failed =
-    let failures : r.after.failures ≡ one_more (nth_device old k).failures =
-    (subst (λ x. CountsFault Read x (nth_device old k) r.after) failed r.call.faults).1 in
-    let counted : DeviceState = record (nth_device old k) { failures = one_more (nth_device old k).failures } in
-    let same : r.after ≡ counted = λ i. record {
-      pages = r.call.shape.pages i;
-      page_size = r.call.shape.page_size i;
-      contents = r.call.contents i;
-      waiting = r.call.waiting i;
-      failures = failures i;
-      honest = r.call.shape.honest i;
-      unfailing = r.call.shape.unfailing i;
-    } in
-    r.becomes ∙ ap (set old k) same
+    let counts = subst (λ x. CountsFault Read x (nth_device old k) r.after) failed r.call.faults in
+    r.becomes ∙ ap (set old k) (read_after r (one_more (nth_device old k).failures) counts.1)
 
 -- what a call of one device says, of that device in the list
 pub page_read : (old new : List DeviceState) (k n : ℕ) (d after : DeviceState) (bytes : List ℕ) (result : Result (Unit {0}) DeviceFault)

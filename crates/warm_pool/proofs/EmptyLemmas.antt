@@ -14,12 +14,11 @@ use Rattle.warm_pool.specs.View.{stored, view_of, frame_view, bytes_of, PoolView
 use Rattle.warm_pool.specs.Keeping.{KeepsContents}
 use Rattle.warm_pool.specs.WritingBack.{PutsDown, is_chosen, cleaned_chosen}
 use Rattle.warm_pool.specs.Retiring.{Emptied, emptied, AreUnfixed, vacate_if, vacated_chosen}
-use Rattle.warm_pool.specs.Flushes.{NoneWaits}
 use Rattle.warm_pool.proofs.Bytes.{bytes_nowhere, where_is, contents_seen, device_seen, frame_seen}
 use Rattle.warm_pool.proofs.Keeps.{pool_from, stored_honest}
 use Rattle.warm_pool.proofs.Loads.{contents_absent}
 use Rattle.warm_pool.proofs.ClosingLemmas.{clean_each, nth_page}
-use Rattle.warm_pool.proofs.SettleLemmas.{down_view, settled}
+use Rattle.warm_pool.proofs.SettleLemmas.{down_view}
 use Rattle.warm_pool.proofs.VacateLemmas.{length-vacated}
 
 -- Fixes
@@ -151,15 +150,15 @@ module _ (t : PoolState) (w : IsPool t) (clean : (i : ℕ) → (nth_frame t.fram
     contents = subst (λ v. KeepsContents v (view_of u)) same empty_keeps;
   }
 
-  pub empty_settled : NoneWaits t.devices → IsSettled u
-  empty_settled none = record { clean = λ i. ap (λ f. f.dirty) (nth_vacated None t.frames i); flushed = none }
+pub empty_settled : (t : PoolState) → IsSettled t → IsSettled (record t { frames = vacated_chosen None t.frames })
+empty_settled t settled = record { clean = λ i. ap (λ f. f.dirty) (nth_vacated None t.frames i); flushed = settled.flushed }
 
 -- the same, where the frames are said by an equation
 pub becomes_empty : (P : PoolState → Type 0) (which : Option ℕ) (old new : FramesState) (spare : ℕ) (devices : List DeviceState) → new ≡ record old { frames = vacated_chosen which old.frames } → P (record (pool_from old spare devices) { frames = vacated_chosen which old.frames }) → P (pool_from new spare devices)
 becomes_empty P which old new spare devices is holds = subst (λ frames. P (pool_from frames spare devices)) (sym is) holds
 
-pub emptied_pool : (s : PoolState) (old new : FramesState) (spare : ℕ) (devices : List DeviceState) → PutsDown (cleaned_chosen None (length s.frames) s.frames) s (pool_from old spare devices) → NoneWaits devices → AreUnfixed None s.frames → IsPool (pool_from old spare devices) → new ≡ record old { frames = vacated_chosen None old.frames } → Emptied (view_of s) (view_of (pool_from new spare devices))
-emptied_pool s old new spare devices down none unfixed pool is =
+pub emptied_pool : (s : PoolState) (old new : FramesState) (spare : ℕ) (devices : List DeviceState) → PutsDown (cleaned_chosen None (length s.frames) s.frames) s (pool_from old spare devices) → IsSettled (pool_from old spare devices) → AreUnfixed None s.frames → IsPool (pool_from old spare devices) → new ≡ record old { frames = vacated_chosen None old.frames } → Emptied (view_of s) (view_of (pool_from new spare devices))
+emptied_pool s old new spare devices down settled unfixed pool is =
     let t : PoolState = pool_from old spare devices in
     becomes_empty (λ u. Emptied (view_of s) (view_of u)) None old new spare devices is
-    (empty_view t pool (settled s t down none).clean s (down_view None (length s.frames) s t down) unfixed)
+    (empty_view t pool settled.clean s (down_view None (length s.frames) s t down) unfixed)

@@ -141,6 +141,9 @@ stopped_failures old new stops =
 
 -- Both, one after the other
 
+pub seen_down : {frames : List FrameState} {s t v : PoolState} → t ≡ v → PutsDown frames s v → PutsDown frames s t
+seen_down {frames} {s} seen down = subst (λ x. PutsDown frames s x) (sym seen) down
+
 pub flush_down : (which : Option ℕ) (n : ℕ) (s t u : PoolState) → PutsDown (cleaned_chosen which n s.frames) s t → u.frames ≡ t.frames → (u.page_size ≡ t.page_size) × (u.spare ≡ t.spare) → AreAlike t.devices u.devices → counts u.devices ≡ counts t.devices → PutsDown (cleaned_chosen which n s.frames) s u
 flush_down which n s t u down frames same alike failures = record {
   becomes = frames ∙ down.becomes;
@@ -176,3 +179,6 @@ settled s t down none = record {
   clean = λ i. ap (λ frames. (nth_frame frames i).dirty) down.becomes ∙ all_clean s.frames i;
   flushed = none;
 }
+
+pub seen_settled : {s t v : PoolState} → t ≡ v → PutsDown (cleaned_chosen None (length s.frames) s.frames) s v → NoneWaits v.devices → IsSettled t
+seen_settled {s} {v = v} seen down none = subst IsSettled (sym seen) (settled s v down none)
