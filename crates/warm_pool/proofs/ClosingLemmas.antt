@@ -20,12 +20,9 @@ clean_each P which (suc n) [] i was is = was
 clean_each P which (suc n) (f ∷ frames) zero was is = elim (is_chosen which f.page) as (λ t. P (cond t (cleaned f) f)) [ true ↦ is | false ↦ was ]
 clean_each P which (suc n) (f ∷ frames) (suc i) was is = clean_each P which n frames i was is
 
--- it has the page that it had, and isn't dirty if it wasn't
+-- it has the page that it had
 pub nth_page : (which : Option ℕ) (n : ℕ) (frames : List FrameState) (i : ℕ) → (nth_frame (cleaned_chosen which n frames) i).page ≡ (nth_frame frames i).page
 nth_page which n frames i = clean_each (λ f. f.page ≡ (nth_frame frames i).page) which n frames i refl refl
-
-nth_dirty : (which : Option ℕ) (n : ℕ) (frames : List FrameState) (i : ℕ) → (nth_frame frames i).dirty ≡ false → (nth_frame (cleaned_chosen which n frames) i).dirty ≡ false
-nth_dirty which n frames i is = clean_each (λ f. f.dirty ≡ false) which n frames i is refl
 
 -- those not yet reached are as they were
 pub nth_rest : (which : Option ℕ) (n : ℕ) (frames : List FrameState) (i : ℕ) → n ≤ i → nth_frame (cleaned_chosen which n frames) i ≡ nth_frame frames i
@@ -59,7 +56,7 @@ down_more which n s t u lt first next = let one : suc n ≡ n + 1 = omega arith 
   becomes = next.becomes ∙ ap (λ frames. set frames n (clean_if which (nth_frame frames n))) first.becomes ∙ clean_more which n s.frames lt ∙ ap (λ m. cleaned_chosen which m s.frames) one;
   devices = kept_both s.frames t.frames s.devices t.devices u.devices
       (λ i. ap (λ frames. (nth_frame frames i).page) first.becomes ∙ nth_page which n s.frames i)
-      (λ i is. ap (λ frames. (nth_frame frames i).dirty) first.becomes ∙ nth_dirty which n s.frames i is)
+      (λ i is. ap (λ frames. (nth_frame frames i).dirty) first.becomes ∙ clean_each (λ f. f.dirty ≡ false) which n s.frames i is refl)
       first.devices next.devices;
   failures = next.failures ∙ first.failures;
   same = (next.same.0 ∙ first.same.0, next.same.1 ∙ first.same.1);

@@ -19,17 +19,13 @@ use Rattle.warm_pool.proofs.Keeps.{pool_from, stored_honest}
 use Rattle.warm_pool.proofs.Loads.{contents_absent}
 use Rattle.warm_pool.proofs.ClosingLemmas.{clean_each, nth_page}
 use Rattle.warm_pool.proofs.SettleLemmas.{down_view}
-use Rattle.warm_pool.proofs.VacateLemmas.{length-vacated}
 
 -- Fixes
-
-nth_fixes : (which : Option ℕ) (n : ℕ) (frames : List FrameState) (i : ℕ) → (nth_frame (cleaned_chosen which n frames) i).fixes ≡ (nth_frame frames i).fixes
-nth_fixes which n frames i = clean_each (λ f. f.fixes ≡ (nth_frame frames i).fixes) which n frames i refl refl
 
 pub unfixed_to : (which : Option ℕ) (n : ℕ) (old new : List FrameState) → new ≡ cleaned_chosen which n old → AreUnfixed which old → AreUnfixed which new
 unfixed_to which n old new becomes unfixed i chosen =
     let page : (nth_frame new i).page ≡ (nth_frame old i).page = ap (λ frames. (nth_frame frames i).page) becomes ∙ nth_page which n old i in
-    ap (λ frames. (nth_frame frames i).fixes) becomes ∙ nth_fixes which n old i ∙ unfixed i (subst (λ held. IsTrue (is_chosen which held)) page chosen)
+    ap (λ frames. (nth_frame frames i).fixes) becomes ∙ clean_each (λ f. f.fixes ≡ (nth_frame old i).fixes) which n old i refl refl ∙ unfixed i (subst (λ held. IsTrue (is_chosen which held)) page chosen)
 
 pub unfixed_frames : (frames : List FrameState) → AreUnfixed None frames → (i : ℕ) → (get_or (map frame_view frames) i (frame_view (fresh_frame []))).fixes ≡ 0
 unfixed_frames frames unfixed i = ap (λ f. f.fixes) (mapped frame_view frames i (fresh_frame [])) ∙ unfixed i refl
@@ -79,7 +75,7 @@ was_there which frames i p is = sym (ap (λ f. f.page) (still_there which frames
 
 pub vacated_pool : (which : Option ℕ) (s : PoolState) → AreUnfixed which s.frames → IsPool s → IsPool (record s { frames = vacated_chosen which s.frames })
 vacated_pool which s unfixed w =
-    let count = length-vacated which s.frames in
+    let count = length-map s.frames (vacate_if which) in
     record {
       some_frames = subst (λ n. 0 < n) (sym count) w.some_frames;
       few_frames = subst (λ n. n ≤ MAX_SLOTS) (sym count) w.few_frames;
@@ -102,11 +98,8 @@ vacated_pool which s unfixed w =
 pub vacated_ranked : (which : Option ℕ) (frames : List FrameState) (h : HistoryView) → ((i : ℕ) → IsRanked h (nth_frame frames i)) → (i : ℕ) → IsRanked h (nth_frame (vacated_chosen which frames) i)
 vacated_ranked which frames h ranked i = subst (λ f. IsRanked h f) (sym (nth_vacated which frames i)) (vacate_ranked which (nth_frame frames i) h (ranked i))
 
-none_ranked : (frames : List FrameState) (h : HistoryView) (i : ℕ) → IsRanked h (nth_frame (vacated_chosen None frames) i)
-none_ranked frames h i = subst (λ f. IsRanked h f) (sym (nth_vacated None frames i)) refl
-
 pub empty_ranked : (old new : FramesState) (h : HistoryView) → new ≡ record old { frames = vacated_chosen None old.frames } → (i : ℕ) → IsRanked h (nth_frame new.frames i)
-empty_ranked old new h is i = subst (λ (f : FramesState). IsRanked h (nth_frame f.frames i)) (sym is) (none_ranked old.frames h i)
+empty_ranked old new h is i = subst (λ (f : FramesState). IsRanked h (nth_frame f.frames i)) (sym is) (subst (λ f. IsRanked h f) (sym (nth_vacated None old.frames i)) refl)
 
 -- An emptied pool, as a caller sees it
 

@@ -19,6 +19,13 @@ use Rattle.warm_pool.specs.View.{frame_view, device_view, view_of, device_at, fr
 use Rattle.warm_pool.specs.Pinning.{IsFull, IsLeastFree, IsPlace}
 use Rattle.warm_pool.proofs.Bytes.{frame_seen, device_seen}
 
+-- the same of a pool that is seen as v
+pub pool_seen : {s v : PoolState} → s ≡ v → IsPool s → IsPool v
+pool_seen seen w = subst IsPool seen w
+
+pub place_seen : {s v : PoolState} → s ≡ v → (p : PageId) (at : Option ℕ) → IsPlaceOf (map (λ f. f.page) s.frames) p at → IsPlaceOf (map (λ f. f.page) v.frames) p at
+place_seen seen p at is = subst (λ x. IsPlaceOf (map (λ f. f.page) x.frames) p at) seen is
+
 -- what a device has, as a caller sees it
 pub seen_has : {s : PoolState} → IsPool s → (p : PageId) → p.dev < length s.devices → p.no < (nth_device s.devices p.dev).pages → HasPage (view_of s) p
 seen_has {s} w p d n = record {

@@ -39,9 +39,6 @@ bytes_to which zero frames p others = refl
 bytes_to which (suc n) [] p others = refl
 bytes_to which (suc n) (f ∷ frames) p others = held_clean which f p (bytes_in (cleaned_chosen which n frames) p others) ∙ ap (λ rest. cond (is_page p f.page) f.bytes rest) (bytes_to which n frames p others)
 
-key_to : (which : Option ℕ) (n : ℕ) (frames : List FrameState) (i : ℕ) → (nth_frame (cleaned_chosen which n frames) i).key ≡ (nth_frame frames i).key
-key_to which n frames i = clean_each (λ f. f.key ≡ (nth_frame frames i).key) which n frames i refl refl
-
 all_clean : (frames : List FrameState) (i : ℕ) → (nth_frame (cleaned_chosen None (length frames) frames) i).dirty ≡ false
 all_clean [] i = refl
 all_clean (f ∷ frames) zero = refl
@@ -69,7 +66,7 @@ pub ranked_to : (which : Option ℕ) (n : ℕ) (old new : List FrameState) (h : 
     → (i : ℕ) → (nth_frame new i).key ≡ option_map (λ p. rank_key p (hist (refs h) p)) (nth_frame new i).page
 ranked_to which n old new h becomes ranked i =
     subst (λ frames. (nth_frame frames i).key ≡ option_map (λ p. rank_key p (hist (refs h) p)) (nth_frame frames i).page) (sym becomes)
-    (key_to which n old i ∙ ranked i ∙ ap (option_map (λ p. rank_key p (hist (refs h) p))) (sym (nth_page which n old i)))
+    (clean_each (λ f. f.key ≡ (nth_frame old i).key) which n old i refl refl ∙ ranked i ∙ ap (option_map (λ p. rank_key p (hist (refs h) p))) (sym (nth_page which n old i)))
 
 -- Devices that were flushed
 
