@@ -38,15 +38,12 @@ nth_other which (suc n) [] i not = refl
 nth_other which (suc n) (f ∷ frames) zero not = ap (λ (t : Bool). cond t (cleaned f) f) not
 nth_other which (suc n) (f ∷ frames) (suc i) not = nth_other which n frames i not
 
-shape_both : (a b c : DeviceState) → SameShape a b → SameShape b c → SameShape a c
-shape_both a b c ab bc = record { pages = bc.pages ∙ ab.pages; page_size = bc.page_size ∙ ab.page_size; honest = bc.honest ∙ ab.honest; unfailing = bc.unfailing ∙ ab.unfailing }
-
 -- two steps, the second over frames with the same pages, that are clean where they were
 pub kept_both : (frames later : List FrameState) (a b c : List DeviceState) → ((i : ℕ) → (nth_frame later i).page ≡ (nth_frame frames i).page) → ((i : ℕ) → (nth_frame frames i).dirty ≡ false → (nth_frame later i).dirty ≡ false)
     → KeptDevices frames a b → KeptDevices later b c → KeptDevices frames a c
 kept_both frames later a b c pages clean ab bc = record {
   count = bc.count ∙ ab.count;
-  shape = λ k. shape_both (nth_device a k) (nth_device b k) (nth_device c k) (ab.shape k) (bc.shape k);
+  shape = λ k. let x = ab.shape k in let y = bc.shape k in record { pages = y.pages ∙ x.pages; page_size = y.page_size ∙ x.page_size; honest = y.honest ∙ x.honest; unfailing = y.unfailing ∙ x.unfailing };
   absent = λ p away. bc.absent p (λ i is. away i (sym (pages i) ∙ is)) ∙ ab.absent p away;
   clean = λ i p holds is. bc.clean i p (pages i ∙ holds) (clean i is) ∙ ab.clean i p holds is;
 }

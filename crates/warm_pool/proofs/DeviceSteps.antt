@@ -45,15 +45,12 @@ shapes_set old new k e h is shape j =
 abbrev pub known_bytes : DeviceState → ℕ → List ℕ
 known_bytes d n = cond d.honest (page_at d.contents n) []
 
-known_alike : (d e : DeviceState) (n : ℕ) → e.honest ≡ d.honest → page_at e.contents n ≡ page_at d.contents n → known_bytes e n ≡ known_bytes d n
-known_alike d e n o c = ap₂ (λ (t : Bool) (bytes : List ℕ). cond t bytes []) o c
-
 pub stored_set : (old new : List DeviceState) (k : ℕ) (e : DeviceState) → k < length old → new ≡ set old k e → SameShape (nth_device old k) e
     → (p : PageId) → (p.dev ≡ k → page_at e.contents p.no ≡ page_at (nth_device old k).contents p.no) → stored new p ≡ stored old p
 stored_set old new k e h is shape p same =
     subst (λ ds. stored ds p ≡ stored old p) (sym is)
     (at_set no_device (λ j d. p.dev ≡ j → known_bytes d p.no ≡ known_bytes (nth_device old j) p.no) old k e h
-    (λ here. known_alike (nth_device old k) e p.no shape.honest (same here)) (λ j ne _. refl) p.dev refl)
+    (λ here. ap₂ (λ (t : Bool) (bytes : List ℕ). cond t bytes []) shape.honest (same here)) (λ j ne _. refl) p.dev refl)
 
 pub read_keeps : (frames : List FrameState) (old new : List DeviceState) (k n : ℕ) (bytes : List ℕ) (result : Result (Unit {0}) DeviceFault)
     → k < length old → PageRead old new k n bytes result → KeptDevices frames old new

@@ -61,9 +61,7 @@ vacate_fresh None = refl
 vacate_fresh (Some dev) = refl
 
 pub nth_vacated : (which : Option ℕ) (frames : List FrameState) (i : ℕ) → nth_frame (vacated_chosen which frames) i ≡ vacate_if which (nth_frame frames i)
-nth_vacated which [] i = sym (vacate_fresh which)
-nth_vacated which (f ∷ frames) zero = refl
-nth_vacated which (f ∷ frames) (suc i) = nth_vacated which frames i
+nth_vacated which frames i = ap (get_or (vacated_chosen which frames) i) (sym (vacate_fresh which)) ∙ mapped (vacate_if which) frames i (fresh_frame [])
 
 -- All of them
 

@@ -109,10 +109,8 @@ module _ (s t : PoolState) (h : HistoryView) (p : PageId) (has : HasPage (view_o
 -- a page with as many fixes as can be
 pub pin_full : (s t : PoolState) (h : HistoryView) (p : PageId) (i : ℕ) → HasPage (view_of s) p → i < length s.frames → (nth_frame s.frames i).page ≡ Some p
     → (r : Result Slot PoolFault) → IfErr r (λ why. (why ≡ FixesFull) × ((nth_frame s.frames i).fixes ≡ 2 ^ 32 - 1) × (t ≡ s)) → IfErr r (λ why. PinRefused h (view_of s) p why (view_of t))
-pin_full s t h p i has there holds (Ok slot) x = tt
-pin_full s t h p i has there holds (Err why) x =
-    subst (λ y. PinRefused h (view_of s) p y (view_of t)) (sym x.0)
-    (inl (has, record { frame = i; there = subst (λ m. i < m) (sym (length-map s.frames frame_view)) there; resident = ap (λ f. f.page) (frame_seen s i) ∙ holds; full = ap (λ f. f.fixes) (frame_seen s i) ∙ x.1 }, ap view_of x.2))
+pin_full s t h p i has there holds r x = if_err _ _ r x (λ why full. subst (λ y. PinRefused h (view_of s) p y (view_of t)) (sym full.0)
+    (inl (has, record { frame = i; there = subst (λ m. i < m) (sym (length-map s.frames frame_view)) there; resident = ap (λ f. f.page) (frame_seen s i) ∙ holds; full = ap (λ f. f.fixes) (frame_seen s i) ∙ full.1 }, ap view_of full.2)))
 
 pub full_stays : (s t : PoolState) (i : ℕ) (r : Result Slot PoolFault)
     → IfErr r (λ why. (why ≡ FixesFull) × ((nth_frame s.frames i).fixes ≡ 2 ^ 32 - 1) × (t ≡ s)) → OnErr r (SameButFailures (view_of s) (view_of t))

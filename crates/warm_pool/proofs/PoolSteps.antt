@@ -158,13 +158,9 @@ seen_place {s} w full (Some i) l h r =
       victim = subst (IsVictim (refs h) (unfixed_pages (view_of s))) page.1 (one_leaves w h r i l);
     })
 
-pub least_if_there : {s : PoolState} → IsPool s → (least : Option ℕ) → IsLeast key_cmp (map leaving_key s.frames) least → IfSome least (λ i. i < length s.frames)
-least_if_there {s} w None l = tt
-least_if_there {s} w (Some i) l = least_there w i l
-
-pub least_if_unfixed : {s : PoolState} → IsPool s → (least : Option ℕ) → IsLeast key_cmp (map leaving_key s.frames) least → IfSome least (λ i. (nth_frame s.frames i).fixes ≡ 0)
-least_if_unfixed {s} w None l = tt
-least_if_unfixed {s} w (Some i) l = least_unfixed w i l
+pub least_if : (keys : List (Option RankKey)) (P : ℕ → Type 0) → ((i : ℕ) → IsLeast key_cmp keys (Some i) → P i) → (least : Option ℕ) → IsLeast key_cmp keys least → IfSome least P
+least_if keys P holds None l = tt
+least_if keys P holds (Some i) l = holds i l
 
 pub seen_there : {s : PoolState} → IsPool s → (i : ℕ) → i < length s.frames → i < length (view_of s).frames
 seen_there {s} w i h = subst (λ m. i < m) (sym (length-map s.frames frame_view)) h

@@ -11,6 +11,3 @@ returns-then-page_size g c = (
 pub loop-device-preserved : goal.loop-device-preserved
 loop-device-preserved g c =
     sized_more _ _ _ _ _ c.device-item.is c.loop-device-test.true (sym c.page_size.ensures ∙ c.if-page_size.false) c.loop-device.invariant
-
-pub returns : goal.returns
-returns g c = (λ _ k h. c.loop-device.invariant k (omega arith), λ _. refl)

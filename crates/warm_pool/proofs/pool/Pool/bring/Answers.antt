@@ -6,9 +6,6 @@ use Rattle.warm_pool.proofs.KeepingLemmas.{loaded_takes, failed_leaves}
 use Rattle.warm_pool.proofs.FlushLemmas.{handed_on}
 use Rattle.warm_pool.proofs.pool.Pool.bring.Goals as goal
 
-pub returns-in_default-clause-refused : goal.returns-in_default-clause-refused
-returns-in_default-clause-refused g c = (c.in_default.ensures.place c.args.history.now c.requires.ranked, refl)
-
 pub load_into-requires-clause-below : goal.load_into-requires-clause-below
 load_into-requires-clause-below g c =
     subst (λ n. n < 18446744073709551615) (c.generation-generation.ensures ∙ ap (λ s. (nth_frame s.frames c.in-Some.at).generation) c.self.view_is) c.if-generation-lt18446744073709551615.true

@@ -3,7 +3,7 @@ use Rattle.warm_pool.specs.View.{view_of}
 use Rattle.warm_pool.specs.Pinning.{Pinned}
 use Rattle.warm_pool.proofs.PoolSteps.{pool_seen, place_seen, found_there, found_holds, found_nowhere}
 use Rattle.warm_pool.proofs.Pins.{puts_holds, pin_put_refused, stays_put, pin_full, full_stays}
-use Rattle.warm_pool.proofs.KeepingLemmas.{unknown_leaves, full_leaves, fix_takes}
+use Rattle.warm_pool.proofs.KeepingLemmas.{unknown_leaves, full_leaves, stays_in_frame}
 use Rattle.warm_pool.proofs.FlushLemmas.{handed_on, if_ok}
 use Rattle.warm_pool.proofs.pool.Pool.pin.Goals as goal
 
@@ -12,9 +12,6 @@ add_fix-requires-clause-there g c = found_there (pool_seen c.self.view_is c.self
 
 pub add_fix-requires-clause-held : goal.add_fix-requires-clause-held
 add_fix-requires-clause-held g c none = let holds = found_holds (pool_seen c.self.view_is c.self.invariant) c.args.page _ (place_seen c.self.view_is c.args.page (Some c.in-Some.at) c.in-Some.ensures) in absurd (cc)
-
-pub returns-in-Some-clause-ranked : goal.returns-in-Some-clause-ranked
-returns-in-Some-clause-ranked g c = c.add_fix.ensures.ranked c.args.history.now c.requires.ranked
 
 pub returns-in-Some-clause-pinned : goal.returns-in-Some-clause-pinned
 returns-in-Some-clause-pinned g c =
@@ -53,7 +50,7 @@ returns-in_err-check-clause-devices g c = handed_on c.from_residual.result c.in_
 
 pub returns-in-Some-clause-frame : goal.returns-in-Some-clause-frame
 returns-in-Some-clause-frame g c =
-    fix_takes _ _ c.in-Some.at c.args.page (found_holds (pool_seen c.self.view_is c.self.invariant) _ _ (place_seen c.self.view_is c.args.page (Some c.in-Some.at) c.in-Some.ensures)) c.add_fix.ensures.kept _ c.add_fix.ensures.others
+    if_ok _ _ _ c.add_fix.ensures.others (λ slot others. stays_in_frame _ _ c.in-Some.at c.args.page slot (found_holds (pool_seen c.self.view_is c.self.invariant) _ _ (place_seen c.self.view_is c.args.page (Some c.in-Some.at) c.in-Some.ensures)) others c.add_fix.ensures.kept)
 
 pub returns-in-Some-clause-devices : goal.returns-in-Some-clause-devices
 returns-in-Some-clause-devices g c = full_leaves c.args.history.now c.args.self.now c.add_fix.new.self c.in-Some.at c.args.page _ c.add_fix.ensures.refused

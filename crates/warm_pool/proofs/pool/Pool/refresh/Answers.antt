@@ -11,6 +11,3 @@ loop-page-preserved g c =
 
 pub returns-clause-ranked : goal.returns-clause-ranked
 returns-clause-ranked g c history ranked agree = all_renewed _ _ _ c.loop-page.invariant c.loop-page-test.false history ranked agree
-
-pub returns-clause-others : goal.returns-clause-others
-returns-clause-others g c = record { pages = c.loop-page.invariant.held; keys = c.loop-page.invariant.others }
