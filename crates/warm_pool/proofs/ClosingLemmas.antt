@@ -1,8 +1,8 @@
 -- Frames whose pages go to their devices one after the other.
 use Rattle.std.proofs.Common.{◌≡◌, ℕ, zero, suc, ◌+◌, ◌<◌, ◌≤◌, cond, Bool, true, false, IsTrue, List, [], ◌∷◌, length, set, Option, refl, sym, ap, ◌∙◌, subst, arith}
-use Rattle.warm_devices.specs.Device.{DeviceState, SameShape}
+use Rattle.warm_devices.specs.Device.{DeviceState}
 use Rattle.warm_pool.specs.Frames.{FrameState, nth_frame, cleaned}
-use Rattle.warm_pool.specs.State.{PoolState, nth_device}
+use Rattle.warm_pool.specs.State.{PoolState}
 use Rattle.warm_pool.specs.View.{view_of}
 use Rattle.warm_pool.specs.Keeping.{FailsAt}
 use Rattle.warm_pool.specs.WritingBack.{KeptDevices, CleanFails, PutsDown, StopsAt, clean_if, cleaned_chosen, is_chosen}

@@ -1,5 +1,5 @@
 -- What a pin and a load come to, from their steps.
-use Rattle.std.proofs.Common.{◌≡◌, ℕ, ◌+◌, ◌-◌, ◌^◌, ◌<◌, false, List, length, map, set, Some, Result, Ok, Err, OnErr, IfOk, IfErr, sym, ◌∙◌, ap, subst, inl, inr, arith}
+use Rattle.std.proofs.Common.{◌≡◌, ℕ, ◌+◌, ◌-◌, ◌^◌, ◌<◌, false, List, length, map, set, Some, Result, OnErr, IfErr, sym, ◌∙◌, ap, subst, inl, inr, arith}
 use Rattle.std.specs.Option.{option_map}
 use Rattle.std.proofs.lemmas.List.{map-set, get_or-set_same, length-set, length-map}
 use Rattle.warm_stamps.specs.declared.PageId.{PageId}
@@ -13,7 +13,7 @@ use Rattle.warm_pool.specs.Frames.{nth_frame}
 use Rattle.warm_pool.specs.State.{PoolState, RankedBy, IsNowhere}
 use Rattle.warm_pool.specs.View.{frame_view, view_of, PoolView, FrameView, frame_at, HasPage, IsAbsent, Holds}
 use Rattle.warm_pool.specs.Keeping.{SameButFailures}
-use Rattle.warm_pool.specs.Pinning.{IsPlace, AddsFix, PutsIn, Pinned, Loaded, PutRefused, LoadRefused, PinRefused, LoadsInto, LoadFails}
+use Rattle.warm_pool.specs.Pinning.{IsPlace, PutsIn, PutRefused, LoadRefused, PinRefused, LoadsInto, LoadFails}
 use Rattle.warm_pool.proofs.Bytes.{frame_seen, absent_seen}
 use Rattle.warm_pool.proofs.Keeps.{ranked_set}
 use Rattle.warm_pool.proofs.FlushLemmas.{if_err}

@@ -1,4 +1,4 @@
-use Rattle.std.proofs.Common.{ap, sym, ◌∙◌, refl, arith}
+use Rattle.std.proofs.Common.{ap, sym, ◌∙◌}
 use Rattle.warm_pool.proofs.DeviceSteps.{device_is, sized_more}
 use Rattle.warm_pool.proofs.device_list.all_sized.Goals as goal
 
