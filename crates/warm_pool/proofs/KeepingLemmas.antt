@@ -1,5 +1,5 @@
 -- What a call leaves as it was, from its steps.
-use Rattle.std.proofs.Common.{◌≡◌, ℕ, ◌+◌, ◌<◌, false, [], length, Some, Result, Ok, Err, IfOk, IfErr, refl, sym, ◌∙◌, ap, subst}
+use Rattle.std.proofs.Common.{◌≡◌, ℕ, ◌+◌, ◌<◌, false, [], length, Some, Result, IfErr, refl, sym, ◌∙◌, ap, subst}
 use Rattle.std.proofs.lemmas.List.{get_or-set_same, get_or-set_other}
 use Rattle.warm_stamps.specs.declared.PageId.{PageId}
 use Rattle.warm_history.specs.Histories.{HistoryView}
@@ -14,6 +14,7 @@ use Rattle.warm_pool.specs.Keeping.{KeepsOthers, KeepsBytes}
 use Rattle.warm_pool.specs.WritingBack.{WaitsFor}
 use Rattle.warm_pool.specs.Pinning.{IsPlace, LoadRefused, FixRefused, LoadsInto, LoadFails, TakesFrame, LeavesDevices}
 use Rattle.warm_pool.proofs.Bytes.{absent_seen, frame_seen}
+use Rattle.warm_pool.proofs.FlushLemmas.{if_err}
 
 pub same_bytes : (s : PoolState) → KeepsBytes s s
 same_bytes s = record { devices = refl; bytes = λ i. refl; dirty = λ i. refl }
@@ -30,11 +31,6 @@ stays_in_frame s t i p slot holds others kept = record {
   devices = λ _. kept.devices;
   waits = λ away. absurd (away i (ap (λ f. f.page) (frame_seen s i) ∙ holds));
 }
-
-pub fix_takes : (s t : PoolState) (i : ℕ) (p : PageId) → (nth_frame s.frames i).page ≡ Some p → KeepsBytes s t
-    → (r : Result Slot PoolFault) → IfOk r (λ slot. KeepsOthers slot.index s t) → IfOk r (λ slot. TakesFrame s p slot t)
-fix_takes s t i p holds kept (Ok slot) others = stays_in_frame s t i p slot holds others kept
-fix_takes s t i p holds kept (Err why) others = tt
 
 -- a page came into a frame
 pub loaded_takes : (s t : PoolState) (i : ℕ) (p : PageId) (key : RankKey) (n : ℕ) → LoadsInto s i p key n t → i < length s.frames → IsNowhere s.frames p
@@ -55,8 +51,7 @@ unknown_leaves h s p hasnt WriteBack refused = absurd (hasnt refused.0)
 unknown_leaves h s p hasnt why refused = refl
 
 pub full_leaves : (h : HistoryView) (s t : PoolState) (i : ℕ) (p : PageId) (r : Result Slot PoolFault) → IfErr r (λ why. FixRefused s i why t) → IfErr r (λ why. LeavesDevices h s p why t)
-full_leaves h s t i p (Ok slot) x = tt
-full_leaves h s t i p (Err why) x = subst (λ y. LeavesDevices h s p y t) (sym x.0) (ap (λ u. u.devices) x.2)
+full_leaves h s t i p r x = if_err _ _ r x (λ why full. subst (λ y. LeavesDevices h s p y t) (sym full.0) (ap (λ u. u.devices) full.2))
 
 -- what a failed read, or a failed write of the page that would leave, leaves of the devices
 pub failed_leaves : (h : HistoryView) (s t : PoolState) (i : ℕ) (p : PageId) → IsPlace h (view_of s) (Some i)

@@ -88,27 +88,20 @@ free_found pages heads next frames at linked count is lt = first_is_free pages a
 pub free_full : (pages : List (Option PageId)) (heads next : List ℕ) (frames at : ℕ) → AreLinked pages heads next → frames ≡ length pages → at ≡ get_or heads frames at → frames ≤ at → IsFirstFree pages None
 free_full pages heads next frames at linked count is le frame lt = none_below pages at (head_read pages heads next frames at linked count is) frame (omega arith) lt
 
--- a changed frame changes its chain alone
-chains_set : (pages : List (Option PageId)) (frame : ℕ) (held : Option PageId) → chains_of (set pages frame held) ≡ set (chains_of pages) frame (chain_of (length pages) held)
-chains_set pages frame held = ap (λ n. map (chain_of n) (set pages frame held)) (length-set pages frame held) ∙ map-set (chain_of (length pages)) pages frame held
-
--- the frames once one of them has changed
-set_linked : (pages : List (Option PageId)) (heads next new_heads new_next : List ℕ) (frame : ℕ) (held : Option PageId) → AreLinked pages heads next → frame < length pages → length new_heads ≡ length heads → AreChains (set (chains_of pages) frame (chain_of (length pages) held)) new_heads new_next → AreLinked (set pages frame held) new_heads new_next
-set_linked pages heads next new_heads new_next frame held linked lt same chains =
-    let count : length (set pages frame held) ≡ length pages = length-set pages frame held in
-    record {
-      few = subst (λ n. n ≤ 65536) (sym count) linked.few;
-      size = same ∙ linked.size ∙ ap (λ n. n + 1) (sym count);
-      chains = subst (λ bs. AreChains bs new_heads new_next) (sym (chains_set pages frame held)) chains;
-    }
-
 -- a frame left its chain and came into that of what it now holds
 pub moved_linked : (frames : List ℕ) (pages : List (Option PageId)) (heads next new_heads new_next : List ℕ) (frame out to : ℕ) (held : Option PageId)
     → frames ≡ chains_of pages → AreLinked pages heads next → frame < length pages → length new_heads ≡ length heads → to ≡ chain_of (length pages) held
     → AreChains (set (set frames frame out) frame to) new_heads new_next → AreLinked (set pages frame held) new_heads new_next
 moved_linked frames pages heads next new_heads new_next frame out to held are linked lt same is chains =
     let now = ap (λ frames. set (set frames frame out) frame to) are ∙ set-set (chains_of pages) frame out to ∙ ap (set (chains_of pages) frame) is in
-    set_linked pages heads next new_heads new_next frame held linked lt same (subst (λ frames. AreChains frames new_heads new_next) now chains)
+    let count : length (set pages frame held) ≡ length pages = length-set pages frame held in
+    -- a changed frame changes its chain alone
+    let alone = ap (λ n. map (chain_of n) (set pages frame held)) count ∙ map-set (chain_of (length pages)) pages frame held in
+    record {
+      few = subst (λ n. n ≤ 65536) (sym count) linked.few;
+      size = same ∙ linked.size ∙ ap (λ n. n + 1) (sym count);
+      chains = subst (λ frames. AreChains frames new_heads new_next) (now ∙ sym alone) chains;
+    }
 
 -- frames without a page: each is followed by the next
 module _ (n : ℕ) (pages : List (Option PageId)) (heads next : List ℕ) (no_pages : pages ≡ replicate n None) (no_heads : heads ≡ set (replicate (n + 1) n) n 0) (turn : AreInTurn n next) where

@@ -122,10 +122,6 @@ pub record RenewedFirst (s t : PoolState) (h : HistoryView) (k : ℕ) : Type 0 w
 pub none_first : (s : PoolState) (h : HistoryView) → RenewedFirst s s h 0
 none_first s h = record { same = refl; kept = same_bytes s; count = refl; keys = λ i lt. absurd (omega (arith, lt)) }
 
--- as many frames are shown
-as_many_frames : (t u : PoolState) → view_of u ≡ view_of t → length u.frames ≡ length t.frames
-as_many_frames t u same = sym (length-map u.frames frame_view) ∙ ap (λ (v : PoolView). length v.frames) same ∙ length-map t.frames frame_view
-
 -- the page in a frame is renewed, or there is none
 pub frame_renewed : {s u : PoolState} (at : ℕ) (h : HistoryView) (q : PageId) → IsPool s → (nth_frame s.frames at).page ≡ Some q → Renews s q (rank_key q (hist (refs h) q)) u → RenewsFrame s at h u
 frame_renewed {s} {u} at h q w there n = record {
@@ -146,7 +142,7 @@ pub next_first : {s t u : PoolState} (h : HistoryView) (k : ℕ) → RenewedFirs
 next_first {s} {t} {u} h k r same kept n = record {
   same = same ∙ r.same;
   kept = more_bytes s t u r.kept kept;
-  count = as_many_frames t u same ∙ r.count;
+  count = sym (length-map u.frames frame_view) ∙ ap (λ (v : PoolView). length v.frames) same ∙ length-map t.frames frame_view ∙ r.count;
   keys = λ i lt. elim (cases_eq i k) [
     | inl here ↦ subst (λ j. (nth_frame u.frames j).key ≡ option_map (λ p. rank_key p (hist (refs h) p)) (nth_frame u.frames j).page) (sym here) n.here
     | inr apart ↦ n.others i apart ∙ r.keys i (omega (arith, lt, apart)) ∙ sym (ap (option_map (λ p. rank_key p (hist (refs h) p))) (n.pages i))

@@ -119,14 +119,9 @@ cleans_view s t i c =
     unseen = ap (set (map frame_view s.frames) i) (sym (mapped frame_view s.frames i (fresh_frame []))) ∙ set-get_or (map frame_view s.frames) i (frame_view (fresh_frame []))
 
 -- the same, of a pool whose frames are given by an equation
-pub cleaned_pool_to : (old new : FramesState) {spare : ℕ} {devices ds : List DeviceState} {i : ℕ} {q : PageId} {bytes : List ℕ} {result : Result (Unit {0}) DeviceFault}
+pub cleaned_to : (old new : FramesState) {spare : ℕ} {devices ds : List DeviceState} {i : ℕ} {q : PageId} {bytes : List ℕ} {result : Result (Unit {0}) DeviceFault}
     → WroteBack (pool_from old spare devices) ds i q bytes result → result ≡ Ok tt → new ≡ record old { frames = set old.frames i (cleaned (nth_frame old.frames i)) }
-    → IsPool (pool_from new spare ds)
-cleaned_pool_to old new {spare} {devices} {ds} {i} {q} {bytes} {result} h ok e =
-    subst (λ x. IsPool (pool_from x spare ds)) (sym e) (cleaned_pool (pool_from old spare devices) ds i q bytes result h ok)
-
-pub write_cleans_to : (old new : FramesState) {spare : ℕ} {devices ds : List DeviceState} {i : ℕ} {q : PageId} {bytes : List ℕ} {result : Result (Unit {0}) DeviceFault}
-    → WroteBack (pool_from old spare devices) ds i q bytes result → result ≡ Ok tt → new ≡ record old { frames = set old.frames i (cleaned (nth_frame old.frames i)) }
-    → Cleans (pool_from old spare devices) i (pool_from new spare ds)
-write_cleans_to old new {spare} {devices} {ds} {i} {q} {bytes} {result} h ok e =
-    subst (λ x. Cleans (pool_from old spare devices) i (pool_from x spare ds)) (sym e) (write_cleans (pool_from old spare devices) ds i q bytes result h ok)
+    → IsPool (pool_from new spare ds) × Cleans (pool_from old spare devices) i (pool_from new spare ds)
+cleaned_to old new {spare} {devices} {ds} {i} {q} {bytes} {result} h ok e =
+    subst (λ x. IsPool (pool_from x spare ds) × Cleans (pool_from old spare devices) i (pool_from x spare ds)) (sym e)
+    (cleaned_pool (pool_from old spare devices) ds i q bytes result h ok, write_cleans (pool_from old spare devices) ds i q bytes result h ok)

@@ -9,14 +9,5 @@ pub loop-page-preserved : goal.loop-page-preserved
 loop-page-preserved g c =
     one_renewed _ _ _ _ c.loop-page.invariant c.loop-page-test.true (λ d. get_or_default _ _ _ _ c.loop-page-test.true) c.renew.ensures.same c.renew.ensures.kept c.renew.ensures.keys
 
-pub returns-clause-same : goal.returns-clause-same
-returns-clause-same g c = c.loop-page.invariant.same
-
 pub returns-clause-ranked : goal.returns-clause-ranked
 returns-clause-ranked g c history ranked agree = all_renewed _ _ _ c.loop-page.invariant c.loop-page-test.false history ranked agree
-
-pub returns-clause-kept : goal.returns-clause-kept
-returns-clause-kept g c = c.loop-page.invariant.kept
-
-pub returns-clause-others : goal.returns-clause-others
-returns-clause-others g c = record { pages = c.loop-page.invariant.held; keys = c.loop-page.invariant.others }
