@@ -1,5 +1,5 @@
 -- What messages teach a replica one after the other, and what a round of gossip comes to.
-use Rattle.std.proofs.Common.{◌≡◌, ◌^◌, ◌⊎◌, inl, inr, ℕ, zero, suc, ◌+◌, ◌<◌, ◌≤◌, Bool, true, false, ◌&&◌, ◌||◌, cond, List, [], ◌∷◌, ◌++◌, length, take, drop, map, filter, max, None, refl, sym, ap, subst, ◌∙◌, append_assoc, arith, flat_map, if◌then◌else◌}
+use Rattle.std.proofs.Common.{◌≡◌, ◌^◌, ◌⊎◌, inl, inr, ℕ, zero, suc, ◌<◌, ◌≤◌, Bool, true, false, ◌&&◌, ◌||◌, cond, List, [], ◌∷◌, ◌++◌, length, take, drop, map, filter, max, None, refl, sym, ap, subst, ◌∙◌, append_assoc, arith, flat_map, if◌then◌else◌}
 use Rattle.std.specs.Prelude.{◌==◌, ◌≢◌}
 use Rattle.std.specs.Cmp.{nat_eq_equiv}
 use Rattle.std.specs.Int.{bit_at}
@@ -34,10 +34,9 @@ use Rattle.warm_history.proofs.HistoryLemmas.{IsHistory-history, horizon-history
 use Rattle.warm_history.proofs.JoinLemmas.{both_assoc, history_alike, history_first, history_second, history_received, history_of_own_references, history_swap, raised_to_no_later}
 use Rattle.warm_frames.specs.declared.layout.TheConstants.{MAX_ENTRIES}
 use Rattle.warm_frames.specs.declared.message.Message.{Message}
-use Rattle.warm_frames.specs.declared.message.Message.TheVariants.{Entries, Digest, Want}
+use Rattle.warm_frames.specs.declared.message.Message.TheVariants.{Entries, Want}
 use Rattle.warm_frames.specs.Entries.{IsEntry, IsHist}
-use Rattle.warm_frames.specs.Digests.{digest_at}
-use Rattle.warm_digest.specs.BucketDigests.{bucket_digest, digests_of}
+use Rattle.warm_digest.specs.BucketDigests.{digests_of}
 use Rattle.warm_digest.specs.Exchange.{Fits, IsCollision, IsDifferenceOf, in_buckets}
 use Rattle.warm_digest.proofs.KeptLemmas.{digest_is}
 use Rattle.warm_digest.proofs.ExchangeLemmas.{kept, hist-kept, joined_same, joined_none, exchange_joins}

@@ -1,5 +1,5 @@
 -- A warm-up of as many steps as there are frames: no page of the list leaves, so each step passes one page more of the list.
-use Rattle.std.proofs.Common.{◌≡◌, ◌≢◌, ◌⊎◌, ◌≤◌, ◌<◌, ◌+◌, ℕ, zero, suc, Bool, false, List, [], ◌∷◌, map, length, get_or, Option, Some, None, refl, sym, ap, subst, ◌∙◌, inl, inr, arith}
+use Rattle.std.proofs.Common.{◌≡◌, ◌≢◌, ◌⊎◌, ◌≤◌, ◌<◌, ◌+◌, ℕ, zero, suc, false, List, [], ◌∷◌, map, length, get_or, Option, Some, None, refl, sym, ap, subst, ◌∙◌, inl, inr, arith}
 use Rattle.std.specs.Bool.{Decides}
 use Rattle.std.specs.List.{Contains, cons_option}
 use Rattle.std.specs.Option.{unwrap_or}
@@ -16,7 +16,7 @@ use Rattle.warm_stamps.specs.Stamps.{page_cmp}
 use Rattle.warm_stamps.proofs.DistinctLemmas.{Has, is_equal}
 use Rattle.warm_stamps.proofs.StampLemmas.{page_order}
 use Rattle.warm_history.specs.ReferenceSets.{ReferenceSet}
-use Rattle.warm_history.specs.Histories.{HistoryView, StandsFor, pages, refs}
+use Rattle.warm_history.specs.Histories.{HistoryView, StandsFor, pages}
 use Rattle.warm_rank.specs.Laws.{pages_in}
 use Rattle.warm_rank.specs.Ranking.{IsVictim, leaving_cmp, warm}
 use Rattle.warm_rank.proofs.LeavingLemmas.{order_kept}
@@ -32,7 +32,7 @@ use Rattle.warm_gossip.specs.Step.{IsFirstLoadable, IsLoadable, IsNextWarm, Step
 use Rattle.warm_gossip.specs.WarmUps.{PagesDiffer, WarmSteps, WarmStepKeepsHottest, WarmUpLoads}
 use Rattle.warm_gossip.proofs.HottestLemmas.{has_contains, after_listed}
 use Rattle.warm_gossip.proofs.Ranks.{differs}
-use Rattle.warm_gossip.proofs.VictimLemmas.{no_frame, frame_is_there, frames_after, none_changed, refused, victim_left, victim_over}
+use Rattle.warm_gossip.proofs.VictimLemmas.{no_frame, frames_after, none_changed, refused, victim_left, victim_over}
 
 -- ---- the pages in the frames
 

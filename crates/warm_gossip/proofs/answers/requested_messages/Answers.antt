@@ -1,14 +1,12 @@
-use Rattle.std.proofs.Common.{◌≡◌, ◌++◌, true, false, sym, ap, subst, ◌∙◌, arith}
+use Rattle.std.proofs.Common.{◌≡◌, true, false, sym, subst, ◌∙◌, arith}
 use Rattle.std.specs.Prelude.{◌==◌}
 use Rattle.std.specs.Int.{bit_at}
 use Rattle.warm_stamps.specs.declared.TheConstants.{BUCKETS}
-use Rattle.warm_history.specs.Carried.{bucket_entries}
 use Rattle.warm_history.specs.ReferenceSets.{since}
-use Rattle.warm_history.specs.Histories.{entries_of, history, refs}
+use Rattle.warm_history.specs.Histories.{history, refs}
 use Rattle.warm_history.specs.Losses.{raised}
 use Rattle.warm_history.proofs.HistoryLemmas.{IsHistory-history}
-use Rattle.warm_gossip.specs.Answers.{entry_messages}
-use Rattle.warm_gossip.proofs.AnswerLemmas.{all_below, bucket_rises, messages_below, unwanted_more, wanted_more}
+use Rattle.warm_gossip.proofs.AnswerLemmas.{all_below, bucket_rises, unwanted_more, wanted_more}
 use Rattle.warm_gossip.proofs.answers.requested_messages.Goals as goal
 
 pub loop-index-preserved-then-not-is_wanted : goal.loop-index-preserved-then-not-is_wanted
