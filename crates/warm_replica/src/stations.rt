@@ -152,17 +152,15 @@ pub(crate) fn listen_all<
     all: &mut Vec<(Worker<M>, MailReport)>,
 ) -> Result<(), NoThread>
     requires send { IsSend M.row × IsSync R.row }
-    requires room { (all.old.items ≡ []) × (length stations.items ≤ vec_capacity all.old) }
-    ensures room { vec_capacity all.old ≤ vec_capacity all.new }
+    requires capacity { (all.old.items ≡ []) × (length stations.items ≤ vec_capacity all.old) }
+    ensures capacity { vec_capacity all.old ≤ vec_capacity all.new }
     ensures heard { OnOk result
         (AllListened (λ s. s.worker) turns stations.entry.items all.new.items) }
 {
     let Some(station) = stations.pop() else {
         return Ok(());
     };
-    let Ok(child) = start_station(scope, rt, alloc, station, stops, turns) else {
-        return Err(NoThread);
-    };
+    let child = start_station(scope, rt, alloc, station, stops, turns)?;
     let rest = listen_all(scope, rt, alloc, stations, stops, turns, all);
     let heard = child.join(rt);
     if let Err(none) = rest {
@@ -203,11 +201,11 @@ fn run_in_scope<'a, M: Machine<Call = Call, Reply = Reply> + Send, R: Threads + 
     ran
 }
 
-/// Each station takes its mail in a thread of its own, as [`crate::mail_loop`] does, until `stops` Stops or `turns` items, and hands its
+/// Each station takes its mail in a thread of its own, as [`crate::mail_loop`] does, until `stops` Stops or `turns` items, and gives its
 /// worker back with what it counted, in the order of the stations. It ends when all have ended.
 ///
 /// # Errors
-/// `NoThread`: a thread or room was refused. The threads that were started have run to their end; the workers are given up, with what
+/// `NoThread`: a thread or memory was refused. The threads that were started have run to their end; the workers are given up, with what
 /// waited in their buffers, and their calls stay in the histories of their replicas.
 pub fn run_stations<'a, M: Machine<Call = Call, Reply = Reply> + Send, R: Threads + Wait + Sync>(
     rt: &'a R,
