@@ -128,7 +128,9 @@ pub struct Outboxes<'a, R: Wait> {
 
 impl<'a, R: Wait> Outboxes<'a, R> {
     /// A post over these outboxes. Takes no memory.
-    pub fn new(rt: &'a R, boxes: Vec<Outbox>) -> Outboxes<'a, R> {
+    pub fn new(rt: &'a R, boxes: Vec<Outbox>) -> Outboxes<'a, R>
+        ensures { result.boxes ≡ boxes }
+    {
         Outboxes { rt, boxes }
     }
 }

@@ -37,7 +37,9 @@ impl<'a, M: Machine> Station<'a, M> {
         boxes: Vec<Outbox>,
     ) -> Station<'a, M>
         requires { worker.pass.table ≡ replica.now.table }
-        ensures { result.worker ≡ worker }
+        ensures worker { result.worker ≡ worker }
+        ensures receiver { result.receiver ≡ receiver }
+        ensures boxes { result.boxes ≡ boxes }
     {
         Station {
             replica,
