@@ -63,6 +63,10 @@ impl PathText {
 }
 
 impl fmt::Display for PathText {
+    ghost use Rattle.std.specs.Prelude.{Some};
+
+    ghost output = { λ path. Some path };
+
     fn fmt<W: fmt::Write>(&self, f: &mut fmt::Formatter<W>) -> fmt::Result {
         f.write_str(self.as_str())
     }
