@@ -13,7 +13,7 @@ use Rattle.warm_schedule.specs.Text.{IsLine, split, lines}
 use Rattle.warm_schedule.specs.Grammar.{meaning}
 use Rattle.warm_schedule.specs.Printed.{Answered, PrintedFrom, Played, EndsIn}
 use Rattle.warm_schedule.specs.Reading.{Reads, PutsBytes, IsPut}
-use Rattle.warm_schedule.specs.Stream.{SessionView, HoldsLine, Holds, AddsBytes, AnswersLine, Goes, Settles, PrintsLast, Ends}
+use Rattle.warm_schedule.specs.Stream.{SessionView, HoldsLine, Holds, AddsBytes, AnswersLine, Goes, Settles, Ends}
 use Rattle.warm_schedule.specs.declared.parse.TheConstants.{MAX_LINE}
 use Rattle.warm_world.specs.States.{ModelState, nobody, no_pool, pool_of, replica}
 use Rattle.warm_pool.specs.View.{PoolView}
@@ -275,13 +275,13 @@ module _ (world : WorldView) (number : ℕ) (line : List ℕ) where
   answers_no_room put = λ state stands. (state, stands, said_so state number (Some (Act put.0)) _ _ state put.1 (inr (put.2, refl, refl)))
 
 -- the last line is answered, and then it is the end
-pub Ends-answer : (a : SessionView) (out more : List ℕ) (w : WorldView) → AnswersLine a.world a.number a.held out w → Settles w more → Ends a (out ++ more)
+pub Ends-answer : (a : SessionView) (out more : List ℕ) (w : WorldView) → AnswersLine a.world a.number a.held out w → Settles w more → Ends a out more
 unfolding Ends
 Ends-answer a out more w answered settles = λ state begun h.
     let next = answered state h.stands in
     let said = said_so state a.number _ _ out next.0 (says a.held begun h.begun) next.2 in
     let printed : PrintedFrom state a.number (lines begun) out next.0 = rw (line_last begun h.begun.is_line) (out, [], next.0, said, (refl, refl), sym (append-nil out)) in
-    (out, next.0, printed, settles next.0 out next.1)
+    (next.0, printed, settles next.0 out next.1)
 
 -- the devices did not take what waited for them
 pub settles_ill : (old new : WorldView) (why : NodeFault) → FinishFails old why new → Settles old end_refused
@@ -314,17 +314,17 @@ ends_after m first answers out (inl same) = inl (ap (λ (xs : List ℕ). first +
 ends_after m first answers out (inr refused) = inr (refused.0, ap (λ (xs : List ℕ). first ++ xs) refused.1 ∙ sym (append_assoc first answers end_refused))
 
 -- a session that was fresh and came to the end of the input
-pub Goes-whole : (a b : SessionView) (state : ModelState) (bytes out last : List ℕ) → Goes a bytes out b → Ends b last → Holds a state [] → a.number ≡ 1 → Played state bytes (out ++ last)
+pub Goes-whole : (a b : SessionView) (state : ModelState) (bytes out answers closing : List ℕ) → Goes a bytes out b → Ends b answers closing → Holds a state [] → a.number ≡ 1 → Played state bytes (out ++ (answers ++ closing))
 unfolding Goes Ends
-Goes-whole a b state bytes out last goes ends fresh first =
+Goes-whole a b state bytes out answers closing goes ends fresh first =
     let g = goes state [] fresh in
-    let end : PrintsLast g.0 b.number g.1 last = ends g.0 g.1 g.2 in
-    let answered : PrintedFrom g.0 b.number (lines (g.1 ++ [])) end.0 end.1 = rw append-nil end.2 in
-    let whole : PrintedFrom state a.number (lines bytes) (out ++ end.0) end.1 = rw append-nil at (g.3 [] end.0 end.1 answered) in (
-      out ++ end.0,
-      end.1,
-      subst (λ (n : ℕ). PrintedFrom state n (lines bytes) (out ++ end.0) end.1) first whole,
-      ends_after end.1 out end.0 last end.3,
+    let end = ends g.0 g.1 g.2 in
+    let answered : PrintedFrom g.0 b.number (lines (g.1 ++ [])) answers end.0 = rw append-nil end.1 in
+    let whole : PrintedFrom state a.number (lines bytes) (out ++ answers) end.0 = rw append-nil at (g.3 [] answers end.0 answered) in (
+      out ++ answers,
+      end.0,
+      subst (λ (n : ℕ). PrintedFrom state n (lines bytes) (out ++ answers) end.0) first whole,
+      ends_after end.0 out answers (answers ++ closing) end.2,
     )
 
 -- ---- what was read

@@ -26,11 +26,12 @@ pub returns-then-not-branch-clause-printed : goal.returns-then-not-branch-clause
 returns-then-not-branch-clause-printed g c =
     let so_far = c.loop.invariant.goes in
     let next = c.in_ok-read_some.ensures.goes in
-    let last = c.in_ok-finish.ensures in
+    let last = c.in_ok-finish.ensures.ended in
+    let closed = last.0 ++ last.1 in
     let seen = so_far.0 ++ next.0 in
     let out = so_far.1 ++ next.1 in
     let at_end = c.in_ok-read_some.ensures.end c.if-not-branch.true in
-    let whole = Goes-whole _ _ _ seen out last.0 (Goes-then _ _ _ so_far.0 next.0 so_far.1 next.1 so_far.4 next.4) last.2 c.loop.invariant.fresh.holds c.loop.invariant.fresh.first in
+    let whole = Goes-whole _ _ _ seen out last.0 last.1 (Goes-then _ _ _ so_far.0 next.0 so_far.1 next.1 so_far.4 next.4) last.3 c.loop.invariant.fresh.holds c.loop.invariant.fresh.first in
     if_some_map (g.R.Read.remaining c.args.reader.now) (λ text. text ≡ seen) _
-    (λ text e. (out ++ last.0, Appends-then _ _ _ out last.0 (Appends-then _ _ _ so_far.1 next.1 so_far.3 next.3) last.1, Played-text _ _ _ (out ++ last.0) (sym e) whole))
+    (λ text e. (out ++ closed, Appends-then _ _ _ out closed (Appends-then _ _ _ so_far.1 next.1 so_far.3 next.3) last.2, Played-text _ _ _ (out ++ closed) (sym e) whole))
     (Consumes-all _ _ seen (Consumes-then _ _ _ so_far.0 next.0 so_far.2 next.2) at_end)
