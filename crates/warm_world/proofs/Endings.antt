@@ -1,7 +1,7 @@
 -- One replica's pages are written back.
 use Rattle.std.proofs.Common.{◌≡◌, ℕ, ◌+◌, ◌<◌, inl, inr, arith, List, length, map, get_or, set, Result, Ok, Err, refl, sym, ◌∙◌, ap, subst}
 use Rattle.std.specs.Prelude.{IfErr, OnOk}
-use Rattle.std.proofs.lemmas.List.{get_or-map, get_or-set_same, get_or-set_other, length-map, map-set, set-get_or}
+use Rattle.std.proofs.lemmas.List.{get_or-set_same, get_or-set_other, length-map, map-set}
 use Rattle.std.proofs.lemmas.Bool.{cases_eq}
 use Rattle.warm_gossip.specs.declared.fault.NodeFault.{NodeFault}
 use Rattle.warm_gossip.specs.declared.fault.NodeFault.TheVariants.{Pool}
@@ -11,19 +11,12 @@ use Rattle.warm_pool.specs.declared.fault.PoolFault.TheVariants.{Fault}
 use Rattle.warm_world.specs.Opening.{FailsOf, FinishFails, fails}
 use Rattle.warm_pool.specs.State.{IsSettled}
 use Rattle.warm_world.specs.Views.{AreSettledBefore, ReplicaView, WorldView}
-use Rattle.warm_world.proofs.Worlds.{world}
+use Rattle.warm_world.proofs.Worlds.{shown_at, world, world_stays}
 
 module _ {A : Type 0} (f : A → ReplicaView) (xs : List A) (messages : List (List ℕ)) (k : ℕ) (x y : A) where
-  shows : k < length xs → x ≡ get_or xs k x → (other : ReplicaView) → get_or (map f xs) k other ≡ f x
-  shows lt is other = get_or-map f xs k x other lt ∙ ap f (sym is)
-
-  stays : k < length xs → x ≡ get_or xs k x → f y ≡ f x → world f xs messages (set xs k y) ≡ world f xs messages xs
-  stays lt is same = ap (λ (rs : List ReplicaView). let w : WorldView = record { replicas = rs; messages = messages } in w)
-      (map-set f xs k y ∙ ap (set (map f xs) k) (same ∙ sym (shows lt is (f x))) ∙ set-get_or (map f xs) k (f x))
-
   -- where the replica's node shows what it showed, so does the world
   pub same_if : {T E : Type 0} (result : Result T E) → k < length xs → x ≡ get_or xs k x → (f y).buffers ≡ (f x).buffers → OnOk result ((f y).node ≡ (f x).node) → OnOk result (world f xs messages (set xs k y) ≡ world f xs messages xs)
-  same_if (Ok done) lt is alike same = stays lt is (rw (← same, ← alike) refl)
+  same_if (Ok done) lt is alike same = world_stays f xs messages k x y lt is (rw (← same, ← alike) refl)
   same_if (Err why) lt is alike same = tt
 
   failed : k < length xs → x ≡ get_or xs k x → (f y).buffers ≡ (f x).buffers → OnPool IsFailed (f x).node (f y).node → FailsOf (world f xs messages xs) (world f xs messages (set xs k y))
@@ -31,12 +24,12 @@ module _ {A : Type 0} (f : A → ReplicaView) (xs : List A) (messages : List (Li
     replica = k;
     there = subst (λ n. k < n) (sym (length-map xs f)) lt;
     pool = (f y).node.pool;
-    failed = λ other. subst (λ (r : ReplicaView). IsFailed r.node.pool (f y).node.pool) (sym (shows lt is other)) did.1;
+    failed = λ other. subst (λ (r : ReplicaView). IsFailed r.node.pool (f y).node.pool) (sym (shown_at f xs k x other lt is)) did.1;
     becomes = λ other. ap (λ (rs : List ReplicaView). let w : WorldView = record { replicas = rs; messages = messages } in w)
         (map-set f xs k y ∙ ap (set (map f xs) k)
         (ap (λ (n : NodeView). let r : ReplicaView = record { node = n; buffers = (f y).buffers } in r) did.0
         ∙ ap (λ bs. let r : ReplicaView = record { node = record (f x).node { pool = (f y).node.pool }; buffers = bs } in r) alike
-        ∙ ap (λ (r : ReplicaView). fails r (f y).node.pool) (sym (shows lt is other))));
+        ∙ ap (λ (r : ReplicaView). fails r (f y).node.pool) (sym (shown_at f xs k x other lt is))));
   }
 
   -- where writing back has failed, it has for this replica

@@ -45,7 +45,7 @@ module _ {B : Type 0} (f : B → DeviceState) where
         (subst (λ ds. AreOfSize size (length ds) ds) (sym (listed_at lists k v lt is)) (λ i high. here i (subst (λ n. i < n) (length-map v.items f) high)))
   ]
 
-  -- so many lists
+  -- the same of a number of lists
   pub counted : (lists : List (Vec B)) (n : ℕ) → length lists ≡ n → length (shown lists) ≡ n
   counted lists n many = count lists ∙ many
 

@@ -24,6 +24,7 @@ use Rattle.warm_world.specs.Next.{Asked, IsNamed, Next, Run, shape}
 use Rattle.warm_world.specs.Stands.{ReplicaStands, StandsFor}
 use Rattle.warm_world.specs.Rounds.{IsTaken}
 use Rattle.warm_world.specs.WarmUps.{ArePools, PoolsDiffer, WarmUpLoads}
+use Rattle.warm_world.proofs.Worlds.{replica_set_at}
 
 -- ---- one step
 
@@ -48,9 +49,7 @@ node_steps : (old : ModelState) (i : ℕ) (new : ModelState) (w : IsWarmStep old
 node_steps old i new w =
     let pool : PoolView = w.asked.0 in
     let next : ReplicaState = record (replica old (place i)) { pool = pool } in
-    let there : place i < length old.replicas = omega (arith, w.named.replica_there.from_one, w.named.replica_there.in_range, length-map old.replicas (λ r. length r.pending)) in
-    let at : replica (set_pool old i pool) (place i) ≡ next = get_or-set_same old.replicas (place i) next nobody there in
-    let after : replica new (place i) ≡ next = ap (λ (m : ModelState). replica m (place i)) w.asked.2 ∙ at in
+    let after : replica new (place i) ≡ next = ap (λ (m : ModelState). replica m (place i)) w.asked.2 ∙ replica_set_at old (WarmStep i) next w.named in
     let node : node_of new i ≡ record (node_of old i) { pool = pool } = cc in
     subst (Step (node_of old i) call.WarmStep (reply.Loaded w.loaded)) (sym node) w.asked.1
 
@@ -95,8 +94,8 @@ module _ {A : Type 0} (g : A → NodeState) (f : A → ReplicaView) (shown : (x 
       ∙ get_or-map node_view (map g xs) k no_node
 
   -- no page of its pools is in two frames
-  pub pools_differ : (xs : List A) (frames : List (List ℕ)) (m : ModelState) → ArePools (map g xs) → (let w : WorldView = record { replicas = map f xs; messages = frames } in StandsFor w m) → PoolsDiffer m
-  pools_differ xs frames m fit stands i =
+  pub pools_differ : (xs : List A) (messages : List (List ℕ)) (m : ModelState) → ArePools (map g xs) → (let w : WorldView = record { replicas = map f xs; messages = messages } in StandsFor w m) → PoolsDiffer m
+  pools_differ xs messages m fit stands i =
       let k : ℕ = place i in
       elim (cases_lt k (length xs)) [
         | inl there ↦

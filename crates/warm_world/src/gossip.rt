@@ -92,7 +92,7 @@ impl<D: PageDevice> World<D> {
     {
         match self.replicas[i as usize - 1].node.send(bucket, after) {
             Ok(message) => self.keep(&message),
-            Err(why) => Answer::Refused(WorldFault::Node(why)),
+            Err(why) => Answer::Refused(why.into()),
         }
     }
 
@@ -102,7 +102,7 @@ impl<D: PageDevice> World<D> {
     {
         match self.replicas[i as usize - 1].node.offer() {
             Ok(message) => self.keep(&message),
-            Err(why) => Answer::Refused(WorldFault::Node(why)),
+            Err(why) => Answer::Refused(why.into()),
         }
     }
 
@@ -111,7 +111,7 @@ impl<D: PageDevice> World<D> {
         ensures { Steps (world_view self.old) (Event.Deliver j k) result
             (world_view self.new) }
     {
-        // The bytes spell a message, so nothing but memory can be wanting.
+        // The bytes spell a message, so nothing but an allocation can fail.
         let Ok(message) = decode(self.alloc, &self.messages[k as usize - 1]) else {
             return Answer::Refused(WorldFault::Node(NodeFault::Memory));
         };
@@ -119,12 +119,12 @@ impl<D: PageDevice> World<D> {
             // Entries are answered by nothing, so there is nothing to keep.
             return match self.replicas[j as usize - 1].node.receive(message) {
                 Ok(answers) => took(self.alloc, &mut self.messages, answers.as_slice()),
-                Err(why) => Answer::Refused(WorldFault::Node(why)),
+                Err(why) => Answer::Refused(why.into()),
             };
         };
         let answers = match self.replicas[j as usize - 1].node.answers(&message) {
             Ok(answers) => answers,
-            Err(why) => return Answer::Refused(WorldFault::Node(why)),
+            Err(why) => return Answer::Refused(why.into()),
         };
         // The horizon rises only after the answers are kept, so nothing has happened where one cannot be.
         let answer = took(self.alloc, &mut self.messages, answers.as_slice());

@@ -22,7 +22,7 @@ use warm_stamps::{PageId, ReplicaId};
 
 /// Replicas, their workers' buffers, and every message that was sent.
 ///
-/// Contracts tell of a world by the model states that it stands for (`StandsFor`): lists of all
+/// Contracts describe a world by the model states that it stands for (`StandsFor`): lists of all
 /// references that reached each replica, that wait in each buffer, and that each kept message brings, and
 /// what each replica's pool shows.
 ///
@@ -89,7 +89,7 @@ fn replicas_over<D: PageDevice>(
 
 impl<D: PageDevice> World<D> {
     /// A world in which nothing has happened, with a replica over each list of devices: no replica has
-    /// heard of a page or has one in its pool, nothing waits, and no message was sent. The room of every
+    /// heard of a page or has one in its pool, nothing waits, and no message was sent. The memory of every
     /// buffer and pool is taken here.
     ///
     /// No list has more devices than [`warm_pool::MAX_DEVICES`].
@@ -172,7 +172,7 @@ impl<D: PageDevice> World<D> {
         let worker = w as usize - 1;
         match self.replicas[i as usize - 1].refer(worker, page, time) {
             Ok(()) => Answer::Done,
-            Err(why) => Answer::Refused(WorldFault::Node(why)),
+            Err(why) => Answer::Refused(why.into()),
         }
     }
 
@@ -183,7 +183,7 @@ impl<D: PageDevice> World<D> {
         let worker = w as usize - 1;
         match self.replicas[i as usize - 1].flush(worker) {
             Ok(()) => Answer::Done,
-            Err(why) => Answer::Refused(WorldFault::Node(why)),
+            Err(why) => Answer::Refused(why.into()),
         }
     }
 
@@ -193,7 +193,7 @@ impl<D: PageDevice> World<D> {
     {
         match self.replicas[i as usize - 1].restart() {
             Ok(()) => Answer::Done,
-            Err(why) => Answer::Refused(WorldFault::Node(why)),
+            Err(why) => Answer::Refused(why.into()),
         }
     }
 
@@ -231,7 +231,7 @@ impl<D: PageDevice> World<D> {
     /// replicas that keep the same references agree on history, ranking and warm-up list, and each victim is
     /// an unfixed resident page of greatest backward 2-distance.
     ///
-    /// Room for the answers is taken before the first event. Where there is none the events come back,
+    /// The memory for the answers is taken before the first event. Where that fails the events come back,
     /// and nothing has happened.
     pub fn run(&mut self, events: Vec<Event>) -> Result<Vec<Answer>, Vec<Event>>
         ensures ran { IfOk result (λ answers.
