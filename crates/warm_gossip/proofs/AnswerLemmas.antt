@@ -116,8 +116,8 @@ all_below id request h = refl
 
 -- ---- answers to digests
 
-other_chosen : {A : Type 0} (request : ℕ) (x y : A) → (request ≡ 0 → ⊥) → y ≡ if request == 0 then x else y
-other_chosen request x y some = sym (ap (λ (t : Bool). if t then x else y) (ne_eqb request 0 some))
+pub if_other : {A : Type 0} (request : ℕ) (x y : A) → (request ≡ 0 → ⊥) → (if request == 0 then x else y) ≡ y
+if_other request x y some = ap (λ (t : Bool). if t then x else y) (ne_eqb request 0 some)
 
 differing_from : (theirs own : List (List ℕ)) (h : HistoryView) (request : ℕ) → own ≡ digests_of (entries_of h) → ((bucket : ℕ) → bucket < BUCKETS → (bit_at request bucket ≡ 1) ↔ (digest_at theirs bucket ≢ digest_at own bucket)) → IsDiffering theirs h request
 differing_from theirs own h request is differ = λ bucket low. subst (λ (digests : List (List ℕ)). (bit_at request bucket ≡ 1) ↔ (digest_at theirs bucket ≢ digest_at digests bucket)) is (differ bucket low)
@@ -125,4 +125,4 @@ differing_from theirs own h request is differ = λ bucket low. subst (λ (digest
 pub some_differ : (id : ℕ) (theirs own : List (List ℕ)) (h : HistoryView) (messages : List Message) (request : ℕ) → request < 2 ^ 64 → own ≡ digests_of (entries_of h)
     → ((bucket : ℕ) → bucket < BUCKETS → (bit_at request bucket ≡ 1) ↔ (digest_at theirs bucket ≢ digest_at own bucket)) → (request ≡ 0 → ⊥) → messages ≡ requested_messages id h request ++ Want id h.horizon request ∷ [] → AnswersDigests id h theirs messages
 some_differ id theirs own h messages request fits is differ some all =
-    (request, fits, differing_from theirs own h request is differ, all ∙ other_chosen request [] (requested_messages id h request ++ Want id h.horizon request ∷ []) some)
+    (request, fits, differing_from theirs own h request is differ, all ∙ sym (if_other request [] (requested_messages id h request ++ Want id h.horizon request ∷ []) some))

@@ -23,10 +23,7 @@ impl<D: PageDevice> Node<D> {
     pub fn pin(&mut self, page: PageId) -> Result<Slot, NodeFault>
         ensures { Answered self.old (Pin page) Pinned result self.new }
     {
-        match self.pool.pin(page, self.history.history()) {
-            Ok(slot) => Ok(slot),
-            Err(fault) => Err(NodeFault::Pool(fault)),
-        }
+        Ok(self.pool.pin(page, self.history.history())?)
     }
 
     /// Takes a fix away: the call `Unpin`. Takes no memory.
@@ -43,7 +40,7 @@ impl<D: PageDevice> Node<D> {
         Ok(())
     }
 
-    /// So many bytes of the slot's page, from `at` on: the call `Read`.
+    /// Reads `len` bytes of the slot's page, from `at` on: the call `Read`.
     ///
     /// # Errors
     /// In this order: `StaleSlot`, where the slot doesn't hold its page; `Pool(OutOfPage)`, where the bytes reach beyond its end;
@@ -57,16 +54,12 @@ impl<D: PageDevice> Node<D> {
         if !self.is_within(at, len) {
             return Err(NodeFault::Pool(PoolFault::OutOfPage));
         }
-        let Ok(mut bytes) = Vec::from_elem(self.alloc, 0, len) else {
-            return Err(NodeFault::Memory);
-        };
-        match self.pool.read(slot, at, &mut bytes) {
-            Ok(()) => Ok(ByteList::of(bytes)),
-            Err(fault) => Err(NodeFault::Pool(fault)),
-        }
+        let mut bytes = Vec::from_elem(self.alloc, 0, len)?;
+        self.pool.read(slot, at, &mut bytes)?;
+        Ok(ByteList::of(bytes))
     }
 
-    // Whether so many bytes from `at` on are within a page.
+    // Whether `len` bytes from `at` on are within a page.
     fn is_within(&self, at: usize, len: usize) -> bool
         ensures { IsTrue result ↔ IsWithin (node_view self.now) at len }
     {
@@ -85,10 +78,8 @@ impl<D: PageDevice> Node<D> {
         if !self.pool.holds(slot) {
             return Err(NodeFault::StaleSlot);
         }
-        match self.pool.write(slot, at, bytes) {
-            Ok(()) => Ok(()),
-            Err(fault) => Err(NodeFault::Pool(fault)),
-        }
+        self.pool.write(slot, at, bytes)?;
+        Ok(())
     }
 
     /// The page that would leave next, where there is one: the call `Victim`. Takes no memory.
@@ -108,27 +99,21 @@ impl<D: PageDevice> Node<D> {
         ensures step { Answered self.old Restart done result self.new }
         ensures settled { OnOk result (IsSettled self.new.pool) }
     {
-        match self.pool.empty() {
-            Ok(()) => {
-                self.history.clear();
-                Ok(())
-            }
-            Err(fault) => Err(NodeFault::Pool(fault)),
-        }
+        self.pool.empty()?;
+        self.history.clear();
+        Ok(())
     }
 
     /// Writes all pages back to their devices, and flushes these. Takes no memory.
     ///
     /// # Errors
-    /// `Fault` at the first write or flush that fails. Of what a node shows, counts of failures alone have changed.
+    /// `Fault` at the first write or flush that fails. Of what a caller sees, counts of failures alone have changed.
     pub fn write_back(&mut self) -> Result<(), NodeFault>
         ensures same { OnOk result (SameView self.old self.new) }
         ensures settled { OnOk result (IsSettled self.new.pool) }
         ensures refused { IfErr result (λ why. WriteBackFails self.old why self.new) }
     {
-        match self.pool.write_back_all() {
-            Ok(()) => Ok(()),
-            Err(fault) => Err(NodeFault::Pool(fault)),
-        }
+        self.pool.write_back_all()?;
+        Ok(())
     }
 }

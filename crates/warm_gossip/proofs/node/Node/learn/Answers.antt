@@ -4,5 +4,5 @@ use Rattle.warm_gossip.proofs.node.Node.learn.Goals as goal
 
 pub invariant_of-self-2 : goal.invariant_of-self-2
 invariant_of-self-2 g c =
-    let agrees = joined_agrees_as c.self.inside.history c.args.horizon _ _ _ (omega (arith, c.if-own-horizon.false, c.horizon-own.ensures)) (c.deref.ensures.value ∙ c.in-Ok.ensures) (c.history-2.ensures ∙ c.in-Ok-join_entries.ensures.exact) in
+    let agrees = joined_agrees_as c.self.inside.history c.args.horizon _ _ _ (omega (arith, c.if-own-horizon.false, c.horizon-own.ensures)) (c.deref.ensures.value ∙ c.in_ok-named.ensures) (c.history-2.ensures ∙ c.in_ok-join_entries.ensures.exact) in
     rw c.history-2.ensures at (c.refresh.ensures.ranked c.self.inside.history c.self.invariant agrees)

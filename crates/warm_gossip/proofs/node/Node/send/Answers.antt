@@ -13,7 +13,7 @@ returns g c =
     let h = c.history-history.result.now in
     let id = c.self.inside.id in
     let own = sym (history_of_own_references h c.horizon.ensures.whole) in (
-      ap (Entries id c.horizon.result) (c.in-Ok-of.ensures.value ∙ c.in-Ok.ensures.carried (refs h) own)
+      ap (Entries id c.horizon.result) (c.in-Ok.ensures.value ∙ c.in_ok-entries.ensures.carried (refs h) own)
           ∙ ap (λ (m : ℕ). Entries id m (entries_of (history (carried (refs h) c.args.bucket c.args.after MAX_ENTRIES)))) c.horizon.ensures.value
           ∙ ap (λ (k : HistoryView). sent id k c.args.bucket c.args.after) c.history-history.ensures
           ∙ ap (λ (s : NodeState). sent s.id s.history c.args.bucket c.args.after) c.self.view_is,

@@ -4,11 +4,11 @@ use Rattle.warm_history.proofs.JoinLemmas.{history_of_own_references}
 use Rattle.warm_rank.specs.Ranking.{warm}
 use Rattle.warm_gossip.proofs.node.Node.warm_list.Goals as goal
 
-pub returns-in-Ok : goal.returns-in-Ok
-returns-in-Ok g c = rw (← c.self.view_is) (
+pub returns : goal.returns
+returns g c = rw (← c.self.view_is) (
     let h = c.history-history.result.now in (
       c.of.ensures
-          ∙ c.in-Ok.ensures (refs h) (sym (history_of_own_references h c.is_history.ensures))
+          ∙ c.in_ok-pages.ensures (refs h) (sym (history_of_own_references h c.is_history.ensures))
           ∙ ap (λ (k : HistoryView). warm (refs k) c.args.n) c.history-history.ensures,
       refl,
     ))
