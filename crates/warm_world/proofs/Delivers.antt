@@ -57,7 +57,7 @@ module _ {A : Type 0} (f : A → ReplicaView) (xs : List A) (messages : List (Li
       let r : ReplicaState = record (replica m p) { reach = heard S kept } in
       let learned : taught (f x).node.history message ≡ history (heard S kept) = ap (λ (n : NodeView). taught n.history message) node ∙ ap (taught (history S)) spelled ∙ taught_heard S kept in
       let stands : ReplicaStands m.capacity p (f y) r = record {
-        has_room = here.has_room;
+        has_capacity = here.has_capacity;
         node_is = ap (λ (s : ReplicaView). s.node) becomes ∙ learns ∙ ap (λ (h : HistoryView). let v : NodeView = record (f x).node { history = h } in v) learned
             ∙ ap (λ (u : NodeView). let v : NodeView = record u { history = history (heard S kept) } in v) here.node_is;
         buffers_are = ap (λ (s : ReplicaView). s.buffers) becomes ∙ here.buffers_are;

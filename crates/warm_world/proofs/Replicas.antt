@@ -70,7 +70,7 @@ passed_on (Err y) e P is p = subst P (sym is) p
 pub puts : (capacity place k : ℕ) (old new : ReplicaView) (m : ReplicaState) (x : Reference) (b : Buffered) → ReplicaStands capacity place old m
     → b ≡ buffered capacity (pending m k ++ x ∷ []) → (let r : ReplicaView = record old { buffers = set old.buffers k b } in new ≡ r) → ReplicaStands capacity place new (put_last k x m)
 puts capacity place k old new m x b st is becomes = record {
-  has_room = st.has_room;
+  has_capacity = st.has_capacity;
   node_is = ap (λ (r : ReplicaView). r.node) becomes ∙ st.node_is;
   buffers_are = ap (λ (r : ReplicaView). r.buffers) becomes ∙ buffer_set capacity old.buffers m.pending k b (pending m k ++ x ∷ []) st.buffers_are is;
 }
@@ -93,7 +93,7 @@ pub flushes : (capacity place k : ℕ) (old new : ReplicaView) (m : ReplicaState
     → k < length old.buffers → batch ≡ get_or m.pending k [] → new.node ≡ record old.node { history = history (refs old.node.history ∪ these batch) }
     → new.buffers ≡ set old.buffers k (buffered capacity []) → ReplicaStands capacity place new (flushed k m)
 flushes capacity place k old new m batch st lt is absorbed emptied = record {
-  has_room = st.has_room;
+  has_capacity = st.has_capacity;
   node_is = absorbed
       ∙ ap (λ (n : NodeView). let v : NodeView = record n { history = history (refs n.history ∪ these batch) } in v) st.node_is
       ∙ ap (λ (h : HistoryView). let v : NodeView = record { id = place + 1; history = h; pool = m.pool } in v) (history_first m.reach (these batch) ∙ ap (λ b. history (m.reach ∪ these b)) is);
@@ -109,7 +109,7 @@ pub opened_stands : (s : Sizes) (devices : List DeviceState) (place id capacity 
     → 1 ≤ capacity → capacity ≡ s.buffer → workers ≡ s.workers → frames ≡ s.frames → size ≡ s.page_size → id ≡ place + 1 → n ≡ opened id p → p ≡ pools.opened frames size devices
     → bs ≡ replicate workers (buffered capacity []) → ReplicaStands s.buffer place (record { node = node_view n; buffers = bs }) (opened_over s devices)
 opened_stands s devices place id capacity workers frames size n p bs some of_capacity of_workers of_frames of_size number node made empty = record {
-  has_room = omega (arith, some, of_capacity);
+  has_capacity = omega (arith, some, of_capacity);
   node_is = ap node_view node
       ∙ ap (λ (q : PoolState). let v : NodeView = record { id = id; history = holding []; pool = view_of q } in v)
       (made ∙ ap (λ k. pools.opened k size devices) of_frames ∙ ap (λ k. pools.opened s.frames k devices) of_size)
@@ -123,7 +123,7 @@ pub raises : (capacity place time : ℕ) (old new : ReplicaView) (m : ReplicaSta
     → (let r : ReplicaView = record old { node = record old.node { history = history (since time (refs old.node.history)) } } in new ≡ r)
     → ReplicaStands capacity place new (raised time m)
 raises capacity place time old new m st becomes = record {
-  has_room = st.has_room;
+  has_capacity = st.has_capacity;
   node_is = ap (λ (r : ReplicaView). r.node) becomes
       ∙ ap (λ (n : NodeView). let v : NodeView = record n { history = history (since time (refs n.history)) } in v) st.node_is
       ∙ ap (λ (h : HistoryView). let v : NodeView = record { id = place + 1; history = h; pool = m.pool } in v) (history_first m.reach (record { horizon = time; told = [] }));
@@ -139,7 +139,7 @@ pub restarts : (capacity place : ℕ) (old new : ReplicaView) (m : ReplicaState)
     → (let r : ReplicaView = record { node = record old.node { history = holding []; pool = pool }; buffers = map cleared old.buffers } in new ≡ r)
     → ReplicaStands capacity place new (restarted pool m)
 restarts capacity place old new m pool st becomes = record {
-  has_room = st.has_room;
+  has_capacity = st.has_capacity;
   node_is = ap (λ (r : ReplicaView). r.node) becomes
       ∙ ap (λ (n : NodeView). let v : NodeView = record n { history = holding []; pool = pool } in v) st.node_is
       ∙ ap (λ (h : HistoryView). let v : NodeView = record { id = place + 1; history = h; pool = pool } in v) (sym history_of_nothing);

@@ -146,7 +146,7 @@ module _ {A : Type 0} (f : A → ReplicaView) (xs : List A) (messages : List (Li
       let r : ReplicaState = record (replica m (place i)) { pool = n.pool } in
       changes m event answer x y r st named is
       (λ here. record {
-        has_room = here.has_room;
+        has_capacity = here.has_capacity;
         node_is = alone ∙ ap (λ (v : NodeView). let u : NodeView = record v { pool = n.pool } in u) here.node_is;
         buffers_are = same ∙ here.buffers_are;
       })

@@ -1,13 +1,15 @@
 //! The world: its replicas and the messages that were sent.
 ghost use Rattle.std.specs.Prelude.{◌≡◌, ◌+◌, ◌<◌, ◌≤◌, length, map, slice_index_or};
-ghost use Rattle.std.specs.Prelude.{OnOk, IfOk, IfErr, IsTrue, ◌↔◌};
+ghost use Rattle.std.specs.Prelude.{OnErr, OnOk, IfOk, IfErr, IsTrue, ◌↔◌};
 ghost use Rattle.warm_stamps.specs.declared.TheConstants.{MAX_REPLICAS};
 ghost use Rattle.warm_world.specs.Lists.{IsNumber, Pairwise, place};
 ghost use Rattle.warm_world.specs.States.{opened_over, opening};
-ghost use Rattle.warm_world.specs.Opening.{AreFew, AreFitting, AreSized, FinishFails, NewRefused};
+ghost use Rattle.warm_pool.specs.declared.fault.PoolFault.TheVariants.{Fault};
+ghost use Rattle.warm_gossip.specs.declared.fault.NodeFault.TheVariants.{Pool};
+ghost use Rattle.warm_world.specs.Opening.{AreFew, AreFitting, AreSized, FailsAtPlace, FinishFails, NewRefused, StopsInOrder};
 ghost use Rattle.warm_world.specs.Next.{IsNamed, IsMissing};
 ghost use Rattle.warm_world.specs.Views.{listed, world_view, replica_view};
-ghost use Rattle.warm_world.specs.Views.{IsAtRest, IsSettledBefore};
+ghost use Rattle.warm_world.specs.Views.{AreSameBut, IsAtRest, IsSettledBefore};
 ghost use Rattle.warm_world.specs.Stands.{ReplicaStands, view_shape, StandsFor, Steps, Runs};
 
 use crate::event::{Answer, BadWorld, Event, WorldFault};
@@ -253,12 +255,13 @@ impl<D: PageDevice> World<D> {
     ///
     /// # Errors
     /// `Pool(Fault)` at the first write or flush that fails. Of what the world shows, one count of failures
-    /// alone has changed.
+    /// alone has changed. The pools of replicas before the one that fails are settled, those after it are as they were.
     pub fn finish(&mut self) -> Result<(), NodeFault>
         ensures same { OnOk result (world_view self.new ≡ world_view self.old) }
         ensures settled { OnOk result (IsAtRest self.new) }
         ensures refused { IfErr result (λ why. FinishFails (world_view self.old) why
             (world_view self.new)) }
+        ensures stops { OnErr result (StopsInOrder self.old self.new) }
     {
         for k in 0..self.replicas.len() {
             self.write_back(k)?;
@@ -272,8 +275,9 @@ impl<D: PageDevice> World<D> {
         ensures same { OnOk result (world_view self.new ≡ world_view self.old) }
         ensures settled { IsSettledBefore k self.old
             → OnOk result (IsSettledBefore (k + 1) self.new) }
-        ensures refused { IfErr result (λ why. FinishFails (world_view self.old) why
-            (world_view self.new)) }
+        ensures refused { IfErr result (λ why. (why ≡ Pool Fault)
+            × FailsAtPlace k (world_view self.old) (world_view self.new)) }
+        ensures others { AreSameBut k self.old self.new }
         ensures many { length self.new.replicas.items ≡ length self.old.replicas.items }
     {
         self.replicas[k].node.write_back()

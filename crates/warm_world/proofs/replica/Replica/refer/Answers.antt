@@ -54,7 +54,7 @@ returns-clause-ok g c = λ capacity made is place m st.
     let full = subst (λ (d : Buffered). d.capacity ≤ length d.refs) was back.0 in
     let same : set bs k c.touch.new.self ≡ bs = ap (set bs k) (back.1 ∙ c.index_mut.ensures.value) ∙ set-get_or bs k b in
     let old : ReplicaStands capacity place (record (replica_view c.args.self.now) { buffers = set bs k c.touch.new.self }) m =
-    record { has_room = st.has_room; node_is = st.node_is; buffers_are = same ∙ st.buffers_are } in
+    record { has_capacity = st.has_capacity; node_is = st.node_is; buffers_are = same ∙ st.buffers_are } in
     let mid = c.in_ok-flush.ensures.ok capacity place m old in
     let there : k < length c.flush.new.self.buffers.items = omega (arith, c.requires.there, c.in_ok-flush.ensures.same, length-set bs k c.touch.new.self) in
     let d = c.index_mut-2.result.now in
