@@ -5,7 +5,7 @@ use Rattle.std.specs.Int.{bit_at}
 use Rattle.std.specs.List.{range_with_len}
 use Rattle.std.specs.Ordering.{on}
 use Rattle.std.specs.declared.cmp.Ordering.{Ordering}
-use Rattle.std.proofs.lemmas.Bool.{ne_eqb, true≢false}
+use Rattle.std.proofs.lemmas.Bool.{ne_eqb}
 use Rattle.std.proofs.lemmas.List.Concat.{flat_map-append}
 use Rattle.std.proofs.lemmas.List.{length-drop, take_min, drop_min}
 use Rattle.std.proofs.lemmas.List.FromFn.{filter_of_map_range_with_len_more}
@@ -45,19 +45,12 @@ pieces-cons size (x ∷ xs) pos some =
     ap (λ t. take size (x ∷ xs) ∷ t) (same_pieces size (length xs) (length (drop size (x ∷ xs))) (drop size (x ∷ xs)) pos (omega arith) (omega arith))
 
 -- a message of the first entries, and then those of the others
-pub message_more : (id horizon : ℕ) (messages : List Message) (rest part later : List Entry) (message : Message) → 0 < length rest → part ≡ take (min MAX_ENTRIES (length rest)) rest → later ≡ drop (min MAX_ENTRIES (length rest)) rest → message ≡ Entries id horizon part → (messages ++ message ∷ []) ++ entry_messages id horizon later ≡ messages ++ entry_messages id horizon rest
-message_more id horizon messages rest part later message some front back is =
-    let first : message ≡ Entries id horizon (take MAX_ENTRIES rest) = is ∙ ap (Entries id horizon) (front ∙ take_min MAX_ENTRIES rest) in
-    let others : entry_messages id horizon later ≡ entry_messages id horizon (drop MAX_ENTRIES rest) = ap (entry_messages id horizon) (back ∙ drop_min MAX_ENTRIES rest) in
-    append_assoc messages (message ∷ []) (entry_messages id horizon later)
-    ∙ ap (λ (f : Message). messages ++ f ∷ entry_messages id horizon later) first
-    ∙ ap (λ (fs : List Message). messages ++ Entries id horizon (take MAX_ENTRIES rest) ∷ fs) others
-    ∙ ap (λ (parts : List (List Entry)). messages ++ map (λ part. Entries id horizon part) parts) (sym (pieces-cons MAX_ENTRIES rest (omega arith) some))
-
--- there is more where a list is not empty
-pub some_left : (n : ℕ) (empty : Bool) → empty ≡ (n == 0) → empty ≡ false → 0 < n
-some_left zero empty is filled = absurd (true≢false (sym is ∙ filled))
-some_left (suc n) empty is filled = omega arith
+pub message_more : (id horizon : ℕ) (messages : List Message) (rest : List Entry) → 0 < length rest
+    → (messages ++ Entries id horizon (take (min MAX_ENTRIES (length rest)) rest) ∷ []) ++ entry_messages id horizon (drop (min MAX_ENTRIES (length rest)) rest) ≡ messages ++ entry_messages id horizon rest
+message_more id horizon messages rest some =
+    rw (take_min MAX_ENTRIES rest, drop_min MAX_ENTRIES rest)
+    (append_assoc messages (Entries id horizon (take MAX_ENTRIES rest) ∷ []) (entry_messages id horizon (drop MAX_ENTRIES rest))
+    ∙ ap (λ (parts : List (List Entry)). messages ++ map (λ part. Entries id horizon part) parts) (sym (pieces-cons MAX_ENTRIES rest (omega arith) some)))
 
 -- ---- pages rise in parts of entries
 

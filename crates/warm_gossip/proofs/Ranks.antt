@@ -56,10 +56,3 @@ absorbed_agrees h batch p unnamed = hist_as_before (refs h) (these batch) p (ome
 -- and one that takes entries in, of no later horizon, outside the pages of these
 pub joined_agrees : (h : HistoryView) (horizon : ℕ) (es : List Entry) → horizon ≤ h.horizon → AgreeOutside (map (λ e. e.page) es) h (history (refs h ∪ refs (holding_since horizon es)))
 joined_agrees h horizon es le p unnamed = hist_as_before (refs h) (refs (holding_since horizon es)) p le (untold_entries es p unnamed)
-
--- the same of pages and a history that are known to be these
-pub absorbed_agrees_as : (h : HistoryView) (batch : List Reference) (ps : List PageId) (g : HistoryView) → ps ≡ map (λ r. r.page) batch → g ≡ history (refs h ∪ these batch) → AgreeOutside ps h g
-absorbed_agrees_as h batch ps g is becomes = subst (λ qs. AgreeOutside qs h g) (sym is) (subst (λ k. AgreeOutside (map (λ r. r.page) batch) h k) (sym becomes) (absorbed_agrees h batch))
-
-pub joined_agrees_as : (h : HistoryView) (horizon : ℕ) (es : List Entry) (ps : List PageId) (g : HistoryView) → horizon ≤ h.horizon → ps ≡ map (λ e. e.page) es → g ≡ history (refs h ∪ refs (holding_since horizon es)) → AgreeOutside ps h g
-joined_agrees_as h horizon es ps g le is becomes = subst (λ qs. AgreeOutside qs h g) (sym is) (subst (λ k. AgreeOutside (map (λ e. e.page) es) h k) (sym becomes) (joined_agrees h horizon es le))

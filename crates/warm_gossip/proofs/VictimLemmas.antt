@@ -47,9 +47,6 @@ same_frames v w same i = ap (λ fs. let f : FrameView = get_or fs i no_frame in 
 same_pool : (v w : PoolView) → w ≡ v → KeepsPages v w
 same_pool v w same i = ap (λ x. (frame_at x i).page) same
 
-pub unchanged : (old new : NodeView) → new ≡ old → KeepsPages old.pool new.pool
-unchanged old new same = same_pool old.pool new.pool (ap (λ n. n.pool) same)
-
 -- all but the pool is as it was, and every frame has its page
 abbrev pub KeepsNode : NodeView → NodeView → Type 0
 KeepsNode old new = (new ≡ record old { pool = new.pool }) × KeepsPages old.pool new.pool
@@ -71,7 +68,7 @@ put_refused : (h : HistoryView) (v w : PoolView) (p : PageId) (why : PoolFault) 
 put_refused h v w p AllFixed refused = same_pool v w refused.1
 put_refused h v w p FixesFull refused = same_pool v w refused.1
 put_refused h v w p ReadFault refused = failed v w p.dev refused.1
-put_refused h v w p WriteBack (i, q, room, holds, fails) = failed v w q.dev fails
+put_refused h v w p WriteBack (i, q, below, holds, fails) = failed v w q.dev fails
 put_refused h v w p why refused = absurd refused
 
 load_refused : (h : HistoryView) (v w : PoolView) (p : PageId) (why : PoolFault) → LoadRefused h v p why w → KeepsPages v w

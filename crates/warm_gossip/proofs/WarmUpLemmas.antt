@@ -32,7 +32,7 @@ use Rattle.warm_gossip.specs.Step.{IsFirstLoadable, IsLoadable, IsNextWarm, Step
 use Rattle.warm_gossip.specs.WarmUps.{PagesDiffer, WarmSteps, WarmStepKeepsHottest, WarmUpLoads}
 use Rattle.warm_gossip.proofs.HottestLemmas.{has_contains, after_listed}
 use Rattle.warm_gossip.proofs.Ranks.{differs}
-use Rattle.warm_gossip.proofs.VictimLemmas.{no_frame, frame_is_there, frames_after, refused, unchanged, victim_left, victim_over}
+use Rattle.warm_gossip.proofs.VictimLemmas.{no_frame, frame_is_there, frames_after, none_changed, refused, victim_left, victim_over}
 
 -- ---- the pages in the frames
 
@@ -220,7 +220,7 @@ warm_up_loads S old new stands differ unfixed steps p warm_page =
 
 pub warm_step_keeps_hottest : WarmStepKeepsHottest
 warm_step_keeps_hottest S old new (Refused why) stands differ unfixed step p listed (was, gone) = gone was.frame ((refused old new WarmStep why step).1 was.frame ∙ was.holds)
-warm_step_keeps_hottest S old new (Loaded None) stands differ unfixed step p listed (was, gone) = gone was.frame (unchanged old new step.1 was.frame ∙ was.holds)
+warm_step_keeps_hottest S old new (Loaded None) stands differ unfixed step p listed (was, gone) = gone was.frame ((none_changed old new step.1).1 was.frame ∙ was.holds)
 warm_step_keeps_hottest S old new (Loaded (Some q)) stands differ unfixed step p listed (was, gone) =
     let n = length old.pool.frames in
     let warming : IsWarming S n old = record { stands = stands; differ = differ; unfixed = unfixed; count = refl } in

@@ -1,9 +1,12 @@
 //! The calls on a node's pool.
-ghost use Rattle.std.specs.Prelude.{◌↔◌, IfErr, IsTrue, OnOk};
+ghost use Rattle.std.specs.Prelude.{◌≡◌, ◌↔◌, IfErr, IfOk, IsTrue, OnErr, OnOk};
+ghost use Rattle.warm_pool.specs.Keeping.{KeepsBytes};
+ghost use Rattle.warm_pool.specs.PageBytes.{MakesDirty};
+ghost use Rattle.warm_pool.specs.Pinning.{TakesFrame};
 ghost use Rattle.warm_pool.specs.State.{IsSettled};
 ghost use Rattle.warm_gossip.specs.declared.call.Call.TheVariants.{Pin, Unpin, Read, Write, Victim, Restart};
 ghost use Rattle.warm_gossip.specs.declared.call.Reply.TheVariants.{Pinned, Bytes, Page};
-ghost use Rattle.warm_gossip.specs.Clauses.{Answered, Goes, SameView, WriteBackFails, done};
+ghost use Rattle.warm_gossip.specs.Clauses.{Answered, Goes, PinLeaves, SameView, WriteBackFails, done};
 ghost use Rattle.warm_gossip.specs.State.{node_view};
 ghost use Rattle.warm_gossip.specs.Step.{IsWithin};
 
@@ -19,9 +22,12 @@ impl<D: PageDevice> Node<D> {
     /// **A pin is no reference**: whoever pins a page also absorbs a reference to it.
     ///
     /// # Errors
-    /// `Pool`, with the fault and the order of [`warm_pool::Pool::pin`]. Pages, fixes and contents are as they were.
+    /// `Pool`, with the fault and the order of [`warm_pool::Pool::pin`], and with what that leaves. Pages, fixes and contents are as
+    /// they were.
     pub fn pin(&mut self, page: PageId) -> Result<Slot, NodeFault>
-        ensures { Answered self.old (Pin page) Pinned result self.new }
+        ensures step { Answered self.old (Pin page) Pinned result self.new }
+        ensures frame { IfOk result (λ slot. TakesFrame self.old.pool page slot self.new.pool) }
+        ensures refused { IfErr result (λ why. PinLeaves self.old page why self.new) }
     {
         Ok(self.pool.pin(page, self.history.history())?)
     }
@@ -31,7 +37,8 @@ impl<D: PageDevice> Node<D> {
     /// # Errors
     /// `StaleSlot`: the slot doesn't hold its page; nothing has changed.
     pub fn unpin(&mut self, slot: Slot) -> Result<(), NodeFault>
-        ensures { Answered self.old (Unpin slot) done result self.new }
+        ensures step { Answered self.old (Unpin slot) done result self.new }
+        ensures kept { KeepsBytes self.old.pool self.new.pool }
     {
         if !self.pool.holds(slot) {
             return Err(NodeFault::StaleSlot);
@@ -73,7 +80,9 @@ impl<D: PageDevice> Node<D> {
     /// In this order: `StaleSlot`, where the slot doesn't hold its page; `Pool(OutOfPage)`, where the bytes reach beyond its end.
     /// Nothing has changed.
     pub fn write(&mut self, slot: Slot, at: usize, bytes: &[u8]) -> Result<(), NodeFault>
-        ensures { Answered self.old (Write slot at bytes.now) done result self.new }
+        ensures step { Answered self.old (Write slot at bytes.now) done result self.new }
+        ensures dirty { OnOk result (MakesDirty self.old.pool slot self.new.pool) }
+        ensures refused { OnErr result (self.new ≡ self.old) }
     {
         if !self.pool.holds(slot) {
             return Err(NodeFault::StaleSlot);

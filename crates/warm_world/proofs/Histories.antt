@@ -1,12 +1,12 @@
 -- What a history says stands for the references themselves: what is carried of them, what is answered of them, and how pages rank.
-use Rattle.std.proofs.Common.{◌≡◌, ℕ, List, [], ◌∷◌, ◌++◌, Option, None, map, refl, sym, ◌∙◌, ap, subst, Result, Ok, Err, inl, inr, cond, true, false, Bool, arith}
+use Rattle.std.proofs.Common.{◌≡◌, ℕ, List, [], ◌∷◌, ◌++◌, Option, None, map, refl, sym, ◌∙◌, ap, subst, cond, true, false, Bool, arith}
 use Rattle.std.specs.Prelude.{◌==◌}
 use Rattle.std.specs.List.{flat_map}
 use Rattle.std.proofs.lemmas.List.{map-append}
 use Rattle.warm_stamps.specs.declared.PageId.{PageId}
 use Rattle.warm_history.specs.declared.hist.Entry.{Entry}
 use Rattle.warm_history.specs.ReferenceSets.{ReferenceSet}
-use Rattle.warm_history.specs.Histories.{HistoryView, entries_of, history, refs}
+use Rattle.warm_history.specs.Histories.{entries_of, history, refs}
 use Rattle.warm_history.specs.Carried.{bucket_entries, carried}
 use Rattle.warm_history.proofs.CarriedLemmas.{history-carried}
 use Rattle.warm_history.proofs.HistoryLemmas.{hist_refs-history, horizon-history, same_hists}

@@ -1,16 +1,14 @@
 -- Deliveries of a world are messages that a node hears.
-use Rattle.std.proofs.Common.{◌≡◌, ◌≢◌, ◌⊎◌, inl, inr, ℕ, ◌+◌, ◌-◌, ◌<◌, List, [], ◌∷◌, ◌++◌, length, map, refl, sym, ap, subst, ◌∙◌, append_assoc, arith}
+use Rattle.std.proofs.Common.{◌≡◌, ◌≢◌, ◌⊎◌, inl, inr, ℕ, ◌+◌, ◌-◌, List, [], ◌∷◌, ◌++◌, length, map, refl, sym, ap, subst, ◌∙◌, append_assoc, arith}
 use Rattle.std.specs.Prelude.{◌==◌, slice_index_or}
 use Rattle.std.specs.List.{AllByRecursion}
 use Rattle.std.proofs.lemmas.Bool.{cases_eq}
-use Rattle.std.proofs.lemmas.List.{append-nil, length-append, length-map, map-append, get_or-set_same, get_or-set_other, get_or-append-add}
+use Rattle.std.proofs.lemmas.List.{append-nil, length-append, map-append, get_or-set_other, get_or-append-add}
 use Rattle.warm_history.specs.ReferenceSets.{ReferenceSet, these, since}
 use Rattle.warm_history.specs.Histories.{HistoryView, entries_of, history, join}
-use Rattle.warm_history.proofs.HistoryLemmas.{IsHistory-history, horizon-history}
+use Rattle.warm_history.proofs.HistoryLemmas.{IsHistory-history}
 use Rattle.warm_history.proofs.JoinLemmas.{join_repeats, raised_to_no_later}
 use Rattle.warm_frames.specs.declared.message.Message.{Message}
-use Rattle.warm_frames.specs.declared.message.Message.TheVariants.{Digest}
-use Rattle.warm_digest.specs.BucketDigests.{digests_of}
 use Rattle.warm_digest.specs.Exchange.{Fits, IsCollision}
 use Rattle.warm_gossip.specs.Answers.{requested_messages, AnswersDigests, IsAnswer, taught}
 use Rattle.warm_gossip.specs.Round.{Hears, offer}

@@ -3,7 +3,7 @@ use Rattle.std.proofs.Common.{◌≡◌, ℕ, zero, suc, ◌<◌, List, [], ◌�
 use Rattle.std.specs.List.{AllByRecursion}
 use Rattle.std.proofs.Math.ListN.{get_or-map}
 use Rattle.std.proofs.lemmas.Bool.{cases_lt}
-use Rattle.std.proofs.lemmas.List.{get_or-set_same, get_or_past, length-map}
+use Rattle.std.proofs.lemmas.List.{get_or_past, length-map}
 use Rattle.warm_stamps.specs.declared.PageId.{PageId}
 use Rattle.warm_pool.specs.State.{opened as opened_pool}
 use Rattle.warm_pool.specs.View.{PoolView, view_of}
@@ -18,7 +18,7 @@ use Rattle.warm_world.specs.declared.event.Event.TheVariants.{WarmStep}
 use Rattle.warm_world.specs.declared.event.Answer.{Answer}
 use Rattle.warm_world.specs.declared.event.Answer.TheVariants.{Done, Pinned, Bytes, Page, Pages, Loaded, Refused}
 use Rattle.warm_world.specs.Lists.{place}
-use Rattle.warm_world.specs.States.{ModelState, ReplicaState, nobody, no_pool, node_of, pool_of, reach_of, replica, set_pool}
+use Rattle.warm_world.specs.States.{ModelState, ReplicaState, nobody, no_pool, node_of, pool_of, reach_of, replica}
 use Rattle.warm_world.specs.Views.{ReplicaView, WorldView}
 use Rattle.warm_world.specs.Next.{Asked, IsNamed, Next, Run, shape}
 use Rattle.warm_world.specs.Stands.{ReplicaStands, StandsFor}

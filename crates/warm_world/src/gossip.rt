@@ -46,9 +46,9 @@ fn took(alloc: Global, kept: &mut Vec<Vec<u8>>, messages: &[Message]) -> Answer
     ensures { Takes (map (λ f. f.items) kept.old.items) messages.now result
         (map (λ f. f.items) kept.new.items) }
 {
-    let Ok(()) = keep_all(alloc, kept, messages) else {
-        return Answer::Refused(WorldFault::Node(NodeFault::Memory));
-    };
+    if let Err(error) = keep_all(alloc, kept, messages) {
+        return Answer::Refused(error.into());
+    }
     let count = messages.len();
     if count == 0 {
         return Answer::Took { count: 0, first: 0 };
@@ -149,7 +149,7 @@ impl<D: PageDevice> World<D> {
     {
         match self.replicas[i as usize - 1].node.history().copy() {
             Ok(history) => Answer::Shown(history),
-            Err(_) => Answer::Refused(WorldFault::Node(NodeFault::Memory)),
+            Err(error) => Answer::Refused(error.into()),
         }
     }
 }

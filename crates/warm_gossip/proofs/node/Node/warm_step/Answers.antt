@@ -17,7 +17,7 @@ returns-in_err-load g c =
     rw (given.1, given.2, ← c.self.view_is) (
       c.in-Some.page,
       next_warm c.self.inside.pool c.self.inside.history _ c.in_ok-list.list _ _ (Some c.in-Some.page) c.is_history.ensures c.history.ensures c.in_ok-list.ensures.list c.in_ok-list.ensures.many c.deref.ensures.value c.frames.ensures c.in-Some.ensures,
-      (same_node c.self.inside.id (view_of c.load.new.self) _ _ same, load_refused_in _ c.in_err-load.field-0.0 (c.history-2.ensures ∙ same) c.in-Some.ensures.3 c.in_err-load.ensures.refused),
+      (same_node c.self.inside.id (view_of c.load.new.self) _ _ same, load_refused_in _ _ c.in_err-load.field-0.0 c.in-Some.ensures.3 (rw (c.history-2.ensures ∙ same) at c.in_err-load.ensures.refused)),
     )
 
 pub returns : goal.returns
@@ -25,5 +25,5 @@ returns g c =
     let same = c.keep.ensures ∙ c.take_hottest.ensures.same in
     rw (← c.self.view_is) (
       next_warm c.self.inside.pool c.self.inside.history _ c.in_ok-list.list _ _ (Some c.in-Some.page) c.is_history.ensures c.history.ensures c.in_ok-list.ensures.list c.in_ok-list.ensures.many c.deref.ensures.value c.frames.ensures c.in-Some.ensures,
-      (same_node c.self.inside.id (view_of c.load.new.self) _ _ same, (_, loaded_in (c.history-2.ensures ∙ same) c.in-Some.ensures.3 c.in_ok-load.ensures.loaded)),
+      (same_node c.self.inside.id (view_of c.load.new.self) _ _ same, (_, loaded_in c.in-Some.ensures.3 (rw (c.history-2.ensures ∙ same) at c.in_ok-load.ensures.loaded))),
     )
