@@ -14,12 +14,17 @@ use Rattle.warm_schedule.specs.Grammar.{meaning}
 use Rattle.warm_schedule.specs.Printed.{Answered, PrintedFrom, Played, EndsIn}
 use Rattle.warm_schedule.specs.Reading.{Reads, PutsBytes, IsPut}
 use Rattle.warm_schedule.specs.Stream.{SessionView, HoldsLine, Holds, AddsBytes, AnswersLine, Goes, Settles, Ends}
+use Rattle.warm_schedule.specs.Refusals.{StopsPlay, PlayRefused}
 use Rattle.warm_schedule.specs.declared.parse.TheConstants.{MAX_LINE}
+use Rattle.warm_devices.specs.Device.{DeviceState}
+use Rattle.warm_play_fault.specs.declared.PlayFault.{PlayFault}
+use Rattle.warm_play_fault.specs.declared.PlayFault.TheVariants as play_fault
+use Rattle.warm_world.specs.Sizes.{Sizes}
 use Rattle.warm_world.specs.States.{ModelState, nobody, no_pool, pool_of, replica}
 use Rattle.warm_pool.specs.View.{PoolView}
 use Rattle.warm_gossip.specs.State.{NodeView}
 use Rattle.warm_world.specs.Lists.{place}
-use Rattle.warm_world.specs.Opening.{FinishFails}
+use Rattle.warm_world.specs.Opening.{AreFitting, FinishFails}
 use Rattle.warm_gossip.specs.Step.{IsFailed}
 use Rattle.warm_gossip.specs.declared.fault.NodeFault.{NodeFault}
 use Rattle.warm_history.specs.Histories.{holding}
@@ -357,3 +362,8 @@ Consumes-kept (Some xs) (Some ys) k = sym k
 -- the same text
 pub Played-text : (state : ModelState) (a b out : List ℕ) → a ≡ b → Played state a out → Played state b out
 Played-text state a b out same played = subst (λ (text : List ℕ). Played state text out) same played
+
+-- over devices that fit, what stops a play is why it does not come to its end
+pub stopped_play : (setup : Sizes) (devices : List (List DeviceState)) (why : PlayFault) → AreFitting setup devices → StopsPlay why → PlayRefused setup devices why
+stopped_play setup devices play_fault.BadDevices fits stops = absurd stops
+stopped_play setup devices why fits stops = (fits, stops)
