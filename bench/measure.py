@@ -120,7 +120,7 @@ def reached(replica: int, pages: Iterable[int], start: int) -> list[str]:
 
 
 def scattered(count: int, start: int = 0) -> list[int]:
-    """So many pages, out of their order."""
+    """This many pages, out of their order."""
     pages = list(range(start, start + count))
     random.Random(count).shuffle(pages)
     return pages
@@ -185,7 +185,7 @@ def memory(bench: Bench) -> None:
 
 
 def moving(pages: int, window: int, every: int) -> Iterable[str]:
-    """A reference to each of so many pages, out of their order; after each `every` of them those before the last `window` are forgotten."""
+    """A reference to each of this many pages, out of their order; after each `every` of them those before the last `window` are forgotten."""
     for at in range(pages):
         yield f"ref 1 1 0:{at * 7919 % pages} {at}"
         if (at + 1) % every == 0:

@@ -1,4 +1,4 @@
-"""Runs a program with some of its growths refused, or with little address space."""
+"""Runs a program of which some allocations fail, or with little address space."""
 import os
 import resource
 import subprocess
@@ -9,12 +9,12 @@ HERE = os.path.dirname(os.path.abspath(__file__))
 # How many seconds a run may take.
 LIMIT = 60
 
-# A growth that comes after all others.
+# The number of an allocation that comes after all others.
 NEVER_LAST = 2**63
 
 
 class Ended:
-    """How a run ended: its status (below 0: the signal), what it wrote, and whether a growth was refused."""
+    """How a run ended: its status (below 0: the signal), what it wrote, and whether an allocation was refused."""
 
     def __init__(self, status, out, err, is_refused=False):
         self.status = status
@@ -30,7 +30,7 @@ class Ended:
 
 
 class Refuser:
-    """Refuses growths by a library that stands before the C library's allocator. The toolchain's clang compiles it."""
+    """Refuses allocations by a library in front of the C library's allocator. The toolchain's clang compiles it."""
 
     def __init__(self, folder):
         page = subprocess.run(["rt", "doc"], check=True, capture_output=True, text=True).stdout.strip()
@@ -40,7 +40,7 @@ class Refuser:
         subprocess.run([compiler, *words, os.path.join(HERE, "refuse.c")], check=True)
 
     def run(self, words, sent=b"", first=0, last=0, folder=None):
-        """Runs the words in the folder, and refuses the growths from the first to the last, counted from 1."""
+        """Runs the words in the folder, and refuses the allocations from the first to the last, counted from 1."""
         reads, writes = os.pipe()
         refusals = {"REFUSE_FIRST": str(first), "REFUSE_LAST": str(last), "REFUSE_NOTE": str(writes)}
         try:
@@ -61,7 +61,7 @@ class Refuser:
 
 
 def within(words, space, sent=b"", folder=None):
-    """Runs the words with so many bytes of address space."""
+    """Runs the words with this many bytes of address space."""
     ran = subprocess.run(
         words,
         input=sent,

@@ -1,6 +1,6 @@
-/* Stands before the allocator of a program (LD_PRELOAD) and refuses some of its growths. By the environment:
+/* Comes before the allocator of a program (LD_PRELOAD) and refuses some of its allocations. By the environment:
  *
- * REFUSE_FIRST, REFUSE_LAST: the first and the last growth that is refused, counted from 1.
+ * REFUSE_FIRST, REFUSE_LAST: the first and the last allocation that is refused, counted from 1.
  * REFUSE_NOTE: a descriptor to which a byte is written where the first of them is refused.
  *
  * It is compiled by the toolchain's own clang, without headers (scripts/growths.py).
@@ -36,7 +36,7 @@ __attribute__((constructor)) static void begin(void) {
     first = number("REFUSE_FIRST");
 }
 
-/* Whether the next growth is refused, with its reason where the C library looks for it. Threads may ask at the same time. */
+/* Whether the next allocation is refused, with its reason where the C library looks for it. Threads may ask at the same time. */
 static int is_refused(void) {
     if (first == 0)
         return 0;

@@ -17,7 +17,7 @@ OURS = [HERE.parent.parent / "crates/benches/out/benches", "frames"]
 RUNS = 5
 FRAME = 31_023
 SUMMED = 3_100_000
-# a stream has so many frames, and comes in pieces of so many bytes
+# the frames of a stream, and the bytes of its pieces
 STREAM = 1000
 PIECES = [1, 64, 4_096, 65_536]
 

@@ -1,6 +1,6 @@
 //! The frames and digests of `benches frames` in plain Rust, for the same measurements.
 //!
-//! With no argument each is done once; with a number each is done so many times, and the nanoseconds are printed too; the stream is then
+//! With no argument each is done once; with a number each is done that many times, and the nanoseconds are printed too; the stream is then
 //! of 1000 frames.
 
 #[path = "../parts/mod.rs"]
@@ -31,7 +31,7 @@ fn check_sum(bytes: &[u8]) -> u64 {
     bytes.iter().fold(0u64, |sum, byte| sum.wrapping_mul(31).wrapping_add(u64::from(*byte)))
 }
 
-// How many entries a stream has that comes in pieces of so many bytes.
+// How many entries a stream has that comes in pieces of this many bytes.
 fn feed_in_pieces(stream: &[u8], size: usize) -> usize {
     let mut decoder = Decoder::default();
     let mut count = 0;

@@ -1,5 +1,5 @@
 #!/usr/bin/env python3
-"""Measures gossip, warm-up and the room of a history beside the same in plain Rust, and prints tables for docs/PERFORMANCE.md.
+"""Measures gossip, warm-up and the memory of a history beside the same in plain Rust, and prints tables for docs/PERFORMANCE.md.
 
 usage: measure.py [whole|raised] [PAGES..]      how many pages there are (1000 10000 100000 1000000, where none is named)
 

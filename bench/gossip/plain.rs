@@ -3,8 +3,8 @@
 //! A replica is a `BTreeMap` with a horizon, and a pool that finds its pages by a `HashMap`. It keeps the digests of its buckets and its
 //! warm-up list until its history changes. Nothing is undone where memory runs out, as nothing is refused here. The arguments are those
 //! of the proved program, which has to take, beside `round`, `warm`, `offer` and `history`:
-//! - `raised PAGES OFFERS`: that many offers by a replica that knows so many pages by two stamps each, of the times 2^40 + i and
-//!   2^40 + i + 7 for page `scattered(i, PAGES)`, and made an offer. Before offer i, counted from 0, it hears in one batch of the 100
+//! - `raised PAGES OFFERS`: that many offers by a replica that knows PAGES pages by two stamps each, of the times 2^40 + i and
+//!   2^40 + i + 7 for page `scattered(i, PAGES)`, and made an offer. Before offer i, counted from 0, it takes in, in one batch, the 100
 //!   pages 0:N, 0:N + 64, .. at the time i + 1, where N is the least multiple of 64 that is not below PAGES; it makes an offer; and its
 //!   horizon is raised to i + 2, which drops these 100 pages of bucket 0 and nothing else. The offers after the raises alone are timed,
 //!   and the sum is over their bytes, as for `offer`.
@@ -89,7 +89,7 @@ impl Pool {
         }
     }
 
-    /// All pages in frames get their ranks anew.
+    /// All pages in frames are ranked again.
     fn refresh_all(&mut self, history: &BTreeMap<Page, Hist>) {
         for (page, at) in &self.index {
             self.frames[*at].rank = Some(Rank::of(*page, history.get(page).copied()));
@@ -173,7 +173,7 @@ impl Node {
         bytes
     }
 
-    /// The entries of the buckets of a mask, in frames.
+    /// The entries of a set of buckets, in messages.
     fn wanted(&self, mask: u64) -> Vec<Vec<u8>> {
         let mut lists = vec![Vec::new(); 64];
         for entry in self.entries() {
@@ -305,7 +305,7 @@ fn warmed(pages: u64, steps: u64) -> (u64, u128) {
     (sum, nanos)
 }
 
-// So many offers. Before each the node hears of pages in so many buckets, which is not timed.
+// This many offers. Before each the node takes in pages of this many buckets, which is not timed.
 fn offers(pages: u64, buckets: u64, offers: u64) -> (u64, u128) {
     let mut node = told(1, 1, pages);
     node.offer();
@@ -323,7 +323,7 @@ fn offers(pages: u64, buckets: u64, offers: u64) -> (u64, u128) {
     (sum, nanos)
 }
 
-// So many offers, each after a raise that dropped pages of one bucket. The offers alone are timed.
+// This many offers, each after a raise that dropped pages of one bucket. The offers alone are timed.
 fn raised_offers(pages: u64, offers: u64) -> (u64, u128) {
     let mut node = Node::new(1, 1, pages);
     remember(&mut node, pages, LATE);

@@ -32,7 +32,7 @@ const NARROW: [u8; 4] = *b"L2G1";
 const HEADER: usize = 19;
 const MOST: usize = 1000;
 
-/// The header of a frame, and room for its body.
+/// The header of a frame, and capacity for its body.
 pub fn header(kind: u8, sender: u16, horizon: u64, len: usize) -> Vec<u8> {
     let mut bytes = Vec::with_capacity(HEADER + len);
     bytes.extend_from_slice(&WIDE);
@@ -143,7 +143,7 @@ pub fn decode(bytes: &[u8]) -> Option<Entries> {
 }
 
 /// Frames from a stream that comes in pieces. It holds the bytes of the frame that has begun, at most those of the longest, and decodes
-/// one that stands whole in a piece where it stands.
+/// one that is whole in a piece from there.
 #[derive(Default)]
 pub struct Decoder {
     held: Vec<u8>,
@@ -219,7 +219,7 @@ fn size_of(header: &[u8]) -> Option<Option<usize>> {
     (4..=4 + longest * MOST).contains(&len).then_some(Some(whole + len))
 }
 
-/// Takes the digests of the buckets of a mask anew.
+/// Computes the digests of a set of buckets again.
 pub fn renew(digests: &mut [[u8; 32]], mask: u64, history: impl Iterator<Item = Entry>) {
     if mask == 0 {
         return;

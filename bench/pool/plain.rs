@@ -1,7 +1,7 @@
 //! The visits and misses of `benches pool` in plain Rust, over a pool with a `HashMap` for its index.
 //!
-//! With no argument 1,000 visits are made; with a number so many, and the nanoseconds are printed too; with `misses` and a
-//! number so many pins of pages that are in no frame; with `empty` a full pool is emptied, and the nanoseconds are printed. The map has the hash that std gives it, or, with a further word `mixed`,
+//! With no argument 1,000 visits are made; with a number that many, and the nanoseconds are printed too; with `misses` and a
+//! number that many pins of pages that are in no frame; with `empty` a full pool is emptied, and the nanoseconds are printed. The map has the hash that std gives it, or, with a further word `mixed`,
 //! one that multiplies, as that of the proved pool's index does. The page that leaves is found by a winner tree, as in the
 //! proved pool, or, with a further word `ordered`, by a `BTreeSet` of ranks.
 
@@ -220,7 +220,7 @@ struct Pool<H, C> {
 }
 
 impl<H: BuildHasher + Default, C: Contest> Pool<H, C> {
-    /// A pool over a device of so many pages, each of which is filled with the lowest byte of its number, or with zeros.
+    /// A pool over a device of this many pages, each of which is filled with the lowest byte of its number, or with zeros.
     fn opened(pages: u64, numbered: bool) -> Pool<H, C> {
         let frame = || Frame {
             page: None,
@@ -256,7 +256,7 @@ impl<H: BuildHasher + Default, C: Contest> Pool<H, C> {
         Some(at)
     }
 
-    /// Brings a page in with so many fixes. Where it cannot be read, the pool is as it was.
+    /// Brings a page in with this many fixes. Where it cannot be read, the pool is as it was.
     fn load(&mut self, page: Page, fixes: u32, history: &History) -> Option<Slot> {
         self.device.read(page.no, &mut self.spare)?;
         let index = self.place()?;
@@ -355,7 +355,7 @@ impl<H: BuildHasher + Default, C: Contest> Pool<H, C> {
     }
 }
 
-/// Makes so many visits to a pool with every page in a frame, and gives the sum of what was read, and how long it took.
+/// Makes this many visits to a pool with every page in a frame, and gives the sum of what was read, and how long it took.
 fn visit_often<H: BuildHasher + Default, C: Contest>(visits: u32) -> Option<(u64, Duration)> {
     let mut pool = Pool::<H, C>::opened(PAGES, false);
     let history = History::new();
@@ -377,7 +377,7 @@ fn visit_often<H: BuildHasher + Default, C: Contest>(visits: u32) -> Option<(u64
     Some((sum, start.elapsed()))
 }
 
-/// Pins so many pages that are in no frame. Of each page two references are known, so that ranks rise with the pages; those that
+/// Pins this many pages that are in no frame. Of each page two references are known, so that ranks rise with the pages; those that
 /// follow one another stand far apart in the frames.
 fn miss_often<H: BuildHasher + Default, C: Contest>(misses: u32) -> Option<(u64, Duration)> {
     let pages = PAGES + u64::from(misses);

@@ -1,8 +1,8 @@
 //! The workers of `benches replica` in plain Rust, over one replica behind a `std::sync::Mutex`, for the same measurements.
 //!
-//! `plain WORKERS REFERENCES PAGES [map|node|buckets]`: so many workers bring so many references each, to so many pages, by buffers of
+//! `plain WORKERS REFERENCES PAGES [map|node|buckets]`: WORKERS workers bring REFERENCES references each, to PAGES pages, by buffers of
 //! 64. With `map` the replica is a `BTreeMap` of the two latest stamps of each page. With `node` it also does what a node does beside:
-//! it keeps what was known, to put it back where memory runs out, marks the buckets whose digests are to be taken anew, and looks each page
+//! it keeps what was known, to put it back where memory runs out, marks the buckets whose digests are to be computed again, and looks each page
 //! up among those in frames. With `buckets` it is such a node that keeps a map for each bucket.
 
 #[path = "../parts/mod.rs"]

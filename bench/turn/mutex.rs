@@ -1,6 +1,6 @@
 //! The counter of `benches turn` behind a `std::sync::Mutex`, for the same measurements.
 //!
-//! `mutex THREADS TURNS`: so many threads add so many times each, and the total and the nanoseconds are printed.
+//! `mutex THREADS TURNS`: THREADS threads add TURNS times each, and the total and the nanoseconds are printed.
 
 use std::hint::black_box;
 use std::sync::Mutex;

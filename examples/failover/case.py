@@ -10,7 +10,7 @@ from replicas import Channel, Replica, Sender, make_access
 
 BLOCK = 200  # accesses over which a ratio is taken
 NEAR = 0.01  # a ratio this far below the primary's is as good
-PROBES = 50  # WarmSteps are tried in steps of one of so many frames
+PROBES = 50  # WarmSteps are tried in steps of the frames divided by this
 PAGE_SIZE = 512
 
 PRIMARY = "primary"
@@ -67,7 +67,7 @@ class Outcome:
         return next((BLOCK * number for number, (ours, best) in blocks if near(ours, best)), None)
 
     def reads(self, accesses: int) -> int:
-        """Reads from the device up to so many accesses after the takeover, those of the warm-up included."""
+        """Reads from the device up to this many accesses after the takeover, those of the warm-up included."""
         return self.loaded + accesses - sum(self.hits[: accesses // BLOCK])
 
 
@@ -82,7 +82,7 @@ class Result:
 
 
 def near(hits: int, best: int) -> bool:
-    """Whether a block with so many hits is near one with the best number of them."""
+    """Whether a block with this many hits is near one with the best number of them."""
     return hits >= best - NEAR * BLOCK
 
 
@@ -149,12 +149,12 @@ class Case:
     def _steps_needed(self) -> int | None:
         """The least number of WarmSteps with which the first block is near the primary's.
 
-        A replica that hears what the warmed standby has heard begins anew for each number.
+        A replica that receives what the warmed standby has received begins again for each number.
         """
         best = self.outcomes[PRIMARY].hits[0]
         for steps in range(0, self.plan.frames + 1, max(1, self.plan.frames // PROBES)):
             probe = Replica(self.player, PROBE)
-            # entries hold all that earlier rounds told
+            # entries hold all that earlier rounds sent
             probe.hear(self.last_frames)
             probe.warm_up(steps)
             hits = sum(hit for access in self.after[:BLOCK] for hit in make_access(self.player, [probe], access))

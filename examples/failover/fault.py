@@ -2,4 +2,4 @@
 
 
 class Fault(Exception):
-    """What an operator is told in one line, and nothing was written."""
+    """Why a report was refused, in one line for the operator. Nothing was written."""

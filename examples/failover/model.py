@@ -26,7 +26,7 @@ def leaves_first(known: Known) -> Callable[[int], tuple[int, int, int]]:
     return lambda page: (*known.get(page, (NEVER, NEVER)), page)
 
 
-def told(known: Known, more: Known) -> Known:
+def united(known: Known, more: Known) -> Known:
     """Both together: of each page the two latest of all times."""
     both = dict(known)
     for page, times in more.items():
@@ -54,7 +54,7 @@ class Pool:
         self.resident.add(page)
 
     def warm(self, steps: int) -> None:
-        """Loads so many of the hottest pages, at most one for each frame."""
+        """Loads this many of the hottest pages, at most one for each frame."""
         for page in sorted(self.known, key=leaves_first(self.known), reverse=True)[: self.frames][:steps]:
             self.load(page)
 
@@ -85,7 +85,7 @@ def size(piece: Known) -> int:
 
 
 def heard(rounds: list[list[Known]], one_of: int) -> tuple[Known, int]:
-    """What one knows to whom one of so many pieces came, a round late and two rounds late, and the bytes that came."""
+    """What one knows to whom one of this many pieces came, a round late and two rounds late, and the bytes that came."""
     dice = random.Random(1)
     pieces = [(place, piece) for place, sent in enumerate(rounds) for piece in sent]
     known: Known = {}
@@ -95,7 +95,7 @@ def heard(rounds: list[list[Known]], one_of: int) -> tuple[Known, int]:
         for place, piece in pieces[first : first + one_of][drawn : drawn + 1]:
             arrivals = sum(place + late < len(rounds) for late in (1, 2))
             came += arrivals * size(piece)
-            known = told(known, piece) if arrivals else known
+            known = united(known, piece) if arrivals else known
     return known, came
 
 
@@ -127,7 +127,7 @@ class Takeover:
         self.found = {name: [pool.hits(block) for block in self.blocks] for name, pool in self.pools.items()}
 
     def warmed(self, known: Known, steps: int) -> Pool:
-        """A pool whose replica knows this, after so many warm-up steps."""
+        """A pool whose replica knows this, after this many warm-up steps."""
         pool = Pool(self.frames, known)
         pool.warm(steps)
         return pool
@@ -142,7 +142,7 @@ class Takeover:
         return pool
 
     def is_near(self, hits: int, place: int) -> bool:
-        """Whether so many hits in a block are within a hundredth of the primary's ratio, or above."""
+        """Whether this many hits in a block are within a hundredth of the primary's ratio, or above."""
         return 100 * (self.found["primary"][place] - hits) <= RATIO_OVER
 
     def steps_needed(self) -> str:

@@ -6,7 +6,7 @@ from typing import Iterable, Iterator
 from fault import Fault
 
 MAX_PAGES = 1_048_576  # pages that one device of a setup can have
-SCAN_SHARE = 4  # a scan goes over at least one of so many pages of the trace
+SCAN_SHARE = 4  # a scan goes over at least a quarter of the trace's pages
 
 
 @dataclass(frozen=True)
@@ -20,7 +20,7 @@ class Access:
 
 @dataclass(frozen=True)
 class Trace:
-    """All accesses of a trace. Its pages are numbered anew from 0, in their order, so that a device has no others."""
+    """All accesses of a trace. Its pages are numbered again from 0, in their order, so that a device has no others."""
 
     name: str
     accesses: list[Access]

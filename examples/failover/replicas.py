@@ -50,7 +50,7 @@ class Replica:
         self.player.ask([f"deliver {self.number} {frame}" for frame in frames])
 
     def warm_up(self, steps: int) -> tuple[int, float]:
-        """So many WarmSteps: how many loaded a page, and how many seconds they took.
+        """This many WarmSteps: how many loaded a page, and how many seconds they took.
 
         Their answers name no slot, so each page that was loaded is then pinned once, and its slot has been seen.
         """
@@ -64,7 +64,7 @@ class Replica:
     def load_dump(self, dump: list[Access]) -> tuple[int, float]:
         """Loads the pages of a dump in its order: how many, and how many seconds it took.
 
-        Each is referenced once, with the time of its last use: that is what the order of the dump tells.
+        Each is referenced once, with the time of its last use: that is what the order of the dump says.
         """
         begin = time.perf_counter()
         self.player.ask([line for access in dump for line in self._reference_lines(access)])

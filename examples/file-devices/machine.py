@@ -54,7 +54,7 @@ def mount(source: str, target: Path, kind: str | None, flags: int, options: str 
 
 
 def small_memory(target: Path, size: int) -> None:
-    """A file system of so many bytes, in memory."""
+    """A file system of this many bytes, in memory."""
     target.mkdir()
     mount("tmpfs", target, "tmpfs", 0, f"size={size}")
 
@@ -66,7 +66,7 @@ def read_only(file: Path) -> None:
 
 
 def fill(folder: Path) -> Path:
-    """Takes all the room that the file system has left, by a file, which it gives."""
+    """Takes all the space that the file system has left, by a file, which it gives."""
     filler = folder / "filler"
     with filler.open("wb", buffering=0) as file:
         try:
@@ -85,8 +85,8 @@ def run(command: list[str]) -> None:
 
 
 def failing_disk(target: Path, store: Path) -> Callable[[], None]:
-    """A file system on a disk that is a file of the folder `store`, and has less room there than it says. What is given mounts
-    it anew, so that nothing is read but what the disk has."""
+    """A file system on a disk that is a file of the folder `store`, and has less space there than it says. What is given mounts
+    it again, so that nothing is read but what the disk has."""
     for tool in ["mkfs.ext2", "mount", "umount"]:
         if not shutil.which(tool):
             raise Missing(f"no {tool}")
@@ -94,7 +94,7 @@ def failing_disk(target: Path, store: Path) -> Callable[[], None]:
     with image.open("wb") as file:
         file.truncate(16 << 20)
     target.mkdir()
-    # blocks as large as the pieces in which the folder gives room away
+    # blocks as large as the pieces in which the folder gives space away
     run(["mkfs.ext2", "-q", "-F", "-b", "4096", str(image)])
     mount_it = ["mount", "-o", "loop", str(image), str(target)]
     run(mount_it)

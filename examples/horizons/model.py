@@ -1,7 +1,7 @@
 """Worlds by their definitions (docs/DEFINITIONS.md): which answer each line of a schedule has to get.
 
 The model keeps every reference for good. What a replica holds is asked of them all: those that are not before its horizon. It ranks
-pages by counting later references, and compares buckets by what they hold, and not by sums. It knows nothing of bytes: lines `put`
+pages by counting later references, and compares buckets by what they hold, and not by digests. It knows nothing of bytes: lines `put`
 and `get` are left out, and a device is how many pages it has.
 """
 
@@ -68,7 +68,7 @@ class References:
         return [entry for entry in self.entries() if bucket_of(entry[0]) == bucket]
 
     def carried(self, bucket: int, after: Page | None) -> "References":
-        """Those on the first pages of a bucket that come after this one, as many as a frame has."""
+        """Those on the first pages of a bucket that come after this one, as many as a message has."""
         pages = [page for page, _ in self.bucket(bucket) if after is None or page > after][:ENTRIES_OF_A_FRAME]
         return References(self.horizon, frozenset((page, stamp) for page, stamp in self.given if page in pages))
 
@@ -99,7 +99,7 @@ class Frame:
 
 @dataclass
 class Sums:
-    """A sent frame that offers a history: its horizon, and what each bucket holds."""
+    """A message that offers a history: its horizon, and what each bucket holds."""
 
     horizon: int
     buckets: list[list[Entry]]
@@ -107,7 +107,7 @@ class Sums:
 
 @dataclass
 class Request:
-    """A sent frame that asks for buckets."""
+    """A message that requests buckets."""
 
     horizon: int
     buckets: list[int]
@@ -146,7 +146,7 @@ class Replica:
         return frame
 
     def buckets(self, wanted: list[int]) -> list[Sent]:
-        """What is sent of these buckets, in frames that are as full as can be."""
+        """What is sent of these buckets, in messages that are as full as can be."""
         sent: list[Sent] = []
         for bucket in wanted:
             part = self.reach.carried(bucket, None)
@@ -156,7 +156,7 @@ class Replica:
         return sent
 
     def answers(self, frame: Sent) -> list[Sent]:
-        """What is answered to a frame, once its references and its horizon were taken in."""
+        """What is answered to a message, once its references and its horizon were taken in."""
         if isinstance(frame, Request):
             return self.buckets(frame.buckets)
         if isinstance(frame, References):
@@ -168,7 +168,7 @@ class Replica:
 
 
 class World:
-    """Replicas, and every frame that was sent."""
+    """Replicas, and every message that was sent."""
 
     def __init__(self, replicas: int, workers: int, buffer: int, frames: int, devices: list[int]) -> None:
         self.replicas = [Replica(workers, frames) for _ in range(replicas)]

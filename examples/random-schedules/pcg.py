@@ -1,5 +1,5 @@
 #!/usr/bin/env python3
-"""Schedules drawn at random, written anew from the published description of PCG32 and from docs/FORMATS.md.
+"""Schedules drawn at random, written independently from the published description of PCG32 and from docs/FORMATS.md.
 
     pcg.py SEED EVENTS REPLICAS WORKERS
 

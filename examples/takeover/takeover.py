@@ -7,12 +7,12 @@ usage: takeover.py setup                prints the setup of the two replicas
 
 Each line of the trace (`r PAGE` or `w PAGE`) is one access, and the number of its line its time. Up to TAKEOVER replica 1, the
 primary, makes all accesses: a reference, a pin, a read or a write of eight bytes, an unpin. After every ROUND accesses it forgets
-all references before the last KEPT, and replica 2, the standby, hears of the others, and of that horizon, by sums and requests. At
-the takeover it lists the hottest pages and loads them; then it makes the accesses itself, while the primary restarts and hears the
-standby in its turn.
+all references before the last KEPT, and replica 2, the standby, receives the others, and that horizon, by digests and requests. At
+the takeover it lists the hottest pages and loads them; then it makes the accesses itself, while the primary restarts and receives
+what the standby knows.
 
 The answers come from a model of the two replicas that shares no code with warmplay: page histories in a dictionary, a horizon
-before which each of them holds no stamp, the victim found by comparing all frames, and sums compared by comparing the entries
+before which each of them holds no stamp, the victim found by comparing all frames, and digests compared by comparing the entries
 themselves.
 """
 
@@ -117,7 +117,7 @@ class Replica:
     def bucket(self, bucket: int) -> list[tuple[int, tuple[Stamp, ...]]]:
         return [(p, self.history[p]) for p in sorted(self.history) if p % BUCKETS == bucket]
 
-    def sums(self) -> list[list[tuple[int, tuple[Stamp, ...]]]]:
+    def digests(self) -> list[list[tuple[int, tuple[Stamp, ...]]]]:
         buckets: list[list[tuple[int, tuple[Stamp, ...]]]] = [[] for _ in range(BUCKETS)]
         for page in sorted(self.history):
             buckets[page % BUCKETS].append((page, self.history[page]))
@@ -134,8 +134,8 @@ class Replica:
 
 
 class World:
-    """Two replicas, and every frame that was sent: what it is, the sender's horizon, and entries, sums or the buckets that a request
-    names."""
+    """Two replicas, and every message that was sent: what it is, the sender's horizon, and entries, digests or the buckets that a
+    request names."""
 
     def __init__(self) -> None:
         self.replicas = {1: Replica(1), 2: Replica(2)}
@@ -153,7 +153,7 @@ class World:
 
     def offer(self, i: int) -> Step:
         replica = self.replicas[i]
-        return f"offer {i}", [f"frame {self.keep('sums', replica, replica.sums())}"]
+        return f"offer {i}", [f"frame {self.keep('digests', replica, replica.digests())}"]
 
     def deliver(self, j: int, number: int) -> Step:
         replica = self.replicas[j]
@@ -166,7 +166,7 @@ class World:
         elif kind == "request":
             self.answer_buckets(replica, content)
         else:
-            differing = [b for b, (mine, theirs) in enumerate(zip(replica.sums(), content)) if mine != theirs]
+            differing = [b for b, (mine, theirs) in enumerate(zip(replica.digests(), content)) if mine != theirs]
             if differing:
                 self.answer_buckets(replica, differing)
                 self.keep("request", replica, differing)
@@ -174,7 +174,7 @@ class World:
         return f"deliver {j} {number}", [f"took {count} from {before + 1}" if count else "took 0"]
 
     def gossip_round(self, i: int, j: int) -> Iterator[Step]:
-        """i offers its sums to j, and both hear what they lack: afterwards both have the history of both."""
+        """i offers its digests to j, and both receive what they lack: afterwards both have the history of both."""
         yield self.offer(i)
         offered = len(self.sent)
         yield self.deliver(j, offered)
@@ -270,7 +270,7 @@ def steps(path: str) -> Iterator[Step]:
     yield world.flush(2)
     yield world.horizon(2, END - KEPT)
     yield world.victim(2)
-    # the one that was the primary was told nothing since its restart
+    # nothing has reached the former primary since its restart
     yield world.show(1)
     yield from world.gossip_round(2, 1)
     yield world.show(1)

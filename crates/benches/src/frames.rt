@@ -1,7 +1,7 @@
 //! Encodes and decodes a full frame, digests the buckets of a history of 100,000 pages, and decodes a stream of frames that
 //! comes in pieces.
 //!
-//! With no word each is done once, and what came out is printed. With a number each is done so many times, and the
+//! With no word each is done once, and what came out is printed. With a number each is done that many times, and the
 //! nanoseconds are printed too, for `bench/frames/measure.py`; the stream is then of 1000 frames.
 ghost use Rattle.std.specs.Prelude.{◌<◌};
 
@@ -24,7 +24,7 @@ const STREAM: u64 = 1000;
 
 const PIECES: [usize; 4] = [1, 64, 4_096, 65_536];
 
-// A history of so many pages, whose numbers are so far apart, with two stamps each.
+// A history of this many pages, whose numbers are `apart` from one another, with two stamps each.
 fn history_of(alloc: Global, replica: ReplicaId, pages: u32, apart: u32) -> Result<History> {
     let Ok(mut batch) = Vec::with_capacity(alloc, 2 * pages as usize) else {
         bail!("no memory")
@@ -73,7 +73,7 @@ fn encoded(alloc: Global, frame: &Message) -> Result<Vec<u8>> {
     }
 }
 
-// The bytes of so many encodings, one after the other.
+// The bytes of the last of `rounds` encodings.
 fn encode_often(alloc: Global, frame: &Message, rounds: u64) -> Result<Vec<u8>> {
     let mut bytes = encoded(alloc, frame)?;
     for _ in 1..rounds {
@@ -82,7 +82,7 @@ fn encode_often(alloc: Global, frame: &Message, rounds: u64) -> Result<Vec<u8>> 
     Ok(bytes)
 }
 
-// How many entries were decoded in so many rounds.
+// How many entries were decoded in all rounds.
 fn decode_often(alloc: Global, bytes: &[u8], rounds: u64) -> Result<u64> {
     let mut count = 0u64;
     for _ in 0..rounds {
@@ -96,8 +96,8 @@ fn decode_often(alloc: Global, bytes: &[u8], rounds: u64) -> Result<u64> {
     Ok(count)
 }
 
-// The sum of bucket 0, taken in so many rounds.
-fn sum_often(alloc: Global, history: &History, rounds: u64) -> Result<[u8; 32]> {
+// The digest of bucket 0, taken in each of the rounds.
+fn digest_often(alloc: Global, history: &History, rounds: u64) -> Result<[u8; 32]> {
     let Some(bucket) = Bucket::new(0) else {
         bail!("0 is a bucket")
     };
@@ -111,7 +111,7 @@ fn sum_often(alloc: Global, history: &History, rounds: u64) -> Result<[u8; 32]> 
     Ok(first)
 }
 
-// So many frames with these bytes, one after the other.
+// `frames` frames with these bytes, one after the other.
 fn stream_of(alloc: Global, bytes: &[u8], frames: u64) -> Result<Vec<u8>> {
     let mut stream = Vec::new(alloc);
     for _ in 0..frames {
@@ -148,7 +148,7 @@ fn feed_all(decoder: &mut Decoder, piece: &[u8]) -> Option<u64> {
     Some(count)
 }
 
-// How many entries a stream has that comes in pieces of so many bytes.
+// How many entries a stream has that comes in pieces of `size` bytes.
 fn feed_in_pieces(alloc: Global, stream: &[u8], size: usize) -> Option<u64>
     requires { 0 < size }
 {
@@ -160,7 +160,7 @@ fn feed_in_pieces(alloc: Global, stream: &[u8], size: usize) -> Option<u64>
     Some(count)
 }
 
-// The bytes of a full frame, encoded so often, and how long that took.
+// The bytes of a full frame, encoded `often` times, and how long that took.
 fn time_encoding(rt: &HostRuntime, sender: ReplicaId, often: u64) -> Result<(Vec<u8>, Duration)> {
     let frame = full_frame(rt.alloc(), sender)?;
     let start = Instant::now(rt)?;
@@ -169,27 +169,28 @@ fn time_encoding(rt: &HostRuntime, sender: ReplicaId, often: u64) -> Result<(Vec
     Ok((bytes, spent))
 }
 
-// How many entries bytes have, decoded so often, and how long that took.
+// How many entries bytes have, decoded `often` times, and how long that took.
 fn time_decoding(rt: &HostRuntime, bytes: &[u8], often: u64) -> Result<(u64, Duration)> {
     let start = Instant::now(rt)?;
     let count = decode_often(rt.alloc(), bytes, often)?;
     Ok((count, start.elapsed(rt)?))
 }
 
-// The first sum of a history, taken so often, and how long that took.
-fn time_summing(rt: &HostRuntime, sender: ReplicaId, often: u64) -> Result<([u8; 32], Duration)> {
+// The first digest of a history, taken `often` times, and how long that took.
+fn time_digesting(rt: &HostRuntime, sender: ReplicaId, often: u64) -> Result<([u8; 32], Duration)> {
     let history = history_of(rt.alloc(), sender, MANY, 1)?;
     let start = Instant::now(rt)?;
-    let first = sum_often(rt.alloc(), &history, often)?;
+    let first = digest_often(rt.alloc(), &history, often)?;
     let spent = start.elapsed(rt)?;
     Ok((first, spent))
 }
 
-// Encodes and decodes a full frame, and digests a history: so often, and says what came out. Gives the frame's bytes.
+// Encodes and decodes a full frame, and digests a history, each `rounds` times or once, and prints what came out. Gives the frame's
+// bytes.
 fn time_whole(rt: &HostRuntime, rounds: Option<u64>) -> Result<Vec<u8>> {
     let sender = replica(1)?;
     let often = rounds.unwrap_or(1);
-    let (first, summing) = time_summing(rt, sender, often)?;
+    let (first, digesting) = time_digesting(rt, sender, often)?;
     let (bytes, encoding) = time_encoding(rt, sender, often)?;
     let (count, decoding) = time_decoding(rt, &bytes, often)?;
     println!(rt; "encode: {} bytes {}", bytes.len(), added_bytes(0, &bytes))?;
@@ -200,13 +201,13 @@ fn time_whole(rt: &HostRuntime, rounds: Option<u64>) -> Result<Vec<u8>> {
             "{} {} {} ns",
             encoding.as_nanos(),
             decoding.as_nanos(),
-            summing.as_nanos()
+            digesting.as_nanos()
         )?;
     }
     Ok(bytes)
 }
 
-// Decodes a stream of frames with these bytes, in pieces of each size, and says what came out.
+// Decodes a stream of frames with these bytes, in pieces of each size, and prints what came out.
 fn time_pieces(rt: &HostRuntime, bytes: &[u8], timed: bool) -> Result<()> {
     let frames = if timed { STREAM } else { 1 };
     let stream = stream_of(rt.alloc(), bytes, frames)?;

@@ -1,16 +1,16 @@
-//! Measures a round of gossip between two replicas, a replica's offer of its digests, a standby's warm-up, and the room that a
+//! Measures a round of gossip between two replicas, a replica's offer of its digests, a standby's warm-up, and the memory that a
 //! history takes.
 //!
 //! With no word each is done once, small, and what came out is printed. For `bench/gossip/measure.py` the
 //! nanoseconds are printed too:
-//! - `round PAGES BUCKETS ROUNDS`: that many rounds between replicas that know the same pages, and differ in so many
-//!   buckets before each round. Frames go as bytes.
-//! - `offer PAGES BUCKETS OFFERS`: that many offers by a replica that knows so many pages, before each of which it hears
-//!   of a page in each of so many buckets, which is not timed.
-//! - `raised PAGES OFFERS`: that many offers by a replica that knows so many pages, each right after a raise of its horizon that
+//! - `round PAGES BUCKETS ROUNDS`: that many rounds between replicas that know the same pages, and differ in that many
+//!   buckets before each round. Messages go as bytes.
+//! - `offer PAGES BUCKETS OFFERS`: that many offers by a replica that knows that many pages, before each of which it hears
+//!   of a page in each of that many buckets, which is not timed.
+//! - `raised PAGES OFFERS`: that many offers by a replica that knows that many pages, each right after a raise of its horizon that
 //!   drops 100 pages of one bucket and nothing else. The offers alone are timed.
-//! - `warm PAGES STEPS`: that many steps of the warm-up of a replica that knows so many pages, into 4,096 frames.
-//! - `history PAGES`: a replica is told of so many pages.
+//! - `warm PAGES STEPS`: that many steps of the warm-up of a replica that knows that many pages, into 4,096 frames.
+//! - `history PAGES`: a replica takes in references to that many pages.
 use crate::parts::{added, added_bytes, node_over, replica, scattered, twice};
 use anyhow::{Context, Result, bail};
 use std::alloc::Global;
@@ -32,18 +32,21 @@ const DROPPED: u64 = 100;
 // What came out, and how long it took.
 #[derive(Clone, Copy)]
 struct Made {
-    sum: u64,
+    checksum: u64,
     nanos: u128,
 }
 
-const NOTHING: Made = Made { sum: 0, nanos: 0 };
+const NOTHING: Made = Made {
+    checksum: 0,
+    nanos: 0,
+};
 
 // A refusal as an error of this program.
 fn refused<T>(fault: NodeFault) -> Result<T> {
     bail!("refused {} {}", fault.code(), fault.name())
 }
 
-// Two references to one page in turn of so many, a little apart, from a time on.
+// Two references to one page in turn of `pages`, a little apart, from a time on.
 fn two_in_turn(i: u32, pages: u32, from: u64, replica: ReplicaId) -> [Reference; 2] {
     let page = scattered(u64::from(i), u64::from(pages));
     let first = from.wrapping_add(u64::from(i));
@@ -62,7 +65,7 @@ fn references(alloc: Global, pages: u32, from: u64) -> Result<Vec<Reference>> {
     Ok(batch)
 }
 
-// A reference to a page of each of so many buckets, at a time.
+// A reference to a page of each of the first buckets, at a time.
 fn in_buckets(
     alloc: Global,
     replica: ReplicaId,
@@ -81,7 +84,7 @@ fn in_buckets(
     Ok(batch)
 }
 
-// References to pages of bucket 0 beyond so many pages, at a time.
+// References to pages of bucket 0 beyond the first `pages` pages, at a time.
 fn dropped_next(
     alloc: Global,
     replica: ReplicaId,
@@ -111,26 +114,26 @@ fn absorbed(node: &mut Node<MemDevice>, batch: &[Reference]) -> Result<()> {
 // The bytes of a node's digests.
 fn offered(alloc: Global, node: &mut Node<MemDevice>) -> Result<Vec<u8>> {
     match node.offer() {
-        Ok(frame) => Ok(encode(alloc, &frame)?),
+        Ok(message) => Ok(encode(alloc, &message)?),
         Err(fault) => refused(fault),
     }
 }
 
-// The bytes of each of the frames.
-fn encoded(alloc: Global, frames: &[Message]) -> Result<Vec<Vec<u8>>> {
-    let mut all = Vec::with_capacity(alloc, frames.len())?;
-    for frame in frames {
-        all.push(encode(alloc, frame)?)?;
+// The bytes of each of the messages.
+fn encoded(alloc: Global, messages: &[Message]) -> Result<Vec<Vec<u8>>> {
+    let mut all = Vec::with_capacity(alloc, messages.len())?;
+    for message in messages {
+        all.push(encode(alloc, message)?)?;
     }
     Ok(all)
 }
 
-// What a node answers to the bytes of a frame.
+// What a node answers to the bytes of a message.
 fn answered(alloc: Global, node: &mut Node<MemDevice>, bytes: &[u8]) -> Result<Vec<Vec<u8>>> {
-    let Ok(frame) = decode(alloc, bytes) else {
-        bail!("the bytes are of a frame")
+    let Ok(message) = decode(alloc, bytes) else {
+        bail!("the bytes are of a message")
     };
-    match node.receive(frame) {
+    match node.receive(message) {
         Ok(answers) => encoded(alloc, answers.as_slice()),
         Err(fault) => refused(fault),
     }
@@ -147,8 +150,8 @@ fn answers(alloc: Global, node: &mut Node<MemDevice>, sent: &[Vec<u8>]) -> Resul
 
 fn length_of(sent: &[Vec<u8>]) -> u64 {
     let mut bytes = 0u64;
-    for frame in sent {
-        bytes = bytes.wrapping_add(frame.len() as u64);
+    for message in sent {
+        bytes = bytes.wrapping_add(message.len() as u64);
     }
     bytes
 }
@@ -163,7 +166,7 @@ fn round(alloc: Global, first: &mut Node<MemDevice>, second: &mut Node<MemDevice
     Ok(sent.wrapping_add(digests.len() as u64))
 }
 
-// So many rounds. Before each the first hears of pages in so many buckets.
+// All rounds. Before each the first hears of pages in this many buckets.
 fn rounds_of(
     alloc: Global,
     first: &mut Node<MemDevice>,
@@ -188,13 +191,13 @@ fn last_time(hist: PageHist) -> u64 {
     }
 }
 
-// A sum over all entries, so that what was made is seen.
+// A checksum of all entries, so that what was made is seen.
 fn checksum_of(history: &History) -> u64 {
-    let mut sum = 0u64;
+    let mut checksum = 0u64;
     for entry in history.iter() {
-        sum = added(sum, entry.page.no).wrapping_add(last_time(entry.hist));
+        checksum = added(checksum, entry.page.no).wrapping_add(last_time(entry.hist));
     }
-    sum
+    checksum
 }
 
 fn gossiped(
@@ -211,12 +214,12 @@ fn gossiped(
     if checksum_of(first.history()) != checksum_of(second.history()) {
         bail!("the histories differ")
     }
-    let sum = checksum_of(second.history()).wrapping_add(sent);
-    Ok(Made { sum, nanos })
+    let checksum = checksum_of(second.history()).wrapping_add(sent);
+    Ok(Made { checksum, nanos })
 }
 
-// A node of the number, over a device of so many pages, that knows two references to each from a time on.
-fn told(
+// A node of the number, over a device of `pages` pages, that knows two references to each from a time on.
+fn node_of_pages(
     alloc: Global,
     number: u16,
     frames: usize,
@@ -235,12 +238,12 @@ fn rounds_over(
     buckets: u32,
     rounds: u32,
 ) -> Result<Made> {
-    let mut first = told(alloc, 1, 1, pages, 0)?;
-    let mut second = told(alloc, 2, 1, pages, 0)?;
+    let mut first = node_of_pages(alloc, 1, 1, pages, 0)?;
+    let mut second = node_of_pages(alloc, 2, 1, pages, 0)?;
     gossiped(clock, alloc, &mut first, &mut second, buckets, rounds)
 }
 
-// What was made by then, and one more offer: a sum over its bytes, and how long it took.
+// What was made by then, and one more offer: a checksum of its bytes, and how long it took.
 fn one_more(
     clock: &impl Clock,
     alloc: Global,
@@ -251,12 +254,12 @@ fn one_more(
     let bytes = offered(alloc, node)?;
     let spent = start.elapsed(clock)?.as_nanos();
     Ok(Made {
-        sum: added_bytes(made.sum, &bytes),
+        checksum: added_bytes(made.checksum, &bytes),
         nanos: made.nanos.wrapping_add(spent),
     })
 }
 
-// So many offers of a node that hears of a page in each of so many buckets before each.
+// The offers of a node that hears of a page in each of this many buckets before each.
 fn offers_of(
     clock: &impl Clock,
     alloc: Global,
@@ -281,13 +284,13 @@ fn offers_over(
     buckets: u32,
     offers: u32,
 ) -> Result<Made> {
-    let mut node = told(alloc, 1, 1, pages, 0)?;
+    let mut node = node_of_pages(alloc, 1, 1, pages, 0)?;
     // The first takes all digests.
     let _first = offered(alloc, &mut node)?;
     offers_of(clock, alloc, &mut node, buckets, offers)
 }
 
-// So many offers of a node that knows so many pages by late references. Before each it hears early ones to pages of bucket 0, makes an
+// The offers of a node that knows this many pages by late references. Before each it hears early ones to pages of bucket 0, makes an
 // offer, and forgets them.
 fn raised_offers_of(
     clock: &impl Clock,
@@ -309,36 +312,36 @@ fn raised_offers_of(
 }
 
 fn raised_offers_over(clock: &impl Clock, alloc: Global, pages: u32, offers: u32) -> Result<Made> {
-    let mut node = told(alloc, 1, 1, pages, LATE)?;
+    let mut node = node_of_pages(alloc, 1, 1, pages, LATE)?;
     // The first takes all digests.
     let _first = offered(alloc, &mut node)?;
     raised_offers_of(clock, alloc, &mut node, pages, offers)
 }
 
-// So many steps of a node's warm-up, and a sum over the pages that came in, in their order.
+// The steps of a node's warm-up, and a checksum of the pages that came in, in their order.
 fn warm_steps(node: &mut Node<MemDevice>, steps: u32) -> Result<u64> {
-    let mut sum = 0u64;
+    let mut checksum = 0u64;
     for _ in 0..steps {
         match node.warm_step() {
             Ok(Some(page)) => {
-                sum = added(sum, page.no);
+                checksum = added(checksum, page.no);
             }
-            Ok(None) => return Ok(sum),
+            Ok(None) => return Ok(checksum),
             Err(fault) => return refused(fault),
         }
     }
-    Ok(sum)
+    Ok(checksum)
 }
 
 fn warmed(clock: &impl Clock, alloc: Global, pages: u32, steps: u32) -> Result<Made> {
-    let mut node = told(alloc, 1, WARMED, pages, 0)?;
+    let mut node = node_of_pages(alloc, 1, WARMED, pages, 0)?;
     let start = Instant::now(clock)?;
-    let sum = warm_steps(&mut node, steps)?;
+    let checksum = warm_steps(&mut node, steps)?;
     let nanos = start.elapsed(clock)?.as_nanos();
-    Ok(Made { sum, nanos })
+    Ok(Made { checksum, nanos })
 }
 
-// A node is told of so many pages, a batch at a time, so that nothing but its history takes much room.
+// A node takes in references to this many pages, a batch at a time, so that nothing but its history takes much memory.
 fn remember(node: &mut Node<MemDevice>, pages: u32) -> Result<()> {
     let replica = node.id();
     for i in 0..pages {
@@ -352,8 +355,8 @@ fn remembered(clock: &impl Clock, alloc: Global, pages: u32) -> Result<Made> {
     let start = Instant::now(clock)?;
     remember(&mut node, pages)?;
     let nanos = start.elapsed(clock)?.as_nanos();
-    let sum = checksum_of(node.history());
-    Ok(Made { sum, nanos })
+    let checksum = checksum_of(node.history());
+    Ok(Made { checksum, nanos })
 }
 
 // What is measured.
@@ -486,12 +489,12 @@ pub(crate) fn play(rt: &HostRuntime, words: &[String]) -> Result<()> {
     if words.is_empty() {
         for (what, case) in SMALL {
             let made = measured(rt, rt.alloc(), case)?;
-            println!(rt; "{}: {}", what, made.sum)?;
+            println!(rt; "{}: {}", what, made.checksum)?;
         }
         return Ok(());
     }
     let made = measured(rt, rt.alloc(), case_of(words)?)?;
-    println!(rt; "{}", made.sum)?;
+    println!(rt; "{}", made.checksum)?;
     println!(rt; "{} ns", made.nanos)?;
     Ok(())
 }

@@ -1,7 +1,7 @@
 //! Measures histories: absorbing, joining, copying, looking up, going over and raising the horizon.
 //!
 //! With no word it runs with 1,000 pages and prints what came out. With a number of pages it
-//! runs with so many, and prints the nanoseconds too, for `bench/history/measure.py`.
+//! runs with that many, and prints the nanoseconds too, for `bench/history/measure.py`.
 //!
 //! A raise is measured over a history in which each page has one stamp, of the times from the number of pages to below twice that. It
 //! is raised to the first of these times, to the middle one and past the last, each time in a copy, which is not timed.
@@ -17,7 +17,7 @@ const BATCH: usize = 64;
 
 const SMALL: usize = 1_000;
 
-// As many ranks as there are pages have about so many powers of two among them.
+// About how many powers of two there are among the ranks of this many pages.
 fn octaves_of(pages: u64) -> u64 {
     if pages < 5_000 {
         10
@@ -89,16 +89,16 @@ fn absorb_all(history: &mut History, all: &[Reference]) -> Result<()> {
     Ok(())
 }
 
-// A sum over all entries, so that what was made is seen.
+// A checksum of all entries, so that what was made is seen.
 fn checksum_of(history: &History) -> u64 {
-    let mut sum = 0u64;
+    let mut checksum = 0u64;
     for entry in history.iter() {
-        sum = added(sum, entry.page.no);
+        checksum = added(checksum, entry.page.no);
         if let PageHist::Once(stamp) = entry.hist {
-            sum = sum.wrapping_add(stamp.time);
+            checksum = checksum.wrapping_add(stamp.time);
         }
     }
-    sum
+    checksum
 }
 
 // How many of the pages drawn are there, of twice as many.
@@ -116,7 +116,7 @@ fn found_in(history: &History, pages: u64) -> u64 {
 }
 
 // Prints what was made, and in a timed run how long it took.
-fn told(rt: &HostRuntime, timed: bool, what: &str, made: u64, spent: Duration) -> Result<()> {
+fn report(rt: &HostRuntime, timed: bool, what: &str, made: u64, spent: Duration) -> Result<()> {
     println!(rt; "{what}: {made}")?;
     if timed {
         println!(rt; "{what}: {} ns", spent.as_nanos())?;
@@ -135,7 +135,7 @@ fn absorb_timed(
     let start = Instant::now(rt)?;
     absorb_all(&mut seen, references)?;
     let spent = start.elapsed(rt)?;
-    told(rt, timed, what, checksum_of(&seen), spent)?;
+    report(rt, timed, what, checksum_of(&seen), spent)?;
     Ok(seen)
 }
 
@@ -151,14 +151,14 @@ fn join_some(rt: &HostRuntime, timed: bool, large: &mut History, more: &[Entry])
     let start = Instant::now(rt)?;
     large.join_entries(0, more)?;
     let spent = start.elapsed(rt)?;
-    told(rt, timed, "join 1,000 entries", checksum_of(large), spent)
+    report(rt, timed, "join 1,000 entries", checksum_of(large), spent)
 }
 
 fn copy(rt: &HostRuntime, timed: bool, large: &History) -> Result<History> {
     let start = Instant::now(rt)?;
     let copied = large.copy()?;
     let spent = start.elapsed(rt)?;
-    told(rt, timed, "copy", checksum_of(&copied), spent)?;
+    report(rt, timed, "copy", checksum_of(&copied), spent)?;
     Ok(copied)
 }
 
@@ -172,7 +172,7 @@ fn join(
     let start = Instant::now(rt)?;
     history.join(other)?;
     let spent = start.elapsed(rt)?;
-    told(rt, timed, what, checksum_of(history), spent)
+    report(rt, timed, what, checksum_of(history), spent)
 }
 
 fn join_all(rt: &HostRuntime, timed: bool, large: &mut History) -> Result<()> {
@@ -184,13 +184,13 @@ fn join_all(rt: &HostRuntime, timed: bool, large: &mut History) -> Result<()> {
 
 fn look_up(rt: &HostRuntime, timed: bool, large: &History, pages: u64) -> Result<()> {
     let start = Instant::now(rt)?;
-    let sum = checksum_of(large);
+    let checksum = checksum_of(large);
     let spent = start.elapsed(rt)?;
-    told(rt, timed, "go over all", sum, spent)?;
+    report(rt, timed, "go over all", checksum, spent)?;
     let start = Instant::now(rt)?;
     let found = found_in(large, pages);
     let spent = start.elapsed(rt)?;
-    told(rt, timed, "look up", found, spent)
+    report(rt, timed, "look up", found, spent)
 }
 
 // Raises the horizon of a copy of a history. The raise alone is timed.
@@ -199,7 +199,7 @@ fn raise(rt: &HostRuntime, timed: bool, what: &str, whole: &History, time: u64) 
     let start = Instant::now(rt)?;
     raised.raise(time);
     let spent = start.elapsed(rt)?;
-    told(rt, timed, what, checksum_of(&raised), spent)
+    report(rt, timed, what, checksum_of(&raised), spent)
 }
 
 fn raises(rt: &HostRuntime, timed: bool, pages: u64, replica: ReplicaId) -> Result<()> {

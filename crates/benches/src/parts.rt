@@ -1,4 +1,4 @@
-//! What several benches are made of: numbers that are asked for or drawn, digests over what came out, pages, references and nodes.
+//! What several benches are made of: numbers that are asked for or drawn, checksums of what came out, pages, references and nodes.
 use anyhow::{Context, Result, bail};
 use std::alloc::Global;
 use warm_devices::MemDevice;
@@ -25,19 +25,20 @@ pub(crate) fn next(drawn: u64) -> u64 {
         .wrapping_add(1_442_695_040_888_963_407)
 }
 
-// A sum over what came out, with one more item. Digests are printed, so that what was made is seen, and tell orders apart.
-pub(crate) fn added(sum: u64, item: u64) -> u64 {
-    sum.wrapping_mul(31).wrapping_add(item)
+// A checksum of what came out, with one more item. Checksums are printed, so that what was made is seen, and differ where the order
+// does.
+pub(crate) fn added(checksum: u64, item: u64) -> u64 {
+    checksum.wrapping_mul(31).wrapping_add(item)
 }
 
-pub(crate) fn added_bytes(mut sum: u64, bytes: &[u8]) -> u64 {
+pub(crate) fn added_bytes(mut checksum: u64, bytes: &[u8]) -> u64 {
     for byte in bytes {
-        sum = added(sum, u64::from(*byte));
+        checksum = added(checksum, u64::from(*byte));
     }
-    sum
+    checksum
 }
 
-// One page in turn of so many, so that all come, in a scattered order.
+// One page in turn of `pages`, so that all come, in a scattered order.
 pub(crate) fn scattered(i: u64, pages: u64) -> PageId {
     let no = i.wrapping_mul(7919).checked_rem(pages).unwrap_or(0);
     PageId { dev: 0, no }
@@ -58,7 +59,7 @@ pub(crate) fn twice(page: PageId, replica: ReplicaId, times: [u64; 2]) -> [Refer
     })
 }
 
-// A node that knows no reference, with a pool of so many frames over a device of so many pages.
+// A node that knows no reference, with a pool of this many frames over a device of this many pages.
 pub(crate) fn node_over(
     alloc: Global,
     number: u16,

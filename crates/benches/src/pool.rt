@@ -82,7 +82,7 @@ fn visit<D: PageDevice>(
     Ok(bytes[0])
 }
 
-// Brings so many pages of a device into frames.
+// Brings the first pages of a device into frames.
 fn load_pages<D: PageDevice>(
     pool: &mut Pool<D>,
     history: &History,
@@ -122,8 +122,8 @@ fn load_apart<D: PageDevice>(pool: &mut Pool<D>, history: &History) -> Result<()
     Ok(())
 }
 
-// Looks at the pages from the number of frames up to another, and gives the sum of what was read. Where the first pages are in
-// the frames and ranks rise, none of these is, and the page of the least number leaves.
+// Looks at the pages from the number of frames up to another, and gives a checksum of what was read. Where the first pages are
+// in the frames and ranks rise, none of these is, and the page of the least number leaves.
 fn miss_often<D: PageDevice>(
     pool: &mut Pool<D>,
     history: &History,
@@ -132,15 +132,15 @@ fn miss_often<D: PageDevice>(
     requires { RankedBy pool.old history.now }
     ensures { RankedBy pool.new history.now }
 {
-    let mut sum = 0u64;
+    let mut checksum = 0u64;
     for no in FRAMES..pages {
         let byte = look_at(pool, history, no)?;
-        sum = added(sum, u64::from(byte));
+        checksum = added(checksum, u64::from(byte));
     }
-    Ok(sum)
+    Ok(checksum)
 }
 
-// Makes so many visits to pages that a linear congruence draws, and gives the sum of what was read.
+// Visits pages that a linear congruence draws, and gives a checksum of what was read.
 fn visit_often<D: PageDevice>(
     pool: &mut Pool<D>,
     history: &History,
@@ -150,17 +150,17 @@ fn visit_often<D: PageDevice>(
     ensures { RankedBy pool.new history.now }
 {
     let mut drawn = 1u64;
-    let mut sum = 0u64;
+    let mut checksum = 0u64;
     for _ in 0..visits {
         drawn = next(drawn);
         let no = drawn >> 48;
         let byte = visit(pool, history, no, ((drawn >> 40) % 256) as u8)?;
-        sum = added(sum, u64::from(byte));
+        checksum = added(checksum, u64::from(byte));
     }
-    Ok(sum)
+    Ok(checksum)
 }
 
-// A device of so many pages for a pool.
+// A device of this many pages for a pool.
 fn paged(alloc: Global, pages: u64) -> Result<MemDevice> {
     Ok(MemDevice::new(alloc, pages, PAGE_SIZE)?)
 }
@@ -186,7 +186,7 @@ fn opened<D: PageDevice>(alloc: Global, frames: u64, first: D, second: D) -> Res
     }
 }
 
-// The sum of what so many visits read, and the time that they took.
+// A checksum of what the visits read, and the time that they took.
 fn visits_of<D: PageDevice>(
     clock: &impl Clock,
     pool: &mut Pool<D>,
@@ -199,10 +199,10 @@ fn visits_of<D: PageDevice>(
         bail!("a page was not loaded")
     };
     let start = Instant::now(clock)?;
-    let Ok(sum) = visit_often(pool, history, visits) else {
+    let Ok(checksum) = visit_often(pool, history, visits) else {
         bail!("a visit was refused")
     };
-    Ok((sum, start.elapsed(clock)?))
+    Ok((checksum, start.elapsed(clock)?))
 }
 
 // Visits over two devices. A pool over boxes can be named by no type, so that it lives here.
@@ -234,7 +234,7 @@ fn visited(
     }
 }
 
-// What is known of so many pages: of each two references, so that ranks rise with the pages.
+// What is known of this many pages: of each two references, so that ranks rise with the pages.
 fn references(alloc: Global, pages: u64) -> Result<History> {
     let replica = replica(1)?;
     let mut history = History::new(alloc);
@@ -259,7 +259,7 @@ fn fill(device: &mut MemDevice, no: u64) -> Result<()> {
     }
 }
 
-// A device of so many pages, all of them filled.
+// A device of this many pages, all of them filled.
 fn numbered(alloc: Global, pages: u64) -> Result<MemDevice> {
     let mut device = paged(alloc, pages)?;
     for no in 0..pages {
@@ -268,7 +268,7 @@ fn numbered(alloc: Global, pages: u64) -> Result<MemDevice> {
     Ok(device)
 }
 
-// The sum of what so many pins with misses read, and the time that they took.
+// A checksum of what the pins with misses read, and the time that they took.
 fn misses_of<D: PageDevice>(
     clock: &impl Clock,
     pool: &mut Pool<D>,
@@ -281,10 +281,10 @@ fn misses_of<D: PageDevice>(
         bail!("a page was not loaded")
     };
     let start = Instant::now(clock)?;
-    let Ok(sum) = miss_often(pool, history, pages) else {
+    let Ok(checksum) = miss_often(pool, history, pages) else {
         bail!("a pin was refused")
     };
-    Ok((sum, start.elapsed(clock)?))
+    Ok((checksum, start.elapsed(clock)?))
 }
 
 // Misses over two devices, of which the first has the pages.
@@ -364,7 +364,7 @@ fn retire(pool: &mut Pool<MemDevice>, dev: u16, another: MemDevice) -> Result<()
     }
 }
 
-// Writes to so much memory that nothing of a pool is left in a core's own cache: a pool that restarts was not gone over just before, and
+// Writes to enough memory that nothing of a pool is left in a core's own cache: a pool that restarts was not gone over just before, and
 // a small one would else be found there, and a large one not.
 fn write_beside(alloc: Global) -> Result<()> {
     let beside = Vec::from_elem(alloc, 1u8, BESIDE)?;
@@ -428,10 +428,10 @@ fn timed(
 // Does a little of all that is measured.
 fn play_small(rt: &HostRuntime) -> Result<()> {
     for place in [Place::Named, Place::Boxed] {
-        let (sum, _) = visited(rt, rt.alloc(), place, 1_000)?;
-        println!(rt; "1000 visits: {}", sum)?;
-        let (sum, _) = missed(rt, rt.alloc(), place, 1_000)?;
-        println!(rt; "1000 misses: {}", sum)?;
+        let (checksum, _) = visited(rt, rt.alloc(), place, 1_000)?;
+        println!(rt; "1000 visits: {}", checksum)?;
+        let (checksum, _) = missed(rt, rt.alloc(), place, 1_000)?;
+        println!(rt; "1000 misses: {}", checksum)?;
     }
     timed(rt, rt.alloc(), 4_096, Held::UpperHalf, Call::Empty)?;
     println!(rt; "4096 frames emptied")?;
@@ -441,7 +441,7 @@ fn play_small(rt: &HostRuntime) -> Result<()> {
 }
 
 // Says what visits or misses read, and the time that they took.
-fn tell(rt: &HostRuntime, count: u64, what: &str, read: (u64, Duration)) -> Result<()> {
+fn print_read(rt: &HostRuntime, count: u64, what: &str, read: (u64, Duration)) -> Result<()> {
     println!(rt; "{} {}: {}", count, what, read.0)?;
     println!(rt; "{} ns", read.1.as_nanos())?;
     Ok(())
@@ -450,13 +450,13 @@ fn tell(rt: &HostRuntime, count: u64, what: &str, read: (u64, Duration)) -> Resu
 fn play_visits(rt: &HostRuntime, place: Place, visits: &str) -> Result<()> {
     let visits = visits.parse::<u64>().context("the number of visits")?;
     let read = visited(rt, rt.alloc(), place, visits)?;
-    tell(rt, visits, "visits", read)
+    print_read(rt, visits, "visits", read)
 }
 
 fn play_misses(rt: &HostRuntime, place: Place, misses: &str) -> Result<()> {
     let misses = misses.parse::<u64>().context("the number of misses")?;
     let read = missed(rt, rt.alloc(), place, misses)?;
-    tell(rt, misses, "misses", read)
+    print_read(rt, misses, "misses", read)
 }
 
 fn play_call(rt: &HostRuntime, call: Call, frames: &str, held: &str) -> Result<()> {

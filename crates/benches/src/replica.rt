@@ -1,7 +1,7 @@
 //! Counts references that workers bring to one replica: each touches and flushes, in a thread of its own.
 //!
-//! With no word 1, 2 and 4 workers bring 1,000 references each, to 100 pages, and the sum of the hottest pages is
-//! printed. With three numbers, `WORKERS REFERENCES PAGES`, 1, 2 or 4 workers bring so many each to so many pages, and
+//! With no word 1, 2 and 4 workers bring 1,000 references each, to 100 pages, and a checksum of the hottest pages is
+//! printed. With three numbers, `WORKERS REFERENCES PAGES`, 1, 2 or 4 workers bring that many each to that many pages, and
 //! the nanoseconds are printed too, for `bench/replica/measure.py`.
 ghost use Rattle.std.specs.Prelude.{◌≡◌};
 ghost use Rattle.std.specs.Thread.{IsSend, IsSync};
@@ -23,10 +23,10 @@ use warm_turn::{Pass, Turn};
 // How many references a worker's buffer holds.
 const BUFFER: usize = 64;
 
-// How many of the hottest pages are digested.
+// Of how many of the hottest pages a checksum is taken.
 const HOTTEST: usize = 1_000;
 
-// How many pages the device has that the node stands over.
+// How many pages the node's device has.
 const DEVICE_PAGES: u64 = 8;
 
 // The reference of a worker's `i`th turn, to the page drawn.
@@ -39,8 +39,8 @@ fn reference(replica: ReplicaId, worker: u64, i: u64, drawn: u64, pages: u64) ->
     }
 }
 
-// Touches so many references to so many pages, and flushes whenever the buffer is full and at the end. Says how many flushes were
-// refused.
+// Touches this many references to this many pages, and flushes whenever the buffer is full and at the end. Says how many flushes
+// were refused.
 fn bring<M: Absorbing, R: Wait>(
     rt: &R,
     alloc: Global,
@@ -167,16 +167,16 @@ fn bring_four<M: Absorbing + Send, R: Threads + Wait + AllocGlobal + Sync>(
     (pass, first.wrapping_add(second))
 }
 
-// A sum over the numbers of the hottest pages, so that what was brought is seen.
+// A checksum of the numbers of the hottest pages, so that what was brought is seen.
 fn checksum_of(pages: &[PageId]) -> u64 {
-    let mut sum = 0u64;
+    let mut checksum = 0u64;
     for page in pages {
-        sum = added(sum, page.no);
+        checksum = added(checksum, page.no);
     }
-    sum
+    checksum
 }
 
-// The sum of the hottest pages after so many workers brought their references, and how long they took.
+// A checksum of the hottest pages after the workers brought their references, and how long they took.
 fn brought<R: Threads + Wait + Clock + AllocGlobal + Sync>(
     rt: &R,
     node: Node<MemDevice>,
@@ -222,16 +222,16 @@ pub(crate) fn play<R: Threads + Wait + Clock + Print + AllocGlobal + Sync>(
         asked.push(word.parse::<u64>().context("a number")?)?;
     }
     if let [workers, references, pages] = asked.as_slice() {
-        let (sum, spent) = run(rt, *workers, *references, *pages)?;
-        println!(rt; "workers {workers}: {sum} in {} ns", spent.as_nanos())?;
+        let (checksum, spent) = run(rt, *workers, *references, *pages)?;
+        println!(rt; "workers {workers}: {checksum} in {} ns", spent.as_nanos())?;
         return Ok(());
     }
     if !asked.is_empty() {
         bail!("replica takes three numbers, of workers, of the references of each and of pages")
     }
     for workers in [1, 2, 4] {
-        let (sum, _) = run(rt, workers, 1_000, 100)?;
-        println!(rt; "workers {workers}: {sum}")?;
+        let (checksum, _) = run(rt, workers, 1_000, 100)?;
+        println!(rt; "workers {workers}: {checksum}")?;
     }
     Ok(())
 }

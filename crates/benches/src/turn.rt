@@ -1,7 +1,7 @@
 //! Counts turns: a counter behind one turn, called by one pass, and by 2, 4 and 8 threads at once.
 //!
 //! With no word each thread takes 1,000 turns, and the totals are printed. With two numbers,
-//! `THREADS TURNS`, 1, 2, 4 or 8 threads take so many turns each, and the nanoseconds are printed
+//! `THREADS TURNS`, 1, 2, 4 or 8 threads take that many turns each, and the nanoseconds are printed
 //! too, for `bench/turn/measure.py`.
 ghost use Rattle.std.specs.Prelude.{◌≡◌};
 ghost use Rattle.std.specs.Thread.{IsSend, IsSync};
@@ -14,7 +14,7 @@ use std::thread::{Threads, join};
 use std::time::{Clock, Instant};
 use warm_turn::{Add, Added, Counter, Machine, Pass, Turn};
 
-// Takes so many turns.
+// Takes this many turns.
 fn add_ones<M: Machine<Call = Add, Reply = Added>, R: Wait>(
     rt: &R,
     turn: &Turn<M>,
@@ -30,7 +30,7 @@ fn add_ones<M: Machine<Call = Add, Reply = Added>, R: Wait>(
     pass
 }
 
-// Two threads take so many turns each, and their passes are ended into this one.
+// Two threads take this many turns each, and their passes are ended into this one.
 fn add_in_two<M: Machine<Call = Add, Reply = Added> + Send, R: Threads + Wait + Sync>(
     rt: &R,
     turn: &Turn<M>,
@@ -119,7 +119,7 @@ enum Crowd {
 const CROWDS: [Crowd; 4] = [Crowd::One, Crowd::Two, Crowd::Four, Crowd::Eight];
 
 impl Crowd {
-    // The crowd of so many threads.
+    // The crowd of this many threads.
     fn of(threads: &str) -> Result<Crowd> {
         match threads {
             "1" => Ok(Crowd::One),

@@ -1,7 +1,7 @@
 //! Reads bytes that may be frames, whole and in pieces, and says what came of them.
 //!
 //! Each line of standard input is a number and bytes in hexadecimal. For each a line is printed: what `decode` answers to the
-//! bytes; then, behind `|`, what a `Decoder` answers that is fed pieces of so many bytes, and what it says of the end. A frame is
+//! bytes; then, behind `|`, what a `Decoder` answers that is fed pieces of that many bytes, and what it says of the end. A frame is
 //! printed with its fields except the horizon, and with `same` where `encode` gives the bytes that it was read from, horizon included:
 //! those of a frame of the format `L2G2`. A frame of `L2G1`, which is only read, is `other`. `examples/damaged-frames/check` compares
 //! with a reader of its own.

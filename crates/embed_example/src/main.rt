@@ -1,8 +1,8 @@
 //! Two replicas of a database in one program, each with a buffer pool of its own over a device in memory.
 //!
-//! The primary absorbs references to pages. Frames, handed over as bytes, bring them to the standby, until both histories are equal.
+//! The primary absorbs references to pages. Messages, passed as bytes, bring them to the standby, until both histories are equal.
 //! The standby loads the hottest pages before it takes over; then a page is pinned, written to and unpinned, and the standby ends in
-//! an orderly way. Each refusal is an error, and `?` hands it on.
+//! an orderly way. Each refusal is an error, and `?` returns it.
 #![tactic(auto)]
 
 use anyhow::{Result, bail};
@@ -19,7 +19,7 @@ const FRAMES: usize = 4;
 
 const PAGE_SIZE: usize = 16;
 
-// How often the replicas gossip at most. Where all frames arrive, one round makes them equal.
+// How often the replicas gossip at most. Where all messages arrive, one round makes them equal.
 const MOST_ROUNDS: u32 = 3;
 
 // A page of device 0.
@@ -55,10 +55,10 @@ fn refer(alloc: Global, node: &mut Node<MemDevice>, from: u64, pages: &[u32]) ->
     Ok(())
 }
 
-// Hands a frame's bytes to a node, and gives those of the frames that it answers.
+// Delivers a message's bytes to a node, and gives those of the messages that it answers.
 fn deliver(alloc: Global, node: &mut Node<MemDevice>, bytes: &[u8]) -> Result<Vec<Vec<u8>>> {
-    let frame = decode(alloc, bytes)?;
-    let answers = node.receive(frame)?;
+    let message = decode(alloc, bytes)?;
+    let answers = node.receive(message)?;
     let mut all = Vec::new(alloc);
     for answer in answers.as_slice() {
         all.push(encode(alloc, answer)?)?;
@@ -66,7 +66,7 @@ fn deliver(alloc: Global, node: &mut Node<MemDevice>, bytes: &[u8]) -> Result<Ve
     Ok(all)
 }
 
-// Hands each of these frames to a node, and gives the bytes of all that it answers.
+// Delivers each of these messages to a node, and gives the bytes of all that it answers.
 fn deliver_all(
     alloc: Global,
     node: &mut Node<MemDevice>,

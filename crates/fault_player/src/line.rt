@@ -19,7 +19,7 @@ pub enum Asked {
     Loads(PageId),
     /// `unpin FRAME GENERATION`
     Unpins(Slot),
-    /// `write FRAME GENERATION AT LEN BYTE`: so many times the byte.
+    /// `write FRAME GENERATION AT LEN BYTE`: the byte, `LEN` times.
     Writes(Slot, usize, usize, u8),
     /// `read FRAME GENERATION`: the whole page.
     Reads(Slot),

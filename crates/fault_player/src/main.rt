@@ -1,7 +1,7 @@
 //! Plays over devices of which one call fails, for `examples/failing-devices/check`. A read, a write and a flush are calls, counted
 //! from 1.
 //!
-//! - `play CALL FRAMES`: a schedule from standard input, as `warmplay` plays it, over one replica with one worker and so many
+//! - `play CALL FRAMES`: a schedule from standard input, as `warmplay` plays it, over one replica with one worker and this many
 //!   frames, on a device in memory of 8 pages of 16 bytes whose call of that number fails. With 0 none does.
 //! - `pools`: calls of pools from standard input, each with its answer. Pools are parted by blank lines; `src/line.rt` says how a
 //!   pool's first line says what it is over, and how calls are spelled.

@@ -78,33 +78,33 @@ fn ask(
 {
     match asked {
         Asked::Retires(dev) => retire(rt, pool, history, dev, spare),
-        Asked::Pins(page) => tell_slot(rt, pool.pin(page, history)),
-        Asked::Loads(page) => tell_slot(rt, pool.load(page, history)),
+        Asked::Pins(page) => print_slot(rt, pool.pin(page, history)),
+        Asked::Loads(page) => print_slot(rt, pool.load(page, history)),
         Asked::Unpins(slot) => unpin(rt, pool, history, slot),
         Asked::Writes(slot, at, len, byte) => write(rt, pool, history, slot, at, len, byte),
         Asked::Reads(slot) => read(rt, pool, slot),
         Asked::Shows => show(rt, pool),
-        Asked::WritesBack => tell(rt, pool.write_back_all()),
-        Asked::Empties => tell(rt, pool.empty()),
+        Asked::WritesBack => print_done(rt, pool.write_back_all()),
+        Asked::Empties => print_done(rt, pool.empty()),
         Asked::Closes => bail!("a pool is closed by its owner"),
     }
 }
 
-fn tell_fault(rt: &impl Print, fault: PoolFault) -> Result<()> {
+fn print_fault(rt: &impl Print, fault: PoolFault) -> Result<()> {
     Ok(println!(rt; "refused {} {}", fault.code(), fault.name())?)
 }
 
-fn tell(rt: &impl Print, done: Result<(), PoolFault>) -> Result<()> {
+fn print_done(rt: &impl Print, done: Result<(), PoolFault>) -> Result<()> {
     match done {
         Ok(()) => Ok(println!(rt; "ok")?),
-        Err(fault) => tell_fault(rt, fault),
+        Err(fault) => print_fault(rt, fault),
     }
 }
 
-fn tell_slot(rt: &impl Print, slot: Result<Slot, PoolFault>) -> Result<()> {
+fn print_slot(rt: &impl Print, slot: Result<Slot, PoolFault>) -> Result<()> {
     match slot {
         Ok(slot) => Ok(println!(rt; "slot {} {}", slot.index, slot.generation)?),
-        Err(fault) => tell_fault(rt, fault),
+        Err(fault) => print_fault(rt, fault),
     }
 }
 
@@ -136,7 +136,7 @@ fn write(
     }
     let bytes = [byte; 2 * PAGE_SIZE];
     let len = len.min(2 * PAGE_SIZE);
-    tell(rt, pool.write(slot, at, &bytes[..len]))
+    print_done(rt, pool.write(slot, at, &bytes[..len]))
 }
 
 fn read(rt: &impl Print, pool: &Pool<Failing>, slot: Slot) -> Result<()> {
@@ -145,7 +145,7 @@ fn read(rt: &impl Print, pool: &Pool<Failing>, slot: Slot) -> Result<()> {
     }
     let mut bytes = [0u8; PAGE_SIZE];
     if let Err(fault) = pool.read(slot, 0, &mut bytes) {
-        return tell_fault(rt, fault);
+        return print_fault(rt, fault);
     }
     print!(rt; "bytes")?;
     for byte in bytes {
@@ -188,7 +188,7 @@ fn retire(
         Err(unretired) => {
             let fault = unretired.fault;
             spare.push(unretired.device)?;
-            tell_fault(rt, fault)
+            print_fault(rt, fault)
         }
     }
 }
@@ -204,7 +204,7 @@ fn closed(rt: &impl Print, pool: Pool<Failing>, history: &History) -> Result<Opt
             Ok(None)
         }
         Err(unclosed) => {
-            tell_fault(rt, unclosed.fault)?;
+            print_fault(rt, unclosed.fault)?;
             Ok(Some(unclosed.pool))
         }
     }

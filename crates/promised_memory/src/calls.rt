@@ -18,11 +18,11 @@ pub(crate) fn opened(alloc: Global, device: MemDevice) -> Result<Node<MemDevice>
     let mut devices = Vec::with_capacity(alloc, 1)?;
     devices.push_reserved(device);
     let Ok(pool) = Pool::new(alloc, 1, 16, devices) else {
-        return Err(Ended::NoRoom);
+        return Err(Ended::NoMemory);
     };
     let mut node = Node::new(alloc, id, pool);
     if node.absorb(&[reference(id, 1), reference(id, 2)]).is_err() {
-        return Err(Ended::NoRoom);
+        return Err(Ended::NoMemory);
     }
     Ok(node)
 }
@@ -95,7 +95,7 @@ impl Made {
             return Err(Ended::Broken);
         };
         let Ok(buffer) = RefBuffer::new(alloc, 2) else {
-            return Err(Ended::NoRoom);
+            return Err(Ended::NoMemory);
         };
         let contest = Contest::new(alloc, 2)?;
         let mut history = History::new(alloc);

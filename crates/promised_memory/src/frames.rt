@@ -9,7 +9,7 @@ const NOTHING: [u8; 23] = [
 ];
 
 // Sender 2 asks for buckets 1 and 2, and has horizon 5.
-const WISH: [u8; 27] = [
+const REQUEST: [u8; 27] = [
     0x4C, 0x32, 0x47, 0x32, 3, 0, 2, 0, 0, 0, 0, 0, 0, 0, 5, 0, 0, 0, 8, 0, 0, 0, 0, 0, 0, 0, 6,
 ];
 
@@ -21,11 +21,11 @@ const DIGESTS: [u8; 19] = [
 // The same in the narrow format, which has no horizon and is only read.
 const NARROW_NOTHING: [u8; 15] = [0x4C, 0x32, 0x47, 0x31, 1, 0, 3, 0, 0, 0, 4, 0, 0, 0, 0];
 
-const NARROW_WISH: [u8; 19] = [
+const NARROW_REQUEST: [u8; 19] = [
     0x4C, 0x32, 0x47, 0x31, 3, 0, 2, 0, 0, 0, 8, 0, 0, 0, 0, 0, 0, 0, 6,
 ];
 
-const NARROW_SUMS: [u8; 11] = [0x4C, 0x32, 0x47, 0x31, 2, 0, 1, 0, 0, 8, 0];
+const NARROW_DIGESTS: [u8; 11] = [0x4C, 0x32, 0x47, 0x31, 2, 0, 1, 0, 0, 8, 0];
 
 // Whether the bytes are a frame of no entries, with this horizon.
 fn is_nothing(alloc: Global, bytes: &[u8], since: u64) -> bool {
@@ -46,17 +46,17 @@ fn narrow(met: &mut Met, alloc: Global) -> Result<(), Ended> {
         "no narrow entries are refused",
     )?;
     met.holds(
-        is_request(alloc, &NARROW_WISH, 0),
+        is_request(alloc, &NARROW_REQUEST, 0),
         "a narrow request is refused",
     )?;
     let mut bytes = [7u8; 2059];
-    bytes[..11].copy_from_slice(&NARROW_SUMS);
+    bytes[..11].copy_from_slice(&NARROW_DIGESTS);
     met.holds(is_digests(alloc, &bytes, 0), "narrow digests are refused")
 }
 
 pub(crate) fn rows(met: &mut Met, alloc: Global) -> Result<(), Ended> {
     met.holds(is_nothing(alloc, &NOTHING, 5), "no entries are refused")?;
-    met.holds(is_request(alloc, &WISH, 5), "a request is refused")?;
+    met.holds(is_request(alloc, &REQUEST, 5), "a request is refused")?;
     let mut bytes = [7u8; 2067];
     bytes[..19].copy_from_slice(&DIGESTS);
     met.holds(is_digests(alloc, &bytes, 5), "digests are refused")?;

@@ -1,7 +1,7 @@
-//! Calls that take no memory, each asked for after what it stands on was made.
+//! Calls that take no memory, each asked for after what it needs was made.
 //!
-//! `scripts/refuse-growths` runs this with all growths refused from the first, second, .. on: where the makings found room, no call
-//! after them may be refused.
+//! `scripts/refuse-growths` runs this with all allocations refused from the first, second, .. on: where there was memory for what the
+//! calls need, none of them may be refused.
 #![tactic(auto)]
 
 mod calls;
@@ -20,7 +20,7 @@ fn play(met: &mut Met, alloc: Global) -> Result<(), Ended> {
     let mut bytes = Vec::new(alloc);
     bytes.extend_from_slice(b"warm")?;
     let made = Made::new(alloc)?;
-    // from here on nothing grows
+    // from here on nothing is allocated
     calls::rows(met, &mut node, ByteList::of(bytes))?;
     made.rows(met)?;
     frames::rows(met, alloc)?;

@@ -1,5 +1,5 @@
-//! Digests of buckets, taken anew and kept.
-use crate::histories::{entries_of, told};
+//! Digests of buckets, taken again and kept.
+use crate::histories::{entries_of, history_of_pages};
 use crate::references::references;
 use refused_rows::{Ended, Met};
 use std::alloc::Global;
@@ -22,11 +22,14 @@ fn taken(met: &mut Met, alloc: Global, history: &History) -> Result<DigestTable,
 }
 
 fn renewed(met: &mut Met, alloc: Global, whole: &DigestTable) -> Result<(), Ended> {
-    let history = told(alloc, 0, 9, 10)?;
+    let history = history_of_pages(alloc, 0, 9, 10)?;
     let mut kept = Digests::new(alloc);
     let before = kept.table();
     if kept.renew(&history, 0x1FF).is_err() {
-        met.refuse(kept.table() == before, "a refused renewal changes no sum")?;
+        met.refuse(
+            kept.table() == before,
+            "a refused renewal changes no digest",
+        )?;
         met.holds(
             kept.renew(&history, 0x1FF).is_ok(),
             "a renewal is refused again",
@@ -63,7 +66,7 @@ fn absorbed(met: &mut Met, alloc: Global, whole: &DigestTable) -> Result<(), End
     if history.absorb(&batch).is_err() {
         let now = kept(met, &mut history)?;
         let same = history.history().len() == 0 && now == empty;
-        met.refuse(same, "a refused absorb changes no sum")?;
+        met.refuse(same, "a refused absorb changes no digest")?;
         met.holds(
             history.absorb(&batch).is_ok(),
             "a kept absorb is refused again",
@@ -75,7 +78,7 @@ fn absorbed(met: &mut Met, alloc: Global, whole: &DigestTable) -> Result<(), End
 
 fn joined(met: &mut Met, alloc: Global, whole: &DigestTable) -> Result<(), Ended> {
     let mut history = DigestedHistory::new(alloc);
-    let entries = entries_of(alloc, &told(alloc, 0, 9, 10)?)?;
+    let entries = entries_of(alloc, &history_of_pages(alloc, 0, 9, 10)?)?;
     if history.join_entries(0, &entries).is_err() {
         met.refuse(
             history.history().len() == 0,
@@ -101,7 +104,7 @@ fn first_known(alloc: Global) -> Result<DigestedHistory, Ended> {
 fn joined_later(met: &mut Met, alloc: Global, later: &DigestTable) -> Result<(), Ended> {
     let mut history = first_known(alloc)?;
     let before = kept(met, &mut history)?;
-    let entries = entries_of(alloc, &told(alloc, 4, 12, 20)?)?;
+    let entries = entries_of(alloc, &history_of_pages(alloc, 4, 12, 20)?)?;
     if history.join_entries(15, &entries).is_err() {
         let horizon = history.horizon();
         let now = kept(met, &mut history)?;
@@ -148,11 +151,11 @@ fn raised(met: &mut Met, alloc: Global, later: &DigestTable) -> Result<(), Ended
 }
 
 pub(crate) fn rows(met: &mut Met, alloc: Global) -> Result<(), Ended> {
-    let whole = taken(met, alloc, &told(alloc, 0, 9, 10)?)?;
+    let whole = taken(met, alloc, &history_of_pages(alloc, 0, 9, 10)?)?;
     renewed(met, alloc, &whole)?;
     absorbed(met, alloc, &whole)?;
     joined(met, alloc, &whole)?;
-    let later = taken(met, alloc, &told(alloc, 4, 12, 20)?)?;
+    let later = taken(met, alloc, &history_of_pages(alloc, 4, 12, 20)?)?;
     joined_later(met, alloc, &later)?;
     raised(met, alloc, &later)
 }

@@ -21,7 +21,12 @@ const LATER: u64 = 20;
 const BETWEEN: u64 = 15;
 
 // A history that knows the pages from `first` up to below `end` once.
-pub(crate) fn told(alloc: Global, first: u64, end: u64, time: u64) -> Result<History, Ended> {
+pub(crate) fn history_of_pages(
+    alloc: Global,
+    first: u64,
+    end: u64,
+    time: u64,
+) -> Result<History, Ended> {
     let mut history = History::new(alloc);
     history.absorb(&references(alloc, first, end, time)?)?;
     Ok(history)
@@ -46,7 +51,7 @@ fn knows(history: &History, horizon: u64, first: u64, end: u64, time: u64) -> Re
 }
 
 // Whether it is what a history of the 100 pages was.
-fn is_told(history: &History) -> Result<bool, Ended> {
+fn is_unchanged(history: &History) -> Result<bool, Ended> {
     knows(history, 0, 0, PAGES, FIRST)
 }
 
@@ -69,20 +74,20 @@ fn has_more(history: &History) -> bool {
 }
 
 fn absorb(met: &mut Met, alloc: Global) -> Result<(), Ended> {
-    let mut history = told(alloc, 0, PAGES, FIRST)?;
+    let mut history = history_of_pages(alloc, 0, PAGES, FIRST)?;
     let batch = references(alloc, OLD, MORE, LATER)?;
     if history.absorb(&batch).is_err() {
-        met.refuse(is_told(&history)?, "a refused absorb changes nothing")?;
+        met.refuse(is_unchanged(&history)?, "a refused absorb changes nothing")?;
         met.holds(history.absorb(&batch).is_ok(), "absorb is refused again")?;
     }
     met.holds(has_more(&history), "absorb takes the batch in")
 }
 
 fn join(met: &mut Met, alloc: Global) -> Result<(), Ended> {
-    let mut history = told(alloc, 0, PAGES, FIRST)?;
-    let other = told(alloc, OLD, MORE, LATER)?;
+    let mut history = history_of_pages(alloc, 0, PAGES, FIRST)?;
+    let other = history_of_pages(alloc, OLD, MORE, LATER)?;
     if history.join(&other).is_err() {
-        met.refuse(is_told(&history)?, "a refused join changes nothing")?;
+        met.refuse(is_unchanged(&history)?, "a refused join changes nothing")?;
         met.holds(history.join(&other).is_ok(), "join is refused again")?;
     }
     met.holds(has_more(&history), "join takes the other in")
@@ -90,11 +95,11 @@ fn join(met: &mut Met, alloc: Global) -> Result<(), Ended> {
 
 // The other has a greater horizon, and what is older is forgotten here too.
 fn join_raised(met: &mut Met, alloc: Global) -> Result<(), Ended> {
-    let mut history = told(alloc, 0, PAGES, FIRST)?;
-    let mut other = told(alloc, OLD, MORE, LATER)?;
+    let mut history = history_of_pages(alloc, 0, PAGES, FIRST)?;
+    let mut other = history_of_pages(alloc, OLD, MORE, LATER)?;
     other.raise(BETWEEN);
     if history.join(&other).is_err() {
-        met.refuse(is_told(&history)?, "a refused join raises nothing")?;
+        met.refuse(is_unchanged(&history)?, "a refused join raises nothing")?;
         met.holds(history.join(&other).is_ok(), "join is refused again")?;
     }
     met.holds(has_later_alone(&history)?, "join takes the horizon over")
@@ -105,17 +110,20 @@ pub(crate) fn entries_of(alloc: Global, history: &History) -> Result<Vec<Entry>,
     let mut entries = Vec::new(alloc);
     for entry in history.iter() {
         let Ok(()) = entries.push(entry) else {
-            return Err(Ended::NoRoom);
+            return Err(Ended::NoMemory);
         };
     }
     Ok(entries)
 }
 
 fn join_entries(met: &mut Met, alloc: Global) -> Result<(), Ended> {
-    let mut history = told(alloc, 0, PAGES, FIRST)?;
-    let entries = entries_of(alloc, &told(alloc, OLD, MORE, LATER)?)?;
+    let mut history = history_of_pages(alloc, 0, PAGES, FIRST)?;
+    let entries = entries_of(alloc, &history_of_pages(alloc, OLD, MORE, LATER)?)?;
     if history.join_entries(0, &entries).is_err() {
-        met.refuse(is_told(&history)?, "a refused join_entries changes nothing")?;
+        met.refuse(
+            is_unchanged(&history)?,
+            "a refused join_entries changes nothing",
+        )?;
         met.holds(
             history.join_entries(0, &entries).is_ok(),
             "join_entries is refused again",
@@ -125,10 +133,13 @@ fn join_entries(met: &mut Met, alloc: Global) -> Result<(), Ended> {
 }
 
 fn join_entries_raised(met: &mut Met, alloc: Global) -> Result<(), Ended> {
-    let mut history = told(alloc, 0, PAGES, FIRST)?;
-    let entries = entries_of(alloc, &told(alloc, OLD, MORE, LATER)?)?;
+    let mut history = history_of_pages(alloc, 0, PAGES, FIRST)?;
+    let entries = entries_of(alloc, &history_of_pages(alloc, OLD, MORE, LATER)?)?;
     if history.join_entries(BETWEEN, &entries).is_err() {
-        met.refuse(is_told(&history)?, "a refused join_entries raises nothing")?;
+        met.refuse(
+            is_unchanged(&history)?,
+            "a refused join_entries raises nothing",
+        )?;
         met.holds(
             history.join_entries(BETWEEN, &entries).is_ok(),
             "join_entries is refused again",
@@ -141,29 +152,29 @@ fn join_entries_raised(met: &mut Met, alloc: Global) -> Result<(), Ended> {
 }
 
 fn copy(met: &mut Met, alloc: Global) -> Result<(), Ended> {
-    let history = told(alloc, 0, PAGES, FIRST)?;
+    let history = history_of_pages(alloc, 0, PAGES, FIRST)?;
     let copied = match history.copy() {
         Ok(copied) => copied,
         Err(_) => {
-            met.refuse(is_told(&history)?, "a refused copy changes nothing")?;
+            met.refuse(is_unchanged(&history)?, "a refused copy changes nothing")?;
             let Ok(copied) = history.copy() else {
                 return Err(met.broken("copy is refused again"));
             };
             copied
         }
     };
-    met.holds(is_told(&copied)?, "a copy is equal")
+    met.holds(is_unchanged(&copied)?, "a copy is equal")
 }
 
 fn entries(met: &mut Met, alloc: Global) -> Result<(), Ended> {
-    let history = told(alloc, 0, PAGES, FIRST)?;
+    let history = history_of_pages(alloc, 0, PAGES, FIRST)?;
     let Some(bucket) = Bucket::new(1) else {
         return Err(met.broken("1 is a bucket"));
     };
     let found = match history.entries(bucket, None, 2) {
         Ok(found) => found,
         Err(_) => {
-            met.refuse(is_told(&history)?, "refused entries change nothing")?;
+            met.refuse(is_unchanged(&history)?, "refused entries change nothing")?;
             let Ok(found) = history.entries(bucket, None, 2) else {
                 return Err(met.broken("entries is refused again"));
             };

@@ -1,8 +1,8 @@
 //! Rows of calls that may be refused for memory.
 //!
-//! `scripts/refuse-growths` runs this with each growth refused in turn. A call that is refused has to leave what can be seen as it
-//! was, or to hand back what it took, and is asked for once more, which has to succeed. What is printed says how many calls were
-//! refused; or that a row had no room for what it needs before its call, and ended.
+//! `scripts/refuse-growths` runs this with each allocation refused in turn. A call that is refused has to leave what can be seen as it
+//! was, or to give back what it took, and is asked for once more, which has to succeed. What is printed says how many calls were
+//! refused; or that a row had no memory for what it needs before its call, and ended.
 #![tactic(auto)]
 
 mod digested;

@@ -9,7 +9,7 @@ use warm_history::PageHist;
 use warm_pool::{MAX_DEVICES, NewPoolFault, Pool, Slot};
 use warm_stamps::{BUCKETS, Bucket, ByteList, PageId, RefList};
 
-// A node of two frames over a device of 8 pages. A pool that is refused hands the device back, over which it is asked for once more.
+// A node of two frames over a device of 8 pages. A pool that is refused gives the device back, over which it is asked for once more.
 pub(crate) fn opened(met: &mut Met, alloc: Global, number: u16) -> Result<Node<MemDevice>, Ended> {
     let id = replica(number)?;
     let mut devices = Vec::with_capacity(alloc, 1)?;
@@ -43,22 +43,22 @@ fn time_of(hist: PageHist) -> u64 {
     }
 }
 
-// What can be seen of a node without memory: its horizon, how many pages it knows, a sum over what it knows of them, and the page that
-// leaves next.
+// What can be seen of a node without memory: its horizon, how many pages it knows, a checksum of what it knows of them, and the page
+// that leaves next.
 #[derive(Clone, Copy, PartialEq, Eq)]
 struct Face {
     horizon: u64,
     pages: usize,
-    sum: u64,
+    checksum: u64,
     victim: Option<PageId>,
 }
 
 fn face_of(node: &Node<MemDevice>) -> Face {
     let history = node.history();
-    let mut sum = 0u64;
+    let mut checksum = 0u64;
     for place in 0..history.len() {
         if let Some(entry) = history.at(place) {
-            sum = sum
+            checksum = checksum
                 .wrapping_mul(31)
                 .wrapping_add(entry.page.no)
                 .wrapping_mul(31)
@@ -68,7 +68,7 @@ fn face_of(node: &Node<MemDevice>) -> Face {
     Face {
         horizon: history.horizon(),
         pages: history.len(),
-        sum,
+        checksum,
         victim: node.victim(),
     }
 }
@@ -181,46 +181,46 @@ fn ask(
     Err(met.broken("a call is refused again"))
 }
 
-// A frame of entries, by another node, comes to this one.
-fn tell(
+// Entries of another node come to this one.
+fn inform(
     met: &mut Met,
     node: &mut Node<MemDevice>,
     other: &mut Node<MemDevice>,
 ) -> Result<(), Ended> {
     if other.absorb(&[reference(1, 5)?]).is_err() {
-        return Err(Ended::NoRoom);
+        return Err(Ended::NoMemory);
     }
     let Some(bucket) = Bucket::new(1) else {
         return Err(met.broken("1 is a bucket"));
     };
     let before = face_of(node);
-    let Ok(frame) = other.send(bucket, None) else {
-        return Err(Ended::NoRoom);
+    let Ok(message) = other.send(bucket, None) else {
+        return Err(Ended::NoMemory);
     };
-    if node.receive(frame).is_ok() {
+    if node.receive(message).is_ok() {
         return Ok(());
     }
-    met.refuse(face_of(node) == before, "a refused frame changes nothing")?;
-    let Ok(frame) = other.send(bucket, None) else {
+    met.refuse(face_of(node) == before, "a refused message changes nothing")?;
+    let Ok(message) = other.send(bucket, None) else {
         return Err(met.broken("a send is refused later"));
     };
-    met.holds(node.receive(frame).is_ok(), "a frame is refused again")
+    met.holds(node.receive(message).is_ok(), "a message is refused again")
 }
 
-// Asks what a node would answer to a frame, which changes nothing, whether it is refused or not.
+// Asks what a node would answer to a message, which changes nothing, whether it is refused or not.
 fn answered(
     met: &mut Met,
     node: &mut Node<MemDevice>,
-    frame: &Message,
+    message: &Message,
     wanted: usize,
 ) -> Result<(), Ended> {
     let before = face_of(node);
-    let answers = match node.answers(frame) {
+    let answers = match node.answers(message) {
         Ok(answers) => answers,
         Err(fault) => {
             let same = fault == NodeFault::Memory && face_of(node) == before;
             met.refuse(same, "refused answers change nothing")?;
-            let Ok(answers) = node.answers(frame) else {
+            let Ok(answers) = node.answers(message) else {
                 return Err(met.broken("answers are refused again"));
             };
             answers
@@ -241,7 +241,7 @@ fn answer(met: &mut Met, node: &mut Node<MemDevice>) -> Result<(), Ended> {
     answered(met, node, &request(21)?, 0)
 }
 
-// Asks a node for the call of a place. Behind the third another tells it of a page, and it is asked for answers.
+// Asks a node for the call of a place. After the third another informs it of a page, and it is asked for answers.
 fn ask_at(
     met: &mut Met,
     alloc: Global,
@@ -253,7 +253,7 @@ fn ask_at(
     if place != 2 {
         return Ok(());
     }
-    tell(met, node, other)?;
+    inform(met, node, other)?;
     answer(met, node)
 }
 

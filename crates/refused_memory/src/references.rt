@@ -29,7 +29,7 @@ pub(crate) fn references(
     let mut batch = Vec::new(alloc);
     for no in first..end {
         let Ok(()) = batch.push(reference(no, time)?) else {
-            return Err(Ended::NoRoom);
+            return Err(Ended::NoMemory);
         };
     }
     Ok(batch)

@@ -1,5 +1,5 @@
 //! What is made once, in its whole size: buffers, contests, devices; and the warm-up list.
-use crate::histories::told;
+use crate::histories::history_of_pages;
 use refused_rows::{Ended, Met};
 use std::alloc::Global;
 use warm_devices::MemDevice;
@@ -53,7 +53,7 @@ fn device(met: &mut Met, alloc: Global) -> Result<(), Ended> {
 }
 
 fn warm_up(met: &mut Met, alloc: Global) -> Result<(), Ended> {
-    let history = told(alloc, 0, 9, 10)?;
+    let history = history_of_pages(alloc, 0, 9, 10)?;
     let pages = match warm_list(alloc, &history, 3) {
         Ok(pages) => pages,
         Err(_) => {

@@ -11,8 +11,8 @@ use warm_frames::{DIGEST_SIZE, DigestTable, Message, encode};
 use warm_gossip::{Call, Node, NodeFault, Reply};
 use warm_refbuffer::RefBuffer;
 use warm_replica::{
-    BoxedCall, FlushFault, Gate, Job, MAX_JOBS, Mail, MemPost, Post, Replica, Replies, RunFault,
-    Step, StepReply, Worker, mail_loop, run_workers,
+    BoxedCall, FlushFault, Gate, Job, MAX_JOBS, Mail, MailReport, MemPost, Post, Replica, Replies,
+    RunFault, Step, StepReply, Worker, mail_loop, run_workers,
 };
 use warm_stamps::{BUCKETS, ByteList, PageId, ReplicaId};
 use warm_turn::{Memory, Pass, Turn};
@@ -49,7 +49,7 @@ fn flush<R: Wait>(
 {
     let both = [reference(1, 10)?, reference(1, 20)?];
     let is_taken = worker.touch(both[0]).is_ok() && worker.touch(both[1]).is_ok();
-    met.holds(is_taken, "there is room for two")?;
+    met.holds(is_taken, "the buffer takes two")?;
     let Err(fault) = worker.flush(rt, alloc, replica) else {
         return Ok(worker);
     };
@@ -112,7 +112,7 @@ fn jobs(alloc: Global) -> Result<Vec<Job>, Ended> {
         let list = BoxedCall::new(alloc, Call::WarmList(1))?;
         steps.push_reserved(Step::Make(list));
         if all.push(Job { capacity: 1, steps }).is_err() {
-            return Err(Ended::NoRoom);
+            return Err(Ended::NoMemory);
         }
     }
     Ok(all)
@@ -219,7 +219,29 @@ fn mail(alloc: Global) -> Result<Vec<Mail>, Ended> {
     Ok(items)
 }
 
-// A replica takes mail, and what it answers is kept. What is refused for memory is counted.
+// What a loop counted of the one item, and how many answers were kept: a request of all buckets, and an answer for each of the pages
+// 0:1 to 0:3. What is refused for memory is counted.
+fn counted(met: &mut Met, report: MailReport, kept: u128) -> Result<(), Ended> {
+    met.holds(
+        report.joined.wrapping_add(report.refused) == 1,
+        "one item is counted",
+    )?;
+    if report.refused == 1 {
+        return met.refuse(
+            kept == 0 && report.lost == 0,
+            "a refused message is answered",
+        );
+    }
+    if report.lost > 0 {
+        met.refuse(report.lost == 1, "one answer is lost")?;
+    }
+    met.holds(
+        kept.wrapping_add(report.lost) == 4,
+        "each answer is kept or lost",
+    )
+}
+
+// A replica takes mail, and what it answers is kept.
 fn listen<R: Wait>(
     met: &mut Met,
     rt: &R,
@@ -242,22 +264,7 @@ fn listen<R: Wait>(
         1,
         9,
     );
-    met.holds(
-        report.joined.wrapping_add(report.refused) == 1,
-        "one item is counted",
-    )?;
-    // a request of all buckets, and an answer for each of the pages 0:1 to 0:3
-    let kept = post.given().len() as u128;
-    if report.refused == 1 {
-        return met.refuse(kept == 0 && report.lost == 0, "a refused frame is answered");
-    }
-    if report.lost > 0 {
-        met.refuse(report.lost == 1, "one answer is lost")?;
-    }
-    met.holds(
-        kept.wrapping_add(report.lost) == 4,
-        "each answer is kept or lost",
-    )
+    counted(met, report, post.given().len() as u128)
 }
 
 fn posted(met: &mut Met, alloc: Global) -> Result<(), Ended> {
@@ -283,7 +290,7 @@ pub(crate) fn rows<R: Threads + Wait + Sync>(
 ) -> Result<(), Ended> {
     posted(met, alloc)?;
     let Ok(buffer) = RefBuffer::new(alloc, 2) else {
-        return Err(Ended::NoRoom);
+        return Err(Ended::NoMemory);
     };
     let (replica, pass) = shared(met, alloc, node)?;
     let mut worker = flush(met, rt, alloc, &replica, Worker::new(pass, buffer))?;

@@ -1,11 +1,11 @@
 //! Rows of calls that may be refused for memory: how a row ends, and what was met on the way.
 //!
 //! The programs of such rows (`refused_memory`, `refused_worlds`, `promised_memory`) are run by `scripts/refuse-growths`, which
-//! refuses each growth of memory in turn, and reads the one line that [`report`] prints.
+//! refuses each allocation in turn, and reads the one line that [`report`] prints.
 #![tactic(auto)]
 
 ghost use Rattle.std.specs.Prelude.{◌≡◌, Ok, Err, if◌then◌else◌};
-ghost use Rattle.refused_rows.specs.declared.Ended.TheVariants.{NoRoom, Broken};
+ghost use Rattle.refused_rows.specs.declared.Ended.TheVariants.{NoMemory, Broken};
 
 use std::alloc::AllocError;
 use std::io::{self, Print};
@@ -14,15 +14,15 @@ use std::process::ExitCode;
 /// Why a row ended early.
 #[derive(Debug, Clone, Copy, PartialEq, Eq)]
 pub enum Ended {
-    /// There was no room for what the row needs before its call.
-    NoRoom,
+    /// There was no memory for what the row needs before its call.
+    NoMemory,
     /// Something is as it must not be.
     Broken,
 }
 
 impl From<AllocError> for Ended {
     fn from(_: AllocError) -> Ended {
-        Ended::NoRoom
+        Ended::NoMemory
     }
 }
 
@@ -74,18 +74,18 @@ impl Met {
     }
 }
 
-// Says how the rows ended.
-fn tell<P: Print>(rt: &P, met: &Met, ended: Result<(), Ended>) -> io::Result<()> {
+// Prints how the rows ended.
+fn print_end<P: Print>(rt: &P, met: &Met, ended: Result<(), Ended>) -> io::Result<()> {
     match ended {
         Ok(()) => println!(rt; "all rows hold, {} calls refused", met.refused),
-        Err(Ended::NoRoom) => println!(rt; "no room for a row"),
+        Err(Ended::NoMemory) => println!(rt; "no memory for a row"),
         Err(Ended::Broken) => println!(rt; "broken: {}", met.broken),
     }
 }
 
 /// Prints how the rows ended. The status is a failure where something was as it must not be, or nothing could be printed.
 pub fn report<P: Print>(rt: &P, met: &Met, ended: Result<(), Ended>) -> ExitCode {
-    if tell(rt, met, ended).is_err() {
+    if print_end(rt, met, ended).is_err() {
         return ExitCode::FAILURE;
     }
     match ended {

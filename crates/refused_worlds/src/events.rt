@@ -5,7 +5,7 @@ use warm_pool::Slot;
 use warm_stamps::{Bucket, ByteList, PageId};
 use warm_world::Event;
 
-// How many events there are. Replica 1 tells 2 of its pages, and 2 tells it of its own.
+// How many events there are. Replica 1 informs 2 of its pages, and 2 informs it of its own.
 pub(crate) const EVENTS: usize = 41;
 
 fn page(no: u64) -> PageId {
@@ -18,7 +18,7 @@ const FIRST: Slot = Slot {
     generation: 1,
 };
 
-// Whether what is said of the events of a place says that these take no memory: of a `Refer` into a buffer that has room.
+// Whether what is said of the events of a place says that these take no memory: of a `Refer` into a buffer that is not full.
 pub(crate) fn is_free(place: usize) -> bool {
     matches!(
         place,
@@ -79,12 +79,12 @@ fn pool_at(alloc: Global, place: usize) -> Result<Event, Ended> {
     })
 }
 
-// Those by which horizons rise. Replica 1 was restarted, and 7 frames were sent.
+// Those by which horizons rise. Replica 1 was restarted, and 7 messages were sent.
 fn horizon_at(place: usize) -> Event {
     match place {
         26 => Event::Horizon(1, 25),
         27 => Event::Offer(1),
-        // digests with a greater horizon: of pages 2 and 3, which are not older, frames 9 and 10, and frame 11 is a request
+        // digests with a greater horizon: of pages 2 and 3, which are not older, messages 9 and 10, and message 11 is a request
         28 => Event::Deliver(2, 8),
         29 => Event::Show(2),
         30 => Event::Horizon(2, 35),
@@ -92,11 +92,11 @@ fn horizon_at(place: usize) -> Event {
         32 => Event::Refer(1, 1, page(4), 50),
         33 => Event::Flush(1, 1),
         34 => Event::Offer(2),
-        // page 2 is older than the horizon of these digests: frame 13 has page 4, and frame 14 is a request
+        // page 2 is older than the horizon of these digests: message 13 has page 4, and message 14 is a request
         35 => Event::Deliver(1, 12),
         36 => Event::Horizon(2, 45),
         37 => Event::Deliver(2, 13),
-        // digests without a horizon: frame 15 has page 4, and frame 16 is a request with the horizon 45
+        // digests without a horizon: message 15 has page 4, and message 16 is a request with the horizon 45
         38 => Event::Deliver(2, 2),
         39 => Event::Deliver(1, 16),
         _ => Event::Show(1),
@@ -119,7 +119,7 @@ pub(crate) fn all_events(alloc: Global) -> Result<Vec<Event>, Ended> {
     let mut events = Vec::new(alloc);
     for place in 0..EVENTS {
         let Ok(()) = events.push(event_at(alloc, place)?) else {
-            return Err(Ended::NoRoom);
+            return Err(Ended::NoMemory);
         };
     }
     Ok(events)

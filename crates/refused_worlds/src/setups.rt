@@ -15,7 +15,7 @@ const BAD: [(&str, SetupFault); 4] = [
     ("[[device]]\npath = \"\"\npages = 1\n", SetupFault::BadValue),
 ];
 
-// Whether a device has so many pages, and this path.
+// Whether a device has this many pages, and this path.
 fn is_device(device: Option<&DeviceSpec>, pages: u32, path: &str) -> bool {
     match device {
         Some(

@@ -1,5 +1,5 @@
-//! Worlds of two replicas, made, stepped and run. What was refused is compared with a world that was never refused: one growth alone
-//! is refused, so that a world that is made after it is one.
+//! Worlds of two replicas, made, stepped and run. What was refused is compared with a world that was never refused: one allocation
+//! alone is refused, so that a world that is made after it is one.
 ghost use Rattle.std.specs.Prelude.{◌≡◌, IfOk, length};
 ghost use Rattle.warm_world.specs.Opening.{AreFew};
 ghost use Rattle.warm_world.specs.Views.{listed};

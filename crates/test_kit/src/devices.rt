@@ -1,5 +1,5 @@
 //! Devices of pages of 16 bytes, and short lists of devices.
-ghost use Rattle.std.specs.Prelude.{◌≡◌, ◌≤◌, IfOk, length, vec_capacity};
+ghost use Rattle.std.specs.Prelude.{◌≡◌, IfOk, length};
 ghost use Rattle.warm_devices.specs.Device.{zeroed};
 
 use std::alloc::{AllocError, Global};
@@ -8,45 +8,30 @@ use warm_devices::{Flaky, MemDevice, PageDevice};
 /// A device in memory of this many pages of 16 bytes.
 ///
 /// # Errors
-/// Where the memory for it is refused twice.
+/// Where the memory for it is refused.
 pub fn memory(alloc: Global, pages: u64) -> Result<MemDevice, AllocError>
     ensures { IfOk result (λ device. device ≡ zeroed pages 16) }
 {
-    match MemDevice::new(alloc, pages, 16) {
-        Ok(device) => Ok(device),
-        Err(_) => MemDevice::new(alloc, pages, 16),
-    }
+    MemDevice::new(alloc, pages, 16)
 }
 
 /// Such a device, of whose reads, writes and flushes the `n`-th fails, or none where `n` is 0.
 ///
 /// # Errors
-/// Where the memory for it is refused twice.
+/// Where the memory for it is refused.
 pub fn flaky(alloc: Global, pages: u64, n: u64) -> Result<Flaky<MemDevice>, AllocError> {
     let device = memory(alloc, pages)?;
     Ok(Flaky::new(device, n))
 }
 
-// An empty list with the capacity for a number of devices.
-fn reserved<D: PageDevice>(alloc: Global, count: usize) -> Result<Vec<D>, AllocError>
-    ensures capacity { IfOk result (λ devices. count ≤ vec_capacity devices) }
-    ensures empty { IfOk result (λ devices. length devices.items ≡ 0) }
-{
-    if let Ok(devices) = Vec::with_capacity(alloc, count) {
-        return Ok(devices);
-    }
-    let devices = Vec::with_capacity(alloc, count)?;
-    Ok(devices)
-}
-
 /// A list of one device.
 ///
 /// # Errors
-/// Where the memory for it is refused twice. The device is then dropped.
+/// Where the memory for it is refused. The device is then dropped.
 pub fn alone<D: PageDevice>(alloc: Global, device: D) -> Result<Vec<D>, AllocError>
     ensures { IfOk result (λ devices. length devices.items ≡ 1) }
 {
-    let mut devices = reserved(alloc, 1)?;
+    let mut devices = Vec::with_capacity(alloc, 1)?;
     devices.push_reserved(device);
     Ok(devices)
 }
@@ -54,11 +39,11 @@ pub fn alone<D: PageDevice>(alloc: Global, device: D) -> Result<Vec<D>, AllocErr
 /// A list of two devices.
 ///
 /// # Errors
-/// Where the memory for it is refused twice. The devices are then dropped.
+/// Where the memory for it is refused. The devices are then dropped.
 pub fn both<D: PageDevice>(alloc: Global, first: D, second: D) -> Result<Vec<D>, AllocError>
     ensures { IfOk result (λ devices. length devices.items ≡ 2) }
 {
-    let mut devices = reserved(alloc, 2)?;
+    let mut devices = Vec::with_capacity(alloc, 2)?;
     devices.push_reserved(first);
     devices.push_reserved(second);
     Ok(devices)

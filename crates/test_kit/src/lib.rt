@@ -1,16 +1,17 @@
-//! What the tests of several crates share: values and lists made from plain numbers, devices, and one device that calls a test back.
+//! What the tests of several crates share: values and lists made from plain numbers, bytes of frames, devices, and one device that
+//! calls a test back.
 //!
-//! Nothing here may end a process, since only tests may: what can be refused for memory says so, and the test decides. Memory for a
-//! list or a device is asked for a second time where it is refused, so that a test that runs with one allocation refused reaches the
-//! call that it is about.
+//! Nothing here may end a process, since only tests may: what can be refused for memory says so, and the test decides.
 #![tactic(auto)]
 
+mod bytes;
 mod devices;
 mod hooked;
 mod lists;
 mod note;
 mod values;
 
+pub use bytes::{NARROW, WIDE};
 pub use devices::{alone, both, flaky, memory};
 pub use hooked::{Hooked, Hooks};
 pub use lists::{SeenAt, history_of, references};

@@ -8,19 +8,12 @@ use warm_stamps::Reference;
 /// A reference in plain numbers: the page's device and its number there, a time, and a replica.
 pub type SeenAt = (u16, u64, u64, u16);
 
-fn reserved(alloc: Global, count: usize) -> Result<Vec<Reference>, AllocError> {
-    match Vec::with_capacity(alloc, count) {
-        Ok(batch) => Ok(batch),
-        Err(_) => Vec::with_capacity(alloc, count),
-    }
-}
-
 /// The references of a list, in its order.
 ///
 /// # Errors
-/// Where the memory for them is refused twice.
+/// Where the memory for them is refused.
 pub fn references(alloc: Global, given: &[SeenAt]) -> Result<Vec<Reference>, AllocError> {
-    let mut batch = reserved(alloc, given.len())?;
+    let mut batch = Vec::with_capacity(alloc, given.len())?;
     for (dev, no, time, number) in given {
         batch.push(seen(page_on(*dev, *no), *time, *number))?;
     }
@@ -30,12 +23,10 @@ pub fn references(alloc: Global, given: &[SeenAt]) -> Result<Vec<Reference>, All
 /// The history of the references of a list, which are taken in at once.
 ///
 /// # Errors
-/// Where the memory for it is refused twice.
+/// Where the memory for it is refused.
 pub fn history_of(alloc: Global, given: &[SeenAt]) -> Result<History, AllocError> {
     let batch = references(alloc, given)?;
     let mut history = History::new(alloc);
-    if history.absorb(&batch).is_err() {
-        history.absorb(&batch)?;
-    }
+    history.absorb(&batch)?;
     Ok(history)
 }

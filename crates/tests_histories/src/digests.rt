@@ -6,7 +6,6 @@ use test_kit::{SeenAt, bucket, history_of, references};
 use warm_digest::{DigestedHistory, Digests, differing, digests};
 use warm_frames::DigestTable;
 use warm_history::History;
-use warm_stamps::Reference;
 
 // SHA-256 of no bytes.
 const OF_NOTHING: [u8; 32] = [
@@ -50,18 +49,14 @@ const FOUR_PAGES: [SeenAt; 7] = [
     (0, 65, 30, 1),
 ];
 
-fn four_pages(rt: &impl Abort, alloc: Global) -> Vec<Reference> {
-    references(alloc, &FOUR_PAGES).expect(rt, "room for references")
-}
-
 // The digests of the history of these references.
 fn digests_of(rt: &impl Abort, alloc: Global, given: &[SeenAt]) -> DigestTable {
-    let history = history_of(alloc, given).expect(rt, "room for a history");
-    digests(alloc, &history).expect(rt, "room for the digests")
+    let history = history_of(alloc, given).expect(rt, "memory for a history");
+    digests(alloc, &history).expect(rt, "memory for the digests")
 }
 
 // Which of the four pages a table has digests of: none, those of bucket 1, all, or all by what is kept of them since 20.
-// Each is named by a word, since a sum of 32 bytes is dear to prove wherever it stands.
+// Each is named by a word, since a digest of 32 bytes is dear to prove wherever it stands.
 #[derive(Clone, Copy)]
 enum Pages {
     None,
@@ -80,7 +75,7 @@ fn digest_of(index: u8, pages: Pages) -> [u8; 32] {
     }
 }
 
-// Whether each bucket has the sum of those of the pages that it has.
+// Whether each bucket has the digest of those of the pages that it has.
 fn has_digests(table: &DigestTable, pages: Pages) -> bool {
     for index in 0..64 {
         if table.digest(bucket(index)) != digest_of(index, pages) {
@@ -100,16 +95,15 @@ fn a_bucket_has_the_digest_of_its_entries(rt: HostRuntime) {
 // Whether the digests that are kept are of those of the four pages.
 fn keeps(rt: &impl Abort, digested: &mut DigestedHistory, pages: Pages) -> bool {
     has_digests(
-        &digested.digests().expect(rt, "room for the digests"),
+        &digested.digests().expect(rt, "memory for the digests"),
         pages,
     )
 }
 
 // The digests of the four pages are kept, however often they are asked for.
 fn takes_in_four(rt: &impl Abort, alloc: Global, digested: &mut DigestedHistory) {
-    digested
-        .absorb(&four_pages(rt, alloc))
-        .expect(rt, "room for a batch");
+    let batch = references(alloc, &FOUR_PAGES).expect(rt, "memory for references");
+    digested.absorb(&batch).expect(rt, "memory for a batch");
     assert!(rt; keeps(rt, digested, Pages::All));
     assert!(rt; keeps(rt, digested, Pages::All));
 }
@@ -120,12 +114,12 @@ fn follow_the_horizon(rt: &impl Abort, digested: &mut DigestedHistory) {
     assert!(rt; keeps(rt, digested, Pages::Since20));
     digested
         .join_entries(19, &[])
-        .expect(rt, "no room is taken");
+        .expect(rt, "no memory is taken");
     assert!(rt; digested.horizon() == 20);
     assert!(rt; keeps(rt, digested, Pages::Since20));
     digested
         .join_entries(u64::MAX, &[])
-        .expect(rt, "no room is taken");
+        .expect(rt, "no memory is taken");
     assert!(rt; keeps(rt, digested, Pages::None));
 }
 
@@ -150,28 +144,11 @@ fn differing_buckets_are_set_bits(rt: HostRuntime) {
     assert!(rt; differing(&more, &one_page) == 0x8000_0000_0000_0001);
 }
 
-// A call that is refused for memory leaves the digests that were kept, and the same call is then right.
 #[test]
-fn a_failed_allocation_changes_no_digest(rt: HostRuntime) {
-    let batch = four_pages(&rt, rt.alloc());
-    let mut digested = DigestedHistory::new(rt.alloc());
-    if digested.absorb(&batch).is_err() {
-        assert!(rt; digested.history().len() == 0 && keeps(&rt, &mut digested, Pages::None));
-        digested.absorb(&batch).expect(&rt, "room for a batch");
-    }
-    if digested.digests().is_err() {
-        assert!(rt; digested.history().len() == 4);
-    }
-    assert!(rt; keeps(&rt, &mut digested, Pages::All));
-}
-
-#[test]
-fn a_refused_renewal_changes_no_digest(rt: HostRuntime) {
-    let history = history_of(rt.alloc(), &FOUR_PAGES).expect(&rt, "room for a history");
+fn a_renewal_is_of_the_buckets_asked_for(rt: HostRuntime) {
+    let history = history_of(rt.alloc(), &FOUR_PAGES).expect(&rt, "memory for a history");
     let mut kept = Digests::new(rt.alloc());
-    if kept.renew(&history, 2).is_err() {
-        assert!(rt; has_digests(&kept.table(), Pages::None));
-        kept.renew(&history, 2).expect(&rt, "room for the digests");
-    }
+    kept.renew(&history, 2)
+        .expect(&rt, "memory for the digests");
     assert!(rt; has_digests(&kept.table(), Pages::OfBucket1));
 }

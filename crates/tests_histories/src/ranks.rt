@@ -5,7 +5,7 @@ ghost use Rattle.warm_rank.specs.declared.TheConstants.{MAX_SLOTS};
 use std::alloc::Global;
 use std::cmp::Ordering;
 use std::process::Abort;
-use test_kit::{SeenAt, history_of, page, seen};
+use test_kit::{history_of, page, seen};
 use warm_history::History;
 use warm_rank::{Contest, key_of, leaving_order, warm_list};
 use warm_stamps::{PageId, PageList};
@@ -25,7 +25,7 @@ fn are_hottest(
     n: usize,
     want: &[PageId],
 ) -> bool {
-    let pages = PageList::of(warm_list(alloc, history, n).expect(rt, "room for a list"));
+    let pages = PageList::of(warm_list(alloc, history, n).expect(rt, "memory for a list"));
     pages.as_slice() == want && pages.into_vec().len() == want.len()
 }
 
@@ -33,7 +33,7 @@ fn are_hottest(
 #[test]
 fn a_raised_horizon_changes_which_page_leaves(rt: HostRuntime) {
     let given = [(0, 1, 1, 1), (0, 1, 100, 1), (0, 2, 50, 1), (0, 2, 60, 1)];
-    let mut history = history_of(rt.alloc(), &given).expect(&rt, "room for a history");
+    let mut history = history_of(rt.alloc(), &given).expect(&rt, "memory for a history");
     assert!(rt; leaves_first(&history, 1, 2));
     assert!(rt; are_hottest(&rt, rt.alloc(), &history, 2, &[page(2), page(1)]));
     history.raise(60);
@@ -42,31 +42,6 @@ fn a_raised_horizon_changes_which_page_leaves(rt: HostRuntime) {
     history.raise(101);
     assert!(rt; leaves_first(&history, 1, 2));
     assert!(rt; are_hottest(&rt, rt.alloc(), &history, 2, &[]));
-}
-
-// Pages whose numbers rise past 32 bits, all at one time.
-const ONCE: [SeenAt; 4] = [
-    (0, 1, 5, 1),
-    (0, 4_294_967_295, 5, 1),
-    (0, 4_294_967_296, 5, 1),
-    (0, 18_446_744_073_709_551_615, 5, 1),
-];
-
-#[test]
-fn page_numbers_past_32_bits_keep_their_order(rt: HostRuntime) {
-    let none = History::new(rt.alloc());
-    let known = history_of(rt.alloc(), &ONCE).expect(&rt, "room for a history");
-    for at in 0..3usize {
-        assert!(rt; leaves_first(&none, ONCE[at].1, ONCE[at + 1].1));
-        assert!(rt; leaves_first(&known, ONCE[at].1, ONCE[at + 1].1));
-    }
-    let hottest = [
-        page(ONCE[3].1),
-        page(ONCE[2].1),
-        page(ONCE[1].1),
-        page(ONCE[0].1),
-    ];
-    assert!(rt; are_hottest(&rt, rt.alloc(), &known, 9, &hottest));
 }
 
 // Sets the keys of that many slots, rising.
@@ -84,7 +59,7 @@ fn rises(rt: &impl Abort, alloc: Global, slots: u32) -> bool
     requires some { 0 < slots }
     requires few { slots ≤ MAX_SLOTS }
 {
-    let mut contest = Contest::new(alloc, slots as usize).expect(rt, "room for slots");
+    let mut contest = Contest::new(alloc, slots as usize).expect(rt, "memory for slots");
     set_rising(&mut contest, slots);
     let first = contest.least();
     contest.set(0, None);
@@ -105,10 +80,10 @@ fn long_history(rt: &impl Abort, alloc: Global, pages: u64) -> History {
     for no in 0..pages {
         batch
             .push(seen(page(no), no, 1))
-            .expect(rt, "room for a reference");
+            .expect(rt, "memory for a reference");
     }
     let mut history = History::new(alloc);
-    history.absorb(&batch).expect(rt, "room for a history");
+    history.absorb(&batch).expect(rt, "memory for a history");
     history
 }
 
@@ -128,7 +103,7 @@ fn fall_from(pages: &[PageId], first: u64) -> bool {
 #[test]
 fn warm_up_lists_10_000_pages(rt: HostRuntime) {
     let history = long_history(&rt, rt.alloc(), 10_001);
-    let pages = warm_list(rt.alloc(), &history, 10_000).expect(&rt, "room for a list");
+    let pages = warm_list(rt.alloc(), &history, 10_000).expect(&rt, "memory for a list");
     assert!(rt; pages.len() == 10_000);
     assert!(rt; fall_from(&pages, 10_000));
 }

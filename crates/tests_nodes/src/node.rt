@@ -3,7 +3,7 @@
 //! Each call stands in a function of its own, so that what is proved of a test does not grow with its rows. What must not fail ends
 //! the process where it does: a `?` would be one more way out, on which the drop of all that is owned is proved.
 
-mod frames;
+mod formats;
 mod horizons;
 
 use std::alloc::Global;
@@ -23,7 +23,7 @@ const fn slot(index: u32, generation: u64) -> Slot {
     Slot { index, generation }
 }
 
-// A node of a replica with so many frames over a device.
+// A node of a replica with this many frames over a device.
 fn over<D: PageDevice>(
     rt: &impl Abort,
     alloc: Global,
@@ -31,7 +31,7 @@ fn over<D: PageDevice>(
     frames: usize,
     device: D,
 ) -> Node<D> {
-    let devices = alone(alloc, device).expect(rt, "room for a list");
+    let devices = alone(alloc, device).expect(rt, "memory for a list");
     match Pool::new(alloc, frames, 16, devices) {
         Ok(pool) => Node::new(alloc, replica(number), pool),
         Err(_) => panic!(rt; "no pool"),
@@ -40,7 +40,7 @@ fn over<D: PageDevice>(
 
 // A node of four frames over a device of 256 pages.
 fn fresh(rt: &impl Abort, alloc: Global, number: u16) -> Node<MemDevice> {
-    let device = memory(alloc, 256).expect(rt, "room for a device");
+    let device = memory(alloc, 256).expect(rt, "memory for a device");
     over(rt, alloc, number, 4, device)
 }
 
@@ -95,7 +95,7 @@ fn says<D: PageDevice>(node: &mut Node<D>, call: Call) -> Said {
     said_in(answer(node, call))
 }
 
-// A frame of replica 1, by its horizon and what it holds.
+// A message of replica 1, by its horizon and what it holds.
 #[derive(Clone, Copy)]
 enum Sent {
     // All entries of the history of these references.
@@ -132,7 +132,7 @@ enum Row {
     Forgets(u64, u64),
     // The horizon, and all pages known, with the time of the last stamp and that of the one before, or 0.
     Knows(u64, &'static [(u64, u64, u64)]),
-    // A frame is received, and answered by these.
+    // A message is received, and answered by these.
     Receives(Sent, &'static [Sent]),
     // It would be answered by these.
     WouldAnswer(Sent, &'static [Sent]),
@@ -140,15 +140,18 @@ enum Row {
 
 // All entries of a history.
 fn entries_in(rt: &impl Abort, alloc: Global, history: &History) -> EntryList {
-    let entries = history.iter().collect(alloc).expect(rt, "room for entries");
+    let entries = history
+        .iter()
+        .collect(alloc)
+        .expect(rt, "memory for entries");
     EntryList::of(entries).ok().expect(rt, "the pages rise")
 }
 
-fn frame_of(rt: &impl Abort, alloc: Global, sent: Sent) -> Message {
+fn message_of(rt: &impl Abort, alloc: Global, sent: Sent) -> Message {
     let sender = replica(1);
     match sent {
         Sent::Entries(horizon, known) => {
-            let history = history_of(alloc, known).expect(rt, "room for a history");
+            let history = history_of(alloc, known).expect(rt, "memory for a history");
             let entries = entries_in(rt, alloc, &history);
             Message::Entries {
                 sender,
@@ -157,8 +160,8 @@ fn frame_of(rt: &impl Abort, alloc: Global, sent: Sent) -> Message {
             }
         }
         Sent::Digests(horizon, known) => {
-            let history = history_of(alloc, known).expect(rt, "room for a history");
-            let digests = digests(alloc, &history).expect(rt, "room for the digests");
+            let history = history_of(alloc, known).expect(rt, "memory for a history");
+            let digests = digests(alloc, &history).expect(rt, "memory for the digests");
             Message::Digest {
                 sender,
                 horizon,
@@ -177,14 +180,14 @@ fn frame_of(rt: &impl Abort, alloc: Global, sent: Sent) -> Message {
 fn asked(rt: &impl Abort, alloc: Global, row: Row) -> (Call, Said) {
     match row {
         Row::Absorbs(given) => {
-            let batch = references(alloc, given).expect(rt, "room for the batch");
+            let batch = references(alloc, given).expect(rt, "memory for the batch");
             (Call::Absorb(RefList::of(batch)), Said::Done)
         }
         Row::Pins(no, wanted) => (Call::Pin(page(no)), wanted),
         Row::Unpins(index, generation) => (Call::Unpin(slot(index, generation)), Said::Done),
         Row::Writes(index, generation, text) => {
             let slot = slot(index, generation);
-            let bytes = ByteList::of(text.to_vec(alloc).expect(rt, "room for the bytes"));
+            let bytes = ByteList::of(text.to_vec(alloc).expect(rt, "memory for the bytes"));
             (Call::Write { slot, at: 0, bytes }, Said::Done)
         }
         Row::Victim(no) => (Call::Victim, Said::Leaves(no)),
@@ -239,38 +242,38 @@ fn knows(history: &History, horizon: u64, wanted: &[(u64, u64, u64)]) -> bool {
     history.len() == wanted.len() && history.horizon() == horizon
 }
 
-fn bytes_of(rt: &impl Abort, alloc: Global, frame: &Message) -> Vec<u8> {
-    encode(alloc, frame).expect(rt, "room for the bytes")
+fn bytes_of(rt: &impl Abort, alloc: Global, message: &Message) -> Vec<u8> {
+    encode(alloc, message).expect(rt, "memory for the bytes")
 }
 
-// Whether these are just the frames of replica 1 that are wanted, by their bytes.
-fn are_frames(rt: &impl Abort, alloc: Global, frames: &[Message], wanted: &[Sent]) -> bool {
+// Whether these are just the messages of replica 1 that are wanted, by their bytes.
+fn are_messages(rt: &impl Abort, alloc: Global, messages: &[Message], wanted: &[Sent]) -> bool {
     for (place, sent) in wanted.iter().enumerate() {
-        let Some(frame) = frames.get(place) else {
+        let Some(message) = messages.get(place) else {
             return false;
         };
-        let wanted = bytes_of(rt, alloc, &frame_of(rt, alloc, *sent));
-        if bytes_of(rt, alloc, frame).as_slice() != wanted.as_slice() {
+        let wanted = bytes_of(rt, alloc, &message_of(rt, alloc, *sent));
+        if bytes_of(rt, alloc, message).as_slice() != wanted.as_slice() {
             return false;
         }
     }
-    frames.len() == wanted.len()
+    messages.len() == wanted.len()
 }
 
-// The frames that a node answers to one.
-fn answers<D: PageDevice>(rt: &impl Abort, node: &mut Node<D>, frame: Message) -> MessageList {
-    match answer(node, Call::Receive(frame)) {
-        Reply::Answers(frames) => frames,
-        _ => panic!(rt; "the frame is received"),
+// The messages that a node answers to one.
+fn answers<D: PageDevice>(rt: &impl Abort, node: &mut Node<D>, message: Message) -> MessageList {
+    match answer(node, Call::Receive(message)) {
+        Reply::Answers(messages) => messages,
+        _ => panic!(rt; "the message is received"),
     }
 }
 
 fn would_answer<D: PageDevice>(
     rt: &impl Abort,
     node: &mut Node<D>,
-    frame: &Message,
+    message: &Message,
 ) -> MessageList {
-    node.answers(frame).ok().expect(rt, "memory is ample")
+    node.answers(message).ok().expect(rt, "memory is ample")
 }
 
 // Makes the call of a row, and whether it is answered so.
@@ -284,12 +287,12 @@ fn meets<D: PageDevice>(rt: &impl Abort, alloc: Global, node: &mut Node<D>, row:
         }
         Row::Hottest(wanted) => has_pages(answer(node, Call::WarmList(wanted.len())), wanted),
         Row::Receives(sent, wanted) => {
-            let frames = answers(rt, node, frame_of(rt, alloc, sent));
-            are_frames(rt, alloc, frames.as_slice(), wanted)
+            let messages = answers(rt, node, message_of(rt, alloc, sent));
+            are_messages(rt, alloc, messages.as_slice(), wanted)
         }
         Row::WouldAnswer(sent, wanted) => {
-            let frames = would_answer(rt, node, &frame_of(rt, alloc, sent));
-            are_frames(rt, alloc, frames.as_slice(), wanted)
+            let messages = would_answer(rt, node, &message_of(rt, alloc, sent));
+            are_messages(rt, alloc, messages.as_slice(), wanted)
         }
         call => is_said(rt, alloc, node, call),
     }
@@ -345,7 +348,10 @@ const OVER_A_BOX: &[Row] = &[
 #[test]
 fn a_node_lives_over_a_boxed_device(rt: HostRuntime) {
     let alloc = rt.alloc();
-    let device = flaky(alloc, 8, 1).expect(&rt, "room for a device");
-    let device: Box<dyn PageDevice + Send> = Box::new(alloc, device).expect(&rt, "room for a box");
+    let device = flaky(alloc, 8, 1).expect(&rt, "memory for a device");
+    let device: Box<dyn PageDevice + Send> = Box::new(alloc, device).expect(
+        &rt,
+        "memory for a box",
+    );
     lives_over(&rt, alloc, device, OVER_A_BOX)
 }

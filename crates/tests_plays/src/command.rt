@@ -16,45 +16,32 @@ enum Asked {
     Threads(&'static str, Option<&'static str>),
 }
 
-fn is_play(command: &Cmd, text: Option<&str>, setup_text: Option<&str>) -> bool {
-    match command {
-        Cmd::Play { file, setup } => is_path(file, text) && is_path(setup, setup_text),
-        _ => false,
-    }
-}
-
-fn is_random(command: &Cmd, number: u64, count: u32, text: Option<&str>) -> bool {
-    match command {
-        Cmd::Random {
-            seed,
-            events,
-            setup,
-        } => { *seed == number && *events == count && is_path(setup, text) }
-        _ => false,
-    }
-}
-
-fn is_threads(command: &Cmd, text: &str, setup_text: Option<&str>) -> bool {
-    match command {
-        Cmd::Threads { file, setup } => file.as_str() == text && is_path(setup, setup_text),
-        _ => false,
-    }
-}
-
 // The command of a line's words, which one space parts.
 fn read(rt: &impl Abort, alloc: Global, line: &str) -> Result<Cmd, CmdFault> {
     let mut words = Vec::new(alloc);
     for word in line.split(' ') {
-        words.push(word).expect(rt, "room for a word");
+        words.push(word).expect(rt, "memory for a word");
     }
     command_of(alloc, words.as_slice())
 }
 
 fn is_asked(command: &Cmd, asked: Asked) -> bool {
-    match asked {
-        Asked::Play(file, setup) => is_play(command, file, setup),
-        Asked::Random(seed, events, setup) => is_random(command, seed, events, setup),
-        Asked::Threads(file, setup) => is_threads(command, file, setup),
+    match (command, asked) {
+        (Cmd::Play { file, setup }, Asked::Play(text, setup_text)) => {
+            is_path(file, text) && is_path(setup, setup_text)
+        }
+        (
+            Cmd::Random {
+                seed,
+                events,
+                setup,
+            },
+            Asked::Random(number, count, setup_text),
+        ) => *seed == number && *events == count && is_path(setup, setup_text),
+        (Cmd::Threads { file, setup }, Asked::Threads(text, setup_text)) => {
+            file.as_str() == text && is_path(setup, setup_text)
+        }
+        _ => false,
     }
 }
 

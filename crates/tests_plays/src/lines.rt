@@ -54,9 +54,9 @@ fn lines_are_read_as_the_language_has_them(rt: HostRuntime) {
     assert!(rt; answers.as_slice() == want.as_bytes());
 }
 
-// Whether a line of so many bytes like the first one prints this, with the line after it.
+// Whether a line of this many bytes like the first one prints this, with the line after it.
 fn long_line_prints(rt: &impl Abort, alloc: Global, first: u8, length: usize, want: &str) -> bool {
-    let mut schedule = vec![in alloc; first; length].expect(rt, "room for a line");
+    let mut schedule = vec![in alloc; first; length].expect(rt, "memory for a line");
     add(rt, &mut schedule, 1, b"\nshow 1\n");
     let answers = answers_of(rt, alloc, default_setup(), schedule.as_slice());
     answers.as_slice() == want.as_bytes()

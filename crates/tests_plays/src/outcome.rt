@@ -5,7 +5,7 @@ use warm_play_fault::PlayFault;
 use warm_setup::{CmdFault, PathText, ProgramFault, SetupFault, command_of, not_text, outcome_of};
 
 // Whether a run that ended so has this status and says this line.
-fn tells(
+fn says(
     rt: &impl Abort,
     alloc: Global,
     ended: &Result<(), ProgramFault>,
@@ -17,13 +17,13 @@ fn tells(
     outcome
         .line
         .write_to(&mut line)
-        .expect(rt, "room for a line");
+        .expect(rt, "memory for a line");
     outcome.status == status && line.as_slice() == want.as_bytes()
 }
 
 // The same of a run that this fault ends.
 fn ends(rt: &impl Abort, alloc: Global, fault: ProgramFault, status: u8, want: &str) -> bool {
-    tells(rt, alloc, &Err(fault), status, want)
+    says(rt, alloc, &Err(fault), status, want)
 }
 
 const SETUPS: [(SetupFault, &str); 4] = [
@@ -45,8 +45,8 @@ const PLAYS: [(PlayFault, &str); 6] = [
 #[test]
 fn a_run_says_why_it_ends(rt: HostRuntime) {
     let alloc = rt.alloc();
-    assert!(rt; tells(&rt, alloc, &Ok(()), 0, ""));
-    let name = PathText::copied_from(alloc, "no/such file").expect(&rt, "room");
+    assert!(rt; says(&rt, alloc, &Ok(()), 0, ""));
+    let name = PathText::copied_from(alloc, "no/such file").expect(&rt, "memory for a path");
     let want = "warmplay: cannot open no/such file\n";
     assert!(rt; ends(&rt, alloc, ProgramFault::CannotOpen(name), 1, want));
     for (fault, want) in SETUPS {

@@ -39,7 +39,7 @@ pub(crate) fn each_alone<D: PageDevice>(
     Ok(lists)
 }
 
-// So many devices of 256 pages.
+// This many devices of 256 pages.
 fn in_memory(alloc: Global, replicas: u16) -> Result<Vec<MemDevice>, AllocError> {
     let mut devices = Vec::new(alloc);
     for _replica in 0..replicas {
@@ -48,7 +48,7 @@ fn in_memory(alloc: Global, replicas: u16) -> Result<Vec<MemDevice>, AllocError>
     Ok(devices)
 }
 
-// Plays over a device in memory for each of so many replicas.
+// Plays over a device in memory for each replica.
 pub(crate) fn ended_over<R: Read, W: Write>(
     alloc: Global,
     reader: &mut R,
@@ -85,7 +85,7 @@ pub(crate) fn answers_of(rt: &impl Abort, alloc: Global, setup: Setup, schedule:
     answers
 }
 
-// Each of these schedules prints the text beside it, in a world of three replicas whose pools have so many frames.
+// Each of these schedules prints the text beside it, in a world of three replicas whose pools have this many frames.
 pub(crate) fn each_prints(rt: &impl Abort, alloc: Global, frames: u32, rows: &[(&str, &str)]) {
     let setup = Setup::new(3, 2, 64, frames, 16).expect(rt, "it is within its limits");
     for (schedule, want) in rows {
@@ -94,9 +94,10 @@ pub(crate) fn each_prints(rt: &impl Abort, alloc: Global, frames: u32, rows: &[(
     }
 }
 
-// Adds a piece to a text, so many times.
+// Adds a piece to a text, this many times.
 pub(crate) fn add(rt: &impl Abort, text: &mut Vec<u8>, times: u32, piece: &[u8]) {
     for _ in 0..times {
-        text.extend_from_slice(piece).expect(rt, "room for a text");
+        text.extend_from_slice(piece)
+            .expect(rt, "memory for a text");
     }
 }

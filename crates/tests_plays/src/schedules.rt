@@ -262,8 +262,8 @@ fn a_refused_end_is_the_last_line(rt: HostRuntime) {
     }
 }
 
-// References of worker 1 of replica 1, so many, each to a page so many after that of the one before, at times from the first on;
-// then these lines.
+// References of worker 1 of replica 1, each to a page whose number is greater by `spread` than that of the one before, at times from
+// the first on; then these lines.
 fn references(
     rt: &impl Abort,
     alloc: Global,
@@ -275,13 +275,13 @@ fn references(
     let mut schedule = Vec::new(alloc);
     for place in 0..count {
         let (no, time) = (spread.wrapping_mul(place), first.wrapping_add(place));
-        writeln!(&mut schedule, "ref 1 1 0:{no} {time}").expect(rt, "room for a line");
+        writeln!(&mut schedule, "ref 1 1 0:{no} {time}").expect(rt, "memory for a line");
     }
     add(rt, &mut schedule, 1, lines.as_bytes());
     schedule
 }
 
-// A schedule prints so many times ok, and then this.
+// A schedule prints ok `count` times, and then this.
 fn prints_after(rt: &impl Abort, alloc: Global, schedule: &[u8], count: usize, want: &[u8]) {
     let answers = answers_of(rt, alloc, default_setup(), schedule);
     let mut rest = answers.as_slice();
@@ -299,24 +299,26 @@ fn a_full_buffer_is_flushed_first(rt: HostRuntime) {
     prints_after(&rt, rt.alloc(), schedule.as_slice(), 65, want.as_bytes());
 }
 
-// The pages of bucket 0 from the first on, so many, each referenced once at the time of its place; then these lines.
+// The first `count` pages of bucket 0, each referenced once at the time of its place; then these lines.
 fn show_pages(rt: &impl Abort, want: &mut Vec<u8>, count: u32, lines: &str) {
     for place in 0..count {
         let no = place.wrapping_mul(64);
-        writeln!(want, "0:{no} last {place}@1").expect(rt, "room for a line");
+        writeln!(want, "0:{no} last {place}@1").expect(rt, "memory for a line");
     }
     add(rt, want, 1, lines.as_bytes());
 }
 
-// A frame carries 1000 pages of its bucket, and the next one goes on after the last of them.
+// A frame carries 1000 pages of its bucket, and the next one goes on after the last of them. Digests that differ are answered by
+// both, and by a request.
 #[test]
 fn a_long_bucket_takes_two_frames(rt: HostRuntime) {
-    let lines = "flush 1 1\nsend 1 0\nsend 1 0 0:63936\ndeliver 2 1\nshow 2\ndeliver 2 2\nshow 2\n";
+    let lines = "flush 1 1\nsend 1 0\nsend 1 0 0:63936\ndeliver 2 1\nshow 2\ndeliver 2 2\nshow 2\n\
+                 offer 3\ndeliver 1 3\n";
     let schedule = references(&rt, rt.alloc(), 1001, 64, 0, lines);
     let mut want = Vec::new(rt.alloc());
     add(&rt, &mut want, 1, b"ok\nframe 1\nframe 2\ntook 0\n");
     show_pages(&rt, &mut want, 1000, "end 1000\ntook 0\n");
-    show_pages(&rt, &mut want, 1001, "end 1001\n");
+    show_pages(&rt, &mut want, 1001, "end 1001\nframe 3\ntook 3 from 4\n");
     prints_after(&rt, rt.alloc(), schedule.as_slice(), 1001, want.as_slice());
 }
 

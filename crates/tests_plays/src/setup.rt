@@ -51,6 +51,8 @@ fn a_text_gives_its_keys_and_the_defaults(rt: HostRuntime) {
     assert!(rt; is_setup(&rt, rt.alloc(), "", defaults));
     let two_frames = Setup::new(3, 2, 64, 2, 16).unwrap();
     assert!(rt; is_setup(&rt, rt.alloc(), "frames = 2", two_frames));
+    let least = "workers = 1\nreplicas = 1\npage_size = 1\nframes = 1\nbuffer = 1";
+    assert!(rt; is_setup(&rt, rt.alloc(), least, Setup::new(1, 1, 1, 1, 1).unwrap()));
     let (_, devices) = read_setup(rt.alloc(), SIXTEEN).expect(&rt, "a setup");
     assert!(rt; devices.len() == 16);
 }
@@ -63,8 +65,12 @@ fn every_key_is_read(rt: HostRuntime) {
     assert!(rt; is_whole(&setup, devices.as_slice()));
 }
 
-const REFUSED: [(&str, SetupFault); 19] = [
+const REFUSED: [(&str, SetupFault); 23] = [
     ("frames = 0", SetupFault::BadValue),
+    ("buffer = 0", SetupFault::BadValue),
+    ("page_size = 0", SetupFault::BadValue),
+    ("replicas = 0", SetupFault::BadValue),
+    ("workers = 0", SetupFault::BadValue),
     ("frames = \"2\"", SetupFault::BadKey),
     ("colour = 1", SetupFault::BadKey),
     ("frames =", SetupFault::NotToml),

@@ -74,9 +74,9 @@ impl Write for Marked {
     }
 }
 
-// Where lines come in pieces, the answer of each is handed on by itself, and nothing is handed on while a line goes on.
+// Where lines come in pieces, the answer of each is flushed by itself, and nothing is flushed while a line goes on.
 #[test]
-fn answers_are_handed_on_before_the_next_read(rt: HostRuntime) {
+fn answers_are_flushed_before_the_next_read(rt: HostRuntime) {
     let mut reader = Trickle {
         rest: b"show 1\nshow 9\nx",
         is_ready: false,
@@ -115,43 +115,43 @@ fn a_failed_read_ends_the_play(rt: HostRuntime) {
     assert!(rt; played == Err(PlayFault::ReadFault) && answers.as_slice() == b"end 0\n".as_slice());
 }
 
-// Takes so many bytes, and then fails.
+// Takes this many bytes, and then fails.
 #[derive(Drop)]
 struct Narrow {
-    room: usize,
+    left: usize,
 }
 
 impl Write for Narrow {
     fn write(&mut self, bytes: &[u8]) -> io::Result<usize> {
-        if self.room == 0 {
+        if self.left == 0 {
             return Err(io::Error::from(ErrorKind::BrokenPipe));
         }
-        let count = bytes.len().min(self.room);
-        self.room -= count;
+        let count = bytes.len().min(self.left);
+        self.left -= count;
         Ok(count)
     }
 
     fn flush(&mut self) -> io::Result<()> {
-        if self.room == 0 {
+        if self.left == 0 {
             return Err(io::Error::from(ErrorKind::BrokenPipe));
         }
         Ok(())
     }
 }
 
-// How a play ends whose writer has so much room.
-fn ended_in(alloc: Global, room: usize) -> Result<(), PlayFault> {
+// How a play ends whose writer takes this many bytes.
+fn ended_in(alloc: Global, left: usize) -> Result<(), PlayFault> {
     let mut reader: &[u8] = b"show 1\nref 1 1 0:1 1\nflush 1 1\n";
-    let mut writer = Narrow { room };
+    let mut writer = Narrow { left };
     ended(alloc, &mut reader, &mut writer)
 }
 
 // "end 0\nok\nok\n" has 12 bytes. Each write but the first may fail, and after the last one the flush.
 #[test]
 fn a_failed_write_ends_the_play(rt: HostRuntime) {
-    for room in 0..13usize {
-        let played = ended_in(rt.alloc(), room);
-        assert!(rt; played == Err(PlayFault::WriteFault), "room for {room}");
+    for left in 0..13usize {
+        let played = ended_in(rt.alloc(), left);
+        assert!(rt; played == Err(PlayFault::WriteFault), "of {left} bytes");
     }
     assert!(rt; ended_in(rt.alloc(), 13) == Ok(()));
 }

@@ -7,10 +7,10 @@ use warm_devices::{DeviceFault, FileDevice, Flaky, MemDevice, OpenFault, PageDev
 #[test]
 fn a_device_in_memory_keeps_its_pages(rt: HostRuntime) {
     let alloc = rt.alloc();
-    let inner = MemDevice::new(alloc, 4, 2).expect(&rt, "room for pages");
+    let inner = MemDevice::new(alloc, 4, 2).expect(&rt, "memory for pages");
     let mut device: Box<dyn PageDevice + Send> = Box::new(alloc, inner).expect(
         &rt,
-        "room for a box",
+        "memory for a box",
     );
     let mut page = [9; 2];
     assert!(rt; device.pages() == 4 && device.page_size() == 2 && device.failures() == 0);
@@ -23,7 +23,7 @@ fn a_device_in_memory_keeps_its_pages(rt: HostRuntime) {
 
 #[test]
 fn the_chosen_write_tears_its_page(rt: HostRuntime) {
-    let inner = MemDevice::new(rt.alloc(), 4, 2).expect(&rt, "room for pages");
+    let inner = MemDevice::new(rt.alloc(), 4, 2).expect(&rt, "memory for pages");
     let mut device = Flaky::new(inner, 2);
     let mut page = [0; 2];
     assert!(rt;
@@ -106,10 +106,7 @@ fn memory_for_more_pages_than_any_is_refused(rt: HostRuntime) {
 const WIDE: u64 = 8_589_934_592;
 
 fn open_wide<R: Files<File = File> + Abort>(rt: &R, path: &str) -> FileDevice {
-    match FileDevice::open(rt, path, WIDE, 1) {
-        Ok(device) => device,
-        Err(_) => FileDevice::open(rt, path, WIDE, 1).expect(rt, "opened"),
-    }
+    FileDevice::open(rt, path, WIDE, 1).expect(rt, "opened")
 }
 
 // Writes a byte of the file as a page.

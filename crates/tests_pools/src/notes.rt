@@ -19,10 +19,10 @@ fn noting(
 ) -> (Hooked<Arc<Note, Global>>, Arc<Note, Global>)
     ensures { hooked_state result.0 ≡ zeroed pages page_size }
 {
-    let note = Note::blank(alloc, pages, page_size).expect(rt, "room for a note");
+    let note = Note::blank(alloc, pages, page_size).expect(rt, "memory for a note");
     let other = Arc::try_clone(&note).expect(rt, "a second owner");
-    let inner = MemDevice::new(alloc, pages, page_size).expect(rt, "room for pages");
-    let device = Hooked::new(alloc, inner, other).expect(rt, "room for a page");
+    let inner = MemDevice::new(alloc, pages, page_size).expect(rt, "memory for pages");
+    let device = Hooked::new(alloc, inner, other).expect(rt, "memory for a page");
     (device, note)
 }
 

@@ -2,9 +2,6 @@
 //! of it. Each call stands in a function of its own, which keeps by which history the pool is ranked: so what is proved of a test does
 //! not grow with its rows.
 //!
-//! With `rt try --test --fail-alloc N`, for N from 1 on, each allocation fails in turn: what takes memory is then asked for once
-//! more, with what the refusal handed back.
-//!
 //! What must not fail ends the process where it does: a `?` would be one more way out, on which the drop of all that is owned
 //! is proved.
 ghost use Rattle.std.specs.Prelude.{◌≤◌, length};
@@ -26,8 +23,7 @@ const fn slot(index: u32, generation: u64) -> Slot {
     Slot { index, generation }
 }
 
-// One allocation alone fails, so the next try has the memory.
-const ONE_REFUSED: &str = "one allocation alone fails";
+const AMPLE: &str = "memory is ample";
 
 fn pool_of<D: PageDevice>(
     rt: &impl Abort,
@@ -39,24 +35,16 @@ fn pool_of<D: PageDevice>(
     requires { length devices.items ≤ 2 }
     ensures { IsRankedByAll result }
 {
-    let count = devices.len();
     match Pool::new(alloc, frames, page_size, devices) {
         Ok(pool) => pool,
-        Err(unmade) => {
-            let given = (unmade.fault, unmade.devices.len());
-            assert!(rt; given == (NewPoolFault::Memory, count));
-            match Pool::new(alloc, frames, page_size, unmade.devices) {
-                Ok(pool) => pool,
-                Err(_) => panic!(rt; "no memory for the pool"),
-            }
-        }
+        Err(_) => panic!(rt; "no pool"),
     }
 }
 
 fn pool_over<D: PageDevice>(rt: &impl Abort, alloc: Global, frames: usize, device: D) -> Pool<D>
     ensures { IsRankedByAll result }
 {
-    let devices = alone(alloc, device).expect(rt, ONE_REFUSED);
+    let devices = alone(alloc, device).expect(rt, AMPLE);
     pool_of(rt, alloc, frames, 16, devices)
 }
 
@@ -269,7 +257,7 @@ enum Row<'a> {
     Resident(u16, u64, bool),
     // Whether the page is on a device.
     Has(u64, bool),
-    // So many frames.
+    // How many frames there are.
     Frames(usize),
     // What is dirty is written to its device.
     WritesBack(Said),
@@ -366,10 +354,10 @@ fn unretired<D: PageDevice>(
 fn pages_of_two_devices_are_apart(rt: HostRuntime) {
     let alloc = rt.alloc();
     let history = History::new(alloc);
-    let first = memory(alloc, 16).expect(&rt, ONE_REFUSED);
-    let second = memory(alloc, 128).expect(&rt, ONE_REFUSED);
-    let next = memory(alloc, 8).expect(&rt, ONE_REFUSED);
-    let devices = both(alloc, first, second).expect(&rt, ONE_REFUSED);
+    let first = memory(alloc, 16).expect(&rt, AMPLE);
+    let second = memory(alloc, 128).expect(&rt, AMPLE);
+    let next = memory(alloc, 8).expect(&rt, AMPLE);
+    let devices = both(alloc, first, second).expect(&rt, AMPLE);
     let mut pool = pool_of(&rt, alloc, 2, 16, devices);
     let rows = [
         Row::Loads(1, 7, Said::At(0, 1)),
@@ -388,7 +376,7 @@ fn pages_of_two_devices_are_apart(rt: HostRuntime) {
     closes(&rt, pool);
 }
 
-// Pages with a fix keep their device from being exchanged for another, which is handed back.
+// Pages with a fix keep their device from being exchanged for another, which is given back.
 fn kept_by_fixes<D: PageDevice>(
     rt: &impl Abort,
     pool: &mut Pool<D>,
@@ -438,8 +426,8 @@ fn let_go_unfixed<D: PageDevice>(rt: &impl Abort, pool: &mut Pool<D>, history: &
 fn two_frames_over_eight_pages(rt: HostRuntime) {
     let alloc = rt.alloc();
     let history = History::new(alloc);
-    let first = memory(alloc, 8).expect(&rt, ONE_REFUSED);
-    let next = memory(alloc, 4).expect(&rt, ONE_REFUSED);
+    let first = memory(alloc, 8).expect(&rt, AMPLE);
+    let next = memory(alloc, 4).expect(&rt, AMPLE);
     let mut pool = pool_over(&rt, alloc, 2, first);
     let device = kept_by_fixes(&rt, &mut pool, &history, next);
     let mut pool = not_closed(&rt, pool, &history);
@@ -455,7 +443,7 @@ fn unmade<D: PageDevice>(
     page_size: usize,
     device: D,
 ) -> (NewPoolFault, usize) {
-    let devices = alone(alloc, device).expect(rt, ONE_REFUSED);
+    let devices = alone(alloc, device).expect(rt, AMPLE);
     match Pool::new(alloc, frames, page_size, devices) {
         Ok(_) => panic!(rt; "the pool is made"),
         Err(unmade) => (unmade.fault, unmade.devices.len()),
@@ -463,14 +451,14 @@ fn unmade<D: PageDevice>(
 }
 
 #[test]
-fn refused_pools_hand_their_devices_back(rt: HostRuntime) {
+fn refused_pools_give_their_devices_back(rt: HostRuntime) {
     let alloc = rt.alloc();
     for (frames, page_size, fault) in [
         (0, 16, NewPoolFault::BadFrames),
         (65_537, 16, NewPoolFault::BadFrames),
         (2, 8, NewPoolFault::SizeDiffers),
     ] {
-        let device = memory(alloc, 8).expect(&rt, ONE_REFUSED);
+        let device = memory(alloc, 8).expect(&rt, AMPLE);
         assert!(rt; unmade(&rt, alloc, frames, page_size, device) == (fault, 1));
     }
 }
@@ -485,7 +473,7 @@ fn a_dirty_victim_stays_where_its_write_fails(rt: HostRuntime) {
         Row::Visits(2),
         Row::Finds(1, &[0xAA; 16]),
     ];
-    let device = flaky(rt.alloc(), 8, 3).expect(&rt, ONE_REFUSED);
+    let device = flaky(rt.alloc(), 8, 3).expect(&rt, AMPLE);
     lives(&rt, rt.alloc(), 1, device, &rows)
 }
 
@@ -505,8 +493,8 @@ fn stays_unflushed<D: PageDevice>(rt: &impl Abort, pool: &mut Pool<D>, history: 
 fn a_device_stays_where_its_flush_fails(rt: HostRuntime) {
     let alloc = rt.alloc();
     let history = History::new(alloc);
-    let failing = flaky(alloc, 8, 3).expect(&rt, ONE_REFUSED);
-    let next = flaky(alloc, 8, 0).expect(&rt, ONE_REFUSED);
+    let failing = flaky(alloc, 8, 3).expect(&rt, AMPLE);
+    let next = flaky(alloc, 8, 0).expect(&rt, AMPLE);
     let mut pool = pool_over(&rt, alloc, 1, failing);
     stays_unflushed(&rt, &mut pool, &history, next);
     closes(&rt, pool);
@@ -528,7 +516,7 @@ fn an_emptied_pool_keeps_its_pages(rt: HostRuntime) {
         Row::Finds(6, &bytes),
         Row::Unpins(0, 2),
     ];
-    let device = memory(rt.alloc(), 8).expect(&rt, ONE_REFUSED);
+    let device = memory(rt.alloc(), 8).expect(&rt, AMPLE);
     lives(&rt, rt.alloc(), 2, device, &rows)
 }
 
@@ -543,6 +531,6 @@ fn a_page_stays_out_where_no_frame_or_no_byte_is_to_be_had(rt: HostRuntime) {
         Row::NoneLeaves,
         Row::Unpins(0, 1),
     ];
-    let device = flaky(rt.alloc(), 8, 1).expect(&rt, ONE_REFUSED);
+    let device = flaky(rt.alloc(), 8, 1).expect(&rt, AMPLE);
     lives(&rt, rt.alloc(), 1, device, &rows)
 }

@@ -1,4 +1,4 @@
-//! Eight jobs at once, mostly more than there are processors. Each reply tells where in the one legal history it stands, so all
+//! Eight jobs at once, mostly more than there are processors. Each reply says where in the one legal history it stands, so all
 //! replies of all jobs are compared with one order.
 ghost use Rattle.std.specs.Prelude.{◌≡◌};
 
@@ -22,7 +22,7 @@ const ROUNDS: u64 = 4_000;
 const RUNS: u32 = 6;
 
 // In each round a job touches a page of its own, flushes, and asks for what the node has heard of the pages of all jobs, which are
-// in bucket 0. The stamp of a touch tells the round, counted from 1.
+// in bucket 0. The stamp of a touch gives the round, counted from 1.
 fn job_of(rt: &impl Abort, alloc: Global, job: u64) -> Job {
     let mut steps = Vec::new(alloc);
     for round in 1..=ROUNDS {
@@ -35,12 +35,12 @@ fn job_of(rt: &impl Abort, alloc: Global, job: u64) -> Job {
             bucket: bucket(0),
             after: None,
         };
-        let call = BoxedCall::new(alloc, call).expect(rt, "room for a call");
+        let call = BoxedCall::new(alloc, call).expect(rt, "memory for a call");
         steps
             .push(Step::Touch(touch))
-            .expect(rt, "room for a touch");
-        steps.push(Step::Flush).expect(rt, "room for a flush");
-        steps.push(Step::Make(call)).expect(rt, "room for a step");
+            .expect(rt, "memory for a touch");
+        steps.push(Step::Flush).expect(rt, "memory for a flush");
+        steps.push(Step::Make(call)).expect(rt, "memory for a step");
     }
     Job { capacity: 1, steps }
 }
@@ -54,7 +54,7 @@ fn answered<M: Absorbing + Drop + Send, R: Threads + Wait + Abort + Sync>(
     let mut jobs = Vec::new(alloc);
     for job in 0..8 {
         jobs.push(job_of(rt, alloc, job))
-            .expect(rt, "room for a job");
+            .expect(rt, "memory for a job");
     }
     let (replica, mut pass) = turn_over(rt, alloc, machine);
     let ran = run(rt, alloc, &replica, &mut pass, jobs, &Open);
@@ -64,7 +64,7 @@ fn answered<M: Absorbing + Drop + Send, R: Threads + Wait + Abort + Sync>(
 // How many rounds of each job.
 type Rounds = [u64; JOBS];
 
-// How many rounds of each job these entries tell of.
+// How many rounds of each job these entries show.
 fn rounds_of(entries: &[Entry]) -> Option<Rounds> {
     let mut rounds = [0; JOBS];
     for entry in entries {
@@ -78,8 +78,8 @@ fn rounds_of(entries: &[Entry]) -> Option<Rounds> {
     Some(rounds)
 }
 
-// What a job was told of, where it touched and flushed before.
-fn told_after(step: &[StepReply]) -> Option<Rounds> {
+// What the reply to a job's call shows, where the job touched and flushed before.
+fn shown_after(step: &[StepReply]) -> Option<Rounds> {
     let [
         StepReply::Touched,
         StepReply::Flushed,
@@ -94,18 +94,18 @@ fn told_after(step: &[StepReply]) -> Option<Rounds> {
     }
 }
 
-fn digest_of(rounds: &Rounds) -> u64 {
-    let mut sum = 0u64;
+fn total_of(rounds: &Rounds) -> u64 {
+    let mut total = 0u64;
     for one in rounds {
-        sum = sum.wrapping_add(*one);
+        total = total.wrapping_add(*one);
     }
-    sum
+    total
 }
 
-// Whether a job that has made so many rounds was told of just these rounds of its own, and what others were told after as many
-// rounds. It is noted.
+// Whether a job that has made `own` rounds is shown just these rounds of its own, and what others are shown after as many rounds in
+// all. It is noted.
 fn is_noted(seen: &mut Vec<Option<Rounds>>, job: usize, own: u64, rounds: Rounds) -> bool {
-    let Some(place) = seen.get_mut(digest_of(&rounds) as usize) else {
+    let Some(place) = seen.get_mut(total_of(&rounds) as usize) else {
         return false;
     };
     if rounds.get(job) != Some(&own) || place.unwrap_or(rounds) != rounds {
@@ -119,7 +119,7 @@ fn is_noted(seen: &mut Vec<Option<Rounds>>, job: usize, own: u64, rounds: Rounds
 fn are_noted(seen: &mut Vec<Option<Rounds>>, job: usize, replies: &[StepReply]) -> bool {
     let mut own = 0u64;
     for step in replies.chunks(3) {
-        let Some(rounds) = told_after(step) else {
+        let Some(rounds) = shown_after(step) else {
             return false;
         };
         own = own.wrapping_add(1);
@@ -143,8 +143,8 @@ fn has_all(rounds: &Rounds, last: &Rounds) -> bool {
 // Whether each of these has all rounds of those before it.
 fn are_in_one_order(seen: &[Option<Rounds>]) -> bool {
     let mut last = [0; JOBS];
-    for told in seen {
-        let rounds = told.unwrap_or(last);
+    for shown in seen {
+        let rounds = shown.unwrap_or(last);
         if !has_all(&rounds, &last) {
             return false;
         }
@@ -153,9 +153,9 @@ fn are_in_one_order(seen: &[Option<Rounds>]) -> bool {
     true
 }
 
-// Whether what the jobs of one run were told are states of one history.
+// Whether what the jobs of one run were shown are states of one history.
 fn are_of_one_history(rt: &impl Abort, alloc: Global, all: &[Vec<StepReply>]) -> bool {
-    let mut seen = vec![in alloc; None; JOBS * ROUNDS as usize + 1].expect(rt, "room for notes");
+    let mut seen = vec![in alloc; None; JOBS * ROUNDS as usize + 1].expect(rt, "memory for notes");
     for (job, replies) in all.iter().enumerate() {
         if !are_noted(&mut seen, job, replies) {
             return false;
@@ -164,7 +164,7 @@ fn are_of_one_history(rt: &impl Abort, alloc: Global, all: &[Vec<StepReply>]) ->
     all.len() == JOBS && are_in_one_order(&seen)
 }
 
-// What the jobs were told are states of one history: ordered by their rounds, each has all rounds of those before it.
+// What the jobs were shown are states of one history: ordered by their rounds, each has all rounds of those before it.
 #[test]
 fn flushes_of_eight_jobs_are_in_one_order(rt: HostRuntime) {
     for _ in 0..RUNS {

@@ -1,35 +1,39 @@
-//! The numbers and names of what refuses a flush or a run of jobs, and how they are shown.
+//! How what refuses a turn, a flush or a run of jobs is shown.
 use std::alloc::Global;
+use std::fmt;
 use std::process::Abort;
 use warm_replica::{FlushFault, NoThread, RunFault};
+use warm_turn::{Add, Busy, Counter, Memory, TurnsSpent};
 
-// Whether a refused flush has this number and this name, and is shown by it.
-fn is_flush_fault(rt: &impl Abort, alloc: Global, fault: FlushFault, code: u8, name: &str) -> bool {
-    let shown = format!(in alloc; "{fault}").expect(rt, "room for a name");
-    fault.code() == code && fault.name() == name && shown.as_str() == name
-}
-
-// The same of a refused run.
-fn is_run_fault(rt: &impl Abort, alloc: Global, fault: RunFault, code: u8, name: &str) -> bool {
-    let shown = format!(in alloc; "{fault}").expect(rt, "room for a name");
-    fault.code() == code && fault.name() == name && shown.as_str() == name
+// Whether this is what a refusal prints.
+fn prints(rt: &impl Abort, alloc: Global, refusal: &impl fmt::Display, want: &str) -> bool {
+    let text = format!(in alloc; "{refusal}").expect(rt, "memory for a text");
+    text.as_str() == want
 }
 
 #[test]
-fn flush_faults_have_numbers_and_names(rt: HostRuntime) {
-    assert!(rt; is_flush_fault(&rt, rt.alloc(), FlushFault::Memory, 1, "Memory"));
-    assert!(rt; is_flush_fault(&rt, rt.alloc(), FlushFault::TurnsSpent, 2, "TurnsSpent"));
+fn refusals_of_a_turn_say_what_they_are(rt: HostRuntime) {
+    let memory = Memory {
+        machine: Counter { total: 3 },
+    };
+    let spent = TurnsSpent { call: Add(1) };
+    let busy = Busy {
+        ticket: 8,
+        serving: 7,
+    };
+    let want = "ticket 8 is next, and ticket 7 is still served";
+    assert!(rt; prints(&rt, rt.alloc(), &memory, "no memory was left for a turn"));
+    assert!(rt; prints(&rt, rt.alloc(), &spent, "no ticket is left for a call"));
+    assert!(rt; prints(&rt, rt.alloc(), &busy, want));
 }
 
 #[test]
-fn run_faults_have_numbers_and_names(rt: HostRuntime) {
-    assert!(rt; is_run_fault(&rt, rt.alloc(), RunFault::Memory, 1, "Memory"));
-    assert!(rt; is_run_fault(&rt, rt.alloc(), RunFault::NoThread, 2, "NoThread"));
-    assert!(rt; is_run_fault(&rt, rt.alloc(), RunFault::BadCapacity, 3, "BadCapacity"));
-}
-
-#[test]
-fn a_thread_that_is_missing_is_shown_by_its_name(rt: HostRuntime) {
-    let shown = format!(in rt.alloc(); "{}", NoThread).expect(&rt, "room for a name");
-    assert!(rt; shown.as_str() == "NoThread");
+fn other_refusals_are_shown_by_their_names(rt: HostRuntime) {
+    let alloc = rt.alloc();
+    assert!(rt; prints(&rt, alloc, &FlushFault::Memory, "Memory"));
+    assert!(rt; prints(&rt, alloc, &FlushFault::TurnsSpent, "TurnsSpent"));
+    assert!(rt; prints(&rt, alloc, &RunFault::Memory, "Memory"));
+    assert!(rt; prints(&rt, alloc, &RunFault::NoThread, "NoThread"));
+    assert!(rt; prints(&rt, alloc, &RunFault::BadCapacity, "BadCapacity"));
+    assert!(rt; prints(&rt, alloc, &NoThread, "NoThread"));
 }

@@ -90,7 +90,7 @@ pub(crate) fn ran<M: Absorbing + Drop + Send, R: Threads + Wait + Abort + Sync, 
 
 // A job with a buffer of two: three touches of its page, a flush and a call.
 fn job_of(rt: &impl Abort, alloc: Global, no: u64) -> Job {
-    let call = BoxedCall::new(alloc, Call::Victim).expect(rt, "room for a call");
+    let call = BoxedCall::new(alloc, Call::Victim).expect(rt, "memory for a call");
     let steps = vec![in alloc;
         Step::Touch(seen(page(no), u64::wrapping_add(10, no), 1)),
         Step::Touch(seen(page(no), u64::wrapping_add(20, no), 1)),
@@ -98,7 +98,7 @@ fn job_of(rt: &impl Abort, alloc: Global, no: u64) -> Job {
         Step::Flush,
         Step::Make(call),
     ]
-    .expect(rt, "room for steps");
+    .expect(rt, "memory for steps");
     Job { capacity: 2, steps }
 }
 
@@ -140,7 +140,7 @@ fn are_met<R: Threads + Wait + Abort + Sync, G: Gate + Sync>(
     let mut jobs = Vec::new(alloc);
     for no in 0..4 {
         jobs.push(job_of(rt, alloc, no))
-            .expect(rt, "room for a job");
+            .expect(rt, "memory for a job");
     }
     let (ran, pages) = ran(rt, alloc, fresh(rt, alloc), jobs, gate);
     let all = listed(rt, alloc, ran.expect(rt, "the jobs run"));
@@ -162,8 +162,8 @@ fn four_jobs_meet(rt: HostRuntime) {
 // A job with a buffer of this many references and one touch.
 fn one_touch(rt: &impl Abort, alloc: Global, capacity: usize) -> Vec<Job> {
     let touch = Step::Touch(seen(page(1), 10, 1));
-    let steps = vec![in alloc; touch].expect(rt, "room for a step");
-    vec![in alloc; Job { capacity, steps }].expect(rt, "room for a job")
+    let steps = vec![in alloc; touch].expect(rt, "memory for a step");
+    vec![in alloc; Job { capacity, steps }].expect(rt, "memory for a job")
 }
 
 // How such a job ends, where nothing was flushed.
@@ -196,9 +196,9 @@ fn a_buffer_holds_1_to_1024(rt: HostRuntime) {
 fn are_flushed<R: Threads + Wait + Abort + Sync>(rt: &R, alloc: Global) -> bool {
     let mut jobs = Vec::new(alloc);
     for _ in 0..64 {
-        let steps = vec![in alloc; Step::Flush].expect(rt, "room for a step");
+        let steps = vec![in alloc; Step::Flush].expect(rt, "memory for a step");
         jobs.push(Job { capacity: 1, steps })
-            .expect(rt, "room for a job");
+            .expect(rt, "memory for a job");
     }
     let (ran, _pages) = ran(rt, alloc, fresh(rt, alloc), jobs, &Open);
     let all = listed(rt, alloc, ran.expect(rt, "the jobs run"));

@@ -18,5 +18,3 @@ mod setup;
 mod turns;
 #[cfg(test)]
 mod waiting;
-#[cfg(test)]
-mod worker;

@@ -7,7 +7,7 @@ use std::alloc::Global;
 use std::process::Abort;
 use std::sync::Wait;
 use std::thread::Threads;
-use test_kit::replica;
+use test_kit::{NARROW, WIDE, replica};
 use warm_digest::digests;
 use warm_frames::{Message, encode};
 use warm_history::History;
@@ -19,9 +19,9 @@ use warm_stamps::{ByteList, ReplicaId};
 
 // A channel with letters of these bytes, and a Stop.
 fn mailed<R: Wait + Abort>(rt: &R, alloc: Global, texts: &[&[u8]]) -> Receiver<Mail> {
-    let (sender, receiver) = unbounded(alloc).expect(rt, "room for a channel");
+    let (sender, receiver) = unbounded(alloc).expect(rt, "memory for a channel");
     for text in texts {
-        let bytes = ByteList::of((*text).to_vec(alloc).expect(rt, "room for bytes"));
+        let bytes = ByteList::of((*text).to_vec(alloc).expect(rt, "memory for bytes"));
         sender
             .send(rt, Mail::Bytes(bytes))
             .ok()
@@ -33,18 +33,6 @@ fn mailed<R: Wait + Abort>(rt: &R, alloc: Global, texts: &[&[u8]]) -> Receiver<M
         .expect(rt, "a Stop is sent");
     receiver
 }
-
-// Entries of replica 1 in the narrow format: 0:7 with 20@1 and 10@1.
-const ENTRIES: [u8; 42] = [
-    0x4C, 0x32, 0x47, 0x31, 1, 0, 1, 0, 0, 0, 0x1F, 0, 0, 0, 1, 0, 0, 0, 0, 0, 7, 2, 0, 0, 0, 0, 0,
-    0, 0, 0x14, 0, 1, 0, 0, 0, 0, 0, 0, 0, 0x0A, 0, 1,
-];
-
-// The same in the wide format, at horizon 12, so that 10@1 is forgotten.
-const LATE_ENTRIES: [u8; 54] = [
-    0x4C, 0x32, 0x47, 0x32, 1, 0, 1, 0, 0, 0, 0, 0, 0, 0, 12, 0, 0, 0, 0x23, 0, 0, 0, 1, 0, 0, 0,
-    0, 0, 0, 0, 0, 0, 7, 2, 0, 0, 0, 0, 0, 0, 0, 0x14, 0, 1, 0, 0, 0, 0, 0, 0, 0, 0x0A, 0, 1,
-];
 
 // Replica 1 at this horizon sends one entry: this page of device 0, with one stamp of replica 1 at this time.
 const fn entry_at(horizon: u8, no: u8, time: u8) -> [u8; 44] {
@@ -64,13 +52,13 @@ const fn request_at(horizon: u8, request: u8) -> [u8; 27] {
 
 // The bytes of a digest of the empty history at a horizon, from replica 9.
 fn digest(rt: &impl Abort, alloc: Global, horizon: u64) -> Vec<u8> {
-    let digests = digests(alloc, &History::new(alloc)).expect(rt, "room for digests");
-    let frame = Message::Digest {
+    let digests = digests(alloc, &History::new(alloc)).expect(rt, "memory for digests");
+    let message = Message::Digest {
         sender: replica(9),
         horizon,
         digests,
     };
-    encode(alloc, &frame).expect(rt, "room for a frame")
+    encode(alloc, &message).expect(rt, "memory for the bytes")
 }
 
 // After how many Stops and turns a loop ends, and how many items its channel gives.
@@ -112,7 +100,7 @@ fn heard_alone<R: Wait + Abort>(
     heard(rt, alloc, fresh(rt, alloc), mail, &mut post, bounds)
 }
 
-// Entries, a byte that is no frame, and a Stop come. Where a second Stop is waited for the channel is closed.
+// Entries, a byte that is no message, and a Stop come. Where a second Stop is waited for the channel is closed.
 #[test]
 fn a_loop_ends_at_its_bounds(rt: HostRuntime) {
     let rows = [
@@ -124,7 +112,7 @@ fn a_loop_ends_at_its_bounds(rt: HostRuntime) {
         ((1, 10, 1), report(1, 0, 0)),
     ];
     for (bounds, want) in rows {
-        let mail = mailed(&rt, rt.alloc(), &[&ENTRIES, &[0]]);
+        let mail = mailed(&rt, rt.alloc(), &[&NARROW, &[0]]);
         assert!(rt; heard_alone(&rt, rt.alloc(), mail, bounds) == want);
     }
 }
@@ -178,11 +166,7 @@ fn answers_are_kept_for_their_sender(rt: HostRuntime) {
 fn both_formats_come_in_one_stream(rt: HostRuntime) {
     let alloc = rt.alloc();
     let text = digest(&rt, alloc, 0);
-    let mail = mailed(
-        &rt,
-        alloc,
-        &[&ENTRIES, &LATE_ENTRIES, &[0], text.as_slice()],
-    );
+    let mail = mailed(&rt, alloc, &[&NARROW, &WIDE, &[0], text.as_slice()]);
     let mut post = MemPost::new(alloc);
     let heard = heard(&rt, alloc, fresh(&rt, alloc), mail, &mut post, ONE_STOP);
     assert!(rt; heard == report(3, 1, 0));
@@ -191,13 +175,13 @@ fn both_formats_come_in_one_stream(rt: HostRuntime) {
 
 // The end of a channel for replica 9, as its only outbox, and the other end.
 fn outbox_of_nine(rt: &impl Abort, alloc: Global) -> (Vec<Outbox>, Receiver<Mail>) {
-    let (sender, receiver) = unbounded(alloc).expect(rt, "room for a channel");
+    let (sender, receiver) = unbounded(alloc).expect(rt, "memory for a channel");
     let outbox = Outbox {
         replica: replica(9),
         sender,
     };
     (
-        vec![in alloc; outbox].expect(rt, "room for an outbox"),
+        vec![in alloc; outbox].expect(rt, "memory for an outbox"),
         receiver,
     )
 }
@@ -234,7 +218,7 @@ fn answers_reach_the_first_outbox_of_a_number(rt: HostRuntime) {
     let (mut others, second) = outbox_of_nine(&rt, alloc);
     boxes
         .append(&mut others)
-        .expect(&rt, "room for two outboxes");
+        .expect(&rt, "memory for two outboxes");
     assert!(rt; heard_over(&rt, alloc, boxes) == report(2, 0, 0));
     assert!(rt; brings_bytes(&rt, &first, &entry_at(0, 1, 10)));
     assert!(rt; brings_bytes(&rt, &first, &request_at(0, 2)));
@@ -253,7 +237,7 @@ fn heard_by_both<M: Absorbing + Drop + Send, R: Threads + Wait + Abort + Sync>(
 ) -> (MailReport, MailReport) {
     let (first, one) = opened(rt, alloc, first);
     let (second, two) = opened(rt, alloc, second);
-    let mut stations = Vec::with_capacity(alloc, 2).expect(rt, "room for two stations");
+    let mut stations = Vec::with_capacity(alloc, 2).expect(rt, "memory for two stations");
     stations.push_reserved(Station::new(&first, one, to_first, Vec::new(alloc)));
     stations.push_reserved(Station::new(&second, two, to_second, of_second));
     ended(rt, alloc, stations)
@@ -272,7 +256,7 @@ fn ended<M: Absorbing + Drop + Send, R: Threads + Wait + Abort + Sync>(
     }
 }
 
-// What two nodes count: one hears of entries and a byte that is no frame, the other of entries and a digest, whose two answers
+// What two nodes count: one hears of entries and a byte that is no message, the other of entries and a digest, whose two answers
 // reach these outboxes.
 fn heard_by_nodes<R: Threads + Wait + Abort + Sync>(
     rt: &R,
@@ -280,8 +264,8 @@ fn heard_by_nodes<R: Threads + Wait + Abort + Sync>(
     boxes: Vec<Outbox>,
 ) -> (MailReport, MailReport) {
     let text = digest(rt, alloc, 0);
-    let to_first = mailed(rt, alloc, &[&ENTRIES, &[0]]);
-    let to_second = mailed(rt, alloc, &[&ENTRIES, text.as_slice()]);
+    let to_first = mailed(rt, alloc, &[&NARROW, &[0]]);
+    let to_second = mailed(rt, alloc, &[&NARROW, text.as_slice()]);
     let first = fresh(rt, alloc);
     let second = fresh(rt, alloc);
     heard_by_both(rt, alloc, first, to_first, second, to_second, boxes)

@@ -20,7 +20,7 @@ fn setup_of(rt: &impl Abort, size: Size) -> Setup {
     Setup::new(replicas, workers, buffer, 4, 16).expect(rt, "a setup")
 }
 
-// What is played over so many lists of a device with pages of this size, and what is printed.
+// How a play ends over this many lists of a device with pages of this size, and what is printed.
 fn played<R: Threads + Wait + Abort + Sync>(
     rt: &R,
     alloc: Global,
@@ -31,9 +31,9 @@ fn played<R: Threads + Wait + Abort + Sync>(
 ) -> (Result<(), PlayFault>, String) {
     let mut devices = Vec::new(alloc);
     for _ in 0..lists {
-        let device = MemDevice::new(alloc, 256, page_size).expect(rt, "room for a device");
-        let list = alone(alloc, device).expect(rt, "room for a list");
-        devices.push(list).expect(rt, "room for a list");
+        let device = MemDevice::new(alloc, 256, page_size).expect(rt, "memory for a device");
+        let list = alone(alloc, device).expect(rt, "memory for a list");
+        devices.push(list).expect(rt, "memory for a list");
     }
     let mut reader = text;
     let mut out: Vec<u8> = Vec::new(alloc);
@@ -106,7 +106,7 @@ fn lines_of(rt: &impl Abort, alloc: Global, before: &str, after: &str) -> String
     let mut text = String::new(alloc);
     for place in 0..1001u32 {
         let page = u32::wrapping_mul(place, 64);
-        writeln!(text, "{before}0:{page}{after}").expect(rt, "room for a line");
+        writeln!(text, "{before}0:{page}{after}").expect(rt, "memory for a line");
     }
     text
 }
@@ -116,11 +116,11 @@ fn shown_twice(rt: &impl Abort, alloc: Global) -> String {
     let entries = lines_of(rt, alloc, "", " last 7@1");
     format!(in alloc; "replica 1\n{entries}end 1001\nreplica 2\n{entries}end 1001\n").expect(
         rt,
-        "room for a text",
+        "memory for a text",
     )
 }
 
-// Two pages of a bucket of 1,001 are sent in a second frame.
+// Two pages of a bucket of 1,001 are sent in a second message.
 #[test]
 fn a_bucket_is_sent_whole(rt: HostRuntime) {
     let text = lines_of(&rt, rt.alloc(), "ref 1 1 ", " 7");
@@ -159,7 +159,7 @@ fn bad_lines_are_named(rt: HostRuntime) {
 #[test]
 fn a_line_too_long_is_named(rt: HostRuntime) {
     for (bytes, want) in [(262144, Ok(())), (262145, Err(PlayFault::BadLine(1)))] {
-        let text = vec![in rt.alloc(); b'#'; bytes].expect(&rt, "room for a line");
+        let text = vec![in rt.alloc(); b'#'; bytes].expect(&rt, "memory for a line");
         let (ended, _) = played_by(&rt, rt.alloc(), DEFAULT, text.as_slice());
         assert!(rt; ended == want);
     }

@@ -15,14 +15,14 @@ use warm_replica::{Absorbing, Replies, StepReply, Worker};
 use warm_stamps::PageList;
 use warm_turn::{Pass, Turn};
 
-// A node of replica 1 with so many frames.
+// A node of replica 1 with this many frames.
 pub(crate) fn over<D: PageDevice>(
     rt: &impl Abort,
     alloc: Global,
     frames: usize,
     device: D,
 ) -> Node<D> {
-    let devices = alone(alloc, device).expect(rt, "room for a list");
+    let devices = alone(alloc, device).expect(rt, "memory for a list");
     match Pool::new(alloc, frames, 16, devices) {
         Ok(pool) => Node::new(alloc, replica(1), pool),
         Err(_) => panic!(rt; "no pool"),
@@ -31,7 +31,7 @@ pub(crate) fn over<D: PageDevice>(
 
 // A node of two frames over a device of 8 pages.
 pub(crate) fn fresh(rt: &impl Abort, alloc: Global) -> Node<MemDevice> {
-    let device = memory(alloc, 8).expect(rt, "room for a device");
+    let device = memory(alloc, 8).expect(rt, "memory for a device");
     over(rt, alloc, 2, device)
 }
 
@@ -43,7 +43,9 @@ pub(crate) fn turn_over<M: Absorbing + Drop>(
 ) -> (Turn<M>, Pass<M>)
     ensures { result.1.table ≡ result.0.table }
 {
-    Turn::new(alloc, machine).ok().expect(rt, "room for a turn")
+    Turn::new(alloc, machine)
+        .ok()
+        .expect(rt, "memory for a turn")
 }
 
 // The same, and a worker whose buffer holds two references.
@@ -54,7 +56,7 @@ pub(crate) fn opened<M: Absorbing + Drop>(
 ) -> (Turn<M>, Worker<M>)
     ensures { result.1.pass.table ≡ result.0.table }
 {
-    let buffer = RefBuffer::new(alloc, 2).expect(rt, "room for references");
+    let buffer = RefBuffer::new(alloc, 2).expect(rt, "memory for references");
     let (turn, pass) = turn_over(rt, alloc, machine);
     (turn, Worker::new(pass, buffer))
 }
@@ -81,18 +83,21 @@ pub(crate) fn pages_of<E: Drop>(answer: Result<Reply, E>) -> Option<PageList> {
 // The replies of a job, one for each step.
 pub(crate) fn list_of(rt: &impl Abort, alloc: Global, replies: Replies) -> Vec<StepReply> {
     let steps = replies.len();
-    let list = replies.into_vec(alloc).ok().expect(rt, "room for replies");
+    let list = replies
+        .into_vec(alloc)
+        .ok()
+        .expect(rt, "memory for replies");
     assert!(rt; list.len() == steps);
     list
 }
 
 // The replies of each job.
 pub(crate) fn listed(rt: &impl Abort, alloc: Global, all: Vec<Replies>) -> Vec<Vec<StepReply>> {
-    let mut lists = Vec::with_capacity(alloc, all.len()).expect(rt, "room for lists");
+    let mut lists = Vec::with_capacity(alloc, all.len()).expect(rt, "memory for lists");
     for replies in all {
         lists
             .push(list_of(rt, alloc, replies))
-            .expect(rt, "room for a list");
+            .expect(rt, "memory for a list");
     }
     lists
 }

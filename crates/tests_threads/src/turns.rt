@@ -1,15 +1,14 @@
-//! A turn over a counter: its passes in one thread and in four, the greatest total, and what its refusals print.
+//! A turn over a counter: its passes in one thread and in four, and the greatest total.
 ghost use Rattle.std.specs.Prelude.{◌≡◌, Some};
 
 use crate::setup::comes;
 use std::alloc::Global;
-use std::fmt;
 use std::process::Abort;
 use std::sync::Wait;
 use std::sync::atomic::{AtomicU64, Ordering};
 use std::thread::{Threads, join};
 use std::time::Clock;
-use warm_turn::{Add, Added, Busy, Counter, Machine, Memory, Pass, Turn, TurnsSpent};
+use warm_turn::{Add, Added, Counter, Machine, Pass, Turn};
 
 // A turn over a counter at this total.
 fn counter_at(rt: &impl Abort, alloc: Global, total: u64) -> (Turn<Counter>, Pass<Counter>)
@@ -17,10 +16,10 @@ fn counter_at(rt: &impl Abort, alloc: Global, total: u64) -> (Turn<Counter>, Pas
 {
     Turn::new(alloc, Counter { total })
         .ok()
-        .expect(rt, "room for a turn")
+        .expect(rt, "memory for a turn")
 }
 
-// What code can know that was handed a turn and a pass of it, and is told no more.
+// What code can know that is given a turn and a pass of it, and nothing else.
 fn learn_opening<M: Machine>(turn: &Turn<M>, pass: &mut Pass<M>)
     requires { pass.old.table ≡ turn.now.table }
     ensures table { pass.new.table ≡ turn.now.table }
@@ -91,28 +90,6 @@ fn a_full_counter_stays(rt: HostRuntime) {
             && none == Added::Total(18446744073709551615)
             && total == 18446744073709551615
     );
-}
-
-// Whether this is what a refusal prints.
-fn prints(rt: &impl Abort, alloc: Global, refusal: &impl fmt::Display, want: &str) -> bool {
-    let text = format!(in alloc; "{refusal}").expect(rt, "room for a text");
-    text.as_str() == want
-}
-
-#[test]
-fn refusals_say_what_they_are(rt: HostRuntime) {
-    let memory = Memory {
-        machine: Counter { total: 3 },
-    };
-    let spent = TurnsSpent { call: Add(1) };
-    let busy = Busy {
-        ticket: 8,
-        serving: 7,
-    };
-    let want = "ticket 8 is next, and ticket 7 is still served";
-    assert!(rt; prints(&rt, rt.alloc(), &memory, "no memory was left for a turn"));
-    assert!(rt; prints(&rt, rt.alloc(), &spent, "no ticket is left for a call"));
-    assert!(rt; prints(&rt, rt.alloc(), &busy, want));
 }
 
 // What holds two threads back until two others are done.

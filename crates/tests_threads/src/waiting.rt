@@ -30,7 +30,7 @@ impl Flags {
             touched: AtomicU64::new(0),
             late: AtomicU64::new(0),
         };
-        Arc::new(alloc, flags).expect(rt, "room for flags")
+        Arc::new(alloc, flags).expect(rt, "memory for flags")
     }
 
     fn wait<C: Clock>(&self, clock: &C, flag: &AtomicU64) {
@@ -90,22 +90,22 @@ fn slow_device(
     flags: &Arc<Flags, Global>,
 ) -> Hooked<SlowReads> {
     let flags = Arc::try_clone(flags).expect(rt, "one owner more");
-    let inner = memory(alloc, 8).expect(rt, "room for a device");
-    Hooked::new(alloc, inner, SlowReads { clock, flags }).expect(rt, "room for a page")
+    let inner = memory(alloc, 8).expect(rt, "memory for a device");
+    Hooked::new(alloc, inner, SlowReads { clock, flags }).expect(rt, "memory for a page")
 }
 
 // A job of one step.
 fn job_of(rt: &impl Abort, alloc: Global, step: Step) -> Job {
-    let steps = vec![in alloc; step].expect(rt, "room for a step");
+    let steps = vec![in alloc; step].expect(rt, "memory for a step");
     Job { capacity: 1, steps }
 }
 
 // A job that pins 0:1, and one that touches it.
 fn two_jobs(rt: &impl Abort, alloc: Global) -> Vec<Job> {
     let touches = job_of(rt, alloc, Step::Touch(seen(page(1), 1, 1)));
-    let call = BoxedCall::new(alloc, Call::Pin(page(1))).expect(rt, "room for a call");
+    let call = BoxedCall::new(alloc, Call::Pin(page(1))).expect(rt, "memory for a call");
     let pins = job_of(rt, alloc, Step::Make(call));
-    vec![in alloc; pins, touches].expect(rt, "room for two jobs")
+    vec![in alloc; pins, touches].expect(rt, "memory for two jobs")
 }
 
 // A pin and a touch in threads of their own, and the replies to each.

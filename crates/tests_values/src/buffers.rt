@@ -6,7 +6,7 @@ use warm_refbuffer::{BufferFault, Full, RefBuffer};
 
 #[test]
 fn a_buffer_takes_as_many_as_it_holds(rt: HostRuntime) {
-    let mut buffer = RefBuffer::new(rt.alloc(), 64).expect(&rt, "room for 64 references");
+    let mut buffer = RefBuffer::new(rt.alloc(), 64).expect(&rt, "memory for 64 references");
     assert!(rt; buffer.is_empty());
     for time in 1..=64u64 {
         assert!(rt; buffer.touch(seen(page(1), time, 1)) == Ok(()));

@@ -1,14 +1,29 @@
 //! Frames and their bytes: what is read of them and written, their sizes, and lists of entries.
-use crate::bytes::{
-    NARROW, NARROW_NOTHING, NARROW_WISH, NOTHING, TWICE, WIDENED, WISH, byte_room, decoded,
-    digests_in, encoded, fault, is_spelled, joined, put, requested_in, row_holds, said_in,
-    spelled_so,
-};
+use crate::bytes::{WIDENED, encoded, put};
 use std::alloc::Global;
 use std::process::Abort;
-use test_kit::{bucket, entry, once, page, page_on, replica, twice};
-use warm_frames::{DigestTable, EntryList, FrameFault, Message, decode, put_entry};
+use test_kit::{NARROW, WIDE, bucket, entry, once, page, page_on, replica, twice};
+use warm_frames::{DigestTable, EntryList, Message, decode, put_entry};
 use warm_history::Entry;
+
+// The frame that these bytes are read as, and which is written as those wanted.
+fn read_as(rt: &impl Abort, alloc: Global, bytes: &[u8], want: &[u8]) -> Message {
+    let frame = decode(alloc, bytes).expect(rt, "a frame");
+    assert!(rt; encoded(rt, alloc, &frame).as_slice() == want);
+    frame
+}
+
+// A frame of entries: the number of its sender, the horizon, and the entries.
+fn said_in(rt: &impl Abort, frame: Message) -> (u16, u64, EntryList) {
+    match frame {
+        Message::Entries {
+            sender,
+            horizon,
+            entries,
+        } => (sender.get(), horizon, entries),
+        _ => panic!(rt; "another kind"),
+    }
+}
 
 // Whether a frame of this horizon is of sender 1 and says of 0:7 alone that it has 20@1 and 10@1.
 fn says_twice(rt: &impl Abort, frame: Message, since: u64) -> bool {
@@ -20,39 +35,10 @@ fn says_twice(rt: &impl Abort, frame: Message, since: u64) -> bool {
 
 #[test]
 fn entries_have_one_spelling(rt: HostRuntime) {
-    let wide = spelled_so(&rt, rt.alloc(), &TWICE);
+    let wide = read_as(&rt, rt.alloc(), &WIDE, &WIDE);
     assert!(rt; says_twice(&rt, wide, 12));
-    let narrow = decoded(rt.alloc(), &NARROW).expect(&rt, "a frame");
-    assert!(rt; is_spelled(&rt, rt.alloc(), &narrow, &WIDENED));
+    let narrow = read_as(&rt, rt.alloc(), &NARROW, &WIDENED);
     assert!(rt; says_twice(&rt, narrow, 0));
-}
-
-// The frame of these bytes, which takes no memory to decode, and is written as those wanted.
-fn read_at_once(rt: &impl Abort, alloc: Global, bytes: &[u8], want: &[u8]) -> Message {
-    let frame = decode(alloc, bytes).expect(rt, "a frame");
-    assert!(rt; is_spelled(rt, alloc, &frame, want));
-    frame
-}
-
-// Whether the bytes are of sender 3, and say nothing.
-fn say_nothing(rt: &impl Abort, alloc: Global, bytes: &[u8]) -> bool {
-    let frame = read_at_once(rt, alloc, bytes, &NOTHING);
-    let (sender, horizon, entries) = said_in(rt, frame);
-    sender == 3 && horizon == 0 && entries.as_slice().is_empty()
-}
-
-// Whether sender 2 asks for buckets 1 and 2 by the bytes.
-fn ask_for_two(rt: &impl Abort, alloc: Global, bytes: &[u8]) -> bool {
-    let frame = read_at_once(rt, alloc, bytes, &WISH);
-    requested_in(rt, frame) == (2, 0, 6)
-}
-
-#[test]
-fn an_empty_frame_and_a_request_take_no_memory(rt: HostRuntime) {
-    assert!(rt; say_nothing(&rt, rt.alloc(), &NOTHING));
-    assert!(rt; say_nothing(&rt, rt.alloc(), &NARROW_NOTHING));
-    assert!(rt; ask_for_two(&rt, rt.alloc(), &WISH));
-    assert!(rt; ask_for_two(&rt, rt.alloc(), &NARROW_WISH));
 }
 
 // Digests of 0, except for those of the first bucket, and the last byte of the last.
@@ -86,12 +72,20 @@ fn are_spread(bytes: &[u8]) -> bool {
         && bytes[2066] == 9
 }
 
-// Whether the bytes are sender 64's table of those digests at this horizon, which takes no memory to decode.
+// Whether the bytes are sender 64's table of those digests at this horizon.
 fn bring_digests(rt: &impl Abort, alloc: Global, bytes: &[u8], since: u64) -> bool {
-    let frame = decode(alloc, bytes).expect(rt, "a frame");
-    let (sender, horizon, digests) = digests_in(rt, frame);
-    let first = digests.digest(bucket(0)) == [7; 32];
-    first && sender == 64 && horizon == since && digests == DigestTable::of(spread_digests())
+    match decode(alloc, bytes).expect(rt, "a frame") {
+        Message::Digest {
+            sender,
+            horizon,
+            digests,
+        } => {
+            let first = digests.digest(bucket(0)) == [7; 32];
+            let all = digests == DigestTable::of(spread_digests());
+            first && all && sender.get() == 64 && horizon == since
+        }
+        _ => false,
+    }
 }
 
 // The bytes of sender 64's table of digests, in the narrow format.
@@ -111,96 +105,10 @@ fn digests_stand_bucket_0_first(rt: HostRuntime) {
     assert!(rt; bring_digests(&rt, rt.alloc(), &narrow_table(), 0));
 }
 
-#[test]
-fn a_count_of_1001_is_refused(rt: HostRuntime) {
-    let mut wide = TWICE;
-    wide[21..23].copy_from_slice(&[3, 0xE9]);
-    assert!(rt; fault(rt.alloc(), &wide) == Some(FrameFault::BadCount));
-    let mut narrow = NARROW;
-    narrow[13..15].copy_from_slice(&[3, 0xE9]);
-    assert!(rt; fault(rt.alloc(), &narrow) == Some(FrameFault::BadCount));
-}
-
-// Each beginning of a frame is refused, and so is the frame with a byte more.
-fn has_its_length(rt: &impl Abort, alloc: Global, bytes: &[u8]) {
-    for len in 0..bytes.len() {
-        let found = fault(alloc, &bytes[..len]);
-        row_holds(rt, len, found == Some(FrameFault::Truncated));
-    }
-    let longer = joined(rt, alloc, &[bytes, &[0]]);
-    assert!(rt; fault(alloc, &longer) == Some(FrameFault::BadLength));
-}
-
-#[test]
-fn a_part_is_truncated_and_a_byte_more_is_refused(rt: HostRuntime) {
-    has_its_length(&rt, rt.alloc(), &TWICE);
-    has_its_length(&rt, rt.alloc(), &NARROW);
-}
-
-// Sender 1 says that 0:7 and another page each have 20@1.
-fn rising(no: u8) -> [u8; 65] {
-    let mut bytes = [
-        0x4C, 0x32, 0x47, 0x32, 1, 0, 1, 0, 0, 0, 0, 0, 0, 0, 0, 0, 0, 0, 0x2E, 0, 0, 0, 2, 0, 0,
-        0, 0, 0, 0, 0, 0, 0, 7, 1, 0, 0, 0, 0, 0, 0, 0, 0x14, 0, 1, 0, 0, 0, 0, 0, 0, 0, 0, 0, 8,
-        1, 0, 0, 0, 0, 0, 0, 0, 0x14, 0, 1,
-    ];
-    bytes[53] = no;
-    bytes
-}
-
-// The same in the narrow format.
-fn narrow_rising(no: u8) -> [u8; 49] {
-    let mut bytes = [
-        0x4C, 0x32, 0x47, 0x31, 1, 0, 1, 0, 0, 0, 0x26, 0, 0, 0, 2, 0, 0, 0, 0, 0, 7, 1, 0, 0, 0,
-        0, 0, 0, 0, 0x14, 0, 1, 0, 0, 0, 0, 0, 8, 1, 0, 0, 0, 0, 0, 0, 0, 0x14, 0, 1,
-    ];
-    bytes[37] = no;
-    bytes
-}
-
-#[test]
-fn pages_have_to_rise(rt: HostRuntime) {
-    let _ = spelled_so(&rt, rt.alloc(), &rising(8));
-    assert!(rt; fault(rt.alloc(), &narrow_rising(8)).is_none());
-    for no in [6, 7] {
-        assert!(rt; fault(rt.alloc(), &rising(no)) == Some(FrameFault::BadOrder));
-        assert!(rt; fault(rt.alloc(), &narrow_rising(no)) == Some(FrameFault::BadOrder));
-    }
-}
-
-// The number of the one page of the frame TWICE where it has this number, and which is of device 0.
-fn only_number(rt: &impl Abort, alloc: Global, number: [u8; 8]) -> u64 {
-    let mut bytes = TWICE;
-    bytes[25..33].copy_from_slice(&number);
-    let (_, _, entries) = said_in(rt, spelled_so(rt, alloc, &bytes));
-    let entries = entries.as_slice();
-    assert!(rt; entries.len() == 1);
-    let page = entries[0].page;
-    assert!(rt; page.dev == 0);
-    page.no
-}
-
-#[test]
-fn page_numbers_have_64_bits(rt: HostRuntime) {
-    assert!(rt; only_number(&rt, rt.alloc(), [0, 0, 0, 1, 0, 0, 0, 0]) == 4294967296);
-    assert!(rt; only_number(&rt, rt.alloc(), [255; 8]) == 18446744073709551615);
-}
-
-// Both stamps of the frame are older than its own horizon: it is well formed, and who receives it drops them.
-#[test]
-fn stamps_may_be_older_than_the_frames_horizon(rt: HostRuntime) {
-    for time in [21, u64::MAX] {
-        let mut bytes = TWICE;
-        bytes[7..15].copy_from_slice(&time.to_be_bytes());
-        let frame = spelled_so(&rt, rt.alloc(), &bytes);
-        assert!(rt; says_twice(&rt, frame, time));
-    }
-}
-
 // A frame of 1000 entries of two stamps each, which is as long as one can be: its header and count, and the zeros with which the
 // number of a page begins before its last four bytes.
 fn longest(rt: &impl Abort, alloc: Global, header: &[u8], zeros: &[u8]) -> Vec<u8> {
-    let mut text = byte_room(rt, alloc, 31_023);
+    let mut text = Vec::new(alloc);
     put(rt, &mut text, header);
     for no in 0..1000u32 {
         put(rt, &mut text, &[0, 0]);
@@ -222,50 +130,39 @@ fn the_longest_frame_of_each_format(rt: HostRuntime) {
     ];
     let wide = longest(&rt, rt.alloc(), &wide, &[0; 4]);
     assert!(rt; wide.len() == 31_023);
-    let (_, _, entries) = said_in(&rt, spelled_so(&rt, rt.alloc(), &wide));
+    let (_, _, entries) = said_in(&rt, read_as(&rt, rt.alloc(), &wide, &wide));
     assert!(rt; entries.as_slice().len() == 1000);
     let narrow = longest(&rt, rt.alloc(), &narrow, &[]);
     assert!(rt; narrow.len() == 27_015);
-    let frame = decoded(rt.alloc(), &narrow).expect(&rt, "a frame");
-    assert!(rt; is_spelled(&rt, rt.alloc(), &frame, &wide));
-}
-
-// The bytes of two entries, one behind the other.
-fn bytes_of_two(rt: &impl Abort, alloc: Global, first: &Entry, second: &Entry) -> Vec<u8> {
-    let mut text = byte_room(rt, alloc, 62);
-    put_entry(&mut text, first).expect(rt, "room for an entry");
-    assert!(rt; text.len() == 21);
-    put_entry(&mut text, second).expect(rt, "room for an entry");
-    text
+    let _ = read_as(&rt, rt.alloc(), &narrow, &wide);
 }
 
 #[test]
 fn an_entry_has_21_or_31_bytes(rt: HostRuntime) {
-    let first = entry(page_on(258, 3), once(20, 1));
-    let second = entry(page_on(258, 3), twice((20, 1), (10, 2)));
     let both = [
         1, 2, 0, 0, 0, 0, 0, 0, 0, 3, 1, 0, 0, 0, 0, 0, 0, 0, 20, 0, 1, 1, 2, 0, 0, 0, 0, 0, 0, 0,
         3, 2, 0, 0, 0, 0, 0, 0, 0, 20, 0, 1, 0, 0, 0, 0, 0, 0, 0, 10, 0, 2,
     ];
-    let text = bytes_of_two(&rt, rt.alloc(), &first, &second);
+    let mut text = Vec::new(rt.alloc());
+    for hist in [once(20, 1), twice((20, 1), (10, 2))] {
+        put_entry(&mut text, &entry(page_on(258, 3), hist)).expect(&rt, "memory for an entry");
+    }
     assert!(rt; text.as_slice() == both.as_slice());
 }
 
 // Entries of pages whose numbers rise from 0, and of one more of this number.
 fn entries(rt: &impl Abort, alloc: Global, rising: u64, last: u64) -> Vec<Entry> {
     let mut entries = Vec::new(alloc);
-    for no in 0..rising {
+    for place in 0..=rising {
+        let no = if place < rising { place } else { last };
         entries
             .push(entry(page(no), once(20, 1)))
-            .expect(rt, "room for an entry");
+            .expect(rt, "memory for an entry");
     }
-    entries
-        .push(entry(page(last), once(20, 1)))
-        .expect(rt, "room for an entry");
     entries
 }
 
-// Whether a list of such entries is handed back.
+// Whether a list of such entries is given back.
 fn is_refused(rt: &impl Abort, alloc: Global, rising: u64, last: u64) -> bool {
     match EntryList::of(entries(rt, alloc, rising, last)) {
         Ok(_) => false,
@@ -275,9 +172,12 @@ fn is_refused(rt: &impl Abort, alloc: Global, rising: u64, last: u64) -> bool {
 
 #[test]
 fn a_list_has_at_most_1000_entries_of_rising_pages(rt: HostRuntime) {
-    assert!(rt; is_refused(&rt, rt.alloc(), 1000, 1000));
-    assert!(rt; is_refused(&rt, rt.alloc(), 8, 6));
-    assert!(rt; is_refused(&rt, rt.alloc(), 8, 7));
-    let thousand = entries(&rt, rt.alloc(), 999, 999);
-    assert!(rt; EntryList::of(thousand).is_ok());
+    for (rising, last, want) in [
+        (999, 999, false),
+        (1000, 1000, true),
+        (8, 6, true),
+        (8, 7, true),
+    ] {
+        assert!(rt; is_refused(&rt, rt.alloc(), rising, last) == want);
+    }
 }

@@ -1,6 +1,5 @@
 //! Limits of the fields of a header, in both formats: what is refused, by `decode` and by a decoder, before the body is looked at.
 use crate::bytes::{fault, row_holds};
-use crate::pieces::fed;
 use std::alloc::Global;
 use warm_frames::{Decoder, FrameFault};
 
@@ -25,7 +24,7 @@ fn wide_header(kind: u8, sender: u16, horizon: u64, len: u32) -> [u8; 19] {
 
 // Whether a header without a body is refused so. A decoder refuses it too, but where it only lacks the body.
 fn is_refused(alloc: Global, header: &[u8], want: FrameFault) -> bool {
-    let fed = fed(&mut Decoder::new(alloc), header);
+    let fed = Decoder::new(alloc).feed(header);
     let is_fed_so = match want {
         FrameFault::Truncated => fed.is_ok(),
         _ => fed.err() == Some(want),
@@ -39,13 +38,10 @@ fn is_refused_wide(alloc: Global, kind: u8, sender: u16, len: u32, want: FrameFa
         && is_refused(alloc, &wide_header(kind, sender, u64::MAX, len), want)
 }
 
-// The fields of a header, and why it is refused in either format.
-const HEADERS: [(u8, u16, u32, FrameFault); 18] = [
-    (0, 1, 4, FrameFault::BadKind),
-    (4, 1, 4, FrameFault::BadKind),
+// The fields of a header, and why it is refused in either format. Kinds and senders just past their limits stand with the frames that
+// are cut in pieces.
+const HEADERS: [(u8, u16, u32, FrameFault); 14] = [
     (4, 0, 0, FrameFault::BadKind),
-    (1, 0, 4, FrameFault::BadSender),
-    (1, 65, 4, FrameFault::BadSender),
     (1, 65535, 4, FrameFault::BadSender),
     (1, 0, 0, FrameFault::BadSender),
     (1, 64, 4, FrameFault::Truncated),

@@ -1,21 +1,12 @@
 //! Frames that come in pieces, cut at each byte, and the byte with which a fault is known.
-//!
-//! With `rt try --test --fail-alloc N`, for N from 1 on, each allocation fails in turn: the same piece is then fed once more.
 use crate::bytes::{
-    NARROW, NARROW_NOTHING, NARROW_WISH, NOTHING, TWICE, WIDENED, WISH, changed, encoded, fault,
-    joined, narrow_changed, put, row_holds,
+    NARROW_NOTHING, NARROW_REQUEST, NOTHING, REQUEST, WIDENED, changed, encoded, fault, joined,
+    narrow_changed, put, row_holds,
 };
 use std::alloc::Global;
 use std::process::Abort;
-use warm_frames::{Decoder, Fed, FrameFault};
-
-// Feeds a piece; where memory is refused, once more.
-pub(crate) fn fed(decoder: &mut Decoder, piece: &[u8]) -> Result<Fed, FrameFault> {
-    match decoder.feed(piece) {
-        Err(FrameFault::Memory) => decoder.feed(piece),
-        answer => answer,
-    }
-}
+use test_kit::{NARROW, WIDE};
+use warm_frames::{Decoder, FrameFault};
 
 // Feeds the beginning of a piece, and puts the spelling of a frame that it gives behind the text. How many bytes were taken.
 fn feed_some(
@@ -25,7 +16,7 @@ fn feed_some(
     piece: &[u8],
     text: &mut Vec<u8>,
 ) -> usize {
-    let fed = fed(decoder, piece).expect(rt, "no fault");
+    let fed = decoder.feed(piece).expect(rt, "no fault");
     let taken = fed.taken;
     if let Some(frame) = &fed.frame {
         let bytes = encoded(rt, alloc, frame.as_frame());
@@ -74,15 +65,15 @@ fn come_in_two(rt: &impl Abort, alloc: Global, bytes: &[u8], want: &[u8], first:
 fn both_formats_in_one_stream(rt: HostRuntime) {
     let mixed: [&[u8]; 6] = [
         &NARROW,
-        &TWICE,
-        &NARROW_WISH,
-        &WISH,
+        &WIDE,
+        &NARROW_REQUEST,
+        &REQUEST,
         &NARROW_NOTHING,
         &NOTHING,
     ];
     let stream = joined(&rt, rt.alloc(), &mixed);
     assert!(rt; stream.len() == 180);
-    let wide: [&[u8]; 6] = [&WIDENED, &TWICE, &WISH, &WISH, &NOTHING, &NOTHING];
+    let wide: [&[u8]; 6] = [&WIDENED, &WIDE, &REQUEST, &REQUEST, &NOTHING, &NOTHING];
     let want = joined(&rt, rt.alloc(), &wide);
     for first in 0..=stream.len() {
         let comes = come_in_two(&rt, rt.alloc(), &stream, &want, first);
@@ -91,7 +82,7 @@ fn both_formats_in_one_stream(rt: HostRuntime) {
 }
 
 fn fault_of(decoder: &mut Decoder, piece: &[u8]) -> Option<FrameFault> {
-    fed(decoder, piece).err()
+    decoder.feed(piece).err()
 }
 
 // A frame comes twice of its bytes, twice over and in pieces of a size; then bytes that begin no frame fail the decoder.
@@ -113,7 +104,7 @@ fn comes_twice(rt: &impl Abort, alloc: Global, bytes: &[u8], want: &[u8], size: 
 #[test]
 fn a_frame_twice_over(rt: HostRuntime) {
     for size in [1, 2, 41, 42, 43, 53, 54, 55, 84, 108] {
-        comes_twice(&rt, rt.alloc(), &TWICE, &TWICE, size);
+        comes_twice(&rt, rt.alloc(), &WIDE, &WIDE, size);
         comes_twice(&rt, rt.alloc(), &NARROW, &WIDENED, size);
     }
 }
@@ -122,14 +113,14 @@ fn a_frame_twice_over(rt: HostRuntime) {
 fn is_not_the_end(rt: &impl Abort, alloc: Global, part: &[u8]) {
     let mut decoder = Decoder::new(alloc);
     assert!(rt; decoder.finish() == Ok(()));
-    let begun = fed(&mut decoder, part).expect(rt, "no fault");
+    let begun = decoder.feed(part).expect(rt, "no fault");
     assert!(rt; begun.taken == part.len() && begun.frame.is_none());
     assert!(rt; decoder.finish() == Err(FrameFault::Truncated));
 }
 
 #[test]
 fn a_part_is_not_the_end(rt: HostRuntime) {
-    is_not_the_end(&rt, rt.alloc(), &TWICE[..53]);
+    is_not_the_end(&rt, rt.alloc(), &WIDE[..53]);
     is_not_the_end(&rt, rt.alloc(), &NARROW[..41]);
 }
 
@@ -137,7 +128,7 @@ fn a_part_is_not_the_end(rt: HostRuntime) {
 fn place_of_fault(alloc: Global, bytes: &[u8]) -> Option<(usize, FrameFault)> {
     let mut decoder = Decoder::new(alloc);
     for (place, byte) in bytes.iter().enumerate() {
-        if let Err(fault) = fed(&mut decoder, &[*byte]) {
+        if let Err(fault) = decoder.feed(&[*byte]) {
             return Some((place, fault));
         }
     }
@@ -151,7 +142,7 @@ fn faults_at(alloc: Global, bytes: &[u8], at: usize, want: FrameFault) -> bool {
         && fault_of(&mut Decoder::new(alloc), bytes) == Some(want)
 }
 
-// A place in TWICE, the byte that is put there, the place at which the fault is known, and the fault.
+// A place in WIDE, the byte that is put there, the place at which the fault is known, and the fault.
 const WIDE_FAULTS: [(usize, u8, usize, FrameFault); 13] = [
     (0, 0x4D, 3, FrameFault::BadMagic),
     (4, 0, 4, FrameFault::BadKind),

@@ -1,21 +1,19 @@
-//! The numbers and names of what ends a play.
-
-use std::alloc::Global;
-use std::process::Abort;
+//! How what ends a play is shown.
 use warm_play_fault::PlayFault;
 
-// Whether a fault has this number and this name, and is shown by it.
-fn is_named(rt: &impl Abort, alloc: Global, fault: PlayFault, code: u8, name: &str) -> bool {
-    let shown = format!(in alloc; "{fault}").expect(rt, "room for a name");
-    fault.code() == code && fault.name() == name && shown.as_str() == name
-}
+const SHOWN: [(PlayFault, &str); 6] = [
+    (PlayFault::Memory, "Memory"),
+    (PlayFault::ReadFault, "ReadFault"),
+    (PlayFault::WriteFault, "WriteFault"),
+    (PlayFault::BadLine(7), "BadLine"),
+    (PlayFault::NoThread, "NoThread"),
+    (PlayFault::BadDevices, "BadDevices"),
+];
 
 #[test]
-fn play_faults_have_numbers_and_names(rt: HostRuntime) {
-    assert!(rt; is_named(&rt, rt.alloc(), PlayFault::Memory, 1, "Memory"));
-    assert!(rt; is_named(&rt, rt.alloc(), PlayFault::ReadFault, 2, "ReadFault"));
-    assert!(rt; is_named(&rt, rt.alloc(), PlayFault::WriteFault, 3, "WriteFault"));
-    assert!(rt; is_named(&rt, rt.alloc(), PlayFault::BadLine(7), 4, "BadLine"));
-    assert!(rt; is_named(&rt, rt.alloc(), PlayFault::NoThread, 5, "NoThread"));
-    assert!(rt; is_named(&rt, rt.alloc(), PlayFault::BadDevices, 6, "BadDevices"));
+fn play_faults_are_shown_by_their_names(rt: HostRuntime) {
+    for (fault, want) in SHOWN {
+        let shown = format!(in rt.alloc(); "{fault}").expect(&rt, "memory for a name");
+        assert!(rt; shown.as_str() == want);
+    }
 }

@@ -54,10 +54,10 @@ fn no_events_write_nothing(rt: HostRuntime) {
     gives(&rt, rt.alloc(), 7, 0, 3, 2, "");
 }
 
-// A writer that has room for a line and a half.
+// A writer that takes a line and a half.
 #[test]
 fn a_writer_that_fails_ends_the_schedule(rt: HostRuntime) {
-    let mut room = [0u8; 20];
-    let mut rest = room.as_mut_slice();
+    let mut text = [0u8; 20];
+    let mut rest = text.as_mut_slice();
     assert!(rt; write_schedule(&mut rest, 1, 16, 3, 2).is_err());
 }

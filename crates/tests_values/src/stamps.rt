@@ -1,10 +1,7 @@
-//! Numbers of replicas and buckets, and the bytes of stamps and pages.
+//! Numbers of replicas and buckets, and the bytes of pages.
 
-use test_kit::{page_on, stamp};
-use warm_stamps::{
-    BadReplica, Bucket, ReplicaId, bucket_of, page_bytes, page_from, page_from_narrow, stamp_bytes,
-    stamp_from,
-};
+use test_kit::page_on;
+use warm_stamps::{BadReplica, Bucket, ReplicaId, page_bytes, page_from, page_from_narrow};
 
 fn replica_number(number: u16) -> Result<u16, BadReplica> {
     let replica = ReplicaId::new(number)?;
@@ -29,28 +26,6 @@ fn buckets_are_numbered_from_0_to_63(rt: HostRuntime) {
     assert!(rt; bucket_number(0) == Some(0));
     assert!(rt; bucket_number(63) == Some(63));
     assert!(rt; bucket_number(64) == None);
-}
-
-fn page_bucket(dev: u16, no: u64) -> u8 {
-    bucket_of(page_on(dev, no)).get()
-}
-
-#[test]
-fn a_page_falls_into_the_bucket_of_its_sum(rt: HostRuntime) {
-    assert!(rt; page_bucket(0, 65) == 1);
-    assert!(rt; page_bucket(1, 0) == 1);
-    assert!(rt; page_bucket(0, 18446744073709551615) == 63);
-    assert!(rt; page_bucket(65535, 18446744073709551615) == 62);
-}
-
-// 20@1, as ten bytes.
-const STAMP: [u8; 10] = [0, 0, 0, 0, 0, 0, 0, 0x14, 0, 1];
-
-#[test]
-fn stamps_have_ten_bytes(rt: HostRuntime) {
-    assert!(rt; stamp_bytes(stamp(20, 1)) == STAMP);
-    assert!(rt; stamp_from(&STAMP) == Ok(stamp(20, 1)));
-    assert!(rt; stamp_from(&[0; 10]) == Err(BadReplica));
 }
 
 // A page is spelled by these bytes, and read from them.

@@ -5,7 +5,7 @@ use Rattle.std.specs.Int.{bit_at}
 use Rattle.std.specs.List.{range_with_len}
 use Rattle.std.specs.Ordering.{on}
 use Rattle.std.specs.declared.cmp.Ordering.{Ordering}
-use Rattle.std.proofs.lemmas.Bool.{ne_eqb, true≢false}
+use Rattle.std.proofs.lemmas.Bool.{ne_eqb}
 use Rattle.std.proofs.lemmas.List.Concat.{flat_map-append}
 use Rattle.std.proofs.lemmas.List.{length-drop, take_min, drop_min}
 use Rattle.std.proofs.lemmas.List.FromFn.{filter_of_map_range_with_len_more}
@@ -45,19 +45,12 @@ pieces-cons size (x ∷ xs) pos some =
     ap (λ t. take size (x ∷ xs) ∷ t) (same_pieces size (length xs) (length (drop size (x ∷ xs))) (drop size (x ∷ xs)) pos (omega arith) (omega arith))
 
 -- a message of the first entries, and then those of the others
-pub message_more : (id horizon : ℕ) (messages : List Message) (rest part later : List Entry) (message : Message) → 0 < length rest → part ≡ take (min MAX_ENTRIES (length rest)) rest → later ≡ drop (min MAX_ENTRIES (length rest)) rest → message ≡ Entries id horizon part → (messages ++ message ∷ []) ++ entry_messages id horizon later ≡ messages ++ entry_messages id horizon rest
-message_more id horizon messages rest part later message some front back is =
-    let first : message ≡ Entries id horizon (take MAX_ENTRIES rest) = is ∙ ap (Entries id horizon) (front ∙ take_min MAX_ENTRIES rest) in
-    let others : entry_messages id horizon later ≡ entry_messages id horizon (drop MAX_ENTRIES rest) = ap (entry_messages id horizon) (back ∙ drop_min MAX_ENTRIES rest) in
-    append_assoc messages (message ∷ []) (entry_messages id horizon later)
-    ∙ ap (λ (f : Message). messages ++ f ∷ entry_messages id horizon later) first
-    ∙ ap (λ (fs : List Message). messages ++ Entries id horizon (take MAX_ENTRIES rest) ∷ fs) others
-    ∙ ap (λ (parts : List (List Entry)). messages ++ map (λ part. Entries id horizon part) parts) (sym (pieces-cons MAX_ENTRIES rest (omega arith) some))
-
--- there is more where a list is not empty
-pub some_left : (n : ℕ) (empty : Bool) → empty ≡ (n == 0) → empty ≡ false → 0 < n
-some_left zero empty is filled = absurd (true≢false (sym is ∙ filled))
-some_left (suc n) empty is filled = omega arith
+pub message_more : (id horizon : ℕ) (messages : List Message) (rest : List Entry) → 0 < length rest
+    → (messages ++ Entries id horizon (take (min MAX_ENTRIES (length rest)) rest) ∷ []) ++ entry_messages id horizon (drop (min MAX_ENTRIES (length rest)) rest) ≡ messages ++ entry_messages id horizon rest
+message_more id horizon messages rest some =
+    rw (take_min MAX_ENTRIES rest, drop_min MAX_ENTRIES rest)
+    (append_assoc messages (Entries id horizon (take MAX_ENTRIES rest) ∷ []) (entry_messages id horizon (drop MAX_ENTRIES rest))
+    ∙ ap (λ (parts : List (List Entry)). messages ++ map (λ part. Entries id horizon part) parts) (sym (pieces-cons MAX_ENTRIES rest (omega arith) some)))
 
 -- ---- pages rise in parts of entries
 
@@ -116,8 +109,8 @@ all_below id request h = refl
 
 -- ---- answers to digests
 
-other_chosen : {A : Type 0} (request : ℕ) (x y : A) → (request ≡ 0 → ⊥) → y ≡ if request == 0 then x else y
-other_chosen request x y some = sym (ap (λ (t : Bool). if t then x else y) (ne_eqb request 0 some))
+pub if_other : {A : Type 0} (request : ℕ) (x y : A) → (request ≡ 0 → ⊥) → (if request == 0 then x else y) ≡ y
+if_other request x y some = ap (λ (t : Bool). if t then x else y) (ne_eqb request 0 some)
 
 differing_from : (theirs own : List (List ℕ)) (h : HistoryView) (request : ℕ) → own ≡ digests_of (entries_of h) → ((bucket : ℕ) → bucket < BUCKETS → (bit_at request bucket ≡ 1) ↔ (digest_at theirs bucket ≢ digest_at own bucket)) → IsDiffering theirs h request
 differing_from theirs own h request is differ = λ bucket low. subst (λ (digests : List (List ℕ)). (bit_at request bucket ≡ 1) ↔ (digest_at theirs bucket ≢ digest_at digests bucket)) is (differ bucket low)
@@ -125,4 +118,4 @@ differing_from theirs own h request is differ = λ bucket low. subst (λ (digest
 pub some_differ : (id : ℕ) (theirs own : List (List ℕ)) (h : HistoryView) (messages : List Message) (request : ℕ) → request < 2 ^ 64 → own ≡ digests_of (entries_of h)
     → ((bucket : ℕ) → bucket < BUCKETS → (bit_at request bucket ≡ 1) ↔ (digest_at theirs bucket ≢ digest_at own bucket)) → (request ≡ 0 → ⊥) → messages ≡ requested_messages id h request ++ Want id h.horizon request ∷ [] → AnswersDigests id h theirs messages
 some_differ id theirs own h messages request fits is differ some all =
-    (request, fits, differing_from theirs own h request is differ, all ∙ other_chosen request [] (requested_messages id h request ++ Want id h.horizon request ∷ []) some)
+    (request, fits, differing_from theirs own h request is differ, all ∙ sym (if_other request [] (requested_messages id h request ++ Want id h.horizon request ∷ []) some))

@@ -1,14 +1,15 @@
--- With each page of a warm-up list those that leave after it are in the list too; and lists without repeats, counted.
-use Rattle.std.proofs.Common.{◌≡◌, ◌⊎◌, ◌≤◌, ◌<◌, ℕ, zero, suc, true, List, [], ◌∷◌, map, take, length, get_or, is_some, Option, Some, None, refl, sym, ap, subst, ◌∙◌, inl, inr, arith}
+-- With each page of a warm-up list those that leave after it are in the list too.
+use Rattle.std.proofs.Common.{◌≡◌, ◌⊎◌, ℕ, zero, suc, true, List, [], ◌∷◌, map, take, is_some, Option, Some, None, refl, sym, ap, subst, ◌∙◌, inl, inr}
 use Rattle.std.specs.List.{AllByRecursion, Contains}
 use Rattle.std.specs.Ordering.{flip_args}
+use Rattle.std.proofs.lemmas.List.Elements.{All-contains, All-contains_itself, All-from_recursion, recursion_from_All}
 use Rattle.std.specs.declared.cmp.Ordering.{Ordering}
 use Rattle.std.specs.declared.cmp.Ordering.TheVariants.{Less, Greater}
 use Rattle.warm_stamps.specs.declared.PageId.{PageId}
 use Rattle.warm_stamps.specs.declared.Reference.{Reference}
 use Rattle.warm_stamps.specs.Stamps.{stamp_cmp, page_cmp}
 use Rattle.warm_stamps.specs.Distinct.{distinct, IsRising}
-use Rattle.warm_stamps.proofs.DistinctLemmas.{Has, IsStrictOrder, by_cases, flipped, distinct_rises, has_distinct, has_from_distinct}
+use Rattle.warm_stamps.proofs.DistinctLemmas.{Has, IsStrictOrder, all_of_has, all_take, by_cases, flipped, distinct_rises, has_distinct, has_from_distinct}
 use Rattle.warm_stamps.proofs.StampLemmas.{page_order, IsStrictOrder-flip}
 use Rattle.warm_history.specs.ReferenceSets.{ReferenceSet, references}
 use Rattle.warm_history.specs.declared.hist.PageHist.{PageHist}
@@ -23,84 +24,22 @@ use Rattle.warm_rank.proofs.LeavingLemmas.{leaving_order}
 
 -- ---- the items of a list
 
--- what is read at a place is an item
-pub has_at : {A : Type 0} (xs : List A) (k : ℕ) (d : A) → k < length xs → Has xs (get_or xs k d)
-has_at [] k d lt = absurd (omega (arith, lt))
-has_at (x ∷ xs) zero d lt = inl refl
-has_at (x ∷ xs) (suc k) d lt = inr (has_at xs k d (omega arith))
-
--- an item stands at a place, whatever is read beyond the end
-pub record IsPlaced {A : Type 0} (xs : List A) (x d : A) : Type 0 where
-  pub place : ℕ
-  pub there : place < length xs
-  pub is : get_or xs place d ≡ x
-
--- each item has a place
-pub has_place : {A : Type 0} (xs : List A) (x d : A) → Has xs x → IsPlaced xs x d
-has_place [] x d has = absurd has
-has_place (y ∷ ys) x d (inl is) = record { place = 0; there = omega arith; is = is }
-has_place (y ∷ ys) x d (inr later) =
-    let rest = has_place ys x d later in
-    record { place = suc rest.place; there = omega (arith, rest.there); is = rest.is }
-
--- the two ways to say that a list has an item
-pub contains_has : {A : Type 0} (xs : List A) (x : A) → Contains xs x → Has xs x
-contains_has xs x (k, lt, is) = subst (Has xs) is (has_at xs k x lt)
-
-pub has_contains : {A : Type 0} (xs : List A) (x : A) → Has xs x → Contains xs x
-has_contains xs x has = let placed = has_place xs x x has in (placed.place, placed.there, placed.is)
-
--- the first items of a list are items of it
-pub has_take : {A : Type 0} (n : ℕ) (xs : List A) (x : A) → Has (take n xs) x → Has xs x
-has_take zero xs x has = absurd has
-has_take (suc n) [] x has = absurd has
-has_take (suc n) (y ∷ ys) x (inl is) = inl is
-has_take (suc n) (y ∷ ys) x (inr later) = inr (has_take n ys x later)
-
 -- what is true of all is true of each
 all_has : {A : Type 0} (P : A → Type 0) (xs : List A) (x : A) → AllByRecursion P xs → Has xs x → P x
 all_has P [] x all has = absurd has
 all_has P (y ∷ ys) x all (inl is) = subst P is all.0
 all_has P (y ∷ ys) x all (inr later) = all_has P ys x all.1 later
 
--- ---- lists without repeats
+-- the first items of a list are items of it
+has_take : {A : Type 0} (n : ℕ) (xs : List A) (x : A) → Has (take n xs) x → Has xs x
+has_take n xs x has = all_has (Has xs) (take n xs) x (all_take (Has xs) n xs (all_of_has (Has xs) xs (λ y is. is))) has
 
--- no item is repeated
-abbrev pub Apart : {A : Type 0} → List A → Type 0
-Apart [] = Unit {0}
-Apart (x ∷ xs) = (Has xs x → ⊥) × Apart xs
+-- the two ways to say that a list has an item
+contains_has : {A : Type 0} (xs : List A) (x : A) → Contains xs x → Has xs x
+contains_has xs x contained = All-contains (Has xs) xs x (All-from_recursion (Has xs) xs (all_of_has (Has xs) xs (λ y has. has))) contained
 
--- the list with one item less
-pub record Without {A : Type 0} (ys : List A) (x : A) : Type 0 where
-  pub rest : List A
-  pub count : length ys ≡ suc (length rest)
-  pub others : (y : A) → Has ys y → (y ≡ x) ⊎ Has rest y
-
--- any item can be taken out
-pub without : {A : Type 0} (ys : List A) (x : A) → Has ys x → Without ys x
-without [] x has = absurd has
-without (y ∷ ys) x (inl is) = record { rest = ys; count = refl; others = λ z has. elim has [ inl same ↦ inl (sym same ∙ is) | inr later ↦ inr later ] }
-without (y ∷ ys) x (inr later) =
-    let tail = without ys x later in
-    record {
-      rest = y ∷ tail.rest;
-      count = omega (arith, tail.count);
-      others = λ z has. elim has [
-        | inl same ↦ inr (inl same)
-        | inr in_tail ↦ elim (tail.others z in_tail) [ inl is ↦ inl is | inr in_rest ↦ inr (inr in_rest) ]
-      ];
-    }
-
--- a list without repeats is no longer than one with all of its items
-pub no_longer : {A : Type 0} (xs ys : List A) → Apart xs → ((x : A) → Has xs x → Has ys x) → length xs ≤ length ys
-no_longer [] ys apart within = omega arith
-no_longer {A} (x ∷ xs) ys apart within =
-    let less = without ys x (within x (inl refl)) in
-    let shorter : length xs ≤ length less.rest = no_longer xs less.rest apart.1 (in_rest less) in
-    omega (arith, shorter, less.count)
-  where
-    in_rest : (less : Without ys x) → (y : A) → Has xs y → Has less.rest y
-    in_rest less y has = elim (less.others y (within y (inr has))) [ inl is ↦ absurd (apart.0 (subst (Has xs) is has)) | inr stays ↦ stays ]
+pub has_contains : {A : Type 0} (xs : List A) (x : A) → Has xs x → Contains xs x
+has_contains xs x has = all_has (Contains xs) xs x (recursion_from_All (Contains xs) xs (All-contains_itself xs)) has
 
 -- ---- which pages a warm-up list has
 
@@ -142,9 +81,10 @@ after_named S p q named before = elim (named_or_not (references S) q) [
 ]
 
 -- with a page of the list all that leave after it are in the list
-pub after_listed : (S : ReferenceSet) (n : ℕ) (p q : PageId) → Has (warm S n) p → IsBefore S p q → Has (warm S n) q
-after_listed S n p q listed before =
+pub after_listed : (S : ReferenceSet) (n : ℕ) (p q : PageId) → Contains (warm S n) p → IsBefore S p q → Contains (warm S n) q
+after_listed S n p q contained before =
     let falls = flip_args (leaving_cmp S) in
     let order = IsStrictOrder-flip (leaving_cmp S) (leaving_order S) in
+    let listed : Has (warm S n) p = contains_has (warm S n) p contained in
     let named : Has (pages S) p = has_from_distinct falls order (pages S) p (has_take n (distinct falls (pages S)) p listed) in
-    cut_closed falls order n (distinct falls (pages S)) (distinct_rises falls order (pages S)) p q listed (has_distinct falls order (pages S) q (after_named S p q named before)) before
+    has_contains (warm S n) q (cut_closed falls order n (distinct falls (pages S)) (distinct_rises falls order (pages S)) p q listed (has_distinct falls order (pages S) q (after_named S p q named before)) before)

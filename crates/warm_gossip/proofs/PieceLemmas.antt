@@ -2,12 +2,14 @@
 use Rattle.std.proofs.Common.{◌≡◌, ℕ, zero, suc, ◌≤◌, Bool, true, false, ◌&&◌, cond, List, [], ◌∷◌, length, take, drop, filter, Option, Some, None, refl, sym, ap, subst, ◌∙◌, arith}
 use Rattle.std.specs.Prelude.{◌==◌}
 use Rattle.std.specs.List.{AllByRecursion}
-use Rattle.std.specs.Ordering.{is_lt, on}
-use Rattle.std.specs.declared.cmp.Ordering.{Ordering}
-use Rattle.std.specs.declared.cmp.Ordering.TheVariants.{Less, Equal, Greater}
+use Rattle.std.specs.Ordering.{on}
+use Rattle.std.specs.declared.cmp.Ordering.TheVariants.{Less, Greater}
 use Rattle.std.proofs.Math.Seq.{take-nil}
+use Rattle.std.proofs.Math.Bool.{and-true}
+use Rattle.std.proofs.lemmas.Bool.{and_parts}
 use Rattle.std.proofs.lemmas.Cmp.{tied_itself}
 use Rattle.std.proofs.lemmas.List.{length-drop}
+use Rattle.std.proofs.lemmas.List.Elements.{All-weaker, filter_agree, filter_passes, recursion_from_All}
 use Rattle.warm_stamps.specs.declared.PageId.{PageId}
 use Rattle.warm_stamps.specs.Buckets.{page_bucket}
 use Rattle.warm_stamps.specs.Stamps.{page_cmp}
@@ -19,6 +21,7 @@ use Rattle.warm_history.specs.Histories.{entries_of, history, PagesRise}
 use Rattle.warm_history.specs.Carried.{bucket_entries, comes_after, is_chosen}
 use Rattle.warm_history.proofs.HistoryLemmas.{IsHistory-history}
 use Rattle.warm_history.proofs.CarriedLemmas.{history-carried}
+use Rattle.warm_frames.proofs.FieldLemmas.{less_is}
 use Rattle.warm_gossip.specs.Answers.{pieces_of}
 use Rattle.warm_gossip.specs.Pieces.{last_page, piece_after, AreInTurn, PiecesInTurn}
 
@@ -29,11 +32,6 @@ later after = filter (λ e. comes_after after e.page)
 -- those that are of the bucket, too
 abbrev chosen : ℕ → Option PageId → List Entry → List Entry
 chosen bucket after = filter (λ e. is_chosen bucket after e.page)
-
-is_less : (o : Ordering) → is_lt o ≡ true → o ≡ Less
-is_less Less e = refl
-is_less Equal e = absurd (cc)
-is_less Greater e = absurd (cc)
 
 -- ---- the last page of some entries
 
@@ -61,7 +59,7 @@ later-drop (suc n) e (f ∷ es) rise =
 
 comes_after_too : (after : Option PageId) (q p : PageId) → comes_after after q ≡ true → comes_after (Some q) p ≡ true → comes_after after p ≡ true
 comes_after_too None q p first second = refl
-comes_after_too (Some a) q p first second = rw (page_order.total.trans a q p (is_less _ first) (is_less _ second)) refl
+comes_after_too (Some a) q p first second = rw (page_order.total.trans a q p (less_is _ first) (less_is _ second)) refl
 
 -- after a chosen page come those of the chosen ones that come after it
 chosen-later : (bucket : ℕ) (after : Option PageId) (q : PageId) → comes_after after q ≡ true → (es : List Entry) → chosen bucket (Some q) es ≡ later (Some q) (chosen bucket after es)
@@ -77,23 +75,12 @@ chosen-later bucket after q first (e ∷ es) = cases (page_bucket e.page == buck
     cases true false false is too rest = rest
 
 all_chosen : (bucket : ℕ) (after : Option PageId) (es : List Entry) → AllByRecursion (λ x. comes_after after x.page ≡ true) (chosen bucket after es)
-all_chosen bucket after [] = tt
-all_chosen bucket after (e ∷ es) = cases (page_bucket e.page == bucket) (comes_after after e.page) refl (all_chosen bucket after es)
-  where
-    cases : (b u : Bool) → comes_after after e.page ≡ u → AllByRecursion (λ x. comes_after after x.page ≡ true) (chosen bucket after es)
-        → AllByRecursion (λ x. comes_after after x.page ≡ true) (cond (b && u) (e ∷ chosen bucket after es) (chosen bucket after es))
-    cases false u is rest = rest
-    cases true true is rest = (is, rest)
-    cases true false is rest = rest
+all_chosen bucket after es = recursion_from_All (λ e. comes_after after e.page ≡ true) (chosen bucket after es) (All-weaker (λ e. is_chosen bucket after e.page ≡ true) (λ e. comes_after after e.page ≡ true)
+    (λ e passes. (and_parts (page_bucket e.page == bucket) (comes_after after e.page) passes).1) (chosen bucket after es) (filter_passes (λ e. is_chosen bucket after e.page) es))
 
 -- all of a bucket are chosen where no page is given
 chosen-first : (bucket : ℕ) (es : List Entry) → bucket_entries bucket es ≡ chosen bucket None es
-chosen-first bucket [] = refl
-chosen-first bucket (e ∷ es) = cases (page_bucket e.page == bucket) (chosen-first bucket es)
-  where
-    cases : (b : Bool) → bucket_entries bucket es ≡ chosen bucket None es → cond b (e ∷ bucket_entries bucket es) (bucket_entries bucket es) ≡ cond (b && true) (e ∷ chosen bucket None es) (chosen bucket None es)
-    cases false rest = rest
-    cases true rest = ap (λ t. e ∷ t) rest
+chosen-first bucket es = filter_agree (λ e. page_bucket e.page == bucket) (λ e. is_chosen bucket None e.page) (λ e. sym (and-true (page_bucket e.page == bucket))) es
 
 -- ---- pieces
 

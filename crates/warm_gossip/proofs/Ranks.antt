@@ -1,5 +1,5 @@
--- What a history that takes something in says of the pages that it is not told of: what it said before, where its horizon does not rise.
-use Rattle.std.proofs.Common.{◌≡◌, ℕ, ◌≤◌, suc, false, List, [], ◌∷◌, ◌++◌, map, max, sym, ap, refl, subst, ◌∙◌, arith}
+-- What a history says of the pages of which it takes in no reference: what it said before, where its horizon does not rise.
+use Rattle.std.proofs.Common.{◌≡◌, ℕ, ◌≤◌, suc, false, List, [], ◌∷◌, ◌++◌, map, max, sym, ap, refl, ◌∙◌, arith}
 use Rattle.std.proofs.lemmas.List.{append-nil}
 use Rattle.std.specs.List.{Contains}
 use Rattle.std.specs.Option.{option_and_then}
@@ -20,10 +20,10 @@ use Rattle.warm_history.proofs.ListHistoryLemmas.{told, told-append, told_entry}
 use Rattle.warm_history.proofs.HistoryLemmas.{hist_refs-history}
 use Rattle.warm_pool.specs.Refreshing.{AgreeOutside}
 
-differs : (q p : PageId) → (q ≡ p → ⊥) → is_eq (page_cmp q p) ≡ false
+pub differs : (q p : PageId) → (q ≡ p → ⊥) → is_eq (page_cmp q p) ≡ false
 differs q p apart = by_cases (page_cmp q p) _ (λ less. ap is_eq less) (λ tied. absurd (apart (page_order.same q p tied))) (λ more. ap is_eq more)
 
--- nothing is told of a page that no reference is to
+-- no stamp is of a page that no reference is to
 untold : (T : List Reference) (p : PageId) → (Contains (map (λ r. r.page) T) p → ⊥) → told T p ≡ []
 untold [] p unnamed = refl
 untold (r ∷ T) p unnamed =
@@ -40,7 +40,7 @@ untold_entries (e ∷ es) p unnamed =
 pub no_greater : (a b : ℕ) → b ≤ a → max a b ≡ a
 no_greater a b le = omega (arith, le)
 
--- what tells nothing of a page, and has no later horizon, changes nothing that is said of it
+-- what has no stamp of a page, and no later horizon, changes nothing that is said of it
 hist_as_before : (S T : ReferenceSet) (p : PageId) → T.horizon ≤ S.horizon → told T.told p ≡ [] → hist S p ≡ hist (refs (history (S ∪ T))) p
 hist_as_before S T p le none =
     sym (hist_refs-history (S ∪ T) p
@@ -56,10 +56,3 @@ absorbed_agrees h batch p unnamed = hist_as_before (refs h) (these batch) p (ome
 -- and one that takes entries in, of no later horizon, outside the pages of these
 pub joined_agrees : (h : HistoryView) (horizon : ℕ) (es : List Entry) → horizon ≤ h.horizon → AgreeOutside (map (λ e. e.page) es) h (history (refs h ∪ refs (holding_since horizon es)))
 joined_agrees h horizon es le p unnamed = hist_as_before (refs h) (refs (holding_since horizon es)) p le (untold_entries es p unnamed)
-
--- the same of pages and a history that are known to be these
-pub absorbed_agrees_as : (h : HistoryView) (batch : List Reference) (ps : List PageId) (g : HistoryView) → ps ≡ map (λ r. r.page) batch → g ≡ history (refs h ∪ these batch) → AgreeOutside ps h g
-absorbed_agrees_as h batch ps g is becomes = subst (λ qs. AgreeOutside qs h g) (sym is) (subst (λ k. AgreeOutside (map (λ r. r.page) batch) h k) (sym becomes) (absorbed_agrees h batch))
-
-pub joined_agrees_as : (h : HistoryView) (horizon : ℕ) (es : List Entry) (ps : List PageId) (g : HistoryView) → horizon ≤ h.horizon → ps ≡ map (λ e. e.page) es → g ≡ history (refs h ∪ refs (holding_since horizon es)) → AgreeOutside ps h g
-joined_agrees_as h horizon es ps g le is becomes = subst (λ qs. AgreeOutside qs h g) (sym is) (subst (λ k. AgreeOutside (map (λ e. e.page) es) h k) (sym becomes) (joined_agrees h horizon es le))

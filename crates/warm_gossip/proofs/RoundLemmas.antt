@@ -1,19 +1,22 @@
 -- What messages teach a replica one after the other, and what a round of gossip comes to.
-use Rattle.std.proofs.Common.{◌≡◌, ◌^◌, ◌⊎◌, inl, inr, ℕ, zero, suc, ◌+◌, ◌<◌, ◌≤◌, Bool, true, false, ◌&&◌, ◌||◌, cond, List, [], ◌∷◌, ◌++◌, length, take, drop, map, filter, max, None, refl, sym, ap, subst, ◌∙◌, append_assoc, arith, flat_map, if◌then◌else◌}
-use Rattle.std.specs.Prelude.{◌==◌}
+use Rattle.std.proofs.Common.{◌≡◌, ◌^◌, ◌⊎◌, inl, inr, ℕ, zero, suc, ◌<◌, ◌≤◌, Bool, true, false, ◌&&◌, ◌||◌, cond, List, [], ◌∷◌, ◌++◌, length, take, drop, map, filter, max, None, refl, sym, ap, subst, ◌∙◌, append_assoc, arith, flat_map, if◌then◌else◌}
+use Rattle.std.specs.Prelude.{◌==◌, ◌≢◌}
+use Rattle.std.specs.Cmp.{nat_eq_equiv}
 use Rattle.std.specs.Int.{bit_at}
-use Rattle.std.specs.List.{AllByRecursion, list_any, range_with_len}
+use Rattle.std.specs.List.{AllByRecursion, Contains, list_any, range_with_len}
 use Rattle.std.proofs.Math.Nat.{le_refl}
-use Rattle.std.proofs.lemmas.Bool.{cases_eq, eq-eqb, eqb-true, ne_eqb}
+use Rattle.std.proofs.lemmas.Bool.{cases_eq, eq-eqb, eqb-true}
 use Rattle.std.proofs.lemmas.List.{append-nil, length-drop, take-append-drop}
 use Rattle.std.proofs.lemmas.List.Concat.{flat_map-append}
 use Rattle.std.proofs.lemmas.List.Elements.{filter-append}
-use Rattle.std.proofs.lemmas.List.FromFn.{get_or-map-range_with_len}
+use Rattle.std.proofs.lemmas.List.FromFn.{get_or-range_with_len}
+use Rattle.std.proofs.lemmas.Map.Views.{any-filter_same, list_any-from_Contains}
 use Rattle.std.proofs.lemmas.Nat.Bits.{bit_at-zero, bit_at-lt, same_from_bits_below}
 use Rattle.warm_stamps.specs.declared.PageId.{PageId}
 use Rattle.warm_stamps.specs.declared.Reference.{Reference}
 use Rattle.warm_stamps.specs.declared.TheConstants.{BUCKETS}
 use Rattle.warm_stamps.specs.Buckets.{page_bucket}
+use Rattle.warm_stamps.proofs.DistinctLemmas.{all_append}
 use Rattle.warm_history.specs.declared.hist.PageHist.{PageHist}
 use Rattle.warm_history.specs.declared.hist.PageHist.TheVariants.{Once, Twice}
 use Rattle.warm_history.specs.declared.hist.Entry.{Entry}
@@ -31,14 +34,15 @@ use Rattle.warm_history.proofs.HistoryLemmas.{IsHistory-history, horizon-history
 use Rattle.warm_history.proofs.JoinLemmas.{both_assoc, history_alike, history_first, history_second, history_received, history_of_own_references, history_swap, raised_to_no_later}
 use Rattle.warm_frames.specs.declared.layout.TheConstants.{MAX_ENTRIES}
 use Rattle.warm_frames.specs.declared.message.Message.{Message}
-use Rattle.warm_frames.specs.declared.message.Message.TheVariants.{Entries, Digest, Want}
+use Rattle.warm_frames.specs.declared.message.Message.TheVariants.{Entries, Want}
 use Rattle.warm_frames.specs.Entries.{IsEntry, IsHist}
-use Rattle.warm_frames.specs.Digests.{digest_at}
-use Rattle.warm_digest.specs.BucketDigests.{bucket_digest, digests_of}
+use Rattle.warm_digest.specs.BucketDigests.{digests_of}
 use Rattle.warm_digest.specs.Exchange.{Fits, IsCollision, IsDifferenceOf, in_buckets}
+use Rattle.warm_digest.proofs.KeptLemmas.{digest_is}
 use Rattle.warm_digest.proofs.ExchangeLemmas.{kept, hist-kept, joined_same, joined_none, exchange_joins}
 use Rattle.warm_gossip.specs.Answers.{pieces_of, pieces, entry_messages, bucket_messages, buckets_in, requested_messages, IsDiffering, refs_in, taught}
 use Rattle.warm_gossip.specs.Round.{Hears, GossipRound, GossipRoundEnds, GossipRoundJoins, OwnDigestsUnanswered, EntriesTeach, offer}
+use Rattle.warm_gossip.proofs.AnswerLemmas.{if_other}
 use Rattle.warm_gossip.proofs.Ranks.{no_greater}
 
 -- ---- what messages bring
@@ -78,8 +82,7 @@ entries_teach sender S R =
 
 abbrev CarriesEntries : Message → Type 0
 CarriesEntries (Entries sender horizon entries) = Unit {0}
-CarriesEntries (Digest sender horizon digests) = ⊥
-CarriesEntries (Want sender horizon request) = ⊥
+CarriesEntries other = ⊥
 
 -- where messages of entries come, and then a request, the request alone is answered, from what is known in the end
 hears_request : (id sender horizon request : ℕ) (h : HistoryView) (messages answers : List Message) (new : HistoryView) → AllByRecursion CarriesEntries messages
@@ -88,20 +91,14 @@ hears_request id sender horizon request h [] answers new all hears =
     hears.4 ∙ ap (λ t. hears.0 ++ t) hears.3.0 ∙ append-nil hears.0 ∙ hears.2 ∙ ap (λ (k : HistoryView). requested_messages id k request) (sym hears.3.1)
 hears_request id sender horizon request h (Entries from time entries ∷ messages) answers new all hears =
     hears.4 ∙ ap (λ t. t ++ hears.1) hears.2 ∙ hears_request id sender horizon request (taught h (Entries from time entries)) messages hears.1 new all.1 hears.3
-hears_request id sender horizon request h (Digest from time digests ∷ messages) answers new all hears = absurd all.0
-hears_request id sender horizon request h (Want from time other ∷ messages) answers new all hears = absurd all.0
+hears_request id sender horizon request h (other ∷ messages) answers new all hears = absurd all.0
 
 -- where messages of entries come alone, there is no answer
 none_answered : (id : ℕ) (h : HistoryView) (messages answers : List Message) (new : HistoryView) → AllByRecursion CarriesEntries messages → Hears id h messages answers new → answers ≡ []
 none_answered id h [] answers new all hears = hears.0
 none_answered id h (Entries sender horizon entries ∷ messages) answers new all hears =
     hears.4 ∙ ap (λ t. t ++ hears.1) hears.2 ∙ none_answered id (taught h (Entries sender horizon entries)) messages hears.1 new all.1 hears.3
-none_answered id h (Digest sender horizon digests ∷ messages) answers new all hears = absurd all.0
-none_answered id h (Want sender horizon request ∷ messages) answers new all hears = absurd all.0
-
-all_append : {A : Type 0} (P : A → Type 0) (xs ys : List A) → AllByRecursion P xs → AllByRecursion P ys → AllByRecursion P (xs ++ ys)
-all_append P [] ys first second = second
-all_append P (x ∷ xs) ys first second = (first.0, all_append P xs ys first.1 second)
+none_answered id h (other ∷ messages) answers new all hears = absurd all.0
 
 -- what is true of messages of entries is true of the messages of buckets
 entries_in_messages : (P : Message → Type 0) (id horizon : ℕ) → ((part : List Entry) → P (Entries id horizon part)) → (parts : List (List Entry)) → AllByRecursion P (map (λ part. Entries id horizon part) parts)
@@ -210,35 +207,14 @@ hist-buckets R (bucket ∷ buckets) p =
     cases false true = none_joined R p
     cases false false = refl
 
-any_chosen : (test : ℕ → Bool) (n : ℕ) (ns : List ℕ) → list_any (λ m. n == m) (filter test ns) ≡ (test n && list_any (λ m. n == m) ns)
-any_chosen test n [] = elim (test n) as (λ b. false ≡ (b && false)) [ true ↦ refl | false ↦ refl ]
-any_chosen test n (m ∷ ns) = cases (n == m) refl (test m) (λ same. ap test (eqb-true n m same)) (any_chosen test n ns)
-  where
-    others : List ℕ
-    others = filter test ns
-
-    any : Bool
-    any = list_any (λ m. n == m) ns
-
-    cases : (x : Bool) → (n == m) ≡ x → (t : Bool) → (x ≡ true → test n ≡ t) → list_any (λ m. n == m) others ≡ (test n && any) → list_any (λ m. n == m) (cond t (m ∷ others) others) ≡ (test n && (x || any))
-    cases true is true same rest = let yes : test n ≡ true = same refl in rw (is, yes) refl
-    cases true is false same rest = let not : test n ≡ false = same refl in rest ∙ rw not refl
-    cases false is true same rest = rw is rest
-    cases false is false same rest = rest
-
-any_in_range : (n a len : ℕ) → a ≤ n → n < a + len → list_any (λ m. n == m) (range_with_len a len) ≡ true
-any_in_range n a zero from to = absurd (omega (arith, from, to))
-any_in_range n a (suc len) from to = elim (cases_eq n a) [
-  | inl same ↦ rw (eq-eqb n a same) refl
-  | inr other ↦ rw (ne_eqb n a other) (any_in_range n (a + 1) len (omega (arith, other, from)) (omega (arith, to)))
-]
-
 any_bucket : (request : ℕ) (p : PageId) → list_any (λ bucket. page_bucket p == bucket) (buckets_in request) ≡ (bit_at request (page_bucket p) == 1)
 unfolding buckets_in
 any_bucket request p =
-    any_chosen (λ bucket. bit_at request bucket == 1) (page_bucket p) (range_with_len 0 BUCKETS)
-    ∙ ap (λ t. (bit_at request (page_bucket p) == 1) && t) (any_in_range (page_bucket p) 0 BUCKETS (omega arith) (omega arith))
-    ∙ elim (bit_at request (page_bucket p) == 1) as (λ b. (b && true) ≡ b) [ true ↦ refl | false ↦ refl ]
+    let n : ℕ = page_bucket p in
+    let there : Contains (range_with_len 0 BUCKETS) n = (n, omega arith, get_or-range_with_len 0 BUCKETS n n (omega arith) ∙ omega arith) in
+    any-filter_same (λ bucket. n == bucket) (λ bucket. bit_at request bucket == 1) (bit_at request n == 1) (λ bucket same. ap (λ b. bit_at request b == 1) (sym (eqb-true n bucket same))) (range_with_len 0 BUCKETS)
+    ∙ ap (λ t. (bit_at request n == 1) && t) (list_any-from_Contains nat_eq_equiv n (range_with_len 0 BUCKETS) there)
+    ∙ elim (bit_at request n == 1) as (λ b. (b && true) ≡ b) [ true ↦ refl | false ↦ refl ]
 
 -- the pages of the buckets of the request
 abbrev in_request : ℕ → PageId → Bool
@@ -278,13 +254,13 @@ hist_back request S T p =
     cases true = hist_again S T p
     cases false = refl
 
--- sets that are told the same of each page beside S, up to the same horizon, have one history with it
+-- sets that say the same of each page beside S, up to the same horizon, have one history with it
 told_alike : (S A B : ReferenceSet) → max S.horizon A.horizon ≡ max S.horizon B.horizon → ((p : PageId) → hist (S.told ++ A.told) p ≡ hist (S.told ++ B.told) p) → history (S ∪ A) ≡ history (S ∪ B)
 told_alike S A B horizons alike = same_hists (S ∪ A) (S ∪ B) horizons (λ p.
     ap (λ m. hist (recent m (S.told ++ A.told)) p) horizons
     ∙ kept_alike (max S.horizon B.horizon) (S.told ++ A.told) (S.told ++ B.told) alike p)
 
--- and so where the second alone tells the same
+-- and so where the second alone says the same
 second_alike : (S A B : ReferenceSet) → max S.horizon A.horizon ≡ max S.horizon B.horizon → ((p : PageId) → hist A.told p ≡ hist B.told p) → history (S ∪ A) ≡ history (S ∪ B)
 second_alike S A B horizons alike = told_alike S A B horizons (λ p. hist-append S.told A.told p ∙ ap (joined (hist S.told p)) (alike p) ∙ sym (hist-append S.told B.told p))
 
@@ -352,9 +328,6 @@ nothing_wanted S h = ap (λ (R : List Reference). history (S ∪ record { horizo
 
 -- ---- the digests
 
-digest_is : (es : List Entry) (bucket : ℕ) → bucket < BUCKETS → digest_at (digests_of es) bucket ≡ bucket_digest es bucket
-digest_is es bucket low = get_or-map-range_with_len (bucket_digest es) 0 BUCKETS bucket bucket [] low (omega arith)
-
 same_difference : (request : ℕ) (h g : HistoryView) → IsDiffering (digests_of (entries_of h)) g request → IsDifferenceOf h g request
 same_difference request h g differ bucket low = rw (← digest_is (entries_of h) bucket low, ← digest_is (entries_of g) bucket low) (differ bucket low)
 
@@ -364,22 +337,14 @@ other_way request h g differ bucket low = ((λ set same. (differ bucket low).0 s
 collision_too : (h g : HistoryView) → IsCollision h g → IsCollision g h
 collision_too h g c = record { bucket = c.bucket; low = c.low; differ = (λ same. c.differ (sym same)); same_digest = sym c.same_digest }
 
--- no bit of a request is set where no sum differs
+-- no bit of a request is set where no digest differs
 own_request : (request : ℕ) (h : HistoryView) → request < 2 ^ 64 → IsDiffering (digests_of (entries_of h)) h request → request ≡ 0
 own_request request h fits differ = same_from_bits_below 64 request 0 fits (omega arith) (λ bucket low.
-    let clear : bit_at request bucket ≡ 0 = clear_bit (bit_at request bucket) (bit_at-lt request bucket) (λ set. (differ bucket low).0 set refl) in
-    clear ∙ sym (bit_at-zero bucket))
-  where
-    clear_bit : (bit : ℕ) → bit < 2 → (bit ≡ 1 → ⊥) → bit ≡ 0
-    clear_bit zero low other = refl
-    clear_bit (suc zero) low other = absurd (other refl)
-    clear_bit (suc (suc n)) low other = absurd (omega (arith, low))
+    let set : bit_at request bucket ≢ 1 = λ one. (differ bucket low).0 one refl in
+    omega (arith, bit_at-lt request bucket, bit_at-zero bucket, set))
 
 if_zero : {A : Type 0} (request : ℕ) (x y : A) → request ≡ 0 → (if request == 0 then x else y) ≡ x
 if_zero request x y none = ap (λ (t : Bool). if t then x else y) (eq-eqb request 0 none)
-
-if_other : {A : Type 0} (request : ℕ) (x y : A) → (request ≡ 0 → ⊥) → (if request == 0 then x else y) ≡ y
-if_other request x y some = ap (λ (t : Bool). if t then x else y) (ne_eqb request 0 some)
 
 -- ---- the exchange, of histories
 

@@ -1,14 +1,16 @@
 -- Worked rows: a pool of two frames is warmed up in two steps, the second of which takes the frame of the victim.
-use Rattle.std.proofs.Common.{◌≡◌, ◌≢◌, ◌<◌, ℕ, zero, suc, true, false, [], ◌∷◌, length, refl, sym, ap, subst, Option, Some, None, inl, inr, arith}
+use Rattle.std.proofs.Common.{◌≡◌, ◌≢◌, ◌<◌, ℕ, zero, suc, true, false, [], ◌∷◌, length, refl, sym, subst, ◌∙◌, Some, None, inl, inr, arith}
 use Rattle.std.specs.List.{Contains}
+use Rattle.std.proofs.lemmas.Bool.{false≢true}
 use Rattle.warm_stamps.specs.declared.PageId.{PageId}
 use Rattle.warm_stamps.specs.declared.Reference.{Reference}
 use Rattle.warm_history.specs.ReferenceSets.{ReferenceSet, these}
 use Rattle.warm_history.specs.Histories.{history, refs}
 use Rattle.warm_rank.specs.Ranking.{leaving_cmp, IsBefore, IsVictim, warm}
-use Rattle.warm_pool.specs.View.{PoolView, FrameView, DeviceView, device_at, contents_at, frame_at, IsAbsent}
+use Rattle.warm_pool.specs.View.{PoolView, FrameView, DeviceView, device_at, contents_at, frame_at, is_page, IsAbsent}
 use Rattle.warm_pool.specs.Keeping.{KeepsContents}
 use Rattle.warm_pool.specs.Pinning.{IsFull, PutsIn}
+use Rattle.warm_pool.proofs.Bytes.{found_page}
 use Rattle.warm_gossip.specs.declared.call.Call.TheVariants.{WarmStep}
 use Rattle.warm_gossip.specs.declared.call.Reply.TheVariants.{Loaded}
 use Rattle.warm_gossip.specs.State.{NodeView}
@@ -30,14 +32,6 @@ heated = these (seen 0 1 ∷ seen 1 2 ∷ seen 1 3 ∷ seen 2 4 ∷ seen 2 5 ∷
 two_hottest : warm heated 2 ≡ page 2 ∷ page 1 ∷ []
 unfolding leaving_cmp
 two_hottest = refl
-
--- pages with other numbers are other pages
-other_page : (m n : ℕ) → m ≢ n → Some (page m) ≢ Some (page n)
-other_page m n differ is = differ (ap number is)
-  where
-    number : Option PageId → ℕ
-    number None = 0
-    number (Some p) = p.no
 
 -- ---- two frames over a device of three pages of one byte
 
@@ -71,6 +65,12 @@ warmer = node (held 0 1) (held 2 1)
 abbrev hot : NodeView
 hot = node (held 1 2) (held 2 1)
 
+-- a page that is in neither frame is in none
+away : (first second : FrameView) (p : PageId) → is_page p first.page ≡ false → is_page p second.page ≡ false → IsAbsent (pool first second) p
+away first second p one other zero held = absurd (false≢true (sym one ∙ found_page p first.page held))
+away first second p one other (suc zero) held = absurd (false≢true (sym other ∙ found_page p second.page held))
+away first second p one other (suc (suc i)) held = let never : None ≡ Some p = held in absurd (cc)
+
 -- ---- no byte of any page changes
 
 no_bytes : (first second : FrameView) (dev number : ℕ) → (device_at (pool first second) dev).honest ≡ false → contents_at (pool first second) (record { dev = dev; no = number }) ≡ []
@@ -96,18 +96,13 @@ keeps first second m n g k one other = record {
 
 next_is_2 : IsNextWarm cold (Some (page 2))
 unfolding leaving_cmp history
-next_is_2 = (0, omega arith, refl, (record { device = omega arith; number = omega arith }, away), λ j lt. absurd (omega (arith, lt)))
-  where
-    away : IsAbsent (pool (held 0 1) free) (page 2)
-    away zero is = other_page 0 2 (λ same. omega (arith, same)) is
-    away (suc zero) is = let never : None ≡ Some (page 2) = is in absurd (cc)
-    away (suc (suc i)) is = let never : None ≡ Some (page 2) = is in absurd (cc)
+next_is_2 = (0, omega arith, refl, (record { device = omega arith; number = omega arith }, away (held 0 1) free (page 2) refl refl), λ j lt. absurd (omega (arith, lt)))
 
 puts_2 : PutsIn (history heated) (pool (held 0 1) free) (page 2) 0 (record { index = 1; generation = 1 }) (pool (held 0 1) (held 2 1))
 puts_2 = record {
   absent = next_is_2.3.1;
   place = inl (record { there = omega arith; free = refl; least = taken });
-  room = omega arith;
+  below = omega arith;
   current = refl;
   becomes = refl;
   contents = keeps (held 0 1) free 0 2 1 1 refl refl;
@@ -122,14 +117,9 @@ first_step = (next_is_2, (refl, (record { index = 1; generation = 1 }, puts_2)))
 
 -- ---- the second puts 0:1 into the frame of 0:0, the victim
 
-away_1 : IsAbsent (pool (held 0 1) (held 2 1)) (page 1)
-away_1 zero is = other_page 0 1 (λ same. omega (arith, same)) is
-away_1 (suc zero) is = other_page 2 1 (λ same. omega (arith, same)) is
-away_1 (suc (suc i)) is = let never : None ≡ Some (page 1) = is in absurd (cc)
-
 next_is_1 : IsNextWarm warmer (Some (page 1))
 unfolding leaving_cmp history
-next_is_1 = (1, omega arith, refl, (record { device = omega arith; number = omega arith }, away_1), not_before)
+next_is_1 = (1, omega arith, refl, (record { device = omega arith; number = omega arith }, away (held 0 1) (held 2 1) (page 1) refl refl), not_before)
   where
     not_before : (j : ℕ) → j < 1 → IsLoadable (pool (held 0 1) (held 2 1)) (nth_page (page 2 ∷ page 1 ∷ []) j) → ⊥
     not_before zero lt loadable = loadable.1 1 refl
@@ -146,9 +136,9 @@ victim_is_0 = ((0, omega arith, refl), others)
 
 puts_1 : PutsIn (history heated) (pool (held 0 1) (held 2 1)) (page 1) 0 (record { index = 0; generation = 2 }) (pool (held 1 2) (held 2 1))
 puts_1 = record {
-  absent = away_1;
+  absent = next_is_1.3.1;
   place = inr (record { there = omega arith; full = full; page = page 0; holds = refl; unfixed = refl; victim = victim_is_0 });
-  room = omega arith;
+  below = omega arith;
   current = refl;
   becomes = refl;
   contents = keeps (held 0 1) (held 2 1) 1 2 2 1 refl refl;
@@ -167,9 +157,4 @@ two_steps = (Some (page 2), warmer, first_step, (Some (page 1), hot, second_step
 
 -- the page 0:0 left
 page_0_left : Leaves warmer.pool hot.pool (page 0)
-page_0_left = (record { frame = 0; there = omega arith; holds = refl }, gone)
-  where
-    gone : IsAbsent hot.pool (page 0)
-    gone zero is = other_page 1 0 (λ same. omega (arith, same)) is
-    gone (suc zero) is = other_page 2 0 (λ same. omega (arith, same)) is
-    gone (suc (suc i)) is = let never : None ≡ Some (page 0) = is in absurd (cc)
+page_0_left = (record { frame = 0; there = omega arith; holds = refl }, away (held 1 2) (held 2 1) (page 0) refl refl)

@@ -12,23 +12,25 @@ use Rattle.warm_pool.specs.View.{view_of, PoolView}
 use Rattle.warm_pool.specs.Pinning.{Loaded, LoadRefused, PutsIn, PutRefused}
 use Rattle.warm_gossip.specs.declared.remembered.Hottest.{Hottest}
 use Rattle.warm_gossip.specs.Remembered.{IsHottest}
+use Rattle.warm_gossip.specs.State.{NodeView}
 use Rattle.warm_gossip.specs.Step.{IsFirstLoadable, IsLoadable}
 
-put_in : {h : HistoryView} {v w : PoolView} {p : PageId} {slot : Slot} → IsLoadable v p → Loaded h v p slot w → PutsIn h v p 0 slot w
-put_in loadable loaded = elim loaded.1 [ inl stays ↦ absurd (loadable.1 _ stays.resident) | inr puts ↦ puts ]
-
 -- it is put into a frame
-pub loaded_in : {h k : HistoryView} {v w : PoolView} {p : PageId} {slot : Slot} → k ≡ h → IsLoadable v p → Loaded k v p slot w → PutsIn h v p 0 slot w
-loaded_in {h} {k} {v} {w} {p} {slot} is loadable loaded = subst (λ (l : HistoryView). PutsIn l v p 0 slot w) is (put_in loadable loaded)
-
-refused_in : (h : HistoryView) {v : PoolView} {p : PageId} (w : PoolView) (why : PoolFault) → IsLoadable v p → LoadRefused h v p why w → PutRefused h v p why w
-refused_in h w NoDevice loadable refused = let there = loadable.0.device in absurd (omega arith)
-refused_in h w NoPage loadable refused = let there = loadable.0.number in absurd (omega arith)
-refused_in h w why loadable refused = refused.2
+pub loaded_in : {h : HistoryView} {v w : PoolView} {p : PageId} {slot : Slot} → IsLoadable v p → Loaded h v p slot w → PutsIn h v p 0 slot w
+loaded_in loadable loaded = elim loaded.1 [ inl stays ↦ absurd (loadable.1 _ stays.resident) | inr puts ↦ puts ]
 
 -- or it is refused as a page is that has a device
-pub load_refused_in : {h k : HistoryView} {v : PoolView} {p : PageId} (w : PoolView) (why : PoolFault) → k ≡ h → IsLoadable v p → LoadRefused k v p why w → PutRefused h v p why w
-load_refused_in {h} {k} {v} {p} w why is loadable refused = subst (λ (l : HistoryView). PutRefused l v p why w) is (refused_in k w why loadable refused)
+pub load_refused_in : (h : HistoryView) {v : PoolView} {p : PageId} (w : PoolView) (why : PoolFault) → IsLoadable v p → LoadRefused h v p why w → PutRefused h v p why w
+load_refused_in h w NoDevice loadable refused = let there = loadable.0.device in absurd (omega arith)
+load_refused_in h w NoPage loadable refused = let there = loadable.0.number in absurd (omega arith)
+load_refused_in h w why loadable refused = refused.2
+
+-- a node with the same history
+abbrev node : ℕ → PoolView → HistoryView → NodeView
+node id v h = record { id = id; history = h; pool = v }
+
+pub same_node : (id : ℕ) (v : PoolView) (h k : HistoryView) → k ≡ h → node id v k ≡ node id v h
+same_node id v h k is = ap (node id v) is
 
 -- the first page of a list of as many of the hottest pages as there are frames is the next to load
 pub next_warm : (s : PoolState) (h k : HistoryView) (list : Hottest) (ps : List PageId) (n : ℕ) (o : Option PageId) → IsHistory k → k ≡ h

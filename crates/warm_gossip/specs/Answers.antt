@@ -14,7 +14,7 @@ use Rattle.warm_frames.specs.declared.message.Message.TheVariants.{Entries, Dige
 use Rattle.warm_frames.specs.Digests.{digest_at}
 use Rattle.warm_digest.specs.BucketDigests.{digests_of}
 
--- the list in pieces of so many items, of which the last may be shorter
+-- the list in pieces of `size` items, of which the last may be shorter
 abbrev pub pieces_of : {A : Type 0} → ℕ → ℕ → List A → List (List A)
 pieces_of size zero xs = []
 pieces_of size (suc n) [] = []

@@ -2,7 +2,10 @@
 use Rattle.std.specs.Prelude.{◌≡◌, ℕ, List, Result, Ok, Err}
 use Rattle.warm_history.specs.declared.hist.Entry.{Entry}
 use Rattle.warm_history.specs.Histories.{holding_since, join}
+use Rattle.warm_stamps.specs.declared.PageId.{PageId}
 use Rattle.warm_pool.specs.declared.fault.PoolFault.TheVariants.{Fault}
+use Rattle.warm_pool.specs.Keeping.{KeepsFrames}
+use Rattle.warm_pool.specs.Pinning.{LeavesDevices}
 use Rattle.warm_gossip.specs.declared.call.Call.{Call}
 use Rattle.warm_gossip.specs.declared.call.Reply.{Reply}
 use Rattle.warm_gossip.specs.declared.call.Reply.TheVariants.{Done, Refused}
@@ -35,3 +38,8 @@ Learns old horizon entries new = node_view new ≡ record (node_view old) { hist
 -- a page could not be written to its device, or a device not flushed
 abbrev pub WriteBackFails : NodeState → NodeFault → NodeState → Type 0
 WriteBackFails old why new = (why ≡ Pool Fault) × OnPool IsFailed (node_view old) (node_view new)
+
+-- what a refused pin leaves of the pool: frames as they were, and of the devices what a refused pin of the pool leaves
+abbrev pub PinLeaves : NodeState → PageId → NodeFault → NodeState → Type 0
+PinLeaves old page (Pool fault) new = KeepsFrames old.pool new.pool × LeavesDevices old.history old.pool page fault new.pool
+PinLeaves old page why new = ⊥

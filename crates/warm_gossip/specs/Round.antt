@@ -12,7 +12,7 @@ use Rattle.warm_gossip.specs.Answers.{IsAnswer, taught}
 abbrev pub offer : ℕ → HistoryView → Message
 offer id h = Digest id h.horizon (digests_of (entries_of h))
 
--- Frames come to a replica of this id one after the other: these are all its answers, and new is its history afterwards.
+-- Messages come to a replica of this id one after the other: these are all its answers, and new is its history afterwards.
 abbrev pub Hears : ℕ → HistoryView → List Message → List Message → HistoryView → Type 0
 Hears id h [] answers new = (answers ≡ []) × (new ≡ h)
 Hears id h (message ∷ messages) answers new =

@@ -19,7 +19,7 @@ pub record NodeView : Type 0 where
 abbrev pub node_view : NodeState → NodeView
 node_view s = record { id = s.id; history = s.history; pool = view_of s.pool }
 
--- a node that was told nothing
+-- a node that was given nothing
 abbrev pub opened : ℕ → PoolState → NodeState
 opened id pool = record { id = id; history = holding []; pool = pool }
 

@@ -51,7 +51,7 @@ IsNextWarm s = IsFirstLoadable s.pool (warm (refs s.history) (length s.pool.fram
 
 -- Refusals
 
--- so many bytes from `at` on are within a page
+-- `len` bytes from `at` on are within a page
 abbrev pub IsWithin : NodeView → ℕ → ℕ → Type 0
 IsWithin s at len = at + len ≤ s.pool.page_size
 

@@ -16,7 +16,7 @@ use Rattle.warm_gossip.specs.Victims.{Leaves}
 abbrev pub PagesDiffer : PoolView → Type 0
 PagesDiffer v = (i j : ℕ) (p : PageId) → (frame_at v i).page ≡ Some p → (frame_at v j).page ≡ Some p → i ≡ j
 
--- so many warm-up steps, one after the other, none refused
+-- this many warm-up steps, one after the other, none refused
 abbrev pub WarmSteps : ℕ → NodeView → NodeView → Type 0
 WarmSteps zero old new = new ≡ old
 WarmSteps (suc n) old new = (loaded : Option PageId) × (next : NodeView) × Step old WarmStep (Loaded loaded) next × WarmSteps n next new

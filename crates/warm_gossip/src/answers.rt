@@ -87,7 +87,7 @@ fn listed(
 /// rising order and each in page order, in messages of up to 1000. It costs what the wanted buckets cost: what is older is skipped as
 /// it is read.
 ///
-/// `AllocError` comes only where room was refused.
+/// `AllocError` comes only where an allocation fails.
 pub(crate) fn requested_messages(
     alloc: Global,
     id: ReplicaId,
@@ -143,7 +143,7 @@ fn answer_given(
 /// What a node with this history answers to the digests of another replica, at the greater horizon: its own
 /// entries of the buckets that differ, and then a request for these; nothing where none differs.
 ///
-/// `AllocError` comes only where room was refused.
+/// `AllocError` comes only where an allocation fails.
 pub(crate) fn answer_to_digests(
     alloc: Global,
     id: ReplicaId,

@@ -48,7 +48,7 @@ pub enum Call {
     },
     /// Name the page that would leave the pool next.
     Victim,
-    /// List so many of the hottest pages.
+    /// List this many of the hottest pages, or all where there are fewer.
     WarmList(usize),
     /// Load the hottest page that is not resident, of as many as the pool has frames.
     WarmStep,

@@ -21,16 +21,12 @@ impl<D: PageDevice> Node<D> {
     /// Takes references into the history: the call `Absorb`.
     ///
     /// # Errors
-    /// `Memory`: room was refused; nothing has changed.
+    /// `Memory`: an allocation failed; nothing has changed.
     pub fn absorb(&mut self, batch: &[Reference]) -> Result<(), NodeFault>
         ensures { Answered self.old (Absorb batch.now) done result self.new }
     {
-        let Ok(touched) = pages_of_references(self.alloc, batch) else {
-            return Err(NodeFault::Memory);
-        };
-        let Ok(()) = self.history.absorb(batch) else {
-            return Err(NodeFault::Memory);
-        };
+        let touched = pages_of_references(self.alloc, batch)?;
+        self.history.absorb(batch)?;
         self.pool.refresh(self.history.history(), &touched);
         Ok(())
     }
@@ -40,13 +36,9 @@ impl<D: PageDevice> Node<D> {
         ensures learnt { OnOk result (Learns self.old horizon entries.now self.new) }
         ensures refused { IfErr result (λ why. (why ≡ Memory) × SameView self.old self.new) }
     {
-        let Ok(named) = pages_of_entries(self.alloc, entries) else {
-            return Err(NodeFault::Memory);
-        };
+        let named = pages_of_entries(self.alloc, entries)?;
         let own = self.history.horizon();
-        let Ok(()) = self.history.join_entries(horizon, entries) else {
-            return Err(NodeFault::Memory);
-        };
+        self.history.join_entries(horizon, entries)?;
         if own < horizon {
             self.pool.refresh_all(self.history.history());
             return Ok(());
@@ -55,7 +47,7 @@ impl<D: PageDevice> Node<D> {
         Ok(())
     }
 
-    /// Forgets all stamps before this time, and tells the horizon from then on: the call `Horizon`. Takes no memory.
+    /// Forgets all stamps before this time, and returns the horizon from then on: the call `Horizon`. Takes no memory.
     ///
     /// A time that is not past the horizon costs nothing. Else the entries are gone over, and all resident pages are ranked again.
     pub fn raise(&mut self, time: u64) -> u64
@@ -79,7 +71,7 @@ impl<D: PageDevice> Node<D> {
     /// older stamp, and the hashing of the buckets that have one.
     ///
     /// # Errors
-    /// `Memory`: room was refused.
+    /// `Memory`: an allocation failed.
     pub fn answers(&mut self, message: &Message) -> Result<MessageList, NodeFault>
         ensures same { SameView self.old self.new }
         ensures answers { IfOk result (IsAnswer self.old.id self.old.history message.now) }
@@ -92,26 +84,18 @@ impl<D: PageDevice> Node<D> {
                 digests,
                 ..
             } => {
-                match answer_to_digests(self.alloc, self.id, &mut self.history, *horizon, digests) {
-                    Ok(messages) => Ok(MessageList::of(messages)),
-                    Err(_) => Err(NodeFault::Memory),
-                }
+                let own = &mut self.history;
+                let messages = answer_to_digests(self.alloc, self.id, own, *horizon, digests)?;
+                Ok(MessageList::of(messages))
             }
             Message::Want {
                 horizon,
                 request,
                 ..
             } => {
-                match requested_messages(
-                    self.alloc,
-                    self.id,
-                    self.history.history(),
-                    *horizon,
-                    *request,
-                ) {
-                    Ok(messages) => Ok(MessageList::of(messages)),
-                    Err(_) => Err(NodeFault::Memory),
-                }
+                let own = self.history.history();
+                let messages = requested_messages(self.alloc, self.id, own, *horizon, *request)?;
+                Ok(MessageList::of(messages))
             }
         }
     }
@@ -121,7 +105,7 @@ impl<D: PageDevice> Node<D> {
     /// Digests are compared with the node's own, which are kept: having them costs what [`Node::offer`] does.
     ///
     /// # Errors
-    /// `Memory`: room was refused; nothing has changed that a caller sees.
+    /// `Memory`: an allocation failed; nothing has changed that a caller sees.
     pub fn receive(&mut self, message: Message) -> Result<MessageList, NodeFault>
         ensures { Answered self.old (Receive message) Answers result self.new }
     {
@@ -143,14 +127,12 @@ impl<D: PageDevice> Node<D> {
     /// `Send`.
     ///
     /// # Errors
-    /// `Memory`: room was refused; nothing has changed.
+    /// `Memory`: an allocation failed; nothing has changed.
     pub fn send(&self, bucket: Bucket, after: Option<PageId>) -> Result<Message, NodeFault>
         ensures { Answered self.now (Send bucket after) Sent result self.now }
     {
         let history = self.history.history();
-        let Ok(entries) = history.entries(bucket, after, MAX_ENTRIES) else {
-            return Err(NodeFault::Memory);
-        };
+        let entries = history.entries(bucket, after, MAX_ENTRIES)?;
         let Ok(entries) = EntryList::of(entries) else {
             unreachable!()
         };
@@ -167,34 +149,30 @@ impl<D: PageDevice> Node<D> {
     /// else a pass over the history, and the hashing of the buckets of what was.
     ///
     /// # Errors
-    /// `Memory`: room was refused; nothing has changed that a caller sees, and the next offer takes the same digests anew.
+    /// `Memory`: an allocation failed; nothing has changed that a caller sees, and the next offer takes the same digests again.
     pub fn offer(&mut self) -> Result<Message, NodeFault>
         ensures { Answered self.old Offer Sent result self.new }
     {
-        match self.history.digests() {
-            Ok(digests) => Ok(Message::Digest {
-                sender: self.id,
-                horizon: self.history.horizon(),
-                digests,
-            }),
-            Err(_) => Err(NodeFault::Memory),
-        }
+        let digests = self.history.digests()?;
+        Ok(Message::Digest {
+            sender: self.id,
+            horizon: self.history.horizon(),
+            digests,
+        })
     }
 
     /// The `n` hottest pages, hottest first, or all where there are fewer: the call `WarmList`.
     ///
     /// # Errors
-    /// `Memory`: room was refused; nothing has changed.
+    /// `Memory`: an allocation failed; nothing has changed.
     pub fn warm_list(&self, n: usize) -> Result<PageList, NodeFault>
         ensures { Answered self.now (WarmList n) Pages result self.now }
     {
         let history = self.history.history();
         // The list is that of the references that the history holds: they give this very history.
         is_history(history);
-        match warm_list(self.alloc, history, n) {
-            Ok(pages) => Ok(PageList::of(pages)),
-            Err(_) => Err(NodeFault::Memory),
-        }
+        let pages = warm_list(self.alloc, history, n)?;
+        Ok(PageList::of(pages))
     }
 }
 

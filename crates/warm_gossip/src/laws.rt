@@ -1,5 +1,5 @@
 //! Laws of nodes, over the definitions alone: the pieces in which a bucket is answered, a round of gossip, victims,
-//! warming up, batches of references, and what a list of calls told a node.
+//! warming up, batches of references, and what a list of calls gave a node.
 //!
 //! Each function does nothing. What it ensures is a theorem, for the crates above to cite and for a reader to
 //! look up: the files of `specs/` that the clauses name say it in full.
@@ -36,7 +36,7 @@ pub fn own_digests_unanswered()
     ensures { OwnDigestsUnanswered }
 {}
 
-/// A frame of a history's entries teaches a replica all references for which that history stands.
+/// A message of a history's entries teaches a replica all references for which that history stands.
 pub fn entries_teach()
     ensures { EntriesTeach }
 {}
@@ -64,8 +64,8 @@ pub fn warm_up_loads()
     ensures { WarmUpLoads }
 {}
 
-/// Each state that a legal list of calls reaches has the history of what the node was told: the references of each
-/// `Absorb` and each frame of entries that it took, since its last restart. What it opened with counts too.
+/// Each state that a legal list of calls reaches has the history of what the node was given: the references of each
+/// `Absorb` and each message of entries that it took, since its last restart. What it opened with counts too.
 pub fn told_is_history()
     ensures { ToldIsHistory }
 {}

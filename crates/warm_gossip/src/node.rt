@@ -19,7 +19,7 @@ use warm_stamps::ReplicaId;
 /// One replica: the history of the references that reached it, and its buffer pool, which that history ranks.
 ///
 /// It keeps the digests of its history's buckets, and the list of pages by which it warms up, until it takes something in or restarts:
-/// an offer, and a step of the warm-up, with nothing taken in since the last one makes neither anew.
+/// an offer, and a step of the warm-up, with nothing taken in since the last one makes neither again.
 ///
 /// A pin is no reference: pages are ranked by the references that the node absorbed. Whoever pins a page also absorbs one.
 ///
@@ -58,7 +58,7 @@ impl<D: PageDevice> Model for Node<D> {
 }
 
 impl<D: PageDevice> Node<D> {
-    /// A node that was told nothing, over a pool without a page. Takes no memory.
+    /// A node that was given nothing, over a pool without a page. Takes no memory.
     pub fn new(alloc: Global, id: ReplicaId, pool: Pool<D>) -> Node<D>
         requires { IsRankedByAll pool }
         ensures { result ≡ opened id pool }
@@ -78,7 +78,7 @@ impl<D: PageDevice> Node<D> {
         self.id
     }
 
-    /// The history of what it was told.
+    /// The history of what it was given.
     pub fn history(&self) -> &History
         ensures { result.now ≡ self.now.history }
     {
@@ -95,12 +95,12 @@ impl<D: PageDevice> Node<D> {
     /// Answers a call.
     ///
     /// What each call does, and each of its refusals with its order, is said by the definition *step*: a refused call changes
-    /// nothing but counts of failures. `Memory` comes only where room was refused; pin, unpin, write, victim and restart need none.
+    /// nothing but counts of failures. `Memory` comes only where an allocation fails; pin, unpin, write, victim and restart need none.
     pub fn call(&mut self, call: Call) -> Reply
         ensures step { Goes self.old call result self.new }
         ensures settled { call ≡ Restart → result ≡ Done → IsSettled self.new.pool }
     {
-        // The call that comes most is answered here: `answer` has room for a reply's message, 2 KB, to move.
+        // The call that comes most is answered here: `answer` has space for a reply's message, 2 KB, to move.
         if let Call::Absorb(batch) = call {
             return match self.absorb(batch.as_slice()) {
                 Ok(()) => Reply::Done,

@@ -1,9 +1,12 @@
 //! The calls on a node's pool.
-ghost use Rattle.std.specs.Prelude.{◌↔◌, IfErr, IsTrue, OnOk};
+ghost use Rattle.std.specs.Prelude.{◌≡◌, ◌↔◌, IfErr, IfOk, IsTrue, OnErr, OnOk};
+ghost use Rattle.warm_pool.specs.Keeping.{KeepsBytes};
+ghost use Rattle.warm_pool.specs.PageBytes.{MakesDirty};
+ghost use Rattle.warm_pool.specs.Pinning.{TakesFrame};
 ghost use Rattle.warm_pool.specs.State.{IsSettled};
 ghost use Rattle.warm_gossip.specs.declared.call.Call.TheVariants.{Pin, Unpin, Read, Write, Victim, Restart};
 ghost use Rattle.warm_gossip.specs.declared.call.Reply.TheVariants.{Pinned, Bytes, Page};
-ghost use Rattle.warm_gossip.specs.Clauses.{Answered, Goes, SameView, WriteBackFails, done};
+ghost use Rattle.warm_gossip.specs.Clauses.{Answered, Goes, PinLeaves, SameView, WriteBackFails, done};
 ghost use Rattle.warm_gossip.specs.State.{node_view};
 ghost use Rattle.warm_gossip.specs.Step.{IsWithin};
 
@@ -19,14 +22,14 @@ impl<D: PageDevice> Node<D> {
     /// **A pin is no reference**: whoever pins a page also absorbs a reference to it.
     ///
     /// # Errors
-    /// `Pool`, with the fault and the order of [`warm_pool::Pool::pin`]. Pages, fixes and contents are as they were.
+    /// `Pool`, with the fault and the order of [`warm_pool::Pool::pin`], and with what that leaves. Pages, fixes and contents are as
+    /// they were.
     pub fn pin(&mut self, page: PageId) -> Result<Slot, NodeFault>
-        ensures { Answered self.old (Pin page) Pinned result self.new }
+        ensures step { Answered self.old (Pin page) Pinned result self.new }
+        ensures frame { IfOk result (λ slot. TakesFrame self.old.pool page slot self.new.pool) }
+        ensures refused { IfErr result (λ why. PinLeaves self.old page why self.new) }
     {
-        match self.pool.pin(page, self.history.history()) {
-            Ok(slot) => Ok(slot),
-            Err(fault) => Err(NodeFault::Pool(fault)),
-        }
+        Ok(self.pool.pin(page, self.history.history())?)
     }
 
     /// Takes a fix away: the call `Unpin`. Takes no memory.
@@ -34,7 +37,8 @@ impl<D: PageDevice> Node<D> {
     /// # Errors
     /// `StaleSlot`: the slot doesn't hold its page; nothing has changed.
     pub fn unpin(&mut self, slot: Slot) -> Result<(), NodeFault>
-        ensures { Answered self.old (Unpin slot) done result self.new }
+        ensures step { Answered self.old (Unpin slot) done result self.new }
+        ensures kept { KeepsBytes self.old.pool self.new.pool }
     {
         if !self.pool.holds(slot) {
             return Err(NodeFault::StaleSlot);
@@ -43,7 +47,7 @@ impl<D: PageDevice> Node<D> {
         Ok(())
     }
 
-    /// So many bytes of the slot's page, from `at` on: the call `Read`.
+    /// Reads `len` bytes of the slot's page, from `at` on: the call `Read`.
     ///
     /// # Errors
     /// In this order: `StaleSlot`, where the slot doesn't hold its page; `Pool(OutOfPage)`, where the bytes reach beyond its end;
@@ -57,16 +61,12 @@ impl<D: PageDevice> Node<D> {
         if !self.is_within(at, len) {
             return Err(NodeFault::Pool(PoolFault::OutOfPage));
         }
-        let Ok(mut bytes) = Vec::from_elem(self.alloc, 0, len) else {
-            return Err(NodeFault::Memory);
-        };
-        match self.pool.read(slot, at, &mut bytes) {
-            Ok(()) => Ok(ByteList::of(bytes)),
-            Err(fault) => Err(NodeFault::Pool(fault)),
-        }
+        let mut bytes = Vec::from_elem(self.alloc, 0, len)?;
+        self.pool.read(slot, at, &mut bytes)?;
+        Ok(ByteList::of(bytes))
     }
 
-    // Whether so many bytes from `at` on are within a page.
+    // Whether `len` bytes from `at` on are within a page.
     fn is_within(&self, at: usize, len: usize) -> bool
         ensures { IsTrue result ↔ IsWithin (node_view self.now) at len }
     {
@@ -80,15 +80,15 @@ impl<D: PageDevice> Node<D> {
     /// In this order: `StaleSlot`, where the slot doesn't hold its page; `Pool(OutOfPage)`, where the bytes reach beyond its end.
     /// Nothing has changed.
     pub fn write(&mut self, slot: Slot, at: usize, bytes: &[u8]) -> Result<(), NodeFault>
-        ensures { Answered self.old (Write slot at bytes.now) done result self.new }
+        ensures step { Answered self.old (Write slot at bytes.now) done result self.new }
+        ensures dirty { OnOk result (MakesDirty self.old.pool slot self.new.pool) }
+        ensures refused { OnErr result (self.new ≡ self.old) }
     {
         if !self.pool.holds(slot) {
             return Err(NodeFault::StaleSlot);
         }
-        match self.pool.write(slot, at, bytes) {
-            Ok(()) => Ok(()),
-            Err(fault) => Err(NodeFault::Pool(fault)),
-        }
+        self.pool.write(slot, at, bytes)?;
+        Ok(())
     }
 
     /// The page that would leave next, where there is one: the call `Victim`. Takes no memory.
@@ -108,27 +108,21 @@ impl<D: PageDevice> Node<D> {
         ensures step { Answered self.old Restart done result self.new }
         ensures settled { OnOk result (IsSettled self.new.pool) }
     {
-        match self.pool.empty() {
-            Ok(()) => {
-                self.history.clear();
-                Ok(())
-            }
-            Err(fault) => Err(NodeFault::Pool(fault)),
-        }
+        self.pool.empty()?;
+        self.history.clear();
+        Ok(())
     }
 
     /// Writes all pages back to their devices, and flushes these. Takes no memory.
     ///
     /// # Errors
-    /// `Fault` at the first write or flush that fails. Of what a node shows, counts of failures alone have changed.
+    /// `Fault` at the first write or flush that fails. Of what a caller sees, counts of failures alone have changed.
     pub fn write_back(&mut self) -> Result<(), NodeFault>
         ensures same { OnOk result (SameView self.old self.new) }
         ensures settled { OnOk result (IsSettled self.new.pool) }
         ensures refused { IfErr result (λ why. WriteBackFails self.old why self.new) }
     {
-        match self.pool.write_back_all() {
-            Ok(()) => Ok(()),
-            Err(fault) => Err(NodeFault::Pool(fault)),
-        }
+        self.pool.write_back_all()?;
+        Ok(())
     }
 }

@@ -13,7 +13,7 @@ use warm_history::{Entry, History};
 use warm_rank::warm_list;
 use warm_stamps::{PageId, Reference};
 
-/// The hottest pages of a history, hottest first: so many of them, or all where it has fewer.
+/// The hottest pages of a history, hottest first: as many as `asked`, or all where it has fewer.
 #[derive(Drop)]
 pub(crate) struct Hottest {
     pub(crate) asked: usize,
@@ -21,7 +21,7 @@ pub(crate) struct Hottest {
 }
 
 /// A history with the digests of its buckets and a list of its hottest pages. Both are kept until something is taken in: then the
-/// digests of its buckets are taken anew when they are next asked for, and so is the whole list.
+/// digests of its buckets are taken again when they are next asked for, and so is the whole list.
 ///
 /// Contracts see it as its history.
 #[derive(Drop)]
@@ -114,7 +114,8 @@ impl Remembered {
         Ok(table)
     }
 
-    /// The digests that the history's buckets would have at a horizon, at the cost of [`DigestedHistory::digests_since`]: nothing is forgotten.
+    /// The digests that the history's buckets would have at a horizon, at the cost of [`DigestedHistory::digests_since`]: nothing is
+    /// forgotten.
     pub(crate) fn digests_since(&mut self, horizon: u64) -> Result<DigestTable, AllocError>
         ensures table { IfOk result (λ table. table ≡ digests_since horizon self.old) }
         ensures same { self.new ≡ self.old }
@@ -123,8 +124,8 @@ impl Remembered {
         Ok(table)
     }
 
-    /// So many of the hottest pages. Takes no memory where this list was kept, and else makes it, at the cost of [`warm_list`].
-    /// It is kept no more: [`Remembered::keep`] takes it back.
+    /// The `n` hottest pages, or all where there are fewer. Takes no memory where this list was kept, and else makes it, at the cost of
+    /// [`warm_list`]. It is kept no more: [`Remembered::keep`] takes it back.
     pub(crate) fn take_hottest(&mut self, n: usize) -> Result<Hottest, AllocError>
         ensures list { IfOk result (λ list. IsHottest self.old list) }
         ensures many { IfOk result (λ list. list.asked ≡ n) }

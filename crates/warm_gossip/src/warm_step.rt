@@ -20,25 +20,21 @@ impl<D: PageDevice> Node<D> {
     /// in or restarts. A step that finds it kept takes no memory for it, and looks the pages up from the hottest on until it finds one.
     ///
     /// # Errors
-    /// `Memory`: there was no room for the list of the hottest pages; the next step makes it. `Pool`, with the fault and the order of
+    /// `Memory`: there was no memory for the list of the hottest pages; the next step makes it. `Pool`, with the fault and the order of
     /// [`warm_pool::Pool::load`]. Pages, fixes and contents are as they were.
     pub fn warm_step(&mut self) -> Result<Option<PageId>, NodeFault>
         ensures { Answered self.old WarmStep Loaded result self.new }
     {
         // The list is that of the references that the history holds: they give this very history.
         is_history(self.history.history());
-        let Ok(list) = self.history.take_hottest(self.pool.frames()) else {
-            return Err(NodeFault::Memory);
-        };
+        let list = self.history.take_hottest(self.pool.frames())?;
         let next = self.first_loadable(&list.pages);
         self.history.keep(list);
         let Some(page) = next else {
             return Ok(None);
         };
-        match self.pool.load(page, self.history.history()) {
-            Ok(_) => Ok(Some(page)),
-            Err(fault) => Err(NodeFault::Pool(fault)),
-        }
+        self.pool.load(page, self.history.history())?;
+        Ok(Some(page))
     }
 
     // The first of the pages that a device has and no frame.

@@ -1,7 +1,7 @@
-//! Why a play came to no end.
+//! Why a play did not reach its end.
 //!
-//! [`PlayFault`] stands in a crate of its own, below the players (`warm_schedule`) and the endings of the program
-//! (`warm_setup`), so that neither of these stands on the other.
+//! [`PlayFault`] has a crate of its own, below the players (`warm_schedule`) and the endings of the program
+//! (`warm_setup`), so that neither of these depends on the other.
 #![tactic(auto)]
 
 ghost use Rattle.std.specs.Prelude.{◌≡◌};
@@ -10,28 +10,29 @@ ghost use Rattle.warm_play_fault.specs.Faults.{play_fault_code, play_fault_name}
 use std::alloc::AllocError;
 use thiserror::Error;
 
-/// Why a play came to no end. What was written by then is a beginning of nothing in particular: no word is said of it.
+/// Why a play did not reach its end. Nothing is said of what was written by then.
 #[derive(Clone, Copy, Debug, PartialEq, Eq, Error)]
 pub enum PlayFault {
-    /// There was no room for the read buffer, for the world or for a line: 1. Want of memory inside an event is no fault of
-    /// the play: it is printed, and the schedule goes on. A play by threads has this one refusal for all its want of memory.
+    /// Memory for the read buffer, for the world or for a line was refused: 1. An allocation failure inside an event is no fault
+    /// of the play: it is printed, and the schedule goes on. A play by threads answers it for each of its allocation failures,
+    /// but for those that keep a thread from starting.
     #[error("Memory")]
     Memory,
-    /// The reader failed, or 2^40 reads came to no end: 2.
+    /// The reader failed, or 2^40 reads did not reach the end of the input: 2.
     #[error("ReadFault")]
     ReadFault,
     /// The writer failed: 3.
     #[error("WriteFault")]
     WriteFault,
-    /// The line of this number, counted from 1, is none that threads can play: 4. It comes of a play by threads alone, and
+    /// The line of this number, counted from 1, is not one that threads can play: 4. Only a play by threads answers it, and
     /// nothing was written.
     #[error("BadLine")]
     BadLine(u64),
-    /// A thread could not be started, for want of memory too: 5. It comes of a play by threads alone. Those that were started
-    /// have run to their end.
+    /// A thread could not be started, for want of memory or otherwise: 5. Only a play by threads answers it. The threads that were
+    /// started have run to their end.
     #[error("NoThread")]
     NoThread,
-    /// The world refused the devices, for their number of lists or the size of their pages: 6.
+    /// The world refused the devices, for the number of their lists or the size of their pages: 6.
     #[error("BadDevices")]
     BadDevices,
 }

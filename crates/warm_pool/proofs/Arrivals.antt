@@ -12,28 +12,32 @@ use Rattle.warm_pool.specs.State.{PoolState, IsPool, IsNowhere, nth_device}
 use Rattle.warm_pool.specs.View.{view_of, PoolView}
 use Rattle.warm_pool.specs.Keeping.{FailsAt, KeepsContents}
 use Rattle.warm_pool.specs.WritingBack.{KeptDevices, Cleans, CleanFails}
-use Rattle.warm_pool.specs.Pinning.{LoadsInto}
+use Rattle.warm_pool.specs.Pinning.{LoadsInto, ReadFails}
 use Rattle.warm_pool.specs.DeviceCalls.{PageRead}
 use Rattle.warm_pool.proofs.Slots.{at_set}
 use Rattle.warm_pool.proofs.Keeps.{pool_from, stored_honest, devices_keep_pool}
 use Rattle.warm_pool.proofs.FlushLemmas.{may_fail}
-use Rattle.warm_pool.proofs.DeviceSteps.{read_keeps, read_same, fails_at, same_view}
+use Rattle.warm_pool.proofs.DeviceSteps.{read_keeps, read_same, read_counted, fails_at, same_view}
 use Rattle.warm_pool.proofs.Loads.{Failed, on_ok, PutsPage, put_pool, put_keeps}
 use Rattle.warm_pool.proofs.WriteBacks.{cleans_view}
 
--- page p, which is in no frame, was read into bytes
-pub record Fetched (s : PoolState) (ds : List DeviceState) (p : PageId) (bytes : List ℕ) (result : Result (Unit {0}) DeviceFault) : Type 0 where
+-- page p, which is in no frame, was read into bytes, to come into frame i
+pub record Fetched (s : PoolState) (ds : List DeviceState) (i : ℕ) (p : PageId) (bytes : List ℕ) (result : Result (Unit {0}) DeviceFault) : Type 0 where
   pub pool : IsPool s
+  pub there : i < length s.frames
+  pub size : length bytes ≡ s.page_size
   pub device : p.dev < length s.devices
   pub number : p.no < (nth_device s.devices p.dev).pages
   pub nowhere : IsNowhere s.frames p
   pub call : PageRead s.devices ds p.dev p.no bytes result
 
 -- the same, of a pool that is seen as v
-pub fetched_in : {s v : PoolState} {ds : List DeviceState} {p : PageId} {bytes : List ℕ} {result : Result (Unit {0}) DeviceFault} → s ≡ v → IsPool s
-    → p.dev < length v.devices → p.no < (nth_device v.devices p.dev).pages → IsNowhere v.frames p → PageRead s.devices ds p.dev p.no bytes result → Fetched s ds p bytes result
-fetched_in {p = p} seen w device number nowhere call = record {
+pub fetched_in : {s v : PoolState} {ds : List DeviceState} {p : PageId} {bytes : List ℕ} {result : Result (Unit {0}) DeviceFault} (i : ℕ) → s ≡ v → IsPool s
+    → i < length v.frames → length bytes ≡ s.spare → p.dev < length v.devices → p.no < (nth_device v.devices p.dev).pages → IsNowhere v.frames p → PageRead s.devices ds p.dev p.no bytes result → Fetched s ds i p bytes result
+fetched_in {p = p} i seen w there len device number nowhere call = record {
   pool = w;
+  there = subst (λ x. i < length x.frames) (sym seen) there;
+  size = len ∙ w.spare_size;
   device = subst (λ x. p.dev < length x.devices) (sym seen) device;
   number = subst (λ x. p.no < (nth_device x.devices p.dev).pages) (sym seen) number;
   nowhere = subst (λ x. IsNowhere x.frames p) (sym seen) nowhere;
@@ -48,53 +52,57 @@ spare_keeps s n e w = subst (λ m. IsPool (record s { spare = m })) (w.spare_siz
 abbrev pub arrival : List FrameState → ℕ → PageId → RankKey → ℕ → List ℕ → FrameState
 arrival frames i p key fixes bytes = record { page = Some p; key = Some key; generation = (nth_frame frames i).generation + 1; fixes = fixes; dirty = false; bytes = bytes }
 
-module _ {s : PoolState} {ds : List DeviceState} {p : PageId} {bytes : List ℕ} {result : Result (Unit {0}) DeviceFault} (h : Fetched s ds p bytes result) where
+module _ {s : PoolState} {ds : List DeviceState} {i : ℕ} {p : PageId} {bytes : List ℕ} {result : Result (Unit {0}) DeviceFault} (h : Fetched s ds i p bytes result) where
   kept : KeptDevices s.frames s.devices ds
   kept = read_keeps s.frames s.devices ds p.dev p.no bytes result h.device h.call
 
   pub fetched_pool : (n : ℕ) → n ≡ s.spare → IsPool (record s { spare = n; devices = ds })
   fetched_pool n e = spare_keeps (record s { devices = ds }) n (e ∙ h.pool.spare_size) (devices_keep_pool s ds kept h.pool)
 
-  pub fetch_failed : Failed result → FailsAt (view_of s) p.dev (view_of (record s { devices = ds }))
-  fetch_failed f = fails_at s ds p.dev h.call.after h.device h.call.becomes kept
-      (may_fail (nth_device s.devices p.dev).unfailing f.fault result f.is h.call.call.unfailing)
-      (subst (λ r. CountsFault Read r (nth_device s.devices p.dev) h.call.after) f.is h.call.call.faults).1
+  pub fetch_failed : Failed result → ReadFails s p (record s { devices = ds })
+  fetch_failed f = record {
+    frames = refl;
+    devices = read_counted s.devices ds p.dev p.no bytes result f.fault h.call f.is;
+    fails = fails_at s ds p.dev h.call.after h.device h.call.becomes kept
+        (may_fail (nth_device s.devices p.dev).unfailing f.fault result f.is h.call.call.unfailing)
+        (subst (λ r. CountsFault Read r (nth_device s.devices p.dev) h.call.after) f.is h.call.call.faults).1;
+  }
 
   module _ (ok : result ≡ Ok tt) where
     fetched_view : view_of (record s { devices = ds }) ≡ view_of s
     fetched_view = same_view s ds p.dev h.call.after h.call.becomes kept (subst (λ r. CountsFault Read r (nth_device s.devices p.dev) h.call.after) ok h.call.call.faults)
 
     -- the page that was to leave was not written
-    pub leave_failed : {n : ℕ} (i : ℕ) (t : PoolState) → CleanFails (record s { spare = n; devices = ds }) i t
-        → CleanFails s i t
-    leave_failed i t c = record {
+    pub leave_failed : {n : ℕ} (t : PoolState) → CleanFails (record s { spare = n; devices = ds }) i t → CleanFails s i t
+    leave_failed t c = record {
       page = c.page;
       holds = c.holds;
       dirty = c.dirty;
       frames = c.frames;
+      waits = c.waits;
+      others = λ k ne. c.others k ne ∙ ap (λ l. nth_device l k) (read_same s.devices ds p.dev p.no bytes result h.call ok);
       fails = subst (λ v. FailsAt v c.page.dev (view_of t)) fetched_view c.fails;
     }
 
-    module _ {n m : ℕ} {es : List DeviceState} (fs : FramesState) (i : ℕ) (there : i < length s.frames) (size : length bytes ≡ s.page_size)
-        (w : IsPool (pool_from fs m es)) (c : Cleans (record s { spare = n; devices = ds }) i (pool_from fs m es)) where
+    module _ {n m : ℕ} {es : List DeviceState} (fs : FramesState) (w : IsPool (pool_from fs m es)) (c : Cleans (record s { spare = n; devices = ds }) i (pool_from fs m es)) where
       old_view : view_of (pool_from fs m es) ≡ view_of s
       old_view = cleans_view (record s { spare = n; devices = ds }) (pool_from fs m es) i c ∙ fetched_view
 
       nth_old : nth_frame fs.frames i ≡ cleaned (nth_frame s.frames i)
-      nth_old = ap (λ l. nth_frame l i) c.frames ∙ get_or-set_same s.frames i (cleaned (nth_frame s.frames i)) (fresh_frame []) there
+      nth_old = ap (λ l. nth_frame l i) c.frames ∙ get_or-set_same s.frames i (cleaned (nth_frame s.frames i)) (fresh_frame []) h.there
 
       pub still_there : i < length fs.frames
-      still_there = subst (λ k. i < k) (sym (ap length c.frames ∙ length-set s.frames i (cleaned (nth_frame s.frames i)))) there
+      still_there = subst (λ k. i < k) (sym (ap length c.frames ∙ length-set s.frames i (cleaned (nth_frame s.frames i)))) h.there
 
-      pub still_room : (k : ℕ) → (nth_frame s.frames i).generation < k → (nth_frame fs.frames i).generation < k
-      still_room k lt = subst (λ g. g < k) (sym (ap (λ f. f.generation) nth_old)) lt
+      pub still_below : (k : ℕ) → (nth_frame s.frames i).generation < k → (nth_frame fs.frames i).generation < k
+      still_below k lt = subst (λ g. g < k) (sym (ap (λ f. f.generation) nth_old)) lt
 
       pub still_size : length (nth_frame fs.frames i).bytes ≡ fs.page_size
       still_size = w.frame_size i still_there
 
       still_nowhere : IsNowhere fs.frames p
       still_nowhere = subst (λ l. IsNowhere l p) (sym c.frames)
-          (at_set (fresh_frame []) (λ _ f. f.page ≢ Some p) s.frames i (cleaned (nth_frame s.frames i)) there (h.nowhere i) (λ j ne. h.nowhere j))
+          (at_set (fresh_frame []) (λ _ f. f.page ≢ Some p) s.frames i (cleaned (nth_frame s.frames i)) h.there (h.nowhere i) (λ j ne. h.nowhere j))
 
       from_device : IsTrue (nth_device es p.dev).honest → bytes ≡ page_at (nth_device es p.dev).contents p.no
       from_device o =
@@ -108,7 +116,7 @@ module _ {s : PoolState} {ds : List DeviceState} {p : PageId} {bytes : List ℕ}
         puts = record {
           fits = record {
             there = still_there;
-            size = ap length b_is ∙ size ∙ sym c.same.0;
+            size = ap length b_is ∙ h.size ∙ sym c.same.0;
             has_device = λ q e. subst (λ r. r.dev < length es) (same_Some p q e) (subst (λ k. p.dev < k) (sym (c.devices.count ∙ kept.count)) h.device);
             has_page = λ q e. subst (λ r. r.no < (nth_device es r.dev).pages) (same_Some p q e)
                 (subst (λ k. p.no < k) (sym ((c.devices.shape p.dev).pages ∙ (kept.shape p.dev).pages)) h.number);
@@ -134,6 +142,7 @@ module _ {s : PoolState} {ds : List DeviceState} {p : PageId} {bytes : List ℕ}
                 ∙ set-set s.frames i (cleaned (nth_frame s.frames i)) (arrival fs.frames i p key fixes b)
                 ∙ ap (λ (f : FrameState). let r : FrameState = record { page = Some p; key = Some key; generation = f.generation + 1; fixes = fixes; dirty = false; bytes = b } in set s.frames i r) nth_old;
             devices = λ clean. c.untouched clean ∙ read_same s.devices ds p.dev p.no bytes result h.call ok;
+            waits = c.waits;
             rest = ap (λ (v : PoolView). let x : PoolView = record v {
               frames = (view_of (pool_from (record fs { frames = set fs.frames i (arrival fs.frames i p key fixes b) }) k es)).frames;
               contents = (view_of (pool_from (record fs { frames = set fs.frames i (arrival fs.frames i p key fixes b) }) k es)).contents;

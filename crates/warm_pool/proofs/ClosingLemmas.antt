@@ -1,8 +1,8 @@
 -- Frames whose pages go to their devices one after the other.
-use Rattle.std.proofs.Common.{◌≡◌, ℕ, zero, suc, ◌+◌, ◌<◌, ◌≤◌, cond, true, false, IsTrue, List, [], ◌∷◌, length, set, Option, refl, sym, ap, ◌∙◌, subst, arith}
-use Rattle.warm_devices.specs.Device.{DeviceState, SameShape}
+use Rattle.std.proofs.Common.{◌≡◌, ℕ, zero, suc, ◌+◌, ◌<◌, ◌≤◌, cond, Bool, true, false, IsTrue, List, [], ◌∷◌, length, set, Option, refl, sym, ap, ◌∙◌, subst, arith}
+use Rattle.warm_devices.specs.Device.{DeviceState}
 use Rattle.warm_pool.specs.Frames.{FrameState, nth_frame, cleaned}
-use Rattle.warm_pool.specs.State.{PoolState, nth_device}
+use Rattle.warm_pool.specs.State.{PoolState}
 use Rattle.warm_pool.specs.View.{view_of}
 use Rattle.warm_pool.specs.Keeping.{FailsAt}
 use Rattle.warm_pool.specs.WritingBack.{KeptDevices, CleanFails, PutsDown, StopsAt, clean_if, cleaned_chosen, is_chosen}
@@ -20,12 +20,9 @@ clean_each P which (suc n) [] i was is = was
 clean_each P which (suc n) (f ∷ frames) zero was is = elim (is_chosen which f.page) as (λ t. P (cond t (cleaned f) f)) [ true ↦ is | false ↦ was ]
 clean_each P which (suc n) (f ∷ frames) (suc i) was is = clean_each P which n frames i was is
 
--- it has the page that it had, and isn't dirty if it wasn't
+-- it has the page that it had
 pub nth_page : (which : Option ℕ) (n : ℕ) (frames : List FrameState) (i : ℕ) → (nth_frame (cleaned_chosen which n frames) i).page ≡ (nth_frame frames i).page
 nth_page which n frames i = clean_each (λ f. f.page ≡ (nth_frame frames i).page) which n frames i refl refl
-
-nth_dirty : (which : Option ℕ) (n : ℕ) (frames : List FrameState) (i : ℕ) → (nth_frame frames i).dirty ≡ false → (nth_frame (cleaned_chosen which n frames) i).dirty ≡ false
-nth_dirty which n frames i is = clean_each (λ f. f.dirty ≡ false) which n frames i is refl
 
 -- those not yet reached are as they were
 pub nth_rest : (which : Option ℕ) (n : ℕ) (frames : List FrameState) (i : ℕ) → n ≤ i → nth_frame (cleaned_chosen which n frames) i ≡ nth_frame frames i
@@ -34,15 +31,19 @@ nth_rest which (suc n) [] i le = refl
 nth_rest which (suc n) (f ∷ frames) zero le = absurd (omega arith)
 nth_rest which (suc n) (f ∷ frames) (suc i) le = nth_rest which n frames i (omega arith)
 
-shape_both : (a b c : DeviceState) → SameShape a b → SameShape b c → SameShape a c
-shape_both a b c ab bc = record { pages = bc.pages ∙ ab.pages; page_size = bc.page_size ∙ ab.page_size; honest = bc.honest ∙ ab.honest; unfailing = bc.unfailing ∙ ab.unfailing }
+-- a frame that is not concerned is as it was
+pub nth_other : (which : Option ℕ) (n : ℕ) (frames : List FrameState) (i : ℕ) → is_chosen which (nth_frame frames i).page ≡ false → nth_frame (cleaned_chosen which n frames) i ≡ nth_frame frames i
+nth_other which zero frames i not = refl
+nth_other which (suc n) [] i not = refl
+nth_other which (suc n) (f ∷ frames) zero not = ap (λ (t : Bool). cond t (cleaned f) f) not
+nth_other which (suc n) (f ∷ frames) (suc i) not = nth_other which n frames i not
 
 -- two steps, the second over frames with the same pages, that are clean where they were
 pub kept_both : (frames later : List FrameState) (a b c : List DeviceState) → ((i : ℕ) → (nth_frame later i).page ≡ (nth_frame frames i).page) → ((i : ℕ) → (nth_frame frames i).dirty ≡ false → (nth_frame later i).dirty ≡ false)
     → KeptDevices frames a b → KeptDevices later b c → KeptDevices frames a c
 kept_both frames later a b c pages clean ab bc = record {
   count = bc.count ∙ ab.count;
-  shape = λ k. shape_both (nth_device a k) (nth_device b k) (nth_device c k) (ab.shape k) (bc.shape k);
+  shape = λ k. let x = ab.shape k in let y = bc.shape k in record { pages = y.pages ∙ x.pages; page_size = y.page_size ∙ x.page_size; honest = y.honest ∙ x.honest; unfailing = y.unfailing ∙ x.unfailing };
   absent = λ p away. bc.absent p (λ i is. away i (sym (pages i) ∙ is)) ∙ ab.absent p away;
   clean = λ i p holds is. bc.clean i p (pages i ∙ holds) (clean i is) ∙ ab.clean i p holds is;
 }
@@ -52,7 +53,7 @@ down_more which n s t u lt first next = let one : suc n ≡ n + 1 = omega arith 
   becomes = next.becomes ∙ ap (λ frames. set frames n (clean_if which (nth_frame frames n))) first.becomes ∙ clean_more which n s.frames lt ∙ ap (λ m. cleaned_chosen which m s.frames) one;
   devices = kept_both s.frames t.frames s.devices t.devices u.devices
       (λ i. ap (λ frames. (nth_frame frames i).page) first.becomes ∙ nth_page which n s.frames i)
-      (λ i is. ap (λ frames. (nth_frame frames i).dirty) first.becomes ∙ nth_dirty which n s.frames i is)
+      (λ i is. ap (λ frames. (nth_frame frames i).dirty) first.becomes ∙ clean_each (λ f. f.dirty ≡ false) which n s.frames i is refl)
       first.devices next.devices;
   failures = next.failures ∙ first.failures;
   same = (next.same.0 ∙ first.same.0, next.same.1 ∙ first.same.1);

@@ -1,5 +1,5 @@
 -- What a call of one device does to a list of devices, and to a pool over them.
-use Rattle.std.proofs.Common.{◌≡◌, ◌≢◌, ℕ, ◌+◌, ◌<◌, cond, Bool, true, false, List, [], ◌++◌, length, map, set, get_or, take, drop, Some, Result, Ok, OnOk, refl, sym, ◌∙◌, ap, subst, inl, inr, arith}
+use Rattle.std.proofs.Common.{◌≡◌, ◌≢◌, ℕ, ◌+◌, ◌<◌, cond, Bool, true, false, List, [], ◌++◌, length, map, set, get_or, take, drop, Some, Result, Ok, Err, OnOk, refl, sym, ◌∙◌, ap, subst, inl, inr, arith}
 use Rattle.std.proofs.Math.Path.{ap₂}
 use Rattle.std.proofs.Math.ListN.{get_or-map as mapped}
 use Rattle.std.proofs.lemmas.Grind.{common_steps}
@@ -14,7 +14,7 @@ use Rattle.warm_pool.specs.State.{PoolState, IsPool, no_device, nth_device}
 use Rattle.warm_pool.specs.View.{stored, view_of, device_view, PoolView}
 use Rattle.warm_pool.specs.Keeping.{FailsAt}
 use Rattle.warm_pool.specs.WritingBack.{KeptDevices}
-use Rattle.warm_pool.specs.DeviceCalls.{PageRead, PageWrite, ReadsPage, WritesPage}
+use Rattle.warm_pool.specs.DeviceCalls.{PageRead, PageWrite, ReadsPage, WritesPage, failed_at}
 use Rattle.warm_pool.proofs.Slots.{at_set}
 use Rattle.warm_pool.proofs.FlushLemmas.{same_shape}
 use Rattle.warm_pool.proofs.Bytes.{same_page, device_seen}
@@ -45,15 +45,12 @@ shapes_set old new k e h is shape j =
 abbrev pub known_bytes : DeviceState → ℕ → List ℕ
 known_bytes d n = cond d.honest (page_at d.contents n) []
 
-known_alike : (d e : DeviceState) (n : ℕ) → e.honest ≡ d.honest → page_at e.contents n ≡ page_at d.contents n → known_bytes e n ≡ known_bytes d n
-known_alike d e n o c = ap₂ (λ (t : Bool) (bytes : List ℕ). cond t bytes []) o c
-
 pub stored_set : (old new : List DeviceState) (k : ℕ) (e : DeviceState) → k < length old → new ≡ set old k e → SameShape (nth_device old k) e
     → (p : PageId) → (p.dev ≡ k → page_at e.contents p.no ≡ page_at (nth_device old k).contents p.no) → stored new p ≡ stored old p
 stored_set old new k e h is shape p same =
     subst (λ ds. stored ds p ≡ stored old p) (sym is)
     (at_set no_device (λ j d. p.dev ≡ j → known_bytes d p.no ≡ known_bytes (nth_device old j) p.no) old k e h
-    (λ here. known_alike (nth_device old k) e p.no shape.honest (same here)) (λ j ne _. refl) p.dev refl)
+    (λ here. ap₂ (λ (t : Bool) (bytes : List ℕ). cond t bytes []) shape.honest (same here)) (λ j ne _. refl) p.dev refl)
 
 pub read_keeps : (frames : List FrameState) (old new : List DeviceState) (k n : ℕ) (bytes : List ℕ) (result : Result (Unit {0}) DeviceFault)
     → k < length old → PageRead old new k n bytes result → KeptDevices frames old new
@@ -117,21 +114,31 @@ same_view s new k e is kept same =
     view_of_kept s new kept
     ∙ ap (λ (failures : List ℕ). let v : PoolView = record (view_of s) { failures = failures } in v) (failures_kept s.devices new k e is same)
 
--- a device of which a page was read is as it was
+-- a device of which a page was read is as it was, but for its failures
+read_after : {old new : List DeviceState} {k n : ℕ} {bytes : List ℕ} {result : Result (Unit {0}) DeviceFault} (r : PageRead old new k n bytes result) (failures : ℕ)
+    → r.after.failures ≡ failures → r.after ≡ record (nth_device old k) { failures = failures }
+read_after r failures is i = record {
+  pages = r.call.shape.pages i;
+  page_size = r.call.shape.page_size i;
+  contents = r.call.contents i;
+  waiting = r.call.waiting i;
+  failures = is i;
+  honest = r.call.shape.honest i;
+  unfailing = r.call.shape.unfailing i;
+}
+
 pub read_same : (old new : List DeviceState) (k n : ℕ) (bytes : List ℕ) (result : Result (Unit {0}) DeviceFault)
     → PageRead old new k n bytes result → result ≡ Ok tt → new ≡ old
 read_same old new k n bytes result r ok =
     let failures : r.after.failures ≡ (nth_device old k).failures = subst (λ x. CountsFault Read x (nth_device old k) r.after) ok r.call.faults in
-    let same : r.after ≡ nth_device old k = λ i. record {
-      pages = r.call.shape.pages i;
-      page_size = r.call.shape.page_size i;
-      contents = r.call.contents i;
-      waiting = r.call.waiting i;
-      failures = failures i;
-      honest = r.call.shape.honest i;
-      unfailing = r.call.shape.unfailing i;
-    } in
-    r.becomes ∙ ap (set old k) same ∙ set-get_or old k no_device
+    r.becomes ∙ ap (set old k) (read_after r (nth_device old k).failures failures) ∙ set-get_or old k no_device
+
+-- where it was not read, a failure is counted
+pub read_counted : (old new : List DeviceState) (k n : ℕ) (bytes : List ℕ) (result : Result (Unit {0}) DeviceFault) (fault : DeviceFault)
+    → PageRead old new k n bytes result → result ≡ Err fault → new ≡ failed_at k old
+read_counted old new k n bytes result fault r failed =
+    let counts = subst (λ x. CountsFault Read x (nth_device old k) r.after) failed r.call.faults in
+    r.becomes ∙ ap (set old k) (read_after r (one_more (nth_device old k).failures) counts.1)
 
 -- what a call of one device says, of that device in the list
 pub page_read : (old new : List DeviceState) (k n : ℕ) (d after : DeviceState) (bytes : List ℕ) (result : Result (Unit {0}) DeviceFault)

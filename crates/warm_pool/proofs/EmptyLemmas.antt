@@ -1,5 +1,5 @@
 -- A pool of which pages left.
-use Rattle.std.proofs.Common.{◌≡◌, ℕ, zero, suc, ◌<◌, ◌≤◌, cond, true, false, IsTrue, List, [], ◌∷◌, length, map, get_or, Option, Some, None, refl, sym, ap, ◌∙◌, subst, inl, inr}
+use Rattle.std.proofs.Common.{◌≡◌, ℕ, ◌<◌, ◌≤◌, cond, true, false, IsTrue, List, [], ◌∷◌, length, map, get_or, Option, Some, None, refl, sym, ap, ◌∙◌, subst, inl, inr}
 use Rattle.std.specs.Option.{option_map}
 use Rattle.std.proofs.lemmas.List.{length-map}
 use Rattle.std.proofs.Math.ListN.{get_or-map as mapped}
@@ -14,23 +14,18 @@ use Rattle.warm_pool.specs.View.{stored, view_of, frame_view, bytes_of, PoolView
 use Rattle.warm_pool.specs.Keeping.{KeepsContents}
 use Rattle.warm_pool.specs.WritingBack.{PutsDown, is_chosen, cleaned_chosen}
 use Rattle.warm_pool.specs.Retiring.{Emptied, emptied, AreUnfixed, vacate_if, vacated_chosen}
-use Rattle.warm_pool.specs.Flushes.{NoneWaits}
 use Rattle.warm_pool.proofs.Bytes.{bytes_nowhere, where_is, contents_seen, device_seen, frame_seen}
 use Rattle.warm_pool.proofs.Keeps.{pool_from, stored_honest}
 use Rattle.warm_pool.proofs.Loads.{contents_absent}
 use Rattle.warm_pool.proofs.ClosingLemmas.{clean_each, nth_page}
-use Rattle.warm_pool.proofs.SettleLemmas.{down_view, settled}
-use Rattle.warm_pool.proofs.VacateLemmas.{length-vacated}
+use Rattle.warm_pool.proofs.SettleLemmas.{down_view}
 
 -- Fixes
-
-nth_fixes : (which : Option ℕ) (n : ℕ) (frames : List FrameState) (i : ℕ) → (nth_frame (cleaned_chosen which n frames) i).fixes ≡ (nth_frame frames i).fixes
-nth_fixes which n frames i = clean_each (λ f. f.fixes ≡ (nth_frame frames i).fixes) which n frames i refl refl
 
 pub unfixed_to : (which : Option ℕ) (n : ℕ) (old new : List FrameState) → new ≡ cleaned_chosen which n old → AreUnfixed which old → AreUnfixed which new
 unfixed_to which n old new becomes unfixed i chosen =
     let page : (nth_frame new i).page ≡ (nth_frame old i).page = ap (λ frames. (nth_frame frames i).page) becomes ∙ nth_page which n old i in
-    ap (λ frames. (nth_frame frames i).fixes) becomes ∙ nth_fixes which n old i ∙ unfixed i (subst (λ held. IsTrue (is_chosen which held)) page chosen)
+    ap (λ frames. (nth_frame frames i).fixes) becomes ∙ clean_each (λ f. f.fixes ≡ (nth_frame old i).fixes) which n old i refl refl ∙ unfixed i (subst (λ held. IsTrue (is_chosen which held)) page chosen)
 
 pub unfixed_frames : (frames : List FrameState) → AreUnfixed None frames → (i : ℕ) → (get_or (map frame_view frames) i (frame_view (fresh_frame []))).fixes ≡ 0
 unfixed_frames frames unfixed i = ap (λ f. f.fixes) (mapped frame_view frames i (fresh_frame [])) ∙ unfixed i refl
@@ -66,9 +61,7 @@ vacate_fresh None = refl
 vacate_fresh (Some dev) = refl
 
 pub nth_vacated : (which : Option ℕ) (frames : List FrameState) (i : ℕ) → nth_frame (vacated_chosen which frames) i ≡ vacate_if which (nth_frame frames i)
-nth_vacated which [] i = sym (vacate_fresh which)
-nth_vacated which (f ∷ frames) zero = refl
-nth_vacated which (f ∷ frames) (suc i) = nth_vacated which frames i
+nth_vacated which frames i = ap (get_or (vacated_chosen which frames) i) (sym (vacate_fresh which)) ∙ mapped (vacate_if which) frames i (fresh_frame [])
 
 -- All of them
 
@@ -80,7 +73,7 @@ was_there which frames i p is = sym (ap (λ f. f.page) (still_there which frames
 
 pub vacated_pool : (which : Option ℕ) (s : PoolState) → AreUnfixed which s.frames → IsPool s → IsPool (record s { frames = vacated_chosen which s.frames })
 vacated_pool which s unfixed w =
-    let count = length-vacated which s.frames in
+    let count = length-map s.frames (vacate_if which) in
     record {
       some_frames = subst (λ n. 0 < n) (sym count) w.some_frames;
       few_frames = subst (λ n. n ≤ MAX_SLOTS) (sym count) w.few_frames;
@@ -103,11 +96,8 @@ vacated_pool which s unfixed w =
 pub vacated_ranked : (which : Option ℕ) (frames : List FrameState) (h : HistoryView) → ((i : ℕ) → IsRanked h (nth_frame frames i)) → (i : ℕ) → IsRanked h (nth_frame (vacated_chosen which frames) i)
 vacated_ranked which frames h ranked i = subst (λ f. IsRanked h f) (sym (nth_vacated which frames i)) (vacate_ranked which (nth_frame frames i) h (ranked i))
 
-none_ranked : (frames : List FrameState) (h : HistoryView) (i : ℕ) → IsRanked h (nth_frame (vacated_chosen None frames) i)
-none_ranked frames h i = subst (λ f. IsRanked h f) (sym (nth_vacated None frames i)) refl
-
 pub empty_ranked : (old new : FramesState) (h : HistoryView) → new ≡ record old { frames = vacated_chosen None old.frames } → (i : ℕ) → IsRanked h (nth_frame new.frames i)
-empty_ranked old new h is i = subst (λ (f : FramesState). IsRanked h (nth_frame f.frames i)) (sym is) (none_ranked old.frames h i)
+empty_ranked old new h is i = subst (λ (f : FramesState). IsRanked h (nth_frame f.frames i)) (sym is) (subst (λ f. IsRanked h f) (sym (nth_vacated None old.frames i)) refl)
 
 -- An emptied pool, as a caller sees it
 
@@ -151,15 +141,15 @@ module _ (t : PoolState) (w : IsPool t) (clean : (i : ℕ) → (nth_frame t.fram
     contents = subst (λ v. KeepsContents v (view_of u)) same empty_keeps;
   }
 
-  pub empty_settled : NoneWaits t.devices → IsSettled u
-  empty_settled none = record { clean = λ i. ap (λ f. f.dirty) (nth_vacated None t.frames i); flushed = none }
+pub empty_settled : (t : PoolState) → IsSettled t → IsSettled (record t { frames = vacated_chosen None t.frames })
+empty_settled t settled = record { clean = λ i. ap (λ f. f.dirty) (nth_vacated None t.frames i); flushed = settled.flushed }
 
 -- the same, where the frames are said by an equation
 pub becomes_empty : (P : PoolState → Type 0) (which : Option ℕ) (old new : FramesState) (spare : ℕ) (devices : List DeviceState) → new ≡ record old { frames = vacated_chosen which old.frames } → P (record (pool_from old spare devices) { frames = vacated_chosen which old.frames }) → P (pool_from new spare devices)
 becomes_empty P which old new spare devices is holds = subst (λ frames. P (pool_from frames spare devices)) (sym is) holds
 
-pub emptied_pool : (s : PoolState) (old new : FramesState) (spare : ℕ) (devices : List DeviceState) → PutsDown (cleaned_chosen None (length s.frames) s.frames) s (pool_from old spare devices) → NoneWaits devices → AreUnfixed None s.frames → IsPool (pool_from old spare devices) → new ≡ record old { frames = vacated_chosen None old.frames } → Emptied (view_of s) (view_of (pool_from new spare devices))
-emptied_pool s old new spare devices down none unfixed pool is =
+pub emptied_pool : (s : PoolState) (old new : FramesState) (spare : ℕ) (devices : List DeviceState) → PutsDown (cleaned_chosen None (length s.frames) s.frames) s (pool_from old spare devices) → IsSettled (pool_from old spare devices) → AreUnfixed None s.frames → IsPool (pool_from old spare devices) → new ≡ record old { frames = vacated_chosen None old.frames } → Emptied (view_of s) (view_of (pool_from new spare devices))
+emptied_pool s old new spare devices down settled unfixed pool is =
     let t : PoolState = pool_from old spare devices in
     becomes_empty (λ u. Emptied (view_of s) (view_of u)) None old new spare devices is
-    (empty_view t pool (settled s t down none).clean s (down_view None (length s.frames) s t down) unfixed)
+    (empty_view t pool settled.clean s (down_view None (length s.frames) s t down) unfixed)

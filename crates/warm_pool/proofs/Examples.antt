@@ -29,7 +29,7 @@ device honest = record {
   unfailing = true;
 }
 
--- a frame into which one page was put, the page 0:n, which was written to since and has so many fixes
+-- a frame into which one page was put, the page 0:n, which was written to since and has this many fixes
 abbrev holding : ℕ → ℕ → List ℕ → FrameState
 holding n fixes bytes = record { page = Some (page n); key = None; generation = 1; fixes = fixes; dirty = true; bytes = bytes }
 

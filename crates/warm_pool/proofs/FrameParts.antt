@@ -122,7 +122,7 @@ becomes {ps} {ps'} {ss} {ss'} {bs} {bs'} {size = size} t e i h c change is =
     ap (λ fs. record { page_size = size; frames = fs }) (become c ∙ ap (set (frames_of ps ss bs) i) (is ∙ ap change (sym here)))
     ∙ ap (λ w. changed_at w i change) e
 
--- they stay tied, where the contest was told the rank by which the page of the one that changed may leave
+-- they stay tied, where the contest was given the rank by which the page of the one that changed may leave
 pub stay_tied : {ps ps' : List (Option PageId)} {ss ss' : List Status} {bs bs' : List FrameBody} {contest contest' : _} {i : ℕ} {p : Option PageId} {s : Status} {b : FrameBody}
     → AreTied ps ss bs contest → Changes ps ss bs i p s b ps' ss' bs' → contest' ≡ set contest i (leaving_key (frame_of p s b)) → AreTied ps' ss' bs' contest'
 stay_tied {ps} {ps'} {ss} {ss'} {bs} {bs'} {contest} {contest'} {i} {p} {s} {b} t c told =
@@ -134,7 +134,7 @@ stay_tied {ps} {ps'} {ss} {ss'} {bs} {bs'} {contest} {contest'} {i} {p} {s} {b} 
           ∙ ap (map leaving_key) (sym (become c));
     }
 
--- a rank that stays need not be told
+-- a rank that stays need not be set
 pub rank_stays : {ps : List (Option PageId)} {ss : List Status} {bs : List FrameBody} {contest : _} {size : ℕ} {v : FramesState}
     → AreTied ps ss bs contest → kept size ps ss bs ≡ v → (i : ℕ) → i < length v.frames
     → (key : Option RankKey) → key ≡ leaving_key (frame_kept ps ss bs i) → contest ≡ set contest i key

@@ -1,17 +1,20 @@
 -- What a call leaves as it was, from its steps.
-use Rattle.std.proofs.Common.{◌≡◌, ℕ, ◌+◌, ◌<◌, false, [], length, Some, Result, Ok, Err, IfOk, refl, sym, ◌∙◌, ap, subst}
+use Rattle.std.proofs.Common.{◌≡◌, ℕ, ◌+◌, ◌<◌, false, [], length, Some, Result, IfErr, refl, sym, ◌∙◌, ap, subst}
 use Rattle.std.proofs.lemmas.List.{get_or-set_same, get_or-set_other}
 use Rattle.warm_stamps.specs.declared.PageId.{PageId}
 use Rattle.warm_history.specs.Histories.{HistoryView}
 use Rattle.warm_rank.specs.declared.RankKey.{RankKey}
 use Rattle.warm_pool.specs.declared.slot.Slot.{Slot}
 use Rattle.warm_pool.specs.declared.fault.PoolFault.{PoolFault}
+use Rattle.warm_pool.specs.declared.fault.PoolFault.TheVariants.{ReadFault, WriteBack}
 use Rattle.warm_pool.specs.Frames.{FrameState, nth_frame, fresh_frame}
 use Rattle.warm_pool.specs.State.{PoolState, IsNowhere}
 use Rattle.warm_pool.specs.View.{view_of, HasPage}
 use Rattle.warm_pool.specs.Keeping.{KeepsOthers, KeepsBytes}
-use Rattle.warm_pool.specs.Pinning.{IsPlace, LoadRefused, LoadsInto, LoadFails, TakesFrame, WritesDirty}
+use Rattle.warm_pool.specs.WritingBack.{WaitsFor}
+use Rattle.warm_pool.specs.Pinning.{IsPlace, LoadRefused, FixRefused, LoadsInto, LoadFails, TakesFrame, LeavesDevices}
 use Rattle.warm_pool.proofs.Bytes.{absent_seen, frame_seen}
+use Rattle.warm_pool.proofs.FlushLemmas.{if_err}
 
 pub same_bytes : (s : PoolState) → KeepsBytes s s
 same_bytes s = record { devices = refl; bytes = λ i. refl; dirty = λ i. refl }
@@ -26,12 +29,8 @@ stays_in_frame s t i p slot holds others kept = record {
   resident = λ _. kept;
   clean = λ away. absurd (away i (ap (λ f. f.page) (frame_seen s i) ∙ holds));
   devices = λ _. kept.devices;
+  waits = λ away. absurd (away i (ap (λ f. f.page) (frame_seen s i) ∙ holds));
 }
-
-pub fix_takes : (s t : PoolState) (i : ℕ) (p : PageId) → (nth_frame s.frames i).page ≡ Some p → KeepsBytes s t
-    → (r : Result Slot PoolFault) → IfOk r (λ slot. KeepsOthers slot.index s t) → IfOk r (λ slot. TakesFrame s p slot t)
-fix_takes s t i p holds kept (Ok slot) others = stays_in_frame s t i p slot holds others kept
-fix_takes s t i p holds kept (Err why) others = tt
 
 -- a page came into a frame
 pub loaded_takes : (s t : PoolState) (i : ℕ) (p : PageId) (key : RankKey) (n : ℕ) → LoadsInto s i p key n t → i < length s.frames → IsNowhere s.frames p
@@ -42,14 +41,22 @@ loaded_takes s t i p key n l there away slot at =
       resident = λ r. absurd (absent_seen s p away r.frame r.holds);
       clean = λ _. ap (λ k. (nth_frame t.frames k).dirty) at ∙ ap (λ fs. (nth_frame fs i).dirty) l.frames ∙ ap (λ f. f.dirty) (get_or-set_same s.frames i came (fresh_frame []) there);
       devices = λ clean. l.devices (sym (ap (λ k. (nth_frame s.frames k).dirty) at) ∙ clean);
+      waits = λ _. subst (λ k. WaitsFor s k t.devices) (sym at) l.waits;
     }
 
--- a page that no device has is not refused for a write
-pub unknown_writes_none : (h : HistoryView) (s : PoolState) (p : PageId) → (HasPage (view_of s) p → ⊥) → (why : PoolFault) → LoadRefused h (view_of s) p why (view_of s) → WritesDirty h s why
-unknown_writes_none h s p hasnt why refused is = absurd (hasnt (subst (λ x. LoadRefused h (view_of s) p x (view_of s)) is refused).0)
+-- a refusal of a page that no device has, and one for its fixes, leave the devices as they were
+pub unknown_leaves : (h : HistoryView) (s : PoolState) (p : PageId) → (HasPage (view_of s) p → ⊥) → (why : PoolFault) → LoadRefused h (view_of s) p why (view_of s) → LeavesDevices h s p why s
+unknown_leaves h s p hasnt ReadFault refused = absurd (hasnt refused.0)
+unknown_leaves h s p hasnt WriteBack refused = absurd (hasnt refused.0)
+unknown_leaves h s p hasnt why refused = refl
 
--- where the page that would leave could not be written, its frame is dirty
-pub failed_writes_dirty : (h : HistoryView) (s t : PoolState) (i : ℕ) (p : PageId) → IsPlace h (view_of s) (Some i)
-    → (why : PoolFault) → LoadFails s i p why t → WritesDirty h s why
-failed_writes_dirty h s t i p place why fails is =
-    let failed = subst (λ x. LoadFails s i p x t) is fails in record { frame = i; place = place; dirty = failed.dirty }
+pub full_leaves : (h : HistoryView) (s t : PoolState) (i : ℕ) (p : PageId) (r : Result Slot PoolFault) → IfErr r (λ why. FixRefused s i why t) → IfErr r (λ why. LeavesDevices h s p why t)
+full_leaves h s t i p r x = if_err _ _ r x (λ why full. subst (λ y. LeavesDevices h s p y t) (sym full.0) (ap (λ u. u.devices) full.2))
+
+-- what a failed read, or a failed write of the page that would leave, leaves of the devices
+pub failed_leaves : (h : HistoryView) (s t : PoolState) (i : ℕ) (p : PageId) → IsPlace h (view_of s) (Some i)
+    → (why : PoolFault) → LoadFails s i p why t → LeavesDevices h s p why t
+failed_leaves h s t i p place ReadFault l = l.devices
+failed_leaves h s t i p place WriteBack l =
+    record { frame = i; page = l.page; place = place; holds = l.holds; dirty = l.dirty; waits = l.waits; others = l.others }
+failed_leaves h s t i p place why l = absurd l

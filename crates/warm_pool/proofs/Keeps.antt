@@ -153,6 +153,9 @@ module _ (old new : FramesState) {spare : ℕ} {devices : List DeviceState} (w :
       }
 
 -- the page of a held slot, less or more fixes on it
+pub seen_holds : {s v : PoolState} {slot : Slot} → s ≡ v → Holds (view_of v) slot → Holds (view_of s) slot
+seen_holds {slot = slot} seen held = subst (λ x. Holds (view_of x) slot) (sym seen) held
+
 pub held_there : {s : PoolState} → IsPool s → (slot : Slot) → Holds (view_of s) slot → slot.index < length s.frames
 held_there {s} w slot h = subst (λ n. slot.index < n) (length-map s.frames frame_view) h.there
 
@@ -163,8 +166,11 @@ held_fixed {s} w slot h = subst (λ f. 0 < f.fixes) (frame_seen s slot.index) h.
 pub alike_fixes : {s : PoolState} → IsPool s → (i n : ℕ) → (nth_frame s.frames i).page ≢ None → IsAlike (nth_frame s.frames i) (record (nth_frame s.frames i) { fixes = n })
 alike_fixes {s} w i n some = record { page = refl; bytes = refl; dirty = refl; bare = λ e. absurd (some e) }
 
-pub fixed_some : {s : PoolState} → IsPool s → (i : ℕ) → 0 < (nth_frame s.frames i).fixes → (nth_frame s.frames i).page ≢ None
-fixed_some {s} w i fixed e = let none : (nth_frame s.frames i).fixes ≡ 0 = (w.bare i e).1 in absurd (omega arith)
+pub held_some : {s : PoolState} → IsPool s → (slot : Slot) → Holds (view_of s) slot → (nth_frame s.frames slot.index).page ≢ None
+held_some {s} w slot h e =
+    let none : (nth_frame s.frames slot.index).fixes ≡ 0 = (w.bare slot.index e).1 in
+    let some = held_fixed w slot h in
+    absurd (omega arith)
 
 pub seen_fixed : {s : PoolState} → IsPool s → (i : ℕ) → record (view_of s) { frames = set (view_of s).frames i (frame_view (record (nth_frame s.frames i) { fixes = (nth_frame s.frames i).fixes + 1 })) }
     ≡ record (view_of s) { frames = set (view_of s).frames i (record (frame_at (view_of s) i) { fixes = (frame_at (view_of s) i).fixes + 1 }) }

@@ -4,7 +4,6 @@ pub mod ChainLemmas
 pub mod ClosingLemmas
 pub mod DeviceSteps
 pub mod EmptyLemmas
-pub mod EmptyRanks
 pub mod Examples
 pub mod FlushLemmas
 pub mod FrameParts

@@ -50,7 +50,7 @@ module _ (frames heads next : List ℕ) (b f v to : ℕ) (last : Option ℕ) (lt
   next_before None before leads y less is = absurd (before.between y (omega arith) less is)
   next_before (Some x) before leads y less is = elim (cases_eq y x) [
     | inl e ↦
-        let room : x < length next = subst (λ n. x < n) (sym chains.next_room) before.is_of.0 in
+        let room : x < length next = subst (λ n. x < n) (sym chains.next_size) before.is_of.0 in
         subst (λ n. IsFirstFrom now b (suc n) (get_or (next_led next (Some x) to) n 0)) (sym e)
         (subst (λ n. IsFirstFrom now b (suc x) n) (sym (get_or-set_same next x to 0 room)) (leads (suc x) before.below before.between))
     | inr ne ↦ elim (cases_lt y x) [
@@ -97,7 +97,7 @@ unlinked frames heads next b f last lt in_heads is chains is_last =
     in
     let others : (c : ℕ) → c < length heads → c ≢ b → (get_or frames f 0 ≢ c) × (n ≢ c) = λ c low ne. (λ e. ne (sym e ∙ is), λ e. omega arith) in
     record {
-      next_room = length-next_led next last to ∙ chains.next_room ∙ sym (length-set frames f n);
+      next_size = length-next_led next last to ∙ chains.next_size ∙ sym (length-set frames f n);
       heads_are = λ c low. heads_after frames heads next b f n to last lt in_heads chains is_last leads others c (subst (λ m. c < m) (length-heads_led heads b last to) low);
       next_are = λ y low in_chain. elim (cases_eq y f) [
         | inl e ↦
@@ -137,11 +137,11 @@ linked frames heads next b f last lt in_heads is chains is_last =
     in
     let others : (c : ℕ) → c < length heads → c ≢ b → (get_or frames f 0 ≢ c) × (b ≢ c) = λ c low ne. (λ e. let same : length heads ≡ c = sym is ∙ e in omega arith, λ e. ne (sym e)) in
     let with_link : List ℕ = set next f link in
-    let room : length next ≡ length frames = chains.next_room in
+    let room : length next ≡ length frames = chains.next_size in
     let below : after last ≤ f = is_last.below in
     let linked_chains : (y : ℕ) → y ≢ f → get_or (next_led with_link last f) y 0 ≡ get_or (next_led next last f) y 0 = λ y ne. linked_elsewhere next f link last y (omega (arith, below, room)) ne in
     record {
-      next_room = length-next_led with_link last f ∙ length-set next f link ∙ chains.next_room ∙ sym (length-set frames f b);
+      next_size = length-next_led with_link last f ∙ length-set next f link ∙ chains.next_size ∙ sym (length-set frames f b);
       heads_are = λ c low. heads_after frames heads next b f b f last lt in_heads chains is_last leads others c (subst (λ m. c < m) (length-heads_led heads b last f) low);
       next_are = λ y low in_chain. elim (cases_eq y f) [
         | inl e ↦
@@ -158,11 +158,11 @@ linked frames heads next b f last lt in_heads is chains is_last =
       ];
     }
 
--- the same, of links that were told so
+-- the same, of links that are given by an equation
 pub unlinked_to : (frames heads next heads' next' : List ℕ) (b f to : ℕ) (last : Option ℕ) → f < length frames → b < length heads → get_or frames f 0 ≡ b → AreChains frames heads next → IsLastBelow frames b f last
     → to ≡ get_or next f to → heads' ≡ heads_led heads b last to → next' ≡ next_led next last to → AreChains (loose frames f heads) heads' next'
 unlinked_to frames heads next heads' next' b f to last lt in_heads is chains is_last read heads_are next_are =
-    let there : to ≡ get_or next f 0 = get_or_read next f to (subst (λ n. f < n) (sym chains.next_room) lt) read 0 in
+    let there : to ≡ get_or next f 0 = get_or_read next f to (subst (λ n. f < n) (sym chains.next_size) lt) read 0 in
     subst (λ hs. AreChains (loose frames f heads) hs next') (sym (heads_are ∙ ap (heads_led heads b last) there))
     (subst (λ ns. AreChains (loose frames f heads) (heads_led heads b last (get_or next f 0)) ns) (sym (next_are ∙ ap (next_led next last) there))
     (unlinked frames heads next b f last lt in_heads is chains is_last))

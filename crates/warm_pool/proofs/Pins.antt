@@ -1,5 +1,5 @@
 -- What a pin and a load come to, from their steps.
-use Rattle.std.proofs.Common.{◌≡◌, ℕ, ◌+◌, ◌-◌, ◌^◌, ◌<◌, false, List, length, map, set, Some, Result, Ok, Err, OnErr, IfOk, IfErr, sym, ◌∙◌, ap, subst, inl, inr, arith}
+use Rattle.std.proofs.Common.{◌≡◌, ℕ, ◌+◌, ◌-◌, ◌^◌, ◌<◌, false, List, length, map, set, Some, Result, OnErr, IfErr, sym, ◌∙◌, ap, subst, inl, inr, arith}
 use Rattle.std.specs.Option.{option_map}
 use Rattle.std.proofs.lemmas.List.{map-set, get_or-set_same, length-set, length-map}
 use Rattle.warm_stamps.specs.declared.PageId.{PageId}
@@ -13,9 +13,10 @@ use Rattle.warm_pool.specs.Frames.{nth_frame}
 use Rattle.warm_pool.specs.State.{PoolState, RankedBy, IsNowhere}
 use Rattle.warm_pool.specs.View.{frame_view, view_of, PoolView, FrameView, frame_at, HasPage, IsAbsent, Holds}
 use Rattle.warm_pool.specs.Keeping.{SameButFailures}
-use Rattle.warm_pool.specs.Pinning.{IsPlace, AddsFix, PutsIn, Pinned, Loaded, PutRefused, LoadRefused, PinRefused, LoadsInto, LoadFails}
+use Rattle.warm_pool.specs.Pinning.{IsPlace, PutsIn, PutRefused, LoadRefused, PinRefused, LoadsInto, LoadFails}
 use Rattle.warm_pool.proofs.Bytes.{frame_seen, absent_seen}
 use Rattle.warm_pool.proofs.Keeps.{ranked_set}
+use Rattle.warm_pool.proofs.FlushLemmas.{if_err}
 
 -- nothing but counts of failures has changed
 pub stays_by : (old new : PoolView) (failures : List ℕ) → new ≡ record old { failures = failures } → SameButFailures old new
@@ -25,13 +26,13 @@ stays_by old new failures e = e ∙ ap (λ (f : List ℕ). let v : PoolView = re
 pub put_refused : (s t : PoolState) (h : HistoryView) (i : ℕ) (p : PageId) → IsPlace h (view_of s) (Some i) → (nth_frame s.frames i).generation < 2 ^ 64 - 1
     → (why : PoolFault) → LoadFails s i p why t → PutRefused h (view_of s) p why (view_of t)
 put_refused s t h i p place room ReadFault l =
-    ((i, record { place = place; room = subst (λ f. f.generation < 2 ^ 64 - 1) (sym (frame_seen s i)) room }), l.1)
+    ((i, record { place = place; below = subst (λ f. f.generation < 2 ^ 64 - 1) (sym (frame_seen s i)) room }), l.fails)
 put_refused s t h i p place room WriteBack l =
-    (i, l.page, record { place = place; room = subst (λ f. f.generation < 2 ^ 64 - 1) (sym (frame_seen s i)) room }, ap (λ f. f.page) (frame_seen s i) ∙ l.holds, l.fails)
+    (i, l.page, record { place = place; below = subst (λ f. f.generation < 2 ^ 64 - 1) (sym (frame_seen s i)) room }, ap (λ f. f.page) (frame_seen s i) ∙ l.holds, l.fails)
 put_refused s t h i p place room why l = absurd l
 
 pub same_frames : (s t : PoolState) (i : ℕ) (p : PageId) (why : PoolFault) → LoadFails s i p why t → t.frames ≡ s.frames
-same_frames s t i p ReadFault l = l.0
+same_frames s t i p ReadFault l = l.frames
 same_frames s t i p WriteBack l = l.frames
 same_frames s t i p why l = absurd l
 
@@ -52,7 +53,7 @@ pub loaded_puts : (s t : PoolState) (i : ℕ) (p : PageId) (key : RankKey) (n : 
 loaded_puts s t i p key n l h away place gen is room = record {
   absent = absent_seen s p away;
   place = place;
-  room = subst (λ f. f.generation < 2 ^ 64 - 1) (sym (frame_seen s i)) (subst (λ g. g < 2 ^ 64 - 1) is room);
+  below = subst (λ f. f.generation < 2 ^ 64 - 1) (sym (frame_seen s i)) (subst (λ g. g < 2 ^ 64 - 1) is room);
   current = ap (λ g. g + 1) (is ∙ sym (ap (λ f. f.generation) (frame_seen s i)));
   becomes = l.rest ∙ ap (λ (fs : List FrameView). let x : PoolView = record (view_of s) { frames = fs; contents = (view_of t).contents } in x)
       (ap (map frame_view) l.frames
@@ -69,7 +70,6 @@ placed_there h v i (inr left) = left.there
 pub puts_holds : (h : HistoryView) (old : PoolView) (p : PageId) (slot : Slot) (new : PoolView) → PutsIn h old p 1 slot new → Holds new slot
 puts_holds h old p slot new x =
     let there : slot.index < length old.frames = placed_there h old slot.index x.place in
-    let frame : FrameView = record { page = Some p; generation = slot.generation; fixes = 1 } in
     let seen : frame_at new slot.index ≡ record { page = Some p; generation = slot.generation; fixes = 1 } =
     ap (λ v. frame_at v slot.index) x.becomes ∙ get_or-set_same old.frames slot.index (record { page = Some p; generation = slot.generation; fixes = 1 }) _ there in
     record {
@@ -97,43 +97,21 @@ put_stays h old p new why x = absurd x
 
 -- the outcome of a pin, from that of its last step
 module _ (s t : PoolState) (h : HistoryView) (p : PageId) (has : HasPage (view_of s) p) where
-  pub pin_adds : (r : Result Slot PoolFault) → IfOk r (λ slot. AddsFix (view_of s) p slot (view_of t)) → IfOk r (λ slot. Pinned h (view_of s) p slot (view_of t))
-  pin_adds (Ok slot) x = (has, inl x)
-  pin_adds (Err why) x = tt
-
-  pub pin_puts : (r : Result Slot PoolFault) → IfOk r (λ slot. PutsIn h (view_of s) p 1 slot (view_of t)) → IfOk r (λ slot. Pinned h (view_of s) p slot (view_of t))
-  pin_puts (Ok slot) x = (has, inr x)
-  pin_puts (Err why) x = tt
-
-  pub pin_holds : (r : Result Slot PoolFault) → IfOk r (λ slot. PutsIn h (view_of s) p 1 slot (view_of t)) → IfOk r (λ slot. Holds (view_of t) slot)
-  pin_holds (Ok slot) x = puts_holds h (view_of s) p slot (view_of t) x
-  pin_holds (Err why) x = tt
-
-  pub load_puts : (r : Result Slot PoolFault) → IfOk r (λ slot. PutsIn h (view_of s) p 0 slot (view_of t)) → IfOk r (λ slot. Loaded h (view_of s) p slot (view_of t))
-  load_puts (Ok slot) x = (has, inr x)
-  load_puts (Err why) x = tt
+  pub load_put_refused : IsNowhere s.frames p → (r : Result Slot PoolFault) → IfErr r (λ why. PutRefused h (view_of s) p why (view_of t)) → IfErr r (λ why. LoadRefused h (view_of s) p why (view_of t))
+  load_put_refused away r x = if_err _ _ r x (load_refused h (view_of s) p (view_of t) has (absent_seen s p away))
 
   pub pin_put_refused : IsNowhere s.frames p → (r : Result Slot PoolFault) → IfErr r (λ why. PutRefused h (view_of s) p why (view_of t)) → IfErr r (λ why. PinRefused h (view_of s) p why (view_of t))
-  pin_put_refused away (Ok slot) x = tt
-  pin_put_refused away (Err why) x = pin_refused h (view_of s) p (view_of t) why (load_refused h (view_of s) p (view_of t) has (absent_seen s p away) why x)
-
-  pub load_put_refused : IsNowhere s.frames p → (r : Result Slot PoolFault) → IfErr r (λ why. PutRefused h (view_of s) p why (view_of t)) → IfErr r (λ why. LoadRefused h (view_of s) p why (view_of t))
-  load_put_refused away (Ok slot) x = tt
-  load_put_refused away (Err why) x = load_refused h (view_of s) p (view_of t) has (absent_seen s p away) why x
+  pin_put_refused away r x = if_err _ _ r (load_put_refused away r x) (pin_refused h (view_of s) p (view_of t))
 
   pub stays_put : (r : Result Slot PoolFault) → IfErr r (λ why. PutRefused h (view_of s) p why (view_of t)) → OnErr r (SameButFailures (view_of s) (view_of t))
-  stays_put (Ok slot) x = tt
-  stays_put (Err why) x = put_stays h (view_of s) p (view_of t) why x
+  stays_put r x = if_err _ _ r x (put_stays h (view_of s) p (view_of t))
 
 -- a page with as many fixes as can be
 pub pin_full : (s t : PoolState) (h : HistoryView) (p : PageId) (i : ℕ) → HasPage (view_of s) p → i < length s.frames → (nth_frame s.frames i).page ≡ Some p
     → (r : Result Slot PoolFault) → IfErr r (λ why. (why ≡ FixesFull) × ((nth_frame s.frames i).fixes ≡ 2 ^ 32 - 1) × (t ≡ s)) → IfErr r (λ why. PinRefused h (view_of s) p why (view_of t))
-pin_full s t h p i has there holds (Ok slot) x = tt
-pin_full s t h p i has there holds (Err why) x =
-    subst (λ y. PinRefused h (view_of s) p y (view_of t)) (sym x.0)
-    (inl (has, record { frame = i; there = subst (λ m. i < m) (sym (length-map s.frames frame_view)) there; resident = ap (λ f. f.page) (frame_seen s i) ∙ holds; full = ap (λ f. f.fixes) (frame_seen s i) ∙ x.1 }, ap view_of x.2))
+pin_full s t h p i has there holds r x = if_err _ _ r x (λ why full. subst (λ y. PinRefused h (view_of s) p y (view_of t)) (sym full.0)
+    (inl (has, record { frame = i; there = subst (λ m. i < m) (sym (length-map s.frames frame_view)) there; resident = ap (λ f. f.page) (frame_seen s i) ∙ holds; full = ap (λ f. f.fixes) (frame_seen s i) ∙ full.1 }, ap view_of full.2)))
 
 pub full_stays : (s t : PoolState) (i : ℕ) (r : Result Slot PoolFault)
     → IfErr r (λ why. (why ≡ FixesFull) × ((nth_frame s.frames i).fixes ≡ 2 ^ 32 - 1) × (t ≡ s)) → OnErr r (SameButFailures (view_of s) (view_of t))
-full_stays s t i (Ok slot) x = tt
-full_stays s t i (Err why) x = stays_by (view_of s) (view_of t) (view_of s).failures (ap view_of x.2)
+full_stays s t i r x = if_err _ _ r x (λ why full. stays_by (view_of s) (view_of t) (view_of s).failures (ap view_of full.2))

@@ -55,7 +55,7 @@ passed_more pages page at to passed other first frame less is = elim (cases_lt f
 -- the link of a frame in the page's chain
 pub next_in_chain : (pages : List (Option PageId)) (heads next : List ℕ) (page : PageId) (from at : ℕ) → AreLinked pages heads next → at < length pages → IsFirstFrom (chains_of pages) (chain_of (length pages) (Some page)) from at → IsFirstFrom (chains_of pages) (chain_of (length pages) (Some page)) (suc at) (get_or next at 0)
 next_in_chain pages heads next page from at linked lt first =
-    let room : length heads ≡ length pages + 1 = linked.room in
+    let room : length heads ≡ length pages + 1 = linked.size in
     let b : ℕ = chain_of (length pages) (Some page) in
     let less = chain_of_page (length pages) page (omega arith) in
     let lt_chains : at < length (chains_of pages) = subst (λ n. at < n) (sym (count_chains pages)) lt in
@@ -73,11 +73,11 @@ first_is_free pages at first lt =
 
 -- the head of that chain, and as the code reads it
 first_free : (pages : List (Option PageId)) (heads next : List ℕ) → AreLinked pages heads next → IsFirstFrom (chains_of pages) (length pages) 0 (get_or heads (length pages) 0)
-first_free pages heads next linked = linked.chains.heads_are (length pages) (let room : length heads ≡ length pages + 1 = linked.room in omega arith)
+first_free pages heads next linked = linked.chains.heads_are (length pages) (let room : length heads ≡ length pages + 1 = linked.size in omega arith)
 
 head_read : (pages : List (Option PageId)) (heads next : List ℕ) (frames at : ℕ) → AreLinked pages heads next → frames ≡ length pages → at ≡ get_or heads frames at → IsFirstFrom (chains_of pages) (length pages) 0 at
 head_read pages heads next frames at linked count is =
-    let room : length heads ≡ length pages + 1 = linked.room in
+    let room : length heads ≡ length pages + 1 = linked.size in
     let read : at ≡ get_or heads (length pages) 0 = get_or_read heads frames at (omega arith) is 0 ∙ ap (λ m. get_or heads m 0) count in
     subst (λ m. IsFirstFrom (chains_of pages) (length pages) 0 m) (sym read) (first_free pages heads next linked)
 
@@ -88,27 +88,20 @@ free_found pages heads next frames at linked count is lt = first_is_free pages a
 pub free_full : (pages : List (Option PageId)) (heads next : List ℕ) (frames at : ℕ) → AreLinked pages heads next → frames ≡ length pages → at ≡ get_or heads frames at → frames ≤ at → IsFirstFree pages None
 free_full pages heads next frames at linked count is le frame lt = none_below pages at (head_read pages heads next frames at linked count is) frame (omega arith) lt
 
--- a changed frame changes its chain alone
-chains_set : (pages : List (Option PageId)) (frame : ℕ) (held : Option PageId) → chains_of (set pages frame held) ≡ set (chains_of pages) frame (chain_of (length pages) held)
-chains_set pages frame held = ap (λ n. map (chain_of n) (set pages frame held)) (length-set pages frame held) ∙ map-set (chain_of (length pages)) pages frame held
-
--- the frames once one of them has changed
-set_linked : (pages : List (Option PageId)) (heads next new_heads new_next : List ℕ) (frame : ℕ) (held : Option PageId) → AreLinked pages heads next → frame < length pages → length new_heads ≡ length heads → AreChains (set (chains_of pages) frame (chain_of (length pages) held)) new_heads new_next → AreLinked (set pages frame held) new_heads new_next
-set_linked pages heads next new_heads new_next frame held linked lt same chains =
-    let count : length (set pages frame held) ≡ length pages = length-set pages frame held in
-    record {
-      few = subst (λ n. n ≤ 65536) (sym count) linked.few;
-      room = same ∙ linked.room ∙ ap (λ n. n + 1) (sym count);
-      chains = subst (λ bs. AreChains bs new_heads new_next) (sym (chains_set pages frame held)) chains;
-    }
-
 -- a frame left its chain and came into that of what it now holds
 pub moved_linked : (frames : List ℕ) (pages : List (Option PageId)) (heads next new_heads new_next : List ℕ) (frame out to : ℕ) (held : Option PageId)
     → frames ≡ chains_of pages → AreLinked pages heads next → frame < length pages → length new_heads ≡ length heads → to ≡ chain_of (length pages) held
     → AreChains (set (set frames frame out) frame to) new_heads new_next → AreLinked (set pages frame held) new_heads new_next
 moved_linked frames pages heads next new_heads new_next frame out to held are linked lt same is chains =
     let now = ap (λ frames. set (set frames frame out) frame to) are ∙ set-set (chains_of pages) frame out to ∙ ap (set (chains_of pages) frame) is in
-    set_linked pages heads next new_heads new_next frame held linked lt same (subst (λ frames. AreChains frames new_heads new_next) now chains)
+    let count : length (set pages frame held) ≡ length pages = length-set pages frame held in
+    -- a changed frame changes its chain alone
+    let alone = ap (λ n. map (chain_of n) (set pages frame held)) count ∙ map-set (chain_of (length pages)) pages frame held in
+    record {
+      few = subst (λ n. n ≤ 65536) (sym count) linked.few;
+      size = same ∙ linked.size ∙ ap (λ n. n + 1) (sym count);
+      chains = subst (λ frames. AreChains frames new_heads new_next) (now ∙ sym alone) chains;
+    }
 
 -- frames without a page: each is followed by the next
 module _ (n : ℕ) (pages : List (Option PageId)) (heads next : List ℕ) (no_pages : pages ≡ replicate n None) (no_heads : heads ≡ set (replicate (n + 1) n) n 0) (turn : AreInTurn n next) where
@@ -166,6 +159,6 @@ module _ (n : ℕ) (pages : List (Option PageId)) (heads next : List ℕ) (no_pa
   pub none_linked : n ≤ 65536 → AreLinked pages heads next
   none_linked few = record {
     few = subst (λ m. m ≤ 65536) (sym count) few;
-    room = heads_count ∙ ap (λ m. m + 1) (sym count);
-    chains = record { next_room = turn.count ∙ sym count_all; heads_are = heads_of_none; next_are = λ frame low in_chain. next_of_none frame low };
+    size = heads_count ∙ ap (λ m. m + 1) (sym count);
+    chains = record { next_size = turn.count ∙ sym count_all; heads_are = heads_of_none; next_are = λ frame low in_chain. next_of_none frame low };
   }

@@ -19,6 +19,13 @@ use Rattle.warm_pool.specs.View.{frame_view, device_view, view_of, device_at, fr
 use Rattle.warm_pool.specs.Pinning.{IsFull, IsLeastFree, IsPlace}
 use Rattle.warm_pool.proofs.Bytes.{frame_seen, device_seen}
 
+-- the same of a pool that is seen as v
+pub pool_seen : {s v : PoolState} → s ≡ v → IsPool s → IsPool v
+pool_seen seen w = subst IsPool seen w
+
+pub place_seen : {s v : PoolState} → s ≡ v → (p : PageId) (at : Option ℕ) → IsPlaceOf (map (λ f. f.page) s.frames) p at → IsPlaceOf (map (λ f. f.page) v.frames) p at
+place_seen seen p at is = subst (λ x. IsPlaceOf (map (λ f. f.page) x.frames) p at) seen is
+
 -- what a device has, as a caller sees it
 pub seen_has : {s : PoolState} → IsPool s → (p : PageId) → p.dev < length s.devices → p.no < (nth_device s.devices p.dev).pages → HasPage (view_of s) p
 seen_has {s} w p d n = record {
@@ -151,13 +158,9 @@ seen_place {s} w full (Some i) l h r =
       victim = subst (IsVictim (refs h) (unfixed_pages (view_of s))) page.1 (one_leaves w h r i l);
     })
 
-pub least_if_there : {s : PoolState} → IsPool s → (least : Option ℕ) → IsLeast key_cmp (map leaving_key s.frames) least → IfSome least (λ i. i < length s.frames)
-least_if_there {s} w None l = tt
-least_if_there {s} w (Some i) l = least_there w i l
-
-pub least_if_unfixed : {s : PoolState} → IsPool s → (least : Option ℕ) → IsLeast key_cmp (map leaving_key s.frames) least → IfSome least (λ i. (nth_frame s.frames i).fixes ≡ 0)
-least_if_unfixed {s} w None l = tt
-least_if_unfixed {s} w (Some i) l = least_unfixed w i l
+pub least_if : (keys : List (Option RankKey)) (P : ℕ → Type 0) → ((i : ℕ) → IsLeast key_cmp keys (Some i) → P i) → (least : Option ℕ) → IsLeast key_cmp keys least → IfSome least P
+least_if keys P holds None l = tt
+least_if keys P holds (Some i) l = holds i l
 
 pub seen_there : {s : PoolState} → IsPool s → (i : ℕ) → i < length s.frames → i < length (view_of s).frames
 seen_there {s} w i h = subst (λ m. i < m) (sym (length-map s.frames frame_view)) h

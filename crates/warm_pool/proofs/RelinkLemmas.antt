@@ -1,4 +1,4 @@
--- Chains built anew, whatever the links were: frames come into their chains from the last one down.
+-- Chains built again, whatever the links were: frames come into their chains from the last one down.
 use Rattle.std.proofs.Common.{◌≡◌, ℕ, zero, suc, ◌<◌, List, [], ◌∷◌, length, get_or, set, replicate, sym, ap, refl, ◌∙◌, subst, Option, None, arith}
 use Rattle.std.proofs.lemmas.List.{length-replicate, get_or-replicate}
 use Rattle.warm_stamps.specs.declared.PageId.{PageId}
@@ -36,7 +36,7 @@ none_yet frames heads next room none same =
     let count : length apart ≡ n = length-linked_from n out frames in
     let wide : out ≡ room = ap length none ∙ length-replicate room n in
     record {
-      next_room = same ∙ sym count;
+      next_size = same ∙ sym count;
       heads_are = λ chain lt.
           let head : get_or heads chain 0 ≡ n = ap (λ xs. get_or xs chain 0) none ∙ get_or-replicate room chain n 0 (omega arith) in
           subst (λ m. IsFirstFrom apart chain 0 m) (sym head) (record {
@@ -61,7 +61,7 @@ comes_before_all frames frame out chain lt in_heads = record {
       omega arith;
 }
 
--- the frame at hand is in its chain, as those after it are
+-- this frame is in its chain, as those after it are
 pub linked_next : (frames : List ℕ) (pages : List (Option PageId)) (heads next : List ℕ) (frame out chain : ℕ) → frames ≡ chains_of pages → frame < length pages → chain ≡ chain_of (length pages) (page_in pages frame) → length heads ≡ out
     → AreChains (set (linked_from (suc frame) out frames) frame chain) heads next → AreChains (linked_from frame (length heads) frames) heads next
 linked_next frames pages heads next frame out chain are lt is room chains =

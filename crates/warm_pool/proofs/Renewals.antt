@@ -1,5 +1,5 @@
 -- The ranks of resident pages are renewed.
-use Rattle.std.proofs.Common.{◌≡◌, ◌≢◌, ◌⊎◌, ℕ, ◌+◌, ◌<◌, ◌≤◌, true, false, List, [], length, map, set, get_or, Option, Some, None, refl, sym, ◌∙◌, ap, subst, inl, inr, arith}
+use Rattle.std.proofs.Common.{◌≡◌, ◌≢◌, ◌⊎◌, ℕ, ◌+◌, ◌<◌, ◌≤◌, true, false, List, [], length, map, set, get_or, Contains, Option, Some, None, refl, sym, ◌∙◌, ap, subst, inl, inr, arith}
 use Rattle.std.specs.Option.{option_map}
 use Rattle.std.proofs.Math.ListN.{get_or-map as mapped}
 use Rattle.std.proofs.lemmas.Bool.{cases_eq, cases_lt, cases_Bool}
@@ -53,13 +53,13 @@ pub record Renewed (s t : PoolState) (h : HistoryView) (pages : List PageId) (k 
   pub same : view_of t ≡ view_of s
   pub kept : KeepsBytes s t
   pub held : (i : ℕ) → (nth_frame t.frames i).page ≡ (nth_frame s.frames i).page
-  pub vacant : (i : ℕ) → (nth_frame s.frames i).page ≡ None → (nth_frame t.frames i).key ≡ (nth_frame s.frames i).key
+  pub others : (i : ℕ) → ((p : PageId) → (nth_frame s.frames i).page ≡ Some p → Contains pages p → ⊥) → (nth_frame t.frames i).key ≡ (nth_frame s.frames i).key
   pub keys : (i : ℕ) (p : PageId) → (nth_frame s.frames i).page ≡ Some p
       → ((nth_frame t.frames i).key ≡ Some (rank_key p (hist (refs h) p)))
       ⊎ (((nth_frame t.frames i).key ≡ (nth_frame s.frames i).key) × ((j : ℕ) → j < k → get_or pages j p ≢ p))
 
 pub none_renewed : (s : PoolState) (h : HistoryView) (pages : List PageId) → Renewed s s h pages 0
-none_renewed s h pages = record { same = refl; kept = same_bytes s; held = λ i. refl; vacant = λ i e. refl; keys = λ i p e. inr (refl, λ j lt. absurd (omega arith)) }
+none_renewed s h pages = record { same = refl; kept = same_bytes s; held = λ i. refl; others = λ i e. refl; keys = λ i p e. inr (refl, λ j lt. absurd (omega arith)) }
 
 page_cases : (p q : PageId) → (p ≡ q) ⊎ (p ≢ q)
 page_cases p q = elim (cases_Bool (is_page q (Some p))) [
@@ -67,13 +67,13 @@ page_cases p q = elim (cases_Bool (is_page q (Some p))) [
   | inr e ↦ inr (λ is. let no : true ≡ false = sym (found_page q (Some p) (ap Some is)) ∙ e in absurd (cc))
 ]
 
-pub one_renewed : {s t u : PoolState} (h : HistoryView) (pages : List PageId) (k : ℕ) (q : PageId) → Renewed s t h pages k → ((d : PageId) → get_or pages k d ≡ q)
+pub one_renewed : {s t u : PoolState} (h : HistoryView) (pages : List PageId) (k : ℕ) (q : PageId) → Renewed s t h pages k → k < length pages → ((d : PageId) → get_or pages k d ≡ q)
     → view_of u ≡ view_of t → KeepsBytes t u → Renews t q (rank_key q (hist (refs h) q)) u → Renewed s u h pages (k + 1)
-one_renewed {s} {t} {u} h pages k q r at same kept n = record {
+one_renewed {s} {t} {u} h pages k q r low at same kept n = record {
   same = same ∙ r.same;
   kept = more_bytes s t u r.kept kept;
   held = λ i. n.pages i ∙ r.held i;
-  vacant = λ i e. n.others i (λ o. let never : None ≡ Some q = sym (r.held i ∙ e) ∙ o in absurd (cc)) ∙ r.vacant i e;
+  others = λ i not. n.others i (λ o. not q (sym (r.held i) ∙ o) (k, low, at q)) ∙ r.others i not;
   keys = λ i p e. elim (page_cases p q) [
     | inl is ↦ inl (n.here i (r.held i ∙ e ∙ ap Some is) ∙ ap (λ x. Some (rank_key x (hist (refs h) x))) (sym is))
     | inr ne ↦
@@ -98,7 +98,7 @@ all_renewed {s} {t} h pages k r all g ranked agree i = of_page (nth_frame s.fram
   where
     of_page : (o : Option PageId) → (nth_frame s.frames i).page ≡ o → (nth_frame t.frames i).key ≡ option_map (λ p. rank_key p (hist (refs h) p)) (nth_frame t.frames i).page
     of_page None e =
-        r.vacant i e ∙ ranked i ∙ ap (option_map (λ p. rank_key p (hist (refs g) p))) e ∙ ap (option_map (λ p. rank_key p (hist (refs h) p))) (sym (r.held i ∙ e))
+        r.others i (λ p is _. let never : None ≡ Some p = sym e ∙ is in absurd (cc)) ∙ ranked i ∙ ap (option_map (λ p. rank_key p (hist (refs g) p))) e ∙ ap (option_map (λ p. rank_key p (hist (refs h) p))) (sym (r.held i ∙ e))
     of_page (Some p) e =
         let some : (nth_frame t.frames i).page ≡ Some p = r.held i ∙ e in
         elim (r.keys i p e) [
@@ -122,10 +122,6 @@ pub record RenewedFirst (s t : PoolState) (h : HistoryView) (k : ℕ) : Type 0 w
 pub none_first : (s : PoolState) (h : HistoryView) → RenewedFirst s s h 0
 none_first s h = record { same = refl; kept = same_bytes s; count = refl; keys = λ i lt. absurd (omega (arith, lt)) }
 
--- as many frames are shown
-as_many_frames : (t u : PoolState) → view_of u ≡ view_of t → length u.frames ≡ length t.frames
-as_many_frames t u same = sym (length-map u.frames frame_view) ∙ ap (λ (v : PoolView). length v.frames) same ∙ length-map t.frames frame_view
-
 -- the page in a frame is renewed, or there is none
 pub frame_renewed : {s u : PoolState} (at : ℕ) (h : HistoryView) (q : PageId) → IsPool s → (nth_frame s.frames at).page ≡ Some q → Renews s q (rank_key q (hist (refs h) q)) u → RenewsFrame s at h u
 frame_renewed {s} {u} at h q w there n = record {
@@ -146,7 +142,7 @@ pub next_first : {s t u : PoolState} (h : HistoryView) (k : ℕ) → RenewedFirs
 next_first {s} {t} {u} h k r same kept n = record {
   same = same ∙ r.same;
   kept = more_bytes s t u r.kept kept;
-  count = as_many_frames t u same ∙ r.count;
+  count = sym (length-map u.frames frame_view) ∙ ap (λ (v : PoolView). length v.frames) same ∙ length-map t.frames frame_view ∙ r.count;
   keys = λ i lt. elim (cases_eq i k) [
     | inl here ↦ subst (λ j. (nth_frame u.frames j).key ≡ option_map (λ p. rank_key p (hist (refs h) p)) (nth_frame u.frames j).page) (sym here) n.here
     | inr apart ↦ n.others i apart ∙ r.keys i (omega (arith, lt, apart)) ∙ sym (ap (option_map (λ p. rank_key p (hist (refs h) p))) (n.pages i))

@@ -1,5 +1,5 @@
 -- A pool one of whose devices was replaced.
-use Rattle.std.proofs.Common.{◌≡◌, ◌≢◌, ℕ, ◌<◌, ◌≤◌, cond, true, false, IsTrue, List, [], ◌∷◌, length, map, set, Option, Some, None, refl, sym, ap, ◌∙◌, subst, inl, inr, get_or-set_same, get_or-set_other}
+use Rattle.std.proofs.Common.{◌≡◌, ◌≢◌, ℕ, ◌<◌, ◌≤◌, cond, true, false, IsTrue, List, [], ◌∷◌, length, map, set, Bool, Option, Some, None, refl, sym, ap, ◌∙◌, subst, inl, inr, get_or-set_same, get_or-set_other}
 use Rattle.std.proofs.Math.Path.{ap₂}
 use Rattle.std.proofs.lemmas.Bool.{cases_eq, cases_Bool, eqb-true, eq-eqb, false≢true}
 use Rattle.std.proofs.lemmas.List.{length-map, length-set, map-set}
@@ -11,7 +11,7 @@ use Rattle.warm_pool.specs.State.{PoolState, IsPool, RankedBy, nth_device, no_de
 use Rattle.warm_pool.specs.View.{stored, view_of, frame_view, device_view, is_page, bytes_in, FrameView, HasPage, contents_at}
 use Rattle.warm_pool.specs.Keeping.{FailsAt}
 use Rattle.warm_pool.specs.WritingBack.{is_on, KeptDevices, PutsDown, cleaned_chosen}
-use Rattle.warm_pool.specs.Retiring.{Retired, MayRetire, IsFixedOn, emptied, IsFixedIn, AreUnfixed, AreClean, MakesWay, retired, vacate_if, vacated_chosen}
+use Rattle.warm_pool.specs.Retiring.{Retired, MayRetire, IsFixedOn, emptied, IsFixedIn, AreUnfixed, AreClean, KeepsElsewhere, MakesWay, retired, vacate_if, vacated_chosen}
 use Rattle.warm_pool.specs.Flushes.{IsFlushed, FlushFails}
 use Rattle.warm_pool.proofs.FlushLemmas.{same_shape}
 use Rattle.warm_pool.proofs.Slots.{at_set}
@@ -19,6 +19,7 @@ use Rattle.warm_pool.proofs.DeviceSteps.{failures_kept, failures_grown}
 use Rattle.warm_pool.proofs.Bytes.{bytes_nowhere, contents_seen, device_seen, frame_seen, page_found}
 use Rattle.warm_pool.proofs.Keeps.{pool_from, view_of_kept}
 use Rattle.warm_pool.proofs.SettleLemmas.{AreAlike, counts, alike_kept, down_view, flush_down, flush_fails_at}
+use Rattle.warm_pool.proofs.ClosingLemmas.{nth_other}
 use Rattle.warm_pool.proofs.VacateLemmas.{clean_to}
 use Rattle.warm_pool.proofs.EmptyLemmas.{nth_vacated, vacated_pool, vacated_ranked, unfixed_to}
 
@@ -36,15 +37,20 @@ one_alike devices k after lt shape contents = record {
 pub one_kept : (frames : List FrameState) (old new : List DeviceState) (k : ℕ) (after : DeviceState) → k < length old → new ≡ set old k after → SameShape (nth_device old k) after → after.contents ≡ (nth_device old k).contents → KeptDevices frames old new
 one_kept frames old new k after lt is shape contents = alike_kept frames old new (subst (λ ds. AreAlike old ds) (sym is) (one_alike old k after lt shape contents))
 
+pub down_there : {frames : List FrameState} {s t : PoolState} {k : ℕ} → PutsDown frames s t → k < length s.devices → k < length t.devices
+down_there {k = k} down there = subst (λ n. k < n) (sym down.devices.count) there
+
 -- the flush of the device after its pages were put down
-pub flush_one_down : (which : Option ℕ) (n : ℕ) (s t u : PoolState) (k : ℕ) (after : DeviceState) → PutsDown (cleaned_chosen which n s.frames) s t → k < length t.devices → u.frames ≡ t.frames → (u.page_size ≡ t.page_size) × (u.spare ≡ t.spare) → u.devices ≡ set t.devices k after → IsFlushed (nth_device t.devices k) after → PutsDown (cleaned_chosen which n s.frames) s u
-flush_one_down which n s t u k after down lt frames same is flushed =
+pub flush_one_down : (which : Option ℕ) (n : ℕ) (s t u : PoolState) (k : ℕ) (after : DeviceState) → PutsDown (cleaned_chosen which n s.frames) s t → k < length s.devices → u.frames ≡ t.frames → (u.page_size ≡ t.page_size) × (u.spare ≡ t.spare) → u.devices ≡ set t.devices k after → IsFlushed (nth_device t.devices k) after → PutsDown (cleaned_chosen which n s.frames) s u
+flush_one_down which n s t u k after down there frames same is flushed =
+    let lt = down_there down there in
     flush_down which n s t u down frames same
     (subst (λ ds. AreAlike t.devices ds) (sym is) (one_alike t.devices k after lt flushed.shape flushed.contents))
     (failures_kept t.devices u.devices k after is flushed.failures)
 
-pub flush_one_fails : (which : Option ℕ) (n : ℕ) (s t u : PoolState) (k : ℕ) (after : DeviceState) → PutsDown (cleaned_chosen which n s.frames) s t → k < length t.devices → u.frames ≡ t.frames → (u.page_size ≡ t.page_size) × (u.spare ≡ t.spare) → u.devices ≡ set t.devices k after → FlushFails (nth_device t.devices k) after → FailsAt (view_of s) k (view_of u)
-flush_one_fails which n s t u k after down lt frames same is fails =
+pub flush_one_fails : (which : Option ℕ) (n : ℕ) (s t u : PoolState) (k : ℕ) (after : DeviceState) → PutsDown (cleaned_chosen which n s.frames) s t → k < length s.devices → u.frames ≡ t.frames → (u.page_size ≡ t.page_size) × (u.spare ≡ t.spare) → u.devices ≡ set t.devices k after → FlushFails (nth_device t.devices k) after → FailsAt (view_of s) k (view_of u)
+flush_one_fails which n s t u k after down there frames same is fails =
+    let lt = down_there down there in
     let alike : AreAlike t.devices u.devices = subst (λ ds. AreAlike t.devices ds) (sym is) (one_alike t.devices k after lt fails.shape fails.contents) in
     let moved : view_of u ≡ view_of (record t { devices = u.devices }) = λ i. view_of (record { page_size = same.0 i; spare = same.1 i; frames = frames i; devices = u.devices }) in
     let seen : view_of u ≡ record (view_of t) { failures = counts u.devices } = moved ∙ view_of_kept t u.devices (alike_kept t.frames t.devices u.devices alike) in
@@ -190,9 +196,6 @@ fixed_on s dev w fixed = record {
 
 -- What is known once way was made
 
-pub way_there : (s t : PoolState) (dev size : ℕ) → MakesWay s dev size t → dev < length t.devices
-way_there s t dev size way = subst (λ n. dev < n) (sym way.down.devices.count) way.there
-
 pub way_unfixed : (s t : PoolState) (dev size : ℕ) → MakesWay s dev size t → AreUnfixed (Some dev) t.frames
 way_unfixed s t dev size way = unfixed_to (Some dev) (length s.frames) s.frames t.frames way.down.becomes way.unfixed
 
@@ -202,7 +205,18 @@ way_clean s t dev size way = clean_to (Some dev) s.frames t.frames way.down.beco
 pub retire_view : (s t u : PoolState) (dev size : ℕ) (device : DeviceState) → MakesWay s dev size t → size ≡ device.page_size → u ≡ retired t dev device → Retired (view_of s) dev device (view_of u)
 retire_view s t u dev size device way same is =
     subst (λ x. Retired (view_of s) dev device (view_of x)) (sym is)
-    (retired_view dev t device (way_there s t dev size way) (sym same ∙ way.size ∙ sym way.down.same.0) (way_unfixed s t dev size way) s (down_view (Some dev) (length s.frames) s t way.down))
+    (retired_view dev t device (down_there way.down way.there) (sym same ∙ way.size ∙ sym way.down.same.0) (way_unfixed s t dev size way) s (down_view (Some dev) (length s.frames) s t way.down))
 
 pub retire_ranked : (t u : PoolState) (dev : ℕ) (device : DeviceState) (h : HistoryView) → u ≡ retired t dev device → RankedBy t h → RankedBy u h
 retire_ranked t u dev device h is ranked = subst (λ x. RankedBy x h) (sym is) (vacated_ranked (Some dev) t.frames h ranked)
+
+-- frames of other devices, once the pages of one went to it, and once these have left
+pub elsewhere_cleaned : (dev n : ℕ) (old new : List FrameState) → new ≡ cleaned_chosen (Some dev) n old
+    → (i : ℕ) → is_on dev (nth_frame old i).page ≡ false → nth_frame new i ≡ nth_frame old i
+elsewhere_cleaned dev n old new is i not = ap (λ frames. nth_frame frames i) is ∙ nth_other (Some dev) n old i not
+
+pub elsewhere_retired : (s t u : PoolState) (dev : ℕ) (device : DeviceState) → KeepsElsewhere dev s t → u ≡ retired t dev device → KeepsElsewhere dev s u
+elsewhere_retired s t u dev device kept is i not =
+    let stays : is_on dev (nth_frame t.frames i).page ≡ false = ap (λ f. is_on dev f.page) (kept i not) ∙ not in
+    ap (λ x. nth_frame x.frames i) is ∙ nth_vacated (Some dev) t.frames i
+    ∙ ap (λ (b : Bool). cond b (vacated (nth_frame t.frames i)) (nth_frame t.frames i)) stays ∙ kept i not

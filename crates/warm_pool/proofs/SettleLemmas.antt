@@ -39,9 +39,6 @@ bytes_to which zero frames p others = refl
 bytes_to which (suc n) [] p others = refl
 bytes_to which (suc n) (f ∷ frames) p others = held_clean which f p (bytes_in (cleaned_chosen which n frames) p others) ∙ ap (λ rest. cond (is_page p f.page) f.bytes rest) (bytes_to which n frames p others)
 
-key_to : (which : Option ℕ) (n : ℕ) (frames : List FrameState) (i : ℕ) → (nth_frame (cleaned_chosen which n frames) i).key ≡ (nth_frame frames i).key
-key_to which n frames i = clean_each (λ f. f.key ≡ (nth_frame frames i).key) which n frames i refl refl
-
 all_clean : (frames : List FrameState) (i : ℕ) → (nth_frame (cleaned_chosen None (length frames) frames) i).dirty ≡ false
 all_clean [] i = refl
 all_clean (f ∷ frames) zero = refl
@@ -69,7 +66,7 @@ pub ranked_to : (which : Option ℕ) (n : ℕ) (old new : List FrameState) (h : 
     → (i : ℕ) → (nth_frame new i).key ≡ option_map (λ p. rank_key p (hist (refs h) p)) (nth_frame new i).page
 ranked_to which n old new h becomes ranked i =
     subst (λ frames. (nth_frame frames i).key ≡ option_map (λ p. rank_key p (hist (refs h) p)) (nth_frame frames i).page) (sym becomes)
-    (key_to which n old i ∙ ranked i ∙ ap (option_map (λ p. rank_key p (hist (refs h) p))) (sym (nth_page which n old i)))
+    (clean_each (λ f. f.key ≡ (nth_frame old i).key) which n old i refl refl ∙ ranked i ∙ ap (option_map (λ p. rank_key p (hist (refs h) p))) (sym (nth_page which n old i)))
 
 -- Devices that were flushed
 
@@ -141,6 +138,9 @@ stopped_failures old new stops =
 
 -- Both, one after the other
 
+pub seen_down : {frames : List FrameState} {s t v : PoolState} → t ≡ v → PutsDown frames s v → PutsDown frames s t
+seen_down {frames} {s} seen down = subst (λ x. PutsDown frames s x) (sym seen) down
+
 pub flush_down : (which : Option ℕ) (n : ℕ) (s t u : PoolState) → PutsDown (cleaned_chosen which n s.frames) s t → u.frames ≡ t.frames → (u.page_size ≡ t.page_size) × (u.spare ≡ t.spare) → AreAlike t.devices u.devices → counts u.devices ≡ counts t.devices → PutsDown (cleaned_chosen which n s.frames) s u
 flush_down which n s t u down frames same alike failures = record {
   becomes = frames ∙ down.becomes;
@@ -176,3 +176,6 @@ settled s t down none = record {
   clean = λ i. ap (λ frames. (nth_frame frames i).dirty) down.becomes ∙ all_clean s.frames i;
   flushed = none;
 }
+
+pub seen_settled : {s t v : PoolState} → t ≡ v → PutsDown (cleaned_chosen None (length s.frames) s.frames) s v → NoneWaits v.devices → IsSettled t
+seen_settled {s} {v = v} seen down none = subst IsSettled (sym seen) (settled s v down none)

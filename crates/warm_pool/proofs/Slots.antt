@@ -13,7 +13,7 @@ at_set d P xs i y h here others j = elim (cases_eq j i) [
   | inr ne ↦ subst (P j) (sym (get_or-set_other xs i j y d ne)) (others j ne)
 ]
 
--- two lists that a function can't tell apart, item by item
+-- two lists that a function does not distinguish, item by item
 pub same_maps : {A B : Type 0} (f : A → B) (d : A) (xs ys : List A) → length xs ≡ length ys
     → ((i : ℕ) → f (get_or xs i d) ≡ f (get_or ys i d)) → map f xs ≡ map f ys
 same_maps f d xs ys count same =

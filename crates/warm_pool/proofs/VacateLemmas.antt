@@ -99,8 +99,3 @@ pub clean_to : (which : Option ℕ) (old new : List FrameState) → new ≡ clea
 clean_to which old new becomes i chosen =
     let page : (nth_frame new i).page ≡ (nth_frame old i).page = ap (λ frames. (nth_frame frames i).page) becomes ∙ nth_page which (length old) old i in
     ap (λ frames. (nth_frame frames i).dirty) becomes ∙ nth_clean which old i (subst (λ held. IsTrue (is_chosen which held)) page chosen)
-
--- How many there are
-
-pub length-vacated : (which : Option ℕ) (frames : List FrameState) → length (vacated_chosen which frames) ≡ length frames
-length-vacated which frames = length-map frames (vacate_if which)

@@ -1,7 +1,7 @@
 -- The page of a frame goes to its device.
 use Rattle.std.proofs.Common.{◌≡◌, ℕ, ◌<◌, Bool, true, false, IsTrue, List, [], length, map, set, Some, None, Result, Ok, refl, sym, ◌∙◌, ap, subst}
 use Rattle.std.proofs.lemmas.Option.{same_Some}
-use Rattle.std.proofs.lemmas.List.{set-get_or, get_or-set_same}
+use Rattle.std.proofs.lemmas.List.{set-get_or, get_or-set_same, get_or-set_other}
 use Rattle.warm_stamps.specs.declared.PageId.{PageId}
 use Rattle.std.proofs.Math.ListN.{get_or-map as mapped}
 use Rattle.warm_devices.specs.Device.{DeviceState, CountsFault, page_at, one_more}
@@ -42,12 +42,20 @@ module _ (s : PoolState) (new : List DeviceState) (i : ℕ) (q : PageId) (bytes 
   pub failed_pool : IsPool (record s { devices = new })
   failed_pool = devices_keep_pool s new kept h.pool
 
+  after_is : nth_device new q.dev ≡ h.call.after
+  after_is = ap (λ ds. nth_device ds q.dev) h.call.becomes ∙ get_or-set_same s.devices q.dev h.call.after no_device device
+
+  waits : (nth_device new q.dev).waiting ≡ true
+  waits = ap (λ d. d.waiting) after_is ∙ h.call.call.waiting
+
   pub write_failed : Failed result → CleanFails s i (record s { devices = new })
   write_failed f = record {
     page = q;
     holds = h.holds;
     dirty = h.dirty;
     frames = refl;
+    waits = waits;
+    others = λ k ne. ap (λ ds. nth_device ds k) h.call.becomes ∙ get_or-set_other s.devices q.dev k h.call.after no_device ne;
     fails = fails_at s new q.dev h.call.after device h.call.becomes kept (may_fail (nth_device s.devices q.dev).unfailing f.fault result f.is h.call.call.unfailing) grown;
   }
     where
@@ -55,9 +63,6 @@ module _ (s : PoolState) (new : List DeviceState) (i : ℕ) (q : PageId) (bytes 
       grown = (subst (λ r. CountsFault Write r (nth_device s.devices q.dev) h.call.after) f.is h.call.call.faults).1
 
   module _ (ok : result ≡ Ok tt) where
-    after_is : nth_device new q.dev ≡ h.call.after
-    after_is = ap (λ ds. nth_device ds q.dev) h.call.becomes ∙ get_or-set_same s.devices q.dev h.call.after no_device device
-
     on_device : IsTrue (nth_device new q.dev).honest → (nth_frame s.frames i).bytes ≡ page_at (nth_device new q.dev).contents q.no
     on_device o =
         sym h.bytes_are ∙ sym (on_ok result ok h.call.call.written (subst IsTrue (kept.shape q.dev).honest o)) ∙ ap (λ d. page_at d.contents q.no) (sym after_is)
@@ -79,6 +84,7 @@ module _ (s : PoolState) (new : List DeviceState) (i : ℕ) (q : PageId) (bytes 
       frames = refl;
       devices = kept;
       untouched = λ clean. let bad : true ≡ false = sym h.dirty ∙ clean in absurd (cc);
+      waits = λ _ p at. ap (λ r. (nth_device new r.dev).waiting) (same_Some p q (sym at ∙ h.holds)) ∙ waits;
       failures = failures_kept s.devices new q.dev h.call.after h.call.becomes same;
       same = (refl, refl);
     }
@@ -92,6 +98,7 @@ already_clean s i e = record {
   frames = sym (ap (set s.frames i) same ∙ set-get_or s.frames i (fresh_frame []));
   devices = record { count = refl; shape = λ k. same_shape (nth_device s.devices k); absent = λ p _. refl; clean = λ j p _ _. refl };
   untouched = λ _. refl;
+  waits = λ dirty _ _. let bad : true ≡ false = sym dirty ∙ e in absurd (cc);
   failures = refl;
   same = (refl, refl);
 }
@@ -111,15 +118,10 @@ cleans_view s t i c =
     unseen : set (map frame_view s.frames) i (frame_view (nth_frame s.frames i)) ≡ map frame_view s.frames
     unseen = ap (set (map frame_view s.frames) i) (sym (mapped frame_view s.frames i (fresh_frame []))) ∙ set-get_or (map frame_view s.frames) i (frame_view (fresh_frame []))
 
--- the same, of a pool whose frames were told so
-pub cleaned_pool_to : (old new : FramesState) {spare : ℕ} {devices ds : List DeviceState} {i : ℕ} {q : PageId} {bytes : List ℕ} {result : Result (Unit {0}) DeviceFault}
+-- the same, of a pool whose frames are given by an equation
+pub cleaned_to : (old new : FramesState) {spare : ℕ} {devices ds : List DeviceState} {i : ℕ} {q : PageId} {bytes : List ℕ} {result : Result (Unit {0}) DeviceFault}
     → WroteBack (pool_from old spare devices) ds i q bytes result → result ≡ Ok tt → new ≡ record old { frames = set old.frames i (cleaned (nth_frame old.frames i)) }
-    → IsPool (pool_from new spare ds)
-cleaned_pool_to old new {spare} {devices} {ds} {i} {q} {bytes} {result} h ok e =
-    subst (λ x. IsPool (pool_from x spare ds)) (sym e) (cleaned_pool (pool_from old spare devices) ds i q bytes result h ok)
-
-pub write_cleans_to : (old new : FramesState) {spare : ℕ} {devices ds : List DeviceState} {i : ℕ} {q : PageId} {bytes : List ℕ} {result : Result (Unit {0}) DeviceFault}
-    → WroteBack (pool_from old spare devices) ds i q bytes result → result ≡ Ok tt → new ≡ record old { frames = set old.frames i (cleaned (nth_frame old.frames i)) }
-    → Cleans (pool_from old spare devices) i (pool_from new spare ds)
-write_cleans_to old new {spare} {devices} {ds} {i} {q} {bytes} {result} h ok e =
-    subst (λ x. Cleans (pool_from old spare devices) i (pool_from x spare ds)) (sym e) (write_cleans (pool_from old spare devices) ds i q bytes result h ok)
+    → IsPool (pool_from new spare ds) × Cleans (pool_from old spare devices) i (pool_from new spare ds)
+cleaned_to old new {spare} {devices} {ds} {i} {q} {bytes} {result} h ok e =
+    subst (λ x. IsPool (pool_from x spare ds) × Cleans (pool_from old spare devices) i (pool_from x spare ds)) (sym e)
+    (cleaned_pool (pool_from old spare devices) ds i q bytes result h ok, write_cleans (pool_from old spare devices) ds i q bytes result h ok)

@@ -12,7 +12,7 @@ use Rattle.warm_pool.specs.State.{PoolState, IsPool, RankedBy, nth_device}
 use Rattle.warm_pool.specs.View.{stored, is_page, bytes_in, frame_view, device_view, view_of, PoolView, FrameView, frame_at, contents_at, Holds}
 use Rattle.warm_pool.specs.PageBytes.{patched, Written, IsRead, MakesDirty}
 use Rattle.warm_pool.proofs.Bytes.{page_found, bytes_held, contents_seen, frame_seen, device_seen}
-use Rattle.warm_pool.proofs.Keeps.{Fits, pool_from, set_keeps_pool, ranked_set, held_fixed, fixed_some}
+use Rattle.warm_pool.proofs.Keeps.{Fits, pool_from, set_keeps_pool, ranked_set, held_some}
 use Rattle.warm_pool.proofs.PoolSteps.{some_page}
 
 pub length-patched : (old : List ℕ) (at : ℕ) (put : List ℕ) → at + length put ≤ length old → length (patched old at put) ≡ length old
@@ -111,7 +111,7 @@ module _ (old new : FramesState) {spare : ℕ} {devices : List DeviceState} (w :
 pub read_seen : {s : PoolState} → IsPool s → (slot : Slot) → Holds (view_of s) slot → (at : ℕ) (got src : List ℕ) (n m : ℕ)
     → src ≡ (nth_frame s.frames slot.index).bytes → got ≡ take m (drop at src) → m ≡ n → length got ≡ n → at + n ≤ s.page_size → IsRead (view_of s) slot at got
 read_seen {s} w slot h at got src n m src_is got_is m_is len within =
-    let page = some_page (nth_frame s.frames slot.index).page (fixed_some w slot.index (held_fixed w slot h)) in
+    let page = some_page (nth_frame s.frames slot.index).page (held_some w slot h) in
     let seen : contents_at (view_of s) page.0 ≡ (nth_frame s.frames slot.index).bytes =
     contents_seen s page.0 (w.has_device slot.index page.0 page.1) (w.has_page slot.index page.0 page.1) ∙ bytes_held s slot.index page.0 (stored s.devices page.0) w page.1 in
     record {

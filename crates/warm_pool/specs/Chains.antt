@@ -26,7 +26,7 @@ pub record IsFirstFrom (frames : List ℕ) (chain from at : ℕ) : Type 0 where
 -- each chain begins at its first frame, and each frame is followed by the first one after it in its chain. A frame whose number is no
 -- chain's stands in none
 pub record AreChains (frames heads next : List ℕ) : Type 0 where
-  pub next_room : length next ≡ length frames
+  pub next_size : length next ≡ length frames
   pub heads_are : (chain : ℕ) → chain < length heads → IsFirstFrom frames chain 0 (slice_index heads chain)
   pub next_are : (frame : ℕ) → frame < length frames → slice_index frames frame < length heads
       → IsFirstFrom frames (slice_index frames frame) (suc frame) (slice_index next frame)
@@ -68,7 +68,7 @@ loose frames frame heads = set frames frame (length heads)
 -- the pages of frames and the chains over them
 pub record AreLinked (pages : List (Option PageId)) (heads next : List ℕ) : Type 0 where
   pub few : length pages ≤ MAX_SLOTS
-  pub room : length heads ≡ length pages + 1
+  pub size : length heads ≡ length pages + 1
   pub chains : AreChains (chains_of pages) heads next
 
 -- links that lead from each frame to the next

@@ -1,6 +1,6 @@
 -- What a call of one device of a list does to the list.
-use Rattle.std.specs.Prelude.{◌≡◌, ◌<◌, ℕ, IsTrue, IsOk, List, set, Result, OnOk}
-use Rattle.warm_devices.specs.Device.{DeviceState, SameShape, CountsFault, ChangesPage, page_at}
+use Rattle.std.specs.Prelude.{◌≡◌, ◌<◌, ℕ, IsTrue, IsOk, List, set, Result, OnOk, true}
+use Rattle.warm_devices.specs.Device.{DeviceState, SameShape, CountsFault, ChangesPage, page_at, one_more}
 use Rattle.warm_devices.specs.declared.fault.DeviceFault.{DeviceFault}
 use Rattle.warm_devices.specs.declared.fault.DeviceFault.TheVariants.{Read, Write}
 use Rattle.warm_pool.specs.State.{nth_device}
@@ -23,6 +23,7 @@ pub record WritesPage (d after : DeviceState) (n : ℕ) (bytes : List ℕ) (resu
   pub shape : SameShape d after
   pub faults : CountsFault Write result d after
   pub unfailing : IsTrue d.unfailing → IsOk result
+  pub waiting : after.waiting ≡ true
   pub others : ChangesPage n d.contents after.contents
   pub written : OnOk result (IsTrue d.honest → page_at after.contents n ≡ bytes)
 
@@ -36,3 +37,7 @@ pub record PageWrite (old new : List DeviceState) (k n : ℕ) (bytes : List ℕ)
   pub after : DeviceState
   pub becomes : new ≡ set old k after
   pub call : WritesPage (nth_device old k) after n bytes result
+
+-- the devices, with one failure more counted at device k, and nothing else changed
+abbrev pub failed_at : ℕ → List DeviceState → List DeviceState
+failed_at k devices = set devices k (record (nth_device devices k) { failures = one_more (nth_device devices k).failures })

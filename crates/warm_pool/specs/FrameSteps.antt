@@ -5,7 +5,7 @@ use Rattle.warm_rank.specs.declared.RankKey.{RankKey}
 use Rattle.warm_pool.specs.Frames.{FrameBody, FrameState, FramesState, fresh_body, fresh_frame, nth_frame}
 use Rattle.warm_pool.specs.PageBytes.{patched}
 
--- so many frames without a page
+-- this many frames without a page
 abbrev pub fresh_frames : ℕ → ℕ → FramesState
 fresh_frames frames size = record { page_size = size; frames = replicate frames (fresh_frame (replicate size 0)) }
 
@@ -30,7 +30,7 @@ unfixed f = record f { fixes = f.fixes - 1 }
 abbrev pub ranked : RankKey → FrameState → FrameState
 ranked key f = record f { key = Some key }
 
--- a frame into which a page of these bytes was put, with this rank and so many fixes
+-- a frame into which a page of these bytes was put, with this rank and this many fixes
 abbrev pub filled : PageId → RankKey → ℕ → List ℕ → FrameState → FrameState
 filled page key fixes bytes f =
     record { page = Some page; key = Some key; generation = f.generation + 1; fixes = fixes; dirty = false; bytes = bytes }

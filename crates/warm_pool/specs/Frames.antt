@@ -22,7 +22,7 @@ fresh_frame bytes = record { page = None; key = None; generation = 0; fixes = 0;
 abbrev pub nth_frame : List FrameState → ℕ → FrameState
 nth_frame frames i = slice_index_or frames i (fresh_frame [])
 
--- the rank by which a page with so many fixes may leave: a fixed page may not
+-- the rank by which a page with this many fixes may leave: a fixed page may not
 abbrev pub key_unless_fixed : ℕ → Option RankKey → Option RankKey
 key_unless_fixed fixes key = if fixes == 0 then key else None
 

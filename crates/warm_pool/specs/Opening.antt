@@ -16,7 +16,7 @@ pub record IsSize (size : ℕ) (devices : List DeviceState) : Type 0 where
   pub range : IsUpTo MAX_PAGE_SIZE size
   pub each : (k : ℕ) → k < length devices → (nth_device devices k).page_size ≡ size
 
--- Why no pool of so many frames, with pages of this size, is made over these devices. Memory comes of an allocation failure alone.
+-- Why no pool of this many frames, with pages of this size, is made over these devices. Memory comes of an allocation failure alone.
 abbrev pub NewRefused : ℕ → ℕ → List DeviceState → NewPoolFault → Type 0
 NewRefused frames size devices BadFrames = IsUpTo MAX_SLOTS frames → ⊥
 NewRefused frames size devices SizeDiffers = IsUpTo MAX_SLOTS frames × (IsSize size devices → ⊥)

@@ -8,10 +8,11 @@ use Rattle.warm_pool.specs.declared.slot.Slot.{Slot}
 use Rattle.warm_pool.specs.declared.fault.PoolFault.{PoolFault}
 use Rattle.warm_pool.specs.declared.fault.PoolFault.TheVariants.{NoDevice, NoPage, AllFixed, ReadFault, WriteBack, FixesFull}
 use Rattle.warm_rank.specs.declared.RankKey.{RankKey}
-use Rattle.warm_pool.specs.State.{PoolState, RankedBy}
+use Rattle.warm_pool.specs.State.{PoolState, RankedBy, nth_device}
 use Rattle.warm_pool.specs.View.{PoolView, device_at, frame_at, view_of, HasPage, IsResident, IsAbsent, unfixed_pages}
 use Rattle.warm_pool.specs.Keeping.{FailsAt, KeepsContents, KeepsOthers, KeepsBytes}
-use Rattle.warm_pool.specs.WritingBack.{CleanFails}
+use Rattle.warm_pool.specs.DeviceCalls.{failed_at}
+use Rattle.warm_pool.specs.WritingBack.{CleanFails, WaitsFor}
 
 -- Where a page goes
 
@@ -48,7 +49,7 @@ IsNextVictim s page = (h : HistoryView) → RankedBy s h → IsVictim (refs h) (
 pub record AddsFix (old : PoolView) (p : PageId) (slot : Slot) (new : PoolView) : Type 0 where
   pub there : slot.index < length old.frames
   pub resident : (frame_at old slot.index).page ≡ Some p
-  pub room : (frame_at old slot.index).fixes < 2 ^ 32 - 1
+  pub below : (frame_at old slot.index).fixes < 2 ^ 32 - 1
   pub current : slot.generation ≡ (frame_at old slot.index).generation
   pub becomes : new ≡ record old { frames = set old.frames slot.index (record (frame_at old slot.index) { fixes = (frame_at old slot.index).fixes + 1 }) }
 
@@ -59,11 +60,11 @@ pub record StaysIn (old : PoolView) (p : PageId) (slot : Slot) (new : PoolView) 
   pub current : slot.generation ≡ (frame_at old slot.index).generation
   pub same : new ≡ old
 
--- the page was in no frame, and was put into the slot's frame with so many fixes
+-- the page was in no frame, and was put into the slot's frame with this many fixes
 pub record PutsIn (h : HistoryView) (old : PoolView) (p : PageId) (fixes : ℕ) (slot : Slot) (new : PoolView) : Type 0 where
   pub absent : IsAbsent old p
   pub place : IsPlace h old (Some slot.index)
-  pub room : (frame_at old slot.index).generation < 2 ^ 64 - 1
+  pub below : (frame_at old slot.index).generation < 2 ^ 64 - 1
   pub current : slot.generation ≡ (frame_at old slot.index).generation + 1
   pub becomes : new ≡ record old { frames = set old.frames slot.index (record { page = Some p; generation = slot.generation; fixes = fixes }); contents = new.contents }
   pub contents : KeepsContents old new
@@ -79,27 +80,28 @@ abbrev pub unpinned : PoolView → Slot → PoolView
 unpinned old slot = record old { frames = set old.frames slot.index (record (frame_at old slot.index) { fixes = (frame_at old slot.index).fixes - 1 }) }
 
 -- A page that was resident leaves all bytes as they were. One that comes in changes the slot's frame alone, which is then clean,
--- and leaves the devices as they were unless that frame was dirty.
+-- and leaves the devices as they were unless that frame was dirty: then its page was written, and waits on its device for a flush.
 pub record TakesFrame (old : PoolState) (p : PageId) (slot : Slot) (new : PoolState) : Type 0 where
   pub others : KeepsOthers slot.index old new
   pub resident : IsResident (view_of old) p → KeepsBytes old new
   pub clean : IsAbsent (view_of old) p → (nth_frame new.frames slot.index).dirty ≡ false
   pub devices : (nth_frame old.frames slot.index).dirty ≡ false → new.devices ≡ old.devices
+  pub waits : IsAbsent (view_of old) p → WaitsFor old slot.index new.devices
 
 -- Why it is refused
 
--- there is a frame for a page that comes in, with room for a generation more
-pub record HasRoom (h : HistoryView) (old : PoolView) (i : ℕ) : Type 0 where
+-- there is a frame for a page that comes in, whose generation can rise by one
+pub record CanComeIn (h : HistoryView) (old : PoolView) (i : ℕ) : Type 0 where
   pub place : IsPlace h old (Some i)
-  pub room : (frame_at old i).generation < 2 ^ 64 - 1
+  pub below : (frame_at old i).generation < 2 ^ 64 - 1
 
 -- a page that is in no frame isn't put into one: all pages are fixed, the frame's generation is the last, the page wasn't read, or
 -- the page that would leave wasn't written
 abbrev pub PutRefused : HistoryView → PoolView → PageId → PoolFault → PoolView → Type 0
 PutRefused h old p AllFixed new = IsPlace h old None × (new ≡ old)
 PutRefused h old p FixesFull new = ((i : ℕ) × IsPlace h old (Some i) × ((frame_at old i).generation ≡ 2 ^ 64 - 1)) × (new ≡ old)
-PutRefused h old p ReadFault new = ((i : ℕ) × HasRoom h old i) × FailsAt old p.dev new
-PutRefused h old p WriteBack new = (i : ℕ) × (q : PageId) × HasRoom h old i × ((frame_at old i).page ≡ Some q) × FailsAt old q.dev new
+PutRefused h old p ReadFault new = ((i : ℕ) × CanComeIn h old i) × FailsAt old p.dev new
+PutRefused h old p WriteBack new = (i : ℕ) × (q : PageId) × CanComeIn h old i × ((frame_at old i).page ≡ Some q) × FailsAt old q.dev new
 PutRefused h old p why new = ⊥
 
 -- the page is in a frame that can take no fix more
@@ -118,15 +120,23 @@ abbrev pub PinRefused : HistoryView → PoolView → PageId → PoolFault → Po
 PinRefused h old p FixesFull new = (HasPage old p × IsFixesFull old p × (new ≡ old)) ⊎ LoadRefused h old p FixesFull new
 PinRefused h old p why new = LoadRefused h old p why new
 
--- the frame into which a page would come is dirty
-pub record IsPlaceDirty (h : HistoryView) (s : PoolState) : Type 0 where
+-- The page of the frame into which a page would come is dirty. A write of it was tried: something waits on its device, and the other
+-- devices are as they were.
+pub record IsUnwritten (h : HistoryView) (old new : PoolState) : Type 0 where
   pub frame : ℕ
-  pub place : IsPlace h (view_of s) (Some frame)
-  pub dirty : (nth_frame s.frames frame).dirty ≡ true
+  pub page : PageId
+  pub place : IsPlace h (view_of old) (Some frame)
+  pub holds : (nth_frame old.frames frame).page ≡ Some page
+  pub dirty : (nth_frame old.frames frame).dirty ≡ true
+  pub waits : (nth_device new.devices page.dev).waiting ≡ true
+  pub others : (k : ℕ) → k ≢ page.dev → nth_device new.devices k ≡ nth_device old.devices k
 
--- a write was refused only of a page that was written to
-abbrev pub WritesDirty : HistoryView → PoolState → PoolFault → Type 0
-WritesDirty h s fault = fault ≡ WriteBack → IsPlaceDirty h s
+-- What a refused pin or load leaves of the devices. A page is read before the victim is written: where the read fails, a failure is
+-- counted, and nothing else has changed.
+abbrev pub LeavesDevices : HistoryView → PoolState → PageId → PoolFault → PoolState → Type 0
+LeavesDevices h old p ReadFault new = new.devices ≡ failed_at p.dev old.devices
+LeavesDevices h old p WriteBack new = IsUnwritten h old new
+LeavesDevices h old p why new = new.devices ≡ old.devices
 
 -- The steps of both
 
@@ -142,16 +152,23 @@ FixRefused old i fault new = (fault ≡ FixesFull) × ((nth_frame old.frames i).
 abbrev pub IsNextPlace : PoolState → Option ℕ → Type 0
 IsNextPlace s place = (h : HistoryView) → RankedBy s h → IsPlace h (view_of s) place
 
--- the page is in the frame, as its device has it, with this rank and so many fixes
+-- the page is in the frame, as its device has it, with this rank and this many fixes
 pub record LoadsInto (old : PoolState) (i : ℕ) (p : PageId) (key : RankKey) (n : ℕ) (new : PoolState) : Type 0 where
   pub bytes : List ℕ
   pub frames : new.frames ≡ set old.frames i (record { page = Some p; key = Some key; generation = (nth_frame old.frames i).generation + 1; fixes = n; dirty = false; bytes = bytes })
   pub devices : (nth_frame old.frames i).dirty ≡ false → new.devices ≡ old.devices
+  pub waits : WaitsFor old i new.devices
   pub rest : view_of new ≡ record (view_of old) { frames = (view_of new).frames; contents = (view_of new).contents }
   pub contents : KeepsContents (view_of old) (view_of new)
 
+-- the page was not read: a failure of its device is counted, and nothing else has changed
+pub record ReadFails (old : PoolState) (p : PageId) (new : PoolState) : Type 0 where
+  pub frames : new.frames ≡ old.frames
+  pub devices : new.devices ≡ failed_at p.dev old.devices
+  pub fails : FailsAt (view_of old) p.dev (view_of new)
+
 -- the page was not read, or that of the frame not written
 abbrev pub LoadFails : PoolState → ℕ → PageId → PoolFault → PoolState → Type 0
-LoadFails old i p ReadFault new = (new.frames ≡ old.frames) × FailsAt (view_of old) p.dev (view_of new)
+LoadFails old i p ReadFault new = ReadFails old p new
 LoadFails old i p WriteBack new = CleanFails old i new
 LoadFails old i p why new = ⊥

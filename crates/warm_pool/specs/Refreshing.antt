@@ -27,3 +27,8 @@ pub record RenewsFrame (old : PoolState) (at : ℕ) (h : HistoryView) (new : Poo
 -- a history that agrees with one that ranked the old pool, but for these pages, ranks the new one
 abbrev pub RefreshesRanks : List PageId → HistoryView → PoolState → PoolState → Type 0
 RefreshesRanks pages h old new = (g : HistoryView) → RankedBy old g → AgreeOutside pages g h → RankedBy new h
+
+-- each frame has the page that it had, and keeps its rank unless its page is one of these
+pub record KeepsOtherRanks (given : List PageId) (old new : PoolState) : Type 0 where
+  pub pages : (i : ℕ) → (nth_frame new.frames i).page ≡ (nth_frame old.frames i).page
+  pub keys : (i : ℕ) → ((p : PageId) → (nth_frame old.frames i).page ≡ Some p → Contains given p → ⊥) → (nth_frame new.frames i).key ≡ (nth_frame old.frames i).key

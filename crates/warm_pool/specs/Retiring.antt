@@ -62,6 +62,10 @@ pub record Retired (old : PoolView) (dev : ℕ) (device : DeviceState) (new : Po
   pub contents : (n : ℕ) → n < device.pages → contents_at new (record { dev = dev; no = n }) ≡ if device.honest then page_at device.contents n else []
   pub others : (p : PageId) → HasPage old p → p.dev ≢ dev → contents_at new p ≡ contents_at old p
 
+-- each frame whose page is not one of device dev is as it was
+abbrev pub KeepsElsewhere : ℕ → PoolState → PoolState → Type 0
+KeepsElsewhere dev old new = (i : ℕ) → is_on dev (nth_frame old.frames i).page ≡ false → nth_frame new.frames i ≡ nth_frame old.frames i
+
 -- The steps of both
 
 abbrev pub vacate_if : Option ℕ → FrameState → FrameState

@@ -1,5 +1,5 @@
 -- Writing back: the page of one frame, those of the frames that are concerned, and those of all.
-use Rattle.std.specs.Prelude.{ℕ, ◌≡◌, ◌<◌, ◌≤◌, ◌==◌, Bool, false, IsTrue, List, map, length, Option, Some, None, if◌then◌else◌, true, ◌++◌, take, drop, set}
+use Rattle.std.specs.Prelude.{ℕ, ◌≡◌, ◌≢◌, ◌<◌, ◌≤◌, ◌==◌, Bool, false, IsTrue, List, map, length, Option, Some, None, if◌then◌else◌, true, ◌++◌, take, drop, set}
 use Rattle.warm_stamps.specs.declared.PageId.{PageId}
 use Rattle.warm_devices.specs.Device.{DeviceState, SameShape}
 use Rattle.warm_pool.specs.Frames.{FrameState, nth_frame, cleaned}
@@ -33,20 +33,29 @@ pub record KeptDevices (frames : List FrameState) (old new : List DeviceState) :
   pub absent : (p : PageId) → IsNowhere frames p → stored new p ≡ stored old p
   pub clean : (i : ℕ) (p : PageId) → (nth_frame frames i).page ≡ Some p → (nth_frame frames i).dirty ≡ false → stored new p ≡ stored old p
 
--- the page of the frame is on its device as it is in the frame, and nothing has changed to a caller
+-- where the frame is dirty, something waits on the device of its page
+abbrev pub WaitsFor : PoolState → ℕ → List DeviceState → Type 0
+WaitsFor old i devices =
+    (nth_frame old.frames i).dirty ≡ true → (p : PageId) → (nth_frame old.frames i).page ≡ Some p → (nth_device devices p.dev).waiting ≡ true
+
+-- The page of the frame is on its device as it is in the frame, and nothing has changed to a caller. A page that was written waits on its
+-- device for the next flush.
 pub record Cleans (old : PoolState) (i : ℕ) (new : PoolState) : Type 0 where
   pub frames : new.frames ≡ set old.frames i (cleaned (nth_frame old.frames i))
   pub devices : KeptDevices old.frames old.devices new.devices
   pub untouched : (nth_frame old.frames i).dirty ≡ false → new.devices ≡ old.devices
+  pub waits : WaitsFor old i new.devices
   pub failures : map (λ d. d.failures) new.devices ≡ map (λ d. d.failures) old.devices
   pub same : (new.page_size ≡ old.page_size) × (new.spare ≡ old.spare)
 
--- the page of the frame was not written to its device
+-- the page of the frame was not written to its device, which has changed alone, and has something to flush
 pub record CleanFails (old : PoolState) (i : ℕ) (new : PoolState) : Type 0 where
   pub page : PageId
   pub holds : (nth_frame old.frames i).page ≡ Some page
   pub dirty : (nth_frame old.frames i).dirty ≡ true
   pub frames : new.frames ≡ old.frames
+  pub waits : (nth_device new.devices page.dev).waiting ≡ true
+  pub others : (k : ℕ) → k ≢ page.dev → nth_device new.devices k ≡ nth_device old.devices k
   pub fails : FailsAt (view_of old) page.dev (view_of new)
 
 -- The frames that are concerned: those of one device, or all

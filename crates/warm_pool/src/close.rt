@@ -5,7 +5,7 @@ ghost use Rattle.warm_pool.specs.State.{IsSettled, IsRankedByAll, nth_device};
 ghost use Rattle.warm_pool.specs.View.{IsUnfixed, view_of};
 ghost use Rattle.warm_pool.specs.Keeping.{FailsAt, KeepsRanks};
 ghost use Rattle.warm_pool.specs.WritingBack.{WriteBackFails, PutsAllDown, PutsOneDown, ChosenFails, StopsAt, clean_if};
-ghost use Rattle.warm_pool.specs.Retiring.{EmptyRefused, Emptied, RetireRefused, Retired, AreUnfixed, AreClean, IsFixedIn, MakesWay, retired};
+ghost use Rattle.warm_pool.specs.Retiring.{EmptyRefused, Emptied, RetireRefused, Retired, AreUnfixed, AreClean, IsFixedIn, KeepsElsewhere, MakesWay, retired};
 ghost use Rattle.warm_pool.specs.Flushes.{NoneWaits};
 ghost use Rattle.warm_pool.specs.declared.fault.PoolFault.TheVariants.{Fault};
 
@@ -94,10 +94,11 @@ impl<D: PageDevice> Pool<D> {
     }
 
     /// Lets another device take the place of one. What was written to the pages of the old one goes to it, it is flushed, its pages leave
-    /// their frames, and it is dropped, with nothing waiting on it. The new device may have another number of pages.
+    /// their frames, and it is dropped, with nothing waiting on it. The new device may have another number of pages. Frames of other
+    /// devices stay as they are, refused or not.
     ///
     /// # Errors
-    /// In this order; each hands the new device back, and leaves pages, fixes and contents as they were.
+    /// In this order; each gives the new device back, and leaves pages, fixes and contents as they were.
     /// - `NoDevice`: there is no device of this number.
     /// - `SizeDiffers`: the pages of the new device have another size than those of the pool.
     /// - `Fixed`: a page of the device is fixed.
@@ -109,6 +110,7 @@ impl<D: PageDevice> Pool<D> {
             (view_of self.old) dev (D.state device) unretired.fault
             (view_of self.new)) }
         ensures given_back { IfErr result (λ unretired. unretired.device ≡ device) }
+        ensures elsewhere { KeepsElsewhere dev self.old self.new }
         ensures ranked { KeepsRanks self.old self.new }
     {
         match self.make_way(dev, device.page_size()) {
@@ -127,6 +129,7 @@ impl<D: PageDevice> Pool<D> {
         ensures refused { IfErr result (λ fault. (device : DeviceState) → device.page_size
             ≡ page_size → RetireRefused (view_of self.old) dev device fault
             (view_of self.new)) }
+        ensures elsewhere { KeepsElsewhere dev self.old self.new }
         ensures ranked { KeepsRanks self.old self.new }
     {
         if dev as usize >= self.devices.len() {
@@ -152,6 +155,7 @@ impl<D: PageDevice> Pool<D> {
         ensures flushed { OnOk result ((nth_device
             self.new.devices dev).waiting ≡ false) }
         ensures stopped { OnErr result (FailsAt (view_of self.old) dev (view_of self.new)) }
+        ensures elsewhere { KeepsElsewhere dev self.old self.new }
         ensures ranked { KeepsRanks self.old self.new }
     {
         self.clean_chosen(Some(dev))?;

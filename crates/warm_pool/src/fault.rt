@@ -131,7 +131,7 @@ impl PoolFault {
     }
 }
 
-/// Why no pool was made, and the devices that were handed in for it. As an error it shows the fault.
+/// Why no pool was made, and the devices that were given for it. As an error it displays the fault.
 #[derive(Drop, Error)]
 #[error("{fault}")]
 pub struct Unmade<D: PageDevice> {

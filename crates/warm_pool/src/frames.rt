@@ -43,7 +43,7 @@ impl Model for Frames {
 }
 
 impl Frames {
-    /// Frames without a page, whose room is taken here.
+    /// Frames without a page, whose memory is allocated here.
     pub(crate) fn new(alloc: Global, frames: usize, page_size: usize) -> Result<Frames, AllocError>
         requires some { 0 < frames }
         requires few { frames ≤ MAX_SLOTS }
@@ -140,7 +140,7 @@ impl Frames {
     /// Adds a fix.
     pub(crate) fn fix(&mut self, at: usize)
         requires there { at < length self.old.frames }
-        requires room { (nth_frame self.old.frames at).fixes < 2 ^ 32 - 1 }
+        requires below { (nth_frame self.old.frames at).fixes < 2 ^ 32 - 1 }
         ensures { self.new ≡ changed_at self.old at fixed }
     {
         let status = &mut self.statuses[at];
@@ -173,7 +173,7 @@ impl Frames {
         self.contest.set(at, key);
     }
 
-    /// Puts a page with so many fixes into a frame, whose bytes change places with these.
+    /// Puts a page with this many fixes into a frame, whose bytes change places with these.
     pub(crate) fn put(
         &mut self,
         at: usize,
@@ -183,7 +183,7 @@ impl Frames {
         bytes: &mut Vec<u8>,
     )
         requires there { at < length self.old.frames }
-        requires room { (nth_frame self.old.frames at).generation < 2 ^ 64 - 1 }
+        requires below { (nth_frame self.old.frames at).generation < 2 ^ 64 - 1 }
         ensures frames { self.new ≡ changed_at self.old at (filled page key fixes bytes.old.items) }
         ensures given { bytes.new.items ≡ (nth_frame self.old.frames at).bytes }
     {
@@ -286,7 +286,7 @@ fn overwrite(frame: &mut Frame, from: usize, bytes: &[u8])
     frame.bytes[from..from + bytes.len()].copy_from_slice(bytes);
 }
 
-// The rank by which a frame's page with so many fixes may leave.
+// The rank by which a frame's page with this many fixes may leave.
 fn leaving(fixes: u32, frame: &Frame) -> Option<RankKey>
     ensures { result ≡ key_unless_fixed fixes frame.now.key }
 {

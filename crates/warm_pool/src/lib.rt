@@ -8,7 +8,7 @@
 //! To clauses a pool is plain data, a `PoolState`, and `view_of` is what of it a caller sees. They stand in `specs/State.antt` and
 //! `specs/View.antt`, and what the calls do to them in `Opening.antt`, `Pinning.antt`, `PageBytes.antt`, `Refreshing.antt`,
 //! `WritingBack.antt` and `Retiring.antt` beside them. That a state is one of a pool (`IsPool`) is the invariant of the type, which each
-//! call keeps. The devices are handed in by the caller, and of one type; the pool drops one only where nothing waits in it.
+//! call keeps. The devices come from the caller, and are of one type; the pool drops one only where nothing waits in it.
 #![tactic(auto)]
 
 mod close;

@@ -10,9 +10,9 @@ ghost use Rattle.warm_pool.specs.View.{view_of, HasPage, IsResident, Holds};
 ghost use Rattle.warm_pool.specs.Keeping.{SameButFailures, KeepsRanks, KeepsBytes, KeepsFrames, KeepsOthers};
 ghost use Rattle.warm_pool.specs.Opening.{IsUpTo, IsSize, NewRefused};
 ghost use Rattle.warm_pool.specs.WritingBack.{Cleans, CleanFails};
-ghost use Rattle.warm_pool.specs.Pinning.{Pinned, PinRefused, Loaded, LoadRefused, PutsIn, PutRefused, unpinned, IsNextVictim, LoadsInto, LoadFails, FixesPage, FixRefused, IsNextPlace, TakesFrame, WritesDirty};
+ghost use Rattle.warm_pool.specs.Pinning.{Pinned, PinRefused, Loaded, LoadRefused, PutsIn, PutRefused, unpinned, IsNextVictim, LoadsInto, LoadFails, FixesPage, FixRefused, IsNextPlace, TakesFrame, LeavesDevices};
 ghost use Rattle.warm_pool.specs.PageBytes.{IsRead, ReadRefused, Written, WriteRefused, MakesDirty};
-ghost use Rattle.warm_pool.specs.Refreshing.{Renews, RenewsFrame, RefreshesRanks};
+ghost use Rattle.warm_pool.specs.Refreshing.{Renews, RenewsFrame, RefreshesRanks, KeepsOtherRanks};
 ghost use Rattle.warm_pool.specs.declared.fault.PoolFault.TheVariants.{OutOfPage, FixesFull};
 
 use crate::MAX_DEVICES;
@@ -83,13 +83,13 @@ impl<D: PageDevice> Pool<D> {
         devices
     }
 
-    /// A pool of this many frames, none with a page, over these devices. All room that it needs is taken here.
+    /// A pool of this many frames, none with a page, over these devices. All memory that it needs is allocated here.
     ///
     /// There may be [`MAX_DEVICES`] devices at most.
     ///
     /// # Errors
     /// `BadFrames` where `frames` is outside 1 to [`warm_rank::MAX_SLOTS`]; else `SizeDiffers` where `page_size` is outside 1 to
-    /// [`MAX_PAGE_SIZE`], or is not that of each device; else `Memory`. Each hands the devices back.
+    /// [`MAX_PAGE_SIZE`], or is not that of each device; else `Memory`. Each gives the devices back.
     pub fn new(
         alloc: Global,
         frames: usize,
@@ -169,7 +169,7 @@ impl<D: PageDevice> Pool<D> {
 
     /// Gives a page one more fix, and puts it into a frame where it is in none: into the first free frame, else into that of the
     /// victim. A page with a fix doesn't leave. A page comes in clean; no other frame changes, and no device unless a victim that
-    /// was written to leaves.
+    /// was written to leaves: it goes to its device, where it waits for the next flush.
     ///
     /// # Errors
     /// In this order; each leaves all frames, and so pages, fixes and contents, as they were.
@@ -177,9 +177,9 @@ impl<D: PageDevice> Pool<D> {
     /// - `FixesFull`: the page is resident and has 2^32-1 fixes.
     /// - `AllFixed`: the page isn't resident, each frame has a page, and all are fixed.
     /// - `FixesFull`: the frame into which the page would go has the generation 2^64-1.
-    /// - `ReadFault`: the page was not read. Its device's count of failures has grown.
+    /// - `ReadFault`: the page was not read. Its device's count of failures has grown, and nothing else of any device has changed.
     /// - `WriteBack`: the page that would leave was written to, and could not be written to its device, whose count of failures has
-    ///   grown.
+    ///   grown, and on which something waits for a flush. Other devices are as they were.
     pub fn pin(&mut self, page: PageId, history: &History) -> Result<Slot, PoolFault>
         requires ranked { RankedBy self.old history.now }
         ensures ranked { RankedBy self.new history.now }
@@ -194,8 +194,8 @@ impl<D: PageDevice> Pool<D> {
             (view_of self.old) (view_of self.new)) }
         ensures frames { OnErr result (KeepsFrames
             self.old self.new) }
-        ensures writes { IfErr result (λ fault. WritesDirty history.now
-            self.old fault) }
+        ensures devices { IfErr result (λ fault. LeavesDevices history.now
+            self.old page fault self.new) }
     {
         self.check(page)?;
         match self.frames.find(page) {
@@ -221,8 +221,8 @@ impl<D: PageDevice> Pool<D> {
             (view_of self.old) (view_of self.new)) }
         ensures frames { OnErr result (KeepsFrames
             self.old self.new) }
-        ensures writes { IfErr result (λ fault. WritesDirty history.now
-            self.old fault) }
+        ensures devices { IfErr result (λ fault. LeavesDevices history.now
+            self.old page fault self.new) }
     {
         self.check(page)?;
         match self.frames.find(page) {
@@ -299,10 +299,11 @@ impl<D: PageDevice> Pool<D> {
         Ok(())
     }
 
-    /// Renews the ranks of those of the pages that are resident.
+    /// Renews the ranks of those of the pages that are resident. Other pages keep theirs.
     pub fn refresh(&mut self, history: &History, pages: &[PageId])
         ensures ranked { RefreshesRanks pages.now history.now
             self.old self.new }
+        ensures others { KeepsOtherRanks pages.now self.old self.new }
         ensures same { view_of self.new ≡ view_of self.old }
         ensures kept { KeepsBytes self.old self.new }
     {
@@ -367,7 +368,7 @@ impl<D: PageDevice> Pool<D> {
         Ok(())
     }
 
-    // Whether so many bytes from `at` on are within a page.
+    // Whether `len` bytes from `at` on are within a page.
     fn is_within(&self, at: usize, len: usize) -> bool
         ensures { IsTrue result ↔ (at + len ≤ (view_of self.now).page_size) }
     {
@@ -413,7 +414,7 @@ impl<D: PageDevice> Pool<D> {
         }
     }
 
-    // Puts a page that is in no frame into one, with so many fixes.
+    // Puts a page that is in no frame into one, with this many fixes.
     fn bring(&mut self, page: PageId, history: &History, fixes: u32) -> Result<Slot, PoolFault>
         requires ranked { RankedBy self.old history.now }
         requires known { HasPage (view_of self.old) page }
@@ -428,8 +429,8 @@ impl<D: PageDevice> Pool<D> {
             (view_of self.old) page fault (view_of self.new)) }
         ensures frames { OnErr result (KeepsFrames
             self.old self.new) }
-        ensures writes { IfErr result (λ fault. WritesDirty history.now
-            self.old fault) }
+        ensures devices { IfErr result (λ fault. LeavesDevices history.now
+            self.old page fault self.new) }
     {
         let Some(at) = self.place() else {
             return Err(PoolFault::AllFixed);
@@ -455,7 +456,7 @@ impl<D: PageDevice> Pool<D> {
         fixes: u32,
     ) -> Result<(), PoolFault>
         requires there { at < length self.old.frames }
-        requires room { (nth_frame self.old.frames at).generation < 2 ^ 64 - 1 }
+        requires below { (nth_frame self.old.frames at).generation < 2 ^ 64 - 1 }
         requires device { page.dev < length self.old.devices }
         requires known { page.no < (nth_device self.old.devices page.dev).pages }
         requires absent { IsNowhere self.old.frames page }

@@ -1,7 +1,7 @@
 //! Which frame holds a page, and which frame is free, both found without a scan.
 //!
 //! Frames stand in chains, each in rising order of frames: pages are spread over as many chains as there are frames, and the frames
-//! without a page stand in one of their own. A link is the number of the next frame, and the number of frames ends a chain. All room
+//! without a page stand in one of their own. A link is the number of the next frame, and the number of frames ends a chain. All memory
 //! is taken when the frames are made.
 ghost use Rattle.std.specs.Prelude.{◌≡◌, ℕ, List, ◌+◌, ◌<◌, ◌≤◌, length, map, replicate, set, slice_index, IfOk, IsTrue, None, Some, ◌↔◌};
 ghost use Rattle.warm_pool.specs.Chains.{AreChains, AreInTurn, AreLinked, IsLastBelow, after, chain_of, chains_of, heads_led, link_after, next_led, loose, page_in};
@@ -89,7 +89,7 @@ impl Residents {
         self.pages[frame] = page;
     }
 
-    /// Takes the pages that are concerned out of their frames. All chains are then built anew, in one pass over the frames, however many
+    /// Takes the pages that are concerned out of their frames. All chains are then built again, in one pass over the frames, however many
     /// pages leave: to take each frame out of its chain would be to read links all over memory. Takes no memory.
     pub(crate) fn clear_chosen(&mut self, which: Option<u16>)
         ensures { self.new ≡ map (clear_if which) self.old }
@@ -228,7 +228,7 @@ fn unlink(heads: &mut Vec<u32>, next: &mut Vec<u32>, frame: usize, chain: usize)
     requires chain { chain < length heads.old.items }
     requires is { slice_index frames frame ≡ chain }
     requires chains { AreChains frames heads.old.items next.old.items }
-    ensures room { length heads.new.items ≡ length heads.old.items }
+    ensures size { length heads.new.items ≡ length heads.old.items }
     ensures chains { AreChains (loose frames frame heads.old.items) heads.new.items next.new.items }
 {
     let last = last_below(heads, next, chain, frame);
@@ -256,7 +256,7 @@ fn link(heads: &mut Vec<u32>, next: &mut Vec<u32>, frame: usize, chain: usize, l
     requires is { slice_index frames frame ≡ length heads.old.items }
     requires chains { AreChains frames heads.old.items next.old.items }
     requires last { IsLastBelow frames chain frame last }
-    ensures room { length heads.new.items ≡ length heads.old.items }
+    ensures size { length heads.new.items ≡ length heads.old.items }
     ensures chains { AreChains (set frames frame chain) heads.new.items next.new.items }
 {
     next[frame] = link_after(heads, next, chain, last);

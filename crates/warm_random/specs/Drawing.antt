@@ -23,7 +23,7 @@ infixl 10 ◌>>=◌
 abbrev pub ◌>>=◌ : {A B : Type 0} → Draw A → (A → Draw B) → Draw B
 first >>= next = λ g. next (first g).0 (first g).1
 
--- each use draws a word of 32 bits anew
+-- each use draws the next word of 32 bits
 abbrev pub word : Draw ℕ
 word = pcg32
 
@@ -70,6 +70,6 @@ line_text (Send i b) = codes "send " ++ decimal i ++ codes " " ++ decimal b ++ c
 line_text (Deliver i k) = codes "deliver " ++ decimal i ++ codes " " ++ decimal k ++ codes "\n"
 line_text (Show i) = codes "show " ++ decimal i ++ codes "\n"
 
--- the schedule of a seed, of so many lines
+-- the schedule of a seed, of this many lines
 abbrev pub schedule_text : ℕ → ℕ → ℕ → ℕ → List ℕ
 schedule_text seed events replicas workers = flat_map line_text (lines replicas workers events (seeded seed)).0

@@ -33,7 +33,7 @@ pub enum Line {
         replica: u64,
         bucket: u64,
     },
-    /// `deliver REPLICA FRAME`: a frame that was sent by then, or the next.
+    /// `deliver REPLICA FRAME`: the number of a message that was sent by then, or of the next.
     Deliver {
         replica: u64,
         frame: u64,
@@ -89,7 +89,7 @@ fn up_to(words: &mut Lcg64Xsh32, most: u64) -> u64
     1 + below(words, most)
 }
 
-// The next line, with the line's number as the time of a reference, after so many sends.
+// The next line. Its number is the time of a reference, and `sends` is how many lines before it are sends.
 fn draw_line(words: &mut Lcg64Xsh32, replicas: u64, workers: u64, time: u64, sends: u64) -> Line
     requires replicas { 0 < replicas }
     requires workers { 0 < workers }
@@ -121,7 +121,7 @@ fn draw_line(words: &mut Lcg64Xsh32, replicas: u64, workers: u64, time: u64, sen
     }
 }
 
-/// Writes the schedule of `events` lines that this seed gives for worlds of so many replicas, with so many workers each.
+/// Writes the schedule of `events` lines that this seed gives for worlds of this many replicas, with this many workers each.
 /// With no events it writes nothing. It keeps one line at a time, and takes no memory.
 ///
 /// An error is the writer's own; after it nothing is said of how much was written.

@@ -16,6 +16,6 @@ few_more lists list few here = λ k lt. elim (cases_eq k (length lists)) [
       rw (get_or-append lists (list ∷ []) [] k low) (few k low)
 ]
 
--- one list more, read so
+-- one list more, of which `read` gives the devices
 pub few_pushed : {A : Type 0} (read : A → List DeviceState) (lists : List A) (list : A) → AreFew (map read lists) → length (read list) ≤ MAX_DEVICES → AreFew (map read (lists ++ list ∷ []))
 few_pushed read lists list few here = rw map-append (few_more (map read lists) (read list) few here)

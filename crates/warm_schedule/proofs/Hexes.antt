@@ -5,7 +5,7 @@ use Rattle.std.proofs.lemmas.List.{append-nil}
 use Rattle.std.specs.Option.{is_some, option_map}
 use Rattle.warm_schedule.specs.Fields.{pairs_of, bytes_of}
 
--- a word that isn't empty spells what its pairs spell
+-- a word that is not empty spells what its pairs spell
 pub whole : (word : List ℕ) → 0 < length word → bytes_of word ≡ pairs_of word
 unfolding bytes_of
 whole [] some = absurd (omega arith)
@@ -30,10 +30,10 @@ one_more done byte None = refl
 one_more done byte (Some more) = ap (λ (xs : List ℕ). Some xs) (sym (append_assoc done (byte ∷ []) more))
 
 -- nothing more can be read: either the word has ended, or what is left spells no bytes
-pub tells : (b : Bool) (word rest : List ℕ) → 0 < length word → b ≡ eqb (length rest) 0 → (0 < length rest → pairs_of rest ≡ None) → is_some (pairs_of rest) ≡ is_some (pairs_of word)
+pub spells_whole : (b : Bool) (word rest : List ℕ) → 0 < length word → b ≡ eqb (length rest) 0 → (0 < length rest → pairs_of rest ≡ None) → is_some (pairs_of rest) ≡ is_some (pairs_of word)
     → b ≡ is_some (bytes_of word)
-tells b word [] some e none same = e ∙ same ∙ ap is_some (sym (whole word some))
-tells b word (c ∷ cs) some e none same =
+spells_whole b word [] some e none same = e ∙ same ∙ ap is_some (sym (whole word some))
+spells_whole b word (c ∷ cs) some e none same =
     let left : 0 < length (c ∷ cs) = omega arith in
     e ∙ ne_eqb (length (c ∷ cs)) 0 (λ z. absurd (omega (arith, z))) ∙ ap is_some (sym (none left)) ∙ same ∙ ap is_some (sym (whole word some))
 
@@ -44,7 +44,7 @@ read_all done word (c ∷ cs) spells some none read =
     let never : false ≡ true = ap is_some bad ∙ ap is_some (sym (whole word some)) ∙ spells in
     absurd (cc)
 
--- a word that spells bytes isn't empty
+-- a word that spells bytes is not empty
 pub some_digits : (word : List ℕ) → is_some (bytes_of word) ≡ true → 0 < length word
 unfolding bytes_of
 some_digits [] spells = absurd (cc)

@@ -42,11 +42,11 @@ line_first state next last number (Some (Act event)) line rest front back is (in
   lines_are = (event ∷ [], r.events, happens.0 ∷ [], r.answers, front, back, subst (λ (o : Option Line). LineIs number o (event ∷ []) (happens.0 ∷ []) front) is (inl (happens.0, refl, refl, happens.2)), r.lines_are, refl, refl, refl);
   run = (next, happens.1, r.run);
 }
-line_first state next last number (Some (Act event)) line rest front back is (inr no_room) r = record {
+line_first state next last number (Some (Act event)) line rest front back is (inr refused) r = record {
   events = r.events;
   answers = r.answers;
-  lines_are = ([], r.events, [], r.answers, front, back, subst (λ (o : Option Line). LineIs number o [] [] front) is (inr (no_room.0, refl, refl, no_room.1)), r.lines_are, refl, refl, refl);
-  run = run_from state next r.events r.answers last no_room.2 r.run;
+  lines_are = ([], r.events, [], r.answers, front, back, subst (λ (o : Option Line). LineIs number o [] [] front) is (inr (refused.0, refl, refl, refused.1)), r.lines_are, refl, refl, refl);
+  run = run_from state next r.events r.answers last refused.2 r.run;
 }
 
 pub run_of_lines : (state last : ModelState) (number : ℕ) (rest : List (List ℕ)) (out : List ℕ) → PrintedFrom state number rest out last → RunOfLines state number rest out last

@@ -40,10 +40,10 @@ use Rattle.warm_schedule.specs.declared.parse.LineFault.TheVariants.{Memory, Bad
 -- more bytes of a line of which the first `most` are held
 held_more : (most : ℕ) (held line piece : List ℕ) → held ≡ take most line → held ++ take (most - length held) piece ≡ take most (line ++ piece)
 held_more most held line piece is = elim (cases_lt (length held) most) [
-  | inl room ↦
-      let short : length line < most = omega (arith, ap (λ (xs : List ℕ). length xs) is, length-take most line, room) in
+  | inl under ↦
+      let short : length line < most = omega (arith, ap (λ (xs : List ℕ). length xs) is, length-take most line, under) in
       let whole : held ≡ line = is ∙ take_all most line (omega (arith, short)) in
-      let left : length held + (most - length held) ≡ most = omega (arith, room) in
+      let left : length held + (most - length held) ≡ most = omega (arith, under) in
       sym (ap (λ (xs : List ℕ). take most (xs ++ piece)) (sym whole) ∙ ap (λ (n : ℕ). take n (held ++ piece)) (sym left) ∙ take-append-add held piece (most - length held))
   | inr full ↦
       let long : most ≤ length line = omega (arith, ap (λ (xs : List ℕ). length xs) is, length-take most line, full) in
@@ -58,22 +58,22 @@ is_line_more (c ∷ cs) piece h more = (h.0, is_line_more cs piece h.1 more)
 pub holds_more : (held line piece : List ℕ) → IsLine piece → HoldsLine held line → HoldsLine (held ++ take (MAX_LINE + 1 - length held) piece) (line ++ piece)
 holds_more held line piece more h = record { held_is = held_more (MAX_LINE + 1) held line piece h.held_is; is_line = is_line_more line piece h.is_line more }
 
-take_least : (room : ℕ) (piece : List ℕ) → take (min (length piece) room) piece ≡ take room piece
-take_least room piece = elim (cases_lt room (length piece)) [
+take_least : (most : ℕ) (piece : List ℕ) → take (min (length piece) most) piece ≡ take most piece
+take_least most piece = elim (cases_lt most (length piece)) [
   | inl lt ↦
-      let le : room ≤ length piece = omega (arith, lt) in
-      let least : min (length piece) room ≡ room = min_comm (length piece) room ∙ min-eq_left le in
+      let le : most ≤ length piece = omega (arith, lt) in
+      let least : min (length piece) most ≡ most = min_comm (length piece) most ∙ min-eq_left le in
       ap (λ (n : ℕ). take n piece) least
   | inr ge ↦
-      let least : min (length piece) room ≡ length piece = min-eq_left ge in
-      ap (λ (n : ℕ). take n piece) least ∙ (take_all (length piece) piece (omega arith) ∙ sym (take_all room piece ge))
+      let least : min (length piece) most ≡ length piece = min-eq_left ge in
+      ap (λ (n : ℕ). take n piece) least ∙ (take_all (length piece) piece (omega arith) ∙ sym (take_all most piece ge))
 ]
 
--- bytes are held as they come, as far as there is room
-pub adds_held : (a b : SessionView) (piece : List ℕ) (room kept : ℕ) → IsLine piece → b.world ≡ a.world → b.number ≡ a.number → room ≡ MAX_LINE + 1 - length a.held → kept ≡ min (length piece) room
+-- bytes are held as they come, up to one more than a line may have
+pub adds_held : (a b : SessionView) (piece : List ℕ) (left kept : ℕ) → IsLine piece → b.world ≡ a.world → b.number ≡ a.number → left ≡ MAX_LINE + 1 - length a.held → kept ≡ min (length piece) left
     → b.held ≡ a.held ++ take kept piece → AddsBytes a piece b
-adds_held a b piece room kept more world number left least held =
-    let taken : take kept piece ≡ take (MAX_LINE + 1 - length a.held) piece = ap (λ (n : ℕ). take n piece) least ∙ take_least room piece ∙ ap (λ (n : ℕ). take n piece) left in
+adds_held a b piece left kept more world number left_is least held =
+    let taken : take kept piece ≡ take (MAX_LINE + 1 - length a.held) piece = ap (λ (n : ℕ). take n piece) least ∙ take_least left piece ∙ ap (λ (n : ℕ). take n piece) left_is in
     let is : b.held ≡ a.held ++ take (MAX_LINE + 1 - length a.held) piece = held ∙ ap (λ (xs : List ℕ). a.held ++ xs) taken in record {
       begun = λ line h. rw is (holds_more a.held line piece more h);
       world = world;
@@ -90,11 +90,11 @@ none_taken most [] some e = refl
 none_taken zero (c ∷ cs) some e = absurd (omega (arith, some))
 none_taken (suc most) (c ∷ cs) some e = absurd (omega (arith, e))
 
-room_for_one : 0 < MAX_LINE + 1
-room_for_one = omega arith
+one_is_held : 0 < MAX_LINE + 1
+one_is_held = omega arith
 
 none_begun : (held line : List ℕ) → length held ≡ 0 → HoldsLine held line → line ≡ []
-none_begun held line none h = none_taken (MAX_LINE + 1) line room_for_one (sym (ap (λ (xs : List ℕ). length xs) h.held_is) ∙ none)
+none_begun held line none h = none_taken (MAX_LINE + 1) line one_is_held (sym (ap (λ (xs : List ℕ). length xs) h.held_is) ∙ none)
 
 meaning_long : (line : List ℕ) → MAX_LINE < length line → meaning line ≡ None
 unfolding meaning
@@ -271,8 +271,8 @@ module _ (world : WorldView) (number : ℕ) (line : List ℕ) where
       let step = steps state stands in
       (step.new, step.stands, said_so state number (Some (Act event)) _ _ step.new means (inl (answer, step.next, refl)))
 
-  pub answers_no_room : ((event : Event) × (Some (Act event) ≡ meaning line) × IsPut event) → AnswersLine world number line (refused_text (Node node_fault.Memory)) world
-  answers_no_room put = λ state stands. (state, stands, said_so state number (Some (Act put.0)) _ _ state put.1 (inr (put.2, refl, refl)))
+  pub answers_no_memory : ((event : Event) × (Some (Act event) ≡ meaning line) × IsPut event) → AnswersLine world number line (refused_text (Node node_fault.Memory)) world
+  answers_no_memory put = λ state stands. (state, stands, said_so state number (Some (Act put.0)) _ _ state put.1 (inr (put.2, refl, refl)))
 
 -- the last line is answered, and then it is the end
 pub Ends-answer : (a : SessionView) (out more : List ℕ) (w : WorldView) → AnswersLine a.world a.number a.held out w → Settles w more → Ends a (out ++ more)

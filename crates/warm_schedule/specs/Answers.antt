@@ -34,7 +34,7 @@ hist_text (Twice two) = codes " last " ++ stamp_text two.last ++ codes " prev " 
 abbrev pub entry_text : Entry → List ℕ
 entry_text entry = page_text entry.page ++ hist_text entry.hist ++ codes "\n"
 
--- the line after so many pages
+-- the line after this many pages
 abbrev pub end_text : ℕ → List ℕ
 end_text count = codes "end " ++ decimal count ++ codes "\n"
 

@@ -165,7 +165,7 @@ abbrev pub line_of_words : List (List ℕ) → Option Line
 line_of_words [] = Some Nothing
 line_of_words (word ∷ rest) = if begins_with 35 word then Some Nothing else option_map Act (event_of word rest)
 
--- what a line of any length says, or None where it isn't of the language
+-- what a line of any length says, or None where it is not of the language
 unfoldable pub line_of : List ℕ → Option Line
 line_of line = line_of_words (words line)
 

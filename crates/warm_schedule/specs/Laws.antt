@@ -15,7 +15,7 @@ use Rattle.warm_schedule.specs.Answers.{answer_text, refused_text, bad_line}
 use Rattle.warm_schedule.specs.Printed.{Printed}
 
 -- A line of this meaning and number is these events, so answered, and prints this: one event, or none for a bad line, a line that
--- says nothing, and a put whose bytes found no room.
+-- says nothing, and a put for whose bytes memory was refused.
 abbrev pub LineIs : ℕ → Option Line → List Event → List Answer → List ℕ → Type 0
 LineIs number None events answers out = (events ≡ []) × (answers ≡ []) × (out ≡ bad_line number)
 LineIs number (Some Nothing) events answers out = (events ≡ []) × (answers ≡ []) × (out ≡ [])

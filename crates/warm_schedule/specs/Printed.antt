@@ -19,7 +19,7 @@ use Rattle.warm_schedule.specs.Answers.{answer_text, refused_text, bad_line, end
 abbrev pub Happens : ModelState → Event → List ℕ → ModelState → Type 0
 Happens old event out new = (answer : Answer) × Next old event answer new × (out ≡ answer_text answer)
 
--- The bytes of a put found no room: it has not happened.
+-- Memory for the bytes of a put was refused: the put has not happened.
 abbrev pub FindsNoRoom : ModelState → Event → List ℕ → ModelState → Type 0
 FindsNoRoom old event out new = IsPut event × (out ≡ refused_text (Node Memory)) × (new ≡ old)
 

@@ -9,8 +9,8 @@ use Rattle.warm_schedule.specs.declared.parse.LineFault.TheVariants.{Memory, Bad
 
 -- What is said is given, and Bad where nothing is said. Memory may be given in place of what takes memory.
 abbrev pub Reads : {A : Type 0} → (A → Type 0) → Option A → Result A LineFault → Type 0
-Reads TakesMemory said (Err Memory) = MatchOption said ⊥ TakesMemory
-Reads TakesMemory said read = read ≡ ok_or said Bad
+Reads Takes said (Err Memory) = MatchOption said ⊥ Takes
+Reads Takes said read = read ≡ ok_or said Bad
 
 abbrev pub IsPut : Event → Type 0
 IsPut (Put i slot at bytes) = Unit {0}
@@ -21,9 +21,9 @@ abbrev pub PutsBytes : Line → Type 0
 PutsBytes Nothing = ⊥
 PutsBytes (Act event) = IsPut event
 
--- bytes take room
-abbrev pub TakesRoom : List ℕ → Type 0
-TakesRoom bytes = Unit {0}
+-- bytes take memory
+abbrev pub TakesMemory : List ℕ → Type 0
+TakesMemory bytes = Unit {0}
 
 abbrev pub line_fault_code : LineFault → ℕ
 line_fault_code Memory = 1

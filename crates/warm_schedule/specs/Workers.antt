@@ -11,13 +11,13 @@ use Rattle.warm_schedule.specs.declared.worker.WorkerLine.{WorkerLine}
 abbrev pub worker_line : ℕ → ℕ → Option (PageId × ℕ) → WorkerLine
 worker_line i w made = record { replica = i; worker = w; reference = made }
 
--- what an event asks of a worker; the others ask something of none
+-- what an event asks of a worker; the other events ask nothing of one
 abbrev pub asked_of_worker : Event → Option WorkerLine
 asked_of_worker (Refer i w page time) = Some (worker_line i w (Some (page, time)))
 asked_of_worker (Flush i w) = Some (worker_line i w None)
 asked_of_worker event = None
 
--- what a line of this meaning asks of a worker, or nothing; None where it is bad, or asks something of no worker
+-- what a line of this meaning asks of a worker: Some None where it says nothing, None where it is bad or asks nothing of a worker
 abbrev pub worker_line_in : Option Line → Option (Option WorkerLine)
 worker_line_in None = None
 worker_line_in (Some Nothing) = Some None

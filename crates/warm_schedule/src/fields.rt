@@ -4,7 +4,7 @@ ghost use Rattle.warm_stamps.specs.declared.TheConstants.{BUCKETS};
 ghost use Rattle.warm_schedule.specs.Text.{words};
 ghost use Rattle.warm_schedule.specs.Fields.{digit_of, number_up_to, page_of, slot_of, hex_digit_of, pairs_of, bytes_of};
 ghost use Rattle.warm_schedule.specs.Fields.{number_field, replica_field, worker_field, bucket_field, count_field, long_field, page_field, after_field, slot_field};
-ghost use Rattle.warm_schedule.specs.Reading.{Reads, TakesRoom};
+ghost use Rattle.warm_schedule.specs.Reading.{Reads, TakesMemory};
 
 use crate::parse::LineFault;
 use crate::text::{cut, next_word};
@@ -125,9 +125,9 @@ fn spells_bytes(word: &[u8]) -> bool
     rest.is_empty()
 }
 
-// The bytes that a word spells. Room is asked for only where it spells some.
+// The bytes that a word spells. It takes memory only where the word spells some.
 pub(crate) fn bytes(alloc: Global, word: &[u8]) -> Result<ByteList, LineFault>
-    ensures { Reads TakesRoom (bytes_of word.now) result }
+    ensures { Reads TakesMemory (bytes_of word.now) result }
 {
     if !spells_bytes(word) {
         return Err(LineFault::Bad);

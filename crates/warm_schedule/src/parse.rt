@@ -23,10 +23,10 @@ pub enum Line {
 /// Why a line is not read.
 #[derive(Clone, Copy, Debug, PartialEq, Eq, Error)]
 pub enum LineFault {
-    /// There was no room for the bytes of a `put`: 1. No other line takes any.
+    /// Memory for the bytes of a `put` was refused: 1. No other line takes any.
     #[error("Memory")]
     Memory,
-    /// The line isn't of the language: 2.
+    /// The line is not of the language: 2.
     #[error("Bad")]
     Bad,
 }
@@ -67,8 +67,8 @@ impl From<AllocError> for LineFault {
 /// How many bytes a line may have, its line end not included: a longer one is bad, whatever it begins with.
 pub const MAX_LINE: usize = 262144;
 
-// What a line says, read without taking memory; nothing where it has no word or is a comment. `None` where it is bad, but for
-// the word that is to spell the bytes of a `put`.
+// What a line says, read without taking memory: `Some(None)` where it has no word or is a comment, `None` where it is bad. The
+// word that is to spell the bytes of a `put` is not read.
 #[tactic(auto, unfolding(crate::specs::Grammar::meaning, crate::specs::Grammar::line_of))]
 pub(crate) fn parsed_in(line: &[u8]) -> Option<Option<Parsed<'_>>>
     ensures { meaning line.now ≡ option_and_then line_parsed result }
@@ -91,9 +91,9 @@ pub(crate) fn parsed_in(line: &[u8]) -> Option<Option<Parsed<'_>>>
 /// Words are parted by one or more spaces (byte 20); every other byte, a tab, a NUL and the CR of a foreign line end among
 /// them, is part of a word. Numbers are decimal, with any number of leading zeros. docs/FORMATS.md has each line.
 ///
-/// - `Bad` comes exactly for a line of more than [`MAX_LINE`] bytes, and for one that has a word, is no comment and isn't of
+/// - `Bad` comes exactly for a line of more than [`MAX_LINE`] bytes, and for one that has a word, is no comment and is not of
 ///   the language.
-/// - `Memory` comes only where room for the bytes of a `put` was refused, and only for a `put` of the language. No other line
+/// - `Memory` comes only where memory for the bytes of a `put` was refused, and only for a `put` of the language. No other line
 ///   takes memory.
 pub fn parse_line(alloc: Global, line: &[u8]) -> Result<Line, LineFault>
     ensures { Reads PutsBytes (meaning line.now) result }

@@ -21,7 +21,7 @@ use warm_gossip::NodeFault;
 use warm_play_fault::PlayFault;
 use warm_world::{BadWorld, Setup, World, WorldFault};
 
-// A world, and the line that has begun: its bytes, no more of them than make it too long.
+// A world, and the line that has begun: its bytes, up to one more than a line may have.
 #[derive(Drop)]
 struct Session<D: PageDevice> {
     alloc: Global,
@@ -53,7 +53,7 @@ impl<D: PageDevice> Session<D> {
         })
     }
 
-    // Goes on with the line that has begun, of which no more is held than makes it too long.
+    // Goes on with the line that has begun, of which at most one byte more is held than a line may have.
     fn add(&mut self, piece: &[u8]) -> Result<(), PlayFault>
         requires { IsLine piece.now }
         ensures adds { OnOk result
@@ -61,8 +61,8 @@ impl<D: PageDevice> Session<D> {
         ensures same { OnOk result (self.new.world ≡ self.old.world) }
         ensures number { OnOk result (self.new.number ≡ self.old.number) }
     {
-        let room = (MAX_LINE + 1).saturating_sub(self.line.len());
-        let kept = piece.len().min(room);
+        let left = (MAX_LINE + 1).saturating_sub(self.line.len());
+        let kept = piece.len().min(left);
         self.line.extend_from_slice(&piece[..kept])?;
         Ok(())
     }
@@ -95,7 +95,7 @@ impl<D: PageDevice> Session<D> {
         }
     }
 
-    // Answers the line that is held. It is held no longer, and its room is kept.
+    // Answers the line that is held, and holds it no longer. Its capacity is kept.
     fn answer_held<W: Write>(&mut self, writer: &mut W) -> Result<(), PlayFault>
         ensures answered { OnOk result ((out : List ℕ)
             × Appends (W.contents writer.old) (W.contents writer.new) out
@@ -113,7 +113,7 @@ impl<D: PageDevice> Session<D> {
 
     // Answers the line whose last bytes these are. One that stands whole in them is read where it stands.
     fn end_line<W: Write>(&mut self, piece: &[u8], writer: &mut W) -> Result<(), PlayFault>
-        requires room { self.old.number + 1 < 2 ^ 64 }
+        requires fits { self.old.number + 1 < 2 ^ 64 }
         requires line { IsLine piece.now }
         ensures goes { OnOk result ((out : List ℕ)
             × Appends (W.contents writer.old) (W.contents writer.new) out
@@ -165,7 +165,7 @@ impl<D: PageDevice> Session<D> {
         }
     }
 
-    // Answers the last line, which no byte ended, settles the devices, and hands on what was printed.
+    // Answers the last line, which no byte ended, settles the devices, and passes on what was printed.
     fn finish<W: Write>(&mut self, writer: &mut W) -> Result<(), PlayFault>
         ensures { OnOk result ((out : List ℕ)
             × Appends (W.contents writer.old) (W.contents writer.new) out
@@ -173,19 +173,19 @@ impl<D: PageDevice> Session<D> {
     {
         self.answer_held(writer)?;
         self.settle(writer)?;
-        hand_on(writer)?;
+        pass_on(writer)?;
         Ok(())
     }
 
-    // Reads once, answers each line that ends in what was read, and hands these answers on: whoever waits for them before
-    // the next bytes are sent gets them. `false` at the end of the input. A read that was interrupted has read nothing.
+    // Reads once, answers each line that ends in what was read, and passes these answers on: whoever waits for them before
+    // sending more gets them. `false` at the end of the input. A read that was interrupted has read nothing.
     fn read_some<R: Read, W: Write>(
         &mut self,
         reader: &mut R,
         buffer: &mut [u8],
         writer: &mut W,
     ) -> Result<bool, PlayFault>
-        requires room { 0 < length buffer.old }
+        requires capacity { 0 < length buffer.old }
         requires fits { self.old.number + length buffer.old < 2 ^ 64 }
         ensures goes { OnOk result ((bytes out : List ℕ)
             × Consumes (R.remaining reader.old) (R.remaining reader.new) bytes
@@ -202,7 +202,7 @@ impl<D: PageDevice> Session<D> {
                 if self.number == first {
                     return Ok(true);
                 }
-                hand_on(writer)?;
+                pass_on(writer)?;
                 Ok(true)
             }
             Err(e) => {
@@ -215,15 +215,15 @@ impl<D: PageDevice> Session<D> {
     }
 }
 
-// Hands on what the writer holds back.
-fn hand_on<W: Write>(writer: &mut W) -> Result<(), PlayFault>
+// Passes on what the writer holds back.
+fn pass_on<W: Write>(writer: &mut W) -> Result<(), PlayFault>
     ensures { OnOk result (Keeps (W.contents writer.old) (W.contents writer.new)) }
 {
     writer.flush().map_err(|_| PlayFault::WriteFault)?;
     Ok(())
 }
 
-/// How often input is read at most before its end: whatever reads that often without an end is refused.
+/// How often the input is read at most. One that does not end by then is a [`PlayFault::ReadFault`].
 pub const MAX_READS: u64 = 1 << 40;
 
 /// How many bytes are read at a time.

@@ -4,8 +4,8 @@ ghost use Rattle.warm_schedule.specs.Text.{IsLine, split, words};
 
 use memchr::memchr;
 
-/// The line of a text that ends first, without its end, and what follows its end, byte 0A. `None` where no line ends: the text
-/// is then the beginning of one line, or its last. Takes no memory.
+/// The first line of a text, without its end (byte 0A), and what follows that end. `None` where no line ends: the text is then
+/// the beginning of one line, or the last line. Takes no memory.
 pub fn first_line(text: &[u8]) -> Option<(&[u8], &[u8])>
     ensures line { MatchOption result (IsLine text.now) (λ x. IsLine x.0.now) }
     ensures parts { IfSome result (λ x. text.now ≡ x.0.now ++ 10 ∷ x.1.now) }

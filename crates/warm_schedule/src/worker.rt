@@ -9,7 +9,7 @@ use warm_stamps::PageId;
 use warm_world::Event;
 
 /// What a line asks of a worker of a replica, each by its number as the line has it, whether or not a setup has such a worker:
-/// to reference a page at a time, or to flush its buffer where there is no reference.
+/// to reference a page at a time, or, where `reference` is `None`, to flush its buffer.
 #[derive(Clone, Copy, Debug, PartialEq, Eq)]
 pub struct WorkerLine {
     pub replica: u16,
@@ -17,7 +17,7 @@ pub struct WorkerLine {
     pub reference: Option<(PageId, u64)>,
 }
 
-// What an event asks of a worker. `None` where it asks something of no worker.
+// What an event asks of a worker. `None` where it asks nothing of a worker.
 fn asked_by(event: &Event) -> Option<WorkerLine>
     ensures { result ≡ asked_of_worker event.now }
 {
@@ -36,8 +36,8 @@ fn asked_by(event: &Event) -> Option<WorkerLine>
     }
 }
 
-/// What a line asks of a worker, its line end not included; nothing where it has no word or is a comment. `None` where it is
-/// bad, or asks something of no worker. It means what [`parse_line`](crate::parse_line) says, and takes no memory.
+/// What a line asks of a worker, its line end not included: `Some(None)` where it has no word or is a comment, `None` where it
+/// is bad or asks nothing of a worker. The line means what [`parse_line`](crate::parse_line) says. Takes no memory.
 #[tactic(auto, using(crate::proofs::Workers::put_asks_none))]
 pub fn parse_worker_line(line: &[u8]) -> Option<Option<WorkerLine>>
     ensures { result ≡ worker_line_in (meaning line.now) }

@@ -74,7 +74,7 @@ with_device_key fields key found =
 abbrev pub no_fields : DeviceFields
 no_fields = record { pages = None; path = None }
 
--- the pages are wanted, which is seen last
+-- the pages are required, which is checked last
 abbrev pub finished : DeviceFields → Result DeviceSpec SetupFault
 finished fields = ok_or fields.pages BadKey >>= λ n. Ok (record { pages = n; path = fields.path })
 

@@ -36,7 +36,7 @@ setup = record (argument (codes "setup")) { long = Some (codes "setup") }
 abbrev pub play : App
 play = with_rule (with_rule (new_app (codes "play")) file) setup
 
--- `--NAME N`, a number up to `most`, which is wanted
+-- `--NAME N`, a number up to `most`, which is required
 abbrev pub number : Text → ℕ → Rule
 number name most =
     record (argument name) { long = Some name; parser = Some (Unsigned 0 most); required = true }
@@ -59,7 +59,7 @@ wants_command top = record top { subcommand_required = true }
 abbrev pub with_play : App
 with_play = with_subcommand (on_top wants_command (new_app (codes "warmplay"))) play.top
 
--- and with that which writes one, which starts no thread either
+-- and with the command that writes one at random, which starts no thread either
 abbrev pub line_by_line : App
 line_by_line = with_subcommand with_play random.top
 
@@ -105,8 +105,8 @@ abbrev pub AsksFor : Text → List Text → Type 0
 AsksFor name words =
     option_map (λ found. bytes_eq found.0 name) (subcommand_of warmplay words) ≡ Some true
 
--- the words ask for a schedule drawn at random, or for one played by threads, in clap's own definition without a fault, but with a number
--- that is none, or without a file
+-- clap's own definition has no fault in the words, which ask for a schedule drawn at random or for one played by threads, but a number or
+-- the file is missing
 abbrev pub LacksValue : List Text → Type 0
 LacksValue words =
     (fault_of warmplay words ≡ [])

@@ -23,19 +23,19 @@ pub const MAX_EVENTS: u64 = 1_000_000;
 /// What the words ask for.
 #[derive(Debug, Drop)]
 pub enum Cmd {
-    /// To play the schedule `file`, or standard input where there is none, with the setup file `setup`, or the defaults.
+    /// To play the schedule in `file`, or standard input where there is none, with the setup in `setup`, or the defaults.
     Play {
         file: Option<PathText>,
         setup: Option<PathText>,
     },
-    /// To write the schedule of `events` lines, at most [`MAX_EVENTS`], that this seed gives with the setup file `setup`, or
+    /// To write the schedule of `events` lines, at most [`MAX_EVENTS`], that this seed gives with the setup in `setup`, or
     /// the defaults.
     Random {
         seed: u64,
         events: u32,
         setup: Option<PathText>,
     },
-    /// To play the schedule `file` by threads, with the setup file `setup`, or the defaults.
+    /// To play the schedule in `file` by threads, with the setup in `setup`, or the defaults.
     Threads {
         file: PathText,
         setup: Option<PathText>,
@@ -45,7 +45,7 @@ pub enum Cmd {
 /// Why the words give no command.
 #[derive(Debug, Drop, Error)]
 pub enum CmdFault {
-    /// Room was refused. It says nothing of the words.
+    /// Memory was refused. It says nothing of the words.
     #[error("Memory")]
     Memory,
     /// A mistake in the words, or a request for help. The error has the text for the user.
@@ -151,7 +151,7 @@ fn random_command<'a>(alloc: Global) -> Result<Command<'a>, AllocError>
     let random = Command::new(alloc, "random").about(
         "Write a schedule drawn at random, the same for the same seed",
     );
-    // Each argument is made where it goes in: nothing else is dropped where room is refused.
+    // Each argument is made where it goes in: nothing else is dropped where memory is refused.
     let seed = number_argument(alloc, "seed", "What the schedule is drawn from", u64::MAX);
     let seeded = random.arg(seed)?;
     let events = number_argument(alloc, "events", "How many lines it has", MAX_EVENTS);
@@ -296,7 +296,7 @@ fn copied(alloc: Global, text: Option<&str>) -> Result<Option<PathText>, AllocEr
 }
 
 /// The fault of a command line with a word that is not UTF-8, which no command takes: [`CmdFault::Refused`], or
-/// [`CmdFault::Memory`] where room for its text was refused.
+/// [`CmdFault::Memory`] where memory for its text was refused.
 pub fn not_text(alloc: Global) -> CmdFault
     ensures { IsRefusal ErrorKind.InvalidValue result }
 {
@@ -322,8 +322,8 @@ fn refused(alloc: Global, kind: ErrorKind, why: &str) -> CmdFault
 /// The command that the words ask for. The first word is the program's own name.
 ///
 /// The command and its values are those that clap's own definition of the matches gives for the words. The error is
-/// [`CmdFault::Refused`] where clap refuses them, or answers a request for help, or where the numbers of `random` are
-/// none or `threads` has no file, and [`CmdFault::Memory`] where room was refused, which clap's own kind `OutOfMemory` becomes too.
+/// [`CmdFault::Refused`] where clap refuses them or answers a request for help, or where `random` lacks a number or `threads`
+/// a file, and [`CmdFault::Memory`] where memory was refused, to clap too (its kind `OutOfMemory`).
 pub fn command_of<S: AsStr>(alloc: Global, words: &[S]) -> Result<Cmd, CmdFault>
     ensures { Answers (map S.text words.now) result }
 {

@@ -13,8 +13,8 @@ use std::marker::Model;
 use thiserror::Error;
 use warm_play_fault::PlayFault;
 
-/// Why a run of the program came to no end, by the part of the run that found it. They are found in this order: the command line, the setup file, its text,
-/// the schedule's file, the devices (by replica, then by device), the play.
+/// Why a run of the program did not reach its end, by the part of the run that found it. The parts come in this order: the command
+/// line, the setup file, its text, the schedule's file, the devices (by replica, then by device), the play.
 #[derive(Debug, Drop, Error)]
 pub enum ProgramFault {
     /// The words gave no command.
@@ -184,7 +184,7 @@ fn number_of(fault: PlayFault) -> Option<u64>
 /// | the command line was refused | 2 | clap's text, and no line |
 /// | a file could not be opened, a device's among them | 1 | `warmplay: cannot open NAME` |
 /// | the setup was refused | 2 | `warmplay: setup: ` and the fault's name |
-/// | the play stopped, or there was no room for the command line | 1 | `warmplay: ` and the fault's name; for a bad line its number follows |
+/// | the play stopped, or memory for the command line was refused | 1 | `warmplay: ` and the fault's name; for a bad line its number follows |
 pub fn outcome_of<'a>(ended: &'a Result<(), ProgramFault>) -> Outcome<'a>
     ensures status { result.status ≡ status_of ended.entry.now }
     ensures line { result.line ≡ line_of ended.entry.now }

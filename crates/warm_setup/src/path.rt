@@ -21,7 +21,7 @@ impl Model for PathText {
 impl PathText {
     ghost use Rattle.std.specs.Prelude.{◌≡◌, ◌++◌, IfOk, codes, decimal, string_bytes};
 
-    /// A copy of the text. `AllocError` where its room is refused.
+    /// A copy of the text. `AllocError` where memory for it is refused.
     pub fn copied_from(alloc: Global, text: &str) -> Result<PathText, AllocError>
         ensures { IfOk result (λ path. path ≡ text.now) }
     {
@@ -30,7 +30,7 @@ impl PathText {
     }
 
     /// The file of a replica, of those that a device's path names: the path, a dot and the replica's number. `AllocError` where
-    /// its room is refused.
+    /// memory for it is refused.
     pub fn of_replica(&self, alloc: Global, replica: u16) -> Result<PathText, AllocError>
         ensures { IfOk result (λ path. path ≡ self.now ++ codes "." ++ decimal replica) }
     {
@@ -63,6 +63,10 @@ impl PathText {
 }
 
 impl fmt::Display for PathText {
+    ghost use Rattle.std.specs.Prelude.{Some};
+
+    ghost output = { λ path. Some path };
+
     fn fmt<W: fmt::Write>(&self, f: &mut fmt::Formatter<W>) -> fmt::Result {
         f.write_str(self.as_str())
     }

@@ -35,13 +35,13 @@ pub struct DeviceSpec {
 /// Why a text is no setup.
 #[derive(Clone, Copy, Debug, PartialEq, Eq, Drop, Error)]
 pub enum SetupFault {
-    /// Room was refused. It says nothing of the text.
+    /// Memory was refused. It says nothing of the text.
     #[error("Memory")]
     Memory,
     /// The text is no TOML document.
     #[error("NotToml")]
     NotToml,
-    /// A key that there is not, a value of a wrong type, or a device without `pages`.
+    /// An unknown key, a value of a wrong type, or a device without `pages`.
     #[error("BadKey")]
     BadKey,
     /// A number out of its range, an empty `path`, no device or more than 16.
@@ -368,7 +368,7 @@ fn made_from(keys: SetupKeys) -> (Setup, Vec<DeviceSpec>)
 /// order of their bytes, its missing `pages` last; the first fault is answered. For one key [`SetupFault::BadKey`] comes
 /// before [`SetupFault::BadValue`]. For `device` the types of the array and its elements come first, then its length,
 /// then its devices. [`SetupFault::NotToml`] is answered exactly where the text is no TOML document (TOML 1.1, nested at
-/// most 80 deep), and [`SetupFault::Memory`] where room was refused.
+/// most 80 deep), and [`SetupFault::Memory`] where memory was refused.
 pub fn read_setup(alloc: Global, text: &str) -> Result<(Setup, Vec<DeviceSpec>), SetupFault>
     ensures { Gives setup_and_devices (setup_in (parse_document text.now)) result }
 {

@@ -1,14 +1,15 @@
 -- Replicas that the same references reached agree.
-use Rattle.std.proofs.Common.{◌≡◌, ◌<◌, [], length, map, ap, sym, ◌∙◌, arith}
+use Rattle.std.proofs.Common.{◌≡◌, ℕ, ◌<◌, [], length, map, ap, sym, ◌∙◌, arith}
 use Rattle.std.proofs.lemmas.List.{get_or-map}
 use Rattle.warm_history.specs.Histories.{entries_of, holding, history}
+use Rattle.warm_history.specs.References.{HoldSame}
 use Rattle.warm_history.proofs.SetLemmas.{history_of_set}
 use Rattle.warm_rank.proofs.LeavingLemmas.{same_references_rank_alike}
 use Rattle.warm_gossip.specs.State.{NodeView}
 use Rattle.warm_world.specs.Views.{ReplicaView, WorldView}
 use Rattle.warm_world.specs.Lists.{place}
 use Rattle.warm_world.specs.States.{ModelState, ReplicaState, reach_of, nobody}
-use Rattle.warm_world.specs.Stands.{StandsFor, ReplicaStands, HistoriesAreExact, ReplicasAgree}
+use Rattle.warm_world.specs.Stands.{Alike, StandsFor, ReplicaStands, HistoriesAreExact, ReplicasAgree}
 use Rattle.warm_world.proofs.Pairs.{Pairwise-map}
 
 pub histories_are_exact : (w : WorldView) (m : ModelState) → StandsFor w m → HistoriesAreExact w m
@@ -18,8 +19,11 @@ histories_are_exact w m st i number =
     let lt : place i < length m.replicas = omega (arith, number.from_one, number.in_range) in
     rw same (get_or-map (λ (r : ReplicaState). history r.reach) m.replicas (place i) nobody (holding []) lt)
 
+pub models_agree : (m : ModelState) (i j : ℕ) → HoldSame (reach_of m i) (reach_of m j) → Alike m i j
+models_agree m i j same = record { histories = history_of_set (reach_of m i) (reach_of m j) same; ranking = same_references_rank_alike (reach_of m i) (reach_of m j) same }
+
 pub replicas_agree : (w : WorldView) (m : ModelState) → StandsFor w m → ReplicasAgree w m
-replicas_agree w m st i j number_i number_j same = record {
-  histories = ap entries_of (histories_are_exact w m st i number_i) ∙ (history_of_set (reach_of m i) (reach_of m j) same ∙ sym (ap entries_of (histories_are_exact w m st j number_j)));
-  ranking = same_references_rank_alike (reach_of m i) (reach_of m j) same;
+replicas_agree w m st i j number_i number_j same = let alike = models_agree m i j same in record {
+  histories = ap entries_of (histories_are_exact w m st i number_i) ∙ (alike.histories ∙ sym (ap entries_of (histories_are_exact w m st j number_j)));
+  ranking = alike.ranking;
 }

@@ -2,6 +2,7 @@
 use Rattle.std.proofs.Common.{◌≡◌, ℕ, List, ap, refl, ◌∙◌}
 use Rattle.std.proofs.lemmas.List.{set-get_or}
 use Rattle.warm_history.specs.Histories.{history}
+use Rattle.warm_rank.proofs.LeavingLemmas.{order_kept}
 use Rattle.warm_gossip.specs.declared.fault.NodeFault.TheVariants as node
 use Rattle.warm_gossip.specs.State.{NodeView}
 use Rattle.warm_pool.specs.View.{PoolView}
@@ -13,7 +14,6 @@ use Rattle.warm_world.specs.declared.event.WorldFault.TheVariants.{Node, NoSuchR
 use Rattle.warm_world.specs.Lists.{place}
 use Rattle.warm_world.specs.States.{ModelState, ReplicaState, node_of, nobody, pool_of, reach_of, set_pool}
 use Rattle.warm_world.specs.Next.{IsNamed, Next, Replied, call_of, replica_of, reply_of, shape}
-use Rattle.warm_world.proofs.Histories.{warm_alike}
 
 -- a pool that is put back is no change
 pub pool_kept : (m : ModelState) (i : ℕ) → set_pool m i (pool_of m i) ≡ m
@@ -33,7 +33,7 @@ next_of_reply old (Restart i) answer new named r = absurd r
 next_of_reply old (Horizon i time) answer new named r = absurd r
 next_of_reply old (Show i) answer new named r = absurd r
 next_of_reply old (Warm i n) (Refused (Node node.Memory)) new named r = (named, unchanged old new i r.0 r.1 r.2)
-next_of_reply old (Warm i n) (Pages pages) new named r = (named, (warm_alike (history (reach_of old i)) (reach_of old i) n pages refl r.1.0, unchanged old new i r.0 r.1.1 r.2))
+next_of_reply old (Warm i n) (Pages pages) new named r = (named, (r.1.0 ∙ (order_kept (history (reach_of old i)) (reach_of old i) refl).warm_alike n, unchanged old new i r.0 r.1.1 r.2))
 next_of_reply old event (Refused NoSuchReplica) new named r = absurd r
 next_of_reply old event (Refused NoSuchWorker) new named r = absurd r
 next_of_reply old event (Refused NoSuchFrame) new named r = absurd r

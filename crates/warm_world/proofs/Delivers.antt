@@ -20,10 +20,10 @@ use Rattle.warm_world.specs.States.{ModelState, ReplicaState, add_records, reach
 use Rattle.warm_world.specs.Answered.{heard}
 use Rattle.warm_world.specs.Next.{IsNamed}
 use Rattle.warm_world.specs.Stands.{ReplicaStands, SpellsRecord, StandsFor, Stepped, message_kept, view_shape}
-use Rattle.warm_world.proofs.Frames.{messages_join, spells_kept}
+use Rattle.warm_world.proofs.Messages.{messages_join, spells_kept}
 use Rattle.warm_world.proofs.Histories.{answer_records, taught_heard}
 use Rattle.warm_world.proofs.Pairs.{Pairwise-of}
-use Rattle.warm_world.proofs.Worlds.{named_too, place_in, replica_changes, replica_stays, stands_at, world}
+use Rattle.warm_world.proofs.Worlds.{named_too, no_memory, node_at, place_in, replica_changes, stands_at, world}
 
 -- entries are answered by nothing
 unanswered : (id : ℕ) (h : HistoryView) (message : Message) (answers : List Message) → raised_to message ≡ None → IsAnswer id h message answers → answers ≡ []
@@ -34,14 +34,8 @@ unanswered id h (Want sender horizon request) answers none answer = absurd (cc)
 -- digests and a request teach their horizon alone
 pub taught_horizon : (h : HistoryView) (message : Message) (horizon : ℕ) → raised_to message ≡ Some horizon → taught h message ≡ history (since horizon (refs h))
 taught_horizon h (Entries sender time es) horizon is = absurd (cc)
-taught_horizon h (Digest sender time digests) horizon is = ap (λ t. history (since t (refs h))) (own is)
-  where
-    own : {a b : ℕ} → (Some a ≡ Some b) → a ≡ b
-    own same = cc
-taught_horizon h (Want sender time request) horizon is = ap (λ t. history (since t (refs h))) (own is)
-  where
-    own : {a b : ℕ} → (Some a ≡ Some b) → a ≡ b
-    own same = cc
+taught_horizon h (Digest sender time digests) horizon is = let same : time ≡ horizon = cc in ap (λ t. history (since t (refs h))) same
+taught_horizon h (Want sender time request) horizon is = let same : time ≡ horizon = cc in ap (λ t. history (since t (refs h))) same
 
 module _ {A : Type 0} (f : A → ReplicaView) (xs : List A) (messages : List (List ℕ)) where
   pub delivered : (m : ModelState) (j k count first : ℕ) (x y : A) (message : Message) (answers : List Message) (n : NodeView) (messages' : List (List ℕ))
@@ -56,17 +50,15 @@ module _ {A : Type 0} (f : A → ReplicaView) (xs : List A) (messages : List (Li
       let lt = place_in f xs messages (Deliver j k) named in
       let here = stands_at f xs messages m p x st lt is in
       let S = reach_of m j in
-      let number : p + 1 ≡ j = omega (arith, named.replica_there.from_one) in
-      let id : (f x).node.id ≡ j = ap (λ (v : NodeView). v.id) here.node_is ∙ number in
-      let holds : (f x).node.history ≡ history S = ap (λ (v : NodeView). v.history) here.node_is in
+      let node = node_at f xs messages m (Deliver j k) x st named is in
       let asked : IsAnswer j (history S) (message_kept kept) answers =
-      subst (λ g. IsAnswer j (history S) g answers) spelled (subst (λ h. IsAnswer j h message answers) holds (subst (λ i. IsAnswer i (f x).node.history message answers) id answer)) in
+      subst (λ g. IsAnswer j (history S) g answers) spelled (subst (λ (n : NodeView). IsAnswer n.id n.history message answers) node answer) in
       let rs = answer_records j S kept answers asked in
       let r : ReplicaState = record (replica m p) { reach = heard S kept } in
-      let told : taught (f x).node.history message ≡ history (heard S kept) = ap (λ h. taught h message) holds ∙ ap (taught (history S)) spelled ∙ taught_heard S kept in
+      let learned : taught (f x).node.history message ≡ history (heard S kept) = ap (λ (n : NodeView). taught n.history message) node ∙ ap (taught (history S)) spelled ∙ taught_heard S kept in
       let stands : ReplicaStands m.capacity p (f y) r = record {
-        has_room = here.has_room;
-        node_is = ap (λ (s : ReplicaView). s.node) becomes ∙ learns ∙ ap (λ (h : HistoryView). let v : NodeView = record (f x).node { history = h } in v) told
+        has_capacity = here.has_capacity;
+        node_is = ap (λ (s : ReplicaView). s.node) becomes ∙ learns ∙ ap (λ (h : HistoryView). let v : NodeView = record (f x).node { history = h } in v) learned
             ∙ ap (λ (u : NodeView). let v : NodeView = record u { history = history (heard S kept) } in v) here.node_is;
         buffers_are = ap (λ (s : ReplicaView). s.buffers) becomes ∙ here.buffers_are;
       } in
@@ -126,9 +118,6 @@ module _ {A : Type 0} (f : A → ReplicaView) (xs : List A) (messages : List (Li
       → ((count first : ℕ) → answer ≡ Took count first → ⊥) → Takes messages answers answer messages'
       → Stepped m (Deliver j k) answer (record (world f xs messages (set xs (place j) y)) { messages = messages' })
   unkept m j k x y messages' answers (Took count first) st named is same other takes = absurd (other count first refl)
-  unkept m j k x y messages' answers (Refused (Node Memory)) st named is same other takes = record {
-    new = m;
-    next = (named_too (world f xs messages xs) m (Deliver j k) st named, refl);
-    stands = rw takes.1 (replica_stays f xs messages m (place j) x y st (place_in f xs messages (Deliver j k) named) is same);
-  }
+  unkept m j k x y messages' answers (Refused (Node Memory)) st named is same other takes =
+      rw takes.1 (no_memory f xs messages m (Deliver j k) x y Memory st named is same refl (λ there here. (there, refl)))
   unkept m j k x y messages' answers answer st named is same other takes = absurd takes

@@ -1,47 +1,41 @@
 -- One replica's pages are written back.
-use Rattle.std.proofs.Common.{◌≡◌, ℕ, ◌+◌, ◌<◌, inl, inr, arith, List, length, map, get_or, set, Result, Ok, Err, refl, sym, ◌∙◌, ap, subst}
+use Rattle.std.proofs.Common.{◌≡◌, ◌≢◌, ℕ, ◌+◌, ◌<◌, inl, inr, arith, List, length, map, get_or, set, Result, Ok, Err, refl, sym, ◌∙◌, ap, subst}
 use Rattle.std.specs.Prelude.{IfErr, OnOk}
-use Rattle.std.proofs.lemmas.List.{get_or-map, get_or-set_same, get_or-set_other, length-map, map-set, set-get_or}
+use Rattle.std.proofs.lemmas.List.{get_or-set_same, get_or-set_other, length-map, map-set}
 use Rattle.std.proofs.lemmas.Bool.{cases_eq}
 use Rattle.warm_gossip.specs.declared.fault.NodeFault.{NodeFault}
 use Rattle.warm_gossip.specs.declared.fault.NodeFault.TheVariants.{Pool}
 use Rattle.warm_gossip.specs.State.{NodeState, NodeView}
 use Rattle.warm_gossip.specs.Step.{IsFailed, OnPool}
 use Rattle.warm_pool.specs.declared.fault.PoolFault.TheVariants.{Fault}
-use Rattle.warm_world.specs.Opening.{FailsOf, FinishFails, fails}
+use Rattle.warm_world.specs.Opening.{FailsAtPlace, FailsOf, FinishFails, StopsInOrder, with_pool}
 use Rattle.warm_pool.specs.State.{IsSettled}
-use Rattle.warm_world.specs.Views.{AreSettledBefore, ReplicaView, WorldView}
-use Rattle.warm_world.proofs.Worlds.{world}
+use Rattle.warm_world.specs.declared.world.World.{World}
+use Rattle.warm_world.specs.Views.{AreSameBut, AreSameFrom, AreSettledBefore, IsSettledBefore, ReplicaView, WorldView, world_view}
+use Rattle.warm_world.proofs.Worlds.{shown_at, world, world_stays}
 
 module _ {A : Type 0} (f : A → ReplicaView) (xs : List A) (messages : List (List ℕ)) (k : ℕ) (x y : A) where
-  shows : k < length xs → x ≡ get_or xs k x → (other : ReplicaView) → get_or (map f xs) k other ≡ f x
-  shows lt is other = get_or-map f xs k x other lt ∙ ap f (sym is)
-
-  stays : k < length xs → x ≡ get_or xs k x → f y ≡ f x → world f xs messages (set xs k y) ≡ world f xs messages xs
-  stays lt is same = ap (λ (rs : List ReplicaView). let w : WorldView = record { replicas = rs; messages = messages } in w)
-      (map-set f xs k y ∙ ap (set (map f xs) k) (same ∙ sym (shows lt is (f x))) ∙ set-get_or (map f xs) k (f x))
-
   -- where the replica's node shows what it showed, so does the world
   pub same_if : {T E : Type 0} (result : Result T E) → k < length xs → x ≡ get_or xs k x → (f y).buffers ≡ (f x).buffers → OnOk result ((f y).node ≡ (f x).node) → OnOk result (world f xs messages (set xs k y) ≡ world f xs messages xs)
-  same_if (Ok done) lt is alike same = stays lt is (rw (← same, ← alike) refl)
+  same_if (Ok done) lt is alike same = world_stays f xs messages k x y lt is (rw (← same, ← alike) refl)
   same_if (Err why) lt is alike same = tt
 
-  failed : k < length xs → x ≡ get_or xs k x → (f y).buffers ≡ (f x).buffers → OnPool IsFailed (f x).node (f y).node → FailsOf (world f xs messages xs) (world f xs messages (set xs k y))
-  failed lt is alike did = record {
+  failed : k < length xs → x ≡ get_or xs k x → (f y).buffers ≡ (f x).buffers → OnPool IsFailed (f x).node (f y).node → FailsAtPlace k (world f xs messages xs) (world f xs messages (set xs k y))
+  failed lt is alike did = let fails : FailsOf (world f xs messages xs) (world f xs messages (set xs k y)) = record {
     replica = k;
     there = subst (λ n. k < n) (sym (length-map xs f)) lt;
     pool = (f y).node.pool;
-    failed = λ other. subst (λ (r : ReplicaView). IsFailed r.node.pool (f y).node.pool) (sym (shows lt is other)) did.1;
+    failed = λ other. subst (λ (r : ReplicaView). IsFailed r.node.pool (f y).node.pool) (sym (shown_at f xs k x other lt is)) did.1;
     becomes = λ other. ap (λ (rs : List ReplicaView). let w : WorldView = record { replicas = rs; messages = messages } in w)
         (map-set f xs k y ∙ ap (set (map f xs) k)
         (ap (λ (n : NodeView). let r : ReplicaView = record { node = n; buffers = (f y).buffers } in r) did.0
         ∙ ap (λ bs. let r : ReplicaView = record { node = record (f x).node { pool = (f y).node.pool }; buffers = bs } in r) alike
-        ∙ ap (λ (r : ReplicaView). fails r (f y).node.pool) (sym (shows lt is other))));
-  }
+        ∙ ap (λ (r : ReplicaView). with_pool r (f y).node.pool) (sym (shown_at f xs k x other lt is))));
+  } in (fails, refl)
 
   -- where writing back has failed, it has for this replica
   pub fails_if : {T : Type 0} (result : Result T NodeFault) → k < length xs → x ≡ get_or xs k x → (f y).buffers ≡ (f x).buffers
-      → IfErr result (λ why. (why ≡ Pool Fault) × OnPool IsFailed (f x).node (f y).node) → IfErr result (λ why. FinishFails (world f xs messages xs) why (world f xs messages (set xs k y)))
+      → IfErr result (λ why. (why ≡ Pool Fault) × OnPool IsFailed (f x).node (f y).node) → IfErr result (λ why. (why ≡ Pool Fault) × FailsAtPlace k (world f xs messages xs) (world f xs messages (set xs k y)))
   fails_if (Ok done) lt is alike did = tt
   fails_if (Err why) lt is alike did = (did.0, failed lt is alike did.1)
 
@@ -57,6 +51,19 @@ module _ {A : Type 0} (g : A → NodeState) (xs : List A) (k : ℕ) (y : A) wher
   settled_if (Ok done) lt before here = subst (AreSettledBefore (k + 1)) (sym (map-set g xs k y)) (settled_next lt before here)
   settled_if (Err why) lt before here = tt
 
--- what fails in a world that shows what it showed fails in that
-pub fails_since : (old mid new : WorldView) (why : NodeFault) → mid ≡ old → FinishFails mid why new → FinishFails old why new
-fails_since old mid new why same = subst (λ w. FinishFails w why new) same
+-- nodes at other places are as they were
+pub others_same : {A : Type 0} (g : A → NodeState) (xs : List A) (k : ℕ) (y : A) (j : ℕ) (other : NodeState) → j ≢ k → get_or (map g (set xs k y)) j other ≡ get_or (map g xs) j other
+others_same g xs k y j other apart = ap (λ nodes. get_or nodes j other) (map-set g xs k y) ∙ get_or-set_other (map g xs) k j (g y) other apart
+
+-- what fails in a world that shows what it showed fails in that, and the pools were written back in order up to there
+pub fails_since : (old mid new : WorldView) (k : ℕ) (why : NodeFault) → mid ≡ old → (why ≡ Pool Fault) × FailsAtPlace k mid new → FinishFails old why new
+fails_since old mid new k why same did = (did.0, subst (λ w. FailsOf w new) same did.1.0)
+
+pub stops_in_order : {D : Type 0} (old mid new : World D) (k : ℕ) → world_view mid ≡ world_view old → IsSettledBefore k mid → AreSameFrom k old mid → AreSameBut k mid new
+    → FailsAtPlace k (world_view mid) (world_view new) → StopsInOrder old new
+stops_in_order old mid new k same settled later kept did =
+    let at : FailsAtPlace k (world_view old) (world_view new) = subst (λ w. FailsAtPlace k w (world_view new)) same did in
+    let here : k ≡ at.0.replica = sym at.1 in
+    let before : IsSettledBefore k new = λ j other low. subst (λ (n : NodeState). IsSettled n.pool) (sym (kept j other (λ e. absurd (omega (arith, low, e))))) (settled j other low) in
+    let after : AreSameFrom (k + 1) old new = λ j other low. kept j other (λ e. absurd (omega (arith, low, e))) ∙ later j other (omega (arith, low)) in
+    record { fails = at.0; before = subst (λ n. IsSettledBefore n new) here before; after = subst (λ n. AreSameFrom (n + 1) old new) here after }

@@ -6,8 +6,7 @@ use Rattle.warm_history.specs.declared.hist.PageHist.TheVariants.{Once, Twice}
 use Rattle.warm_history.specs.ReferenceSets.{these, since}
 use Rattle.warm_history.specs.Histories.{HistoryView, holding, history}
 use Rattle.warm_history.specs.Carried.{carried}
-use Rattle.warm_world.specs.States.{ModelState, ReplicaState, no_pool, raised, referred, flushed, restarted}
-use Rattle.warm_world.specs.States.{References, Request, Digests}
+use Rattle.warm_world.specs.States.{ModelState, ReplicaState, References, Request, Digests, no_pool, raised, referred, flushed, restarted}
 use Rattle.warm_world.specs.Answered.{bucket_records, heard}
 use Rattle.warm_world.specs.Next.{Asked, Effect, Refuses, stamped}
 use Rattle.warm_world.specs.declared.event.Event.TheVariants.{Pin, Unpin, Put, Get, Victim, WarmStep, Horizon}
@@ -27,22 +26,22 @@ abbrev known : Reference → Reference → Entry
 known last prev = record { page = record { dev = 0; no = 1 }; hist = Twice (record { last = last.stamp; prev = prev.stamp }) }
 
 -- a replica of one worker
-abbrev told : List Reference → List Reference → ReplicaState
-told reach waiting = record { reach = these reach; pending = waiting ∷ []; pool = no_pool }
+abbrev one_worker : List Reference → List Reference → ReplicaState
+one_worker reach waiting = record { reach = these reach; pending = waiting ∷ []; pool = no_pool }
 
 -- a buffer of two takes the second reference, and is moved before it takes the third
-second_waits : referred 2 0 (at 20 1) (told [] (at 10 1 ∷ [])) ≡ told [] (at 10 1 ∷ at 20 1 ∷ [])
+second_waits : referred 2 0 (at 20 1) (one_worker [] (at 10 1 ∷ [])) ≡ one_worker [] (at 10 1 ∷ at 20 1 ∷ [])
 second_waits = refl
 
-third_moves_two : referred 2 0 (at 30 1) (told [] (at 10 1 ∷ at 20 1 ∷ [])) ≡ told (at 10 1 ∷ at 20 1 ∷ []) (at 30 1 ∷ [])
+third_moves_two : referred 2 0 (at 30 1) (one_worker [] (at 10 1 ∷ at 20 1 ∷ [])) ≡ one_worker (at 10 1 ∷ at 20 1 ∷ []) (at 30 1 ∷ [])
 third_moves_two = refl
 
 -- what waits reaches the replica at the flush
-flush_moves : flushed 0 (told (at 10 1 ∷ []) (at 20 1 ∷ [])) ≡ told (at 10 1 ∷ at 20 1 ∷ []) []
+flush_moves : flushed 0 (one_worker (at 10 1 ∷ []) (at 20 1 ∷ [])) ≡ one_worker (at 10 1 ∷ at 20 1 ∷ []) []
 flush_moves = refl
 
 -- a restart forgets what reached the replica and what waits
-restart_forgets : restarted no_pool (told (at 10 1 ∷ []) (at 20 1 ∷ [])) ≡ told [] []
+restart_forgets : restarted no_pool (one_worker (at 10 1 ∷ []) (at 20 1 ∷ [])) ≡ one_worker [] []
 restart_forgets = refl
 
 -- a message of bucket 1 brings all references to the page 0:1, not only the two that its entry shows
@@ -50,23 +49,23 @@ all_are_carried : carried (these (at 10 1 ∷ at 20 1 ∷ at 30 1 ∷ [])) 1 Non
 all_are_carried = refl
 
 -- one replica has the page at 10 and 20, the other at 15 and 30: each delivered to the other, both know 30@2 and 20@1
-first_hears : history (heard (told (at 10 1 ∷ at 20 1 ∷ []) []).reach (References 2 (these (at 15 2 ∷ at 30 2 ∷ [])))) ≡ holding (known (at 30 2) (at 20 1) ∷ [])
+first_hears : history (heard (one_worker (at 10 1 ∷ at 20 1 ∷ []) []).reach (References 2 (these (at 15 2 ∷ at 30 2 ∷ [])))) ≡ holding (known (at 30 2) (at 20 1) ∷ [])
 unfolding history
 first_hears = refl
 
-second_hears : history (heard (told (at 15 2 ∷ at 30 2 ∷ []) []).reach (References 1 (these (at 10 1 ∷ at 20 1 ∷ [])))) ≡ holding (known (at 30 2) (at 20 1) ∷ [])
+second_hears : history (heard (one_worker (at 15 2 ∷ at 30 2 ∷ []) []).reach (References 1 (these (at 10 1 ∷ at 20 1 ∷ [])))) ≡ holding (known (at 30 2) (at 20 1) ∷ [])
 unfolding history
 second_hears = refl
 
 -- after a restart a replica hears again what it had sent
-hears_again : history (heard (restarted no_pool (told (at 10 1 ∷ []) (at 20 1 ∷ []))).reach (References 2 (these (at 10 1 ∷ [])))) ≡ holding ((let e : Entry = record { page = record { dev = 0; no = 1 }; hist = Once (at 10 1).stamp } in e) ∷ [])
+hears_again : history (heard (restarted no_pool (one_worker (at 10 1 ∷ []) (at 20 1 ∷ []))).reach (References 2 (these (at 10 1 ∷ [])))) ≡ holding ((let e : Entry = record { page = record { dev = 0; no = 1 }; hist = Once (at 10 1).stamp } in e) ∷ [])
 unfolding history
 hears_again = refl
 
 -- what a replica sends of bucket 1, answering a request: one message, which brings both references to the page 0:1
-bucket_in_one_frame : bucket_records 2 (these (at 10 1 ∷ at 20 1 ∷ [])) 1 ≡ References 2 (these (at 10 1 ∷ at 20 1 ∷ [])) ∷ []
+bucket_in_one_message : bucket_records 2 (these (at 10 1 ∷ at 20 1 ∷ [])) 1 ≡ References 2 (these (at 10 1 ∷ at 20 1 ∷ [])) ∷ []
 unfolding history
-bucket_in_one_frame = refl
+bucket_in_one_message = refl
 
 -- of an empty bucket nothing is sent
 empty_bucket_in_none : bucket_records 2 (these (at 10 1 ∷ [])) 3 ≡ []
@@ -90,21 +89,21 @@ abbrev once : Reference → Entry
 once last = record { page = record { dev = 0; no = 1 }; hist = Once last.stamp }
 
 -- a replica has the page at 10 and 20: its horizon rises to 15, and 20 alone is left
-raise_forgets : history (raised 15 (told (at 10 1 ∷ at 20 1 ∷ []) [])).reach ≡ since_then 15 (once (at 20 1) ∷ [])
+raise_forgets : history (raised 15 (one_worker (at 10 1 ∷ at 20 1 ∷ []) [])).reach ≡ since_then 15 (once (at 20 1) ∷ [])
 unfolding history
 raise_forgets = refl
 
 -- what waits with an older stamp is dropped as it reaches the replica
-older_is_dropped : history (flushed 0 (raised 15 (told (at 20 1 ∷ []) (at 12 1 ∷ [])))).reach ≡ since_then 15 (once (at 20 1) ∷ [])
+older_is_dropped : history (flushed 0 (raised 15 (one_worker (at 20 1 ∷ []) (at 12 1 ∷ [])))).reach ≡ since_then 15 (once (at 20 1) ∷ [])
 unfolding history
 older_is_dropped = refl
 
 -- a lower time changes nothing
-horizon_stays : raised 3 (raised 15 (told [] [])) ≡ raised 15 (told [] [])
+horizon_stays : raised 3 (raised 15 (one_worker [] [])) ≡ raised 15 (one_worker [] [])
 horizon_stays = refl
 
 -- a restart sets the horizon to 0
-restart_lowers : restarted no_pool (raised 15 (told (at 20 1 ∷ []) [])) ≡ told [] []
+restart_lowers : restarted no_pool (raised 15 (one_worker (at 20 1 ∷ []) [])) ≡ one_worker [] []
 restart_lowers = refl
 
 -- one replica has the page at 8 and 9, the other at 20 with horizon 9: its message leaves 20 and 9

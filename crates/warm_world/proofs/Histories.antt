@@ -1,29 +1,27 @@
 -- What a history says stands for the references themselves: what is carried of them, what is answered of them, and how pages rank.
-use Rattle.std.proofs.Common.{◌≡◌, ℕ, List, [], ◌∷◌, ◌++◌, Option, None, map, refl, sym, ◌∙◌, ap, subst, Result, Ok, Err, inl, inr, cond, true, false, Bool, arith}
+use Rattle.std.proofs.Common.{◌≡◌, ℕ, List, [], ◌∷◌, ◌++◌, Option, None, map, refl, sym, ◌∙◌, ap, subst, cond, true, false, Bool, arith}
 use Rattle.std.specs.Prelude.{◌==◌}
 use Rattle.std.specs.List.{flat_map}
 use Rattle.std.proofs.lemmas.List.{map-append}
 use Rattle.warm_stamps.specs.declared.PageId.{PageId}
 use Rattle.warm_history.specs.declared.hist.Entry.{Entry}
 use Rattle.warm_history.specs.ReferenceSets.{ReferenceSet}
-use Rattle.warm_history.specs.Histories.{HistoryView, entries_of, history, refs}
+use Rattle.warm_history.specs.Histories.{entries_of, history, refs}
 use Rattle.warm_history.specs.Carried.{bucket_entries, carried}
 use Rattle.warm_history.proofs.CarriedLemmas.{history-carried}
 use Rattle.warm_history.proofs.HistoryLemmas.{hist_refs-history, horizon-history, same_hists}
 use Rattle.warm_history.proofs.JoinLemmas.{history_first}
-use Rattle.warm_rank.specs.Ranking.{warm}
-use Rattle.warm_rank.proofs.LeavingLemmas.{order_kept}
 use Rattle.warm_frames.specs.declared.layout.TheConstants.{MAX_ENTRIES}
 use Rattle.warm_frames.specs.declared.message.Message.{Message}
 use Rattle.warm_frames.specs.declared.message.Message.TheVariants.{Digest, Entries, Want}
-use Rattle.warm_frames.specs.declared.fault.FrameFault.{FrameFault}
-use Rattle.warm_frames.specs.Reading.{Gives}
 use Rattle.warm_digest.specs.BucketDigests.{digests_of}
 use Rattle.warm_gossip.specs.Answers.{AnswersDigests, IsAnswer, bucket_messages, buckets_in, pieces, sent, taught, requested_messages}
 use Rattle.warm_gossip.specs.Pieces.{AreInTurn, last_page}
+use Rattle.warm_gossip.specs.Round.{offer}
+use Rattle.warm_gossip.specs.State.{NodeView}
 use Rattle.warm_gossip.proofs.PieceLemmas.{pieces_in_turn}
 use Rattle.warm_gossip.proofs.RoundLemmas.{entries_teach}
-use Rattle.warm_world.specs.States.{MessageRecord, References, Digests, Request}
+use Rattle.warm_world.specs.States.{MessageRecord, ModelState, References, Digests, Request, node_of, reach_of}
 use Rattle.warm_world.specs.Answered.{AreAnswers, bucket_records, heard, records_of, requested_records}
 use Rattle.warm_world.specs.Stands.{message_kept}
 
@@ -31,35 +29,24 @@ own_history : (S : ReferenceSet) → history (refs (history S)) ≡ history S
 own_history S = same_hists (refs (history S)) S (horizon-history S) (hist_refs-history S)
 
 -- of what a history holds is carried what is carried of the references for which it stands
-pub carried_alike : (h : HistoryView) (S : ReferenceSet) (bucket : ℕ) (after : Option PageId) (limit : ℕ) → h ≡ history S → entries_of (history (carried (refs h) bucket after limit)) ≡ entries_of (history (carried S bucket after limit))
-carried_alike h S bucket after limit is =
-    rw is (sym (history-carried (refs (history S)) bucket after limit) ∙ rw (own_history S) (history-carried S bucket after limit))
-
-pub warm_alike : (h : HistoryView) (S : ReferenceSet) (n : ℕ) (ps : List PageId) → h ≡ history S → ps ≡ warm (refs h) n → ps ≡ warm S n
-warm_alike h S n ps is are = are ∙ (order_kept h S is).warm_alike n
-
-horizon_is : (h : HistoryView) (S : ReferenceSet) → h ≡ history S → h.horizon ≡ S.horizon
-horizon_is h S is = ap (λ (g : HistoryView). g.horizon) is ∙ horizon-history S
+carried_alike : (S : ReferenceSet) (bucket : ℕ) (after : Option PageId) (limit : ℕ) → entries_of (history (carried (refs (history S)) bucket after limit)) ≡ entries_of (history (carried S bucket after limit))
+carried_alike S bucket after limit = sym (history-carried (refs (history S)) bucket after limit) ∙ rw (own_history S) (history-carried S bucket after limit)
 
 -- what a node sends, and the digests that it offers, are those of the references for which its history stands
-pub sent_kept : (id i : ℕ) (h : HistoryView) (S : ReferenceSet) (bucket : ℕ) (after : Option PageId) → id ≡ i → h ≡ history S → sent id h bucket after ≡ message_kept (References i (carried S bucket after MAX_ENTRIES))
-sent_kept id i h S bucket after same is =
-    ap (λ n. sent n h bucket after) same
-    ∙ ap (λ m. Entries i m (entries_of (history (carried (refs h) bucket after MAX_ENTRIES)))) (horizon_is h S is)
-    ∙ ap (Entries i S.horizon) (carried_alike h S bucket after MAX_ENTRIES is)
+pub sent_kept : (m : ModelState) (n : NodeView) (message : Message) (i bucket : ℕ) (after : Option PageId) → message ≡ sent n.id n.history bucket after → n ≡ node_of m i → message ≡ message_kept (References i (carried (reach_of m i) bucket after MAX_ENTRIES))
+sent_kept m n message i bucket after is node =
+    let S = reach_of m i in
+    is ∙ ap (λ (v : NodeView). sent v.id v.history bucket after) node
+    ∙ ap (λ time. Entries i time (entries_of (history (carried (refs (history S)) bucket after MAX_ENTRIES)))) (horizon-history S) ∙ ap (Entries i S.horizon) (carried_alike S bucket after MAX_ENTRIES)
 
-pub offered_kept : (id i : ℕ) (h : HistoryView) (S : ReferenceSet) → id ≡ i → h ≡ history S → Digest id h.horizon (digests_of (entries_of h)) ≡ message_kept (Digests i S.horizon (digests_of (entries_of (history S))))
-offered_kept id i h S same is =
-    ap (λ n. Digest n h.horizon (digests_of (entries_of h))) same
-    ∙ ap (λ (g : HistoryView). Digest i g.horizon (digests_of (entries_of g))) is
-    ∙ ap (λ m. Digest i m (digests_of (entries_of (history S)))) (horizon-history S)
+abbrev pub offer_record : ℕ → ReferenceSet → MessageRecord
+offer_record i S = Digests i S.horizon (digests_of (entries_of (history S)))
 
--- the message that was decoded of bytes is the one that they spell
-pub same_message : (result : Result Message FrameFault) (capacity : Result ℕ FrameFault) (found message : Message) → result ≡ Ok found → Gives result (Ok message) capacity → found ≡ message
-same_message result capacity found message is (inl same) =
-    let frame_in : Result Message FrameFault → Message = λ r. elim r [ Ok f ↦ f | Err e ↦ found ] in
-    ap frame_in (sym is ∙ same)
-same_message result capacity found message is (inr refused) = cc
+pub offered_kept : (i : ℕ) (S : ReferenceSet) → offer i (history S) ≡ message_kept (offer_record i S)
+offered_kept i S = ap (λ m. Digest i m (digests_of (entries_of (history S)))) (horizon-history S)
+
+pub offers_kept : (m : ModelState) (n : NodeView) (message : Message) (i : ℕ) → message ≡ offer n.id n.history → n ≡ node_of m i → message ≡ message_kept (offer_record i (reach_of m i))
+offers_kept m n message i is node = is ∙ ap (λ (v : NodeView). offer v.id v.history) node ∙ offered_kept i (reach_of m i)
 
 -- ---- what a replica answers
 
@@ -94,19 +81,12 @@ pub record RecordsOf (i : ℕ) (S : ReferenceSet) (kept : MessageRecord) (messag
   pub answers : AreAnswers i (heard S kept) kept added
   pub are : messages ≡ map message_kept added
 
--- a request for buckets, as a record and as a message
-request_kept : (i : ℕ) (S : ReferenceSet) (request : ℕ) → Want i (history S).horizon request ≡ message_kept (Request i S.horizon request)
-request_kept i S request = ap (λ m. Want i m request) (horizon-history S)
-
-asking_kept : (i : ℕ) (S : ReferenceSet) (request : ℕ)
-    → requested_messages i (history S) request ++ Want i (history S).horizon request ∷ [] ≡ map message_kept (requested_records i S request ++ Request i S.horizon request ∷ [])
-asking_kept i S request =
-    rw (wanted_kept i S request, request_kept i S request) (sym (map-append message_kept (requested_records i S request) (Request i S.horizon request ∷ [])))
-
 pub asking_or_none : (i : ℕ) (S : ReferenceSet) (request : ℕ) (none : Bool)
     → cond none [] (requested_messages i (history S) request ++ Want i (history S).horizon request ∷ []) ≡ map message_kept (cond none [] (requested_records i S request ++ Request i S.horizon request ∷ []))
 asking_or_none i S request true = refl
-asking_or_none i S request false = asking_kept i S request
+asking_or_none i S request false =
+    ap (λ m. requested_messages i (history S) request ++ Want i m request ∷ []) (horizon-history S)
+    ∙ rw (wanted_kept i S request) (sym (map-append message_kept (requested_records i S request) (Request i S.horizon request ∷ [])))
 
 pub answer_records : (i : ℕ) (S : ReferenceSet) (kept : MessageRecord) (messages : List Message) → IsAnswer i (history S) (message_kept kept) messages → RecordsOf i S kept messages
 answer_records i S (References sender rs) messages none = record { added = []; answers = refl; are = none }

@@ -24,7 +24,7 @@ module _ {B : Type 0} (f : B → DeviceState) where
   listed_at : (lists : List (Vec B)) (k : ℕ) (v : Vec B) → k < length lists → v ≡ get_or lists k v → devices_at (shown lists) k ≡ map f v.items
   listed_at lists k v lt is = get_or-map (λ (ds : Vec B). map f ds.items) lists k v [] lt ∙ ap (λ (ds : Vec B). map f ds.items) (sym is)
 
-  count : (lists : List (Vec B)) → length (shown lists) ≡ length lists
+  pub count : (lists : List (Vec B)) → length (shown lists) ≡ length lists
   count lists = length-map lists (λ (ds : Vec B). map f ds.items)
 
   -- of lists of devices of one size each is of that size
@@ -44,10 +44,6 @@ module _ {B : Type 0} (f : B → DeviceState) where
         subst (λ i. AreOfSize size (length (devices_at (shown lists) i)) (devices_at (shown lists) i)) (sym same)
         (subst (λ ds. AreOfSize size (length ds) ds) (sym (listed_at lists k v lt is)) (λ i high. here i (subst (λ n. i < n) (length-map v.items f) high)))
   ]
-
-  -- so many lists
-  pub counted : (lists : List (Vec B)) (n : ℕ) → length lists ≡ n → length (shown lists) ≡ n
-  counted lists n many = count lists ∙ many
 
   pub sized_all : (size : ℕ) (lists : List (Vec B)) (n : ℕ) → ((j : ℕ) → j < n → AreOfSize size (length (devices_at (shown lists) j)) (devices_at (shown lists) j)) → length lists ≤ n → AreSized size (shown lists)
   sized_all size lists n each all j low = each j (omega (arith, all, low, count lists))

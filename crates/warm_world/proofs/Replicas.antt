@@ -1,10 +1,8 @@
 -- What the buffers of a replica hold.
 use Rattle.std.proofs.Common.{◌≡◌, ℕ, ◌+◌, ◌<◌, ◌≤◌, List, [], ◌∷◌, ◌++◌, Result, Ok, Err, inl, inr, true, false, length, get_or, replicate, zero, suc, refl, subst, sym, ◌∙◌, ap, map, arith}
 use Rattle.std.proofs.Math.ListN.{set}
-use Rattle.std.proofs.lemmas.List.{get_or-map, map-set, length-map}
+use Rattle.std.proofs.lemmas.List.{get_or-map, get_or-set_same, map-set, length-map}
 use Rattle.warm_stamps.specs.declared.Reference.{Reference}
-use Rattle.warm_refbuffer.specs.Buffered.{Buffered}
-use Rattle.std.proofs.lemmas.List.{get_or-set_same}
 use Rattle.std.proofs.lemmas.Bool.{cases_lt}
 use Rattle.std.proofs.lemmas.Bool.Decides.{nat_tests}
 use Rattle.std.specs.Prelude.{IsOk}
@@ -22,7 +20,7 @@ use Rattle.warm_gossip.specs.State.{NodeState, NodeView, node_view, opened}
 use Rattle.warm_world.specs.Sizes.{Sizes}
 use Rattle.warm_world.specs.Views.{ReplicaView}
 use Rattle.warm_refbuffer.specs.declared.Full.{Full}
-use Rattle.warm_refbuffer.specs.Buffered.{cleared, with_last}
+use Rattle.warm_refbuffer.specs.Buffered.{Buffered, cleared, with_last}
 use Rattle.warm_world.specs.Stands.{ReplicaStands, buffered}
 
 pub buffer_at : (capacity : ℕ) (bs : List Buffered) (ps : List (List Reference)) (w : ℕ) (d : Buffered) → bs ≡ map (buffered capacity) ps → w < length bs → get_or bs w d ≡ buffered capacity (get_or ps w [])
@@ -38,15 +36,11 @@ pub buffers_emptied : (capacity : ℕ) (ps : List (List Reference)) → map clea
 buffers_emptied capacity [] = refl
 buffers_emptied capacity (p ∷ ps) = ap (λ bs. buffered capacity [] ∷ bs) (buffers_emptied capacity ps)
 
--- what a buffer is world_view to hold
-pub buffer_is : (capacity : ℕ) (bs : List Buffered) (ps : List (List Reference)) (w : ℕ) (b : Buffered) → bs ≡ map (buffered capacity) ps → w < length bs → b ≡ get_or bs w b → b ≡ buffered capacity (get_or ps w [])
-buffer_is capacity bs ps w b is lt read = read ∙ buffer_at capacity bs ps w b is lt
-
 pub referred_when_full : (capacity k : ℕ) (x : Reference) (m : ReplicaState) → capacity ≤ length (pending m k) → referred capacity k x m ≡ put_last k x (flushed k m)
 referred_when_full capacity k x m full = grind (arith, nat_tests)
 
-pub referred_with_room : (capacity k : ℕ) (x : Reference) (m : ReplicaState) → length (pending m k) < capacity → referred capacity k x m ≡ put_last k x m
-referred_with_room capacity k x m few = grind (arith, nat_tests)
+pub referred_with_capacity : (capacity k : ℕ) (x : Reference) (m : ReplicaState) → length (pending m k) < capacity → referred capacity k x m ≡ put_last k x m
+referred_with_capacity capacity k x m few = grind (arith, nat_tests)
 
 -- a buffer that took a reference had capacity for it
 pub took_one : (b b' : Buffered) (x : Reference) (result : Result Unit Full) (done : Unit) → result ≡ Ok done
@@ -67,16 +61,16 @@ gave_back b b' x y result is taken full = elim (cases_lt (length b.refs) b.capac
       (many, (full many).1, ap given (sym is ∙ (full many).0))
 ]
 
--- what holds at a fault holds where a `?` hands the fault on
-pub handed_on : {T E : Type 0} (r : Result T E) (e : E) (P : E → Type 0) → IsErrAnd r (λ y. y ≡ e) → P e → IfErr r P
-handed_on (Ok x) e P is p = tt
-handed_on (Err y) e P is p = subst P (sym is) p
+-- what holds at a fault holds where a `?` passes the fault on
+pub passed_on : {T E : Type 0} (r : Result T E) (e : E) (P : E → Type 0) → IsErrAnd r (λ y. y ≡ e) → P e → IfErr r P
+passed_on (Ok x) e P is p = tt
+passed_on (Err y) e P is p = subst P (sym is) p
 
 -- a reference is put last in a buffer
 pub puts : (capacity place k : ℕ) (old new : ReplicaView) (m : ReplicaState) (x : Reference) (b : Buffered) → ReplicaStands capacity place old m
     → b ≡ buffered capacity (pending m k ++ x ∷ []) → (let r : ReplicaView = record old { buffers = set old.buffers k b } in new ≡ r) → ReplicaStands capacity place new (put_last k x m)
 puts capacity place k old new m x b st is becomes = record {
-  has_room = st.has_room;
+  has_capacity = st.has_capacity;
   node_is = ap (λ (r : ReplicaView). r.node) becomes ∙ st.node_is;
   buffers_are = ap (λ (r : ReplicaView). r.buffers) becomes ∙ buffer_set capacity old.buffers m.pending k b (pending m k ++ x ∷ []) st.buffers_are is;
 }
@@ -92,15 +86,15 @@ pub empty_buffers_are : (capacity n : ℕ) → map (buffered capacity) (replicat
 empty_buffers_are capacity zero = refl
 empty_buffers_are capacity (suc n) = ap (λ bs. buffered capacity [] ∷ bs) (empty_buffers_are capacity n)
 
--- ---- a replica as it is world_view
+-- ---- what a replica stands for once it has changed
 
 -- what waits in a buffer reaches the replica
 pub flushes : (capacity place k : ℕ) (old new : ReplicaView) (m : ReplicaState) (batch : List Reference) → ReplicaStands capacity place old m
     → k < length old.buffers → batch ≡ get_or m.pending k [] → new.node ≡ record old.node { history = history (refs old.node.history ∪ these batch) }
     → new.buffers ≡ set old.buffers k (buffered capacity []) → ReplicaStands capacity place new (flushed k m)
-flushes capacity place k old new m batch st lt is told emptied = record {
-  has_room = st.has_room;
-  node_is = told
+flushes capacity place k old new m batch st lt is absorbed emptied = record {
+  has_capacity = st.has_capacity;
+  node_is = absorbed
       ∙ ap (λ (n : NodeView). let v : NodeView = record n { history = history (refs n.history ∪ these batch) } in v) st.node_is
       ∙ ap (λ (h : HistoryView). let v : NodeView = record { id = place + 1; history = h; pool = m.pool } in v) (history_first m.reach (these batch) ∙ ap (λ b. history (m.reach ∪ these b)) is);
   buffers_are = emptied ∙ buffer_set capacity old.buffers m.pending k (buffered capacity []) [] st.buffers_are refl;
@@ -110,18 +104,18 @@ history_of_nothing : history (these []) ≡ holding []
 unfolding history
 history_of_nothing = refl
 
--- a replica that was told nothing, over a pool that was made so
+-- a replica that no reference has reached, over a pool that was made so
 pub opened_stands : (s : Sizes) (devices : List DeviceState) (place id capacity workers frames size : ℕ) (n : NodeState) (p : PoolState) (bs : List Buffered)
     → 1 ≤ capacity → capacity ≡ s.buffer → workers ≡ s.workers → frames ≡ s.frames → size ≡ s.page_size → id ≡ place + 1 → n ≡ opened id p → p ≡ pools.opened frames size devices
     → bs ≡ replicate workers (buffered capacity []) → ReplicaStands s.buffer place (record { node = node_view n; buffers = bs }) (opened_over s devices)
-opened_stands s devices place id capacity workers frames size n p bs some of_room of_workers of_frames of_size number node made empty = record {
-  has_room = omega (arith, some, of_room);
+opened_stands s devices place id capacity workers frames size n p bs some of_capacity of_workers of_frames of_size number node made empty = record {
+  has_capacity = omega (arith, some, of_capacity);
   node_is = ap node_view node
       ∙ ap (λ (q : PoolState). let v : NodeView = record { id = id; history = holding []; pool = view_of q } in v)
       (made ∙ ap (λ k. pools.opened k size devices) of_frames ∙ ap (λ k. pools.opened s.frames k devices) of_size)
       ∙ ap (λ (i : ℕ). let v : NodeView = record { id = i; history = holding []; pool = view_of (pools.opened s.frames s.page_size devices) } in v) number
       ∙ ap (λ (h : HistoryView). let v : NodeView = record { id = place + 1; history = h; pool = view_of (pools.opened s.frames s.page_size devices) } in v) (sym history_of_nothing);
-  buffers_are = empty ∙ ap (λ k. replicate workers (buffered k [])) of_room ∙ ap (λ k. replicate k (buffered s.buffer [])) of_workers ∙ sym (empty_buffers_are s.buffer s.workers);
+  buffers_are = empty ∙ ap (λ k. replicate workers (buffered k [])) of_capacity ∙ ap (λ k. replicate k (buffered s.buffer [])) of_workers ∙ sym (empty_buffers_are s.buffer s.workers);
 }
 
 -- a replica whose horizon has risen, or stayed
@@ -129,7 +123,7 @@ pub raises : (capacity place time : ℕ) (old new : ReplicaView) (m : ReplicaSta
     → (let r : ReplicaView = record old { node = record old.node { history = history (since time (refs old.node.history)) } } in new ≡ r)
     → ReplicaStands capacity place new (raised time m)
 raises capacity place time old new m st becomes = record {
-  has_room = st.has_room;
+  has_capacity = st.has_capacity;
   node_is = ap (λ (r : ReplicaView). r.node) becomes
       ∙ ap (λ (n : NodeView). let v : NodeView = record n { history = history (since time (refs n.history)) } in v) st.node_is
       ∙ ap (λ (h : HistoryView). let v : NodeView = record { id = place + 1; history = h; pool = m.pool } in v) (history_first m.reach (record { horizon = time; told = [] }));
@@ -145,7 +139,7 @@ pub restarts : (capacity place : ℕ) (old new : ReplicaView) (m : ReplicaState)
     → (let r : ReplicaView = record { node = record old.node { history = holding []; pool = pool }; buffers = map cleared old.buffers } in new ≡ r)
     → ReplicaStands capacity place new (restarted pool m)
 restarts capacity place old new m pool st becomes = record {
-  has_room = st.has_room;
+  has_capacity = st.has_capacity;
   node_is = ap (λ (r : ReplicaView). r.node) becomes
       ∙ ap (λ (n : NodeView). let v : NodeView = record n { history = holding []; pool = pool } in v) st.node_is
       ∙ ap (λ (h : HistoryView). let v : NodeView = record { id = place + 1; history = h; pool = pool } in v) (sym history_of_nothing);

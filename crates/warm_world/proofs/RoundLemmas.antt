@@ -1,16 +1,14 @@
 -- Deliveries of a world are messages that a node hears.
-use Rattle.std.proofs.Common.{◌≡◌, ◌≢◌, ◌⊎◌, inl, inr, ℕ, ◌+◌, ◌-◌, ◌<◌, List, [], ◌∷◌, ◌++◌, length, map, refl, sym, ap, subst, ◌∙◌, append_assoc, arith}
+use Rattle.std.proofs.Common.{◌≡◌, ◌≢◌, ◌⊎◌, inl, inr, ℕ, ◌+◌, ◌-◌, List, [], ◌∷◌, ◌++◌, length, map, refl, sym, ap, subst, ◌∙◌, append_assoc, arith}
 use Rattle.std.specs.Prelude.{◌==◌, slice_index_or}
 use Rattle.std.specs.List.{AllByRecursion}
 use Rattle.std.proofs.lemmas.Bool.{cases_eq}
-use Rattle.std.proofs.lemmas.List.{append-nil, length-append, length-map, map-append, get_or-set_same, get_or-set_other, get_or-append-add}
+use Rattle.std.proofs.lemmas.List.{append-nil, length-append, map-append, get_or-set_other, get_or-append-add}
 use Rattle.warm_history.specs.ReferenceSets.{ReferenceSet, these, since}
 use Rattle.warm_history.specs.Histories.{HistoryView, entries_of, history, join}
-use Rattle.warm_history.proofs.HistoryLemmas.{IsHistory-history, horizon-history}
+use Rattle.warm_history.proofs.HistoryLemmas.{IsHistory-history}
 use Rattle.warm_history.proofs.JoinLemmas.{join_repeats, raised_to_no_later}
 use Rattle.warm_frames.specs.declared.message.Message.{Message}
-use Rattle.warm_frames.specs.declared.message.Message.TheVariants.{Digest}
-use Rattle.warm_digest.specs.BucketDigests.{digests_of}
 use Rattle.warm_digest.specs.Exchange.{Fits, IsCollision}
 use Rattle.warm_gossip.specs.Answers.{requested_messages, AnswersDigests, IsAnswer, taught}
 use Rattle.warm_gossip.specs.Round.{Hears, offer}
@@ -26,7 +24,8 @@ use Rattle.warm_world.specs.Answered.{AreAnswers, heard}
 use Rattle.warm_world.specs.Next.{Next, Run, Delivered, IsNamed, shape}
 use Rattle.warm_world.specs.Stands.{message_kept}
 use Rattle.std.proofs.Math.Nat.{le_refl}
-use Rattle.warm_world.proofs.Histories.{asking_or_none, taught_heard, wanted_kept}
+use Rattle.warm_world.proofs.Histories.{asking_or_none, offer_record, offered_kept, taught_heard, wanted_kept}
+use Rattle.warm_world.proofs.Worlds.{replica_set_at}
 use Rattle.warm_world.proofs.WidthLemmas.{histories_fit}
 use Rattle.warm_world.specs.Rounds.{IsTaken, NoneRefused, deliveries, new_messages_to, GossipRound, known_to, AreJoined, GossipRoundJoins}
 
@@ -78,9 +77,8 @@ is_heard : (old : ModelState) (j k : ℕ) (kept : MessageRecord) (new : ModelSta
 is_heard old j k kept new d is =
     let S : ReferenceSet = reach_of old j in
     let next : ReplicaState = record (replica old (place j)) { reach = heard S (record_at old (place k)) } in
-    let there : place j < length old.replicas = omega (arith, d.named.replica_there.from_one, d.named.replica_there.in_range, length-map old.replicas (λ r. length r.pending)) in
     let own : reach_of new j ≡ heard S (record_at old (place k)) =
-    ap (λ (m : ModelState). reach_of m j) d.done.becomes ∙ ap (λ (r : ReplicaState). r.reach) (get_or-set_same old.replicas (place j) next nobody there) in
+    ap (λ (m : ModelState). reach_of m j) d.done.becomes ∙ ap (λ (r : ReplicaState). r.reach) (replica_set_at old (Deliver j k) next d.named) in
     record {
       answers = subst (λ (r : MessageRecord). IsAnswer j (known_to old j) (message_kept r) (map message_kept d.done.added)) is (answers_kept j S (record_at old (place k)) d.done.added d.done.answers);
       taught_it = ap history own ∙ sym (taught_heard S (record_at old (place k))) ∙ ap (λ (r : MessageRecord). taught (known_to old j) (message_kept r)) is;
@@ -142,19 +140,12 @@ hears_new j fs before after new is come =
 
 -- ---- the offer
 
-abbrev offer_record : ModelState → ℕ → MessageRecord
-offer_record m i = Digests i (reach_of m i).horizon (digests_of (entries_of (known_to m i)))
-
--- it is the offer of the node
-offer_is : (m : ModelState) (i : ℕ) → message_kept (offer_record m i) ≡ offer i (known_to m i)
-offer_is m i = ap (λ (horizon : ℕ). Digest i horizon (digests_of (entries_of (known_to m i)))) (sym (horizon-history (reach_of m i)))
-
-offer_kept : (old : ModelState) (i : ℕ) (answer : Answer) (new : ModelState) → IsTaken answer → Next old (Offer i) answer new → new ≡ add_records old (offer_record old i ∷ [])
+offer_kept : (old : ModelState) (i : ℕ) (answer : Answer) (new : ModelState) → IsTaken answer → Next old (Offer i) answer new → new ≡ add_records old (offer_record i (reach_of old i) ∷ [])
 offer_kept old i (FrameNo k) new taken next = next.1.1
 offer_kept old i (Refused fault) new taken next = absurd taken
 offer_kept old i answer new taken next = absurd next.1
 
-offered_is : (old : ModelState) (i : ℕ) (answers : List Answer) (new : ModelState) → Run old (Offer i ∷ []) answers new → AllByRecursion IsTaken answers → new ≡ add_records old (offer_record old i ∷ [])
+offered_is : (old : ModelState) (i : ℕ) (answers : List Answer) (new : ModelState) → Run old (Offer i ∷ []) answers new → AllByRecursion IsTaken answers → new ≡ add_records old (offer_record i (reach_of old i) ∷ [])
 offered_is old i [] new run taken = absurd run
 offered_is old i (answer ∷ []) new run taken = run.2 ∙ offer_kept old i answer run.0 taken.0 run.1
 offered_is old i (answer ∷ other ∷ answers) new run taken = absurd run.2
@@ -193,16 +184,16 @@ round_joins i j old new fits others round = elim (cases_eq (place i) (place j)) 
 
     -- the offer teaches its horizon
     taught_it : taught g (offer i h) ≡ raised_by i j old
-    taught_it = ap (taught g) (sym (offer_is old i)) ∙ taught_heard (reach_of old j) (offer_record old i)
+    taught_it = ap (taught g) (offered_kept i (reach_of old i)) ∙ taught_heard (reach_of old j) (offer_record i (reach_of old i))
 
-    offered_it : round.offered ≡ add_records old (offer_record old i ∷ [])
+    offered_it : round.offered ≡ add_records old (offer_record i (reach_of old i) ∷ [])
     offered_it = offered_is old i round.offers.answers round.offered round.offers.run round.offers.taken
 
     knew : (k : ℕ) → known_to round.offered k ≡ known_to old k
     knew k = ap (λ (m : ModelState). known_to m k) offered_it
 
-    first : HeardAll j (offer_record old i ∷ []) round.offered round.asked
-    first = hears_new j (offer_record old i ∷ []) old round.offered round.asked (ap (λ (m : ModelState). m.records) offered_it) round.asks
+    first : HeardAll j (offer_record i (reach_of old i) ∷ []) round.offered round.asked
+    first = hears_new j (offer_record i (reach_of old i) ∷ []) old round.offered round.asked (ap (λ (m : ModelState). m.records) offered_it) round.asks
 
     second : HeardAll i first.added round.asked round.given
     second = hears_new i first.added round.offered round.asked round.given first.records round.gives
@@ -217,7 +208,7 @@ round_joins i j old new fits others round = elim (cases_eq (place i) (place j)) 
     offer_heard : Hears j g (offer i h ∷ []) (map message_kept first.added) (known_to round.asked j)
     offer_heard =
         subst (λ (k : HistoryView). Hears j k (offer i h ∷ []) (map message_kept first.added) (known_to round.asked j)) (knew j)
-        (subst (λ (f : Message). Hears j (known_to round.offered j) (f ∷ []) (map message_kept first.added) (known_to round.asked j)) (offer_is old i) first.hears)
+        (subst (λ (f : Message). Hears j (known_to round.offered j) (f ∷ []) (map message_kept first.added) (known_to round.asked j)) (sym (offered_kept i (reach_of old i))) first.hears)
 
     -- what j answers to the digests of h, and that these taught it their horizon alone
     answered : IsAnswer j g (offer i h) (map message_kept first.added)

@@ -5,9 +5,9 @@ use Rattle.warm_world.specs.declared.event.Event.{Event}
 use Rattle.warm_world.specs.declared.event.Answer.{Answer}
 use Rattle.warm_world.specs.States.{ModelState}
 use Rattle.warm_world.specs.Next.{Next, Run}
-use Rattle.warm_world.specs.Stands.{EachVictim, StandsFor, Stepped, Ran}
+use Rattle.warm_world.specs.Stands.{EachVictim, RunsAreRight, StandsFor, Stepped, Ran}
 use Rattle.warm_world.proofs.Victims.{victims_are_farthest}
-use Rattle.warm_world.proofs.Agreement.{histories_are_exact, replicas_agree}
+use Rattle.warm_world.proofs.Agreement.{histories_are_exact, models_agree, replicas_agree}
 
 -- a run, and one event more
 pub Run-more : (old : ModelState) (events : List Event) (answers : List Answer) (mid : ModelState) (event : Event) (answer : Answer) (new : ModelState) → Run old events answers mid → Next mid event answer new → Run old (events ++ event ∷ []) (answers ++ answer ∷ []) new
@@ -18,13 +18,15 @@ Run-more old [] (a ∷ answers) mid event answer new never next = absurd never
 Run-more old (e ∷ events) [] mid event answer new never next = absurd never
 Run-more old (e ∷ events) (a ∷ answers) mid event answer new run next = (run.0, run.1, Run-more run.0 events answers mid event answer new run.2 next)
 
--- each victim so far is right, and so are those of the event more
-victims_more : (old : ModelState) (events : List Event) (answers : List Answer) (mid : ModelState) (event : Event) (answer : Answer) (new : ModelState) (run : Run old events answers mid) (next : Next mid event answer new) → EachVictim old events answers mid run → EachVictim (old) (events ++ event ∷ []) (answers ++ answer ∷ []) new (Run-more old events answers mid event answer new run next)
-unfolding Run-more
-victims_more old [] [] mid event answer new is next so_far = (victims_are_farthest old event answer new (subst (λ m. Next m event answer new) is next), tt)
-victims_more old [] (a ∷ answers) mid event answer new never next so_far = absurd never
-victims_more old (e ∷ events) [] mid event answer new never next so_far = absurd never
-victims_more old (e ∷ events) (a ∷ answers) mid event answer new run next so_far = (so_far.0, victims_more run.0 events answers mid event answer new run.2 next so_far.1)
+-- every run is right
+each_victim : (old : ModelState) (events : List Event) (answers : List Answer) (new : ModelState) (run : Run old events answers new) → EachVictim old events answers new run
+each_victim old [] [] new run = tt
+each_victim old [] (a ∷ answers) new never = absurd never
+each_victim old (e ∷ events) [] new never = absurd never
+each_victim old (e ∷ events) (a ∷ answers) new run = (victims_are_farthest old e a run.0 run.1, each_victim run.0 events answers new run.2)
+
+pub runs_are_right : RunsAreRight
+runs_are_right old events answers new run = record { agree = models_agree new; victims = each_victim old events answers new run }
 
 pub ran_more : (old : ModelState) (events : List Event) (answers : List Answer) (w w' : WorldView) (event : Event) (answer : Answer) → Ran old events answers w → ((m : ModelState) → StandsFor w m → Stepped m event answer w') → Ran old (events ++ event ∷ []) (answers ++ answer ∷ []) w'
 ran_more old events answers w w' event answer ran steps =
@@ -35,7 +37,7 @@ ran_more old events answers w w' event answer ran steps =
       stands = stepped.stands;
       exact = histories_are_exact w' stepped.new stepped.stands;
       agree = replicas_agree w' stepped.new stepped.stands;
-      victims = victims_more old events answers ran.new event answer stepped.new ran.run stepped.next ran.victims;
+      victims = each_victim old (events ++ event ∷ []) (answers ++ answer ∷ []) stepped.new (Run-more old events answers ran.new event answer stepped.new ran.run stepped.next);
     }
 
 -- before the first event

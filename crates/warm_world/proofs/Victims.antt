@@ -1,6 +1,6 @@
 -- The page that leaves is one of greatest backward 2-distance.
-use Rattle.std.proofs.Common.{◌≡◌, ◌≢◌, ◌⊎◌, ℕ, ◌<◌, length, Option, Some, None, refl, ◌∙◌, ap, subst, inl, inr, arith}
-use Rattle.std.proofs.lemmas.List.{get_or-set_same, length-map}
+use Rattle.std.proofs.Common.{◌≡◌, ◌≢◌, ◌⊎◌, ℕ, ◌<◌, length, Option, Some, None, refl, ◌∙◌, ap, subst, inl, inr}
+use Rattle.std.proofs.lemmas.List.{get_or-set_same}
 use Rattle.warm_stamps.specs.declared.PageId.{PageId}
 use Rattle.warm_history.specs.Histories.{history}
 use Rattle.warm_rank.proofs.VictimLemmas.{victim_is_farthest}
@@ -17,26 +17,23 @@ use Rattle.warm_world.specs.declared.event.Answer.TheVariants.{Page, Refused}
 use Rattle.warm_world.specs.declared.event.WorldFault.TheVariants.{Node}
 use Rattle.warm_world.specs.Lists.{place}
 use Rattle.warm_world.specs.States.{ModelState, ReplicaState, node_of, nobody, pool_of, reach_of, replica}
-use Rattle.warm_world.specs.Next.{IsNamed, Next, Replied, replica_of, reply_of, shape}
+use Rattle.warm_world.specs.Next.{Next, Replied, reply_of}
 use Rattle.warm_world.specs.Stands.{IsRightVictim, Leaves, MayLoad, VictimsAreFarthest}
-
--- the replica that an event names is there
-there : (m : ModelState) (event : Event) → IsNamed (shape m) event → place (replica_of event) < length m.replicas
-there m event named = omega (arith, named.replica_there.from_one, named.replica_there.in_range, length-map m.replicas (λ (r : ReplicaState). length r.pending))
+use Rattle.warm_world.proofs.Worlds.{replica_there}
 
 -- the node of the replica was asked this call and replied; or nothing has changed
 abbrev WasAsked : ModelState → ℕ → Call → ModelState → Type 0
 WasAsked old i asked new = (new ≡ old) ⊎ ((place i < length old.replicas) × ((given : Option Reply) × Replied old i (Some asked) given new))
 
 pinned : (old : ModelState) (i : ℕ) (p : PageId) (answer : Answer) (new : ModelState) → Next old (Pin i p) answer new → WasAsked old i (call.Pin p) new
-pinned old i p (Refused (Node why)) new next = inr (there old (Pin i p) next.0, (Some (reply.Refused why), next.1))
+pinned old i p (Refused (Node why)) new next = inr (replica_there old (Pin i p) next.0, (Some (reply.Refused why), next.1))
 pinned old i p (Refused fault) new next = inl next.1
-pinned old i p answer new next = inr (there old (Pin i p) next.0, (reply_of answer, next.1))
+pinned old i p answer new next = inr (replica_there old (Pin i p) next.0, (reply_of answer, next.1))
 
 warmed : (old : ModelState) (i : ℕ) (answer : Answer) (new : ModelState) → Next old (WarmStep i) answer new → WasAsked old i call.WarmStep new
-warmed old i (Refused (Node why)) new next = inr (there old (WarmStep i) next.0, (Some (reply.Refused why), next.1))
+warmed old i (Refused (Node why)) new next = inr (replica_there old (WarmStep i) next.0, (Some (reply.Refused why), next.1))
 warmed old i (Refused fault) new next = inl next.1
-warmed old i answer new next = inr (there old (WarmStep i) next.0, (reply_of answer, next.1))
+warmed old i answer new next = inr (replica_there old (WarmStep i) next.0, (reply_of answer, next.1))
 
 -- what leaves the replica's pool leaves its node's at the call
 left_by : (old : ModelState) (i : ℕ) (asked : Call) (new : ModelState) → asked ≢ call.Restart → WasAsked old i asked new → (page : PageId) → Leaves i old new page → IsRightVictim i old page

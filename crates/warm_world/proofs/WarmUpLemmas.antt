@@ -3,7 +3,7 @@ use Rattle.std.proofs.Common.{◌≡◌, ℕ, zero, suc, ◌<◌, List, [], ◌�
 use Rattle.std.specs.List.{AllByRecursion}
 use Rattle.std.proofs.Math.ListN.{get_or-map}
 use Rattle.std.proofs.lemmas.Bool.{cases_lt}
-use Rattle.std.proofs.lemmas.List.{get_or-set_same, get_or_past, length-map}
+use Rattle.std.proofs.lemmas.List.{get_or_past, length-map}
 use Rattle.warm_stamps.specs.declared.PageId.{PageId}
 use Rattle.warm_pool.specs.State.{opened as opened_pool}
 use Rattle.warm_pool.specs.View.{PoolView, view_of}
@@ -18,12 +18,13 @@ use Rattle.warm_world.specs.declared.event.Event.TheVariants.{WarmStep}
 use Rattle.warm_world.specs.declared.event.Answer.{Answer}
 use Rattle.warm_world.specs.declared.event.Answer.TheVariants.{Done, Pinned, Bytes, Page, Pages, Loaded, Refused}
 use Rattle.warm_world.specs.Lists.{place}
-use Rattle.warm_world.specs.States.{ModelState, ReplicaState, nobody, no_pool, node_of, pool_of, reach_of, replica, set_pool}
+use Rattle.warm_world.specs.States.{ModelState, ReplicaState, nobody, no_pool, node_of, pool_of, reach_of, replica}
 use Rattle.warm_world.specs.Views.{ReplicaView, WorldView}
 use Rattle.warm_world.specs.Next.{Asked, IsNamed, Next, Run, shape}
 use Rattle.warm_world.specs.Stands.{ReplicaStands, StandsFor}
 use Rattle.warm_world.specs.Rounds.{IsTaken}
 use Rattle.warm_world.specs.WarmUps.{ArePools, PoolsDiffer, WarmUpLoads}
+use Rattle.warm_world.proofs.Worlds.{replica_set_at}
 
 -- ---- one step
 
@@ -48,9 +49,7 @@ node_steps : (old : ModelState) (i : ℕ) (new : ModelState) (w : IsWarmStep old
 node_steps old i new w =
     let pool : PoolView = w.asked.0 in
     let next : ReplicaState = record (replica old (place i)) { pool = pool } in
-    let there : place i < length old.replicas = omega (arith, w.named.replica_there.from_one, w.named.replica_there.in_range, length-map old.replicas (λ r. length r.pending)) in
-    let at : replica (set_pool old i pool) (place i) ≡ next = get_or-set_same old.replicas (place i) next nobody there in
-    let after : replica new (place i) ≡ next = ap (λ (m : ModelState). replica m (place i)) w.asked.2 ∙ at in
+    let after : replica new (place i) ≡ next = ap (λ (m : ModelState). replica m (place i)) w.asked.2 ∙ replica_set_at old (WarmStep i) next w.named in
     let node : node_of new i ≡ record (node_of old i) { pool = pool } = cc in
     subst (Step (node_of old i) call.WarmStep (reply.Loaded w.loaded)) (sym node) w.asked.1
 
@@ -95,8 +94,8 @@ module _ {A : Type 0} (g : A → NodeState) (f : A → ReplicaView) (shown : (x 
       ∙ get_or-map node_view (map g xs) k no_node
 
   -- no page of its pools is in two frames
-  pub pools_differ : (xs : List A) (frames : List (List ℕ)) (m : ModelState) → ArePools (map g xs) → (let w : WorldView = record { replicas = map f xs; messages = frames } in StandsFor w m) → PoolsDiffer m
-  pools_differ xs frames m fit stands i =
+  pub pools_differ : (xs : List A) (messages : List (List ℕ)) (m : ModelState) → ArePools (map g xs) → (let w : WorldView = record { replicas = map f xs; messages = messages } in StandsFor w m) → PoolsDiffer m
+  pools_differ xs messages m fit stands i =
       let k : ℕ = place i in
       elim (cases_lt k (length xs)) [
         | inl there ↦

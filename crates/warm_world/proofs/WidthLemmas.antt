@@ -1,7 +1,7 @@
 -- Numbers stay within their widths.
 use Rattle.std.proofs.Common.{◌≡◌, ℕ, zero, suc, ◌≤◌, ◌<◌, ◌^◌, max, Bool, true, false, List, [], ◌∷◌, ◌++◌, length, map, Option, Some, None, sym, subst, arith, flat_map, if◌then◌else◌}
 use Rattle.std.specs.Prelude.{◌==◌, nat_le, replicate, slice_index_or, slice_set}
-use Rattle.std.specs.List.{AllByRecursion, cons_option}
+use Rattle.std.specs.List.{AllByRecursion, cons_option, list_any}
 use Rattle.std.specs.Option.{option_map}
 use Rattle.std.specs.Ordering.{is_eq, flip_args}
 use Rattle.std.specs.declared.cmp.Ordering.{Ordering}
@@ -20,7 +20,6 @@ use Rattle.warm_history.specs.declared.hist.Entry.{Entry}
 use Rattle.warm_history.specs.ReferenceSets.{ReferenceSet, is_kept, references, these, ◌∪◌}
 use Rattle.warm_history.specs.Histories.{references_to, stamps, first_two, hist, pages, history}
 use Rattle.warm_history.specs.Carried.{carried, pages_carried}
-use Rattle.std.specs.List.{list_any}
 use Rattle.warm_history.proofs.CarriedLemmas.{references-those}
 use Rattle.warm_history.proofs.HistoryLemmas.{references-both}
 use Rattle.warm_history.proofs.ListHistoryLemmas.{entries}
@@ -79,13 +78,9 @@ all_distinct : {A : Type 0} (P : A → Type 0) (cmp : A → A → Ordering) (xs 
 all_distinct P cmp [] all = tt
 all_distinct P cmp (x ∷ xs) all = all_insert P cmp x (distinct cmp xs) all.0 (all_distinct P cmp xs all.1)
 
-all_pages : (S : List Reference) → AreReferences S → AllByRecursion IsPage (map (λ r. r.page) S)
-all_pages [] all = tt
-all_pages (r ∷ S) all = (all.0.page, all_pages S all.1)
-
-all_stamps : (S : List Reference) → AreReferences S → AllByRecursion IsStamp (map (λ r. r.stamp) S)
-all_stamps [] all = tt
-all_stamps (r ∷ S) all = (all.0.stamp, all_stamps S all.1)
+all_mapped : {A B : Type 0} (P : A → Type 0) (Q : B → Type 0) (f : A → B) (xs : List A) → ((x : A) → P x → Q (f x)) → AllByRecursion P xs → AllByRecursion Q (map f xs)
+all_mapped P Q f [] each all = tt
+all_mapped P Q f (x ∷ xs) each all = (each x all.0, all_mapped P Q f xs each all.1)
 
 -- the stamps of a page's history, if it has one, are stamps that there are
 abbrev FitsIfAny : Option PageHist → Type 0
@@ -100,9 +95,9 @@ first_two_fit (a ∷ b ∷ ss) falls all = (all.0, all.1.0, falls.0.0)
 hist_fits : (S : ReferenceSet) (p : PageId) → AreReferences (references S) → FitsIfAny (hist S p)
 hist_fits S p all =
     let falls = flip_args stamp_cmp in
-    let told = map (λ (r : Reference). r.stamp) (references_to S p) in
-    first_two_fit (stamps S p) (distinct_rises falls (IsStrictOrder-flip stamp_cmp stamp_order) told)
-    (all_distinct IsStamp falls told (all_stamps (references_to S p) (all_filter IsReference (λ r. is_eq (page_cmp r.page p)) (references S) all)))
+    let listed = map (λ (r : Reference). r.stamp) (references_to S p) in
+    first_two_fit (stamps S p) (distinct_rises falls (IsStrictOrder-flip stamp_cmp stamp_order) listed)
+    (all_distinct IsStamp falls listed (all_mapped IsReference IsStamp (λ r. r.stamp) (references_to S p) (λ r own. own.stamp) (all_filter IsReference (λ r. is_eq (page_cmp r.page p)) (references S) all)))
 
 entries_fit : (f : PageId → Option PageHist) (ps : List PageId) → ((p : PageId) → FitsIfAny (f p)) → AllByRecursion IsPage ps → AllByRecursion IsEntry (entries f ps)
 entries_fit f [] each all = tt
@@ -113,7 +108,7 @@ entries_fit f (p ∷ ps) each all = elim (f p) as (λ x. FitsIfAny x → AllByRe
 
 history_fits : (S : ReferenceSet) → AreReferences (references S) → Fits (history S)
 unfolding history
-history_fits S all = entries_fit (hist S) (pages S) (λ p. hist_fits S p all) (all_distinct IsPage page_cmp (map (λ (r : Reference). r.page) (references S)) (all_pages (references S) all))
+history_fits S all = entries_fit (hist S) (pages S) (λ p. hist_fits S p all) (all_distinct IsPage page_cmp (map (λ (r : Reference). r.page) (references S)) (all_mapped IsReference IsPage (λ r. r.page) (references S) (λ r own. own.page) all))
 
 -- ---- reference sets that fit
 
@@ -225,9 +220,9 @@ delivered_fits old j k count first new fits done =
     let brings : RecordFits kept = all_get RecordFits old.records k (References 0 (these [])) fits.records (these_fit [] tt) in
     let next : ReplicaState = record (replica old (place j)) { reach = heard (reach_of old j) kept } in
     let after : ReachFits (heard (reach_of old j) kept) = both_fit (reach_of old j) (refs_of kept) own.reached brings in
-    let told_it : ReplicaFits next = record { reached = after; waiting = own.waiting } in
+    let own_next : ReplicaFits next = record { reached = after; waiting = own.waiting } in
     subst ModelFits (sym done.becomes) (records_added (set_replica old (place j) next) done.added
-    (replica_set old (place j) next fits told_it) (answers_fit j (heard (reach_of old j) kept) kept done.added after done.answers))
+    (replica_set old (place j) next fits own_next) (answers_fit j (heard (reach_of old j) kept) kept done.added after done.answers))
 
 -- ---- each event, and each run
 
@@ -252,8 +247,8 @@ refused_fits old event why new fits r = replied_fits old (replica_of event) (cal
 effect_fits : (old : ModelState) (event : Event) (answer : Answer) (new : ModelState) → ModelFits old → EventFits event → IsNamed (shape old) event → Effect old event answer new → ModelFits new
 effect_fits old (Refer i w page time) Done new fits own named done =
     let low : i ≤ MAX_REPLICAS = omega (arith, named.replica_there.in_range, fits.few, length-map old.replicas (λ r. length r.pending)) in
-    let told_it : IsReference (stamped i page time) = record { page = own.0; stamp = record { time = own.1; replica = (named.replica_there.from_one, low) } } in
-    same_fits _ new done (replica_set old (place i) _ fits (referred_fits old.capacity (place w) (stamped i page time) (replica old (place i)) told_it (replica_fits old (place i) fits)))
+    let made : IsReference (stamped i page time) = record { page = own.0; stamp = record { time = own.1; replica = (named.replica_there.from_one, low) } } in
+    same_fits _ new done (replica_set old (place i) _ fits (referred_fits old.capacity (place w) (stamped i page time) (replica old (place i)) made (replica_fits old (place i) fits)))
 effect_fits old (Flush i w) Done new fits own named done = same_fits _ new done (replica_set old (place i) _ fits (flushed_fits (place w) (replica old (place i)) (replica_fits old (place i) fits)))
 effect_fits old (Send i bucket after) (FrameNo k) new fits own named done =
     same_fits _ new done.1 (records_added old _ fits (carried_fits (reach_of old i) bucket after (replica_fits old (place i) fits).reached, tt))

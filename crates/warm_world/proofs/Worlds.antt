@@ -1,7 +1,7 @@
 -- One replica of a world changes, or nothing does.
 use Rattle.std.proofs.Common.{◌≡◌, ℕ, ◌+◌, ◌<◌, List, Option, Some, length, map, get_or, refl, sym, ◌∙◌, ap, subst, arith}
 use Rattle.std.proofs.Math.ListN.{set}
-use Rattle.std.proofs.lemmas.List.{get_or-map, set-get_or, length-map, map-set}
+use Rattle.std.proofs.lemmas.List.{get_or-map, get_or-set_same, set-get_or, length-map, map-set}
 use Rattle.warm_history.specs.Histories.{history}
 use Rattle.warm_gossip.specs.declared.call.Call.{Call}
 use Rattle.warm_gossip.specs.declared.call.Reply.{Reply}
@@ -43,41 +43,61 @@ missing_too w m event NoSuchReplica st missing = let P : Shape → Type 0 = λ s
 missing_too w m event NoSuchWorker st missing = let P : Shape → Type 0 = λ s. IsMissing s event NoSuchWorker in record { new = m; next = (subst P (same_shape w m st) missing, refl); stands = st }
 missing_too w m event NoSuchFrame st missing = let P : Shape → Type 0 = λ s. IsMissing s event NoSuchFrame in record { new = m; next = (subst P (same_shape w m st) missing, refl); stands = st }
 
--- memory is wanting, and nothing changes
+-- an allocation failed, and nothing changes
 pub no_memory_still : (w : WorldView) (m : ModelState) (event : Event) (why : NodeFault) → StandsFor w m → why ≡ Memory → Next m event (Refused (Node Memory)) m → Stepped m event (Refused (Node why)) w
 no_memory_still w m event why st is next = record { new = m; next = subst (λ f. Next m event (Refused (Node f)) m) (sym is) next; stands = st }
 
 -- ---- what the replicas of a world show, with that of one of them changed
+
+-- the replica that an event names is there
+pub replica_there : (m : ModelState) (event : Event) → IsNamed (shape m) event → place (replica_of event) < length m.replicas
+replica_there m event named = omega (arith, named.replica_there.from_one, named.replica_there.in_range, length-map m.replicas (λ (r : ReplicaState). length r.pending))
+
+-- it is the one that was put there
+pub replica_set_at : (m : ModelState) (event : Event) (r : ReplicaState) → IsNamed (shape m) event → replica (set_replica m (place (replica_of event)) r) (place (replica_of event)) ≡ r
+replica_set_at m event r named = get_or-set_same m.replicas (place (replica_of event)) r nobody (replica_there m event named)
+
+-- what a replica at a place shows
+pub shown_at : {A : Type 0} (f : A → ReplicaView) (xs : List A) (k : ℕ) (x : A) (other : ReplicaView) → k < length xs → x ≡ get_or xs k x → get_or (map f xs) k other ≡ f x
+shown_at f xs k x other lt is = get_or-map f xs k x other lt ∙ ap f (sym is)
 
 module _ {A : Type 0} (f : A → ReplicaView) (xs : List A) (messages : List (List ℕ)) where
   -- the world of these replicas
   abbrev pub world : List A → WorldView
   world ys = record { replicas = map f ys; messages = messages }
 
+  -- where the replica at a place shows what it showed, so does the world
+  pub world_stays : (k : ℕ) (x y : A) → k < length xs → x ≡ get_or xs k x → f y ≡ f x → world (set xs k y) ≡ world xs
+  world_stays k x y lt is same = ap (λ (rs : List ReplicaView). let w : WorldView = record { replicas = rs; messages = messages } in w)
+      (map-set f xs k y ∙ ap (set (map f xs) k) (same ∙ sym (shown_at f xs k x (f x) lt is)) ∙ set-get_or (map f xs) k (f x))
+
   -- the replica that an event names has a place
   pub place_in : (event : Event) → IsNamed (view_shape (world xs)) event → place (replica_of event) < length xs
   place_in event named = omega (arith, named.replica_there.from_one, named.replica_there.in_range, length-map xs f, length-map (map f xs) (λ (r : ReplicaView). length r.buffers))
-
-  -- the worker that an event names has a buffer
-  pub worker_in : (i w : ℕ) (x : A) → place i < length xs → x ≡ get_or xs (place i) x → IsNumber w (get_or (map (λ (r : ReplicaView). length r.buffers) (map f xs)) (place i) 0) → place w < length (f x).buffers
-  worker_in i w x lt is number =
-      let at : get_or (map (λ (r : ReplicaView). length r.buffers) (map f xs)) (place i) 0 ≡ length (f x).buffers =
-      get_or-map (λ (r : ReplicaView). length r.buffers) (map f xs) (place i) (f x) 0 (subst (λ n. place i < n) (sym (length-map xs f)) lt)
-      ∙ ap (λ (r : ReplicaView). length r.buffers) (get_or-map f xs (place i) x (f x) lt ∙ ap f (sym is)) in
-      omega (arith, number.from_one, number.in_range, at)
 
   -- as many workers as its buffers are
   pub workers_at : (i : ℕ) (x : A) → IsNumber i (length (map (λ (r : ReplicaView). length r.buffers) (map f xs))) → x ≡ get_or xs (place i) x → length (f x).buffers ≡ get_or (map (λ (r : ReplicaView). length r.buffers) (map f xs)) (place i) 0
   workers_at i x number is =
       let lt : place i < length xs = omega (arith, number.from_one, number.in_range, length-map xs f, length-map (map f xs) (λ (r : ReplicaView). length r.buffers)) in
       sym (get_or-map (λ (r : ReplicaView). length r.buffers) (map f xs) (place i) (f x) 0 (subst (λ n. place i < n) (sym (length-map xs f)) lt)
-      ∙ ap (λ (r : ReplicaView). length r.buffers) (get_or-map f xs (place i) x (f x) lt ∙ ap f (sym is)))
+      ∙ ap (λ (r : ReplicaView). length r.buffers) (shown_at f xs (place i) x (f x) lt is))
+
+  -- the worker of a number has a buffer
+  pub worker_in : (i w : ℕ) (x : A) → IsNumber i (length (map (λ (r : ReplicaView). length r.buffers) (map f xs))) → x ≡ get_or xs (place i) x
+      → IsNumber w (get_or (map (λ (r : ReplicaView). length r.buffers) (map f xs)) (place i) 0) → place w < length (f x).buffers
+  worker_in i w x there is number = omega (arith, number.from_one, number.in_range, workers_at i x there is)
 
   -- the replica at a place stands for that of the model
   pub stands_at : (m : ModelState) (k : ℕ) (x : A) → StandsFor (world xs) m → k < length xs → x ≡ get_or xs k x → ReplicaStands m.capacity k (f x) (replica m k)
   stands_at m k x st lt is =
-      let at : get_or (map f xs) k (f x) ≡ f x = get_or-map f xs k x (f x) lt ∙ ap f (sym is) in
-      subst (λ r. ReplicaStands m.capacity k r (replica m k)) at (st.replicas.each k (f x) nobody (subst (λ n. k < n) (sym (length-map xs f)) lt))
+      subst (λ r. ReplicaStands m.capacity k r (replica m k)) (shown_at f xs k x (f x) lt is) (st.replicas.each k (f x) nobody (subst (λ n. k < n) (sym (length-map xs f)) lt))
+
+  -- the node of the replica that an event names is that of the model
+  pub node_at : (m : ModelState) (event : Event) (x : A) → StandsFor (world xs) m → IsNamed (view_shape (world xs)) event → x ≡ get_or xs (place (replica_of event)) x → (f x).node ≡ node_of m (replica_of event)
+  node_at m event x st named is =
+      let k = place (replica_of event) in
+      let number : k + 1 ≡ replica_of event = omega (arith, named.replica_there.from_one) in
+      (stands_at m k x st (place_in event named) is).node_is ∙ ap (λ (i : ℕ). let v : NodeView = record { id = i; history = history (replica m k).reach; pool = (replica m k).pool } in v) number
 
   pub replica_changes : (m : ModelState) (k : ℕ) (y : A) (r : ReplicaState) → StandsFor (world xs) m → k < length xs → ReplicaStands m.capacity k (f y) r → StandsFor (world (set xs k y)) (set_replica m k r)
   replica_changes m k y r st lt here = record {
@@ -86,25 +106,31 @@ module _ {A : Type 0} (f : A → ReplicaView) (xs : List A) (messages : List (Li
     messages = st.messages;
   }
 
-  -- a replica that shows what it showed
-  pub replica_stays : (m : ModelState) (k : ℕ) (x y : A) → StandsFor (world xs) m → k < length xs → x ≡ get_or xs k x → f y ≡ f x → StandsFor (world (set xs k y)) m
-  replica_stays m k x y st lt is same =
-      let at : get_or (map f xs) k (f x) ≡ f x = get_or-map f xs k x (f x) lt ∙ ap f (sym is) in
-      let e : map f (set xs k y) ≡ map f xs = map-set f xs k y ∙ ap (set (map f xs) k) (same ∙ sym at) ∙ set-get_or (map f xs) k (f x) in
-      record { replicas = subst (λ rs. Pairwise (ReplicaStands m.capacity) rs m.replicas) (sym e) st.replicas; messages = st.messages }
+  -- an event that changes one replica: what that stood for, and what it stands for
+  pub changes : (m : ModelState) (event : Event) (answer : Answer) (x y : A) (r : ReplicaState) → StandsFor (world xs) m → IsNamed (view_shape (world xs)) event → x ≡ get_or xs (place (replica_of event)) x
+      → (let k : ℕ = place (replica_of event) in ReplicaStands m.capacity k (f x) (replica m k) → ReplicaStands m.capacity k (f y) r)
+      → (IsNamed (shape m) event → Next m event answer (set_replica m (place (replica_of event)) r)) → Stepped m event answer (world (set xs (place (replica_of event)) y))
+  changes m event answer x y r st named is becomes next =
+      let k = place (replica_of event) in
+      let lt = place_in event named in
+      record {
+        new = set_replica m k r;
+        next = next (named_too (world xs) m event st named);
+        stands = replica_changes m k y r st lt (becomes (stands_at m k x st lt is));
+      }
 
-  -- an event that changes one replica
-  pub changes : (m : ModelState) (event : Event) (answer : Answer) (k : ℕ) (y : A) (r : ReplicaState) → StandsFor (world xs) m → k < length xs → ReplicaStands m.capacity k (f y) r → Next m event answer (set_replica m k r) → Stepped m event answer (world (set xs k y))
-  changes m event answer k y r st lt here next = record { new = set_replica m k r; next = next; stands = replica_changes m k y r st lt here }
+  -- an event that leaves the replica as it was
+  pub replica_stays : (m : ModelState) (event : Event) (x y : A) → StandsFor (world xs) m → IsNamed (view_shape (world xs)) event → x ≡ get_or xs (place (replica_of event)) x → f y ≡ f x → StandsFor (world (set xs (place (replica_of event)) y)) m
+  replica_stays m event x y st named is same = rw (world_stays (place (replica_of event)) x y (place_in event named) is same) st
 
-  -- an event that memory is wanting for, and that leaves the replica as it was
-  pub no_memory : (m : ModelState) (event : Event) (k : ℕ) (x y : A) (why : NodeFault) → StandsFor (world xs) m → k < length xs → x ≡ get_or xs k x → f y ≡ f x → why ≡ Memory
-      → Next m event (Refused (Node Memory)) m → Stepped m event (Refused (Node why)) (world (set xs k y))
-  no_memory m event k x y why st lt is same named next = record {
-    new = m;
-    next = subst (λ w. Next m event (Refused (Node w)) m) (sym named) next;
-    stands = replica_stays m k x y st lt is same;
-  }
+  -- an event for which an allocation failed, and that leaves the replica as it was
+  pub no_memory : (m : ModelState) (event : Event) (x y : A) (why : NodeFault) → StandsFor (world xs) m → IsNamed (view_shape (world xs)) event → x ≡ get_or xs (place (replica_of event)) x → f y ≡ f x → why ≡ Memory
+      → (IsNamed (shape m) event → ReplicaStands m.capacity (place (replica_of event)) (f x) (replica m (place (replica_of event))) → Next m event (Refused (Node Memory)) m)
+      → Stepped m event (Refused (Node why)) (world (set xs (place (replica_of event)) y))
+  no_memory m event x y why st named is same fault next =
+      let k = place (replica_of event) in
+      no_memory_still (world (set xs k y)) m event why (replica_stays m event x y st named is same) fault
+      (next (named_too (world xs) m event st named) (stands_at m k x st (place_in event named) is))
 
   -- The node answers the call so, and nothing but its pool is changed; the buffers are as they were.
   pub asked : (m : ModelState) (event : Event) (call : Call) (reply : Reply) (answer : Answer) (x y : A)
@@ -114,21 +140,17 @@ module _ {A : Type 0} (f : A → ReplicaView) (xs : List A) (messages : List (Li
       → Stepped m event answer (world (set xs (place (replica_of event)) y))
   asked m event call reply answer x y st named is same alone step next =
       let i = replica_of event in
-      let k = place i in
       let n = (f y).node in
-      let lt = place_in event named in
-      let here = stands_at m k x st lt is in
-      let number : k + 1 ≡ i = omega (arith, named.replica_there.from_one) in
-      let was : (f x).node ≡ node_of m i = here.node_is ∙ ap (λ (j : ℕ). let v : NodeView = record { id = j; history = history (replica m k).reach; pool = (replica m k).pool } in v) number in
+      let was = node_at m event x st named is in
       let now : n ≡ record (node_of m i) { pool = n.pool } = alone ∙ ap (λ (v : NodeView). let u : NodeView = record v { pool = n.pool } in u) was in
-      let r : ReplicaState = record (replica m k) { pool = n.pool } in
-      let stands : ReplicaStands m.capacity k (f y) r = record {
-        has_room = here.has_room;
+      let r : ReplicaState = record (replica m (place i)) { pool = n.pool } in
+      changes m event answer x y r st named is
+      (λ here. record {
+        has_capacity = here.has_capacity;
         node_is = alone ∙ ap (λ (v : NodeView). let u : NodeView = record v { pool = n.pool } in u) here.node_is;
         buffers_are = same ∙ here.buffers_are;
-      } in
-      changes m event answer k y r st lt stands
-      (next (set_replica m k r) (named_too (world xs) m event st named)
+      })
+      (λ there. next (set_replica m (place i) r) there
       (n.pool, subst (λ v. Step v call reply (record (node_of m i) { pool = n.pool })) was (subst (Step (f x).node call reply) now step), refl))
 
   asked_if : (m : ModelState) (event : Event) (call : Option Call) (reply : Option Reply) (answer : Answer) (x y : A)

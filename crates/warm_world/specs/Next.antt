@@ -79,7 +79,7 @@ pub record IsNamed (s : Shape) (event : Event) : Type 0 where
   pub worker_there : MatchOption (worker_of event) (Unit {0}) (IsWorker s event)
   pub message_there : MatchOption (message_of event) (Unit {0}) (IsMessage s)
 
--- what the fault names isn't there; the replica is looked for first
+-- what the fault names is not there; the replica is looked for first
 abbrev pub IsMissing : Shape → Event → WorldFault → Type 0
 IsMissing s event NoSuchReplica = ¬ HasReplica s event
 IsMissing s event NoSuchWorker = HasReplica s event × MatchOption (worker_of event) ⊥ (λ w. ¬ IsWorker s event w)
@@ -118,7 +118,7 @@ abbrev pub Replied : ModelState → ℕ → Option Call → Option Reply → Mod
 Replied old i (Some call) (Some reply) new = Asked old i call reply new
 Replied old i call reply new = ⊥
 
--- why an event is refused though all that it names is there, and what that leaves: want of memory, or what the node says to its call
+-- why an event is refused though all that it names is there, and what that leaves: no memory, or what the node says to its call
 abbrev pub Refuses : ModelState → Event → NodeFault → ModelState → Type 0
 Refuses old (Restart i) why new = Asked old i call.Restart (reply.Refused why) new
 Refuses old (Refer i w page time) Memory new = (old.capacity ≤ length (pending (replica old (place i)) (place w))) × (new ≡ old)
@@ -130,7 +130,7 @@ Refuses old (Warm i n) Memory new = new ≡ old
 Refuses old (Show i) Memory new = new ≡ old
 Refuses old event why new = Replied old (replica_of event) (call_of event) (Some (reply.Refused why)) new
 
--- when an event is refused so, and what that leaves: what isn't there comes before all else
+-- when an event is refused so, and what that leaves: what is not there comes before all else
 abbrev pub IsRefused : ModelState → Event → WorldFault → ModelState → Type 0
 IsRefused old event (Node why) new = IsNamed (shape old) event × Refuses old event why new
 IsRefused old event fault new = IsMissing (shape old) event fault × (new ≡ old)

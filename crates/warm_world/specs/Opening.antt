@@ -1,5 +1,5 @@
 -- Making a world, and its end.
-use Rattle.std.specs.Prelude.{◌≡◌, ◌≢◌, ℕ, ◌<◌, ◌≤◌, List, [], length, set, slice_index_or}
+use Rattle.std.specs.Prelude.{◌≡◌, ◌≢◌, ℕ, ◌<◌, ◌≤◌, ◌+◌, List, [], length, set, slice_index_or}
 use Rattle.warm_devices.specs.Device.{DeviceState}
 use Rattle.warm_pool.specs.declared.TheConstants.{MAX_DEVICES}
 use Rattle.warm_pool.specs.declared.fault.PoolFault.TheVariants.{Fault}
@@ -10,7 +10,8 @@ use Rattle.warm_gossip.specs.declared.fault.NodeFault.TheVariants.{Pool}
 use Rattle.warm_gossip.specs.Step.{IsFailed}
 use Rattle.warm_world.specs.declared.event.BadWorld.{BadWorld}
 use Rattle.warm_world.specs.declared.event.BadWorld.TheVariants.{Memory, SizeDiffers, DevicesDiffer}
-use Rattle.warm_world.specs.Views.{ReplicaView, WorldView}
+use Rattle.warm_world.specs.declared.world.World.{World}
+use Rattle.warm_world.specs.Views.{AreSameFrom, IsSettledBefore, ReplicaView, WorldView, world_view}
 use Rattle.warm_world.specs.Sizes.{Sizes}
 
 -- the devices of the replica at a place
@@ -36,8 +37,8 @@ NewRefused s devices SizeDiffers = (length devices ≡ s.replicas) × (AreSized 
 NewRefused s devices Memory = AreFitting s devices
 
 -- the replica, with this pool
-abbrev pub fails : ReplicaView → PoolView → ReplicaView
-fails r pool = record r { node = record r.node { pool = pool } }
+abbrev pub with_pool : ReplicaView → PoolView → ReplicaView
+with_pool r pool = record r { node = record r.node { pool = pool } }
 
 -- a write or a flush has failed, which may fail: of one replica's pool a count of failures has grown, and nothing else has changed
 pub record FailsOf (old : WorldView) (new : WorldView) : Type 0 where
@@ -45,7 +46,17 @@ pub record FailsOf (old : WorldView) (new : WorldView) : Type 0 where
   pub there : replica < length old.replicas
   pub pool : PoolView
   pub failed : (other : ReplicaView) → IsFailed (slice_index_or old.replicas replica other).node.pool pool
-  pub becomes : (other : ReplicaView) → new ≡ record old { replicas = set old.replicas replica (fails (slice_index_or old.replicas replica other) pool) }
+  pub becomes : (other : ReplicaView) → new ≡ record old { replicas = set old.replicas replica (with_pool (slice_index_or old.replicas replica other) pool) }
 
 abbrev pub FinishFails : WorldView → NodeFault → WorldView → Type 0
 FinishFails old why new = (why ≡ Pool Fault) × FailsOf old new
+
+-- it has for the replica at this place
+abbrev pub FailsAtPlace : ℕ → WorldView → WorldView → Type 0
+FailsAtPlace k old new = (fails : FailsOf old new) × (fails.replica ≡ k)
+
+-- The pools are written back in the order of replicas: those before the one that fails are settled, and those after it are as they were.
+pub record StopsInOrder {D : Type 0} (old new : World D) : Type 0 where
+  pub fails : FailsOf (world_view old) (world_view new)
+  pub before : IsSettledBefore fails.replica new
+  pub after : AreSameFrom (fails.replica + 1) old new

@@ -23,7 +23,7 @@ pub record NoneRefused (old : ModelState) (events : List Event) (new : ModelStat
   pub run : Run old events answers new
   pub taken : AllByRecursion IsTaken answers
 
--- so many messages come to the replica j one after the other: those after the first `from`
+-- messages come to the replica j one after the other: as many as `many`, those after the first `from`
 abbrev pub deliveries : ℕ → ℕ → ℕ → List Event
 deliveries j from many = map (λ k. Deliver j (k + 1)) (range_with_len from many)
 

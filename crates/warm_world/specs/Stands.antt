@@ -1,4 +1,4 @@
--- A world stands for what its replicas were told.
+-- A world stands for the references that reached its replicas.
 use Rattle.std.specs.Prelude.{◌≡◌, ℕ, ◌+◌, ◌<◌, ◌≤◌, List, [], ◌∷◌, length, map, slice_index_or, Some}
 use Rattle.warm_stamps.specs.declared.PageId.{PageId}
 use Rattle.warm_stamps.specs.declared.Reference.{Reference}
@@ -25,7 +25,7 @@ buffered capacity refs = record { refs = refs; capacity = capacity }
 
 -- a replica, by its place, has the history of what reached it, the pool of the model, and in its buffers what waits
 pub record ReplicaStands (capacity place : ℕ) (r : ReplicaView) (m : ReplicaState) : Type 0 where
-  pub has_room : 0 < capacity
+  pub has_capacity : 0 < capacity
   pub node_is : r.node ≡ record { id = place + 1; history = history m.reach; pool = m.pool }
   pub buffers_are : r.buffers ≡ map (buffered capacity) m.pending
 
@@ -135,3 +135,20 @@ pub record Ran (old : ModelState) (events : List Event) (answers : List Answer) 
 -- whatever the world stood for, the events lead from there, so answered, to what it now stands for
 abbrev pub Runs : WorldView → List Event → List Answer → WorldView → Type 0
 Runs old events answers new = (m : ModelState) → StandsFor old m → Ran m events answers new
+
+-- Laws over runs
+
+-- in the state, the references that reached two replicas have the same two latest stamps of each page, and rank pages alike
+pub record Alike (m : ModelState) (i j : ℕ) : Type 0 where
+  pub histories : entries_of (history (reach_of m i)) ≡ entries_of (history (reach_of m j))
+  pub ranking : RankAlike (reach_of m i) (reach_of m j)
+
+-- each victim of the run is right, and in the state that it leads to, replicas that keep the same references agree
+pub record IsRightRun (old : ModelState) (events : List Event) (answers : List Answer) (new : ModelState) (run : Run old events answers new) : Type 0 where
+  pub agree : (i j : ℕ) → HoldSame (reach_of new i) (reach_of new j) → Alike new i j
+  pub victims : EachVictim old events answers new run
+
+-- every run is right
+abbrev pub RunsAreRight : Type 0
+RunsAreRight = (old : ModelState) (events : List Event) (answers : List Answer) (new : ModelState) (run : Run old events answers new)
+    → IsRightRun old events answers new run

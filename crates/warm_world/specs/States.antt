@@ -1,4 +1,4 @@
--- What replicas are told: every reference, for good, in plain lists. Beside it what each replica's pool shows.
+-- Every reference that reached each replica, for good, in plain lists. Beside it what each replica's pool shows.
 use Rattle.std.specs.Prelude.{ℕ, List, [], ◌∷◌, ◌++◌, length, map, nat_le, replicate, if◌then◌else◌, slice_index_or, slice_set}
 use Rattle.warm_stamps.specs.declared.Reference.{Reference}
 use Rattle.warm_history.specs.ReferenceSets.{ReferenceSet, these, since, ◌∪◌}

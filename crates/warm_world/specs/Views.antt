@@ -1,5 +1,5 @@
 -- What contracts see of a world: plain data.
-use Rattle.std.specs.Prelude.{ℕ, ◌<◌, List, length, map, slice_index_or}
+use Rattle.std.specs.Prelude.{◌≡◌, ◌≢◌, ℕ, ◌<◌, ◌≤◌, List, length, map, slice_index_or}
 use Rattle.warm_pool.specs.State.{IsSettled}
 use Rattle.std.specs.Global.{Vec}
 use Rattle.warm_devices.specs.Device.{DeviceState}
@@ -33,7 +33,7 @@ world_view w = record {
 abbrev pub listed : {D : Type 0} → (D → DeviceState) → List (Vec D) → List (List DeviceState)
 listed state lists = map (λ ds. map state ds.items) lists
 
--- of the nodes before a place every page is on its device as it is in its message, and no device has anything left to put down
+-- of the nodes before a place every page is on its device as it is in its frame, and no device has anything left to put down
 abbrev pub AreSettledBefore : ℕ → List NodeState → Type 0
 AreSettledBefore k nodes = (j : ℕ) (other : NodeState) → j < k → IsSettled (slice_index_or nodes j other).pool
 
@@ -43,3 +43,14 @@ IsSettledBefore k w = AreSettledBefore k (map (λ r. r.node) w.replicas.items)
 -- the same of all nodes of the world
 abbrev pub IsAtRest : {D : Type 0} → World D → Type 0
 IsAtRest w = IsSettledBefore (length w.replicas.items) w
+
+-- the node at a place
+abbrev pub node_at : {D : Type 0} → World D → ℕ → NodeState → NodeState
+node_at w j other = slice_index_or (map (λ r. r.node) w.replicas.items) j other
+
+-- the nodes from this place on are as they were; all nodes but that at this place are
+abbrev pub AreSameFrom : {D : Type 0} → ℕ → World D → World D → Type 0
+AreSameFrom k old new = (j : ℕ) (other : NodeState) → k ≤ j → node_at new j other ≡ node_at old j other
+
+abbrev pub AreSameBut : {D : Type 0} → ℕ → World D → World D → Type 0
+AreSameBut k old new = (j : ℕ) (other : NodeState) → j ≢ k → node_at new j other ≡ node_at old j other

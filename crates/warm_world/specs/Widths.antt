@@ -1,4 +1,4 @@
--- Numbers within the widths of their types: of events, and so of all that replicas are told.
+-- Numbers within the widths of their types: of events, and so of all that reaches replicas.
 use Rattle.std.specs.Prelude.{ℕ, ◌<◌, ◌≤◌, ◌^◌, List, length}
 use Rattle.std.specs.List.{AllByRecursion}
 use Rattle.warm_stamps.specs.declared.Reference.{Reference}
@@ -50,7 +50,7 @@ pub record ModelFits (m : ModelState) : Type 0 where
   pub replicas : AllByRecursion ReplicaFits m.replicas
   pub records : AllByRecursion RecordFits m.records
 
--- at first nothing was told
+-- before the first event nothing has reached a replica
 abbrev pub OpeningFits : Type 0
 OpeningFits = (s : Sizes) (devices : List (List DeviceState)) → length devices ≤ MAX_REPLICAS → ModelFits (opening s devices)
 

@@ -42,10 +42,10 @@ pub enum Event {
     Get(u16, Slot, u32, u32),
     /// The page that would leave a replica's pool next is asked for.
     Victim(u16),
-    /// A replica's warm-up list is asked for, cut to the first so many pages: replica, pages.
+    /// A replica's warm-up list is asked for, cut to its first pages: replica, how many pages.
     Warm(u16, u32),
-    /// A replica loads the first page of its warm-up list, cut to the frames of its pool, that isn't
-    /// resident and that its devices have.
+    /// A replica loads the first page of its warm-up list, cut to the frames of its pool, that is
+    /// not resident and that its devices have.
     WarmStep(u16),
     /// A replica writes its pages back, and then forgets its history, what waits in its buffers, and which
     /// pages were resident. Its horizon is 0 again.
@@ -85,14 +85,14 @@ pub enum Answer {
     Refused(WorldFault),
 }
 
-/// Why an event was refused. The first that applies is answered: what isn't there before what the node
+/// Why an event was refused. The first that applies is answered: what is not there before what the node
 /// says.
 #[derive(Clone, Copy, Debug, PartialEq, Eq, Error)]
 pub enum WorldFault {
     /// 1 and 4 to 13: what the replica's node says. `Memory`, which is 1, also where a message could not be
     /// kept or a history not copied; of Refer only where the buffer is full, and of Pin, Unpin, Put, Victim,
     /// Restart and Horizon never.
-    #[error("{}", .0.name())]
+    #[error(transparent)]
     Node(NodeFault),
     /// 14: no replica has the number.
     #[error("NoSuchReplica")]

@@ -46,9 +46,9 @@ fn took(alloc: Global, kept: &mut Vec<Vec<u8>>, messages: &[Message]) -> Answer
     ensures { Takes (map (λ f. f.items) kept.old.items) messages.now result
         (map (λ f. f.items) kept.new.items) }
 {
-    let Ok(()) = keep_all(alloc, kept, messages) else {
-        return Answer::Refused(WorldFault::Node(NodeFault::Memory));
-    };
+    if let Err(error) = keep_all(alloc, kept, messages) {
+        return Answer::Refused(error.into());
+    }
     let count = messages.len();
     if count == 0 {
         return Answer::Took { count: 0, first: 0 };
@@ -92,7 +92,7 @@ impl<D: PageDevice> World<D> {
     {
         match self.replicas[i as usize - 1].node.send(bucket, after) {
             Ok(message) => self.keep(&message),
-            Err(why) => Answer::Refused(WorldFault::Node(why)),
+            Err(why) => Answer::Refused(why.into()),
         }
     }
 
@@ -102,7 +102,7 @@ impl<D: PageDevice> World<D> {
     {
         match self.replicas[i as usize - 1].node.offer() {
             Ok(message) => self.keep(&message),
-            Err(why) => Answer::Refused(WorldFault::Node(why)),
+            Err(why) => Answer::Refused(why.into()),
         }
     }
 
@@ -111,7 +111,7 @@ impl<D: PageDevice> World<D> {
         ensures { Steps (world_view self.old) (Event.Deliver j k) result
             (world_view self.new) }
     {
-        // The bytes spell a message, so nothing but memory can be wanting.
+        // The bytes spell a message, so nothing but an allocation can fail.
         let Ok(message) = decode(self.alloc, &self.messages[k as usize - 1]) else {
             return Answer::Refused(WorldFault::Node(NodeFault::Memory));
         };
@@ -119,12 +119,12 @@ impl<D: PageDevice> World<D> {
             // Entries are answered by nothing, so there is nothing to keep.
             return match self.replicas[j as usize - 1].node.receive(message) {
                 Ok(answers) => took(self.alloc, &mut self.messages, answers.as_slice()),
-                Err(why) => Answer::Refused(WorldFault::Node(why)),
+                Err(why) => Answer::Refused(why.into()),
             };
         };
         let answers = match self.replicas[j as usize - 1].node.answers(&message) {
             Ok(answers) => answers,
-            Err(why) => return Answer::Refused(WorldFault::Node(why)),
+            Err(why) => return Answer::Refused(why.into()),
         };
         // The horizon rises only after the answers are kept, so nothing has happened where one cannot be.
         let answer = took(self.alloc, &mut self.messages, answers.as_slice());
@@ -149,7 +149,7 @@ impl<D: PageDevice> World<D> {
     {
         match self.replicas[i as usize - 1].node.history().copy() {
             Ok(history) => Answer::Shown(history),
-            Err(_) => Answer::Refused(WorldFault::Node(NodeFault::Memory)),
+            Err(error) => Answer::Refused(error.into()),
         }
     }
 }

@@ -1,11 +1,12 @@
 //! Theorems over all runs of a world, over the definitions alone.
 //!
 //! Each function does nothing. What it ensures is a theorem, for the crates above to cite and for a reader to look up:
-//! `specs/Rounds.antt`, `specs/Widths.antt` and `specs/WarmUps.antt` say them in full.
+//! `specs/Stands.antt`, `specs/Rounds.antt`, `specs/Widths.antt` and `specs/WarmUps.antt` say them in full.
 ghost use Rattle.std.specs.Prelude.{◌<◌, ◌^◌, map};
 ghost use Rattle.std.specs.List.{AllByRecursion};
 ghost use Rattle.warm_stamps.specs.Bytes.{IsPage};
 ghost use Rattle.warm_world.specs.Rounds.{GossipRoundJoins};
+ghost use Rattle.warm_world.specs.Stands.{RunsAreRight};
 ghost use Rattle.warm_world.specs.Views.{world_view};
 ghost use Rattle.warm_world.specs.WarmUps.{ArePools, ShowsPoolsDiffer, WarmUpLoads};
 ghost use Rattle.warm_world.specs.Widths.{EventFits, HistoriesFit, OpeningFits, RunsFit};
@@ -14,6 +15,13 @@ use crate::replica::Replica;
 use crate::{Event, World};
 use warm_devices::PageDevice;
 use warm_stamps::PageId;
+
+/// Of every run of events, from whatever state: each page that is named as a victim, or leaves for another, is an unfixed resident
+/// page of greatest backward 2-distance over all references that reached the replica; and in the state that the run leads to, the
+/// references of replicas that keep the same ones have the same two latest stamps of each page, and rank pages alike.
+pub fn runs_are_right()
+    ensures { RunsAreRight }
+{}
 
 /// A round of gossip: a replica offers its digests to another, and all that is answered comes to whom it answers, with no
 /// event refused. Afterwards the histories of both are the join of the two that were; or two different texts of one

@@ -6,9 +6,9 @@
 //! every message that a replica sent, so that a message may be delivered to any replica, never, once or many
 //! times, and in any order.
 //!
-//! [`World::step`] answers one event and [`World::run`] a list of them. What they promise is told over
-//! a model that is plain lists of references, and what pools show (`specs/States.antt`,
-//! `specs/Next.antt`); nothing of it is kept while the program runs.
+//! [`World::step`] answers one event and [`World::run`] a list of them. Their contracts speak of a model:
+//! plain lists of references, and what pools show (`specs/States.antt`, `specs/Next.antt`). Nothing of it is
+//! kept while the program runs.
 #![tactic(auto)]
 
 mod event;

@@ -20,14 +20,14 @@ use warm_pool::Pool;
 use warm_refbuffer::{BufferFault, RefBuffer};
 use warm_stamps::{PageId, Reference, ReplicaId, Stamp};
 
-/// A node, and the references that its workers have still to tell it.
+/// A node, and its workers' buffers: references that have not reached it yet.
 #[derive(Drop)]
 pub(crate) struct Replica<D: PageDevice> {
     pub(crate) node: Node<D>,
     pub(crate) buffers: Vec<RefBuffer>,
 }
 
-// A buffer's capacity is within its limits, so only memory can be refused.
+// A buffer's capacity is within its limits, so only an allocation can fail.
 fn empty_buffer(alloc: Global, capacity: usize) -> Result<RefBuffer, AllocError>
     requires { IsCapacity capacity }
     ensures { IfOk result (λ b. b ≡ buffered capacity []) }
@@ -51,10 +51,10 @@ fn empty_buffers(alloc: Global, workers: u16, capacity: usize) -> Result<Vec<Ref
 }
 
 impl<D: PageDevice> Replica<D> {
-    /// A replica that was told nothing, over a pool without a page. The devices' pages have the setup's
-    /// size.
+    /// A replica that no reference has reached, over a pool without a page. The devices' pages have the
+    /// setup's size.
     ///
-    /// Refused where there is no memory.
+    /// Fails where there is no memory.
     pub(crate) fn new(
         alloc: Global,
         id: ReplicaId,

@@ -1,13 +1,15 @@
 //! The world: its replicas and the messages that were sent.
 ghost use Rattle.std.specs.Prelude.{◌≡◌, ◌+◌, ◌<◌, ◌≤◌, length, map, slice_index_or};
-ghost use Rattle.std.specs.Prelude.{OnOk, IfOk, IfErr, IsTrue, ◌↔◌};
+ghost use Rattle.std.specs.Prelude.{OnErr, OnOk, IfOk, IfErr, IsTrue, ◌↔◌};
 ghost use Rattle.warm_stamps.specs.declared.TheConstants.{MAX_REPLICAS};
 ghost use Rattle.warm_world.specs.Lists.{IsNumber, Pairwise, place};
 ghost use Rattle.warm_world.specs.States.{opened_over, opening};
-ghost use Rattle.warm_world.specs.Opening.{AreFew, AreFitting, AreSized, FinishFails, NewRefused};
+ghost use Rattle.warm_pool.specs.declared.fault.PoolFault.TheVariants.{Fault};
+ghost use Rattle.warm_gossip.specs.declared.fault.NodeFault.TheVariants.{Pool};
+ghost use Rattle.warm_world.specs.Opening.{AreFew, AreFitting, AreSized, FailsAtPlace, FinishFails, NewRefused, StopsInOrder};
 ghost use Rattle.warm_world.specs.Next.{IsNamed, IsMissing};
 ghost use Rattle.warm_world.specs.Views.{listed, world_view, replica_view};
-ghost use Rattle.warm_world.specs.Views.{IsAtRest, IsSettledBefore};
+ghost use Rattle.warm_world.specs.Views.{AreSameBut, IsAtRest, IsSettledBefore};
 ghost use Rattle.warm_world.specs.Stands.{ReplicaStands, view_shape, StandsFor, Steps, Runs};
 
 use crate::event::{Answer, BadWorld, Event, WorldFault};
@@ -22,7 +24,7 @@ use warm_stamps::{PageId, ReplicaId};
 
 /// Replicas, their workers' buffers, and every message that was sent.
 ///
-/// Contracts tell of a world by the model states that it stands for (`StandsFor`): lists of all
+/// Contracts describe a world by the model states that it stands for (`StandsFor`): lists of all
 /// references that reached each replica, that wait in each buffer, and that each kept message brings, and
 /// what each replica's pool shows.
 ///
@@ -89,7 +91,7 @@ fn replicas_over<D: PageDevice>(
 
 impl<D: PageDevice> World<D> {
     /// A world in which nothing has happened, with a replica over each list of devices: no replica has
-    /// heard of a page or has one in its pool, nothing waits, and no message was sent. The room of every
+    /// heard of a page or has one in its pool, nothing waits, and no message was sent. The memory of every
     /// buffer and pool is taken here.
     ///
     /// No list has more devices than [`warm_pool::MAX_DEVICES`].
@@ -172,7 +174,7 @@ impl<D: PageDevice> World<D> {
         let worker = w as usize - 1;
         match self.replicas[i as usize - 1].refer(worker, page, time) {
             Ok(()) => Answer::Done,
-            Err(why) => Answer::Refused(WorldFault::Node(why)),
+            Err(why) => Answer::Refused(why.into()),
         }
     }
 
@@ -183,7 +185,7 @@ impl<D: PageDevice> World<D> {
         let worker = w as usize - 1;
         match self.replicas[i as usize - 1].flush(worker) {
             Ok(()) => Answer::Done,
-            Err(why) => Answer::Refused(WorldFault::Node(why)),
+            Err(why) => Answer::Refused(why.into()),
         }
     }
 
@@ -193,7 +195,7 @@ impl<D: PageDevice> World<D> {
     {
         match self.replicas[i as usize - 1].restart() {
             Ok(()) => Answer::Done,
-            Err(why) => Answer::Refused(WorldFault::Node(why)),
+            Err(why) => Answer::Refused(why.into()),
         }
     }
 
@@ -231,7 +233,7 @@ impl<D: PageDevice> World<D> {
     /// replicas that keep the same references agree on history, ranking and warm-up list, and each victim is
     /// an unfixed resident page of greatest backward 2-distance.
     ///
-    /// Room for the answers is taken before the first event. Where there is none the events come back,
+    /// The memory for the answers is taken before the first event. Where that fails the events come back,
     /// and nothing has happened.
     pub fn run(&mut self, events: Vec<Event>) -> Result<Vec<Answer>, Vec<Event>>
         ensures ran { IfOk result (λ answers.
@@ -253,12 +255,13 @@ impl<D: PageDevice> World<D> {
     ///
     /// # Errors
     /// `Pool(Fault)` at the first write or flush that fails. Of what the world shows, one count of failures
-    /// alone has changed.
+    /// alone has changed. The pools of replicas before the one that fails are settled, those after it are as they were.
     pub fn finish(&mut self) -> Result<(), NodeFault>
         ensures same { OnOk result (world_view self.new ≡ world_view self.old) }
         ensures settled { OnOk result (IsAtRest self.new) }
         ensures refused { IfErr result (λ why. FinishFails (world_view self.old) why
             (world_view self.new)) }
+        ensures stops { OnErr result (StopsInOrder self.old self.new) }
     {
         for k in 0..self.replicas.len() {
             self.write_back(k)?;
@@ -272,8 +275,9 @@ impl<D: PageDevice> World<D> {
         ensures same { OnOk result (world_view self.new ≡ world_view self.old) }
         ensures settled { IsSettledBefore k self.old
             → OnOk result (IsSettledBefore (k + 1) self.new) }
-        ensures refused { IfErr result (λ why. FinishFails (world_view self.old) why
-            (world_view self.new)) }
+        ensures refused { IfErr result (λ why. (why ≡ Pool Fault)
+            × FailsAtPlace k (world_view self.old) (world_view self.new)) }
+        ensures others { AreSameBut k self.old self.new }
         ensures many { length self.new.replicas.items ≡ length self.old.replicas.items }
     {
         self.replicas[k].node.write_back()

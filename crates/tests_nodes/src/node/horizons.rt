@@ -40,13 +40,13 @@ const BY_ENTRIES: &[Row] = &[
         &[],
     ),
     Row::Knows(9, &[(1, 20, 9), (3, 9, 0)]),
-    // All stamps of a frame may be older than its own horizon.
+    // All stamps of a message may be older than its own horizon.
     Row::Receives(
         Sent::Entries(50, &[(0, 4, 30, 1), (0, 5, 40, 1), (0, 5, 49, 1)]),
         &[],
     ),
     Row::Knows(50, &[]),
-    // A frame of a lesser horizon brings what is not older than the node's.
+    // A message of a lesser horizon brings what is not older than the node's.
     Row::Receives(Sent::Entries(10, &[(0, 6, 20, 1), (0, 6, 60, 1)]), &[]),
     Row::Knows(50, &[(6, 60, 0)]),
 ];
@@ -60,8 +60,8 @@ const PAGE_1: Sent = Sent::Entries(15, &[(0, 1, 20, 1)]);
 
 const DIFFERING: &[Sent] = &[PAGE_1, Sent::Request(15, 0b10)];
 
-// What a node would answer is what it answers when the frame comes, and changes nothing.
-const BY_SUMS_AND_REQUESTS: &[Row] = &[
+// What a node would answer is what it answers when the message comes, and changes nothing.
+const BY_DIGESTS_AND_REQUESTS: &[Row] = &[
     Row::Absorbs(&[(0, 1, 10, 1), (0, 1, 20, 1), (0, 2, 5, 1)]),
     // At 15 bucket 1 alone differs from nothing.
     Row::WouldAnswer(Sent::Digests(15, &[]), DIFFERING),
@@ -88,7 +88,7 @@ const BY_SUMS_AND_REQUESTS: &[Row] = &[
 
 #[test]
 fn digests_and_requests_bring_their_horizon(rt: HostRuntime) {
-    lives(&rt, rt.alloc(), BY_SUMS_AND_REQUESTS)
+    lives(&rt, rt.alloc(), BY_DIGESTS_AND_REQUESTS)
 }
 
 // Of pages 0, 1 and 2 the last was referenced once, and leaves first. At 10 page 1 has one stamp, the older one; at 28 pages 0 and
@@ -117,7 +117,7 @@ const VICTIMS: &[Row] = &[
 ];
 
 #[test]
-fn horizons_of_frames_change_the_victim(rt: HostRuntime) {
+fn horizons_of_messages_change_the_victim(rt: HostRuntime) {
     lives(&rt, rt.alloc(), VICTIMS)
 }
 

@@ -1,10 +1,8 @@
 //! What a device holds as the pool lets it go: all that was written, and nothing waits.
 ghost use Rattle.warm_pool.specs.State.{RankedBy};
 
-use super::{
-    ONE_REFUSED, Said, closes, exchange, held, not_closed, pool_over, unpin, unretired, write,
-};
-use std::alloc::{AllocError, Global};
+use super::{AMPLE, Said, closes, exchange, held, not_closed, pool_over, unpin, unretired, write};
+use std::alloc::Global;
 use std::process::Abort;
 use std::sync::Arc;
 use test_kit::{Found, Hooked, Note};
@@ -19,24 +17,18 @@ const STORED: [u8; 16] = [0x55; 16];
 type Noting = Hooked<Arc<Note, Global>>;
 
 // Such a device, and the note.
-fn new_witness(alloc: Global) -> Result<(Noting, Arc<Note, Global>), AllocError> {
-    let note = Note::blank(alloc, 8, 16)?;
-    let mut device = MemDevice::new(alloc, 8, 16)?;
+fn witness(rt: &impl Abort, alloc: Global) -> (Noting, Arc<Note, Global>) {
+    let note = Note::blank(alloc, 8, 16).expect(rt, AMPLE);
+    let mut device = MemDevice::new(alloc, 8, 16).expect(rt, AMPLE);
     for no in 0..8 {
         if no < device.pages() && device.page_size() == 16 {
             let _ = device.write(no, &STORED);
         }
     }
     let _ = device.flush();
-    let device = Hooked::new(alloc, device, Arc::try_clone(&note)?)?;
-    Ok((device, note))
-}
-
-fn witness(rt: &impl Abort, alloc: Global) -> (Noting, Arc<Note, Global>) {
-    match new_witness(alloc) {
-        Ok(made) => made,
-        Err(_) => new_witness(alloc).expect(rt, ONE_REFUSED),
-    }
+    let other = Arc::try_clone(&note).expect(rt, "a second owner");
+    let device = Hooked::new(alloc, device, other).expect(rt, AMPLE);
+    (device, note)
 }
 
 // Whether nothing waited on the device as its drop began, and it held page 0 as it was written, and all others as they were.

@@ -1,5 +1,5 @@
 //! A pool over pages whose numbers have more than 32 bits: those of a file that is one hole but for what is written.
-use super::{ONE_REFUSED, Row, Said, closes, pool_of, runs};
+use super::{AMPLE, Row, Said, closes, pool_of, runs};
 use std::alloc::Global;
 use std::fs::{self, File, Files};
 use std::process::Abort;
@@ -15,10 +15,7 @@ const FIRST_WIDE: u64 = 4_294_967_296;
 
 // Two pages past the numbers of 32 bits, of one byte each.
 fn wide_file<R: Files<File = File> + Abort>(rt: &R) -> FileDevice {
-    match FileDevice::open(rt, PATH, FIRST_WIDE + 2, 1) {
-        Ok(device) => device,
-        Err(_) => FileDevice::open(rt, PATH, FIRST_WIDE + 2, 1).expect(rt, ONE_REFUSED),
-    }
+    FileDevice::open(rt, PATH, FIRST_WIDE + 2, 1).expect(rt, "opened")
 }
 
 // Pages whose numbers agree in their low 32 bits are apart, and leave in the order of their whole numbers.
@@ -44,7 +41,7 @@ const ROWS: [Row<'static>; 16] = [
 // A pool of three frames over the device lives through the rows.
 fn lives_wide<D: PageDevice>(rt: &impl Abort, alloc: Global, device: D) {
     let history = History::new(alloc);
-    let devices = alone(alloc, device).expect(rt, ONE_REFUSED);
+    let devices = alone(alloc, device).expect(rt, AMPLE);
     let mut pool = pool_of(rt, alloc, 3, 1, devices);
     runs(rt, &mut pool, &history, &ROWS);
     closes(rt, pool);

@@ -1,14 +1,11 @@
-use Rattle.std.proofs.Common.{IfOk, sym, ap, subst, ◌∙◌}
+use Rattle.std.proofs.Common.{IfOk, subst, ◌∙◌}
 use Rattle.warm_history.specs.Histories.{HistoryView}
 use Rattle.warm_history.specs.Losses.{raised}
-use Rattle.warm_digest.specs.BucketDigests.{digests_since}
 use Rattle.warm_gossip.specs.Answers.{AnswersDigests}
 use Rattle.warm_gossip.proofs.answers.answer_to_digests.Goals as goal
 
 pub answer_given-requires : goal.answer_given-requires
-answer_given-requires c =
-    c.in_ok-own.ensures.table
-    ∙ ap (digests_since c.args.horizon) (sym (c.history.ensures ∙ c.in_ok-own.ensures.same))
+answer_given-requires c = rw (c.history.ensures, c.in_ok-own.ensures.same) c.in_ok-own.ensures.table
 
 pub returns-clause-answer : goal.returns-clause-answer
 returns-clause-answer c =

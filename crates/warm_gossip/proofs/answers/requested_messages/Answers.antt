@@ -1,14 +1,12 @@
-use Rattle.std.proofs.Common.{◌≡◌, ◌++◌, true, false, sym, ap, subst, ◌∙◌, arith}
+use Rattle.std.proofs.Common.{◌≡◌, true, false, sym, subst, ◌∙◌, arith}
 use Rattle.std.specs.Prelude.{◌==◌}
 use Rattle.std.specs.Int.{bit_at}
 use Rattle.warm_stamps.specs.declared.TheConstants.{BUCKETS}
-use Rattle.warm_history.specs.Carried.{bucket_entries}
 use Rattle.warm_history.specs.ReferenceSets.{since}
-use Rattle.warm_history.specs.Histories.{entries_of, history, refs}
+use Rattle.warm_history.specs.Histories.{history, refs}
 use Rattle.warm_history.specs.Losses.{raised}
 use Rattle.warm_history.proofs.HistoryLemmas.{IsHistory-history}
-use Rattle.warm_gossip.specs.Answers.{entry_messages}
-use Rattle.warm_gossip.proofs.AnswerLemmas.{all_below, bucket_rises, messages_below, unwanted_more, wanted_more}
+use Rattle.warm_gossip.proofs.AnswerLemmas.{all_below, bucket_rises, unwanted_more, wanted_more}
 use Rattle.warm_gossip.proofs.answers.requested_messages.Goals as goal
 
 pub loop-index-preserved-then-not-is_wanted : goal.loop-index-preserved-then-not-is_wanted
@@ -23,21 +21,12 @@ push_messages-requires c =
 
 pub loop-index-preserved : goal.loop-index-preserved
 loop-index-preserved c =
-    let id = c.args.id in
-    let h = raised c.args.horizon c.args.history.now in
-    let index = c.loop-index.index in
     let is = c.in-Some.ensures.value in
     let set = subst (λ b. (bit_at c.args.request b == 1) ≡ true) is (sym c.is_wanted.ensures ∙ c.if-not-is_wanted.false) in
-    c.in_ok-push_messages.ensures
-    ∙ ap (λ messages. messages ++ entry_messages id c.greater-kept_from.result c.deref.result.now) c.loop-index.invariant
-    ∙ ap (λ m. messages_below id h c.args.request index ++ entry_messages id m c.deref.result.now) c.greater-kept_from.ensures
-    ∙ ap (λ es. messages_below id h c.args.request index ++ entry_messages id h.horizon es) (c.deref.ensures.value ∙ c.in_ok-entries.ensures ∙ ap (λ b. bucket_entries b (entries_of h)) is)
-    ∙ wanted_more id c.args.request index h set
+    rw (c.in_ok-push_messages.ensures, c.loop-index.invariant, c.greater-kept_from.ensures, c.deref.ensures.value, c.in_ok-entries.ensures, is)
+    (wanted_more c.args.id c.args.request c.loop-index.index (raised c.args.horizon c.args.history.now) set)
 
 pub returns : goal.returns
 returns c =
-    let h = raised c.args.horizon c.args.history.now in
     let last : c.loop-index.index ≡ BUCKETS = omega (arith, c.loop-index-test.false, c.loop-index.auto.index-end) in
-    c.loop-index.invariant
-    ∙ ap (messages_below c.args.id h c.args.request) last
-    ∙ all_below c.args.id c.args.request h
+    rw (c.loop-index.invariant, last) (all_below c.args.id c.args.request (raised c.args.horizon c.args.history.now))

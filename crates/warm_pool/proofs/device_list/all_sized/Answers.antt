@@ -1,4 +1,4 @@
-use Rattle.std.proofs.Common.{ap, sym, ◌∙◌, refl, arith}
+use Rattle.std.proofs.Common.{ap, sym, ◌∙◌}
 use Rattle.warm_pool.proofs.DeviceSteps.{device_is, sized_more}
 use Rattle.warm_pool.proofs.device_list.all_sized.Goals as goal
 
@@ -11,6 +11,3 @@ returns-then-page_size g c = (
 pub loop-device-preserved : goal.loop-device-preserved
 loop-device-preserved g c =
     sized_more _ _ _ _ _ c.device-item.is c.loop-device-test.true (sym c.page_size.ensures ∙ c.if-page_size.false) c.loop-device.invariant
-
-pub returns : goal.returns
-returns g c = (λ _ k h. c.loop-device.invariant k (omega arith), λ _. refl)

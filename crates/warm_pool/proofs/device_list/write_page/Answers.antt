@@ -15,6 +15,7 @@ returns g c =
       shape = c.write.ensures.shape;
       faults = c.write.ensures.faults;
       unfailing = c.write.ensures.unfailing;
+      waiting = c.write.ensures.waiting;
       others = c.write.ensures.others;
       written = c.write.ensures.bytes;
     })

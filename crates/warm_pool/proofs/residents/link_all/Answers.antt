@@ -16,7 +16,7 @@ loop-frame-init g c =
     let chains = none_yet g.frames heads next room none (c.requires.1.1.1 ∙ sym count) in
     record {
       high = omega arith;
-      room = ap length none ∙ length-replicate room (length g.frames) ∙ c.requires.1.1.0;
+      size = ap length none ∙ length-replicate room (length g.frames) ∙ c.requires.1.1.0;
       chains = subst (λ n. AreChains (linked_from n (length heads) g.frames) heads next) count chains;
     }
 
@@ -28,7 +28,7 @@ link-requires g c =
     let lt : f < length g.frames = omega (arith, c.loop-frame.invariant.high) in
     let wide = length-linked_from (suc f) out g.frames in
     let next : c.loop-frame.frame ≡ suc f = omega arith in
-    let chain : c.chain_of-chain.result < out = omega (arith, c.chain_of-chain.ensures.low, c.loop-frame.invariant.room) in (
+    let chain : c.chain_of-chain.result < out = omega (arith, c.chain_of-chain.ensures.low, c.loop-frame.invariant.size) in (
       omega (arith, wide),
       (
         chain,
@@ -48,6 +48,6 @@ loop-frame-preserved g c =
     let lt : f < length c.args.pages.now = omega (arith, c.loop-frame.invariant.high) in
     record {
       high = omega (arith, c.loop-frame.invariant.high);
-      room = c.link.ensures.room ∙ c.loop-frame.invariant.room;
-      chains = linked_next g.frames c.args.pages.now _ _ f _ c.chain_of-chain.result c.requires.0 lt c.chain_of-chain.ensures.is c.link.ensures.room c.link.ensures.chains;
+      size = c.link.ensures.size ∙ c.loop-frame.invariant.size;
+      chains = linked_next g.frames c.args.pages.now _ _ f _ c.chain_of-chain.result c.requires.0 lt c.chain_of-chain.ensures.is c.link.ensures.size c.link.ensures.chains;
     }

@@ -7,7 +7,7 @@ use Rattle.warm_pool.proofs.residents.link_all.Given as goal
 abbrev pub invariant-loop-frame : goal.invariant-loop-frame
 invariant-loop-frame g l = record {
   high : l.frame ≤ length l.pages;
-  room : length l.heads.items ≡ length l.pages + 1;
+  size : length l.heads.items ≡ length l.pages + 1;
   chains : AreChains (linked_from l.frame (length l.heads.items) g.frames) l.heads.items l.next.items;
 }
 

@@ -5,4 +5,4 @@ use Rattle.warm_pool.proofs.residents.move_frame.Goals as goal
 pub returns : goal.returns
 returns g c =
     moved_linked g.frames c.args.pages.now _ _ _ _ c.args.frame _ _ c.args.page c.requires.0 c.requires.1.1 c.requires.1.0
-    (c.link.ensures.room ∙ c.unlink.ensures.room) c.chain_of-to.ensures.is c.link.ensures.chains
+    (c.link.ensures.size ∙ c.unlink.ensures.size) c.chain_of-to.ensures.is c.link.ensures.chains

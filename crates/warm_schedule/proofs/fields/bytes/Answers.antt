@@ -9,7 +9,7 @@ pub loop-byte-preserved : goal.loop-byte-preserved
 loop-byte-preserved c = record {
   read = rw c.push_reserved.ensures.items (sym (ap (with_read c.loop-byte.bytes.items) c.in-Some.ensures.spelled ∙ one_more c.loop-byte.bytes.items c.in-Some.byte (pairs_of c.in-Some.after.now)) ∙ c.loop-byte.invariant.read);
   size = omega (arith, simp length-append at (ap (λ (xs : List ℕ). length xs) c.push_reserved.ensures.items), c.in-Some.ensures.shorter, c.loop-byte.invariant.size);
-  room = omega (arith, c.push_reserved.ensures.capacity, c.loop-byte.invariant.room);
+  capacity = omega (arith, c.push_reserved.ensures.capacity, c.loop-byte.invariant.capacity);
 }
 
 pub returns : goal.returns

@@ -7,7 +7,7 @@ abbrev pub invariant-loop-byte : goal.invariant-loop-byte
 invariant-loop-byte l = record {
   read : with_read l.bytes.items (pairs_of l.rest) ≡ pairs_of l.word;
   size : 2 * length l.bytes.items + length l.rest ≡ length l.word;
-  room : length l.word / 2 ≤ vec_capacity l.bytes;
+  capacity : length l.word / 2 ≤ vec_capacity l.bytes;
 }
 
 abbrev pub decreases-loop-byte : goal.decreases-loop-byte

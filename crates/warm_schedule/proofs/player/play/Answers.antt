@@ -7,7 +7,7 @@ pub loop-init : goal.loop-init
 loop-init g c = record {
   goes = ([], [], Consumes-none _, Appends-none _, Goes-none _);
   number = omega (arith, c.in_ok-session.ensures.fresh.first);
-  room = c.in_ok-buffer.ensures.len;
+  size = c.in_ok-buffer.ensures.len;
   fresh = c.in_ok-session.ensures.fresh;
 }
 
@@ -17,8 +17,8 @@ loop-preserved g c =
     let next = c.in_ok-read_some.ensures.goes in
     record {
       goes = (so_far.0 ++ next.0, so_far.1 ++ next.1, Consumes-then _ _ _ so_far.0 next.0 so_far.2 next.2, Appends-then _ _ _ so_far.1 next.1 so_far.3 next.3, Goes-then _ _ _ so_far.0 next.0 so_far.1 next.1 so_far.4 next.4);
-      number = omega (arith, c.loop.invariant.number, c.in_ok-read_some.ensures.number, c.as_mut_slice.ensures.len, c.loop.invariant.room);
-      room = c.loop.invariant.room;
+      number = omega (arith, c.loop.invariant.number, c.in_ok-read_some.ensures.number, c.as_mut_slice.ensures.len, c.loop.invariant.size);
+      size = c.loop.invariant.size;
       fresh = c.loop.invariant.fresh;
     }
 

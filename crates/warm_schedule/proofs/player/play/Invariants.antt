@@ -13,6 +13,6 @@ invariant-loop g l =
       goes : (seen out : List ℕ) × Consumes (remaining l.fn.reader) (remaining l.reader) seen × Appends (contents l.fn.writer) (contents l.writer) out
           × Goes (session l.initial.session) seen out (session l.session);
       number : l.session.number ≤ 1 + l.counter * 65536;
-      room : vec_len l.buffer ≡ 65536;
+      size : vec_len l.buffer ≡ 65536;
       fresh : IsFresh (session l.initial.session) (opening l.fn.setup (listed g.D.PageDevice.state l.fn.devices.items));
     }

@@ -1,7 +1,7 @@
 use Rattle.std.proofs.Common.{◌≤◌, length, arith}
 use Rattle.std.proofs.lemmas.List.{take_all}
 use Rattle.warm_world.specs.Replicas.{Encodes}
-use Rattle.warm_world.proofs.Frames.{encoded_more}
+use Rattle.warm_world.proofs.Messages.{encoded_more}
 use Rattle.warm_world.proofs.Pairs.{Pairwise-nil}
 use Rattle.warm_world.proofs.gossip.encoded.Goals as goal
 

@@ -1,16 +1,11 @@
-use Rattle.std.proofs.Common.{◌≡◌, ◌≤◌, ap, subst, sym, ◌∙◌}
-use Rattle.warm_history.specs.Histories.{HistoryView, IsHistory}
+use Rattle.std.proofs.Common.{sym, arith}
 use Rattle.warm_history.proofs.JoinLemmas.{raised_to_no_later}
 use Rattle.warm_pool.specs.View.{view_of}
-use Rattle.warm_gossip.specs.State.{NodeState, NodeView}
+use Rattle.warm_gossip.proofs.Warmings.{same_node}
 use Rattle.warm_gossip.proofs.node.Node.raise.Goals as goal
 
 -- a time that is not past the horizon changes nothing
 pub returns-then-time-own : goal.returns-then-time-own
 returns-then-time-own g c =
-    let s = c.args.self.now in
-    let is : c.self.inside.history ≡ s.history = ap (λ (t : NodeState). t.history) c.self.view_is in
-    let own : c.horizon-own.result ≡ s.history.horizon = c.horizon-own.ensures ∙ ap (λ (h : HistoryView). h.horizon) is in
-    let whole : IsHistory s.history = subst IsHistory (c.history.ensures ∙ is) c.is_history.ensures in
-    let after : HistoryView → NodeView = λ h. record { id = s.id; history = h; pool = view_of s.pool } in
-    (ap after (sym (raised_to_no_later s.history c.args.time whole (subst (λ n. c.args.time ≤ n) own c.if-time-own.true))), own)
+    let same = raised_to_no_later c.self.inside.history c.args.time (rw c.history.ensures at c.is_history.ensures) (omega (arith, c.if-time-own.true, c.horizon-own.ensures)) in
+    rw (← c.self.view_is) (same_node c.self.inside.id (view_of c.self.inside.pool) _ _ (sym same), c.horizon-own.ensures)

@@ -12,7 +12,7 @@ pub overflow_add-status : goal.overflow_add-status
 overflow_add-status c =
     let is = status_is c.self.invariant c.self.view_is c.args.at c.requires.there c.index_mut-status.result.now c.index_mut-status.ensures.value in
     let fixes = ap (λ s. s.fixes) is ∙ ap (λ f. f.fixes) (seen c.self.invariant c.self.view_is c.args.at c.requires.there) in
-    omega (arith, fixes, c.requires.room)
+    omega (arith, fixes, c.requires.below)
 
 pub invariant_of-self : goal.invariant_of-self
 invariant_of-self c =

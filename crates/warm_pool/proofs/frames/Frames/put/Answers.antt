@@ -11,7 +11,7 @@ pub fill-requires : goal.fill-requires
 fill-requires c =
     let is = body_is c.self.invariant c.self.view_is c.args.at c.requires.there _ c.index_mut-frame.result.now refl c.index_mut-frame.ensures.value in
     let generation = ap (λ b. b.generation) is ∙ ap (λ f. f.generation) (seen c.self.invariant c.self.view_is c.args.at c.requires.there) in
-    omega (arith, generation, c.requires.room)
+    omega (arith, generation, c.requires.below)
 
 pub index_mut-requires : goal.index_mut-requires
 index_mut-requires c = has_status c.self.invariant c.self.view_is c.args.at c.requires.there c.self.inside.statuses.ok.0

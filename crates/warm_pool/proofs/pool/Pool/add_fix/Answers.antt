@@ -11,7 +11,7 @@ pub returns-then-fixes-lt4294967295-clause-ranked : goal.returns-then-fixes-lt42
 returns-then-fixes-lt4294967295-clause-ranked g c = rw (← c.self.view_is) (step_ranked c.self.inside.frames c.fix.new.self c.self.invariant c.args.at _ c.fix.ensures (subst (λ s. c.args.at < length s.frames) (sym c.self.view_is) c.requires.there) (alike_fixes c.self.invariant _ _ (subst (λ s. (nth_frame s.frames c.args.at).page ≢ None) (sym c.self.view_is) c.requires.held)) refl)
 
 pub returns-then-fixes-lt4294967295-clause-fixed : goal.returns-then-fixes-lt4294967295-clause-fixed
-returns-then-fixes-lt4294967295-clause-fixed g c = rw (← c.self.view_is) (λ p e. record { there = seen_there c.self.invariant c.args.at (subst (λ s. c.args.at < length s.frames) (sym c.self.view_is) c.requires.there); resident = seen_page c.self.invariant c.args.at p e; room = subst (λ n. n < 4294967295) (seen_fixes c.self.invariant c.args.at c.fixes.ensures) c.if-fixes-lt4294967295.true; current = seen_generation c.self.invariant c.args.at c.generation-generation.ensures; becomes = step_view c.self.inside.frames c.fix.new.self c.self.invariant c.args.at _ c.fix.ensures (subst (λ s. c.args.at < length s.frames) (sym c.self.view_is) c.requires.there) (alike_fixes c.self.invariant _ _ (subst (λ s. (nth_frame s.frames c.args.at).page ≢ None) (sym c.self.view_is) c.requires.held)) ∙ seen_fixed c.self.invariant c.args.at })
+returns-then-fixes-lt4294967295-clause-fixed g c = rw (← c.self.view_is) (λ p e. record { there = seen_there c.self.invariant c.args.at (subst (λ s. c.args.at < length s.frames) (sym c.self.view_is) c.requires.there); resident = seen_page c.self.invariant c.args.at p e; below = subst (λ n. n < 4294967295) (seen_fixes c.self.invariant c.args.at c.fixes.ensures) c.if-fixes-lt4294967295.true; current = seen_generation c.self.invariant c.args.at c.generation-generation.ensures; becomes = step_view c.self.inside.frames c.fix.new.self c.self.invariant c.args.at _ c.fix.ensures (subst (λ s. c.args.at < length s.frames) (sym c.self.view_is) c.requires.there) (alike_fixes c.self.invariant _ _ (subst (λ s. (nth_frame s.frames c.args.at).page ≢ None) (sym c.self.view_is) c.requires.held)) ∙ seen_fixed c.self.invariant c.args.at })
 
 pub returns-then-fixes-lt4294967295-clause-holds : goal.returns-then-fixes-lt4294967295-clause-holds
 returns-then-fixes-lt4294967295-clause-holds g c = (step_holds c.self.inside.frames c.fix.new.self c.self.invariant c.args.at _ c.fix.ensures (subst (λ s. c.args.at < length s.frames) (sym c.self.view_is) c.requires.there) (alike_fixes c.self.invariant _ _ (subst (λ s. (nth_frame s.frames c.args.at).page ≢ None) (sym c.self.view_is) c.requires.held)) _ refl c.generation-generation.ensures (omega arith))

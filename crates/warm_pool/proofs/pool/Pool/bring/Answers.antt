@@ -1,24 +1,20 @@
 use Rattle.std.proofs.Common.{◌≡◌, ◌<◌, refl, sym, subst, ◌∙◌, arith, ap}
-use Rattle.warm_pool.specs.State.{IsPool}
 use Rattle.warm_pool.specs.Frames.{nth_frame}
-use Rattle.warm_pool.proofs.PoolSteps.{has_device, has_number, seen_generation}
+use Rattle.warm_pool.proofs.PoolSteps.{pool_seen, has_device, has_number, seen_generation}
 use Rattle.warm_pool.proofs.Pins.{put_refused, failed_ranked, loaded_ranked, loaded_puts}
-use Rattle.warm_pool.proofs.KeepingLemmas.{loaded_takes, failed_writes_dirty}
+use Rattle.warm_pool.proofs.KeepingLemmas.{loaded_takes, failed_leaves}
 use Rattle.warm_pool.proofs.FlushLemmas.{handed_on}
 use Rattle.warm_pool.proofs.pool.Pool.bring.Goals as goal
 
-pub returns-in_default-clause-refused : goal.returns-in_default-clause-refused
-returns-in_default-clause-refused g c = (c.in_default.ensures.place c.args.history.now c.requires.ranked, refl)
-
-pub load_into-requires-clause-room : goal.load_into-requires-clause-room
-load_into-requires-clause-room g c =
+pub load_into-requires-clause-below : goal.load_into-requires-clause-below
+load_into-requires-clause-below g c =
     subst (λ n. n < 18446744073709551615) (c.generation-generation.ensures ∙ ap (λ s. (nth_frame s.frames c.in-Some.at).generation) c.self.view_is) c.if-generation-lt18446744073709551615.true
 
 pub load_into-requires-clause-device : goal.load_into-requires-clause-device
-load_into-requires-clause-device g c = has_device (subst (λ s. IsPool s) c.self.view_is c.self.invariant) _ c.requires.known
+load_into-requires-clause-device g c = has_device (pool_seen c.self.view_is c.self.invariant) _ c.requires.known
 
 pub load_into-requires-clause-known : goal.load_into-requires-clause-known
-load_into-requires-clause-known g c = has_number (subst (λ s. IsPool s) c.self.view_is c.self.invariant) _ c.requires.known
+load_into-requires-clause-known g c = has_number (pool_seen c.self.view_is c.self.invariant) _ c.requires.known
 
 pub returns-in_err-load_into-clause-ranked : goal.returns-in_err-load_into-clause-ranked
 returns-in_err-load_into-clause-ranked g c = failed_ranked c.args.self.now c.load_into.new.self c.in-Some.at c.args.page _ c.in_err-load_into.ensures.refused c.args.history.now c.requires.ranked
@@ -46,7 +42,7 @@ returns-clause-refused g c =
       (
         c.in-Some.at,
         c.in-Some.ensures.place _ c.requires.ranked,
-        sym (seen_generation (subst (λ s. IsPool s) c.self.view_is c.self.invariant) c.in-Some.at (c.generation-generation.ensures ∙ ap (λ s. (nth_frame s.frames c.in-Some.at).generation) c.self.view_is)) ∙ full,
+        sym (seen_generation (pool_seen c.self.view_is c.self.invariant) c.in-Some.at (c.generation-generation.ensures ∙ ap (λ s. (nth_frame s.frames c.in-Some.at).generation) c.self.view_is)) ∙ full,
       ),
       refl,
     )
@@ -55,5 +51,5 @@ pub returns-then-generation-lt18446744073709551615-clause-frame : goal.returns-t
 returns-then-generation-lt18446744073709551615-clause-frame g c =
     loaded_takes _ _ c.in-Some.at c.args.page c.known_key-key.result c.args.fixes c.in_ok-load_into.ensures.put c.in-Some.ensures.there c.requires.absent _ refl
 
-pub returns-in_err-load_into-clause-writes : goal.returns-in_err-load_into-clause-writes
-returns-in_err-load_into-clause-writes g c = handed_on c.from_residual.result c.in_err-load_into.field-0.0 _ c.from_residual.ensures.1 (failed_writes_dirty c.args.history.now c.args.self.now _ c.in-Some.at c.args.page (c.in-Some.ensures.place _ c.requires.ranked) _ c.in_err-load_into.ensures.refused)
+pub returns-in_err-load_into-clause-devices : goal.returns-in_err-load_into-clause-devices
+returns-in_err-load_into-clause-devices g c = handed_on c.from_residual.result c.in_err-load_into.field-0.0 _ c.from_residual.ensures.1 (failed_leaves c.args.history.now c.args.self.now _ c.in-Some.at c.args.page (c.in-Some.ensures.place _ c.requires.ranked) _ c.in_err-load_into.ensures.refused)

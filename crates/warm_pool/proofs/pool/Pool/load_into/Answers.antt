@@ -1,40 +1,33 @@
 use Rattle.std.proofs.Common.{◌<◌, ◌∙◌, ap, refl, length, sym, subst}
 use Rattle.warm_pool.specs.Frames.{nth_frame}
 use Rattle.warm_pool.proofs.Loads.{ok_if_no_err, err_if, on_ok, on_err}
-use Rattle.warm_pool.proofs.Arrivals.{fetched_in, fetched_pool, fetch_failed, leave_failed, still_there, still_room, still_size, arrived_pool, loads_into}
+use Rattle.warm_pool.proofs.Arrivals.{fetched_in, fetched_pool, fetch_failed, leave_failed, still_there, still_below, still_size, arrived_pool, loads_into}
 use Rattle.warm_pool.proofs.pool.Pool.load_into.Goals as goal
 
 pub put-requires-clause-there : goal.put-requires-clause-there
 put-requires-clause-there g c =
-    let fetched = fetched_in c.self.view_is c.self.invariant c.requires.device c.requires.known c.requires.absent c.read_page.ensures.call in
-    still_there fetched (ok_if_no_err _ c.if-is_err.ensures.value) c.write_back.new.frames c.args.at (subst (λ s. c.args.at < length s.frames) (sym c.self.view_is) c.requires.there) (c.read_page.ensures.len ∙ c.self.invariant.spare_size) c.write_back.ensures.fit (on_ok _ (ok_if_no_err _ c.if-is_err-2.ensures.value) c.write_back.ensures.done)
+    still_there (fetched_in c.args.at c.self.view_is c.self.invariant c.requires.there c.read_page.ensures.len c.requires.device c.requires.known c.requires.absent c.read_page.ensures.call) (ok_if_no_err _ c.if-is_err.ensures.value) c.write_back.new.frames c.write_back.ensures.fit (on_ok _ (ok_if_no_err _ c.if-is_err-2.ensures.value) c.write_back.ensures.done)
 
-pub put-requires-clause-room : goal.put-requires-clause-room
-put-requires-clause-room g c =
-    let fetched = fetched_in c.self.view_is c.self.invariant c.requires.device c.requires.known c.requires.absent c.read_page.ensures.call in
-    still_room fetched (ok_if_no_err _ c.if-is_err.ensures.value) c.write_back.new.frames c.args.at (subst (λ s. c.args.at < length s.frames) (sym c.self.view_is) c.requires.there) (c.read_page.ensures.len ∙ c.self.invariant.spare_size) c.write_back.ensures.fit (on_ok _ (ok_if_no_err _ c.if-is_err-2.ensures.value) c.write_back.ensures.done) _ (subst (λ s. (nth_frame s.frames c.args.at).generation < 18446744073709551615) (sym c.self.view_is) c.requires.room)
+pub put-requires-clause-below : goal.put-requires-clause-below
+put-requires-clause-below g c =
+    still_below (fetched_in c.args.at c.self.view_is c.self.invariant c.requires.there c.read_page.ensures.len c.requires.device c.requires.known c.requires.absent c.read_page.ensures.call) (ok_if_no_err _ c.if-is_err.ensures.value) c.write_back.new.frames c.write_back.ensures.fit (on_ok _ (ok_if_no_err _ c.if-is_err-2.ensures.value) c.write_back.ensures.done) _ (subst (λ s. (nth_frame s.frames c.args.at).generation < 18446744073709551615) (sym c.self.view_is) c.requires.below)
 
 pub returns-then-is_err-clause-refused : goal.returns-then-is_err-clause-refused
 returns-then-is_err-clause-refused g c = rw (← c.self.view_is) (
-    let fetched = fetched_in c.self.view_is c.self.invariant c.requires.device c.requires.known c.requires.absent c.read_page.ensures.call in
-    (refl, fetch_failed fetched (err_if _ c.if-is_err.ensures.value)))
+    let x = fetch_failed (fetched_in c.args.at c.self.view_is c.self.invariant c.requires.there c.read_page.ensures.len c.requires.device c.requires.known c.requires.absent c.read_page.ensures.call) (err_if _ c.if-is_err.ensures.value) in record { frames = x.frames; devices = x.devices; fails = x.fails })
 
 pub write_back-requires-clause-fit : goal.write_back-requires-clause-fit
 write_back-requires-clause-fit g c =
-    let fetched = fetched_in c.self.view_is c.self.invariant c.requires.device c.requires.known c.requires.absent c.read_page.ensures.call in
-    fetched_pool fetched _ (sym c.self.invariant.spare_size)
+    fetched_pool (fetched_in c.args.at c.self.view_is c.self.invariant c.requires.there c.read_page.ensures.len c.requires.device c.requires.known c.requires.absent c.read_page.ensures.call) _ (sym c.self.invariant.spare_size)
 
 pub returns-then-is_err-2-clause-refused : goal.returns-then-is_err-2-clause-refused
 returns-then-is_err-2-clause-refused g c = rw (← c.self.view_is) (
-    let fetched = fetched_in c.self.view_is c.self.invariant c.requires.device c.requires.known c.requires.absent c.read_page.ensures.call in
-    let x = leave_failed fetched (ok_if_no_err _ c.if-is_err.ensures.value) _ _ (on_err _ (err_if _ c.if-is_err-2.ensures.value) c.write_back.ensures.failed) in record { page = x.page; holds = x.holds; dirty = x.dirty; frames = x.frames; fails = x.fails })
+    let x = leave_failed (fetched_in c.args.at c.self.view_is c.self.invariant c.requires.there c.read_page.ensures.len c.requires.device c.requires.known c.requires.absent c.read_page.ensures.call) (ok_if_no_err _ c.if-is_err.ensures.value) _ (on_err _ (err_if _ c.if-is_err-2.ensures.value) c.write_back.ensures.failed) in record { page = x.page; holds = x.holds; dirty = x.dirty; frames = x.frames; waits = x.waits; others = x.others; fails = x.fails })
 
 pub invariant_of-self-2 : goal.invariant_of-self-2
 invariant_of-self-2 g c =
-    let fetched = fetched_in c.self.view_is c.self.invariant c.requires.device c.requires.known c.requires.absent c.read_page.ensures.call in
-    arrived_pool fetched (ok_if_no_err _ c.if-is_err.ensures.value) c.write_back.new.frames c.args.at (subst (λ s. c.args.at < length s.frames) (sym c.self.view_is) c.requires.there) (c.read_page.ensures.len ∙ c.self.invariant.spare_size) c.write_back.ensures.fit (on_ok _ (ok_if_no_err _ c.if-is_err-2.ensures.value) c.write_back.ensures.done) c.args.key c.args.fixes c.read_page.new.into.items refl c.put.new.self _ c.put.ensures.frames (ap length c.put.ensures.given ∙ still_size fetched (ok_if_no_err _ c.if-is_err.ensures.value) c.write_back.new.frames c.args.at (subst (λ s. c.args.at < length s.frames) (sym c.self.view_is) c.requires.there) (c.read_page.ensures.len ∙ c.self.invariant.spare_size) c.write_back.ensures.fit (on_ok _ (ok_if_no_err _ c.if-is_err-2.ensures.value) c.write_back.ensures.done))
+    arrived_pool (fetched_in c.args.at c.self.view_is c.self.invariant c.requires.there c.read_page.ensures.len c.requires.device c.requires.known c.requires.absent c.read_page.ensures.call) (ok_if_no_err _ c.if-is_err.ensures.value) c.write_back.new.frames c.write_back.ensures.fit (on_ok _ (ok_if_no_err _ c.if-is_err-2.ensures.value) c.write_back.ensures.done) c.args.key c.args.fixes c.read_page.new.into.items refl c.put.new.self _ c.put.ensures.frames (ap length c.put.ensures.given ∙ still_size (fetched_in c.args.at c.self.view_is c.self.invariant c.requires.there c.read_page.ensures.len c.requires.device c.requires.known c.requires.absent c.read_page.ensures.call) (ok_if_no_err _ c.if-is_err.ensures.value) c.write_back.new.frames c.write_back.ensures.fit (on_ok _ (ok_if_no_err _ c.if-is_err-2.ensures.value) c.write_back.ensures.done))
 
 pub returns-clause-put : goal.returns-clause-put
 returns-clause-put g c = rw (← c.self.view_is) (
-    let fetched = fetched_in c.self.view_is c.self.invariant c.requires.device c.requires.known c.requires.absent c.read_page.ensures.call in
-    loads_into fetched (ok_if_no_err _ c.if-is_err.ensures.value) c.write_back.new.frames c.args.at (subst (λ s. c.args.at < length s.frames) (sym c.self.view_is) c.requires.there) (c.read_page.ensures.len ∙ c.self.invariant.spare_size) c.write_back.ensures.fit (on_ok _ (ok_if_no_err _ c.if-is_err-2.ensures.value) c.write_back.ensures.done) c.args.key c.args.fixes c.read_page.new.into.items refl c.put.new.self _ c.put.ensures.frames)
+    loads_into (fetched_in c.args.at c.self.view_is c.self.invariant c.requires.there c.read_page.ensures.len c.requires.device c.requires.known c.requires.absent c.read_page.ensures.call) (ok_if_no_err _ c.if-is_err.ensures.value) c.write_back.new.frames c.write_back.ensures.fit (on_ok _ (ok_if_no_err _ c.if-is_err-2.ensures.value) c.write_back.ensures.done) c.args.key c.args.fixes c.read_page.new.into.items refl c.put.new.self _ c.put.ensures.frames)

@@ -7,13 +7,7 @@ loop-page-init g c = none_renewed _ _ _
 
 pub loop-page-preserved : goal.loop-page-preserved
 loop-page-preserved g c =
-    one_renewed _ _ _ _ c.loop-page.invariant (λ d. get_or_default _ _ _ _ c.loop-page-test.true) c.renew.ensures.same c.renew.ensures.kept c.renew.ensures.keys
-
-pub returns-clause-same : goal.returns-clause-same
-returns-clause-same g c = c.loop-page.invariant.same
+    one_renewed _ _ _ _ c.loop-page.invariant c.loop-page-test.true (λ d. get_or_default _ _ _ _ c.loop-page-test.true) c.renew.ensures.same c.renew.ensures.kept c.renew.ensures.keys
 
 pub returns-clause-ranked : goal.returns-clause-ranked
 returns-clause-ranked g c history ranked agree = all_renewed _ _ _ c.loop-page.invariant c.loop-page-test.false history ranked agree
-
-pub returns-clause-kept : goal.returns-clause-kept
-returns-clause-kept g c = c.loop-page.invariant.kept

@@ -1,8 +1,7 @@
-use Rattle.std.proofs.Common.{None, length, refl, sym, subst, arith}
+use Rattle.std.proofs.Common.{None, refl, arith}
 use Rattle.std.proofs.lemmas.List.{length-map}
-use Rattle.warm_pool.specs.WritingBack.{PutsDown, cleaned_chosen}
 use Rattle.warm_pool.proofs.FlushLemmas.{on_err}
-use Rattle.warm_pool.proofs.SettleLemmas.{ranked_to, flush_down, flushed_alike, flushed_failures, flushed_quiet, stopped_alike, flush_stops_at, alike_kept}
+use Rattle.warm_pool.proofs.SettleLemmas.{ranked_to, seen_down, flush_down, flushed_alike, flushed_failures, flushed_quiet, stopped_alike, flush_stops_at, alike_kept}
 use Rattle.warm_pool.proofs.Keeps.{devices_keep_pool}
 use Rattle.warm_pool.proofs.pool.Pool.settle.Goals as goal
 
@@ -14,27 +13,21 @@ invariant_of-self g c = devices_keep_pool _ _ (alike_kept _ _ _ (stopped_alike _
 
 pub returns-in_err-flush_all-clause-stopped : goal.returns-in_err-flush_all-clause-stopped
 returns-in_err-flush_all-clause-stopped g c =
-    let down = subst (λ t. PutsDown (cleaned_chosen None (length c.args.self.now.frames) c.args.self.now.frames) c.args.self.now t) (sym c.self.view_is) c.in_ok-clean_chosen.ensures.down in
-    on_err _ _ (flush_stops_at _ _ _ c.in_err-flush_all.ensures.stopped down refl (refl, refl))
+    on_err _ _ (flush_stops_at _ _ _ c.in_err-flush_all.ensures.stopped (seen_down c.self.view_is c.in_ok-clean_chosen.ensures.down) refl (refl, refl))
 
 pub returns-in_err-flush_all-clause-ranked : goal.returns-in_err-flush_all-clause-ranked
-returns-in_err-flush_all-clause-ranked g c = λ h ranked.
-    let down = subst (λ t. PutsDown (cleaned_chosen None (length c.args.self.now.frames) c.args.self.now.frames) c.args.self.now t) (sym c.self.view_is) c.in_ok-clean_chosen.ensures.down in
-    ranked_to None _ _ _ h down.becomes ranked
+returns-in_err-flush_all-clause-ranked g c = λ h ranked. ranked_to None _ _ _ h (seen_down c.self.view_is c.in_ok-clean_chosen.ensures.down).becomes ranked
 
 pub invariant_of-self-2 : goal.invariant_of-self-2
 invariant_of-self-2 g c = devices_keep_pool _ _ (alike_kept _ _ _ (flushed_alike _ _ _ c.in_ok-flush_all.ensures.flushed)) c.self.invariant
 
 pub returns-clause-down : goal.returns-clause-down
 returns-clause-down g c =
-    let down = subst (λ t. PutsDown (cleaned_chosen None (length c.args.self.now.frames) c.args.self.now.frames) c.args.self.now t) (sym c.self.view_is) c.in_ok-clean_chosen.ensures.down in
     let flushed = c.in_ok-flush_all.ensures.flushed in
-    flush_down None _ _ _ _ down refl (refl, refl) (flushed_alike _ _ _ flushed) (flushed_failures _ _ _ flushed)
+    flush_down None _ _ _ _ (seen_down c.self.view_is c.in_ok-clean_chosen.ensures.down) refl (refl, refl) (flushed_alike _ _ _ flushed) (flushed_failures _ _ _ flushed)
 
 pub returns-clause-flushed : goal.returns-clause-flushed
 returns-clause-flushed g c = flushed_quiet _ _ _ (rw length-map (omega arith)) c.in_ok-flush_all.ensures.flushed
 
 pub returns-clause-ranked : goal.returns-clause-ranked
-returns-clause-ranked g c = λ h ranked.
-    let down = subst (λ t. PutsDown (cleaned_chosen None (length c.args.self.now.frames) c.args.self.now.frames) c.args.self.now t) (sym c.self.view_is) c.in_ok-clean_chosen.ensures.down in
-    ranked_to None _ _ _ h down.becomes ranked
+returns-clause-ranked g c = λ h ranked. ranked_to None _ _ _ h (seen_down c.self.view_is c.in_ok-clean_chosen.ensures.down).becomes ranked

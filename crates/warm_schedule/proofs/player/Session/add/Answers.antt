@@ -6,5 +6,5 @@ use Rattle.warm_schedule.proofs.player.Session.add.Goals as goal
 pub returns-clause-adds : goal.returns-clause-adds
 returns-clause-adds g c =
     let line = c.args.self.now.line in
-    let room : c.saturating_sub-room.result ≡ MAX_LINE + 1 - length line.items = omega (arith, line.ok.0, c.len.ensures, c.saturating_sub-room.ensures) in
-    adds_held _ _ c.args.piece.now c.saturating_sub-room.result c.min-kept.result c.requires refl refl room c.min-kept.ensures c.in_ok-extend_from_slice.ensures.items
+    let left : c.saturating_sub-left.result ≡ MAX_LINE + 1 - length line.items = omega (arith, line.ok.0, c.len.ensures, c.saturating_sub-left.ensures) in
+    adds_held _ _ c.args.piece.now c.saturating_sub-left.result c.min-kept.result c.requires refl refl left c.min-kept.ensures c.in_ok-extend_from_slice.ensures.items

@@ -6,7 +6,7 @@ use Rattle.warm_schedule.specs.declared.parse.Line.{Line}
 use Rattle.warm_schedule.specs.declared.parse.Line.TheVariants.{Nothing, Act}
 use Rattle.warm_schedule.specs.declared.parse.LineFault.{LineFault}
 use Rattle.warm_random.proofs.Written.{Appends-none}
-use Rattle.warm_schedule.proofs.Stream.{answers_event, answers_bad, answers_no_room, answers_nothing, done, was_bad, was_line, was_put}
+use Rattle.warm_schedule.proofs.Stream.{answers_event, answers_bad, answers_no_memory, answers_nothing, done, was_bad, was_line, was_put}
 use Rattle.warm_schedule.proofs.player.Session.answer.Goals as goal
 
 pub returns-in_ok-map_err-in-Err-Bad-clause-answered : goal.returns-in_ok-map_err-in-Err-Bad-clause-answered
@@ -20,7 +20,7 @@ pub returns-in_ok-map_err-in-Err-Memory-clause-answered : goal.returns-in_ok-map
 returns-in_ok-map_err-in-Err-Memory-clause-answered g c = (
   refused_text (Node Memory),
   done c.print_refusal.result c.in_ok-map_err-in-Err-Memory.ensures.variant c.print_refusal.ensures,
-  answers_no_room _ _ c.args.line.now (was_put c.args.line.now c.parse_line.result c.parse_line.ensures (c.in-Err-Memory.is ∙ ap (λ (fault : LineFault). Err fault) c.in-Err-Memory.field-0-is)),
+  answers_no_memory _ _ c.args.line.now (was_put c.args.line.now c.parse_line.result c.parse_line.ensures (c.in-Err-Memory.is ∙ ap (λ (fault : LineFault). Err fault) c.in-Err-Memory.field-0-is)),
 )
 
 pub returns-in-Ok-Nothing-clause-answered : goal.returns-in-Ok-Nothing-clause-answered

@@ -8,6 +8,6 @@ returns g c =
     let answered = c.in_ok-answer_held.ensures.answered in
     let settled = c.in_ok-settle.ensures in (
       answered.0 ++ settled.0,
-      Appends-kept _ _ _ (answered.0 ++ settled.0) (Appends-then _ _ _ answered.0 settled.0 answered.1 settled.1) c.in_ok-hand_on.ensures,
+      Appends-kept _ _ _ (answered.0 ++ settled.0) (Appends-then _ _ _ answered.0 settled.0 answered.1 settled.1) c.in_ok-pass_on.ensures,
       Ends-answer _ answered.0 settled.0 _ answered.2 settled.2,
     )

@@ -7,7 +7,7 @@ use Rattle.warm_world.specs.Views.{ReplicaView, replica_view}
 use Rattle.warm_world.specs.States.{pending, flushed}
 use Rattle.warm_world.specs.Next.{stamped}
 use Rattle.warm_world.specs.Stands.{ReplicaStands, buffered}
-use Rattle.warm_world.proofs.Replicas.{buffer_at, flushed_is_empty, gave_back, handed_on, puts, referred_when_full, referred_with_room, took_one}
+use Rattle.warm_world.proofs.Replicas.{buffer_at, flushed_is_empty, gave_back, passed_on, puts, referred_when_full, referred_with_capacity, took_one}
 use Rattle.warm_world.proofs.replica.Replica.refer.Goals as goal
 
 -- the reference that is touched
@@ -25,7 +25,7 @@ returns-in_default-clause-ok g c = λ capacity made is place m st.
     let put : c.touch.new.self ≡ buffered capacity (pending m k ++ made ∷ []) =
     (c.touch.ensures.taken few).1 ∙ ap (λ (d : Buffered). with_last d x) was
     ∙ ap (λ (y : Reference). buffered capacity (pending m k ++ y ∷ [])) (touched_is c.id.result _ c.args.page c.args.time made c.id.ensures is) in
-    rw (referred_with_room capacity k made m less) (puts capacity place k (replica_view c.args.self.now) _ m made c.touch.new.self st put refl)
+    rw (referred_with_capacity capacity k made m less) (puts capacity place k (replica_view c.args.self.now) _ m made c.touch.new.self st put refl)
 
 pub returns-in_err-flush-clause-err : goal.returns-in_err-flush-clause-err
 returns-in_err-flush-clause-err g c =
@@ -34,11 +34,11 @@ returns-in_err-flush-clause-err g c =
     let b = c.index_mut.result.now in
     let back = gave_back b c.touch.new.self _ c.in-Err.full.0 c.touch.result c.in-Err.is c.touch.ensures.taken c.touch.ensures.full in
     let same : set bs k c.touch.new.self ≡ bs = ap (set bs k) (back.1 ∙ c.index_mut.ensures.value) ∙ set-get_or bs k b in
-    handed_on c.from_residual.result c.in_err-flush.field-0.0 _ c.from_residual.ensures.1
+    passed_on c.from_residual.result c.in_err-flush.field-0.0 _ c.from_residual.ensures.1
     (c.in_err-flush.ensures.err.0, c.in_err-flush.ensures.err.1 ∙ ap (λ (cs : List Buffered). let r : ReplicaView = record (replica_view c.args.self.now) { buffers = cs } in r) same)
 
 pub returns-in_err-flush-clause-full : goal.returns-in_err-flush-clause-full
-returns-in_err-flush-clause-full g c = handed_on c.from_residual.result c.in_err-flush.field-0.0 _ c.from_residual.ensures.1 (λ capacity place m st.
+returns-in_err-flush-clause-full g c = passed_on c.from_residual.result c.in_err-flush.field-0.0 _ c.from_residual.ensures.1 (λ capacity place m st.
     let b = c.index_mut.result.now in
     let was : b ≡ buffered capacity (pending m c.args.worker) = c.index_mut.ensures.value ∙ buffer_at capacity c.args.self.now.buffers.items m.pending c.args.worker b st.buffers_are c.requires.there in
     subst (λ (d : Buffered). d.capacity ≤ length d.refs) was (gave_back b c.touch.new.self _ c.in-Err.full.0 c.touch.result c.in-Err.is c.touch.ensures.taken c.touch.ensures.full).0)
@@ -54,7 +54,7 @@ returns-clause-ok g c = λ capacity made is place m st.
     let full = subst (λ (d : Buffered). d.capacity ≤ length d.refs) was back.0 in
     let same : set bs k c.touch.new.self ≡ bs = ap (set bs k) (back.1 ∙ c.index_mut.ensures.value) ∙ set-get_or bs k b in
     let old : ReplicaStands capacity place (record (replica_view c.args.self.now) { buffers = set bs k c.touch.new.self }) m =
-    record { has_room = st.has_room; node_is = st.node_is; buffers_are = same ∙ st.buffers_are } in
+    record { has_capacity = st.has_capacity; node_is = st.node_is; buffers_are = same ∙ st.buffers_are } in
     let mid = c.in_ok-flush.ensures.ok capacity place m old in
     let there : k < length c.flush.new.self.buffers.items = omega (arith, c.requires.there, c.in_ok-flush.ensures.same, length-set bs k c.touch.new.self) in
     let d = c.index_mut-2.result.now in

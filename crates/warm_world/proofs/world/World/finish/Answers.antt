@@ -1,7 +1,13 @@
-use Rattle.warm_world.proofs.Endings.{fails_since}
-use Rattle.warm_world.proofs.Replicas.{handed_on}
+use Rattle.warm_world.specs.Opening.{StopsInOrder}
+use Rattle.warm_world.proofs.Endings.{fails_since, stops_in_order}
+use Rattle.warm_world.proofs.Replicas.{passed_on}
 use Rattle.warm_world.proofs.world.World.finish.Goals as goal
 
 pub returns-in_err-write_back-clause-refused : goal.returns-in_err-write_back-clause-refused
 returns-in_err-write_back-clause-refused g c =
-    handed_on c.from_residual.result c.in_err-write_back.field-0.0 _ c.from_residual.ensures.1 (fails_since _ _ _ c.in_err-write_back.field-0.0 c.loop-k.invariant.same c.in_err-write_back.ensures.refused)
+    passed_on c.from_residual.result c.in_err-write_back.field-0.0 _ c.from_residual.ensures.1 (fails_since _ _ _ c.loop-k.k c.in_err-write_back.field-0.0 c.loop-k.invariant.same c.in_err-write_back.ensures.refused)
+
+pub returns-in_err-write_back-clause-stops : goal.returns-in_err-write_back-clause-stops
+returns-in_err-write_back-clause-stops g c =
+    passed_on c.from_residual.result c.in_err-write_back.field-0.0 (λ _. StopsInOrder c.args.self.now c.write_back.new.self) c.from_residual.ensures.1
+    (stops_in_order c.args.self.now c.loop-k.self c.write_back.new.self c.loop-k.k c.loop-k.invariant.same c.loop-k.invariant.settled c.loop-k.invariant.later c.write_back.ensures.others c.in_err-write_back.ensures.refused.1)

@@ -9,21 +9,20 @@ use Rattle.warm_world.specs.declared.event.Answer.TheVariants as answer
 use Rattle.warm_world.specs.declared.event.WorldFault.TheVariants.{Node}
 use Rattle.warm_world.specs.States.{replica, restarted}
 use Rattle.warm_world.proofs.Replicas.{restarts}
-use Rattle.warm_world.proofs.Worlds.{asked, changes, named_too, place_in, stands_at}
+use Rattle.warm_world.proofs.Worlds.{asked, changes, node_at}
 use Rattle.warm_world.proofs.world.World.restart.Goals as goal
 
 pub returns-in-Ok : goal.returns-in-Ok
 returns-in-Ok g c = λ m st.
     let k = c.args.i - 1 in
     let event = Restart c.args.i in
-    let lt = place_in _ _ _ event c.requires.named in
-    let here = stands_at _ _ _ m k c.index_mut.result.now st lt c.index_mut.ensures.value in
     let did = c.in-Ok.ensures in
-    changes _ _ _ m event answer.Done k _ (restarted did.0 (replica m k)) st lt
-    (restarts m.capacity k _ _ (replica m k) did.0 here did.2)
-    (named_too _ m event st c.requires.named, (did.0, subst (λ (v : NodeView). Emptied v.pool did.0) here.node_is did.1, refl))
+    let node = node_at _ _ _ m event c.index_mut.result.now st c.requires.named c.index_mut.ensures.value in
+    changes _ _ _ m event answer.Done c.index_mut.result.now _ (restarted did.0 (replica m k)) st c.requires.named c.index_mut.ensures.value
+    (λ here. restarts m.capacity k _ _ (replica m k) did.0 here did.2)
+    (λ named. (named, (did.0, subst (λ (v : NodeView). Emptied v.pool did.0) node did.1, refl)))
 
 pub returns-in-Err : goal.returns-in-Err
 returns-in-Err g c = λ m st.
-    asked _ _ _ m (Restart c.args.i) call.Restart (reply.Refused c.in-Err.why) (answer.Refused (Node c.in-Err.why)) _ _ st c.requires.named c.index_mut.ensures.value
-    c.in-Err.ensures.1 (refused_keeps _ call.Restart c.in-Err.why _ c.in-Err.ensures.0) c.in-Err.ensures.0 (λ new named asks. (named, asks))
+    rw c.into.ensures (asked _ _ _ m (Restart c.args.i) call.Restart (reply.Refused c.in-Err.why) (answer.Refused (Node c.in-Err.why)) _ _ st c.requires.named c.index_mut.ensures.value
+    c.in-Err.ensures.1 (refused_keeps _ call.Restart c.in-Err.why _ c.in-Err.ensures.0) c.in-Err.ensures.0 (λ new named asks. (named, asks)))

@@ -1,16 +1,15 @@
-use Rattle.std.proofs.Common.{◌-◌, ap, refl, ◌∙◌}
+use Rattle.std.proofs.Common.{ap, refl, ◌∙◌}
 use Rattle.warm_gossip.specs.State.{NodeView}
 use Rattle.warm_world.specs.declared.event.Event.TheVariants.{Show}
-use Rattle.warm_world.proofs.Worlds.{named_too, place_in, stands_at}
+use Rattle.warm_world.proofs.Worlds.{named_too, node_at}
 use Rattle.warm_world.proofs.world.World.show.Goals as goal
 
 pub returns-in-Ok : goal.returns-in-Ok
 returns-in-Ok g c = λ m st.
     let event = Show c.args.i in
-    let lt = place_in _ _ _ event c.requires.named in
-    let here = stands_at _ _ _ m (c.args.i - 1) c.index.result.now st lt c.index.ensures in
+    let node = node_at _ _ _ m event c.index.result.now st c.requires.named c.index.ensures in
     record {
       new = m;
-      next = (named_too _ m event st c.requires.named, (c.in-Ok.ensures ∙ c.history.ensures ∙ ap (λ (v : NodeView). v.history) here.node_is, refl));
+      next = (named_too _ m event st c.requires.named, (c.in-Ok.ensures ∙ c.history.ensures ∙ ap (λ (v : NodeView). v.history) node, refl));
       stands = st;
     }

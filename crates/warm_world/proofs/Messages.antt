@@ -1,9 +1,12 @@
--- Frames that are kept, and the records that they spell.
-use Rattle.std.proofs.Common.{◌≡◌, ℕ, ◌+◌, ◌<◌, ◌++◌, List, [], ◌∷◌, length, map, take, get_or, refl, sym, ◌∙◌, ap, subst, arith}
+-- Messages that are kept, and the records that they spell.
+use Rattle.std.proofs.Common.{◌≡◌, ℕ, ◌+◌, ◌<◌, ◌++◌, List, [], ◌∷◌, length, map, take, get_or, Result, Ok, Err, inl, inr, refl, sym, ◌∙◌, ap, subst, arith}
 use Rattle.std.proofs.lemmas.List.{get_or-map, length-append, map-append, take_more, length-map}
 use Rattle.std.specs.Global.{Vec}
 use Rattle.warm_frames.specs.declared.message.Message.{Message}
+use Rattle.warm_frames.specs.declared.fault.FrameFault.{FrameFault}
+use Rattle.warm_frames.specs.declared.fault.FrameFault.TheVariants.{Memory as FrameMemory}
 use Rattle.warm_frames.specs.Spelling.{spelling, Spells}
+use Rattle.warm_frames.specs.Reading.{FindsSpelled}
 use Rattle.warm_gossip.specs.declared.fault.NodeFault.TheVariants.{Memory}
 use Rattle.warm_world.specs.declared.event.Event.{Event}
 use Rattle.warm_world.specs.declared.event.Answer.{Answer}
@@ -16,16 +19,15 @@ use Rattle.warm_world.specs.States.{ModelState, MessageRecord, add_records, reco
 use Rattle.warm_history.specs.ReferenceSets.{these}
 use Rattle.warm_world.specs.Next.{Next}
 use Rattle.warm_world.specs.Stands.{SpellsRecord, StandsFor, Stepped, message_kept}
-use Rattle.warm_world.proofs.Pairs.{Pairwise-append, Pairwise-nil, Pairwise-push}
+use Rattle.warm_world.proofs.Pairs.{Pairwise-append, Pairwise-push}
 
 -- one message more is encoded
 pub encoded_more : (all all' : List (Vec ℕ)) (v : Vec ℕ) (fs : List Message) (i : ℕ) (f : Message) → Pairwise (λ _ bytes message. Encodes bytes message) (map (λ b. b.items) all) (take i fs)
     → i < length fs → f ≡ get_or fs i f → all' ≡ all ++ v ∷ [] → Encodes v.items f → Pairwise (λ _ bytes message. Encodes bytes message) (map (λ b. b.items) all') (take (i + 1) fs)
 encoded_more all all' v fs i f so_far lt is more here =
     let items : Vec ℕ → List ℕ = λ b. b.items in
-    let one : Pairwise (λ _ bytes message. Encodes bytes message) (v.items ∷ []) (get_or fs i f ∷ []) =
-    Pairwise-push (λ _ bytes message. Encodes bytes message) [] [] v.items (get_or fs i f) (Pairwise-nil (λ _ bytes message. Encodes bytes message)) (subst (Encodes v.items) is here) in
-    rw (more, map-append items all (v ∷ []), take_more fs i f lt) (Pairwise-append Encodes (map items all) (v.items ∷ []) (take i fs) (get_or fs i f ∷ []) so_far one)
+    rw (more, map-append items all (v ∷ []), take_more fs i f lt)
+    (Pairwise-push (λ _ bytes message. Encodes bytes message) (map items all) (take i fs) v.items (get_or fs i f) so_far (subst (Encodes v.items) is here))
 
 -- the bytes of a record's message spell the record
 pub spells_kept : (bytes : List ℕ) (message : Message) (kept : MessageRecord) → message ≡ message_kept kept → Encodes bytes message → SpellsRecord bytes kept
@@ -35,21 +37,20 @@ spells_kept bytes message kept is codes = record { spells = subst (Spells bytes)
 pub messages_join : (w : WorldView) (m : ModelState) (added : List (List ℕ)) (rs : List MessageRecord) → StandsFor w m → Pairwise (λ _ bytes kept. SpellsRecord bytes kept) added rs → StandsFor (record w { messages = w.messages ++ added }) (add_records m rs)
 messages_join w m added rs st spell = record { replicas = st.replicas; messages = Pairwise-append SpellsRecord w.messages added m.records rs st.messages spell }
 
--- the message at a place spells the record there
-pub frame_at : (w : WorldView) (m : ModelState) (k : ℕ) (bytes : List ℕ) → StandsFor w m → k < length w.messages → bytes ≡ get_or w.messages k bytes → SpellsRecord bytes (record_at m k)
-frame_at w m k bytes st lt is = subst (λ b. SpellsRecord b (record_at m k)) (sym is) (st.messages.each k bytes (References 0 (these [])) lt)
-
--- the same of messages that are kept as vectors
-pub kept_at : (w : WorldView) (m : ModelState) (k : ℕ) (vs : List (Vec ℕ)) (v : Vec ℕ) → StandsFor w m → w.messages ≡ map (λ b. b.items) vs → IsNumber k (length w.messages) → v ≡ get_or vs (place k) v → SpellsRecord v.items (record_at m (place k))
-kept_at w m k vs v st are number is =
+-- what is decoded of the bytes of a number is the message of the record of that number
+pub decoded_is : (w : WorldView) (m : ModelState) (k : ℕ) (vs : List (Vec ℕ)) (v : Vec ℕ) (bytes : List ℕ) (result : Result Message FrameFault) (message : Message) → StandsFor w m
+    → w.messages ≡ map (λ b. b.items) vs → IsNumber k (length w.messages) → v ≡ get_or vs (place k) v → bytes ≡ v.items → FindsSpelled bytes result → result ≡ Ok message → message ≡ message_kept (record_at m (place k))
+decoded_is w m k vs v bytes result message st are number is same finds found =
+    let kept = record_at m (place k) in
     let lt : place k < length w.messages = omega (arith, number.from_one, number.in_range) in
     let lt_vs : place k < length vs = omega (arith, lt, ap length are, length-map vs (λ (b : Vec ℕ). b.items)) in
-    let at : v.items ≡ get_or w.messages (place k) v.items =
-    sym (ap (λ fs. get_or fs (place k) v.items) are ∙ get_or-map (λ (b : Vec ℕ). b.items) vs (place k) v v.items lt_vs ∙ ap (λ (b : Vec ℕ). b.items) (sym is)) in
-    frame_at w m (place k) v.items st lt at
-
-one_spelled : (bytes : List ℕ) (kept : MessageRecord) → SpellsRecord bytes kept → Pairwise (λ _ bytes kept. SpellsRecord bytes kept) (bytes ∷ []) (kept ∷ [])
-one_spelled bytes kept spells = Pairwise-push (λ _ b r. SpellsRecord b r) [] [] bytes kept (Pairwise-nil (λ _ b r. SpellsRecord b r)) spells
+    let at : get_or w.messages (place k) v.items ≡ bytes =
+    ap (λ fs. get_or fs (place k) v.items) are ∙ get_or-map (λ (b : Vec ℕ). b.items) vs (place k) v v.items lt_vs ∙ ap (λ (b : Vec ℕ). b.items) (sym is) ∙ sym same in
+    let spells : Spells bytes (message_kept kept) = subst (λ b. Spells b (message_kept kept)) at (st.messages.each (place k) v.items (References 0 (these [])) lt).spells in
+    elim (finds (message_kept kept) spells) [
+      | inl read ↦ let both : Ok message ≡ Ok (message_kept kept) = sym found ∙ read in cc
+      | inr refused ↦ let never : Ok message ≡ Err FrameMemory = sym found ∙ refused.0 in absurd (cc)
+    ]
 
 -- the message of a record is kept after the others, or refused
 pub kept_one : (w w' : WorldView) (m : ModelState) (event : Event) (message : Message) (answer : Answer) (kept : MessageRecord) → StandsFor w m → message ≡ message_kept kept → Keeps w message answer w'
@@ -62,7 +63,7 @@ kept_one w w' m event message (FrameNo k) kept st is keeps next none =
     record {
       new = add_records m (kept ∷ []);
       next = next k (add_records m (kept ∷ [])) number refl;
-      stands = subst (λ v. StandsFor v (add_records m (kept ∷ []))) (sym keeps.3) (messages_join w m (keeps.0 ∷ []) (kept ∷ []) st (one_spelled keeps.0 kept spells));
+      stands = rw keeps.3 (record { replicas = st.replicas; messages = Pairwise-push (λ _ b r. SpellsRecord b r) w.messages m.records keeps.0 kept st.messages spells });
     }
 kept_one w w' m event message (Refused (Node Memory)) kept st is keeps next none = record { new = m; next = none; stands = subst (λ v. StandsFor v m) (sym keeps) st }
 kept_one w w' m event message answer kept st is keeps next none = absurd keeps

@@ -1,0 +1,10 @@
+use Rattle.std.proofs.Common.{ap, refl, ◌∙◌}
+use Rattle.std.proofs.lemmas.Result.{err_from_is_err_and}
+use Rattle.warm_gossip.specs.declared.fault.NodeFault.TheVariants.{Pool}
+use Rattle.warm_gossip.proofs.node.Node.write_back.Goals as goal
+
+pub returns-in_err-write_back_all-clause-refused : goal.returns-in_err-write_back_all-clause-refused
+returns-in_err-write_back_all-clause-refused g c =
+    let given = err_from_is_err_and c.from_residual.result c.from_residual.ensures.1 in
+    let refused = c.in_err-write_back_all.ensures.refused in
+    rw (given.1, ← c.self.view_is) (given.2 ∙ ap Pool refused.0, (refl, (refused.1.device, refused.1.fails)))
