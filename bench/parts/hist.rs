@@ -19,7 +19,7 @@ impl Page {
     }
 }
 
-#[derive(Clone, Copy)]
+#[derive(Clone, Copy, PartialEq, Eq)]
 pub enum Hist {
     Once(Stamp),
     Twice { last: Stamp, prev: Stamp },

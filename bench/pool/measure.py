@@ -8,6 +8,8 @@ It wants the proved program (`rt run` in crates/benches leaves it as crates/benc
 The programs run in turn, five times, and the fastest run of each counts. All must print the same sum.
 """
 
+import random
+import statistics
 import subprocess
 import sys
 import tempfile
@@ -16,6 +18,7 @@ from pathlib import Path
 HERE = Path(__file__).resolve().parent
 OURS = [HERE.parent.parent / "crates/benches/out/benches", "pool"]
 RUNS = 5
+BOXED_RUNS = 9
 VISITS, MISSES = 5_000_000, 1_000_000
 FEW, MANY = 4_096, 65_536
 # what holds pages as a pool is emptied, and the program's word for it
@@ -93,24 +96,27 @@ def beside(what: list[str], count: int, plains: dict[str, list[str]]) -> None:
 
 
 def print_boxed() -> None:
-    """A pin that hits and one that misses, over devices of a named type, in boxes, and in plain Rust. All must have read the same."""
-    print("| what | devices of a named type, ns | in boxes, ns | plain Rust, ns | boxes by named | plain Rust by named |")
-    print("|---|---|---|---|---|---|")
+    """A pin that hits and one that misses, over devices of a named type, in boxes, and in plain Rust. All must have read the same.
+    Each round is in a drawn order, so that none has always the same neighbours in time. The ratios are of the fastest and of the middle runs."""
+    print("| what | devices of a named type, ns | in boxes, ns | plain Rust, ns | boxes by named | middle | plain Rust by named | middle |")
+    print("|---|---|---|---|---|---|---|---|")
     with tempfile.TemporaryDirectory() as folder:
         plain = Path(folder) / "plain"
         subprocess.run(["rustc", "-O", "--edition", "2024", "-o", plain, HERE / "plain.rs"], check=True)
         for what, words, count in (("a visit of a resident page", [str(VISITS)], VISITS), ("a miss", ["misses", str(MISSES)], MISSES)):
             commands = {"named": [*OURS, *words], "boxed": [*OURS, "boxed", *words], "plain": [plain, *words, "mixed"]}
-            best: dict[str, float] = {}
-            for _ in range(RUNS):
-                read = set()
-                for name, command in commands.items():
-                    line, spent = one_run(command)
+            spent: dict[str, list[float]] = {name: [] for name in commands}
+            read = set()
+            for _ in range(BOXED_RUNS):
+                for name in random.sample(list(commands), len(commands)):
+                    line, nanoseconds = one_run(commands[name])
                     read.add(line)
-                    best[name] = min(spent / count, best.get(name, spent))
-                assert len(read) == 1, read
-            named = best["named"]
-            print(f"| {what} | {named:.0f} | {best['boxed']:.0f} | {best['plain']:.0f} | {best['boxed'] / named:.2f} | {best['plain'] / named:.2f} |", flush=True)
+                    spent[name].append(nanoseconds / count)
+            assert len(read) == 1, read
+            least = {name: min(it) for name, it in spent.items()}
+            middle = {name: statistics.median(it) for name, it in spent.items()}
+            ratios = " | ".join(f"{it[name] / it['named']:.2f}" for name in ("boxed", "plain") for it in (least, middle))
+            print(f"| {what} | {least['named']:.0f} | {least['boxed']:.0f} | {least['plain']:.0f} | {ratios} |", flush=True)
 
 
 def print_visits() -> None:
