@@ -13,13 +13,18 @@ use Rattle.warm_schedule.specs.Text.{IsLine, split, lines}
 use Rattle.warm_schedule.specs.Grammar.{meaning}
 use Rattle.warm_schedule.specs.Printed.{Answered, PrintedFrom, Played, EndsIn}
 use Rattle.warm_schedule.specs.Reading.{Reads, PutsBytes, IsPut}
-use Rattle.warm_schedule.specs.Stream.{SessionView, HoldsLine, Holds, AddsBytes, AnswersLine, Goes, Settles, PrintsLast, Ends}
+use Rattle.warm_schedule.specs.Stream.{SessionView, HoldsLine, Holds, AddsBytes, AnswersLine, Goes, Settles, Ends}
+use Rattle.warm_schedule.specs.Refusals.{StopsPlay, PlayRefused}
 use Rattle.warm_schedule.specs.declared.parse.TheConstants.{MAX_LINE}
+use Rattle.warm_devices.specs.Device.{DeviceState}
+use Rattle.warm_play_fault.specs.declared.PlayFault.{PlayFault}
+use Rattle.warm_play_fault.specs.declared.PlayFault.TheVariants as play_fault
+use Rattle.warm_world.specs.Sizes.{Sizes}
 use Rattle.warm_world.specs.States.{ModelState, nobody, no_pool, pool_of, replica}
 use Rattle.warm_pool.specs.View.{PoolView}
 use Rattle.warm_gossip.specs.State.{NodeView}
 use Rattle.warm_world.specs.Lists.{place}
-use Rattle.warm_world.specs.Opening.{FinishFails}
+use Rattle.warm_world.specs.Opening.{AreFitting, FinishFails}
 use Rattle.warm_gossip.specs.Step.{IsFailed}
 use Rattle.warm_gossip.specs.declared.fault.NodeFault.{NodeFault}
 use Rattle.warm_history.specs.Histories.{holding}
@@ -275,13 +280,13 @@ module _ (world : WorldView) (number : ℕ) (line : List ℕ) where
   answers_no_memory put = λ state stands. (state, stands, said_so state number (Some (Act put.0)) _ _ state put.1 (inr (put.2, refl, refl)))
 
 -- the last line is answered, and then it is the end
-pub Ends-answer : (a : SessionView) (out more : List ℕ) (w : WorldView) → AnswersLine a.world a.number a.held out w → Settles w more → Ends a (out ++ more)
+pub Ends-answer : (a : SessionView) (out more : List ℕ) (w : WorldView) → AnswersLine a.world a.number a.held out w → Settles w more → Ends a out more
 unfolding Ends
 Ends-answer a out more w answered settles = λ state begun h.
     let next = answered state h.stands in
     let said = said_so state a.number _ _ out next.0 (says a.held begun h.begun) next.2 in
     let printed : PrintedFrom state a.number (lines begun) out next.0 = rw (line_last begun h.begun.is_line) (out, [], next.0, said, (refl, refl), sym (append-nil out)) in
-    (out, next.0, printed, settles next.0 out next.1)
+    (next.0, printed, settles next.0 out next.1)
 
 -- the devices did not take what waited for them
 pub settles_ill : (old new : WorldView) (why : NodeFault) → FinishFails old why new → Settles old end_refused
@@ -314,17 +319,17 @@ ends_after m first answers out (inl same) = inl (ap (λ (xs : List ℕ). first +
 ends_after m first answers out (inr refused) = inr (refused.0, ap (λ (xs : List ℕ). first ++ xs) refused.1 ∙ sym (append_assoc first answers end_refused))
 
 -- a session that was fresh and came to the end of the input
-pub Goes-whole : (a b : SessionView) (state : ModelState) (bytes out last : List ℕ) → Goes a bytes out b → Ends b last → Holds a state [] → a.number ≡ 1 → Played state bytes (out ++ last)
+pub Goes-whole : (a b : SessionView) (state : ModelState) (bytes out answers closing : List ℕ) → Goes a bytes out b → Ends b answers closing → Holds a state [] → a.number ≡ 1 → Played state bytes (out ++ (answers ++ closing))
 unfolding Goes Ends
-Goes-whole a b state bytes out last goes ends fresh first =
+Goes-whole a b state bytes out answers closing goes ends fresh first =
     let g = goes state [] fresh in
-    let end : PrintsLast g.0 b.number g.1 last = ends g.0 g.1 g.2 in
-    let answered : PrintedFrom g.0 b.number (lines (g.1 ++ [])) end.0 end.1 = rw append-nil end.2 in
-    let whole : PrintedFrom state a.number (lines bytes) (out ++ end.0) end.1 = rw append-nil at (g.3 [] end.0 end.1 answered) in (
-      out ++ end.0,
-      end.1,
-      subst (λ (n : ℕ). PrintedFrom state n (lines bytes) (out ++ end.0) end.1) first whole,
-      ends_after end.1 out end.0 last end.3,
+    let end = ends g.0 g.1 g.2 in
+    let answered : PrintedFrom g.0 b.number (lines (g.1 ++ [])) answers end.0 = rw append-nil end.1 in
+    let whole : PrintedFrom state a.number (lines bytes) (out ++ answers) end.0 = rw append-nil at (g.3 [] answers end.0 answered) in (
+      out ++ answers,
+      end.0,
+      subst (λ (n : ℕ). PrintedFrom state n (lines bytes) (out ++ answers) end.0) first whole,
+      ends_after end.0 out answers (answers ++ closing) end.2,
     )
 
 -- ---- what was read
@@ -357,3 +362,8 @@ Consumes-kept (Some xs) (Some ys) k = sym k
 -- the same text
 pub Played-text : (state : ModelState) (a b out : List ℕ) → a ≡ b → Played state a out → Played state b out
 Played-text state a b out same played = subst (λ (text : List ℕ). Played state text out) same played
+
+-- over devices that fit, what stops a play is why it does not come to its end
+pub stopped_play : (setup : Sizes) (devices : List (List DeviceState)) (why : PlayFault) → AreFitting setup devices → StopsPlay why → PlayRefused setup devices why
+stopped_play setup devices play_fault.BadDevices fits stops = absurd stops
+stopped_play setup devices why fits stops = (fits, stops)

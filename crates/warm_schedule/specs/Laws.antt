@@ -6,6 +6,7 @@ use Rattle.warm_world.specs.declared.event.Answer.{Answer}
 use Rattle.warm_world.specs.declared.event.WorldFault.TheVariants.{Node}
 use Rattle.warm_world.specs.States.{ModelState}
 use Rattle.warm_world.specs.Next.{Run}
+use Rattle.warm_world.specs.Stands.{IsRightRun}
 use Rattle.warm_schedule.specs.declared.parse.Line.{Line}
 use Rattle.warm_schedule.specs.declared.parse.Line.TheVariants.{Nothing, Act}
 use Rattle.warm_schedule.specs.Text.{lines}
@@ -31,12 +32,14 @@ LinesAre number (line ∷ rest) events answers out =
     × LineIs number (meaning line) first said front × LinesAre (number + 1) rest later after back
     × (events ≡ first ++ later) × (answers ≡ said ++ after) × (out ≡ front ++ back)
 
--- a run of the world by the events of a text, whose answers are what is printed
+-- A run of the world by the events of a text, whose answers are what is printed. Each victim is an unfixed resident page of greatest
+-- backward 2-distance, and replicas that keep the same references agree.
 pub record RunOf (state : ModelState) (text out : List ℕ) (last : ModelState) : Type 0 where
   pub events : List Event
   pub answers : List Answer
   pub lines_are : LinesAre 1 (lines text) events answers out
   pub run : Run state events answers last
+  pub right : IsRightRun state events answers last run
 
 -- What a schedule prints are the answers of a run of its events.
 abbrev pub PlayIsRun : Type 0

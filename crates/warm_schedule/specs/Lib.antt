@@ -8,3 +8,4 @@ pub mod Answers
 pub mod Printed
 pub mod Stream
 pub mod Laws
+pub mod Refusals

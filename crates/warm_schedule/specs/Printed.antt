@@ -20,14 +20,14 @@ abbrev pub Happens : ModelState → Event → List ℕ → ModelState → Type 0
 Happens old event out new = (answer : Answer) × Next old event answer new × (out ≡ answer_text answer)
 
 -- Memory for the bytes of a put was refused: the put has not happened.
-abbrev pub FindsNoRoom : ModelState → Event → List ℕ → ModelState → Type 0
-FindsNoRoom old event out new = IsPut event × (out ≡ refused_text (Node Memory)) × (new ≡ old)
+abbrev pub FindsNoMemory : ModelState → Event → List ℕ → ModelState → Type 0
+FindsNoMemory old event out new = IsPut event × (out ≡ refused_text (Node Memory)) × (new ≡ old)
 
 -- A line of this meaning and number may print `out` and lead from `old` to `new`.
 abbrev pub Answered : ModelState → ℕ → Option Line → List ℕ → ModelState → Type 0
 Answered old number None out new = (out ≡ bad_line number) × (new ≡ old)
 Answered old number (Some Nothing) out new = (out ≡ []) × (new ≡ old)
-Answered old number (Some (Act event)) out new = Happens old event out new ⊎ FindsNoRoom old event out new
+Answered old number (Some (Act event)) out new = Happens old event out new ⊎ FindsNoMemory old event out new
 
 -- lines, of which the first has this number, may print `out` and lead from `state` to `last`
 abbrev pub PrintedFrom : ModelState → ℕ → List (List ℕ) → List ℕ → ModelState → Type 0

@@ -57,11 +57,7 @@ Goes old bytes out new = (state : ModelState) (begun : List ℕ) → Holds old s
 abbrev pub Settles : WorldView → List ℕ → Type 0
 Settles world out = (state : ModelState) (answers : List ℕ) → StandsFor world state → EndsIn state answers (answers ++ out)
 
--- what is printed for the line that has begun and for the end
-abbrev pub PrintsLast : ModelState → ℕ → List ℕ → List ℕ → Type 0
-PrintsLast state number line out =
-    (answers : List ℕ) × (last : ModelState) × PrintedFrom state number (lines line) answers last × EndsIn last answers out
-
--- The input has ended, and the session printed this for the line that had begun, and for the end.
-unfoldable pub Ends : SessionView → List ℕ → Type 0
-Ends s out = (state : ModelState) (begun : List ℕ) → Holds s state begun → PrintsLast state s.number begun out
+-- The input has ended, and the session printed the answer to the line that had begun, and then this for the end.
+unfoldable pub Ends : SessionView → List ℕ → List ℕ → Type 0
+Ends s answers closing = (state : ModelState) (begun : List ℕ) → Holds s state begun
+    → (last : ModelState) × PrintedFrom state s.number (lines begun) answers last × EndsIn last answers (answers ++ closing)

@@ -1,13 +1,14 @@
 //! A schedule that comes in pieces, answered line by line.
-ghost use Rattle.std.specs.Prelude.{◌≡◌, ◌≤◌, ◌<◌, ◌+◌, ◌^◌, ◌∷◌, ◌++◌, [], false, List, ℕ, length, OnOk, IfOk, IfErr, IfSome, Err, ◌⊎◌};
+ghost use Rattle.std.specs.Prelude.{◌≡◌, ◌≤◌, ◌<◌, ◌+◌, ◌^◌, ◌∷◌, ◌++◌, [], false, List, ℕ, length, OnOk, IfOk, IfErr, IfSome, Err};
 ghost use Rattle.std.specs.Io.KnownBytes.{Appends, Keeps, Consumes, IsAtEnd};
 ghost use Rattle.warm_world.specs.States.{ModelState, opening};
-ghost use Rattle.warm_play_fault.specs.declared.PlayFault.TheVariants.{BadDevices};
+ghost use Rattle.warm_play_fault.specs.declared.PlayFault.TheVariants.{BadDevices, Memory, WriteFault};
 ghost use Rattle.warm_world.specs.Opening.{AreFew, AreFitting};
 ghost use Rattle.warm_world.specs.Views.{IsAtRest, listed, world_view};
 ghost use Rattle.warm_world.specs.Stands.{StandsFor};
 ghost use Rattle.warm_schedule.specs.Text.{IsLine};
 ghost use Rattle.warm_schedule.specs.Printed.{Played};
+ghost use Rattle.warm_schedule.specs.Refusals.{OpenRefused, PlayRefused, StopsAnswers, StopsPlay};
 ghost use Rattle.warm_schedule.specs.Stream.{session, IsFresh, AddsBytes, AnswersLine, Settles, Goes, Ends};
 
 use crate::parse::{Line, LineFault, MAX_LINE, parse_line};
@@ -38,7 +39,7 @@ impl<D: PageDevice> Session<D> {
             (opening setup (listed D.state devices.items))) }
         ensures fitting { OnOk result (AreFitting setup (listed D.state devices.items)) }
         ensures refused { IfErr result (λ why.
-            (why ≡ BadDevices) ⊎ AreFitting setup (listed D.state devices.items)) }
+            OpenRefused setup (listed D.state devices.items) why) }
     {
         let world = match World::new(alloc, setup, devices) {
             Ok(world) => world,
@@ -60,6 +61,7 @@ impl<D: PageDevice> Session<D> {
             (AddsBytes (session self.old) piece.now (session self.new)) }
         ensures same { OnOk result (self.new.world ≡ self.old.world) }
         ensures number { OnOk result (self.new.number ≡ self.old.number) }
+        ensures full { IfErr result (λ why. why ≡ Memory) }
     {
         let left = (MAX_LINE + 1).saturating_sub(self.line.len());
         let kept = piece.len().min(left);
@@ -75,6 +77,7 @@ impl<D: PageDevice> Session<D> {
             (world_view self.new.world)) }
         ensures number { self.new.number ≡ self.old.number }
         ensures held { self.new.line ≡ self.old.line }
+        ensures stopped { IfErr result (λ why. why ≡ WriteFault) }
     {
         match parse_line(self.alloc, line) {
             Err(LineFault::Bad) => {
@@ -103,6 +106,7 @@ impl<D: PageDevice> Session<D> {
             (world_view self.new.world)) }
         ensures number { self.new.number ≡ self.old.number }
         ensures none { OnOk result (self.new.line.items ≡ []) }
+        ensures stopped { IfErr result (λ why. why ≡ WriteFault) }
     {
         let mut line = mem::replace(&mut self.line, Vec::new(self.alloc));
         self.answer(line.as_slice(), writer)?;
@@ -120,6 +124,7 @@ impl<D: PageDevice> Session<D> {
             × Goes (session self.old) (piece.now ++ 10 ∷ []) out
             (session self.new)) }
         ensures number { OnOk result (self.new.number ≡ self.old.number + 1) }
+        ensures stopped { IfErr result StopsAnswers }
     {
         if self.line.is_empty() {
             self.answer(piece, writer)?;
@@ -139,6 +144,7 @@ impl<D: PageDevice> Session<D> {
             × Appends (W.contents writer.old) (W.contents writer.new) out
             × Goes (session self.old) bytes.now out (session self.new)) }
         ensures number { OnOk result (self.new.number ≤ self.old.number + length bytes.now) }
+        ensures stopped { IfErr result StopsAnswers }
     {
         let mut rest = bytes;
         while let Some((piece, after)) = first_line(rest) {
@@ -151,10 +157,11 @@ impl<D: PageDevice> Session<D> {
 
     // Gives the devices what waits for them, and prints where they don't take it.
     fn settle<W: Write>(&mut self, writer: &mut W) -> Result<(), PlayFault>
-        ensures { OnOk result ((out : List ℕ)
+        ensures settled { OnOk result ((out : List ℕ)
             × Appends (W.contents writer.old) (W.contents writer.new) out
             × Settles (world_view self.old.world) out
             × (out ≡ [] → IsAtRest self.new.world)) }
+        ensures stopped { IfErr result (λ why. why ≡ WriteFault) }
     {
         match self.world.finish() {
             Ok(()) => Ok(()),
@@ -165,11 +172,14 @@ impl<D: PageDevice> Session<D> {
         }
     }
 
-    // Answers the last line, which no byte ended, settles the devices, and passes on what was printed.
+    // Answers the last line, which no byte ended, settles the devices, and flushes the writer. Where nothing is printed for the end,
+    // everything is on its device.
     fn finish<W: Write>(&mut self, writer: &mut W) -> Result<(), PlayFault>
-        ensures { OnOk result ((out : List ℕ)
-            × Appends (W.contents writer.old) (W.contents writer.new) out
-            × Ends (session self.old) out) }
+        ensures ended { OnOk result ((answers closing : List ℕ)
+            × Appends (W.contents writer.old) (W.contents writer.new) (answers ++ closing)
+            × Ends (session self.old) answers closing
+            × (closing ≡ [] → IsAtRest self.new.world)) }
+        ensures stopped { IfErr result (λ why. why ≡ WriteFault) }
     {
         self.answer_held(writer)?;
         self.settle(writer)?;
@@ -193,6 +203,7 @@ impl<D: PageDevice> Session<D> {
             × Goes (session self.old) bytes out (session self.new)) }
         ensures end { IfOk result (λ more. more ≡ false → IsAtEnd (R.remaining reader.new)) }
         ensures number { OnOk result (self.new.number ≤ self.old.number + length buffer.old) }
+        ensures stopped { IfErr result StopsPlay }
     {
         match reader.read(buffer) {
             Ok(0) => Ok(false),
@@ -217,7 +228,8 @@ impl<D: PageDevice> Session<D> {
 
 // Passes on what the writer holds back.
 fn pass_on<W: Write>(writer: &mut W) -> Result<(), PlayFault>
-    ensures { OnOk result (Keeps (W.contents writer.old) (W.contents writer.new)) }
+    ensures kept { OnOk result (Keeps (W.contents writer.old) (W.contents writer.new)) }
+    ensures stopped { IfErr result (λ why. why ≡ WriteFault) }
 {
     writer.flush().map_err(|_| PlayFault::WriteFault)?;
     Ok(())
@@ -244,7 +256,7 @@ pub const READ_SIZE: usize = 65_536;
 /// - Bad lines and refused events are printed, and are no fault.
 /// - Where the devices are not one list for each replica, with pages of the setup's size, it answers
 ///   [`PlayFault::BadDevices`], and nothing was read or written.
-/// - [`PlayFault`] says when each fault comes.
+/// - Where they are, it answers `Memory`, `ReadFault` or `WriteFault`, if not `Ok`. [`PlayFault`] says when each fault comes.
 pub fn play<R: Read, W: Write, D: PageDevice>(
     alloc: Global,
     reader: &mut R,
@@ -260,6 +272,8 @@ pub fn play<R: Read, W: Write, D: PageDevice>(
     ensures printed { OnOk result (IfSome (R.remaining reader.old) (λ text. (out : List ℕ)
         × Appends (W.contents writer.old) (W.contents writer.new) out
         × Played (opening setup (listed D.state devices.items)) text out)) }
+    ensures refused { IfErr result (λ why.
+        PlayRefused setup (listed D.state devices.items) why) }
 {
     let mut session = Session::new(alloc, setup, devices)?;
     let mut buffer = vec![in alloc; 0u8; READ_SIZE]?;

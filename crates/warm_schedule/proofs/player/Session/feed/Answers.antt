@@ -36,4 +36,5 @@ returns g c =
         Goes-bytes _ _ _ _ (so_far.1 ++ []) (sym so_far.2) (Goes-then _ _ _ so_far.0 c.loop-piece.rest.now so_far.1 [] so_far.4 (Goes-add _ _ c.loop-piece.rest.now c.in_ok-add.ensures.adds)),
       );
       number = omega (arith, c.loop-piece.invariant.number, c.in_ok-add.ensures.number);
+      stopped = tt;
     }

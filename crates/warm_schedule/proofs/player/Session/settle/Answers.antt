@@ -2,8 +2,8 @@ use Rattle.warm_schedule.specs.Answers.{end_refused}
 use Rattle.warm_schedule.proofs.Stream.{done, settles_ill}
 use Rattle.warm_schedule.proofs.player.Session.settle.Goals as goal
 
-pub returns-in_ok-map_err-in-Err : goal.returns-in_ok-map_err-in-Err
-returns-in_ok-map_err-in-Err g c = (
+pub returns-in_ok-map_err-in-Err-clause-settled : goal.returns-in_ok-map_err-in-Err-clause-settled
+returns-in_ok-map_err-in-Err-clause-settled g c = (
   end_refused,
   done c.print_end_refused.result c.in_ok-map_err-in-Err.ensures.variant c.print_end_refused.ensures,
   settles_ill _ _ _ c.in-Err.ensures.refused,
