@@ -37,9 +37,9 @@ ended_long (run ∷ runs) = omega (arith, length-append (replicate run.touched T
 pub replies_long : (runs : List Run) (n : ℕ) → length runs + n ≤ length (replies_of runs n)
 replies_long runs n = omega (arith, ended_long runs, length-append (ended runs) (replicate n Touched), length-replicate n Touched)
 
--- where all replies have room, those of the first runs leave room for the next run's
-pub run_fits : (all xs rest : List Run) (run : Run) (n room : ℕ) → xs ++ run ∷ rest ≡ all → length (replies_of all n) ≤ room → length (ended xs) + run.touched + 1 ≤ room
-run_fits all xs rest run n room is fits = omega (
+-- where there is capacity for all replies, those of the first runs leave some for the next run's
+pub run_fits : (all xs rest : List Run) (run : Run) (n capacity : ℕ) → xs ++ run ∷ rest ≡ all → length (replies_of all n) ≤ capacity → length (ended xs) + run.touched + 1 ≤ capacity
+run_fits all xs rest run n capacity is fits = omega (
   arith,
   ap (λ (l : List Run). length (ended l)) is,
   ap length (ended_append xs (run ∷ rest)),

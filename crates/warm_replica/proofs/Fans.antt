@@ -1,6 +1,8 @@
 -- Jobs one after another, each ended into one pass.
 use Rattle.std.proofs.Common.{◌≡◌, ◌≤◌, ℕ, suc, List, [], ◌∷◌, ◌++◌, length, refl, sym, ap, subst, ◌<◌, arith}
+use Rattle.std.specs.Prelude.{Result, IsErr, OnOk}
 use Rattle.std.proofs.lemmas.List.{length-append}
+use Rattle.std.proofs.lemmas.Result.{IfOk-from_err}
 use Rattle.warm_turn.specs.declared.board.Entry.{Entry}
 use Rattle.warm_turn.specs.declared.board.Ended.{Ended}
 use Rattle.warm_turn.specs.declared.board.View.{View}
@@ -43,14 +45,14 @@ module _ {X : Type 0} where
   job_as cap1 cap2 ss1 ss2 rs v1 v2 t a b d h =
       subst (λ (m : ℕ). JobWent m ss2 rs v2 t) a (subst (λ (l : List Step). JobWent cap1 l rs v2 t) b (subst (λ (u : View X Call Reply). JobWent cap1 ss1 rs u t) d h))
 
-  pub ran_as : (room : ℕ) (ss : List Step) (rs : List StepReply) (v t : View X Call Reply) (n : ℕ) → JobWent room ss rs (new_pass v n) t → WentAs room ss rs (as_ended t)
-  ran_as room ss rs v t n h =
+  pub ran_as : (capacity : ℕ) (ss : List Step) (rs : List StepReply) (v t : View X Call Reply) (n : ℕ) → JobWent capacity ss rs (new_pass v n) t → WentAs capacity ss rs (as_ended t)
+  ran_as capacity ss rs v t n h =
       let number : t.number ≡ n = h.3.number in
       let mine : t.mine ≡ h.1 = h.3.mine in
-      (h.0, subst (λ (k : ℕ). AllGave room k [] ss rs h.0 t.mine) (sym number) (subst (λ (l : List (Entry Call Reply)). AllGave room n [] ss rs h.0 l) (sym mine) h.2))
+      (h.0, subst (λ (k : ℕ). AllGave capacity k [] ss rs h.0 t.mine) (sym number) (subst (λ (l : List (Entry Call Reply)). AllGave capacity n [] ss rs h.0 l) (sym mine) h.2))
 
-  pub none_ended : (room : ℕ) (ss : List Step) (rs : List StepReply) (v t : View X Call Reply) (n : ℕ) → JobWent room ss rs (new_pass v n) t → t.ended ≡ []
-  none_ended room ss rs v t n h = h.3.ended
+  pub none_ended : (capacity : ℕ) (ss : List Step) (rs : List StepReply) (v t : View X Call Reply) (n : ℕ) → JobWent capacity ss rs (new_pass v n) t → t.ended ≡ []
+  none_ended capacity ss rs v t n h = h.3.ended
 
 module _ {X C R : Type 0} where
   pub fan_none : {A B : Type 0} (P : A → B → Ended C R → Type 0) (v : View X C R) (xs : List A) (ys : List B) → xs ≡ [] → ys ≡ [] → (all : List (Ended C R)) × Widened v all v × Triples P xs ys all
@@ -59,11 +61,11 @@ module _ {X C R : Type 0} where
   pub fan_err : (goes : X → C → R → X → Type 0) (v u m t w : View X C R) (more : List (Ended C R)) → u ≡ v → Widened u more m → Joined goes m t w → t.ended ≡ [] → (all : List (Ended C R)) × Widened v all w × Unit {0}
   fan_err goes v u m t w more e h j none = (more ++ as_ended t ∷ [], widened_more goes v m t w more (subst (λ q. Widened q more m) e h) j none, tt)
 
-  pub fan_stop : (v w : View X C R) → w ≡ v → (all : List (Ended C R)) × Widened v all w × Unit {0}
-  fan_stop v w e = ([], subst (λ u. Widened v [] u) (sym e) (widened_none v), tt)
+  pub fan_stop : {T E : Type 0} (P : List (Ended C R) → Type 0) (v w : View X C R) (r : Result T E) → IsErr r → w ≡ v → (all : List (Ended C R)) × Widened v all w × OnOk r (P all)
+  fan_stop P v w r failed e = ([], subst (λ u. Widened v [] u) (sym e) (widened_none v), IfOk-from_err r (λ _. P []) failed)
 
-pub fan_room : {A B D : Type 0} (P : A → B → D → Type 0) (js xs : List A) (x : A) (ys : List B) (more : List D) → js ≡ xs ++ x ∷ [] → Triples P xs ys more → (was now : ℕ) → length js ≤ was → was ≤ now → length ys < now
-fan_room P js xs x ys more is th was now a b = omega (arith, ap length is, length-append xs (x ∷ []), triples_length P xs ys more th, a, b)
+pub fan_fits : {A B D : Type 0} (P : A → B → D → Type 0) (js xs : List A) (x : A) (ys : List B) (more : List D) → js ≡ xs ++ x ∷ [] → Triples P xs ys more → (was now : ℕ) → length js ≤ was → was ≤ now → length ys < now
+fan_fits P js xs x ys more is th was now a b = omega (arith, ap length is, length-append xs (x ∷ []), triples_length P xs ys more th, a, b)
 
 module _ {X C R : Type 0} where
   pub fan_ends : (goes : X → C → R → X → Type 0) (v own w : View X C R) (n : ℕ) (more : List (Ended C R)) → Widened (new_pass v n) more own → Joined goes v own w → Widened v (as_ended own ∷ more) w

@@ -24,7 +24,7 @@ module _ {X : Type 0} where
 
   pub steps_more : (a b c : Working X Call Reply) (ss : List Step) (rs : List StepReply) (s : Step) (r : StepReply) → StepsWent a ss rs b → StepWent b s r c → StepsWent a (ss ++ s ∷ []) (rs ++ r ∷ []) c
   steps_more a b c ss rs s r h g =
-      let room : b.buffer.capacity ≡ a.buffer.capacity = h.2 in
+      let capacity : b.buffer.capacity ≡ a.buffer.capacity = h.2 in
       let number : b.pass.view.number ≡ a.pass.view.number = h.3.number in
-      let one : Gave a.buffer.capacity a.pass.view.number b.buffer.refs s r c.buffer.refs g.0 = subst (λ (m : ℕ). Gave m a.pass.view.number b.buffer.refs s r c.buffer.refs g.0) room (subst (λ (m : ℕ). Gave b.buffer.capacity m b.buffer.refs s r c.buffer.refs g.0) number g.1) in
+      let one : Gave a.buffer.capacity a.pass.view.number b.buffer.refs s r c.buffer.refs g.0 = subst (λ (m : ℕ). Gave m a.pass.view.number b.buffer.refs s r c.buffer.refs g.0) capacity (subst (λ (m : ℕ). Gave b.buffer.capacity m b.buffer.refs s r c.buffer.refs g.0) number g.1) in
       (h.0 ++ g.0, gave_one_more a.buffer.capacity a.pass.view.number a.buffer.refs b.buffer.refs c.buffer.refs ss rs s r h.0 g.0 h.1 one, g.2 ∙ h.2, Extended-trans a.pass.view b.pass.view c.pass.view h.0 g.0 h.3 g.3)

@@ -1,4 +1,4 @@
--- Jobs and the room that was made for them.
+-- Jobs and what was allocated for them.
 use Rattle.std.proofs.Common.{ℕ, List, [], ◌∷◌, sym, subst}
 use Rattle.std.specs.Global.{Vec}
 use Rattle.warm_turn.specs.declared.board.Ended.{Ended}

@@ -25,7 +25,7 @@ use Rattle.warm_replica.specs.Working.{Working}
 abbrev pub Calls : Type 0
 Calls = List (Entry Call Reply)
 
--- What a step answers, where the buffer has room for `capacity` references and holds these: what it holds then, and the calls of the pass of number n that the step made
+-- What a step answers, where a buffer of this capacity holds these references: what it holds then, and the calls of the pass of number n that the step made
 abbrev pub Gave : (capacity n : ℕ) → List Reference → Step → StepReply → List Reference → Calls → Type 0
 Gave capacity n held (Touch r) Touched held' made = (length held < capacity) × (held' ≡ held ++ r ∷ []) × (made ≡ [])
 Gave capacity n held (Touch r) (Full q) held' made = (capacity ≤ length held) × (q ≡ r) × (held' ≡ held) × (made ≡ [])
@@ -57,7 +57,7 @@ module _ {X : Type 0} where
       (made : Calls) × Gave old.buffer.capacity old.pass.view.number old.buffer.refs step reply new.buffer.refs made
       × (new.buffer.capacity ≡ old.buffer.capacity) × Extended old.pass.view made new.pass.view
 
-  -- a job went, from an empty buffer with room for `capacity` references on
+  -- a job went, from an empty buffer of this capacity on
   abbrev pub JobWent : ℕ → List Step → List StepReply → View X Call Reply → View X Call Reply → Type 0
   JobWent capacity steps replies v w =
       (held : List Reference) × (made : Calls) × AllGave capacity v.number [] steps replies held made × Extended v made w

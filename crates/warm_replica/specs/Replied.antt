@@ -5,17 +5,17 @@ use Rattle.warm_replica.specs.declared.job.StepReply.{StepReply}
 use Rattle.warm_replica.specs.declared.job.StepReply.TheVariants.{Touched, Flushed}
 use Rattle.warm_replica.specs.declared.replies.Run.{Run}
 
--- one reply for each step, and for how many there is room
+-- one reply for each step, and the capacity for them
 pub record Replied : Type 0 where
   pub items : List StepReply
-  pub room : ℕ
+  pub capacity : ℕ
 
 -- the replies that runs of touches stand for, each with the reply that ended it
 abbrev pub ended : List Run → List StepReply
 ended [] = []
 ended (run ∷ runs) = replicate run.touched Touched ++ run.reply ∷ ended runs
 
--- the same, and so many touches after the last run
+-- the same, and this many touches after the last run
 abbrev pub replies_of : List Run → ℕ → List StepReply
 replies_of runs touched = ended runs ++ replicate touched Touched
 

@@ -5,12 +5,12 @@ use std::alloc::{AllocError, Global};
 use std::marker::Model;
 use warm_gossip::{Call, Reply};
 
-/// A call in memory of its own, beside room for the reply to it: two pointers, where a [`Call`] and a [`Reply`] each have room for
+/// A call in memory of its own, beside memory for the reply to it: two pointers, where a [`Call`] and a [`Reply`] each have space for
 /// a message's table of digests, which is some 2,080 bytes. Contracts see the call.
 #[derive(Drop)]
 pub struct BoxedCall {
     call: Box<Call>,
-    room: Box<Reply>,
+    slot: ReplySlot,
 }
 
 impl Model for BoxedCall {
@@ -22,44 +22,46 @@ impl Model for BoxedCall {
 }
 
 impl BoxedCall {
-    /// The call, with room for its reply: neither making it nor keeping what is replied takes further memory.
+    /// The call, with memory for its reply: neither making it nor keeping what is replied takes further memory.
     ///
-    /// `AllocError` comes only where room for the call or for the reply was refused. The call is then dropped.
+    /// `AllocError` comes only where memory for the call or for the reply was refused. The call is then dropped.
     pub fn new(alloc: Global, call: Call) -> Result<BoxedCall, AllocError>
         ensures { IfOk result (λ boxed. boxed ≡ call) }
     {
         let call = Box::new(alloc, call)?;
-        let room = Box::new(alloc, Reply::Done)?;
-        Ok(BoxedCall { call, room })
+        let slot = ReplySlot {
+            reply: Box::new(alloc, Reply::Done)?,
+        };
+        Ok(BoxedCall { call, slot })
     }
 
-    /// The call, and the room for its reply. Takes no memory, and gives back that of the call.
-    pub(crate) fn into_parts(self) -> (Call, ReplyRoom)
+    /// The call, and the memory for its reply. Takes no memory, and gives back that of the call.
+    pub(crate) fn into_parts(self) -> (Call, ReplySlot)
         ensures { result.0 ≡ self }
     {
-        let BoxedCall { call, room } = self;
-        (Box::into_inner(call), ReplyRoom { room })
+        let BoxedCall { call, slot } = self;
+        (Box::into_inner(call), slot)
     }
 }
 
-// Room for a reply.
+// Memory for a reply. What stands there means nothing until a reply is put in.
 #[derive(Drop)]
-pub(crate) struct ReplyRoom {
-    room: Box<Reply>,
+pub(crate) struct ReplySlot {
+    reply: Box<Reply>,
 }
 
-impl ReplyRoom {
-    // The reply in this room. Takes no memory.
+impl ReplySlot {
+    // The reply in this memory. Takes no memory.
     pub(crate) fn with(self, reply: Reply) -> BoxedReply
         ensures { result ≡ reply }
     {
-        let mut room = self.room;
-        *room = reply;
-        BoxedReply { reply: room }
+        let mut boxed = self.reply;
+        *boxed = reply;
+        BoxedReply { reply: boxed }
     }
 }
 
-/// A reply in memory of its own: a pointer, where a [`Reply`] has room for a message's table of digests. Contracts see the reply.
+/// A reply in memory of its own: a pointer, where a [`Reply`] has space for a message's table of digests. Contracts see the reply.
 #[derive(Drop)]
 pub struct BoxedReply {
     reply: Box<Reply>,

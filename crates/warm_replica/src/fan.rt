@@ -35,7 +35,8 @@ impl<M: Absorbing> Promise<(Pass<M>, Replies)> for Began<M> {
     ghost use Rattle.warm_replica.specs.Jobs.{JobWent};
 
     ghost kept_by = { λ p r. (r.0.table ≡ p.pass.value.table)
-        × JobWent p.buffer.value.capacity p.steps.value.items r.1.items p.pass.value.view r.0.view };
+        × JobWent p.buffer.value.capacity p.steps.value.items r.1.items
+        p.pass.value.view r.0.view };
 }
 
 // The steps of a job, with a pass of its own.
@@ -117,18 +118,16 @@ fn fan_out<'s, E, M: Absorbing + Send + 's, R: Threads + Wait + Sync, G: Gate + 
 ) -> Result<(), NoThread>
     requires send { IsSend M.row × IsSync R.row × IsSync G.row }
     requires table { pass.old.table ≡ replica.now.table }
-    requires room { (all.old.items ≡ []) × (length jobs.items ≤ vec_capacity all.old) }
+    requires capacity { (all.old.items ≡ []) × (length jobs.items ≤ vec_capacity all.old) }
     ensures table { pass.new.table ≡ pass.old.table }
-    ensures room { vec_capacity all.old ≤ vec_capacity all.new }
+    ensures capacity { vec_capacity all.old ≤ vec_capacity all.new }
     ensures fanned { HasFanned pass.old.view jobs.items result all.new.items pass.new.view }
 {
     let Some(ready) = jobs.pop() else {
         return Ok(());
     };
     let mine = replica.pass(pass);
-    let Ok(child) = start_job(scope, rt, alloc, replica, gate, mine, ready) else {
-        return Err(NoThread);
-    };
+    let child = start_job(scope, rt, alloc, replica, gate, mine, ready)?;
     let rest = fan_out(scope, rt, alloc, replica, gate, pass, jobs, all);
     let (theirs, replies) = child.join(rt);
     replica.end(pass, theirs);
@@ -139,7 +138,7 @@ fn fan_out<'s, E, M: Absorbing + Send + 's, R: Threads + Wait + Sync, G: Gate + 
     Ok(())
 }
 
-// A job with its room. Its capacity is one that a buffer can have, so only memory can be refused.
+// A job with its buffer, and with capacity for its replies. The buffer's capacity is one that a buffer can have, so only memory can be refused.
 fn make_ready(alloc: Global, number: usize, job: Job) -> Result<Ready, AllocError>
     requires { IsCapacity job.capacity }
     ensures { IfOk result (IsReady job) }
@@ -157,7 +156,7 @@ fn make_ready(alloc: Global, number: usize, job: Job) -> Result<Ready, AllocErro
     })
 }
 
-// The jobs with their room.
+// The jobs with their buffers, and with capacity for their replies.
 fn make_all_ready(alloc: Global, jobs: Vec<Job>) -> Result<Vec<Ready>, AllocError>
     requires { HaveCapacities jobs.items }
     ensures { IfOk result (λ v. AreReady jobs.items v.items) }
@@ -189,7 +188,7 @@ fn run_ready<M: Absorbing + Send, R: Threads + Wait + Sync, G: Gate + Sync>(
     all: Vec<Replies>,
 ) -> (Pass<M>, Result<Vec<Replies>, NoThread>)
     requires table { own.table ≡ replica.now.table }
-    requires room { (all.items ≡ []) × (length ready.items ≤ vec_capacity all) }
+    requires capacity { (all.items ≡ []) × (length ready.items ≤ vec_capacity all) }
     ensures table { result.0.table ≡ own.table }
     ensures fanned { Fanned own.view ready.items result.1 result.0.view }
 {
@@ -221,7 +220,7 @@ fn run_ready<M: Absorbing + Send, R: Threads + Wait + Sync, G: Gate + Sync>(
 ///
 /// # Errors
 /// - `BadCapacity`: a job wants a buffer of a capacity outside 1 to [`warm_refbuffer::MAX_CAPACITY`]. Nothing has happened.
-/// - `Memory`: room for a buffer or for replies was refused. Nothing has happened.
+/// - `Memory`: memory for a buffer or for replies was refused. Nothing has happened.
 /// - `NoThread`: a thread could not be started, for want of memory too. The jobs that were started have run to their end, and the
 ///   pass has seen what they did.
 pub fn run_workers<M: Absorbing + Send, R: Threads + Wait + Sync, G: Gate + Sync>(

@@ -83,7 +83,7 @@ impl From<AllocError> for NoThread {
 /// started, then `NoThread`.
 #[derive(Clone, Copy, Debug, PartialEq, Eq, Error)]
 pub enum RunFault {
-    /// 1: there was no memory for the room of a job.
+    /// 1: there was no memory for the buffer or the replies of a job.
     #[error("Memory")]
     Memory,
     /// 2: a thread could not be started. Those that were started have run to their end.

@@ -12,8 +12,8 @@ use warm_refbuffer::Full;
 use warm_stamps::Reference;
 use warm_turn::Turn;
 
-/// A step of a job. A step and its reply take a few words: calls and replies are in memory of their own, for which the room is
-/// there before the job begins.
+/// A step of a job. A step and its reply take a few words: calls and replies are in memory of their own, which is
+/// allocated before the job begins.
 #[derive(Drop)]
 pub enum Step {
     /// Put a reference into the buffer.
@@ -79,16 +79,16 @@ fn take_step<M: Absorbing, R: Wait>(
             Err(fault) => StepReply::Failed(fault),
         },
         Step::Make(boxed) => {
-            let (call, room) = boxed.into_parts();
+            let (call, slot) = boxed.into_parts();
             match worker.call(rt, replica, call) {
-                Ok(reply) => StepReply::Answered(room.with(reply)),
+                Ok(reply) => StepReply::Answered(slot.with(reply)),
                 Err(_) => StepReply::Failed(FlushFault::TurnsSpent),
             }
         }
     }
 }
 
-// All steps of a job, in order. There is room for the replies.
+// All steps of a job, in order. There is capacity for the replies.
 pub(crate) fn take_steps<M: Absorbing, R: Wait, G: Gate>(
     rt: &R,
     alloc: Global,
@@ -100,7 +100,7 @@ pub(crate) fn take_steps<M: Absorbing, R: Wait, G: Gate>(
     replies: &mut Replies,
 )
     requires table { worker.old.pass.table ≡ replica.now.table }
-    requires room { (replies.old.items ≡ []) × (length steps.items ≤ replies.old.room) }
+    requires capacity { (replies.old.items ≡ []) × (length steps.items ≤ replies.old.capacity) }
     ensures table { worker.new.pass.table ≡ worker.old.pass.table }
     ensures went { StepsWent worker.old steps.items replies.new.items worker.new }
 {

@@ -16,7 +16,7 @@ pub enum Mail {
     Stop,
 }
 
-/// The mail of a channel, in the order in which it is received: at most so many items, and an end where the channel is closed
+/// The mail of a channel, in the order in which it is received: at most `left` items, and an end where the channel is closed
 /// and empty. It waits for the next item. Nothing is said of the items.
 #[derive(Drop)]
 pub struct MailIter<'a, R: Wait> {

@@ -23,7 +23,7 @@ pub trait Post {
     // What it has taken and keeps, oldest first.
     ghost given: { Self → List Parcel };
 
-    /// Takes bytes for a replica, or hands them back; then it has gained nothing.
+    /// Takes bytes for a replica, or gives them back; then it has gained nothing.
     fn post(&mut self, to: ReplicaId, bytes: ByteList) -> Result<(), ByteList>
         ensures back { IfErr result (λ same. same ≡ bytes) }
         ensures taken { OnOk result
@@ -140,7 +140,7 @@ impl<'a, R: Wait> Post for Outboxes<'a, R> {
 
     ghost given = { λ _. [] };
 
-    /// May wait. The bytes come back where no outbox has that number, and where the channel has no receiver or no room.
+    /// May wait. The bytes come back where no outbox has that number, and where the channel has no receiver or is full.
     fn post(&mut self, to: ReplicaId, bytes: ByteList) -> Result<(), ByteList>
         ensures back { IfErr result (λ same. same ≡ bytes) }
         ensures taken { OnOk result (Gained false [] ((to, bytes) ∷ []) []) }

@@ -1,11 +1,11 @@
-//! A job that has its room.
+//! A job that has its memory.
 ghost use Rattle.std.specs.Prelude.{◌≡◌, ◌≤◌, [], length};
 
 use crate::job::Step;
 use crate::replies::Replies;
 use warm_refbuffer::RefBuffer;
 
-// A job with its room.
+// A job with its buffer, and with capacity for its replies.
 #[derive(Drop)]
 pub(crate) struct Ready {
     pub(crate) job: usize,
@@ -13,5 +13,5 @@ pub(crate) struct Ready {
     pub(crate) steps: Vec<Step>,
     pub(crate) replies: Replies,
     ghost empty: { buffer.refs ≡ [] },
-    ghost room: { (replies.items ≡ []) × (length steps.items ≤ replies.room) },
+    ghost capacity: { (replies.items ≡ []) × (length steps.items ≤ replies.capacity) },
 }

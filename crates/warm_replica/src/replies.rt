@@ -9,7 +9,7 @@ use crate::job::StepReply;
 use std::alloc::{AllocError, Global};
 use std::marker::Model;
 
-// So many steps answered `Touched`, and then another reply.
+// This many steps answered `Touched`, and then another reply.
 #[derive(Drop)]
 pub(crate) struct Run {
     touched: usize,
@@ -17,8 +17,8 @@ pub(crate) struct Run {
 }
 
 /// The replies to the steps of a job, one for each step, in order. Those to references that went into the buffer one after another
-/// are counted, since they are most of them and say nothing more. Contracts see `Replied`: the list `items`, and for how many there
-/// is `room`.
+/// are counted, since they are most of them and say nothing more. Contracts see `Replied`: the list `items`, and the
+/// `capacity` for it.
 #[derive(Drop)]
 pub struct Replies {
     runs: Vec<Run>,
@@ -34,17 +34,17 @@ impl Model for Replies {
 
     ghost view = { λ r. record {
       items = replies_of r.runs.items r.touched;
-      room = vec_capacity r.runs;
+      capacity = vec_capacity r.runs;
     } };
 
     ghost invariant = { λ r. length (replies_of r.runs.items r.touched) ≡ r.len };
 }
 
 impl Replies {
-    // No replies, with room for so many.
+    // No replies, with capacity for those of this many steps.
     pub(crate) fn with_capacity(alloc: Global, steps: usize) -> Result<Replies, AllocError>
         ensures empty { IfOk result (λ r. r.items ≡ []) }
-        ensures room { IfOk result (λ r. steps ≤ r.room) }
+        ensures capacity { IfOk result (λ r. steps ≤ r.capacity) }
     {
         let runs = Vec::with_capacity(alloc, steps)?;
         Ok(Replies {
@@ -61,11 +61,11 @@ impl Replies {
         self.len
     }
 
-    // One reply more, for which there is room. Takes no memory.
+    // One reply more, for which there is capacity. Takes no memory.
     pub(crate) fn push(&mut self, reply: StepReply)
-        requires room { length self.old.items < self.old.room }
+        requires capacity { length self.old.items < self.old.capacity }
         ensures items { self.new.items ≡ self.old.items ++ reply ∷ [] }
-        ensures room { self.old.room ≤ self.new.room }
+        ensures capacity { self.old.capacity ≤ self.new.capacity }
     {
         self.len += 1;
         match reply {
@@ -89,7 +89,7 @@ impl Replies {
     /// The replies, one for each step, in order.
     ///
     /// # Errors
-    /// Where room for them is refused, the replies come back.
+    /// Where memory for them is refused, the replies come back.
     pub fn into_vec(self, alloc: Global) -> Result<Vec<StepReply>, Replies>
         ensures all { IfOk result (λ all. all.items ≡ self.items) }
         ensures kept { IfErr result (λ back. back ≡ self) }
@@ -121,21 +121,21 @@ fn are_ended_taken(runs: &[Run]) -> bool
     runs.iter().all(|run| is_taken(&run.reply))
 }
 
-// So many touches more. There is room for them.
+// This many touches more. There is capacity for them.
 fn push_touched(all: &mut Vec<StepReply>, count: usize)
-    requires room { length all.old.items + count ≤ vec_capacity all.old }
+    requires capacity { length all.old.items + count ≤ vec_capacity all.old }
     ensures items { all.new.items ≡ all.old.items ++ replicate count Touched }
-    ensures room { vec_capacity all.old ≤ vec_capacity all.new }
+    ensures capacity { vec_capacity all.old ≤ vec_capacity all.new }
 {
     for _touch in 0..count {
         all.push_reserved(StepReply::Touched);
     }
 }
 
-// All replies that runs stand for. There is room for them.
+// All replies that runs stand for. There is capacity for them.
 fn push_runs(all: &mut Vec<StepReply>, runs: Vec<Run>, touched: usize)
     requires empty { all.old.items ≡ [] }
-    requires room { length (replies_of runs.items touched) ≤ vec_capacity all.old }
+    requires capacity { length (replies_of runs.items touched) ≤ vec_capacity all.old }
     ensures items { all.new.items ≡ replies_of runs.items touched }
 {
     for run in runs {

@@ -52,13 +52,14 @@ impl<'a, M: Machine> Station<'a, M> {
 #[derive(Drop)]
 struct Began<M: Machine> {
     worker: Snapshot<Worker<M>>,
+    stops: u64,
     turns: u64,
 }
 
 impl<M: Machine<Call = Call, Reply = Reply>> Promise<(Worker<M>, MailReport)> for Began<M> {
     ghost use Rattle.warm_replica.specs.Mails.{Listened};
 
-    ghost kept_by = { λ p r. Listened p.turns p.worker.value.pass.view r.1 r.0.pass.view };
+    ghost kept_by = { λ p r. Listened p.stops p.turns p.worker.value r.1 r.0 };
 }
 
 // Takes the mail of a channel, and sends the answers to outboxes. The worker comes back.
@@ -73,8 +74,7 @@ fn listen_alone<M: Machine<Call = Call, Reply = Reply>, R: Wait>(
     turns: u64,
 ) -> (Worker<M>, MailReport)
     requires { worker.pass.table ≡ replica.now.table }
-    ensures table { result.0.pass.table ≡ worker.pass.table }
-    ensures heard { Listened turns worker.pass.view result.1 result.0.pass.view }
+    ensures { Listened stops turns worker result.1 result.0 }
 {
     let mail = MailIter::new(rt, receiver, turns);
     let mut post = Outboxes::new(rt, boxes);
@@ -99,7 +99,7 @@ fn listen_at<M: Machine<Call = Call, Reply = Reply>, R: Wait>(
     stops: u64,
     turns: u64,
 ) -> (Worker<M>, MailReport)
-    ensures { Listened turns station.entry.worker.pass.view result.1 result.0.pass.view }
+    ensures { Listened stops turns station.entry.worker result.1 result.0 }
 {
     let Station {
         replica,
@@ -121,16 +121,18 @@ fn start_station<'s, E, M: Machine<Call = Call, Reply = Reply> + Send + 's, R: W
 ) -> Result<PromisedHandle<(Worker<M>, MailReport), Began<M>>, NoThread>
     requires send { IsSend M.row × IsSync R.row }
     ensures worker { IfOk result (λ child. child.promise.worker.value ≡ station.entry.worker) }
+    ensures stops { IfOk result (λ child. child.promise.stops ≡ stops) }
     ensures turns { IfOk result (λ child. child.promise.turns ≡ turns) }
 {
     let began = Began {
         worker: Snapshot::of(&station.worker),
+        stops,
         turns,
     };
     let child = scope.spawn_with(
         began,
         move || -> (Worker<M>, MailReport)
-            ensures { Listened turns station.entry.worker.pass.view result.1 result.0.pass.view }
+            ensures { Listened stops turns station.entry.worker result.1 result.0 }
         { listen_at(rt, alloc, station, stops, turns) },
     )?;
     Ok(child)
@@ -152,17 +154,15 @@ pub(crate) fn listen_all<
     all: &mut Vec<(Worker<M>, MailReport)>,
 ) -> Result<(), NoThread>
     requires send { IsSend M.row × IsSync R.row }
-    requires room { (all.old.items ≡ []) × (length stations.items ≤ vec_capacity all.old) }
-    ensures room { vec_capacity all.old ≤ vec_capacity all.new }
+    requires capacity { (all.old.items ≡ []) × (length stations.items ≤ vec_capacity all.old) }
+    ensures capacity { vec_capacity all.old ≤ vec_capacity all.new }
     ensures heard { OnOk result
-        (AllListened (λ s. s.worker) turns stations.entry.items all.new.items) }
+        (AllListened (λ s. s.worker) stops turns stations.entry.items all.new.items) }
 {
     let Some(station) = stations.pop() else {
         return Ok(());
     };
-    let Ok(child) = start_station(scope, rt, alloc, station, stops, turns) else {
-        return Err(NoThread);
-    };
+    let child = start_station(scope, rt, alloc, station, stops, turns)?;
     let rest = listen_all(scope, rt, alloc, stations, stops, turns, all);
     let heard = child.join(rt);
     if let Err(none) = rest {
@@ -182,7 +182,8 @@ fn run_in_scope<'a, M: Machine<Call = Call, Reply = Reply> + Send, R: Threads + 
     all: Vec<(Worker<M>, MailReport)>,
 ) -> Result<Vec<(Worker<M>, MailReport)>, NoThread>
     requires { (all.items ≡ []) × (length stations.items ≤ vec_capacity all) }
-    ensures { IfOk result (λ v. AllListened (λ s. s.worker) turns stations.entry.items v.items) }
+    ensures { IfOk result
+        (λ v. AllListened (λ s. s.worker) stops turns stations.entry.items v.items) }
 {
     let (_, ran) = thread::scope(
         thread::scope_env(),
@@ -191,7 +192,7 @@ fn run_in_scope<'a, M: Machine<Call = Call, Reply = Reply> + Send, R: Threads + 
             requires { IsSend M.row × IsSync R.row
                 × (all.items ≡ []) × (length stations.items ≤ vec_capacity all) }
             ensures { IfOk result.1
-                (λ v. AllListened (λ s. s.worker) turns stations.entry.items v.items) }
+                (λ v. AllListened (λ s. s.worker) stops turns stations.entry.items v.items) }
         {
             let mut all = all;
             match listen_all(scope, rt, alloc, stations, stops, turns, &mut all) {
@@ -203,11 +204,11 @@ fn run_in_scope<'a, M: Machine<Call = Call, Reply = Reply> + Send, R: Threads + 
     ran
 }
 
-/// Each station takes its mail in a thread of its own, as [`crate::mail_loop`] does, until `stops` Stops or `turns` items, and hands its
-/// worker back with what it counted, in the order of the stations. It ends when all have ended.
+/// Each station takes its mail in a thread of its own, as [`crate::mail_loop`] does, until `stops` Stops or `turns` items, and gives its
+/// worker back, with the buffer that it had, and what it counted, in the order of the stations. It ends when all have ended.
 ///
 /// # Errors
-/// `NoThread`: a thread or room was refused. The threads that were started have run to their end; the workers are given up, with what
+/// `NoThread`: a thread or memory was refused. The threads that were started have run to their end; the workers are given up, with what
 /// waited in their buffers, and their calls stay in the histories of their replicas.
 pub fn run_stations<'a, M: Machine<Call = Call, Reply = Reply> + Send, R: Threads + Wait + Sync>(
     rt: &'a R,
@@ -216,7 +217,8 @@ pub fn run_stations<'a, M: Machine<Call = Call, Reply = Reply> + Send, R: Thread
     stops: u64,
     turns: u64,
 ) -> Result<Vec<(Worker<M>, MailReport)>, NoThread>
-    ensures { IfOk result (λ v. AllListened (λ s. s.worker) turns stations.entry.items v.items) }
+    ensures { IfOk result
+        (λ v. AllListened (λ s. s.worker) stops turns stations.entry.items v.items) }
 {
     let all = Vec::with_capacity(alloc, stations.len())?;
     run_in_scope(rt, alloc, stations, stops, turns, all)

@@ -76,7 +76,7 @@ impl<M: Machine<Call = Call, Reply = Reply>> Worker<M> {
     }
 
     /// Puts a reference last in the buffer. It takes no memory and waits for nobody: it meets no other worker. A full
-    /// buffer hands the reference back and stays as it was.
+    /// buffer gives the reference back and stays as it was.
     pub fn touch(&mut self, reference: Reference) -> Result<(), Full>
         ensures pass { self.new.pass ≡ self.old.pass }
         ensures taken { length self.old.buffer.refs < self.old.buffer.capacity
@@ -92,7 +92,7 @@ impl<M: Machine<Call = Call, Reply = Reply>> Worker<M> {
     /// Makes a call in a turn of its own, and may wait for it. The buffer stays as it is, also where the call absorbs references.
     ///
     /// # Errors
-    /// The call is handed back where no ticket was left for it, as none is for any later call of this worker.
+    /// The call is given back where no ticket was left for it, as none is for any later call of this worker.
     pub fn call<R: Wait>(&mut self, rt: &R, replica: &Turn<M>, call: Call) -> Result<Reply, Call>
         requires { self.old.pass.table ≡ replica.now.table }
         ensures table { self.new.pass.table ≡ self.old.pass.table }

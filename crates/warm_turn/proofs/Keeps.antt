@@ -1,4 +1,4 @@
--- Each step keeps both passes of the rule, and tells its seat what it says.
+-- Each step keeps both passes of the rule, and its seat learns what it says.
 use Rattle.std.proofs.Common.{◌≡◌, ◌≢◌, ℕ, ◌+◌, ◌%◌, ◌^◌, ◌<◌, eqb, List, [], ◌∷◌, get_or, ◌++◌, set, Option, Some, Bool, true, false, refl, sym, ap, ◌∙◌, subst, ⊎_elim, arith, eq-eqb, ne_eqb, get_or-set_other}
 use mathlib.Core.Logic.{dite}
 use mathlib.Core.Option.{some}
@@ -195,8 +195,8 @@ module _ {M X C R : Type 0} (view_of : M → X) (goes : X → C → R → X → 
   pub comes : (slots : ℕ) → Enters Rule slots 0 (λ n w. came {M = M} (step slots 0 0 0 maybe.none) (first_pass o, []) n (w, []))
   comes slots s r wide small = (note_of (first_pass o), sits s r (first_pass o) refl (r.history.log, refl), refl)
 
-  pub tells : (me : ℕ) (v : V) → v.sees ≡ true → Splits Rule me v v (note_of v)
-  tells me v sees s r at =
+  pub gives_note : (me : ℕ) (v : V) → v.sees ≡ true → Splits Rule me v v (note_of v)
+  gives_note me v sees s r at =
       let sight = (r.history.each me v at).sight sees in
       subst (λ (l : List V). Rule record { words = s.words; homes = s.homes; views = l ++ note_of v ∷ [] }) (sym (set_again s.views me v at)) (sits s r v sight.0 sight.1)
 

@@ -49,14 +49,14 @@ module _ {M X C R : Type 0} (view_of : M → X) (goes : X → C → R → X → 
   becomes slots id me was same sees owns = subst (λ (m : S). Allows Rule slots id m 0 (λ n. n) (became_pass goes (step slots 0 0 0 maybe.none) m)) (sym same)
       (keeping.becomes_pass view_of goes o slots id was.0 was.1 sees owns)
 
-  -- what passing on told, of a call that was made
+  -- what passing on says of a call that was made
   pub has_passed : (slots : ℕ) (me me' : S) (found : ℕ) (c : C) (r : R) → IsMade view_of goes me c r → passed goes (step slots 1 1 0 maybe.none) me found me'
       → HasPassedOn goes me c r me'
   has_passed slots me me' found c r m p =
       let q = p m.0 m.1 m.3 m.7 in
       (subst (λ (z : C × R). me' ≡ (after_call me.0 (entry me.0.number z.0 z.1), [])) (λ i. (m.8 i, m.9 i)) q.0, q.1)
 
-  -- what a look told that found the seat's own ticket
+  -- what a look says that found the seat's own ticket
   pub has_machine : (me was me' : S) (found ticket : ℕ) → me ≡ was → was.1 ≡ [] → was.0.ticket ≡ ticket → found ≡ ticket → looked view_of (step 1 1 0 0 maybe.none) me found me' → HasMachine view_of was.0 me'
   has_machine me was me' found ticket same none mine is p =
       let q = subst (λ (m : S). looked view_of (step 1 1 0 0 maybe.none) m found me') same p in

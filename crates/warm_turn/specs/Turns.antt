@@ -99,7 +99,7 @@ module _ {X C R : Type 0} where
   abbrev pub IsNote : View X C R → Type 0
   IsNote v = (v.sees ≡ true) × (v.owns ≡ false) × (v.serves ≡ false)
 
-  -- What an answered call tells: the list begins with the list that the pass had and ends with the call, which is one more of its own. The pass had no mark, and nothing else of it changed
+  -- What an answered call says: the list begins with the list that the pass had and ends with the call, which is one more of its own. The pass had no mark, and nothing else of it changed
   pub record Called (goes : X → C → R → X → Type 0) (v : View X C R) (c : C) (r : R) (w : View X C R) : Type 0 where
     pub between : List (Entry C R)
     pub seen : w.seen ≡ (v.seen ++ between) ++ entry v.number c r ∷ []

@@ -1,4 +1,4 @@
-//! Why a turn refuses. Each refusal hands back what was handed in, or says what was found.
+//! Why a turn refuses. Each refusal gives back what was passed in, or says what was found.
 ghost use Rattle.std.specs.Prelude.{◌≡◌, codes};
 
 use std::error::Error;
@@ -8,7 +8,7 @@ use std::fmt;
 /// back.
 #[derive(Debug, Drop)]
 pub struct Memory<M> {
-    /// The machine that was handed in, as it was.
+    /// The machine that was passed in, unchanged.
     pub machine: M,
 }
 
@@ -75,8 +75,8 @@ impl<C: fmt::Debug + Drop> Error for TurnsSpent<C> {}
 ///
 /// A call borrows its turn, so none should be under way when the turn is closed. That is not a fact
 /// that the words show, so closing compares them. The turn and the pass are used up, the machine is
-/// dropped where it is at home, and these two words are what is left: so many calls as tickets were
-/// served were answered.
+/// dropped where it is at home, and these two words are what is left: as many calls were answered
+/// as tickets were served.
 #[derive(Clone, Copy, Debug, PartialEq, Eq)]
 pub struct Busy {
     /// The next ticket.

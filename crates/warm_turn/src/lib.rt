@@ -9,9 +9,9 @@
 //!
 //! - [`Turn::new`] gives the turn and its first pass, and [`Turn::pass`] splits a pass off another.
 //! - [`Turn::call`] makes a call. Its list begins with all that the pass had seen and ends with it.
-//! - [`Turn::note`] and [`Turn::learn`] tell one pass what another has seen, and [`Turn::end`] ends
+//! - By [`Turn::note`] and [`Turn::learn`] one pass learns what another has seen, and [`Turn::end`] ends
 //!   a pass into another. Both lists begin the new one.
-//! - [`Turn::opening_note`] is for code that was handed a turn and a pass: a pass that learns it is
+//! - [`Turn::opening_note`] is for code that was given a turn and a pass: a pass that learns it is
 //!   seen to have opened with the turn's state.
 //! - [`Turn::close`] gives the machine back, in a state that such a history reaches.
 //!

@@ -3,7 +3,7 @@
 /// An object that answers calls one after the other.
 ///
 /// Its behaviour is a relation over a state that is plain data. What always holds of a machine is in
-/// the invariant of its type, so any machine may be handed in, and no clause speaks of validity.
+/// the invariant of its type, so any machine may be passed in, and no clause speaks of validity.
 pub trait Machine {
     /// What the machine is asked.
     type Call;

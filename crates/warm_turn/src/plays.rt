@@ -1,4 +1,4 @@
-//! The kinds of step at the table, and what each tells the seat that makes it.
+//! The kinds of step at the table, and what the seat that makes one learns from it.
 use crate::board::{Held, View};
 use crate::machine::Machine;
 use atomic_table::{Join, Play, Split};
@@ -62,9 +62,9 @@ impl<M: Machine> Play<Option<Held<M, M::Call, M::Reply>>, View<M::State, M::Call
 }
 
 // Splits a note off a pass.
-pub(crate) struct Tell;
+pub(crate) struct GiveNote;
 
-impl<X, C, R> Split<View<X, C, R>> for Tell {
+impl<X, C, R> Split<View<X, C, R>> for GiveNote {
     ghost use Rattle.warm_turn.specs.Turns.{note_of};
 
     ghost left = { λ v. v };

@@ -10,7 +10,7 @@ ghost use Rattle.warm_turn.specs.Steps.{HasTicket, HasMachine, IsMade, Served, H
 use crate::board::{Board, BoxedMachine, Held, Made, Place, Top};
 use crate::fault::{Busy, Memory, TurnsSpent};
 use crate::machine::Machine;
-use crate::plays::{Become, CatchUp, Come, End, Learn, Look, PassOn, Take, Tell};
+use crate::plays::{Become, CatchUp, Come, End, GiveNote, Learn, Look, PassOn, Take};
 use atomic_table::{Refused, Table};
 use std::alloc::{AllocFailed, Global};
 use std::hint::spin_loop;
@@ -101,7 +101,7 @@ const NAP: u64 = 50;
 // How many times as long a caller that has no ticket sleeps in the end.
 const LONGEST: u32 = 16;
 
-// How long a caller without a ticket sleeps after so many looks, in microseconds: a little longer each time, so that many
+// How long a caller without a ticket sleeps after this many looks, in microseconds: a little longer each time, so that many
 // who wait at once do not wake too often.
 fn longer_nap(looks: u32) -> u64 {
     let naps = looks.saturating_sub(SPINS);
@@ -112,7 +112,7 @@ fn longer_nap(looks: u32) -> u64 {
     }
 }
 
-// Waits a little between two looks, of which so many were made, and sleeps no longer than this. The last one found that this
+// Waits a little between two looks, of which this many were made, and sleeps no longer than this. The last one found that this
 // ticket is served.
 fn pause<M: Machine, R: Wait>(rt: &R, top: &Top<M>, served: u64, looks: u32, nap: u64)
     requires { IsBoard top.now.table_id }
@@ -271,8 +271,8 @@ impl<M: Machine> Pass<M> {
 
 impl<M: Machine> Turn<M> {
     /// A turn over the machine, and its first pass, which has seen nothing and made no call. The
-    /// turn opens with the machine's state. `Memory`, which comes only where a growth was refused,
-    /// hands the machine back as it was.
+    /// turn opens with the machine's state. `Memory`, which comes only where an allocation
+    /// failed, gives the machine back unchanged.
     pub fn new(alloc: Global, machine: M) -> Result<(Turn<M>, Pass<M>), Memory<M>>
         ensures table { IfOk result (λ t. t.1.table ≡ t.0.table) }
         ensures opening { IfOk result (λ t. t.0.opening ≡ M.view machine) }
@@ -317,7 +317,7 @@ impl<M: Machine> Turn<M> {
             × (calls_by n pass.old.view.seen ≡ []) }
         ensures legal { IsPass M.goes result.view }
     {
-        let mut place = self.table.shared.split_seat::<Tell>(&mut pass.place);
+        let mut place = self.table.shared.split_seat::<GiveNote>(&mut pass.place);
         self.table.shared.load::<Become>(&mut place, 0);
         Pass { place }
     }
@@ -329,12 +329,12 @@ impl<M: Machine> Turn<M> {
         ensures table { result.table ≡ self.now.table }
         ensures given { result.view ≡ note_of pass.old.view }
     {
-        let place = self.table.shared.split_seat::<Tell>(&mut pass.place);
+        let place = self.table.shared.split_seat::<GiveNote>(&mut pass.place);
         Note { place }
     }
 
     /// A note that has seen nothing, and opened with the turn's state. It is for code that was
-    /// handed a turn and a pass: a pass that learns this note is seen to have opened with that
+    /// given a turn and a pass: a pass that learns this note is seen to have opened with that
     /// state.
     pub fn opening_note(&self) -> Note<M>
         ensures table { result.table ≡ self.now.table }
@@ -378,7 +378,7 @@ impl<M: Machine> Turn<M> {
     /// list that it had and ends with the call and its reply, which is one more of its own calls. A
     /// pass that is answered had no mark, and has none.
     ///
-    /// `TurnsSpent`, which comes only where this pass found `u64::MAX` in the ticket word, hands
+    /// `TurnsSpent`, which comes only where this pass found `u64::MAX` in the ticket word, gives
     /// the call back, adds no entry and leaves the pass as it was, but for the mark. Nothing says
     /// how long a call waits: it may be forever, as where an earlier call of the machine never
     /// returns.
@@ -403,8 +403,8 @@ impl<M: Machine> Turn<M> {
     /// the pass holds: the calls of the passes that were ended into it are all there.
     ///
     /// `Busy` comes only where fewer tickets were served than were taken. Its words are those of a
-    /// state that the rule of the turn allows, in which a pass knows what this one does: so many
-    /// calls as tickets were served are in the history. The turn and the pass are used up, and a
+    /// state that the rule of the turn allows, in which a pass knows what this one does: as many
+    /// calls are in the history as tickets were served. The turn and the pass are used up, and a
     /// machine that is at home is dropped.
     pub fn close(self, pass: Pass<M>) -> Result<M, Busy>
     where

@@ -1,6 +1,6 @@
 use Rattle.std.proofs.Common.{◌++◌, ◌∷◌, [], length, append_assoc, ap, sym, ◌∙◌, arith}
 use Rattle.std.proofs.lemmas.List.{length-append}
-use Rattle.warm_replica.proofs.Rooms.{pairs_more}
+use Rattle.warm_replica.proofs.PairLemmas.{pairs_more}
 use Rattle.warm_replica.specs.Fanning.{IsReady}
 use Rattle.warm_replica.proofs.fan.make_all_ready.Goals as goal
 
@@ -9,7 +9,7 @@ loop-job-init c = record {
   same = rw c.in_ok-all.ensures.items tt;
   rest = c.into_iter-job-iterator.ensures.into_iter_gives.0;
   count = ap length c.in_ok-all.ensures.items;
-  room = omega (arith, c.in_ok-all.ensures.exact, c.len.ensures, c.args.jobs.ok.0);
+  capacity = omega (arith, c.in_ok-all.ensures.exact, c.len.ensures, c.args.jobs.ok.0);
 }
 
 pub loop-job-preserved : goal.loop-job-preserved
@@ -21,5 +21,5 @@ loop-job-preserved c =
           (pairs_more IsReady so_far c.loop-job.all.items job c.in_ok-make_ready.field-0 c.loop-job.invariant.same c.in_ok-make_ready.ensures);
       rest = append_assoc so_far (job ∷ []) c.next.new.self.rest.items ∙ (ap (λ r. so_far ++ r) (sym c.in-Some.ensures.steps.0) ∙ c.loop-job.invariant.rest);
       count = ap length c.push_reserved.ensures.items ∙ omega (arith, length-append c.loop-job.all.items (c.in_ok-make_ready.field-0 ∷ []), length-append so_far (job ∷ []), c.loop-job.invariant.count);
-      room = omega (arith, c.push_reserved.ensures.capacity, c.loop-job.invariant.room);
+      capacity = omega (arith, c.push_reserved.ensures.capacity, c.loop-job.invariant.capacity);
     }

@@ -3,11 +3,11 @@ use Rattle.std.specs.Vec.Iter.{into_iter_items}
 use Rattle.warm_replica.specs.Fanning.{AreReady}
 use Rattle.warm_replica.proofs.fan.make_all_ready.Given as goal
 
--- the jobs so far have their room, and there is room for all
+-- the jobs so far have their buffers, and there is capacity for all
 abbrev pub invariant-loop-job : goal.invariant-loop-job
 invariant-loop-job l = record {
   same : AreReady l.yielded l.all.items;
   rest : l.yielded ++ into_iter_items l.job-iterator ≡ l.fn.jobs.items;
   count : length l.all.items ≡ length l.yielded;
-  room : length l.fn.jobs.items ≤ vec_capacity l.all;
+  capacity : length l.fn.jobs.items ≤ vec_capacity l.all;
 }

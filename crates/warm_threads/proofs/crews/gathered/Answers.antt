@@ -1,5 +1,5 @@
 use Rattle.std.proofs.Common.{◌≡◌, ◌∷◌, [], ◌++◌, Ok, append_assoc, ap, sym, ◌∙◌}
-use Rattle.warm_replica.proofs.Rooms.{pairs_more}
+use Rattle.warm_replica.proofs.PairLemmas.{pairs_more}
 use Rattle.warm_threads.proofs.crews.gathered.Goals as goal
 
 pub loop-result-preserved : goal.loop-result-preserved

@@ -7,7 +7,7 @@ use Rattle.warm_replica.proofs.replies.Replies.push.Goals as goal
 pub push_reserved-requires : goal.push_reserved-requires
 push_reserved-requires c =
     let s = c.self.inside in
-    omega (arith, replies_long s.runs.items s.touched, ap (λ (v : Replied). length v.items) c.self.view_is, ap (λ (v : Replied). v.room) c.self.view_is, c.requires.room, s.runs.ok.0)
+    omega (arith, replies_long s.runs.items s.touched, ap (λ (v : Replied). length v.items) c.self.view_is, ap (λ (v : Replied). v.capacity) c.self.view_is, c.requires.capacity, s.runs.ok.0)
 
 pub invariant_of-self-in_default : goal.invariant_of-self-in_default
 invariant_of-self-in_default c =
@@ -21,5 +21,5 @@ returns-in_default c =
     let more = ap (λ rs. replies_of rs 0) c.push_reserved.ensures.items ∙ reply_more s.runs.items _ in
     record {
       items = more ∙ ap (λ (v : Replied). v.items ++ c.args.reply ∷ []) c.self.view_is;
-      room = omega (arith, ap (λ (v : Replied). v.room) c.self.view_is, c.push_reserved.ensures.capacity);
+      capacity = omega (arith, ap (λ (v : Replied). v.capacity) c.self.view_is, c.push_reserved.ensures.capacity);
     }
