@@ -33,14 +33,14 @@ returns-in_err-take_line-clause-bad c =
     let line = c.in-Some.line.now in
     let after = c.in-Some.after.now in
     let parted : lines c.loop-line.rest.now ≡ line ∷ lines after = ap lines c.in-Some.ensures.parts ∙ line_ends line after c.in-Some.ensures.line in
-    passed_on c.from_residual.result c.in_err-take_line.field-0.0 _ c.from_residual.ensures.1
+    passed_on c.from_residual-in_err-take_line.result c.in_err-take_line.field-0.0 _ c.from_residual-in_err-take_line.ensures.1
     (line_fault s _ n line (lines after) _ (c.loop-line.invariant.bad ∙ ap (bad_from s n) parted) c.in_err-take_line.ensures.bad)
 
 pub returns-clause-plans : goal.returns-clause-plans
 returns-clause-plans c =
     let s = c.args.setup in
     let before = c.loop-line.invariant.planned.0 in
-    let last = line_last c.loop-line.rest.now c.in_default-first_line.ensures.line in
+    let last = line_last c.loop-line.rest.now c.in_default.ensures.line in
     let all : asks s (lines c.args.text.now) ≡ before ++ with_ask (asked s c.loop-line.rest.now) [] = c.loop-line.invariant.planned.2 ∙ ap (λ (ls : List (List ℕ)). before ++ asks s ls) last in
     subst (λ (asked : List Ask). ArePlansOf s asked c.take_line-2.new.plans.items) (sym all) (c.in_ok-take_line-2.ensures.adds before c.loop-line.invariant.planned.1)
 
@@ -49,12 +49,12 @@ returns-clause-good c =
     let s = c.args.setup in
     let n = c.loop-line.number in
     let rest = c.loop-line.rest.now in
-    c.loop-line.invariant.bad ∙ (ap (bad_from s n) (line_last rest c.in_default-first_line.ensures.line) ∙ good_here s n rest [] c.in_ok-take_line-2.ensures.good)
+    c.loop-line.invariant.bad ∙ (ap (bad_from s n) (line_last rest c.in_default.ensures.line) ∙ good_here s n rest [] c.in_ok-take_line-2.ensures.good)
 
 pub returns-in_err-take_line-2-clause-bad : goal.returns-in_err-take_line-2-clause-bad
 returns-in_err-take_line-2-clause-bad c =
     let s = c.args.setup in
     let n = c.loop-line.number in
     let rest = c.loop-line.rest.now in
-    passed_on c.from_residual-2.result c.in_err-take_line-2.field-0.0 _ c.from_residual-2.ensures.1
-    (line_fault s _ n rest [] _ (c.loop-line.invariant.bad ∙ ap (bad_from s n) (line_last rest c.in_default-first_line.ensures.line)) c.in_err-take_line-2.ensures.bad)
+    passed_on c.from_residual-in_err-take_line-2.result c.in_err-take_line-2.field-0.0 _ c.from_residual-in_err-take_line-2.ensures.1
+    (line_fault s _ n rest [] _ (c.loop-line.invariant.bad ∙ ap (bad_from s n) (line_last rest c.in_default.ensures.line)) c.in_err-take_line-2.ensures.bad)

@@ -15,6 +15,6 @@ returns g c =
     let replies = c.in_ok-all.all.items in
     let taken : All AreTaken replies = search rules in
     jobs_work g.M.Machine.goes x z w jobs replies
-    (subst (λ v. JobsWent v jobs replies w) c.in_ok-new.ensures.first c.in_ok-all.ensures.went)
+    (subst (λ v. JobsWent v jobs replies w) c.in_ok-replica.ensures.first c.in_ok-all.ensures.went)
     taken
-    (subst (λ o. IsLast g.M.Machine.goes o w z) c.in_ok-new.ensures.opening c.in_ok-machine.ensures.last)
+    (subst (λ o. IsLast g.M.Machine.goes o w z) c.in_ok-replica.ensures.opening c.in_ok-machine.ensures.last)
