@@ -1,8 +1,9 @@
 //! All replicas, each in a thread of its own.
-ghost use Rattle.std.specs.Prelude.{◌≡◌, ◌≤◌, length, map, IfOk, Ok};
+ghost use Rattle.std.specs.Prelude.{◌≡◌, ◌≢◌, ◌↔◌, ◌≤◌, length, map, IfErr, IfOk, IfSome, IsNone, Err, Ok};
 ghost use Rattle.std.specs.List.{All};
 ghost use Rattle.warm_replica.specs.declared.fan.TheConstants.{MAX_JOBS};
 ghost use Rattle.warm_replica.specs.Pairs.{Pairs};
+ghost use Rattle.warm_threads.specs.declared.fault.CrewFault.TheVariants.{Closed};
 ghost use Rattle.warm_threads.specs.Works.{Leads, Went, Works};
 
 use crate::exchange::{hear_all, send_all};
@@ -99,10 +100,28 @@ fn hear_one<M: Absorbing + Drop, R: Wait>(
     hear_all(rt, alloc, machine, receiver, stops)
 }
 
-// What was made, where all of it was.
-fn gathered<T: Drop>(alloc: Global, results: Vec<Result<T, CrewFault>>) -> Result<Vec<T>, CrewFault>
-    ensures { IfOk result (λ v. Pairs (λ r t. r ≡ Ok t) results.items v.items) }
+// Why crews failed: the first fault other than `Closed`. A crew meets a closed channel only after another crew has failed.
+fn cause_of<T>(results: &[Result<T, CrewFault>]) -> Option<CrewFault>
+    ensures cause { IfSome result (λ why. why ≢ Closed) }
+    ensures none { IsNone result ↔ All (λ r. IfErr r (λ why. why ≡ Closed)) results.now }
 {
+    for result in results {
+        match result {
+            Ok(_) | Err(CrewFault::Closed) => {}
+            Err(why) => return Some(*why),
+        }
+    }
+    None
+}
+
+// What was made, where all of it was. The fault is `Closed` only where no crew has another.
+fn gathered<T: Drop>(alloc: Global, results: Vec<Result<T, CrewFault>>) -> Result<Vec<T>, CrewFault>
+    ensures whole { IfOk result (λ v. Pairs (λ r t. r ≡ Ok t) results.items v.items) }
+    ensures closed { result ≡ Err Closed → All (λ r. IfErr r (λ why. why ≡ Closed)) results.items }
+{
+    if let Some(why) = cause_of(&results) {
+        return Err(why);
+    }
     let mut all = Vec::with_capacity(alloc, results.len())?;
     for result in results {
         all.push(result?)?;

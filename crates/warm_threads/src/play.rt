@@ -200,7 +200,7 @@ fn play_over<M: Absorbing + Send + Drop, T: Threads + Wait + Sync, R: Read>(
 /// - `BadLine` with the number of the first line that is none of these. No thread was started.
 /// - `Memory`: an allocation failed, of a worker, of a replica or of a channel too.
 /// - `NoThread`: a worker had no thread, for want of memory too, or left a call behind; or a channel was closed, since its replica
-///   ended before all was sent to it.
+///   ended before all was sent to it, and no replica has another fault.
 /// - `WriteFault`: the writer failed.
 ///
 /// Of the faults of the threads (`CrewFault`), `Memory` comes out as `Memory`, and `NoThread` and `Closed` as `NoThread`. In each
