@@ -1,5 +1,6 @@
 -- The first line that threads cannot play.
-use Rattle.std.proofs.Common.{◌≡◌, ◌⊎◌, inl, inr, ℕ, ◌+◌, List, [], ◌∷◌, ◌++◌, Option, Some, None, refl, ap, sym, ◌∙◌, append_assoc}
+use Rattle.std.proofs.Common.{◌≡◌, ◌⊎◌, inl, inr, ℕ, ◌+◌, List, [], ◌∷◌, ◌++◌, Option, Some, None, Result, Ok, Err, refl, subst, ap, sym, ◌∙◌, append_assoc}
+use Rattle.std.specs.Prelude.{IfErr, IsErrAnd}
 use Rattle.warm_play_fault.specs.declared.PlayFault.{PlayFault}
 use Rattle.warm_play_fault.specs.declared.PlayFault.TheVariants.{BadLine, Memory}
 use Rattle.warm_world.specs.Sizes.{Sizes}
@@ -30,8 +31,13 @@ with_here (Some (Some a)) rest = refl
 pub asks_then : (s : Sizes) (before all : List Ask) (line : List ℕ) (rest : List (List ℕ)) → all ≡ before ++ asks s (line ∷ rest) → all ≡ (before ++ with_ask (asked s line) []) ++ asks s rest
 asks_then s before all line rest is = is ∙ ap (λ (more : List Ask). before ++ more) (with_here (asked s line) (asks s rest)) ∙ sym (append_assoc before (with_ask (asked s line) []) (asks s rest))
 
--- the line of this number cannot be played, or there was no room
+-- the line of this number cannot be played, or an allocation failed
 pub line_fault : (s : Sizes) (found : Option ℕ) (number : ℕ) (line : List ℕ) (rest : List (List ℕ)) (why : PlayFault) → found ≡ bad_from s number (line ∷ rest)
     → (why ≡ Memory) ⊎ ((why ≡ BadLine number) × (asked s line ≡ None)) → (why ≡ Memory) ⊎ IsBadLine found why
 line_fault s found number line rest why is (inl memory) = inl memory
 line_fault s found number line rest why is (inr bad) = inr (is_bad_line found number why (is ∙ bad_here s number line rest bad.1) bad.0)
+
+-- a fault that is passed on as it is
+pub passed_on : {T E : Type 0} (result : Result T E) (fault : E) (P : E → Type 0) → IsErrAnd result (λ e. e ≡ fault) → P fault → IfErr result P
+passed_on (Ok value) fault P same holds = tt
+passed_on (Err e) fault P same holds = subst P (sym same) holds

@@ -40,7 +40,7 @@ module _ {A : Type 0} where
   numbered_set n (suc k) m P Q (x ∷ xs) y low is f here h =
       (f n x (omega (arith, is)) h.0, numbered_set (n + 1) k m P Q xs y (omega (arith, low)) (omega (arith, is)) f here h.1)
 
-  -- so many of one value
+  -- one value, this many times
   pub numbered_replicate : (n k : ℕ) (P : ℕ → A → Type 0) (x : A) → ((j : ℕ) → P j x) → NumberedFrom n P (replicate k x)
   numbered_replicate n zero P x each = tt
   numbered_replicate n (suc k) P x each = (each n, numbered_replicate (n + 1) k P x each)

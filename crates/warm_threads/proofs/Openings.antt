@@ -36,7 +36,7 @@ module _ {B : Type 0} (f : B → DeviceState) where
       omega (arith, here, length-map v.items f)
   few_of_shown (v ∷ vs) few (suc k) d low = few_of_shown vs (λ j less. few (suc j) (omega (arith, less))) k d (omega (arith, low))
 
-  -- so many lists, of which each may have so many devices
+  -- lists that nodes can be made over: one for each replica, none longer than a page can name
   pub usable_count : (s : Sizes) (lists : List (Vec B)) → AreUsable s (shown lists) → length lists ≡ s.replicas
   usable_count s lists usable = omega (arith, usable.0.0, length-map lists (λ (ds : Vec B). map f ds.items))
 

@@ -44,17 +44,17 @@ module _ {X : Type 0} (goes : X → Call → Reply → X → Type 0) where
       }
 
   -- crews of these machines and jobs that have worked, and machines that have sent and heard since
-  pub went_all : {C K H M : Type 0} (meaning : M → X) (first : List M) (lists : List (Vec Job)) (cs : List C) (ks : List K) (hs : List H) (ms : List M)
+  pub went_all : {C K H M : Type 0} (view : M → X) (first : List M) (lists : List (Vec Job)) (cs : List C) (ks : List K) (hs : List H) (ms : List M)
       → (machine : C → M) (jobs : C → Vec Job) (known : K → M) (heard : H → M) → map machine cs ≡ first → map jobs cs ≡ lists
-      → Pairs (λ r k. Works goes (jobs r).items (meaning (machine r)) (meaning (known k))) cs ks
-      → Pairs (λ k h. Leads goes (meaning (known k)) (meaning (heard h))) ks hs
-      → Pairs (λ h m. Leads goes (meaning (heard h)) (meaning m)) hs ms
-      → Went goes (map meaning first) lists (map meaning ms)
-  went_all {C} {K} {H} {M} meaning first lists cs ks hs ms machine jobs known heard are have worked sent told =
-      let led : Pairs (λ (k : K) (m : M). Leads goes (meaning (known k)) (meaning m)) ks ms =
-      pairs_then _ _ _ (λ k h m a b. leads_then (meaning (known k)) (meaning (heard h)) (meaning m) a b) ks hs ms sent told in
-      let went : Pairs (λ (r : C) (m : M). WentOn goes (jobs r).items (meaning (machine r)) (meaning m)) cs ms =
-      pairs_then _ _ _ (λ r k m a b. record { worked = meaning (known k); works = a; leads = b }) cs ks ms worked led in
-      subst (λ (zs : List M). Went goes (map meaning zs) lists (map meaning ms)) are
-      (subst (λ (ls : List (Vec Job)). Went goes (map meaning (map machine cs)) ls (map meaning ms)) have
-      (triples_of (λ x list z. WentOn goes list.items x z) meaning machine jobs meaning cs ms went))
+      → Pairs (λ r k. Works goes (jobs r).items (view (machine r)) (view (known k))) cs ks
+      → Pairs (λ k h. Leads goes (view (known k)) (view (heard h))) ks hs
+      → Pairs (λ h m. Leads goes (view (heard h)) (view m)) hs ms
+      → Went goes (map view first) lists (map view ms)
+  went_all {C} {K} {H} {M} view first lists cs ks hs ms machine jobs known heard are have worked sent received =
+      let led : Pairs (λ (k : K) (m : M). Leads goes (view (known k)) (view m)) ks ms =
+      pairs_then _ _ _ (λ k h m a b. leads_then (view (known k)) (view (heard h)) (view m) a b) ks hs ms sent received in
+      let went : Pairs (λ (r : C) (m : M). WentOn goes (jobs r).items (view (machine r)) (view m)) cs ms =
+      pairs_then _ _ _ (λ r k m a b. record { worked = view (known k); works = a; leads = b }) cs ks ms worked led in
+      subst (λ (zs : List M). Went goes (map view zs) lists (map view ms)) are
+      (subst (λ (ls : List (Vec Job)). Went goes (map view (map machine cs)) ls (map view ms)) have
+      (triples_of (λ x list z. WentOn goes list.items x z) view machine jobs view cs ms went))

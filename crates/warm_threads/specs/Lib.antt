@@ -1,4 +1,5 @@
 pub mod Asks
+pub mod Faults
 pub mod Numbers
 pub mod Steps
 pub mod Plans

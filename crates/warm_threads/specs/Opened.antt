@@ -1,4 +1,4 @@
--- Nodes that were told nothing.
+-- Nodes that were given nothing.
 use Rattle.std.specs.Prelude.{ℕ, ◌+◌, List, [], ◌∷◌}
 use Rattle.warm_devices.specs.Device.{DeviceState}
 use Rattle.warm_pool.specs.State.{opened}

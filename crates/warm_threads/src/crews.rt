@@ -1,18 +1,19 @@
 //! All replicas, each in a thread of its own.
-ghost use Rattle.std.specs.Prelude.{◌≡◌, ◌≤◌, length, map, IfOk, Ok};
+ghost use Rattle.std.specs.Prelude.{◌≡◌, ◌≢◌, ◌↔◌, ◌≤◌, length, map, IfErr, IfOk, IfSome, IsNone, Err, Ok};
 ghost use Rattle.std.specs.List.{All};
 ghost use Rattle.warm_replica.specs.declared.fan.TheConstants.{MAX_JOBS};
 ghost use Rattle.warm_replica.specs.Pairs.{Pairs};
+ghost use Rattle.warm_threads.specs.declared.fault.CrewFault.TheVariants.{Closed};
 ghost use Rattle.warm_threads.specs.Works.{Leads, Went, Works};
 
 use crate::exchange::{hear_all, send_all};
+use crate::fault::CrewFault;
 use crate::work::work;
 use crossbeam_channel::{Receiver, Sender, unbounded};
 use std::alloc::{AllocError, Global};
 use std::sync::Wait;
 use std::thread;
 use std::thread::Threads;
-use warm_play_fault::PlayFault;
 use warm_replica::{Absorbing, Job, Mail};
 
 // A machine, the jobs of its workers, where it sends what it knows, and where it hears of others.
@@ -32,7 +33,7 @@ struct Knowing<M> {
     receiver: Receiver<Mail>,
 }
 
-// The same, when all was sent: so many Stops are to come.
+// The same, when all was sent: `stops` Stops are to come.
 #[derive(Drop)]
 struct Hearing<M> {
     machine: M,
@@ -44,7 +45,7 @@ fn work_one<M: Absorbing + Send + Drop, R: Threads + Wait + Sync>(
     rt: &R,
     alloc: Global,
     crew: Crew<M>,
-) -> Result<Knowing<M>, PlayFault>
+) -> Result<Knowing<M>, CrewFault>
     requires { length crew.jobs.items ≤ MAX_JOBS }
     ensures { IfOk result
         (λ k. Works M.goes crew.jobs.items (M.view crew.machine) (M.view k.machine)) }
@@ -67,7 +68,7 @@ fn send_one<M: Absorbing + Drop, R: Wait>(
     rt: &R,
     alloc: Global,
     one: Knowing<M>,
-) -> Result<Hearing<M>, PlayFault>
+) -> Result<Hearing<M>, CrewFault>
     ensures { IfOk result
         (λ h. Leads M.goes (M.view one.machine) (M.view h.machine)) }
 {
@@ -88,7 +89,7 @@ fn hear_one<M: Absorbing + Drop, R: Wait>(
     rt: &R,
     alloc: Global,
     one: Hearing<M>,
-) -> Result<M, PlayFault>
+) -> Result<M, CrewFault>
     ensures { IfOk result (λ m. Leads M.goes (M.view one.machine) (M.view m)) }
 {
     let Hearing {
@@ -99,17 +100,31 @@ fn hear_one<M: Absorbing + Drop, R: Wait>(
     hear_all(rt, alloc, machine, receiver, stops)
 }
 
-// What was made, where all of it was.
-fn gathered<T: Drop>(alloc: Global, results: Vec<Result<T, PlayFault>>) -> Result<Vec<T>, PlayFault>
-    ensures { IfOk result (λ v. Pairs (λ r t. r ≡ Ok t) results.items v.items) }
+// Why crews failed: the first fault other than `Closed`. A crew meets a closed channel only after another crew has failed.
+fn cause_of<T>(results: &[Result<T, CrewFault>]) -> Option<CrewFault>
+    ensures cause { IfSome result (λ why. why ≢ Closed) }
+    ensures none { IsNone result ↔ All (λ r. IfErr r (λ why. why ≡ Closed)) results.now }
 {
-    let Ok(mut all) = Vec::with_capacity(alloc, results.len()) else {
-        return Err(PlayFault::Memory);
-    };
     for result in results {
-        let Ok(()) = all.push(result?) else {
-            return Err(PlayFault::Memory);
-        };
+        match result {
+            Ok(_) | Err(CrewFault::Closed) => {}
+            Err(why) => return Some(*why),
+        }
+    }
+    None
+}
+
+// What was made, where all of it was. The fault is `Closed` only where no crew has another.
+fn gathered<T: Drop>(alloc: Global, results: Vec<Result<T, CrewFault>>) -> Result<Vec<T>, CrewFault>
+    ensures whole { IfOk result (λ v. Pairs (λ r t. r ≡ Ok t) results.items v.items) }
+    ensures closed { result ≡ Err Closed → All (λ r. IfErr r (λ why. why ≡ Closed)) results.items }
+{
+    if let Some(why) = cause_of(&results) {
+        return Err(why);
+    }
+    let mut all = Vec::with_capacity(alloc, results.len())?;
+    for result in results {
+        all.push(result?)?;
     }
     Ok(all)
 }
@@ -119,19 +134,17 @@ fn all_work<M: Absorbing + Send + Drop, R: Threads + Wait + Sync>(
     rt: &R,
     alloc: Global,
     crews: Vec<Crew<M>>,
-) -> Result<Vec<Knowing<M>>, PlayFault>
+) -> Result<Vec<Knowing<M>>, CrewFault>
     requires few { All (λ c. length c.jobs.items ≤ MAX_JOBS) crews.items }
     ensures { IfOk result (λ v. Pairs (λ c k. Works M.goes c.jobs.items
         (M.view c.machine) (M.view k.machine)) crews.items v.items) }
 {
-    let run = move |crew: Crew<M>| -> Result<Knowing<M>, PlayFault>
+    let run = move |crew: Crew<M>| -> Result<Knowing<M>, CrewFault>
         requires { length crew.jobs.items ≤ MAX_JOBS }
         ensures { IfOk result (λ k. Works M.goes crew.jobs.items
             (M.view crew.machine) (M.view k.machine)) }
     { work_one(rt, alloc, crew) };
-    let Ok(done) = thread::map_vec(rt, crews, &run) else {
-        return Err(PlayFault::Memory);
-    };
+    let done = thread::map_vec(rt, crews, &run)?;
     gathered(alloc, done)
 }
 
@@ -140,16 +153,14 @@ fn all_send<M: Absorbing + Send + Drop, R: Threads + Wait + Sync>(
     rt: &R,
     alloc: Global,
     knowing: Vec<Knowing<M>>,
-) -> Result<Vec<Hearing<M>>, PlayFault>
+) -> Result<Vec<Hearing<M>>, CrewFault>
     ensures { IfOk result (λ v. Pairs (λ k h. Leads M.goes
         (M.view k.machine) (M.view h.machine)) knowing.items v.items) }
 {
-    let run = move |one: Knowing<M>| -> Result<Hearing<M>, PlayFault>
+    let run = move |one: Knowing<M>| -> Result<Hearing<M>, CrewFault>
         ensures { IfOk result (λ h. Leads M.goes (M.view one.machine) (M.view h.machine)) }
     { send_one(rt, alloc, one) };
-    let Ok(done) = thread::map_vec(rt, knowing, &run) else {
-        return Err(PlayFault::Memory);
-    };
+    let done = thread::map_vec(rt, knowing, &run)?;
     gathered(alloc, done)
 }
 
@@ -158,20 +169,18 @@ fn all_hear<M: Absorbing + Send + Drop, R: Threads + Wait + Sync>(
     rt: &R,
     alloc: Global,
     hearing: Vec<Hearing<M>>,
-) -> Result<Vec<M>, PlayFault>
+) -> Result<Vec<M>, CrewFault>
     ensures { IfOk result (λ v. Pairs (λ h m. Leads M.goes
         (M.view h.machine) (M.view m)) hearing.items v.items) }
 {
-    let run = move |one: Hearing<M>| -> Result<M, PlayFault>
+    let run = move |one: Hearing<M>| -> Result<M, CrewFault>
         ensures { IfOk result (λ m. Leads M.goes (M.view one.machine) (M.view m)) }
     { hear_one(rt, alloc, one) };
-    let Ok(done) = thread::map_vec(rt, hearing, &run) else {
-        return Err(PlayFault::Memory);
-    };
+    let done = thread::map_vec(rt, hearing, &run)?;
     gathered(alloc, done)
 }
 
-// Both ends of so many channels.
+// Both ends of `count` channels.
 fn channels(
     alloc: Global,
     count: usize,
@@ -235,26 +244,24 @@ fn crews_of<M: Drop>(
     Ok(crews)
 }
 
-/// Has each machine's workers do their jobs, in threads of their own, and then has each machine tell each other all that it
-/// knows.
+/// Has each machine's workers do their jobs, in threads of their own, and then has each machine send all that it knows to each
+/// other.
 ///
 /// # Errors
-/// `Memory`: room was refused, to a worker, to a machine or to a channel too. `NoThread`: a worker had no thread, or left a call
-/// behind. All machines are dropped.
+/// `Memory`: an allocation failed, of a worker, of a machine or of a channel too. `NoThread`: a worker had no thread, or left a
+/// call behind. `Closed`: a replica ended before all was sent to it. All machines are dropped.
 pub(crate) fn run_all<M: Absorbing + Send + Drop, R: Threads + Wait + Sync>(
     rt: &R,
     alloc: Global,
     machines: Vec<M>,
     jobs: Vec<Vec<Job>>,
-) -> Result<Vec<M>, PlayFault>
+) -> Result<Vec<M>, CrewFault>
     requires each { length jobs.items ≡ length machines.items }
     requires few { All (λ list. length list.items ≤ MAX_JOBS) jobs.items }
     ensures { IfOk result (λ v. Went M.goes (map M.view machines.items) jobs.items
         (map M.view v.items)) }
 {
-    let Ok(crews) = crews_of(alloc, machines, jobs) else {
-        return Err(PlayFault::Memory);
-    };
+    let crews = crews_of(alloc, machines, jobs)?;
     let knowing = all_work(rt, alloc, crews)?;
     let hearing = all_send(rt, alloc, knowing)?;
     all_hear(rt, alloc, hearing)

@@ -98,7 +98,7 @@ fn add_ask(plans: &mut Vec<Vec<Plan>>, setup: Setup, ask: Ask) -> Result<(), All
     Ok(())
 }
 
-// Plans of so many workers, of whom nothing is asked.
+// Plans of this many workers, of whom nothing is asked.
 fn plans_for(alloc: Global, workers: u16) -> Result<Vec<Plan>, AllocError>
     ensures { IfOk result (λ v. v.items ≡ replicate workers nothing_planned) }
 {
@@ -143,37 +143,29 @@ fn take_line(
     let Some(ask) = said else {
         return Ok(());
     };
-    match add_ask(plans, setup, ask) {
-        Ok(()) => Ok(()),
-        Err(_) => Err(PlayFault::Memory),
-    }
+    add_ask(plans, setup, ask)?;
+    Ok(())
 }
 
 // Plans what the lines of a text ask.
 fn plan_text(alloc: Global, setup: Setup, text: &[u8]) -> Result<Vec<Vec<Plan>>, PlayFault>
-    requires room { length text.now + 1 < 2 ^ 64 }
+    requires countable { length text.now + 1 < 2 ^ 64 }
     ensures shape { IfOk result (λ v. IsShaped setup v.items) }
     ensures plans { IfOk result (λ v. ArePlansOf setup (asks setup (lines text.now)) v.items) }
     ensures good { OnOk result (first_bad setup (lines text.now) ≡ None) }
     ensures bad { IfErr result (λ why. (why ≡ Memory)
         ⊎ IsBadLine (first_bad setup (lines text.now)) why) }
 {
-    let Ok(mut plans) = empty_plans(alloc, setup) else {
-        return Err(PlayFault::Memory);
-    };
+    let mut plans = empty_plans(alloc, setup)?;
     let mut number = 1;
     let mut rest = text;
     while let Some((line, after)) = first_line(rest) {
-        if let Err(why) = take_line(setup, line, number, &mut plans) {
-            return Err(why);
-        }
+        take_line(setup, line, number, &mut plans)?;
         number += 1;
         rest = after;
     }
-    match take_line(setup, rest, number, &mut plans) {
-        Ok(()) => Ok(plans),
-        Err(why) => Err(why),
-    }
+    take_line(setup, rest, number, &mut plans)?;
+    Ok(plans)
 }
 
 // The job of a worker, which flushes last.
@@ -217,7 +209,7 @@ fn jobs_of_all(
 /// # Errors
 /// `BadLine` with the number of the first line that threads cannot play. `Memory`.
 pub(crate) fn jobs_in(alloc: Global, setup: Setup, text: &[u8]) -> Result<Vec<Vec<Job>>, PlayFault>
-    requires room { length text.now + 1 < 2 ^ 64 }
+    requires countable { length text.now + 1 < 2 ^ 64 }
     ensures jobs { IfOk result (λ jobs.
         AreJobsOf setup (asks setup (lines text.now)) jobs.items) }
     ensures good { OnOk result (first_bad setup (lines text.now) ≡ None) }
@@ -225,8 +217,6 @@ pub(crate) fn jobs_in(alloc: Global, setup: Setup, text: &[u8]) -> Result<Vec<Ve
         ⊎ IsBadLine (first_bad setup (lines text.now)) why) }
 {
     let plans = plan_text(alloc, setup, text)?;
-    match jobs_of_all(alloc, setup, plans) {
-        Ok(all) => Ok(all),
-        Err(_) => Err(PlayFault::Memory),
-    }
+    let all = jobs_of_all(alloc, setup, plans)?;
+    Ok(all)
 }

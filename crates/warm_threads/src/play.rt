@@ -103,9 +103,7 @@ fn nodes_of<D: PageDevice>(
     ensures count { IfOk result (λ nodes. length nodes.items ≡ length devices.items) }
     ensures why { IfErr result (λ why. why ≡ Memory) }
 {
-    let Ok(mut nodes) = Vec::with_capacity(alloc, devices.len()) else {
-        return Err(PlayFault::Memory);
-    };
+    let mut nodes = Vec::with_capacity(alloc, devices.len())?;
     for list in devices {
         let Ok(id) = ReplicaId::new(nodes.len() as u16 + 1) else {
             unreachable!()
@@ -182,11 +180,8 @@ fn play_over<M: Absorbing + Send + Drop, T: Threads + Wait + Sync, R: Read>(
 {
     let text = read_whole(alloc, reader)?;
     let jobs = jobs_in(alloc, setup, &text)?;
-    match run_all(rt, alloc, machines, jobs) {
-        Ok(machines) => Ok(machines),
-        Err(PlayFault::NoThread) => Err(PlayFault::NoThread),
-        Err(_) => Err(PlayFault::Memory),
-    }
+    let machines = run_all(rt, alloc, machines, jobs)?;
+    Ok(machines)
 }
 
 /// Plays a schedule by threads over the devices of each replica, and prints what each replica knows in the end: `replica I` and
@@ -203,9 +198,13 @@ fn play_over<M: Absorbing + Send + Drop, T: Threads + Wait + Sync, R: Read>(
 ///   setup's size. Nothing was read.
 /// - `ReadFault`: the reader failed, or 2^40 reads came to no end.
 /// - `BadLine` with the number of the first line that is none of these. No thread was started.
-/// - `Memory`: an allocation failed. `NoThread`: a worker had no thread. `WriteFault`: the writer failed.
+/// - `Memory`: an allocation failed, of a worker, of a replica or of a channel too.
+/// - `NoThread`: a worker had no thread, for want of memory too, or left a call behind; or a channel was closed, since its replica
+///   ended before all was sent to it, and no replica has another fault.
+/// - `WriteFault`: the writer failed.
 ///
-/// In each case all devices are dropped. Nothing is said of how much was written.
+/// Of the faults of the threads (`CrewFault`), `Memory` comes out as `Memory`, and `NoThread` and `Closed` as `NoThread`. In each
+/// case all devices are dropped. Nothing is said of how much was written.
 pub fn play_threads<D, T, R, W>(
     rt: &T,
     alloc: Global,

@@ -14,7 +14,7 @@ fn read_some<R: Read>(
     buffer: &mut [u8],
     text: &mut Vec<u8>,
 ) -> Result<bool, PlayFault>
-    requires room { 0 < length buffer.old }
+    requires space { 0 < length buffer.old }
     ensures reads { OnOk result ((bytes : List ℕ)
         × Consumes (R.remaining reader.old) (R.remaining reader.new) bytes
         × (text.new.items ≡ text.old.items ++ bytes)) }
@@ -24,9 +24,7 @@ fn read_some<R: Read>(
     match reader.read(buffer) {
         Ok(0) => Ok(false),
         Ok(n) => {
-            let Ok(()) = text.extend_from_slice(&buffer[..n]) else {
-                return Err(PlayFault::Memory);
-            };
+            text.extend_from_slice(&buffer[..n])?;
             Ok(true)
         }
         Err(e) => {
@@ -45,9 +43,7 @@ pub(crate) fn read_whole<R: Read>(alloc: Global, reader: &mut R) -> Result<Vec<u
         IfSome (R.remaining reader.old) (λ all. all ≡ text.items)) }
     ensures why { IfErr result (λ why. (why ≡ Memory) ⊎ (why ≡ ReadFault)) }
 {
-    let Ok(mut buffer) = vec![in alloc; 0u8; READ_SIZE] else {
-        return Err(PlayFault::Memory);
-    };
+    let mut buffer = vec![in alloc; 0u8; READ_SIZE]?;
     let mut text = Vec::new(alloc);
     for _ in 0..MAX_READS {
         if !read_some(reader, buffer.as_mut_slice(), &mut text)? {

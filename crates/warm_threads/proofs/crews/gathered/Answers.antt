@@ -5,9 +5,9 @@ use Rattle.warm_threads.proofs.crews.gathered.Goals as goal
 pub loop-result-preserved : goal.loop-result-preserved
 loop-result-preserved g c =
     let so_far = c.loop-result.yielded in
-    let one = c.in-Some.result in
+    let one = c.in-Some-result.result in
     record {
-      same = rw c.in-Ok-push.ensures.items
+      same = rw c.in_ok-push.ensures.items
           (pairs_more (λ r t. r ≡ Ok t) so_far c.loop-result.all.items one c.in_ok-result.field-0 c.loop-result.invariant.same c.in_ok-result.was);
-      rest = append_assoc so_far (one ∷ []) _ ∙ (ap (λ r. so_far ++ r) (sym c.in-Some.ensures.steps.0) ∙ c.loop-result.invariant.rest);
+      rest = append_assoc so_far (one ∷ []) _ ∙ (ap (λ r. so_far ++ r) (sym c.in-Some-result.ensures.steps.0) ∙ c.loop-result.invariant.rest);
     }

@@ -1,5 +1,5 @@
 use Rattle.warm_threads.proofs.Plannings.{jobs_of_plans}
 use Rattle.warm_threads.proofs.plan.jobs_in.Goals as goal
 
-pub returns-in-Ok-clause-jobs : goal.returns-in-Ok-clause-jobs
-returns-in-Ok-clause-jobs c = jobs_of_plans c.args.setup _ c.in_ok-plans.plans.items c.in-Ok.all.items c.in_ok-plans.ensures.shape c.in_ok-plans.ensures.plans c.in-Ok.ensures
+pub returns-clause-jobs : goal.returns-clause-jobs
+returns-clause-jobs c = jobs_of_plans c.args.setup _ c.in_ok-plans.plans.items c.in_ok-all.all.items c.in_ok-plans.ensures.shape c.in_ok-plans.ensures.plans c.in_ok-all.ensures

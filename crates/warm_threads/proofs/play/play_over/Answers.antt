@@ -3,8 +3,8 @@ use Rattle.std.proofs.lemmas.List.{length-map}
 use Rattle.warm_threads.proofs.Numberings.{triples_length}
 use Rattle.warm_threads.proofs.play.play_over.Goals as goal
 
-pub returns-in-Ok-clause-each : goal.returns-in-Ok-clause-each
-returns-in-Ok-clause-each g c =
-    let meaning = g.M.Machine.view in
-    let many : length (map meaning c.in-Ok.machines.items) ≡ length (map meaning c.args.machines.items) = triples_length _ _ _ _ c.in-Ok.ensures in
-    omega (arith, many, length-map c.in-Ok.machines.items meaning, length-map c.args.machines.items meaning, c.requires)
+pub returns-clause-each : goal.returns-clause-each
+returns-clause-each g c =
+    let view = g.M.Machine.view in
+    let many : length (map view c.in_ok-machines.machines.items) ≡ length (map view c.args.machines.items) = triples_length _ _ _ _ c.in_ok-machines.ensures in
+    omega (arith, many, length-map c.in_ok-machines.machines.items view, length-map c.args.machines.items view, c.requires)

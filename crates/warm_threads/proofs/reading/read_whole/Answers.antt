@@ -4,14 +4,14 @@ use Rattle.warm_schedule.proofs.Stream.{Consumes-none, Consumes-then, Consumes-a
 use Rattle.warm_threads.proofs.reading.read_whole.Goals as goal
 
 pub loop-init : goal.loop-init
-loop-init g c = record { reads = rw c.new-text.ensures.items (Consumes-none _); room = c.in-Ok.ensures.len }
+loop-init g c = record { reads = rw c.new-text.ensures.items (Consumes-none _); size = c.in_ok-buffer.ensures.len }
 
 pub loop-preserved : goal.loop-preserved
 loop-preserved g c =
     let next = c.in_ok-read_some.ensures.reads in
     record {
       reads = rw next.2 (Consumes-then _ _ _ c.loop.text.items next.0 c.loop.invariant.reads next.1);
-      room = c.loop.invariant.room;
+      size = c.loop.invariant.size;
     }
 
 pub returns-then-not-branch-clause-end : goal.returns-then-not-branch-clause-end

@@ -6,5 +6,5 @@ use Rattle.warm_threads.proofs.reading.read_whole.Given as goal
 abbrev pub invariant-loop : goal.invariant-loop
 invariant-loop g l = record {
   reads : Consumes (g.R.Read.remaining l.fn.reader) (g.R.Read.remaining l.reader) l.text.items;
-  room : vec_len l.buffer ≡ 65536;
+  size : vec_len l.buffer ≡ 65536;
 }

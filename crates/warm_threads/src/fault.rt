@@ -1,0 +1,124 @@
+//! Why a crew, a replica and its workers, comes to no end of its work or of its exchange with the others.
+use crossbeam_channel::SendError;
+use std::alloc::{AllocError, AllocFailed};
+use thiserror::Error;
+use warm_play_fault::PlayFault;
+use warm_refbuffer::BufferFault;
+use warm_replica::RunFault;
+use warm_turn::{Busy, Memory};
+
+/// Why a crew came to no end. Each fault is displayed as its name.
+#[derive(Clone, Copy, Debug, Error)]
+pub(crate) enum CrewFault {
+    /// An allocation failed: the crew's own, a channel's, or the machine's, which then refuses a call. A call for which no ticket is
+    /// left counts as refused too.
+    #[error("Memory")]
+    Memory,
+    /// A worker's thread could not be started, or a call was left behind.
+    #[error("NoThread")]
+    NoThread,
+    /// A channel was closed: the crew that was to take its mail ended early.
+    #[error("Closed")]
+    Closed,
+}
+
+impl From<AllocError> for CrewFault {
+    ghost use Rattle.std.specs.Prelude.{◌≡◌};
+    ghost use Rattle.warm_threads.specs.declared.fault.CrewFault.TheVariants.{Memory};
+
+    ghost from_gives = { λ _ fault. fault ≡ Memory };
+
+    fn from(_: AllocError) -> CrewFault {
+        CrewFault::Memory
+    }
+}
+
+impl<T: Drop> From<AllocFailed<T>> for CrewFault {
+    ghost use Rattle.std.specs.Prelude.{◌≡◌};
+    ghost use Rattle.warm_threads.specs.declared.fault.CrewFault.TheVariants.{Memory};
+
+    ghost from_gives = { λ _ fault. fault ≡ Memory };
+
+    fn from(_: AllocFailed<T>) -> CrewFault {
+        CrewFault::Memory
+    }
+}
+
+// The machine for which there was no turn is dropped.
+impl<M: Drop> From<Memory<M>> for CrewFault {
+    ghost use Rattle.std.specs.Prelude.{◌≡◌};
+    ghost use Rattle.warm_threads.specs.declared.fault.CrewFault.TheVariants.{Memory};
+
+    ghost from_gives = { λ _ fault. fault ≡ Memory };
+
+    fn from(_: Memory<M>) -> CrewFault {
+        CrewFault::Memory
+    }
+}
+
+// A crew makes a buffer of capacity 1 alone, which is refused for memory alone.
+impl From<BufferFault> for CrewFault {
+    ghost use Rattle.std.specs.Prelude.{◌≡◌};
+    ghost use Rattle.warm_threads.specs.declared.fault.CrewFault.TheVariants.{Memory};
+
+    ghost from_gives = { λ _ fault. fault ≡ Memory };
+
+    fn from(_: BufferFault) -> CrewFault {
+        CrewFault::Memory
+    }
+}
+
+// The message that was not sent is dropped.
+impl<T: Drop> From<SendError<T>> for CrewFault {
+    ghost use Rattle.std.specs.Prelude.{◌≡◌};
+    ghost use Rattle.warm_threads.specs.Faults.{crew_fault_of_send};
+
+    ghost from_gives = { λ why fault. fault ≡ crew_fault_of_send why };
+
+    fn from(why: SendError<T>) -> CrewFault {
+        match why {
+            SendError::Disconnected(_) => CrewFault::Closed,
+            SendError::OutOfMemory(_) => CrewFault::Memory,
+        }
+    }
+}
+
+impl From<Busy> for CrewFault {
+    ghost use Rattle.std.specs.Prelude.{◌≡◌};
+    ghost use Rattle.warm_threads.specs.declared.fault.CrewFault.TheVariants.{NoThread};
+
+    ghost from_gives = { λ _ fault. fault ≡ NoThread };
+
+    fn from(_: Busy) -> CrewFault {
+        CrewFault::NoThread
+    }
+}
+
+// The jobs of a crew have the setup's capacity, which a buffer can have: they are never refused for it.
+impl From<RunFault> for CrewFault {
+    ghost use Rattle.std.specs.Prelude.{◌≡◌};
+    ghost use Rattle.warm_threads.specs.Faults.{crew_fault_of_run};
+
+    ghost from_gives = { λ why fault. fault ≡ crew_fault_of_run why };
+
+    fn from(why: RunFault) -> CrewFault {
+        match why {
+            RunFault::NoThread => CrewFault::NoThread,
+            RunFault::Memory | RunFault::BadCapacity => CrewFault::Memory,
+        }
+    }
+}
+
+impl From<CrewFault> for PlayFault {
+    ghost use Rattle.std.specs.Prelude.{◌≡◌};
+    ghost use Rattle.warm_threads.specs.Faults.{play_fault_of};
+
+    ghost from_gives = { λ fault why. why ≡ play_fault_of fault };
+
+    fn from(fault: CrewFault) -> PlayFault {
+        match fault {
+            CrewFault::Memory => PlayFault::Memory,
+            CrewFault::NoThread | CrewFault::Closed => PlayFault::NoThread,
+        }
+    }
+}
