@@ -167,6 +167,12 @@ entry_at format before bytes = do
   hist ← hist_at tag.0 tag.1
   Ok (record { page = page.0; hist = hist.0 }, hist.1)
 
+-- an entry of this page, with the history that was read
+abbrev pub entry_with : PageId → Result (PageHist × List ℕ) FrameFault → Result (Entry × List ℕ) FrameFault
+entry_with page read = do
+  hist ← read
+  Ok (record { page = page; hist = hist.0 }, hist.1)
+
 -- an entry as it is written
 abbrev pub written_entry_at : Option PageId → List ℕ → Result (Entry × List ℕ) FrameFault
 written_entry_at before bytes = entry_at Wide before bytes

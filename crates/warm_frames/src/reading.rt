@@ -1,9 +1,9 @@
 //! Reading frames, field by field. Each reader gives what the function of this name in
 //! `specs/Reading.antt` gives.
-ghost use Rattle.std.specs.Prelude.{◌≡◌, ◌≤◌, [], vec_capacity};
+ghost use Rattle.std.specs.Prelude.{◌≡◌, ◌≤◌, [], Err, IfOk, IfErr, vec_capacity};
 ghost use Rattle.std.specs.Int.{w16, w32, w64};
 ghost use Rattle.warm_history.specs.Carried.{comes_after};
-ghost use Rattle.warm_frames.specs.Reading.{Reads, number_at, byte_at, kind_of, may_have, horizon_at, start_at, length_at, body_at, front_at, stamp_in, two_in, hist_at, page_at, entry_at, entries_from, count_at, all_entries, entries_of, digests_of, read_frame, reserved_by, entries_reserved, Gives};
+ghost use Rattle.warm_frames.specs.Reading.{Reads, number_at, byte_at, kind_of, may_have, horizon_at, start_at, length_at, body_at, front_at, stamp_in, two_in, hist_at, page_at, entry_at, entry_with, entries_from, count_at, all_entries, entries_of, digests_of, read_frame, reserved_by, entries_reserved, Gives};
 ghost use Rattle.warm_frames.specs.Sizes.{frame_size};
 
 use crate::digests::DigestTable;
@@ -234,23 +234,23 @@ fn page_at(format: Format, bytes: &[u8]) -> Result<(PageId, &[u8]), FrameFault>
     }
 }
 
+// The page of an entry and its tag, and what follows: its history.
 #[tactic(auto, unfolding(crate::specs::Reading::entry_at))]
-fn entry_at(
+fn start_of_entry(
     format: Format,
     before: Option<PageId>,
     bytes: &[u8],
-) -> Result<(Entry, &[u8]), FrameFault>
-    ensures { Reads (λ x. (x.0, x.1.now)) result (entry_at format before bytes.now) }
+) -> Result<(PageId, u8, &[u8]), FrameFault>
+    ensures found { IfOk result (λ x.
+        entry_at format before bytes.now ≡ entry_with x.0 (hist_at x.1 x.2.now)) }
+    ensures fault { IfErr result (λ fault. entry_at format before bytes.now ≡ Err fault) }
 {
     let (page, rest) = page_at(format, bytes)?;
     if !comes_after(before, page) {
         return Err(FrameFault::BadOrder);
     }
     let (tag, rest) = u8_at(rest, FrameFault::BadLength)?;
-    match hist_at(tag, rest) {
-        Ok((hist, rest)) => Ok((Entry { page, hist }, rest)),
-        Err(fault) => Err(fault),
-    }
+    Ok((page, tag, rest))
 }
 
 // The entries one after the other, which are put at the end of those read before.
@@ -268,10 +268,14 @@ fn entries_at<'a>(
     let mut before = None;
     let mut rest = bytes;
     for _ in 0..count {
-        match entry_at(format, before, rest) {
-            Ok((entry, after)) => {
-                before = Some(entry.page);
-                entries.push_reserved(entry);
+        let (page, tag, after) = match start_of_entry(format, before, rest) {
+            Ok(start) => start,
+            Err(fault) => return Err(fault),
+        };
+        match hist_at(tag, after) {
+            Ok((hist, after)) => {
+                entries.push_reserved(Entry { page, hist });
+                before = Some(page);
                 rest = after;
             }
             Err(fault) => return Err(fault),
