@@ -48,7 +48,8 @@ impl Model for DigestedHistory {
 
     ghost view = { λ digested. digested.history };
 
-    ghost invariant = { λ digested. IsKept digested.changed (entries_of digested.history) digested.digests };
+    ghost invariant = { λ digested.
+        IsKept digested.changed (entries_of digested.history) digested.digests };
 }
 
 impl DigestedHistory {

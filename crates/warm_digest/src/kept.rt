@@ -84,7 +84,8 @@ impl Digests {
         horizon: u64,
         buckets: u64,
     ) -> Result<DigestTable, AllocError>
-        ensures wanted { IfOk result (HasDigestsOf buckets (entries_of (raised horizon history.now))) }
+        ensures wanted { IfOk result
+            (HasDigestsOf buckets (entries_of (raised horizon history.now))) }
         ensures others { IfOk result (SameDigestsOutside buckets self.now) }
         ensures count { IfOk result (λ table. length table ≡ BUCKETS) }
     {
