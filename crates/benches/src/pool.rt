@@ -165,12 +165,6 @@ fn paged(alloc: Global, pages: u64) -> Result<MemDevice> {
     Ok(MemDevice::new(alloc, pages, PAGE_SIZE)?)
 }
 
-// A device in a box.
-fn boxed(alloc: Global, device: MemDevice) -> Result<Box<dyn PageDevice + Send>> {
-    let device = Box::new(alloc, device)?;
-    Ok(device)
-}
-
 // A pool over two devices, without a page.
 fn opened<D: PageDevice>(alloc: Global, frames: u64, first: D, second: D) -> Result<Pool<D>>
     ensures { IfOk result (λ pool. IsRankedByAll pool) }
@@ -228,7 +222,8 @@ fn visited(
     match place {
         Place::Named => visited_over(clock, alloc, visits, first, second),
         Place::Boxed => {
-            let (first, second) = (boxed(alloc, first)?, boxed(alloc, second)?);
+            let first: Box<dyn PageDevice + Send> = Box::new(alloc, first)?;
+            let second: Box<dyn PageDevice + Send> = Box::new(alloc, second)?;
             visited_over(clock, alloc, visits, first, second)
         }
     }
@@ -306,7 +301,8 @@ fn missed(clock: &impl Clock, alloc: Global, place: Place, misses: u64) -> Resul
     match place {
         Place::Named => missed_over(clock, alloc, pages, first, second),
         Place::Boxed => {
-            let (first, second) = (boxed(alloc, first)?, boxed(alloc, second)?);
+            let first: Box<dyn PageDevice + Send> = Box::new(alloc, first)?;
+            let second: Box<dyn PageDevice + Send> = Box::new(alloc, second)?;
             missed_over(clock, alloc, pages, first, second)
         }
     }
