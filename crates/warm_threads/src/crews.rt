@@ -6,13 +6,13 @@ ghost use Rattle.warm_replica.specs.Pairs.{Pairs};
 ghost use Rattle.warm_threads.specs.Works.{Leads, Went, Works};
 
 use crate::exchange::{hear_all, send_all};
+use crate::fault::CrewFault;
 use crate::work::work;
 use crossbeam_channel::{Receiver, Sender, unbounded};
 use std::alloc::{AllocError, Global};
 use std::sync::Wait;
 use std::thread;
 use std::thread::Threads;
-use warm_play_fault::PlayFault;
 use warm_replica::{Absorbing, Job, Mail};
 
 // A machine, the jobs of its workers, where it sends what it knows, and where it hears of others.
@@ -44,7 +44,7 @@ fn work_one<M: Absorbing + Send + Drop, R: Threads + Wait + Sync>(
     rt: &R,
     alloc: Global,
     crew: Crew<M>,
-) -> Result<Knowing<M>, PlayFault>
+) -> Result<Knowing<M>, CrewFault>
     requires { length crew.jobs.items ≤ MAX_JOBS }
     ensures { IfOk result
         (λ k. Works M.goes crew.jobs.items (M.meaning crew.machine) (M.meaning k.machine)) }
@@ -67,7 +67,7 @@ fn send_one<M: Absorbing + Drop, R: Wait>(
     rt: &R,
     alloc: Global,
     one: Knowing<M>,
-) -> Result<Hearing<M>, PlayFault>
+) -> Result<Hearing<M>, CrewFault>
     ensures { IfOk result
         (λ h. Leads M.goes (M.meaning one.machine) (M.meaning h.machine)) }
 {
@@ -88,7 +88,7 @@ fn hear_one<M: Absorbing + Drop, R: Wait>(
     rt: &R,
     alloc: Global,
     one: Hearing<M>,
-) -> Result<M, PlayFault>
+) -> Result<M, CrewFault>
     ensures { IfOk result (λ m. Leads M.goes (M.meaning one.machine) (M.meaning m)) }
 {
     let Hearing {
@@ -100,16 +100,12 @@ fn hear_one<M: Absorbing + Drop, R: Wait>(
 }
 
 // What was made, where all of it was.
-fn gathered<T: Drop>(alloc: Global, results: Vec<Result<T, PlayFault>>) -> Result<Vec<T>, PlayFault>
+fn gathered<T: Drop>(alloc: Global, results: Vec<Result<T, CrewFault>>) -> Result<Vec<T>, CrewFault>
     ensures { IfOk result (λ v. Pairs (λ r t. r ≡ Ok t) results.items v.items) }
 {
-    let Ok(mut all) = Vec::with_capacity(alloc, results.len()) else {
-        return Err(PlayFault::Memory);
-    };
+    let mut all = Vec::with_capacity(alloc, results.len())?;
     for result in results {
-        let Ok(()) = all.push(result?) else {
-            return Err(PlayFault::Memory);
-        };
+        all.push(result?)?;
     }
     Ok(all)
 }
@@ -119,19 +115,17 @@ fn all_work<M: Absorbing + Send + Drop, R: Threads + Wait + Sync>(
     rt: &R,
     alloc: Global,
     crews: Vec<Crew<M>>,
-) -> Result<Vec<Knowing<M>>, PlayFault>
+) -> Result<Vec<Knowing<M>>, CrewFault>
     requires { All (λ c. length c.jobs.items ≤ MAX_JOBS) crews.items }
     ensures { IfOk result (λ v. Pairs (λ c k. Works M.goes c.jobs.items
         (M.meaning c.machine) (M.meaning k.machine)) crews.items v.items) }
 {
-    let run = move |crew: Crew<M>| -> Result<Knowing<M>, PlayFault>
+    let run = move |crew: Crew<M>| -> Result<Knowing<M>, CrewFault>
         requires { length crew.jobs.items ≤ MAX_JOBS }
         ensures { IfOk result (λ k. Works M.goes crew.jobs.items
             (M.meaning crew.machine) (M.meaning k.machine)) }
     { work_one(rt, alloc, crew) };
-    let Ok(done) = thread::map_vec(rt, crews, &run) else {
-        return Err(PlayFault::Memory);
-    };
+    let done = thread::map_vec(rt, crews, &run)?;
     gathered(alloc, done)
 }
 
@@ -140,16 +134,14 @@ fn all_send<M: Absorbing + Send + Drop, R: Threads + Wait + Sync>(
     rt: &R,
     alloc: Global,
     knowing: Vec<Knowing<M>>,
-) -> Result<Vec<Hearing<M>>, PlayFault>
+) -> Result<Vec<Hearing<M>>, CrewFault>
     ensures { IfOk result (λ v. Pairs (λ k h. Leads M.goes
         (M.meaning k.machine) (M.meaning h.machine)) knowing.items v.items) }
 {
-    let run = move |one: Knowing<M>| -> Result<Hearing<M>, PlayFault>
+    let run = move |one: Knowing<M>| -> Result<Hearing<M>, CrewFault>
         ensures { IfOk result (λ h. Leads M.goes (M.meaning one.machine) (M.meaning h.machine)) }
     { send_one(rt, alloc, one) };
-    let Ok(done) = thread::map_vec(rt, knowing, &run) else {
-        return Err(PlayFault::Memory);
-    };
+    let done = thread::map_vec(rt, knowing, &run)?;
     gathered(alloc, done)
 }
 
@@ -158,16 +150,14 @@ fn all_hear<M: Absorbing + Send + Drop, R: Threads + Wait + Sync>(
     rt: &R,
     alloc: Global,
     hearing: Vec<Hearing<M>>,
-) -> Result<Vec<M>, PlayFault>
+) -> Result<Vec<M>, CrewFault>
     ensures { IfOk result (λ v. Pairs (λ h m. Leads M.goes
         (M.meaning h.machine) (M.meaning m)) hearing.items v.items) }
 {
-    let run = move |one: Hearing<M>| -> Result<M, PlayFault>
+    let run = move |one: Hearing<M>| -> Result<M, CrewFault>
         ensures { IfOk result (λ m. Leads M.goes (M.meaning one.machine) (M.meaning m)) }
     { hear_one(rt, alloc, one) };
-    let Ok(done) = thread::map_vec(rt, hearing, &run) else {
-        return Err(PlayFault::Memory);
-    };
+    let done = thread::map_vec(rt, hearing, &run)?;
     gathered(alloc, done)
 }
 
@@ -246,15 +236,13 @@ pub(crate) fn run_all<M: Absorbing + Send + Drop, R: Threads + Wait + Sync>(
     alloc: Global,
     machines: Vec<M>,
     jobs: Vec<Vec<Job>>,
-) -> Result<Vec<M>, PlayFault>
+) -> Result<Vec<M>, CrewFault>
     requires each { length jobs.items ≡ length machines.items }
     requires few { All (λ list. length list.items ≤ MAX_JOBS) jobs.items }
     ensures { IfOk result (λ v. Went M.goes (map M.meaning machines.items) jobs.items
         (map M.meaning v.items)) }
 {
-    let Ok(crews) = crews_of(alloc, machines, jobs) else {
-        return Err(PlayFault::Memory);
-    };
+    let crews = crews_of(alloc, machines, jobs)?;
     let knowing = all_work(rt, alloc, crews)?;
     let hearing = all_send(rt, alloc, knowing)?;
     all_hear(rt, alloc, hearing)

@@ -2,12 +2,12 @@
 ghost use Rattle.std.specs.Prelude.{IfOk};
 ghost use Rattle.warm_threads.specs.Works.{Leads};
 
+use crate::fault::CrewFault;
 use crossbeam_channel::{Receiver, Sender};
 use std::alloc::Global;
 use std::sync::Wait;
 use warm_frames::{Frame, MAX_ENTRIES, encode};
 use warm_gossip::{Call, Reply};
-use warm_play_fault::PlayFault;
 use warm_refbuffer::RefBuffer;
 use warm_replica::{Mail, MailIter, Outboxes, Worker, mail_loop};
 use warm_stamps::{BUCKETS, Bucket, ByteList, PageId};
@@ -22,25 +22,19 @@ fn post_bytes<R: Wait>(
     alloc: Global,
     bytes: &[u8],
     boxes: &[Sender<Mail>],
-) -> Result<(), PlayFault> {
+) -> Result<(), CrewFault> {
     for sender in boxes {
         let mut copy = Vec::new(alloc);
-        let Ok(()) = copy.extend_from_slice(bytes) else {
-            return Err(PlayFault::Memory);
-        };
-        let Ok(()) = sender.send(rt, Mail::Bytes(ByteList::of(copy))) else {
-            return Err(PlayFault::Memory);
-        };
+        copy.extend_from_slice(bytes)?;
+        sender.send(rt, Mail::Bytes(ByteList::of(copy)))?;
     }
     Ok(())
 }
 
 // Sends a Stop to each of the channels.
-fn post_stops<R: Wait>(rt: &R, boxes: &[Sender<Mail>]) -> Result<(), PlayFault> {
+fn post_stops<R: Wait>(rt: &R, boxes: &[Sender<Mail>]) -> Result<(), CrewFault> {
     for sender in boxes {
-        let Ok(()) = sender.send(rt, Mail::Stop) else {
-            return Err(PlayFault::Memory);
-        };
+        sender.send(rt, Mail::Stop)?;
     }
     Ok(())
 }
@@ -65,13 +59,13 @@ fn asked_frame<M: Machine<Call = Call, Reply = Reply>>(
     machine: &mut M,
     bucket: Bucket,
     after: Option<PageId>,
-) -> Result<Frame, PlayFault>
+) -> Result<Frame, CrewFault>
     ensures { Leads M.goes (M.meaning machine.old) (M.meaning machine.new) }
 {
     let reply = machine.call(Call::Send { bucket, after });
     match reply {
         Reply::Sent(frame) => Ok(frame),
-        _ => Err(PlayFault::Memory),
+        _ => Err(CrewFault::Memory),
     }
 }
 
@@ -82,15 +76,13 @@ fn send_bucket<M: Machine<Call = Call, Reply = Reply>, R: Wait>(
     machine: &mut M,
     bucket: Bucket,
     boxes: &[Sender<Mail>],
-) -> Result<(), PlayFault>
+) -> Result<(), CrewFault>
     ensures { Leads M.goes (M.meaning machine.old) (M.meaning machine.new) }
 {
     let mut after = None;
     for _ in rt.forever() {
         let frame = asked_frame(machine, bucket, after)?;
-        let Ok(bytes) = encode(alloc, &frame) else {
-            return Err(PlayFault::Memory);
-        };
+        let bytes = encode(alloc, &frame)?;
         post_bytes(rt, alloc, &bytes, boxes)?;
         let Some(last) = next_after(&frame) else {
             return Ok(());
@@ -109,7 +101,7 @@ pub(crate) fn send_all<M: Machine<Call = Call, Reply = Reply> + Drop, R: Wait>(
     alloc: Global,
     machine: M,
     boxes: &[Sender<Mail>],
-) -> Result<M, PlayFault>
+) -> Result<M, CrewFault>
     ensures { IfOk result (λ m. Leads M.goes (M.meaning machine) (M.meaning m)) }
 {
     let mut machine = machine;
@@ -133,15 +125,11 @@ pub(crate) fn hear_all<M: Machine<Call = Call, Reply = Reply> + Drop, R: Wait>(
     machine: M,
     receiver: Receiver<Mail>,
     stops: u64,
-) -> Result<M, PlayFault>
+) -> Result<M, CrewFault>
     ensures { IfOk result (λ m. Leads M.goes (M.meaning machine) (M.meaning m)) }
 {
-    let Ok(buffer) = RefBuffer::new(alloc, 1) else {
-        return Err(PlayFault::Memory);
-    };
-    let Ok((replica, pass)) = Turn::new(alloc, machine) else {
-        return Err(PlayFault::Memory);
-    };
+    let buffer = RefBuffer::new(alloc, 1)?;
+    let (replica, pass) = Turn::new(alloc, machine)?;
     let mut worker = Worker::new(pass, buffer);
     let mail = MailIter::new(rt, receiver, MOST_MAIL);
     // Entries are answered by nothing, and no replica sends another kind of frame.
@@ -159,10 +147,8 @@ pub(crate) fn hear_all<M: Machine<Call = Call, Reply = Reply> + Drop, R: Wait>(
     let (pass, _nothing) = worker.into_parts();
     let closed = replica.close(pass);
     if report.refused > 0 {
-        return Err(PlayFault::Memory);
+        return Err(CrewFault::Memory);
     }
-    match closed {
-        Ok(machine) => Ok(machine),
-        Err(_) => Err(PlayFault::NoThread),
-    }
+    let machine = closed?;
+    Ok(machine)
 }

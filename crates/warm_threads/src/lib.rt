@@ -6,12 +6,13 @@
 //!
 //! - `reading` reads a schedule whole, `ask` a line of it, and `plan` makes the jobs of the workers.
 //! - `work` runs the workers' jobs, and `exchange` has a replica send and hear; both are generic in the machine behind a turn.
-//! - `crews` does both for all replicas at once, and `play` puts all together.
+//! - `crews` does both for all replicas at once, and `play` puts all together. `fault` says why `work`, `exchange` or `crews` fail.
 #![tactic(auto)]
 
 mod ask;
 mod crews;
 mod exchange;
+mod fault;
 mod plan;
 mod play;
 mod reading;

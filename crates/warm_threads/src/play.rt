@@ -182,11 +182,8 @@ fn play_over<M: Absorbing + Send + Drop, T: Threads + Wait + Sync, R: Read>(
 {
     let text = read_whole(alloc, reader)?;
     let jobs = jobs_in(alloc, setup, &text)?;
-    match run_all(rt, alloc, machines, jobs) {
-        Ok(machines) => Ok(machines),
-        Err(PlayFault::NoThread) => Err(PlayFault::NoThread),
-        Err(_) => Err(PlayFault::Memory),
-    }
+    let machines = run_all(rt, alloc, machines, jobs)?;
+    Ok(machines)
 }
 
 /// Plays a schedule by threads over the devices of each replica, and prints what each replica knows in the end: `replica I` and

@@ -5,11 +5,11 @@ ghost use Rattle.warm_replica.specs.declared.fan.TheConstants.{MAX_JOBS};
 ghost use Rattle.warm_replica.specs.Replied.{AreTaken};
 ghost use Rattle.warm_threads.specs.Works.{Works};
 
+use crate::fault::CrewFault;
 use std::alloc::Global;
 use std::sync::Wait;
 use std::thread::Threads;
-use warm_play_fault::PlayFault;
-use warm_replica::{Absorbing, Gate, Job, Replies, RunFault, run_workers};
+use warm_replica::{Absorbing, Gate, Job, Replies, run_workers};
 use warm_turn::Turn;
 
 // Nobody is held back.
@@ -38,27 +38,19 @@ pub(crate) fn work<M: Absorbing + Send + Drop, R: Threads + Wait + Sync>(
     alloc: Global,
     machine: M,
     jobs: Vec<Job>,
-) -> Result<M, PlayFault>
+) -> Result<M, CrewFault>
     requires few { length jobs.items ≤ MAX_JOBS }
     ensures { IfOk result
         (λ m. Works M.goes jobs.items (M.meaning machine) (M.meaning m)) }
 {
-    let Ok((replica, mut pass)) = Turn::new(alloc, machine) else {
-        return Err(PlayFault::Memory);
-    };
+    let (replica, mut pass) = Turn::new(alloc, machine)?;
     let gate = Open;
     let ran = run_workers(rt, alloc, &replica, &mut pass, jobs, &gate);
     let closed = replica.close(pass);
-    let all = match ran {
-        Ok(all) => all,
-        Err(RunFault::NoThread) => return Err(PlayFault::NoThread),
-        Err(_) => return Err(PlayFault::Memory),
-    };
+    let all = ran?;
     if !all_taken(&all) {
-        return Err(PlayFault::Memory);
+        return Err(CrewFault::Memory);
     }
-    match closed {
-        Ok(machine) => Ok(machine),
-        Err(_) => Err(PlayFault::NoThread),
-    }
+    let machine = closed?;
+    Ok(machine)
 }

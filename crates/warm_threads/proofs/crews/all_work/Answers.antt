@@ -4,7 +4,7 @@ use Rattle.warm_threads.proofs.crews.all_work.Goals as goal
 
 pub returns : goal.returns
 returns g c =
-    let same : length c.in-Ok.done.items ≡ length c.args.crews.items = omega (arith, c.in-Ok.ensures.len) in
-    gathered_all _ c.args.crews.items c.in-Ok.done.items c.gathered.result
-    (pairs_by_place _ c.args.crews.items c.in-Ok.done.items same (λ k d low. let made = (c.in-Ok.ensures.each k d low).1 in (made.job, made.job_is, made.call.met)))
+    let same : length c.in_ok-done.done.items ≡ length c.args.crews.items = omega (arith, c.in_ok-done.ensures.len) in
+    gathered_all _ c.args.crews.items c.in_ok-done.done.items c.gathered.result
+    (pairs_by_place _ c.args.crews.items c.in_ok-done.done.items same (λ k d low. let made = (c.in_ok-done.ensures.each k d low).1 in (made.job, made.job_is, made.call.met)))
     c.gathered.ensures

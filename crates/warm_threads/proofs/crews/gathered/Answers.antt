@@ -7,7 +7,7 @@ loop-result-preserved g c =
     let so_far = c.loop-result.yielded in
     let one = c.in-Some.result in
     record {
-      same = rw c.in-Ok-push.ensures.items
+      same = rw c.in_ok-push.ensures.items
           (pairs_more (λ r t. r ≡ Ok t) so_far c.loop-result.all.items one c.in_ok-result.field-0 c.loop-result.invariant.same c.in_ok-result.was);
       rest = append_assoc so_far (one ∷ []) _ ∙ (ap (λ r. so_far ++ r) (sym c.in-Some.ensures.steps.0) ∙ c.loop-result.invariant.rest);
     }

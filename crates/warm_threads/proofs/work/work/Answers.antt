@@ -6,15 +6,15 @@ use Rattle.warm_replica.specs.Replied.{AreTaken}
 use Rattle.warm_threads.proofs.Runnings.{jobs_work}
 use Rattle.warm_threads.proofs.work.work.Goals as goal
 
-pub returns-in-Ok-closed : goal.returns-in-Ok-closed
-returns-in-Ok-closed g c =
+pub returns : goal.returns
+returns g c =
     let x = g.M.Machine.meaning c.args.machine in
-    let z = g.M.Machine.meaning c.in-Ok-closed.machine in
+    let z = g.M.Machine.meaning c.in_ok-machine.machine in
     let w = c.run_workers-ran.new.pass.view in
     let jobs = c.args.jobs.items in
-    let replies = c.in-Ok-ran.all.items in
+    let replies = c.in_ok-all.all.items in
     let taken : All AreTaken replies = search rules in
     jobs_work g.M.Machine.goes x z w jobs replies
-    (subst (λ v. JobsWent v jobs replies w) c.in-Ok.ensures.first c.in-Ok-ran.ensures.went)
+    (subst (λ v. JobsWent v jobs replies w) c.in_ok-new.ensures.first c.in_ok-all.ensures.went)
     taken
-    (subst (λ o. IsLast g.M.Machine.goes o w z) c.in-Ok.ensures.opening c.in-Ok-closed.ensures.last)
+    (subst (λ o. IsLast g.M.Machine.goes o w z) c.in_ok-new.ensures.opening c.in_ok-machine.ensures.last)
