@@ -64,7 +64,7 @@ RankedBy s h = (i : ℕ) → (nth_frame s.frames i).key ≡ option_map (λ p. ra
 abbrev pub IsRankedByAll : PoolState → Type 0
 IsRankedByAll s = (h : HistoryView) → RankedBy s h
 
--- every page is on its device as it is in its frame, and no device has anything left to put down
+-- no frame is dirty, and nothing waits on a device for a flush; so an honest device has each page as it is in its frame
 pub record IsSettled (s : PoolState) : Type 0 where
   pub clean : (i : ℕ) → (nth_frame s.frames i).dirty ≡ false
   pub flushed : (k : ℕ) → (nth_device s.devices k).waiting ≡ false

@@ -3,7 +3,8 @@
 //! A page comes into a frame by [`Pool::pin`] or [`Pool::load`], and leaves only for another page, or where the pool is emptied or its
 //! device retired. The page that leaves is the victim: of the resident pages without a fix the one of the greatest backward
 //! 2-distance (O'Neil, O'Neil, Weikum, "The LRU-K Page Replacement Algorithm For Database Disk Buffering", SIGMOD 1993), as a history
-//! ranks them. A page that was written to goes to its device before it leaves. No call but [`Pool::write`] changes a byte of a page.
+//! ranks them. A page that was written to goes to its device before it leaves. No call changes a byte of a page but [`Pool::write`], and
+//! [`Pool::retire`], which exchanges all pages of a device for those of another.
 //!
 //! To clauses a pool is plain data, a `PoolState`, and `view_of` is what of it a caller sees. They stand in `specs/State.antt` and
 //! `specs/View.antt`, and what the calls do to them in `Opening.antt`, `Pinning.antt`, `PageBytes.antt`, `Refreshing.antt`,

@@ -1,13 +1,13 @@
 //! The turn, its passes and notes.
-ghost use Rattle.std.specs.Prelude.{◌≡◌, ℕ, ◌+◌, ◌<◌, ◌^◌, true, false, [], ◌∷◌, Some};
-ghost use Rattle.std.specs.Prelude.{IfOk, IfErr, IfSome, IfNone};
+ghost use Rattle.std.specs.Prelude.{◌≡◌, ◌≢◌, ℕ, ◌+◌, ◌<◌, ◌^◌, true, false, [], ◌∷◌, Some};
+ghost use Rattle.std.specs.Prelude.{IfOk, IfErr, IfSome, IfNone, OnOk};
 ghost use Rattle.warm_turn.specs.declared.board.Held.{Held};
 ghost use Rattle.warm_turn.specs.Turns.{calls_by, first_pass, new_pass, note_of, marked};
 ghost use Rattle.warm_turn.specs.Turns.{IsPass, IsStep, IsLast, Called, Learned, Joined};
 ghost use Rattle.warm_turn.specs.Rule.{IsBoard, AreWords, MarkShows};
 ghost use Rattle.warm_turn.specs.Steps.{HasTicket, HasMachine, IsMade, Served, HasPassedOn};
 
-use crate::board::{Board, BoxedMachine, Held, Made, Place, Top};
+use crate::board::{Board, BoxedMachine, Held, Made, Place, Slot, Top};
 use crate::fault::{Busy, Memory, TurnsSpent};
 use crate::machine::Machine;
 use crate::plays::{Become, CatchUp, Come, End, GiveNote, Learn, Look, PassOn, Take};
@@ -258,6 +258,22 @@ fn machine_of<M: Machine>(slot: Option<Held<M, M::Call, M::Reply>>) -> M
     machine.into_machine()
 }
 
+// What a closed turn gives, by the two words of its table and what lay in the slot: the machine where each ticket that was taken
+// was served, and else these words. A machine that is at home is then dropped.
+fn opened<M: Machine + Drop>(ticket: u64, serving: u64, slot: Slot<M>) -> Result<M, Busy>
+    requires home { ticket ≡ serving → (h : Held M M.Call M.Reply) × (slot ≡ Some h) }
+    ensures machine { IfOk result (λ m. (h : Held M M.Call M.Reply)
+        → slot ≡ Some h → m ≡ h.machine) }
+    ensures served { OnOk result (ticket ≡ serving) }
+    ensures words { IfErr result (λ b. (b.ticket ≡ ticket) × (b.serving ≡ serving)) }
+    ensures waiting { IfErr result (λ _. ticket ≢ serving) }
+{
+    if ticket != serving {
+        return Err(Busy { ticket, serving });
+    }
+    Ok(machine_of(slot))
+}
+
 impl<M: Machine> Pass<M> {
     /// A theorem, for a caller that needs it later: the pass's list is legal from the opening
     /// state, and has of each number that the pass holds just that pass's calls. Nothing is done.
@@ -422,9 +438,7 @@ impl<M: Machine> Turn<M> {
         let serving = closed.word(1);
         let slot = closed.take(0);
         closed.free();
-        if ticket != serving {
-            return Err(Busy { ticket, serving });
-        }
-        Ok(machine_of(slot))
+        let machine = opened(ticket, serving, slot)?;
+        Ok(machine)
     }
 }

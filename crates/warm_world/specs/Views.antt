@@ -33,7 +33,7 @@ world_view w = record {
 abbrev pub listed : {D : Type 0} → (D → DeviceState) → List (Vec D) → List (List DeviceState)
 listed state lists = map (λ ds. map state ds.items) lists
 
--- of the nodes before a place every page is on its device as it is in its frame, and no device has anything left to put down
+-- of the nodes before a place no frame is dirty, and nothing waits on a device for a flush
 abbrev pub AreSettledBefore : ℕ → List NodeState → Type 0
 AreSettledBefore k nodes = (j : ℕ) (other : NodeState) → j < k → IsSettled (slice_index_or nodes j other).pool
 
