@@ -1,14 +1,10 @@
 -- What is written, piece by piece.
-use Rattle.std.proofs.Common.{◌≡◌, ℕ, ◌+◌, ◌<◌, ◌^◌, List, [], ◌∷◌, ◌++◌, length, take, get_or, sym, ap, ◌∙◌, append_assoc, arith}
+use Rattle.std.proofs.Common.{◌≡◌, ℕ, ◌+◌, ◌<◌, ◌^◌, List, [], ◌∷◌, ◌++◌, length, take, get_or, sym, ap, ◌∙◌, arith}
 use Rattle.std.specs.List.{flat_map}
 use Rattle.std.proofs.lemmas.List.{append-nil, take_more, length-append}
 use Rattle.std.proofs.lemmas.List.Concat.{flat_map-append}
-use Rattle.warm_stamps.specs.declared.Stamp.{Stamp}
-use Rattle.warm_stamps.specs.Bytes.{bytes_of_stamp, bytes_of_page, IsReplica}
+use Rattle.warm_stamps.specs.Bytes.{bytes_of_page, IsReplica}
 use Rattle.warm_history.specs.declared.hist.Entry.{Entry}
-use Rattle.warm_history.specs.declared.hist.PageHist.{PageHist}
-use Rattle.warm_history.specs.declared.hist.PageHist.TheVariants.{Once, Twice}
-use Rattle.warm_history.specs.LatestTwo.{LatestTwo}
 use Rattle.warm_frames.specs.declared.format.Format.TheVariants.{Wide}
 use Rattle.warm_frames.specs.declared.message.Message.TheVariants as frames
 use Rattle.warm_frames.specs.Entries.{hist_bytes, entry_bytes, entries_bytes}
@@ -30,19 +26,6 @@ length_and_one es i len more e lt is one so_far =
     let own : length (entry_bytes e) ≡ 10 + length (hist_bytes e.hist) = length-append (bytes_of_page e.page) (hist_bytes e.hist) in
     let whole : length (entries_bytes (take (i + 1) es)) ≡ length (entries_bytes (take i es)) + length (entry_bytes e) = ap length (entries_and_one es i e lt is) ∙ length-append (entries_bytes (take i es)) (entry_bytes e) in
     omega (arith, own, whole)
-
--- a tag and a stamp
-pub put_once : (old mid new : List ℕ) (last : Stamp) (h : PageHist) → mid ≡ old ++ 1 ∷ [] → new ≡ mid ++ bytes_of_stamp last → h ≡ Once last → new ≡ old ++ hist_bytes h
-put_once old mid new last h tag put is =
-    put ∙ ap (λ (w : List ℕ). w ++ bytes_of_stamp last) tag ∙ append_assoc old (1 ∷ []) (bytes_of_stamp last) ∙ ap (λ (k : PageHist). old ++ hist_bytes k) (sym is)
-
--- a tag and two stamps
-pub put_twice : (old tagged mid new : List ℕ) (last prev : Stamp) (two : LatestTwo) (h : PageHist) → tagged ≡ old ++ 2 ∷ [] → mid ≡ tagged ++ bytes_of_stamp last → new ≡ mid ++ bytes_of_stamp prev
-    → last ≡ two.last → prev ≡ two.prev → h ≡ Twice two → new ≡ old ++ hist_bytes h
-put_twice old tagged mid new last prev two h tag later earlier is_last is_prev is =
-    earlier ∙ ap (λ (w : List ℕ). w ++ bytes_of_stamp prev) (later ∙ ap (λ (w : List ℕ). w ++ bytes_of_stamp last) tag) ∙ append_assoc (old ++ 2 ∷ []) (bytes_of_stamp last) (bytes_of_stamp prev)
-    ∙ (λ i. (old ++ 2 ∷ []) ++ (bytes_of_stamp (is_last i) ++ bytes_of_stamp (is_prev i)))
-    ∙ append_assoc old (2 ∷ []) (bytes_of_stamp two.last ++ bytes_of_stamp two.prev) ∙ ap (λ (k : PageHist). old ++ hist_bytes k) (sym is)
 
 pub digest_spelled : (text : List ℕ) (sender horizon : ℕ) (digests : List (List ℕ)) → IsReplica sender → horizon < 2 ^ 64 → IsDigestTable digests → text ≡ header_bytes Wide 2 sender horizon table_size ++ flat_map (λ digest. digest) digests → SpellsIn Wide text (frames.Digest sender horizon digests)
 digest_spelled text sender horizon digests good few table is = record {

@@ -1,7 +1,7 @@
 //! Writing frames. The capacity for all bytes is allocated first.
-ghost use Rattle.std.specs.Prelude.{◌≡◌, ◌≤◌, ◌*◌, ◌++◌, length, IfOk, OnOk};
-ghost use Rattle.warm_stamps.specs.Bytes.{IsReplica, bytes_of_stamp};
-ghost use Rattle.warm_frames.specs.declared.layout.TheConstants.{MAX_ENTRIES, MAX_ENTRY_SIZE, TWICE_SIZE};
+ghost use Rattle.std.specs.Prelude.{◌≡◌, ◌≤◌, ◌+◌, ◌*◌, ◌∷◌, ◌++◌, length, vec_len, vec_capacity, IfOk, OnOk, OnErr, IsOk};
+ghost use Rattle.warm_stamps.specs.Bytes.{IsReplica, bytes_of_page, bytes_of_stamp};
+ghost use Rattle.warm_frames.specs.declared.layout.TheConstants.{MAX_ENTRIES, MAX_ENTRY_SIZE, ONCE_TAG, PAGE_ID_SIZE, STAMP_SIZE, TWICE_SIZE, TWICE_TAG};
 ghost use Rattle.warm_frames.specs.declared.format.Format.TheVariants.{Wide};
 ghost use Rattle.warm_frames.specs.declared.message.Message.TheVariants as frames;
 ghost use Rattle.warm_frames.specs.Entries.{hist_bytes, entry_bytes, entries_bytes};
@@ -10,12 +10,12 @@ ghost use Rattle.warm_frames.specs.Spelling.{header_bytes, SpellsIn};
 use crate::digests::DigestTable;
 use crate::entries::EntryList;
 use crate::layout::{
-    COUNT_SIZE, DIGEST_KIND, ENTRIES_KIND, HEADER_SIZE, MAGIC, ONCE_SIZE, ONCE_TAG, PAGE_ID_SIZE,
-    REQUEST_SIZE, TABLE_SIZE, TWICE_SIZE, TWICE_TAG, WANT_KIND,
+    COUNT_SIZE, DIGEST_KIND, ENTRIES_KIND, HEADER_SIZE, MAGIC, MAX_ENTRY_SIZE, ONCE_SIZE, ONCE_TAG,
+    PAGE_ID_SIZE, REQUEST_SIZE, STAMP_SIZE, TABLE_SIZE, TAG_SIZE, TWICE_SIZE, TWICE_TAG, WANT_KIND,
 };
 use std::alloc::{AllocError, Global};
 use warm_history::{Entry, PageHist};
-use warm_stamps::{ReplicaId, Stamp, page_bytes};
+use warm_stamps::{PageId, ReplicaId, Stamp};
 
 // The header of a frame, with capacity for a body of this length.
 fn header(
@@ -37,45 +37,72 @@ fn header(
     Ok(text)
 }
 
-// The bytes of a stamp. Each of its two numbers is put by itself: an array of both would be stored
-// byte by byte.
-fn put_stamp(text: &mut Vec<u8>, stamp: Stamp) -> Result<(), AllocError>
-    ensures { OnOk result (text.new.items ≡ text.old.items ++ bytes_of_stamp stamp) }
+// Sets ten bytes to those of a page. Each number is copied by itself: an array of single bytes would be stored byte by byte.
+fn set_page(bytes: &mut [u8], page: PageId)
+    requires { length bytes.old ≡ PAGE_ID_SIZE }
+    ensures { bytes.new ≡ bytes_of_page page }
 {
-    text.extend_from_slice(&stamp.time.to_be_bytes())?;
-    text.extend_from_slice(&stamp.replica.get().to_be_bytes())?;
-    Ok(())
+    bytes[..2].copy_from_slice(&page.dev.to_be_bytes());
+    bytes[2..].copy_from_slice(&page.no.to_be_bytes());
 }
 
-fn put_hist(text: &mut Vec<u8>, hist: PageHist) -> Result<(), AllocError>
-    ensures { OnOk result (text.new.items ≡ text.old.items ++ hist_bytes hist) }
+// Sets ten bytes to those of a stamp.
+fn set_stamp(bytes: &mut [u8], stamp: Stamp)
+    requires { length bytes.old ≡ STAMP_SIZE }
+    ensures { bytes.new ≡ bytes_of_stamp stamp }
 {
-    match hist {
-        PageHist::Once(last) => {
-            text.push(ONCE_TAG)?;
-            put_stamp(text, last)?;
-        }
-        PageHist::Twice(two) => {
-            let last = two.last();
-            let prev = two.prev();
-            text.push(TWICE_TAG)?;
-            put_stamp(text, last)?;
-            put_stamp(text, prev)?;
-        }
-    }
-    Ok(())
+    bytes[..8].copy_from_slice(&stamp.time.to_be_bytes());
+    bytes[8..].copy_from_slice(&stamp.replica.get().to_be_bytes());
+}
+
+// The bytes of an entry with one stamp. All are the tag at first, and one stays so.
+fn once_bytes(page: PageId, last: Stamp) -> [u8; PAGE_ID_SIZE + ONCE_SIZE]
+    ensures { result ≡ bytes_of_page page ++ ONCE_TAG ∷ bytes_of_stamp last }
+{
+    let mut bytes = [ONCE_TAG; PAGE_ID_SIZE + ONCE_SIZE];
+    set_page(&mut bytes[..PAGE_ID_SIZE], page);
+    set_stamp(&mut bytes[PAGE_ID_SIZE + TAG_SIZE..], last);
+    bytes
+}
+
+// The bytes of an entry with two stamps, made so too.
+fn twice_bytes(page: PageId, last: Stamp, prev: Stamp) -> [u8; MAX_ENTRY_SIZE]
+    ensures { result
+        ≡ bytes_of_page page ++ TWICE_TAG ∷ bytes_of_stamp last ++ bytes_of_stamp prev }
+{
+    let mut bytes = [TWICE_TAG; MAX_ENTRY_SIZE];
+    set_page(&mut bytes[..PAGE_ID_SIZE], page);
+    set_stamp(
+        &mut bytes[PAGE_ID_SIZE + TAG_SIZE..PAGE_ID_SIZE + ONCE_SIZE],
+        last,
+    );
+    set_stamp(&mut bytes[PAGE_ID_SIZE + ONCE_SIZE..], prev);
+    bytes
 }
 
 /// Puts the bytes of an entry, as they stand in a frame and as they are digested, behind the text: its
 /// page, a tag, which is the number of its stamps, and the stamps, the later one first.
 ///
-/// `AllocError` comes only where memory for them was refused, so never where the text has capacity for
-/// [`crate::MAX_ENTRY_SIZE`] bytes more. A part of them may then stand there.
+/// `AllocError` occurs only where memory for them was refused, so never where the text has capacity for
+/// them, which are at most [`crate::MAX_ENTRY_SIZE`]. The text is then unchanged. Its capacity never shrinks.
 pub fn put_entry(text: &mut Vec<u8>, entry: &Entry) -> Result<(), AllocError>
-    ensures { OnOk result (text.new.items ≡ text.old.items ++ entry_bytes entry.now) }
+    ensures items { OnOk result (text.new.items ≡ text.old.items ++ entry_bytes entry.now) }
+    ensures err { OnErr result (text.new.items ≡ text.old.items) }
+    ensures succeeds { vec_len text.old + length (entry_bytes entry.now) ≤ vec_capacity text.old
+        → IsOk result }
+    ensures capacity { vec_capacity text.old ≤ vec_capacity text.new }
 {
-    text.extend_from_slice(&page_bytes(entry.page))?;
-    put_hist(text, entry.hist)
+    match entry.hist {
+        PageHist::Once(last) => {
+            text.extend_from_slice(&once_bytes(entry.page, last))?;
+        }
+        PageHist::Twice(two) => {
+            let last = two.last();
+            let prev = two.prev();
+            text.extend_from_slice(&twice_bytes(entry.page, last, prev))?;
+        }
+    }
+    Ok(())
 }
 
 fn hist_len(hist: PageHist) -> u32
