@@ -1,5 +1,5 @@
 -- Buckets that a history's growth does not touch, and digests that are renewed bucket by bucket.
-use Rattle.std.proofs.Common.{◌≡◌, ◌≢◌, inl, inr, ℕ, suc, ◌<◌, ◌*◌, ◌%◌, ◌^◌, Bool, true, false, cond, List, [], ◌∷◌, ◌++◌, length, max, min, ◌-◌, None, Result, Ok, Err, IfOk, refl, sym, ap, subst, ◌∙◌, arith}
+use Rattle.std.proofs.Common.{◌≡◌, ◌≢◌, inl, inr, ℕ, suc, ◌<◌, ◌^◌, Bool, true, false, cond, List, [], ◌∷◌, ◌++◌, length, max, min, ◌-◌, None, Result, Ok, Err, IfOk, refl, sym, ap, subst, ◌∙◌, arith}
 use Rattle.std.specs.Prelude.{◌==◌, bit_and, bit_or}
 use Rattle.std.specs.Int.{bit_at, bit_not, w64}
 use Rattle.std.specs.List.{All}
@@ -7,7 +7,7 @@ use Rattle.std.specs.Option.{option_and_then}
 use Rattle.std.specs.Ordering.{is_eq, on, flip_args}
 use Rattle.std.proofs.lemmas.Bool.{cases_eq, eqb-true}
 use Rattle.std.proofs.lemmas.List.FromFn.{fill_by_all, get_or-map-range_with_len}
-use Rattle.std.proofs.lemmas.Nat.Bits.{bit_at-lt, bit_at_and, bit_at_not, bit_at_or, bit_at_ones, bit_at_set_same, bit_at_set_other}
+use Rattle.std.proofs.lemmas.Nat.Bits.{bit_at-lt, bit_at_and, bit_at_not, bit_at_or, bit_at_ones}
 use Rattle.warm_stamps.specs.declared.PageId.{PageId}
 use Rattle.warm_stamps.specs.declared.Reference.{Reference}
 use Rattle.warm_stamps.specs.declared.TheConstants.{BUCKETS}
@@ -32,7 +32,8 @@ use Rattle.warm_frames.specs.Entries.{entries_bytes}
 use Rattle.warm_frames.specs.Digests.{digest_at}
 use Rattle.sha2.specs.Sha256.{sha256}
 use Rattle.warm_digest.specs.BucketDigests.{bucket_digest, digests_of, digests_since}
-use Rattle.warm_digest.specs.KeptDigests.{HasDigestsOf, SameDigestsOutside, IsKept, Marks, MarksLosing}
+use Rattle.warm_digest.specs.KeptDigests.{HasDigestsOf, SameDigestsOutside, IsKept, HasPageIn, Marks, MarksLosing}
+use Rattle.warm_digest.proofs.MarkLemmas.{all_elsewhere, clear_before}
 use Rattle.warm_digest.proofs.ExchangeLemmas.{get-bucket}
 
 -- ---- buckets that are not touched
@@ -102,13 +103,15 @@ digest_from es = sha256 (entries_bytes es)
 
 -- the digests that are not marked stay right when references are taken in
 pub kept_with_references : (h g : HistoryView) (batch : List Reference) (old new : ℕ) (digests : List (List ℕ)) → IsHistory h → g ≡ history (refs h ∪ these batch)
-    → IsKept old (entries_of h) digests → Marks (λ r. r.page) old batch new → IsKept new (entries_of g) digests
+    → IsKept old (entries_of h) digests → Marks (HasPageIn (λ r. r.page) batch) old new → IsKept new (entries_of g) digests
 kept_with_references h g batch old new digests whole is kept marks bucket low clear =
+    let before = clear_before (HasPageIn (λ (r : Reference). r.page) batch) old new bucket marks low clear in
+    let away : All (λ r. page_bucket r.page ≢ bucket) batch = all_elsewhere (λ (r : Reference). r.page) batch bucket before.1 in
     let same : bucket_entries bucket (entries_of g) ≡ bucket_entries bucket (entries_of h) =
     ap (λ (k : HistoryView). bucket_entries bucket (entries_of k)) is
-    ∙ untouched h (these batch) bucket (λ p there. untold batch p (subst (λ b. All (λ r. page_bucket r.page ≢ b) batch) (sym there) (marks bucket clear).1))
+    ∙ untouched h (these batch) bucket (λ p there. untold batch p (subst (λ b. All (λ r. page_bucket r.page ≢ b) batch) (sym there) away))
     ∙ ap (λ (k : HistoryView). bucket_entries bucket (entries_of k)) (raised_to_no_later h 0 whole (omega arith)) in
-    kept bucket low (marks bucket clear).0 ∙ sym (ap digest_from same)
+    kept bucket low before.0 ∙ sym (ap digest_from same)
 
 -- a bit of two sets of buckets together is clear where both are
 pub both_clear : (a b i : ℕ) → bit_at (bit_or a b) i ≡ 0 → (bit_at a i ≡ 0) × (bit_at b i ≡ 0)
@@ -125,12 +128,14 @@ kept_raised h g time old lost digests is kept marks bucket low clear =
 
 -- and when entries are taken in, where theirs are marked too
 pub kept_with_entries : (h g : HistoryView) (horizon : ℕ) (more : List Entry) (old lost new : ℕ) (digests : List (List ℕ)) → g ≡ history (refs h ∪ refs (holding_since horizon more))
-    → IsKept old (entries_of h) digests → MarksLosing horizon h lost → Marks (λ e. e.page) (bit_or old lost) more new → IsKept new (entries_of g) digests
+    → IsKept old (entries_of h) digests → MarksLosing horizon h lost → Marks (HasPageIn (λ e. e.page) more) (bit_or old lost) new → IsKept new (entries_of g) digests
 kept_with_entries h g horizon more old lost new digests is kept loses marks bucket low clear =
-    let both = both_clear old lost bucket (marks bucket clear).0 in
+    let before = clear_before (HasPageIn (λ (e : Entry). e.page) more) (bit_or old lost) new bucket marks low clear in
+    let both = both_clear old lost bucket before.0 in
+    let away : All (λ e. page_bucket e.page ≢ bucket) more = all_elsewhere (λ (e : Entry). e.page) more bucket before.1 in
     let same : bucket_entries bucket (entries_of g) ≡ bucket_entries bucket (entries_of h) =
     ap (λ (k : HistoryView). bucket_entries bucket (entries_of k)) is
-    ∙ untouched h (refs (holding_since horizon more)) bucket (λ p there. untold_entries more p (subst (λ b. All (λ e. page_bucket e.page ≢ b) more) (sym there) (marks bucket clear).1))
+    ∙ untouched h (refs (holding_since horizon more)) bucket (λ p there. untold_entries more p (subst (λ b. All (λ e. page_bucket e.page ≢ b) more) (sym there) away))
     ∙ (loses bucket low).1 both.1 in
     kept bucket low both.0 ∙ sym (ap digest_from same)
 
@@ -188,14 +193,3 @@ pub right_since : {E : Type 0} (r : Result (List (List ℕ)) E) (changed lost ho
     → IfOk r (HasDigestsOf lost (entries_of (raised horizon h))) → IfOk r (SameDigestsOutside lost own) → IfOk r (λ table. length table ≡ BUCKETS) → IfOk r (λ table. table ≡ digests_since horizon h)
 right_since (Ok table) changed lost horizon h own kept loses has same count = all_since changed lost horizon h own table count kept loses has same
 right_since (Err why) changed lost horizon h own kept loses has same count = tt
-
--- ---- marks
-
--- a bit that is clear once another is set was so before, and is not that one
-pub marked : (buckets i bucket : ℕ) → i < 64 → bit_at (bit_or buckets (1 * 2 ^ i % 2 ^ 64)) bucket ≡ 0 → (bit_at buckets bucket ≡ 0) × (i ≢ bucket)
-marked buckets i bucket low clear = elim (cases_eq bucket i) [
-  | inl same ↦ (let one : bit_at (bit_or buckets (1 * 2 ^ i % 2 ^ 64)) i ≡ 1 = bit_at_set_same w64 buckets i low in
-      let none : bit_at (bit_or buckets (1 * 2 ^ i % 2 ^ 64)) i ≡ 0 = subst (λ b. bit_at (bit_or buckets (1 * 2 ^ i % 2 ^ 64)) b ≡ 0) same clear in
-      absurd (omega (arith, one, none)))
-  | inr other ↦ (sym (bit_at_set_other w64 buckets i low bucket other) ∙ clear, λ is. other (sym is))
-]

@@ -2,3 +2,4 @@ mod Examples
 pub mod ExchangeLemmas
 pub mod KeptLemmas
 mod BucketSets
+pub mod MarkLemmas

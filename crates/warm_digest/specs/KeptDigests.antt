@@ -1,7 +1,6 @@
 -- Digests that are kept while a history grows, and renewed bucket by bucket.
-use Rattle.std.specs.Prelude.{◌≡◌, ◌≢◌, ℕ, ◌<◌, List}
+use Rattle.std.specs.Prelude.{◌≡◌, ◌⊎◌, ◌↔◌, ℕ, ◌<◌, List, map, Contains}
 use Rattle.std.specs.Int.{bit_at}
-use Rattle.std.specs.List.{All}
 use Rattle.warm_stamps.specs.declared.PageId.{PageId}
 use Rattle.warm_stamps.specs.declared.TheConstants.{BUCKETS}
 use Rattle.warm_stamps.specs.Buckets.{page_bucket}
@@ -23,13 +22,26 @@ SameDigestsOutside buckets old new = (bucket : ℕ) → bucket < BUCKETS → bit
 abbrev pub IsKept : ℕ → List Entry → List (List ℕ) → Type 0
 IsKept changed h digests = (bucket : ℕ) → bucket < BUCKETS → bit_at changed bucket ≡ 0 → digest_at digests bucket ≡ bucket_digest h bucket
 
--- a bucket whose bit is clear now was so before, and is not that of this page
-abbrev pub MarksPage : ℕ → PageId → ℕ → Type 0
-MarksPage old page new = (bucket : ℕ) → bit_at new bucket ≡ 0 → (bit_at old bucket ≡ 0) × (page_bucket page ≢ bucket)
+-- what contracts see of a history that keeps its digests: the history, and the set of the buckets whose digest is to be computed again
+pub record DigestedView : Type 0 where
+  pub history : HistoryView
+  pub marked : ℕ
 
--- the same of a list of items that each have a page
-abbrev pub Marks : {A : Type 0} → (A → PageId) → ℕ → List A → ℕ → Type 0
-Marks page old items new = (bucket : ℕ) → bit_at new bucket ≡ 0 → (bit_at old bucket ≡ 0) × All (λ x. page_bucket (page x) ≢ bucket) items
+-- a bucket is marked now exactly where it was so before, or this is true of it
+abbrev pub Marks : (ℕ → Type 0) → ℕ → ℕ → Type 0
+Marks adds old new = (bucket : ℕ) → bucket < BUCKETS → (bit_at new bucket ≡ 1) ↔ ((bit_at old bucket ≡ 1) ⊎ adds bucket)
+
+-- a bucket that is marked now was so before
+abbrev pub MarksNoMore : ℕ → ℕ → Type 0
+MarksNoMore old new = (bucket : ℕ) → bit_at new bucket ≡ 1 → bit_at old bucket ≡ 1
+
+-- a bucket that is marked would lose a stamp at the horizon
+abbrev pub MarksLosers : ℕ → HistoryView → ℕ → Type 0
+MarksLosers horizon h marked = (bucket : ℕ) → bucket < BUCKETS → bit_at marked bucket ≡ 1 → LosesIn horizon bucket h
+
+-- one of the items has a page in the bucket
+abbrev pub HasPageIn : {A : Type 0} → (A → PageId) → List A → ℕ → Type 0
+HasPageIn page items bucket = Contains (map (λ x. page_bucket (page x)) items) bucket
 
 -- the bit of a bucket is set exactly where the history would have other entries of it at the horizon
 abbrev pub TellsLoss : ℕ → HistoryView → ℕ → ℕ → Type 0

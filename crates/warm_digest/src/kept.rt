@@ -1,6 +1,6 @@
 //! Digests that are kept, and computed again only for the buckets that changed. A set of buckets is a number of 64 bits: bit b, of value
 //! 2^b, is set where bucket b is in the set.
-ghost use Rattle.std.specs.Prelude.{◌≡◌, [], length, IfOk, OnOk, OnErr};
+ghost use Rattle.std.specs.Prelude.{◌≡◌, [], length, IfOk, IsOk, OnOk, OnErr};
 ghost use Rattle.sha2.specs.Sha256.{sha256};
 ghost use Rattle.warm_stamps.specs.declared.TheConstants.{BUCKETS};
 ghost use Rattle.warm_history.specs.Histories.{entries_of};
@@ -61,12 +61,13 @@ impl Digests {
     /// `buckets`, of value 2^b, is set for bucket b.
     ///
     /// Costs what going over the entries of these buckets and hashing their bytes cost; no bucket costs
-    /// nothing. `AllocError` occurs only where memory for the bytes of one entry was refused, and
-    /// changes nothing.
+    /// nothing, and is never refused. `AllocError` occurs only where memory for the bytes of one entry was
+    /// refused, and changes nothing.
     pub fn renew(&mut self, history: &History, buckets: u64) -> Result<(), AllocError>
         ensures wanted { OnOk result (HasDigestsOf buckets (entries_of history.now) self.new) }
         ensures others { OnOk result (SameDigestsOutside buckets self.old self.new) }
         ensures err { OnErr result (self.new ≡ self.old) }
+        ensures free { buckets ≡ 0 → IsOk result }
     {
         if buckets == 0 {
             return Ok(());
@@ -88,6 +89,7 @@ impl Digests {
             (HasDigestsOf buckets (entries_of (raised horizon history.now))) }
         ensures others { IfOk result (SameDigestsOutside buckets self.now) }
         ensures count { IfOk result (λ table. length table ≡ BUCKETS) }
+        ensures free { buckets ≡ 0 → IsOk result }
     {
         if buckets == 0 {
             return Ok(self.table());

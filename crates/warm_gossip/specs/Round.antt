@@ -7,6 +7,7 @@ use Rattle.warm_frames.specs.declared.message.Message.TheVariants.{Entries, Dige
 use Rattle.warm_digest.specs.BucketDigests.{digests_of}
 use Rattle.warm_digest.specs.Exchange.{Fits, IsCollision}
 use Rattle.warm_gossip.specs.Answers.{IsAnswer, taught}
+use Rattle.warm_gossip.specs.State.{NodeView}
 
 -- the message in which a replica of this id offers the digests of its history
 abbrev pub offer : ℕ → HistoryView → Message
@@ -29,9 +30,16 @@ pub record GossipRound (i j : ℕ) (h g h' g' : HistoryView) : Type 0 where
 
 -- After a round both histories have the entries of the join of the two before; that of j has its horizon too, and that of i where j answered a message.
 -- Or two different texts of one bucket have one SHA-256: one of h, and one of g at the greater horizon.
-abbrev pub GossipRoundJoins : Type 0
-GossipRoundJoins = (i j : ℕ) (h g h' g' : HistoryView) → IsHistory h → IsHistory g → Fits h → Fits g → (round : GossipRound i j h g h' g')
+abbrev pub RoundJoins : (i j : ℕ) (h g h' g' : HistoryView) → Type 0
+RoundJoins i j h g h' g' = (round : GossipRound i j h g h' g')
     → ((entries_of h' ≡ entries_of (join h g)) × (g' ≡ join h g) × ((round.asked ≡ [] → ⊥) → h' ≡ join h g)) ⊎ IsCollision h (taught g (offer i h))
+
+abbrev pub GossipRoundJoins : Type 0
+GossipRoundJoins = (i j : ℕ) (h g h' g' : HistoryView) → IsHistory h → IsHistory g → Fits h → Fits g → RoundJoins i j h g h' g'
+
+-- so does each round in which one node makes the offer to another
+abbrev pub NodesJoin : NodeView → NodeView → Type 0
+NodesJoin one other = (h' g' : HistoryView) → RoundJoins one.id other.id one.history other.history h' g'
 
 -- a round is over then: to what came last j has nothing to answer
 abbrev pub GossipRoundEnds : Type 0

@@ -31,7 +31,14 @@ abbrev pub WarmStepKeepsHottest : Type 0
 WarmStepKeepsHottest = (S : ReferenceSet) (old new : NodeView) (reply : Reply) → StandsFor old.history S → PagesDiffer old.pool → IsUnfixed old.pool
     → Step old WarmStep reply new → (p : PageId) → Contains (warm S (length old.pool.frames)) p → Leaves old.pool new.pool p → ⊥
 
--- No page is fixed: after as many steps as there are frames, all of the hottest pages that the devices have are resident.
+-- after as many steps as there are frames, all of the hottest pages that the devices have are resident
+abbrev pub StepsLoad : ReferenceSet → NodeView → NodeView → Type 0
+StepsLoad S old new = WarmSteps (length old.pool.frames) old new → (p : PageId) → IsWarm S old.pool p → IsResident new.pool p
+
+-- so it is where no page is fixed
 abbrev pub WarmUpLoads : Type 0
-WarmUpLoads = (S : ReferenceSet) (old new : NodeView) → StandsFor old.history S → PagesDiffer old.pool → IsUnfixed old.pool
-    → WarmSteps (length old.pool.frames) old new → (p : PageId) → IsWarm S old.pool p → IsResident new.pool p
+WarmUpLoads = (S : ReferenceSet) (old new : NodeView) → StandsFor old.history S → PagesDiffer old.pool → IsUnfixed old.pool → StepsLoad S old new
+
+-- the same of one node, whatever its history stands for
+abbrev pub NodeWarmsUp : NodeView → Type 0
+NodeWarmsUp old = (S : ReferenceSet) (new : NodeView) → StandsFor old.history S → IsUnfixed old.pool → StepsLoad S old new

@@ -1,14 +1,24 @@
-//! Laws of nodes, over the definitions alone: the pieces in which a bucket is answered, a round of gossip, victims,
-//! warming up, batches of references, and what a list of calls gave a node.
+//! Laws of nodes: the pieces in which a bucket is answered, a round of gossip, victims, warming up, batches of
+//! references, and what a list of calls gave a node.
 //!
-//! Each function does nothing. What it ensures is a theorem, for the crates above to cite and for a reader to
-//! look up: the files of `specs/` that the clauses name say it in full.
+//! Each function changes nothing. What it ensures is a theorem, for the crates above to cite and for a reader to
+//! look up: the files of `specs/` that the clauses name say it in full. Most speak of the definitions alone. Those that
+//! take a node give what the others ask of a state, and what these come to, for the node at hand.
+ghost use Rattle.std.specs.List.{AllByRecursion};
+ghost use Rattle.warm_frames.specs.Entries.{IsEntry, IsHist};
+ghost use Rattle.warm_digest.specs.Exchange.{Fits};
 ghost use Rattle.warm_gossip.specs.Batches.{BatchesAreTaken};
 ghost use Rattle.warm_gossip.specs.Pieces.{PiecesInTurn};
-ghost use Rattle.warm_gossip.specs.Round.{EntriesTeach, GossipRoundEnds, GossipRoundJoins, OwnDigestsUnanswered};
+ghost use Rattle.warm_gossip.specs.Round.{EntriesTeach, GossipRoundEnds, GossipRoundJoins, NodesJoin, OwnDigestsUnanswered};
+ghost use Rattle.warm_gossip.specs.State.{node_view};
 ghost use Rattle.warm_gossip.specs.Told.{ToldIsHistory};
 ghost use Rattle.warm_gossip.specs.Victims.{RepliesAreOverReferences, VictimsAreFarthest};
-ghost use Rattle.warm_gossip.specs.WarmUps.{WarmStepKeepsHottest, WarmUpLoads};
+ghost use Rattle.warm_gossip.specs.WarmUps.{NodeWarmsUp, PagesDiffer, WarmStepKeepsHottest, WarmUpLoads};
+
+use crate::node::Node;
+use warm_devices::PageDevice;
+use warm_history::laws::{is_falling, is_history};
+use warm_history::{Entry, PageHist, Unordered};
 
 /// The pieces in which a bucket of a history is answered to digests or to a request are what `Call::Send` gives of that
 /// bucket, one after the other: the first without a page to come after, each next after the last page of
@@ -74,3 +84,59 @@ pub fn told_is_history()
 pub fn batches_are_taken()
     ensures { BatchesAreTaken }
 {}
+
+/// No page of a node's pool is in two frames. It takes no time.
+pub fn node_pages_differ<D: PageDevice>(node: &Node<D>)
+    ensures { PagesDiffer (node_view node.now).pool }
+{
+    node.pool().is_pool();
+}
+
+/// The numbers in a node's history are within their widths: so the types of its entries say. It goes over the entries once,
+/// and takes no memory.
+pub fn node_fits<D: PageDevice>(node: &Node<D>)
+    ensures { Fits node.now.history }
+{
+    are_entries(node.history().unordered());
+}
+
+/// [`gossip_round_joins`] of two nodes at hand: whatever round they then have makes their histories the join of what both
+/// are now, or there is a collision. It goes over the entries of both once, and takes no memory.
+pub fn nodes_join<D: PageDevice, E: PageDevice>(one: &Node<D>, other: &Node<E>)
+    ensures { NodesJoin (node_view one.now) (node_view other.now) }
+{
+    is_history(one.history());
+    is_history(other.history());
+    node_fits(one);
+    node_fits(other);
+}
+
+/// [`warm_up_loads`] of a node at hand. It takes no time.
+pub fn node_warms_up<D: PageDevice>(node: &Node<D>)
+    ensures { NodeWarmsUp (node_view node.now) }
+{
+    node_pages_differ(node);
+}
+
+// What the types of entries say of them.
+fn are_entries(entries: Unordered<'_>)
+    ensures { AllByRecursion IsEntry entries.entry }
+{
+    for entry in entries {
+        is_entry(entry);
+    }
+}
+
+fn is_entry(entry: Entry)
+    ensures { IsEntry entry }
+{
+    is_hist(entry.hist);
+}
+
+fn is_hist(hist: PageHist)
+    ensures { IsHist hist }
+{
+    if let PageHist::Twice(two) = hist {
+        is_falling(two);
+    }
+}

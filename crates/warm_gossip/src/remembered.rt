@@ -38,9 +38,10 @@ impl Model for Remembered {
 
     ghost Value = { HistoryView };
 
-    ghost view = { λ remembered. remembered.digested };
+    ghost view = { λ remembered. remembered.digested.history };
 
-    ghost invariant = { λ remembered. IfSome remembered.hottest (IsHottest remembered.digested) };
+    ghost invariant = { λ remembered.
+        IfSome remembered.hottest (IsHottest remembered.digested.history) };
 }
 
 impl Remembered {
