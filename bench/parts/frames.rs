@@ -3,23 +3,31 @@
 use super::hist::{Entry, Hist, Page, Stamp};
 use super::sha256::Sha256;
 
-fn put_stamp(bytes: &mut Vec<u8>, stamp: Stamp) {
-    bytes.extend_from_slice(&stamp.time.to_be_bytes());
-    bytes.extend_from_slice(&stamp.replica.to_be_bytes());
+fn set_page(bytes: &mut [u8], page: Page) {
+    bytes[..2].copy_from_slice(&page.dev.to_be_bytes());
+    bytes[2..].copy_from_slice(&page.no.to_be_bytes());
 }
 
+fn set_stamp(bytes: &mut [u8], stamp: Stamp) {
+    bytes[..8].copy_from_slice(&stamp.time.to_be_bytes());
+    bytes[8..].copy_from_slice(&stamp.replica.to_be_bytes());
+}
+
+/// An entry's bytes are made in an array and appended at once: one test of the capacity, and one store for each number.
 pub fn put_entry(bytes: &mut Vec<u8>, entry: &Entry) {
-    bytes.extend_from_slice(&entry.page.dev.to_be_bytes());
-    bytes.extend_from_slice(&entry.page.no.to_be_bytes());
     match entry.hist {
         Hist::Once(last) => {
-            bytes.push(1);
-            put_stamp(bytes, last);
+            let mut one = [1; 21];
+            set_page(&mut one[..10], entry.page);
+            set_stamp(&mut one[11..], last);
+            bytes.extend_from_slice(&one);
         }
         Hist::Twice { last, prev } => {
-            bytes.push(2);
-            put_stamp(bytes, last);
-            put_stamp(bytes, prev);
+            let mut two = [2; 31];
+            set_page(&mut two[..10], entry.page);
+            set_stamp(&mut two[11..21], last);
+            set_stamp(&mut two[21..], prev);
+            bytes.extend_from_slice(&two);
         }
     }
 }
