@@ -15,6 +15,8 @@ mod plays;
 #[cfg(test)]
 mod setup;
 #[cfg(test)]
+mod stations;
+#[cfg(test)]
 mod turns;
 #[cfg(test)]
 mod waiting;

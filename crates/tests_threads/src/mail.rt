@@ -1,60 +1,74 @@
-//! Loops over mail: how long they go on, what they count, which answers a post gets, and two of them in threads of their own.
+//! Loops over mail: how long they go on, what they count, which answers a post gets, and what they leave alone. Loops in threads of
+//! their own are in stations.
 ghost use Rattle.std.specs.Prelude.{◌≡◌};
 
-use crate::setup::{fresh, opened};
-use crossbeam_channel::{Receiver, unbounded};
+use crate::setup::{fresh, opened, over};
+use crossbeam_channel::{Receiver, Sender, unbounded};
 use std::alloc::Global;
 use std::process::Abort;
 use std::sync::Wait;
-use std::thread::Threads;
-use test_kit::{NARROW, WIDE, replica};
+use test_kit::{NARROW, WIDE, entry, memory, once, page, replica, twice};
+use warm_devices::MemDevice;
 use warm_digest::digests;
-use warm_frames::{Message, encode};
-use warm_history::History;
+use warm_frames::{EntryList, Message, decode, encode};
+use warm_gossip::Node;
+use warm_history::{Entry, History};
+use warm_pool::Slot;
 use warm_replica::{
-    Absorbing, Mail, MailIter, MailReport, MemPost, Outbox, Outboxes, Post, Station, mail_loop,
-    run_stations,
+    Absorbing, Mail, MailIter, MailReport, MemPost, Outbox, Outboxes, Post, mail_loop,
 };
 use warm_stamps::{ByteList, ReplicaId};
 
-// A channel with letters of these bytes, and a Stop.
-fn mailed<R: Wait + Abort>(rt: &R, alloc: Global, texts: &[&[u8]]) -> Receiver<Mail> {
+// Puts an item last into a channel.
+pub(crate) fn send<R: Wait + Abort>(rt: &R, sender: &Sender<Mail>, item: Mail) {
+    sender.send(rt, item).ok().expect(rt, "the mail is sent");
+}
+
+fn list_of(rt: &impl Abort, alloc: Global, bytes: &[u8]) -> ByteList {
+    ByteList::of(bytes.to_vec(alloc).expect(rt, "memory for bytes"))
+}
+
+// A channel with letters of these bytes.
+pub(crate) fn channel_of<R: Wait + Abort>(
+    rt: &R,
+    alloc: Global,
+    texts: &[&[u8]],
+) -> (Sender<Mail>, Receiver<Mail>) {
     let (sender, receiver) = unbounded(alloc).expect(rt, "memory for a channel");
     for text in texts {
-        let bytes = ByteList::of((*text).to_vec(alloc).expect(rt, "memory for bytes"));
-        sender
-            .send(rt, Mail::Bytes(bytes))
-            .ok()
-            .expect(rt, "the mail is sent");
+        send(rt, &sender, Mail::Bytes(list_of(rt, alloc, text)));
     }
-    sender
-        .send(rt, Mail::Stop)
-        .ok()
-        .expect(rt, "a Stop is sent");
+    (sender, receiver)
+}
+
+// The end of a channel with letters of these bytes, and a Stop.
+pub(crate) fn mailed<R: Wait + Abort>(rt: &R, alloc: Global, texts: &[&[u8]]) -> Receiver<Mail> {
+    let (sender, receiver) = channel_of(rt, alloc, texts);
+    send(rt, &sender, Mail::Stop);
     receiver
 }
 
 // Replica 1 at this horizon sends one entry: this page of device 0, with one stamp of replica 1 at this time.
-const fn entry_at(horizon: u8, no: u8, time: u8) -> [u8; 44] {
+pub(crate) const fn entry_at(horizon: u8, no: u8, time: u8) -> [u8; 44] {
     [
         0x4C, 0x32, 0x47, 0x32, 1, 0, 1, 0, 0, 0, 0, 0, 0, 0, horizon, 0, 0, 0, 0x19, 0, 0, 0, 1,
         0, 0, 0, 0, 0, 0, 0, 0, 0, no, 1, 0, 0, 0, 0, 0, 0, 0, time, 0, 1,
     ]
 }
 
-// Replica 1 at this horizon asks for buckets of the first eight.
-const fn request_at(horizon: u8, request: u8) -> [u8; 27] {
+// A replica at this horizon asks for buckets of the first eight.
+const fn request_of(number: u8, horizon: u8, request: u8) -> [u8; 27] {
     [
-        0x4C, 0x32, 0x47, 0x32, 3, 0, 1, 0, 0, 0, 0, 0, 0, 0, horizon, 0, 0, 0, 8, 0, 0, 0, 0, 0,
-        0, 0, request,
+        0x4C, 0x32, 0x47, 0x32, 3, 0, number, 0, 0, 0, 0, 0, 0, 0, horizon, 0, 0, 0, 8, 0, 0, 0, 0,
+        0, 0, 0, request,
     ]
 }
 
-// The bytes of a digest of the empty history at a horizon, from replica 9.
-fn digest(rt: &impl Abort, alloc: Global, horizon: u64) -> Vec<u8> {
+// The bytes of a digest of the empty history at a horizon, from a replica.
+pub(crate) fn digest_of(rt: &impl Abort, alloc: Global, number: u16, horizon: u64) -> Vec<u8> {
     let digests = digests(alloc, &History::new(alloc)).expect(rt, "memory for digests");
     let message = Message::Digest {
-        sender: replica(9),
+        sender: replica(number),
         horizon,
         digests,
     };
@@ -81,7 +95,7 @@ fn heard<M: Absorbing + Drop, P: Post, R: Wait + Abort>(
     mail_loop(rt, alloc, &turn, &mut worker, items, post, stops, turns)
 }
 
-const fn report(joined: u64, refused: u64, lost: u128) -> MailReport {
+pub(crate) const fn report(joined: u64, refused: u64, lost: u128) -> MailReport {
     MailReport {
         joined,
         refused,
@@ -89,7 +103,7 @@ const fn report(joined: u64, refused: u64, lost: u128) -> MailReport {
     }
 }
 
-// What a node counts where nobody asks what it posts.
+// What a node counts that has nothing to answer.
 fn heard_alone<R: Wait + Abort>(
     rt: &R,
     alloc: Global,
@@ -97,7 +111,9 @@ fn heard_alone<R: Wait + Abort>(
     bounds: Bounds,
 ) -> MailReport {
     let mut post = MemPost::new(alloc);
-    heard(rt, alloc, fresh(rt, alloc), mail, &mut post, bounds)
+    let heard = heard(rt, alloc, fresh(rt, alloc), mail, &mut post, bounds);
+    assert!(rt; post.given().is_empty());
+    heard
 }
 
 // Entries, a byte that is no message, and a Stop come. Where a second Stop is waited for the channel is closed.
@@ -118,8 +134,52 @@ fn a_loop_ends_at_its_bounds(rt: HostRuntime) {
 }
 
 // Whether something comes out of a channel.
-fn brings<R: Wait>(rt: &R, receiver: &Receiver<Mail>) -> bool {
+pub(crate) fn brings<R: Wait>(rt: &R, receiver: &Receiver<Mail>) -> bool {
     receiver.try_recv(rt).is_ok()
+}
+
+// The message that comes next out of a channel.
+fn message_in<R: Wait + Abort>(rt: &R, alloc: Global, receiver: &Receiver<Mail>) -> Message {
+    match receiver.try_recv(rt) {
+        Ok(Mail::Bytes(bytes)) => decode(alloc, bytes.as_slice()).ok().expect(rt, "a message"),
+        _ => panic!(rt; "no mail"),
+    }
+}
+
+// Whether these entries come next out of a channel, from replica 1 at horizon 0.
+pub(crate) fn brings_entries<R: Wait + Abort>(
+    rt: &R,
+    alloc: Global,
+    receiver: &Receiver<Mail>,
+    wanted: &[Entry],
+) -> bool {
+    let Message::Entries {
+        sender,
+        horizon,
+        entries,
+    } = message_in(rt, alloc, receiver)
+    else {
+        return false;
+    };
+    sender.get() == 1 && horizon == 0 && entries.as_slice() == wanted
+}
+
+// Whether a request for just these buckets comes next out of a channel, from replica 1 at horizon 0.
+pub(crate) fn brings_request<R: Wait + Abort>(
+    rt: &R,
+    alloc: Global,
+    receiver: &Receiver<Mail>,
+    wanted: u64,
+) -> bool {
+    let Message::Want {
+        sender,
+        horizon,
+        request,
+    } = message_in(rt, alloc, receiver)
+    else {
+        return false;
+    };
+    sender.get() == 1 && horizon == 0 && request == wanted
 }
 
 // Whether these are entries and a request with these bytes, both for replica 9.
@@ -137,7 +197,7 @@ fn heard_digest<P: Post, R: Wait + Abort>(
     horizon: u64,
     post: &mut P,
 ) -> MailReport {
-    let text = digest(rt, alloc, horizon);
+    let text = digest_of(rt, alloc, 9, horizon);
     let mail = mailed(rt, alloc, &[&entry_at(0, 1, 10), text.as_slice()]);
     heard(rt, alloc, fresh(rt, alloc), mail, post, ONE_STOP)
 }
@@ -154,7 +214,7 @@ fn answers_are_kept_for_their_sender(rt: HostRuntime) {
             are_for_nine(
                 post.given(),
                 &entry_at(horizon, 1, 10),
-                &request_at(horizon, 2),
+                &request_of(1, horizon, 2),
             )
         };
         assert!(rt; heard == report(2, 0, 0) && is_answered);
@@ -165,25 +225,33 @@ fn answers_are_kept_for_their_sender(rt: HostRuntime) {
 #[test]
 fn both_formats_come_in_one_stream(rt: HostRuntime) {
     let alloc = rt.alloc();
-    let text = digest(&rt, alloc, 0);
+    let text = digest_of(&rt, alloc, 9, 0);
     let mail = mailed(&rt, alloc, &[&NARROW, &WIDE, &[0], text.as_slice()]);
     let mut post = MemPost::new(alloc);
     let heard = heard(&rt, alloc, fresh(&rt, alloc), mail, &mut post, ONE_STOP);
     assert!(rt; heard == report(3, 1, 0));
-    assert!(rt; are_for_nine(post.given(), &entry_at(12, 7, 20), &request_at(12, 128)));
+    assert!(rt; are_for_nine(post.given(), &entry_at(12, 7, 20), &request_of(1, 12, 128)));
 }
 
-// The end of a channel for replica 9, as its only outbox, and the other end.
-fn outbox_of_nine(rt: &impl Abort, alloc: Global) -> (Vec<Outbox>, Receiver<Mail>) {
+// The end of a channel as the only outbox, for a replica.
+pub(crate) fn boxed(
+    rt: &impl Abort,
+    alloc: Global,
+    number: u16,
+    sender: Sender<Mail>,
+) -> Vec<Outbox> {
+    let replica = replica(number);
+    vec![in alloc; Outbox { replica, sender }].expect(rt, "memory for an outbox")
+}
+
+// An outbox for a replica, and the other end of its channel.
+pub(crate) fn outbox_of(
+    rt: &impl Abort,
+    alloc: Global,
+    number: u16,
+) -> (Vec<Outbox>, Receiver<Mail>) {
     let (sender, receiver) = unbounded(alloc).expect(rt, "memory for a channel");
-    let outbox = Outbox {
-        replica: replica(9),
-        sender,
-    };
-    (
-        vec![in alloc; outbox].expect(rt, "memory for an outbox"),
-        receiver,
-    )
+    (boxed(rt, alloc, number, sender), receiver)
 }
 
 // What a node counts of a digest from replica 9, over these outboxes.
@@ -197,84 +265,211 @@ fn heard_over<R: Wait + Abort>(rt: &R, alloc: Global, boxes: Vec<Outbox>) -> Mai
 fn answers_may_be_lost(rt: HostRuntime) {
     let alloc = rt.alloc();
     assert!(rt; heard_over(&rt, alloc, Vec::new(alloc)) == report(2, 0, 2));
-    let (boxes, receiver) = outbox_of_nine(&rt, alloc);
+    let (boxes, receiver) = outbox_of(&rt, alloc, 9);
     drop(receiver);
     assert!(rt; heard_over(&rt, alloc, boxes) == report(2, 0, 2));
 }
 
-// Whether these bytes come next out of a channel.
-fn brings_bytes<R: Wait>(rt: &R, receiver: &Receiver<Mail>, wanted: &[u8]) -> bool {
-    match receiver.try_recv(rt) {
-        Ok(Mail::Bytes(bytes)) => bytes.as_slice() == wanted,
-        _ => false,
-    }
+// What is known of a page that replica 1 referenced once.
+fn known(no: u64, time: u64) -> [Entry; 1] {
+    [entry(page(no), once(time, 1))]
 }
 
 // Of two outboxes for replica 9 the first gets the entries and the request, and nothing more.
 #[test]
 fn answers_reach_the_first_outbox_of_a_number(rt: HostRuntime) {
     let alloc = rt.alloc();
-    let (mut boxes, first) = outbox_of_nine(&rt, alloc);
-    let (mut others, second) = outbox_of_nine(&rt, alloc);
+    let (mut boxes, first) = outbox_of(&rt, alloc, 9);
+    let (mut others, second) = outbox_of(&rt, alloc, 9);
     boxes
         .append(&mut others)
         .expect(&rt, "memory for two outboxes");
     assert!(rt; heard_over(&rt, alloc, boxes) == report(2, 0, 0));
-    assert!(rt; brings_bytes(&rt, &first, &entry_at(0, 1, 10)));
-    assert!(rt; brings_bytes(&rt, &first, &request_at(0, 2)));
+    assert!(rt; brings_entries(&rt, alloc, &first, &known(1, 10)));
+    assert!(rt; brings_request(&rt, alloc, &first, 2));
     assert!(rt; !brings(&rt, &first) && !brings(&rt, &second));
 }
 
-// What two machines count of their mail, each in a thread of its own.
-fn heard_by_both<M: Absorbing + Drop + Send, R: Threads + Wait + Abort + Sync>(
-    rt: &R,
-    alloc: Global,
-    first: M,
-    to_first: Receiver<Mail>,
-    second: M,
-    to_second: Receiver<Mail>,
-    of_second: Vec<Outbox>,
-) -> (MailReport, MailReport) {
-    let (first, one) = opened(rt, alloc, first);
-    let (second, two) = opened(rt, alloc, second);
-    let mut stations = Vec::with_capacity(alloc, 2).expect(rt, "memory for two stations");
-    stations.push_reserved(Station::new(&first, one, to_first, Vec::new(alloc)));
-    stations.push_reserved(Station::new(&second, two, to_second, of_second));
-    ended(rt, alloc, stations)
+// A post that gives back what it is given at one place, from 0, and passes on all else.
+#[derive(Drop)]
+struct AllBut<P: Post + Drop> {
+    place: u64,
+    asked: u64,
+    rest: P,
 }
 
-// What two stations count until a Stop came to each.
-fn ended<M: Absorbing + Drop + Send, R: Threads + Wait + Abort + Sync>(
-    rt: &R,
-    alloc: Global,
-    stations: Vec<Station<'_, M>>,
-) -> (MailReport, MailReport) {
-    let heard = run_stations(rt, alloc, stations, 1, 10).expect(rt, "threads");
-    match heard.as_slice() {
-        [(_, one), (_, two)] => (*one, *two),
-        _ => panic!(rt; "two loops end"),
+impl<P: Post + Drop> Post for AllBut<P> {
+    ghost use Rattle.std.specs.Prelude.{false, []};
+
+    ghost keeps = { false };
+
+    ghost given = { λ _. [] };
+
+    fn post(&mut self, to: ReplicaId, bytes: ByteList) -> Result<(), ByteList> {
+        let at = self.asked;
+        self.asked = at.wrapping_add(1);
+        if at == self.place {
+            return Err(bytes);
+        }
+        self.rest.post(to, bytes)
     }
 }
 
-// What two nodes count: one hears of entries and a byte that is no message, the other of entries and a digest, whose two answers
-// reach these outboxes.
-fn heard_by_nodes<R: Threads + Wait + Abort + Sync>(
+// A node hears of 0:1 and 0:2, then the digests of a replica without a history, and its request for bucket 2. Whether all answers reach
+// that replica but the one at this place, and so many are lost.
+fn are_answered<R: Wait + Abort>(
     rt: &R,
     alloc: Global,
-    boxes: Vec<Outbox>,
-) -> (MailReport, MailReport) {
-    let text = digest(rt, alloc, 0);
-    let to_first = mailed(rt, alloc, &[&NARROW, &[0]]);
-    let to_second = mailed(rt, alloc, &[&NARROW, text.as_slice()]);
-    let first = fresh(rt, alloc);
-    let second = fresh(rt, alloc);
-    heard_by_both(rt, alloc, first, to_first, second, to_second, boxes)
+    number: u8,
+    place: u64,
+    lost: u128,
+) -> bool {
+    let text = digest_of(rt, alloc, u16::from(number), 0);
+    let (one, two, request) = (
+        entry_at(0, 1, 10),
+        entry_at(0, 2, 20),
+        request_of(number, 0, 4),
+    );
+    let mail = mailed(rt, alloc, &[&one, &two, text.as_slice(), &request]);
+    let (boxes, receiver) = outbox_of(rt, alloc, u16::from(number));
+    let rest = Outboxes::new(rt, boxes);
+    let mut post = AllBut {
+        place,
+        asked: 0,
+        rest,
+    };
+    let heard = heard(rt, alloc, fresh(rt, alloc), mail, &mut post, ONE_STOP);
+    heard == report(4, 0, lost)
+        && brings_entries(rt, alloc, &receiver, &known(1, 10))
+        && (place == 1 || brings_entries(rt, alloc, &receiver, &known(2, 20)))
+        && brings_request(rt, alloc, &receiver, 6)
+        && brings_entries(rt, alloc, &receiver, &known(2, 20))
+        && !brings(rt, &receiver)
 }
 
 #[test]
-fn two_replicas_take_their_mail_in_threads(rt: HostRuntime) {
-    let (boxes, receiver) = outbox_of_nine(&rt, rt.alloc());
-    let (one, two) = heard_by_nodes(&rt, rt.alloc(), boxes);
-    assert!(rt; one == report(1, 1, 0) && two == report(2, 0, 0));
-    assert!(rt; brings(&rt, &receiver) && brings(&rt, &receiver) && !brings(&rt, &receiver));
+fn answers_reach_whoever_asks(rt: HostRuntime) {
+    for number in [2, 9, 64] {
+        assert!(rt; are_answered(&rt, rt.alloc(), number, 4, 0));
+    }
+}
+
+// Of the three answers to the digests the second is refused.
+#[test]
+fn what_a_post_refuses_is_lost(rt: HostRuntime) {
+    assert!(rt; are_answered(&rt, rt.alloc(), 9, 1, 1));
+}
+
+// A thousand pages of bucket 1, with two stamps each.
+fn thousand(rt: &impl Abort, alloc: Global) -> EntryList {
+    let mut entries = Vec::new(alloc);
+    for place in 0..1000 {
+        let hist = twice((place + 2000, 2), (place + 1, 1));
+        entries
+            .push(entry(page(64 * place + 1), hist))
+            .expect(rt, "memory for an entry");
+    }
+    EntryList::of(entries).ok().expect(rt, "the pages rise")
+}
+
+// The longest message comes in and goes out: a header of 19 bytes, a count of 4, and a thousand entries of 31.
+#[test]
+fn a_thousand_entries_go_through_an_outbox(rt: HostRuntime) {
+    let alloc = rt.alloc();
+    let message = Message::Entries {
+        sender: replica(2),
+        horizon: 0,
+        entries: thousand(&rt, alloc),
+    };
+    let text = encode(alloc, &message).expect(&rt, "memory for the bytes");
+    assert!(rt; text.len() == 31_023);
+    let mail = mailed(&rt, alloc, &[text.as_slice(), &request_of(9, 0, 2)]);
+    let (boxes, receiver) = outbox_of(&rt, alloc, 9);
+    let mut post = Outboxes::new(&rt, boxes);
+    assert!(rt; heard(&rt, alloc, fresh(&rt, alloc), mail, &mut post, ONE_STOP) == report(2, 0, 0));
+    assert!(rt; brings_entries(&rt, alloc, &receiver, thousand(&rt, alloc).as_slice()));
+}
+
+// Whether this item is these bytes.
+fn is_letter(item: Mail, wanted: &[u8]) -> bool {
+    match item {
+        Mail::Bytes(bytes) => bytes.as_slice() == wanted,
+        Mail::Stop => false,
+    }
+}
+
+#[test]
+fn a_thousand_items_come_in_order(rt: HostRuntime) {
+    let (sender, receiver) = channel_of(&rt, rt.alloc(), &[]);
+    for number in 0..1000u16 {
+        let bytes = list_of(&rt, rt.alloc(), &number.to_be_bytes());
+        send(&rt, &sender, Mail::Bytes(bytes));
+    }
+    drop(sender);
+    let mut next = 0u16;
+    for item in MailIter::new(&rt, receiver, 1000) {
+        assert!(rt; is_letter(item, &next.to_be_bytes()));
+        next = next.wrapping_add(1);
+    }
+    assert!(rt; next == 1000);
+}
+
+// The slot of the first page that comes into a pool.
+const FIRST: Slot = Slot {
+    index: 0,
+    generation: 1,
+};
+
+// A node whose only frame has page 3, of which three bytes are written. It keeps its fix where it `stays`.
+fn filled(rt: &impl Abort, alloc: Global, stays: bool) -> Node<MemDevice> {
+    let device = memory(alloc, 8).expect(rt, "memory for a device");
+    let mut node = over(rt, alloc, 1, device);
+    let slot = node.pin(page(3)).ok().expect(rt, "the page comes in");
+    node.write(slot, 0, &[7, 8, 9])
+        .ok()
+        .expect(rt, "the bytes are written");
+    if !stays {
+        node.unpin(slot).ok().expect(rt, "the fix goes");
+    }
+    node
+}
+
+// Such a node after a loop over an entry, digests and a request.
+fn left_by_a_loop<R: Wait + Abort>(rt: &R, alloc: Global, stays: bool) -> Node<MemDevice> {
+    let (turn, mut worker) = opened(rt, alloc, filled(rt, alloc, stays));
+    let text = digest_of(rt, alloc, 9, 0);
+    let (one, request) = (entry_at(0, 1, 10), request_of(9, 0, 2));
+    let mail = mailed(rt, alloc, &[&one, text.as_slice(), &request]);
+    let items = MailIter::new(rt, mail, 10);
+    let mut post = MemPost::new(alloc);
+    mail_loop(rt, alloc, &turn, &mut worker, items, &mut post, 1, 10);
+    let (pass, _buffer) = worker.into_parts();
+    turn.close(pass).expect(rt, "each ticket was passed on")
+}
+
+// Whether the frame still has that page, which never left it, with its bytes, and a fix where it `stays`.
+fn is_as_filled(mut node: Node<MemDevice>, stays: bool) -> bool {
+    let had_fix = node.unpin(FIRST).is_ok();
+    let has_more = node.unpin(FIRST).is_ok();
+    let slot = node.pin(page(3)).ok();
+    let Ok(bytes) = node.read(FIRST, 0, 5) else {
+        return false;
+    };
+    had_fix == stays
+        && !has_more
+        && slot == Some(FIRST)
+        && bytes.as_slice() == [7, 8, 9, 0, 0].as_slice()
+}
+
+// A call that the loop makes through another pass, which it drops, is in no report. It shows in the history or in the pool.
+#[test]
+fn a_loop_makes_no_other_call(rt: HostRuntime) {
+    for stays in [false, true] {
+        let node = left_by_a_loop(&rt, rt.alloc(), stays);
+        let history = node.history();
+        assert!(rt;
+            history.len() == 1 && history.at(0) == Some(known(1, 10)[0]) && history.horizon() == 0
+        );
+        assert!(rt; is_as_filled(node, stays));
+    }
 }
