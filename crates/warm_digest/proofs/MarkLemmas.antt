@@ -12,7 +12,7 @@ use Rattle.warm_stamps.specs.declared.TheConstants.{BUCKETS}
 use Rattle.warm_stamps.specs.Buckets.{page_bucket}
 use Rattle.warm_history.specs.Histories.{HistoryView}
 use Rattle.warm_history.specs.Losses.{LosesIn}
-use Rattle.warm_digest.specs.KeptDigests.{HasPageIn, Marks, MarksLosers, MarksLosing, MarksNoMore}
+use Rattle.warm_digest.specs.KeptDigests.{HasPageIn, Marks, MarkedLose, MarksLosing, MarksNoMore}
 
 -- ---- what stays clear
 
@@ -94,20 +94,20 @@ pub some_stay : (old some : ℕ) → MarksNoMore old (bit_and old some)
 some_stay old some bucket now = omega (arith, bit_at_and old some bucket, now, bit_at-lt old bucket, bit_at-lt some bucket)
 
 -- those that lose something
-some_lose : (horizon : ℕ) (h : HistoryView) (old lost : ℕ) → MarksLosing horizon h lost → MarksLosers horizon h (bit_and old lost)
+some_lose : (horizon : ℕ) (h : HistoryView) (old lost : ℕ) → MarksLosing horizon h lost → MarkedLose horizon h (bit_and old lost)
 some_lose horizon h old lost loses bucket low now = (loses bucket low).0 (omega (arith, bit_at_and old lost bucket, now, bit_at-lt old bucket, bit_at-lt lost bucket))
 
-none_lose : (horizon : ℕ) (h : HistoryView) (marked : ℕ) → marked ≡ 0 → MarksLosers horizon h marked
+none_lose : (horizon : ℕ) (h : HistoryView) (marked : ℕ) → marked ≡ 0 → MarkedLose horizon h marked
 none_lose horizon h marked none bucket low now =
     let zero_is : bit_at marked bucket ≡ 0 = ap (λ (n : ℕ). bit_at n bucket) none ∙ bit_at-zero bucket in
     absurd (omega (arith, now, zero_is))
 
 -- the same where a result is Ok
-pub some_lose_if : {A E : Type 0} (r : Result A E) (horizon : ℕ) (h : HistoryView) (old lost : ℕ) → MarksLosing horizon h lost → OnOk r (MarksLosers horizon h (bit_and old lost))
+pub some_lose_if : {A E : Type 0} (r : Result A E) (horizon : ℕ) (h : HistoryView) (old lost : ℕ) → MarksLosing horizon h lost → OnOk r (MarkedLose horizon h (bit_and old lost))
 some_lose_if (Ok a) horizon h old lost loses = some_lose horizon h old lost loses
 some_lose_if (Err why) horizon h old lost loses = tt
 
-pub none_lose_if : {A E : Type 0} (r : Result A E) (horizon : ℕ) (h : HistoryView) (marked : ℕ) → OnOk r (marked ≡ 0) → OnOk r (MarksLosers horizon h marked)
+pub none_lose_if : {A E : Type 0} (r : Result A E) (horizon : ℕ) (h : HistoryView) (marked : ℕ) → OnOk r (marked ≡ 0) → OnOk r (MarkedLose horizon h marked)
 none_lose_if (Ok a) horizon h marked none = none_lose horizon h marked none
 none_lose_if (Err why) horizon h marked none = tt
 

@@ -36,8 +36,8 @@ abbrev pub MarksNoMore : ℕ → ℕ → Type 0
 MarksNoMore old new = (bucket : ℕ) → bit_at new bucket ≡ 1 → bit_at old bucket ≡ 1
 
 -- a bucket that is marked would lose a stamp at the horizon
-abbrev pub MarksLosers : ℕ → HistoryView → ℕ → Type 0
-MarksLosers horizon h marked = (bucket : ℕ) → bucket < BUCKETS → bit_at marked bucket ≡ 1 → LosesIn horizon bucket h
+abbrev pub MarkedLose : ℕ → HistoryView → ℕ → Type 0
+MarkedLose horizon h marked = (bucket : ℕ) → bucket < BUCKETS → bit_at marked bucket ≡ 1 → LosesIn horizon bucket h
 
 -- one of the items has a page in the bucket
 abbrev pub HasPageIn : {A : Type 0} → (A → PageId) → List A → ℕ → Type 0

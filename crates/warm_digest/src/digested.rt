@@ -5,7 +5,7 @@ ghost use Rattle.warm_history.specs.Histories.{entries_of, history, holding, hol
 ghost use Rattle.warm_history.specs.Losses.{LosesIn};
 ghost use Rattle.warm_stamps.specs.Buckets.{page_bucket};
 ghost use Rattle.warm_digest.specs.BucketDigests.{digests_of, digests_since};
-ghost use Rattle.warm_digest.specs.KeptDigests.{HasPageIn, Marks, MarksLosers, MarksLosing, MarksNoMore};
+ghost use Rattle.warm_digest.specs.KeptDigests.{HasPageIn, Marks, MarkedLose, MarksLosing, MarksNoMore};
 
 use crate::kept::Digests;
 use std::alloc::{AllocError, Global};
@@ -164,7 +164,7 @@ impl DigestedHistory {
         ensures table { IfOk result (λ table. table ≡ digests_since horizon self.old.history) }
         ensures same { self.new.history ≡ self.old.history }
         ensures marks { MarksNoMore self.old.marked self.new.marked }
-        ensures left { OnOk result (MarksLosers horizon self.old.history self.new.marked) }
+        ensures left { OnOk result (MarkedLose horizon self.old.history self.new.marked) }
         ensures free { self.old.marked ≡ 0 → horizon ≤ self.old.history.horizon → IsOk result }
     {
         if horizon <= self.history.horizon() {

@@ -4,7 +4,7 @@ use Rattle.warm_history.specs.Histories.{HistoryView, entries_of}
 use Rattle.warm_history.specs.Losses.{raised}
 use Rattle.warm_history.proofs.JoinLemmas.{raised_to_no_later}
 use Rattle.warm_digest.specs.BucketDigests.{digests_of, digests_since}
-use Rattle.warm_digest.specs.KeptDigests.{DigestedView, MarksLosers, MarksNoMore}
+use Rattle.warm_digest.specs.KeptDigests.{DigestedView, MarkedLose, MarksNoMore}
 use Rattle.warm_digest.proofs.KeptLemmas.{others_right, right_since}
 use Rattle.warm_digest.proofs.MarkLemmas.{none_lose_if, some_lose_if, some_stay}
 use Rattle.warm_digest.proofs.digested.DigestedHistory.digests_since.Goals as goal
@@ -40,5 +40,5 @@ pub returns-clause-left : goal.returns-clause-left
 returns-clause-left c =
     let old = c.self.inside.changed in
     let lost = c.losing-lost.result in
-    subst (λ (v : DigestedView). OnOk c.table_since.result (MarksLosers c.args.horizon v.history (bit_and old lost))) c.self.view_is
+    subst (λ (v : DigestedView). OnOk c.table_since.result (MarkedLose c.args.horizon v.history (bit_and old lost))) c.self.view_is
     (some_lose_if c.table_since.result c.args.horizon c.self.inside.history old lost c.losing-lost.ensures)
