@@ -1,20 +1,22 @@
-//! Jobs in threads of their own: four that wait for one another before each step, the limits of a buffer, and as many jobs as a run
-//! takes.
+//! Jobs in threads of their own: four that meet, the limits of a buffer, as many jobs as a run takes, and what a node holds after jobs
+//! and after a flush.
 ghost use Rattle.std.specs.Prelude.{◌≡◌};
 
-use crate::setup::{comes, fresh, listed, pages_of, turn_over};
+use crate::setup::{comes, fresh, listed, opened, pages_of, turn_over};
 use std::alloc::Global;
 use std::process::Abort;
 use std::sync::Wait;
 use std::sync::atomic::{AtomicU64, Ordering};
 use std::thread::Threads;
 use std::time::Clock;
-use test_kit::{page, seen};
-use warm_gossip::{Call, Reply};
+use test_kit::{entry, once, page, seen};
+use warm_devices::MemDevice;
+use warm_gossip::{Call, Node, Reply};
+use warm_pool::Slot;
 use warm_replica::{
     Absorbing, BoxedCall, Gate, Job, MAX_JOBS, Replies, RunFault, Step, StepReply, run_workers,
 };
-use warm_stamps::PageList;
+use warm_stamps::PageId;
 use warm_turn::{Pass, Turn};
 
 // A gate that holds nobody back.
@@ -27,33 +29,37 @@ impl Gate for Open {
     fn after(&self, _job: usize, _step: usize) {}
 }
 
-// A job's own bit of a word, and that of all four.
-const BITS: [u64; 4] = [1, 2, 4, 8];
-
-const ALL: u64 = 15;
-
-// A gate at which four jobs wait for one another before each step: which of them came, a bit for each, how many steps all of them
-// took, and whether a wait came to its limit.
+// A gate at which four jobs wait for one another before their first step: how many came, and how many saw that all came. A call round a
+// step counts in an octal digit of the step's own, of five for each job.
 #[derive(Drop)]
 struct Meeting<'a, C: Clock> {
     clock: &'a C,
     here: AtomicU64,
-    taken: AtomicU64,
-    late: AtomicU64,
+    met: AtomicU64,
+    before: AtomicU64,
+    after: AtomicU64,
+}
+
+// One in the digit of a step.
+fn once_at(job: usize, step: usize) -> u64 {
+    let digit = job.wrapping_mul(5).wrapping_add(step) % 21;
+    1 << (3 * digit as u32)
 }
 
 impl<'a, C: Clock> Gate for Meeting<'a, C> {
-    fn before(&self, job: usize, _step: usize) {
-        if let Some(bit) = BITS.get(job) {
-            self.here.fetch_or(*bit, Ordering::SeqCst);
+    fn before(&self, job: usize, step: usize) {
+        self.before.fetch_add(once_at(job, step), Ordering::SeqCst);
+        if step > 0 {
+            return;
         }
-        if !comes(self.clock, &self.here, ALL) {
-            self.late.store(1, Ordering::SeqCst);
+        self.here.fetch_add(1, Ordering::SeqCst);
+        if comes(self.clock, &self.here, 4) {
+            self.met.fetch_add(1, Ordering::SeqCst);
         }
     }
 
-    fn after(&self, _job: usize, _step: usize) {
-        self.taken.fetch_add(1, Ordering::SeqCst);
+    fn after(&self, job: usize, step: usize) {
+        self.after.fetch_add(once_at(job, step), Ordering::SeqCst);
     }
 }
 
@@ -73,51 +79,62 @@ pub(crate) fn run<M: Absorbing + Send, R: Threads + Wait + Abort + Sync, G: Gate
     run_workers(rt, alloc, replica, pass, jobs, gate)
 }
 
-// The replies of these jobs, and the pages of the replica afterwards, hottest first.
+// The replies of these jobs, and the machine afterwards.
 pub(crate) fn ran<M: Absorbing + Drop + Send, R: Threads + Wait + Abort + Sync, G: Gate + Sync>(
     rt: &R,
     alloc: Global,
     machine: M,
     jobs: Vec<Job>,
     gate: &G,
-) -> (Result<Vec<Replies>, RunFault>, PageList) {
+) -> (Result<Vec<Replies>, RunFault>, M) {
     let (replica, mut pass) = turn_over(rt, alloc, machine);
     let ran = run(rt, alloc, &replica, &mut pass, jobs, gate);
-    let answer = replica.call(rt, &mut pass, Call::WarmList(100));
-    replica.close(pass).expect(rt, "each ticket was passed on");
-    (ran, pages_of(answer).expect(rt, "the pages are listed"))
+    (
+        ran,
+        replica.close(pass).expect(rt, "each ticket was passed on"),
+    )
 }
 
-// A job with a buffer of two: three touches of its page, a flush and a call.
-fn job_of(rt: &impl Abort, alloc: Global, no: u64) -> Job {
-    let call = BoxedCall::new(alloc, Call::Victim).expect(rt, "memory for a call");
-    let steps = vec![in alloc;
-        Step::Touch(seen(page(no), u64::wrapping_add(10, no), 1)),
-        Step::Touch(seen(page(no), u64::wrapping_add(20, no), 1)),
-        Step::Touch(seen(page(no), 30, 1)),
-        Step::Flush,
-        Step::Make(call),
-    ]
-    .expect(rt, "memory for steps");
+// A step that makes a call.
+fn make(rt: &impl Abort, alloc: Global, call: Call) -> Step {
+    Step::Make(BoxedCall::new(alloc, call).expect(rt, "memory for a call"))
+}
+
+// A job that asks for the victim, after three touches of its page and a flush where it takes five steps. Its buffer holds two.
+fn job_of(rt: &impl Abort, alloc: Global, no: u64, five: bool) -> Job {
+    let victim = make(rt, alloc, Call::Victim);
+    let steps = if five {
+        vec![in alloc;
+            Step::Touch(seen(page(no), u64::wrapping_add(10, no), 1)),
+            Step::Touch(seen(page(no), u64::wrapping_add(20, no), 1)),
+            Step::Touch(seen(page(no), 30, 1)),
+            Step::Flush,
+            victim,
+        ]
+        .expect(rt, "memory for steps")
+    } else {
+        vec![in alloc; victim].expect(rt, "memory for a step")
+    };
     Job { capacity: 2, steps }
 }
 
-// Two references fit, the third comes back, and no page is resident.
+// No page is resident. Two references fit, and the third comes back.
 fn is_answered(replies: &[StepReply], no: u64) -> bool {
-    let [
-        StepReply::Touched,
-        StepReply::Touched,
-        StepReply::Full(back),
-        StepReply::Flushed,
-        StepReply::Answered(reply),
-    ] = replies
-    else {
-        return false;
+    let (reply, back) = match replies {
+        [StepReply::Answered(reply)] => (reply, None),
+        [
+            StepReply::Touched,
+            StepReply::Touched,
+            StepReply::Full(back),
+            StepReply::Flushed,
+            StepReply::Answered(reply),
+        ] => (reply, Some(*back)),
+        _ => return false,
     };
     let Reply::Page(None) = reply.as_reply() else {
         return false;
     };
-    *back == seen(page(no), 30, 1)
+    back.unwrap_or(seen(page(no), 30, 1)) == seen(page(no), 30, 1)
 }
 
 // Whether each of four jobs is answered.
@@ -130,33 +147,46 @@ fn are_answered(all: &[Vec<StepReply>]) -> bool {
     all.len() == 4
 }
 
-// Whether four jobs that meet at this gate are answered, and all their references absorbed: each of the pages 0 to 3 was referenced
-// twice, and a later one later.
+// Whether four jobs are answered at this gate. These are the hottest pages then.
 fn are_met<R: Threads + Wait + Abort + Sync, G: Gate + Sync>(
     rt: &R,
     alloc: Global,
     gate: &G,
+    five: bool,
+    hottest: &[PageId],
 ) -> bool {
     let mut jobs = Vec::new(alloc);
     for no in 0..4 {
-        jobs.push(job_of(rt, alloc, no))
+        jobs.push(job_of(rt, alloc, no, five))
             .expect(rt, "memory for a job");
     }
-    let (ran, pages) = ran(rt, alloc, fresh(rt, alloc), jobs, gate);
+    let (ran, mut node) = ran(rt, alloc, fresh(rt, alloc), jobs, gate);
     let all = listed(rt, alloc, ran.expect(rt, "the jobs run"));
-    are_answered(&all) && pages.as_slice() == [page(3), page(2), page(1), page(0)].as_slice()
+    let answer: Result<Reply, RunFault> = Ok(node.call(Call::WarmList(100)));
+    let pages = pages_of(answer).expect(rt, "the pages are listed");
+    are_answered(&all) && pages.as_slice() == hottest
 }
 
+// Four jobs of one call, and of five steps: then each of the pages 0 to 3 was referenced twice, and a later one later.
 #[test]
 fn four_jobs_meet(rt: HostRuntime) {
-    let gate = Meeting {
-        clock: &rt,
-        here: AtomicU64::new(0),
-        taken: AtomicU64::new(0),
-        late: AtomicU64::new(0),
-    };
-    assert!(rt; are_met(&rt, rt.alloc(), &gate));
-    assert!(rt; gate.late.load(Ordering::SeqCst) == 0 && gate.taken.load(Ordering::SeqCst) == 20);
+    let all = [page(3), page(2), page(1), page(0)];
+    for (five, hottest, calls) in [
+        (false, all.split_at(0).0, 0o00001_00001_00001_00001),
+        (true, all.as_slice(), 0o11111_11111_11111_11111),
+    ] {
+        let gate = Meeting {
+            clock: &rt,
+            here: AtomicU64::new(0),
+            met: AtomicU64::new(0),
+            before: AtomicU64::new(0),
+            after: AtomicU64::new(0),
+        };
+        assert!(rt; are_met(&rt, rt.alloc(), &gate, five, hottest));
+        assert!(rt; gate.met.load(Ordering::SeqCst) == 4);
+        assert!(rt; gate.before.load(Ordering::SeqCst) == calls);
+        assert!(rt; gate.after.load(Ordering::SeqCst) == calls);
+    }
 }
 
 // A job with a buffer of this many references and one touch.
@@ -172,14 +202,14 @@ fn ended<R: Threads + Wait + Abort + Sync>(
     alloc: Global,
     capacity: usize,
 ) -> Result<(), RunFault> {
-    let (ran, pages) = ran(
+    let (ran, node) = ran(
         rt,
         alloc,
         fresh(rt, alloc),
         one_touch(rt, alloc, capacity),
         &Open,
     );
-    assert!(rt; pages.as_slice().is_empty());
+    assert!(rt; node.history().len() == 0);
     ran?;
     Ok(())
 }
@@ -200,7 +230,7 @@ fn are_flushed<R: Threads + Wait + Abort + Sync>(rt: &R, alloc: Global) -> bool 
         jobs.push(Job { capacity: 1, steps })
             .expect(rt, "memory for a job");
     }
-    let (ran, _pages) = ran(rt, alloc, fresh(rt, alloc), jobs, &Open);
+    let (ran, _node) = ran(rt, alloc, fresh(rt, alloc), jobs, &Open);
     let all = listed(rt, alloc, ran.expect(rt, "the jobs run"));
     for replies in &all {
         let [StepReply::Flushed] = replies.as_slice() else {
@@ -213,4 +243,57 @@ fn are_flushed<R: Threads + Wait + Abort + Sync>(rt: &R, alloc: Global) -> bool 
 #[test]
 fn sixty_four_jobs_flush(rt: HostRuntime) {
     assert!(rt; are_flushed(&rt, rt.alloc()));
+}
+
+// The slot of the first page that comes into a pool.
+pub(crate) const FIRST: Slot = Slot {
+    index: 0,
+    generation: 1,
+};
+
+// Whether a node knows just 0:1, of one reference, and has just 0:5 in its pool, as it was read, with one fix.
+fn has_one_page(node: Node<MemDevice>) -> bool {
+    let history = node.history();
+    let known = history.at(0) == Some(entry(page(1), once(10, 1)));
+    let just = known && history.len() == 1 && history.horizon() == 0;
+    let mut pool = node.into_pool();
+    for no in 0..8 {
+        if pool.resident(page(no)) != (no == 5) {
+            return false;
+        }
+    }
+    if !pool.holds(FIRST) || pool.victim() != None {
+        return false;
+    }
+    let mut bytes = [1; 16];
+    let read = pool.read(FIRST, 0, &mut bytes);
+    pool.unpin(FIRST);
+    just && read == Ok(()) && bytes == [0; 16] && pool.victim() == Some(page(5))
+}
+
+#[test]
+fn a_job_does_just_its_steps(rt: HostRuntime) {
+    let alloc = rt.alloc();
+    let pin = make(&rt, alloc, Call::Pin(page(5)));
+    let touch = Step::Touch(seen(page(1), 10, 1));
+    let steps = vec![in alloc; touch, Step::Flush, pin].expect(&rt, "memory for steps");
+    let jobs = vec![in alloc; Job { capacity: 1, steps }].expect(&rt, "memory for a job");
+    let (_ran, node) = ran(&rt, alloc, fresh(&rt, alloc), jobs, &Open);
+    assert!(rt; has_one_page(node));
+}
+
+// The machine of a worker that has flushed one reference.
+fn flushed<M: Absorbing + Drop, R: Wait + Abort>(rt: &R, alloc: Global, machine: M) -> M {
+    let (turn, mut worker) = opened(rt, alloc, machine);
+    worker.touch(seen(page(1), 10, 1)).expect(rt, "one fits");
+    worker.flush(rt, alloc, &turn).expect(rt, "it is absorbed");
+    let (pass, _buffer) = worker.into_parts();
+    turn.close(pass).expect(rt, "each ticket was passed on")
+}
+
+#[test]
+fn a_flush_absorbs_just_the_buffer(rt: HostRuntime) {
+    let mut node = fresh(&rt, rt.alloc());
+    let _pinned = node.call(Call::Pin(page(5)));
+    assert!(rt; has_one_page(flushed(&rt, rt.alloc(), node)));
 }

@@ -1,5 +1,5 @@
 //! A page is read while another thread touches what it has referenced: a touch waits for nobody.
-use crate::jobs::ran;
+use crate::jobs::{FIRST, ran};
 use crate::setup::{comes, list_of, over};
 use std::alloc::Global;
 use std::process::Abort;
@@ -9,7 +9,6 @@ use std::thread::Threads;
 use std::time::Clock;
 use test_kit::{Hooked, Hooks, memory, page, seen};
 use warm_gossip::{Call, Reply};
-use warm_pool::Slot;
 use warm_replica::{Absorbing, BoxedCall, Gate, Job, Replies, Step, StepReply};
 
 // What two threads show each other.
@@ -115,7 +114,7 @@ fn pins_and_touches<M: Absorbing + Drop + Send, R: Threads + Wait + Abort + Sync
     machine: M,
     gate: &G,
 ) -> (Replies, Replies) {
-    let (ran, _pages) = ran(rt, alloc, machine, two_jobs(rt, alloc), gate);
+    let (ran, _machine) = ran(rt, alloc, machine, two_jobs(rt, alloc), gate);
     let mut replies = ran.expect(rt, "the jobs run");
     let touched = replies.pop().expect(rt, "the touch is answered");
     let pinned = replies.pop().expect(rt, "the pin is answered");
@@ -127,12 +126,8 @@ fn is_pinned(replies: &[StepReply]) -> bool {
     let [StepReply::Answered(reply)] = replies else {
         return false;
     };
-    let first = Slot {
-        index: 0,
-        generation: 1,
-    };
     match reply.as_reply() {
-        Reply::Pinned(slot) => *slot == first,
+        Reply::Pinned(slot) => *slot == FIRST,
         _ => false,
     }
 }

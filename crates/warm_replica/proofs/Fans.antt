@@ -1,5 +1,5 @@
 -- Jobs one after another, each ended into one pass.
-use Rattle.std.proofs.Common.{◌≡◌, ◌≤◌, ℕ, suc, List, [], ◌∷◌, ◌++◌, length, refl, sym, ap, subst, ◌<◌, arith}
+use Rattle.std.proofs.Common.{◌≡◌, ◌≤◌, ℕ, suc, Bool, false, List, [], ◌∷◌, ◌++◌, length, refl, sym, ap, subst, ◌<◌, arith}
 use Rattle.std.specs.Prelude.{Result, IsErr, OnOk}
 use Rattle.std.proofs.lemmas.List.{length-append}
 use Rattle.std.proofs.lemmas.Result.{IfOk-from_err}
@@ -49,7 +49,8 @@ module _ {X : Type 0} where
   ran_as capacity ss rs v t n h =
       let number : t.number ≡ n = h.3.number in
       let mine : t.mine ≡ h.1 = h.3.mine in
-      (h.0, subst (λ (k : ℕ). AllGave capacity k [] ss rs h.0 t.mine) (sym number) (subst (λ (l : List (Entry Call Reply)). AllGave capacity n [] ss rs h.0 l) (sym mine) h.2))
+      let end : Bool = t.found_last in
+      (end, h.0, subst (λ (k : ℕ). AllGave capacity k false [] ss rs end h.0 t.mine) (sym number) (subst (λ (l : List (Entry Call Reply)). AllGave capacity n false [] ss rs end h.0 l) (sym mine) h.2))
 
   pub none_ended : (capacity : ℕ) (ss : List Step) (rs : List StepReply) (v t : View X Call Reply) (n : ℕ) → JobWent capacity ss rs (new_pass v n) t → t.ended ≡ []
   none_ended capacity ss rs v t n h = h.3.ended

@@ -4,7 +4,8 @@ use Rattle.std.proofs.Math.Nat.{lt_of_not-le}
 use Rattle.warm_stamps.specs.declared.Reference.{Reference}
 use Rattle.warm_refbuffer.specs.declared.Full.{Full as Back}
 use Rattle.warm_refbuffer.specs.Buffered.{Buffered}
-use Rattle.warm_turn.specs.Turns.{Extended, Sight, entry, marked}
+use Rattle.warm_turn.specs.declared.board.View.{View}
+use Rattle.warm_turn.specs.Turns.{Called, Extended, Sight, entry, marked}
 use Rattle.warm_turn.proofs.Passes.{Extended-self, Extended-marked, Extended-called}
 use Rattle.warm_gossip.specs.declared.call.Call.{Call}
 use Rattle.warm_gossip.specs.declared.call.Call.TheVariants.{Absorb}
@@ -15,8 +16,9 @@ use Rattle.warm_replica.specs.declared.fault.FlushFault.{FlushFault}
 use Rattle.warm_replica.specs.declared.fault.FlushFault.TheVariants.{Memory, TurnsSpent}
 use Rattle.warm_replica.specs.declared.job.Step.{Step}
 use Rattle.warm_replica.specs.declared.job.Step.TheVariants.{Touch, Flush, Make}
+use Rattle.warm_replica.specs.declared.job.StepReply.{StepReply}
 use Rattle.warm_replica.specs.declared.job.StepReply.TheVariants.{Touched, Full, Flushed, Failed}
-use Rattle.warm_replica.specs.Jobs.{Gave, StepWent}
+use Rattle.warm_replica.specs.Jobs.{Calls, Gave, StepWent}
 use Rattle.warm_replica.specs.Working.{Working, Flushes, KeepsBatch}
 
 -- a result is not both good and bad
@@ -34,8 +36,18 @@ one_way (Ok z) x y is not = let never : Ok z ≡ Err x = is in absurd (cc)
 one_way (Err z) x y one two = let p : Err z ≡ Err x = one in let q : Err z ≡ Err y = two in cc
 
 module _ {X : Type 0} (v w : Working X Call Reply) (step : Step) where
+  -- what the worker's buffer and mark were and are, where the step was answered so
+  abbrev GaveTo : StepReply → Calls → Step → Type 0
+  GaveTo reply made s = Gave v.buffer.capacity v.pass.view.number v.pass.view.found_last v.buffer.refs s reply w.pass.view.found_last w.buffer.refs made
+
   stays : w.pass ≡ v.pass → Extended v.pass.view [] w.pass.view
   stays same = subst (λ (p : Sight X Call Reply). Extended v.pass.view [] p.view) (sym same) (Extended-self v.pass.view)
+
+  mark_stays : w.pass ≡ v.pass → w.pass.view.found_last ≡ v.pass.view.found_last
+  mark_stays same = ap (λ (p : Sight X Call Reply). p.view.found_last) same
+
+  mark_stands : w.pass.view ≡ marked v.pass.view → w.pass.view.found_last ≡ true
+  mark_stands spent = ap (λ (u : View X Call Reply). u.found_last) spent
 
   pub touched : (r : Reference) (result : Result (Unit {0}) Back) (u : Unit {0}) → step ≡ Touch r → result ≡ Ok u → w.pass ≡ v.pass
       → (length v.buffer.refs < v.buffer.capacity → IsOk result × (w.buffer ≡ record v.buffer { refs = v.buffer.refs ++ r ∷ [] }))
@@ -44,7 +56,7 @@ module _ {X : Type 0} (v w : Working X Call Reply) (step : Step) where
       let some : length v.buffer.refs < v.buffer.capacity = lt_of_not-le (λ all. not_both result u (record { 0 = r }) good (full all).0) in
       let buffer = (taken some).1 in (
         [],
-        subst (λ (s : Step). Gave v.buffer.capacity v.pass.view.number v.buffer.refs s Touched w.buffer.refs []) (sym is) (some, ap (λ (b : Buffered). b.refs) buffer, refl),
+        subst (GaveTo Touched []) (sym is) (some, mark_stays pass, ap (λ (b : Buffered). b.refs) buffer, refl),
         ap (λ (b : Buffered). b.capacity) buffer,
         stays pass,
       )
@@ -58,7 +70,7 @@ module _ {X : Type 0} (v w : Working X Call Reply) (step : Step) where
       let same = (full all).1 in
       let back_is : back.0 ≡ r = ap (λ (b : Back). b.0) (one_way result back (record { 0 = r }) bad (full all).0) in (
         [],
-        subst (λ (s : Step). Gave v.buffer.capacity v.pass.view.number v.buffer.refs s (Full back.0) w.buffer.refs []) (sym is) (all, back_is, ap (λ (b : Buffered). b.refs) same, refl),
+        subst (GaveTo (Full back.0) []) (sym is) (all, back_is, mark_stays pass, ap (λ (b : Buffered). b.refs) same, refl),
         ap (λ (b : Buffered). b.capacity) same,
         stays pass,
       )
@@ -66,8 +78,8 @@ module _ {X : Type 0} (v w : Working X Call Reply) (step : Step) where
   pub was_flushed : (goes : X → Call → Reply → X → Type 0) → step ≡ Flush → Flushes goes v w → StepWent v step Flushed w
   was_flushed goes is flushes = (
     entry v.pass.view.number (Absorb v.buffer.refs) Done ∷ [],
-    subst (λ (s : Step). Gave v.buffer.capacity v.pass.view.number v.buffer.refs s Flushed w.buffer.refs (entry v.pass.view.number (Absorb v.buffer.refs) Done ∷ [])) (sym is)
-        (ap (λ (b : Buffered). b.refs) flushes.empties, refl),
+    subst (GaveTo Flushed (entry v.pass.view.number (Absorb v.buffer.refs) Done ∷ [])) (sym is)
+        (flushes.absorbs.unmarked.0, flushes.absorbs.unmarked.1, ap (λ (b : Buffered). b.refs) flushes.empties, refl),
     ap (λ (b : Buffered). b.capacity) flushes.empties,
     Extended-called goes v.pass.view w.pass.view (Absorb v.buffer.refs) Done flushes.absorbs,
   )
@@ -75,7 +87,7 @@ module _ {X : Type 0} (v w : Working X Call Reply) (step : Step) where
   pub was_kept : (goes : X → Call → Reply → X → Type 0) (fault : FlushFault) → step ≡ Flush → KeepsBatch goes v fault w → StepWent v step (Failed fault) w
   was_kept goes TurnsSpent is kept = (
     [],
-    subst (λ (s : Step). Gave v.buffer.capacity v.pass.view.number v.buffer.refs s (Failed TurnsSpent) w.buffer.refs []) (sym is) (ap (λ (b : Buffered). b.refs) kept.0, refl),
+    subst (GaveTo (Failed TurnsSpent) []) (sym is) (mark_stands kept.1, ap (λ (b : Buffered). b.refs) kept.0, refl),
     ap (λ (b : Buffered). b.capacity) kept.0,
     Extended-marked v.pass.view w.pass.view kept.1,
   )
@@ -83,14 +95,14 @@ module _ {X : Type 0} (v w : Working X Call Reply) (step : Step) where
       ⊎_elim
       (λ same. (
         [],
-        subst (λ (s : Step). Gave v.buffer.capacity v.pass.view.number v.buffer.refs s (Failed Memory) w.buffer.refs []) (sym is) (ap (λ (b : Buffered). b.refs) kept.0, inl refl),
+        subst (GaveTo (Failed Memory) []) (sym is) (ap (λ (b : Buffered). b.refs) kept.0, inl (mark_stays same, refl)),
         ap (λ (b : Buffered). b.capacity) kept.0,
         stays same,
       ))
-      (λ called. (
+      (λ (called : Called goes v.pass.view (Absorb v.buffer.refs) no_memory w.pass.view). (
         entry v.pass.view.number (Absorb v.buffer.refs) no_memory ∷ [],
-        subst (λ (s : Step). Gave v.buffer.capacity v.pass.view.number v.buffer.refs s (Failed Memory) w.buffer.refs (entry v.pass.view.number (Absorb v.buffer.refs) no_memory ∷ [])) (sym is)
-            (ap (λ (b : Buffered). b.refs) kept.0, inr refl),
+        subst (GaveTo (Failed Memory) (entry v.pass.view.number (Absorb v.buffer.refs) no_memory ∷ [])) (sym is)
+            (ap (λ (b : Buffered). b.refs) kept.0, inr (called.unmarked.0, called.unmarked.1, refl)),
         ap (λ (b : Buffered). b.capacity) kept.0,
         Extended-called goes v.pass.view w.pass.view (Absorb v.buffer.refs) no_memory called,
       ))
@@ -99,7 +111,7 @@ module _ {X : Type 0} (v w : Working X Call Reply) (step : Step) where
   pub was_spent : (call : Call) → step ≡ Make call → w.buffer ≡ v.buffer → w.pass.view ≡ marked v.pass.view → StepWent v step (Failed TurnsSpent) w
   was_spent call is same spent = (
     [],
-    subst (λ (s : Step). Gave v.buffer.capacity v.pass.view.number v.buffer.refs s (Failed TurnsSpent) w.buffer.refs []) (sym is) (ap (λ (b : Buffered). b.refs) same, refl),
+    subst (GaveTo (Failed TurnsSpent) []) (sym is) (mark_stands spent, ap (λ (b : Buffered). b.refs) same, refl),
     ap (λ (b : Buffered). b.capacity) same,
     Extended-marked v.pass.view w.pass.view spent,
   )

@@ -1,5 +1,5 @@
 -- What the steps of a job do.
-use Rattle.std.specs.Prelude.{◌≡◌, ◌⊎◌, ℕ, ◌<◌, ◌≤◌, List, [], ◌∷◌, ◌++◌, length}
+use Rattle.std.specs.Prelude.{◌≡◌, ◌⊎◌, ℕ, ◌<◌, ◌≤◌, List, [], ◌∷◌, ◌++◌, length, Bool, true, false}
 use Rattle.std.specs.List.{All}
 use Rattle.warm_stamps.specs.declared.Reference.{Reference}
 use Rattle.warm_refbuffer.specs.Buffered.{IsCapacity}
@@ -25,46 +25,51 @@ use Rattle.warm_replica.specs.Working.{Working}
 abbrev pub Calls : Type 0
 Calls = List (Entry Call Reply)
 
--- What a step answers, where a buffer of this capacity holds these references: what it holds then, and the calls of the pass of number n that the step made
-abbrev pub Gave : (capacity n : ℕ) → List Reference → Step → StepReply → List Reference → Calls → Type 0
-Gave capacity n held (Touch r) Touched held' made = (length held < capacity) × (held' ≡ held ++ r ∷ []) × (made ≡ [])
-Gave capacity n held (Touch r) (Full q) held' made = (capacity ≤ length held) × (q ≡ r) × (held' ≡ held) × (made ≡ [])
-Gave capacity n held Flush Flushed held' made = (held' ≡ []) × (made ≡ entry n (Absorb held) Done ∷ [])
-Gave capacity n held Flush (Failed Memory) held' made = (held' ≡ held) × ((made ≡ []) ⊎ (made ≡ entry n (Absorb held) no_memory ∷ []))
-Gave capacity n held Flush (Failed TurnsSpent) held' made = (held' ≡ held) × (made ≡ [])
-Gave capacity n held (Make call) (Answered reply) held' made = (held' ≡ held) × (made ≡ entry n call reply ∷ [])
-Gave capacity n held (Make call) (Failed TurnsSpent) held' made = (held' ≡ held) × (made ≡ [])
-Gave capacity n held step reply held' made = ⊥
+-- What a step answers, where a buffer of this capacity holds these references, and the pass of number n has its mark or not: whether it has it then, what the buffer
+-- holds then, and the calls of the pass that the step made. A pass with its mark is never answered again
+abbrev pub Gave : (capacity n : ℕ) → Bool → List Reference → Step → StepReply → Bool → List Reference → Calls → Type 0
+Gave capacity n spent held (Touch r) Touched after held' made = (length held < capacity) × (after ≡ spent) × (held' ≡ held ++ r ∷ []) × (made ≡ [])
+Gave capacity n spent held (Touch r) (Full q) after held' made = (capacity ≤ length held) × (q ≡ r) × (after ≡ spent) × (held' ≡ held) × (made ≡ [])
+Gave capacity n spent held Flush Flushed after held' made = (spent ≡ false) × (after ≡ false) × (held' ≡ []) × (made ≡ entry n (Absorb held) Done ∷ [])
+Gave capacity n spent held Flush (Failed Memory) after held' made =
+    (held' ≡ held) × (((after ≡ spent) × (made ≡ [])) ⊎ ((spent ≡ false) × (after ≡ false) × (made ≡ entry n (Absorb held) no_memory ∷ [])))
+Gave capacity n spent held Flush (Failed TurnsSpent) after held' made = (after ≡ true) × (held' ≡ held) × (made ≡ [])
+Gave capacity n spent held (Make call) (Answered reply) after held' made = (spent ≡ false) × (after ≡ false) × (held' ≡ held) × (made ≡ entry n call reply ∷ [])
+Gave capacity n spent held (Make call) (Failed TurnsSpent) after held' made = (after ≡ true) × (held' ≡ held) × (made ≡ [])
+Gave capacity n spent held step reply after held' made = ⊥
 
 -- the same of steps one after another
-abbrev pub AllGave : (capacity n : ℕ) → List Reference → List Step → List StepReply → List Reference → Calls → Type 0
-AllGave capacity n held [] [] held' made = (held ≡ held') × (made ≡ [])
-AllGave capacity n held (s ∷ ss) (r ∷ rs) held' made =
-    (mid : List Reference) × (one : Calls) × (rest : Calls) × Gave capacity n held s r mid one × (made ≡ one ++ rest) × AllGave capacity n mid ss rs held' rest
-AllGave capacity n held [] (r ∷ rs) held' made = ⊥
-AllGave capacity n held (s ∷ ss) [] held' made = ⊥
+abbrev pub AllGave : (capacity n : ℕ) → Bool → List Reference → List Step → List StepReply → Bool → List Reference → Calls → Type 0
+AllGave capacity n spent held [] [] after held' made = (after ≡ spent) × (held' ≡ held) × (made ≡ [])
+AllGave capacity n spent held (s ∷ ss) (r ∷ rs) after held' made =
+    (between : Bool) × (mid : List Reference) × (one : Calls) × (rest : Calls)
+    × Gave capacity n spent held s r between mid one × (made ≡ one ++ rest) × AllGave capacity n between mid ss rs after held' rest
+AllGave capacity n spent held [] (r ∷ rs) after held' made = ⊥
+AllGave capacity n spent held (s ∷ ss) [] after held' made = ⊥
 
 module _ {X : Type 0} where
   -- a worker took these steps, answered so
   abbrev pub StepsWent : Working X Call Reply → List Step → List StepReply → Working X Call Reply → Type 0
   StepsWent old steps replies new =
-      (made : Calls) × AllGave old.buffer.capacity old.pass.view.number old.buffer.refs steps replies new.buffer.refs made
+      (made : Calls)
+      × AllGave old.buffer.capacity old.pass.view.number old.pass.view.found_last old.buffer.refs steps replies new.pass.view.found_last new.buffer.refs made
       × (new.buffer.capacity ≡ old.buffer.capacity) × Extended old.pass.view made new.pass.view
 
   -- one of them
   abbrev pub StepWent : Working X Call Reply → Step → StepReply → Working X Call Reply → Type 0
   StepWent old step reply new =
-      (made : Calls) × Gave old.buffer.capacity old.pass.view.number old.buffer.refs step reply new.buffer.refs made
+      (made : Calls)
+      × Gave old.buffer.capacity old.pass.view.number old.pass.view.found_last old.buffer.refs step reply new.pass.view.found_last new.buffer.refs made
       × (new.buffer.capacity ≡ old.buffer.capacity) × Extended old.pass.view made new.pass.view
 
   -- a job went, from an empty buffer of this capacity on
   abbrev pub JobWent : ℕ → List Step → List StepReply → View X Call Reply → View X Call Reply → Type 0
   JobWent capacity steps replies v w =
-      (held : List Reference) × (made : Calls) × AllGave capacity v.number [] steps replies held made × Extended v made w
+      (held : List Reference) × (made : Calls) × AllGave capacity v.number v.found_last [] steps replies w.found_last held made × Extended v made w
 
--- the calls of an ended pass are those of a job that was answered so
+-- the calls of an ended pass, which began without a mark, are those of a job that was answered so
 abbrev pub WentAs : ℕ → List Step → List StepReply → Ended Call Reply → Type 0
-WentAs capacity steps replies e = (held : List Reference) × AllGave capacity e.number [] steps replies held e.calls
+WentAs capacity steps replies e = (after : Bool) × (held : List Reference) × AllGave capacity e.number false [] steps replies after held e.calls
 
 abbrev pub JobWentAs : Job → Replied → Ended Call Reply → Type 0
 JobWentAs job replies e = WentAs job.capacity job.steps.items replies.items e

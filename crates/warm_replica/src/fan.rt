@@ -215,8 +215,9 @@ fn run_ready<M: Absorbing + Send, R: Threads + Wait + Sync, G: Gate + Sync>(
 /// Runs each job in a thread of its own, and ends their passes into this one. At most [`MAX_JOBS`] at a time. The replies come in the
 /// order of the jobs, one for each step. What a job's buffer holds after its last step is given up.
 ///
-/// Each job's part of the history is just its flushes and calls, in order, with the replies that its steps gave. The pass makes no
-/// call of its own. The gate is called round each step, by the job's own thread.
+/// Each job's part of the history is just its flushes and calls, in order, with the replies that its steps gave. A step is answered
+/// `TurnsSpent` only where its job found no ticket left, and no later flush or call of the job is served then. The pass makes no call
+/// of its own. The gate is called round each step, by the job's own thread.
 ///
 /// # Errors
 /// - `BadCapacity`: a job wants a buffer of a capacity outside 1 to [`warm_refbuffer::MAX_CAPACITY`]. Nothing has happened.

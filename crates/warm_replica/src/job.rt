@@ -35,7 +35,8 @@ pub enum StepReply {
     Flushed,
     /// The reply to the call.
     Answered(BoxedReply),
-    /// The flush was refused, or no ticket was left for the call.
+    /// The flush was refused, or no ticket was left for the call. Where none was left, there is none for a later flush or call of the
+    /// job.
     Failed(FlushFault),
 }
 
