@@ -1,15 +1,18 @@
-/* Comes before the allocator of a program (LD_PRELOAD) and refuses some of its allocations. By the environment:
+/* Comes before the allocator of a program (LD_PRELOAD), refuses some of its allocations, and says how large each is. By the environment:
  *
  * REFUSE_FIRST, REFUSE_LAST: the first and the last allocation that is refused, counted from 1.
  * REFUSE_NOTE: a descriptor to which a byte is written where the first of them is refused.
+ * REFUSE_SIZES: a descriptor to which a line is written for each allocation, 'allocation BYTES'. Of a block that is made larger it has
+ * the bytes that are added. Where it is that of standard output, the lines stand between those of the program, in order.
  *
- * It is compiled by the toolchain's own clang, without headers (scripts/growths.py).
+ * It is compiled by the toolchain's own clang, without headers (scripts/allocations.py).
  */
 typedef unsigned long size;
 
 extern char *getenv(const char *name);
 extern long write(int fd, const void *bytes, size count);
 extern int *__errno_location(void);
+extern size malloc_usable_size(void *block);
 extern void *__libc_malloc(size bytes);
 extern void *__libc_calloc(size count, size bytes);
 extern void *__libc_realloc(void *old, size bytes);
@@ -17,8 +20,8 @@ extern void *__libc_memalign(size alignment, size bytes);
 
 static const int NO_MEMORY = 12; /* ENOMEM */
 
-static size first, last, growths;
-static int note = -1;
+static size first, last, allocations;
+static int note = -1, sizes = -1;
 
 static size number(const char *name) {
     const char *text = getenv(name);
@@ -32,15 +35,30 @@ static size number(const char *name) {
 __attribute__((constructor)) static void begin(void) {
     if (getenv("REFUSE_NOTE"))
         note = (int)number("REFUSE_NOTE");
+    if (getenv("REFUSE_SIZES"))
+        sizes = (int)number("REFUSE_SIZES");
     last = number("REFUSE_LAST");
     first = number("REFUSE_FIRST");
 }
 
+/* Writes the line of an allocation. */
+static void note_size(size bytes) {
+    char line[] = "allocation 00000000000000000000\n";
+    char *digit = line + sizeof line - 2;
+    if (sizes < 0)
+        return;
+    for (; bytes; bytes /= 10)
+        *--digit = (char)('0' + bytes % 10);
+    if (write(sizes, line, sizeof line - 1) != sizeof line - 1)
+        sizes = -1;
+}
+
 /* Whether the next allocation is refused, with its reason where the C library looks for it. Threads may ask at the same time. */
-static int is_refused(void) {
+static int is_refused(size bytes) {
+    note_size(bytes);
     if (first == 0)
         return 0;
-    size place = __atomic_add_fetch(&growths, 1, __ATOMIC_SEQ_CST);
+    size place = __atomic_add_fetch(&allocations, 1, __ATOMIC_SEQ_CST);
     if (place < first || last < place)
         return 0;
     if (place == first && note >= 0 && write(note, "r", 1) != 1)
@@ -49,20 +67,26 @@ static int is_refused(void) {
     return 1;
 }
 
+/* How many bytes are added to a block. */
+static size added(void *old, size bytes) {
+    size held = old ? malloc_usable_size(old) : 0;
+    return held < bytes ? bytes - held : 0;
+}
+
 void *malloc(size bytes) {
-    return is_refused() ? 0 : __libc_malloc(bytes);
+    return is_refused(bytes) ? 0 : __libc_malloc(bytes);
 }
 
 void *calloc(size count, size bytes) {
-    return is_refused() ? 0 : __libc_calloc(count, bytes);
+    return is_refused(count * bytes) ? 0 : __libc_calloc(count, bytes);
 }
 
 void *realloc(void *old, size bytes) {
-    return is_refused() ? 0 : __libc_realloc(old, bytes);
+    return is_refused(added(old, bytes)) ? 0 : __libc_realloc(old, bytes);
 }
 
 void *memalign(size alignment, size bytes) {
-    return is_refused() ? 0 : __libc_memalign(alignment, bytes);
+    return is_refused(bytes) ? 0 : __libc_memalign(alignment, bytes);
 }
 
 void *aligned_alloc(size alignment, size bytes) {

@@ -1,7 +1,8 @@
 //! A node's calls that take no memory, and those of a buffer and a contest.
 
-use refused_rows::{Ended, Met};
+use refused_rows::{Ended, Met, takes_none};
 use std::alloc::Global;
+use std::io::Print;
 use warm_devices::MemDevice;
 use warm_gossip::{Call, Node, Reply};
 use warm_history::{History, PageHist};
@@ -10,14 +11,18 @@ use warm_rank::{Contest, key_of};
 use warm_refbuffer::RefBuffer;
 use warm_stamps::{ByteList, PageId, Reference, ReplicaId, Stamp};
 
-// A node of one frame over the device, which knows of 0:1 and 0:2.
-pub(crate) fn opened(alloc: Global, device: MemDevice) -> Result<Node<MemDevice>, Ended> {
+// A node of some frames over the device, which knows of 0:1 and 0:2.
+pub(crate) fn opened(
+    alloc: Global,
+    device: MemDevice,
+    frames: usize,
+) -> Result<Node<MemDevice>, Ended> {
     let Ok(id) = ReplicaId::new(1) else {
         return Err(Ended::Broken);
     };
     let mut devices = Vec::with_capacity(alloc, 1)?;
     devices.push_reserved(device);
-    let Ok(pool) = Pool::new(alloc, 1, 16, devices) else {
+    let Ok(pool) = Pool::new(alloc, frames, 16, devices) else {
         return Err(Ended::NoMemory);
     };
     let mut node = Node::new(alloc, id, pool);
@@ -35,7 +40,7 @@ fn reference(replica: ReplicaId, no: u64) -> Reference {
     }
 }
 
-fn is_pinned(node: &mut Node<MemDevice>, no: u64, generation: u64) -> bool {
+pub(crate) fn is_pinned(node: &mut Node<MemDevice>, no: u64, generation: u64) -> bool {
     let page = PageId { dev: 0, no };
     let slot = Slot {
         index: 0,
@@ -57,25 +62,56 @@ fn is_raised(node: &mut Node<MemDevice>, time: u64) -> bool {
     matches!(kept, Reply::Kept(horizon) if horizon == time) && node.raise(0) == time
 }
 
-// A page is pinned, written to and unpinned; another takes its place; the horizon rises past one of them, and the node restarts.
-pub(crate) fn rows(
+// A page is pinned twice, written to, read and unpinned twice.
+fn pinned<P: Print>(
+    rt: &P,
     met: &mut Met,
     node: &mut Node<MemDevice>,
     bytes: ByteList,
 ) -> Result<(), Ended> {
+    takes_none(rt, "pin of a page in no frame")?;
     met.holds(is_pinned(node, 1, 1), "a pin is refused")?;
+    takes_none(rt, "pin of a page in a frame")?;
+    met.holds(is_pinned(node, 1, 1), "a second pin is refused")?;
     let slot = Slot {
         index: 0,
         generation: 1,
     };
-    let written = node.call(Call::Write { slot, at: 3, bytes });
-    met.holds(matches!(written, Reply::Done), "a write is refused")?;
+    let call = Call::Write { slot, at: 3, bytes };
+    takes_none(rt, "write")?;
+    met.holds(matches!(node.call(call), Reply::Done), "a write is refused")?;
+    let mut into = [0u8; 4];
+    takes_none(rt, "read into a buffer")?;
+    met.holds(
+        node.pool().read(slot, 3, &mut into).is_ok(),
+        "a read is refused",
+    )?;
+    takes_none(rt, "unpin of a page with two fixes")?;
     met.holds(is_unpinned(node, 1), "an unpin is refused")?;
+    takes_none(rt, "unpin of a page with one fix")?;
+    met.holds(is_unpinned(node, 1), "a second unpin is refused")
+}
+
+// A page is pinned, written to and unpinned; another takes its place; the horizon rises past one of them, and the node restarts.
+pub(crate) fn rows<P: Print>(
+    rt: &P,
+    met: &mut Met,
+    node: &mut Node<MemDevice>,
+    bytes: ByteList,
+) -> Result<(), Ended> {
+    pinned(rt, met, node, bytes)?;
+    takes_none(rt, "victim")?;
     let left = node.call(Call::Victim);
     met.holds(matches!(left, Reply::Page(Some(_))), "a victim is refused")?;
+    takes_none(rt, "pin over a dirty page")?;
     met.holds(is_pinned(node, 2, 2), "a pin over a dirty page is refused")?;
+    takes_none(rt, "unpin")?;
     met.holds(is_unpinned(node, 2), "an unpin is refused")?;
+    takes_none(rt, "unpin of a stale slot")?;
+    met.holds(!is_unpinned(node, 1), "a stale slot is unpinned")?;
+    takes_none(rt, "horizon")?;
     met.holds(is_raised(node, 2), "a horizon is refused")?;
+    takes_none(rt, "restart")?;
     let ended = node.call(Call::Restart);
     met.holds(matches!(ended, Reply::Done), "a restart is refused")
 }
@@ -109,30 +145,66 @@ impl Made {
     }
 
     // Touches up to the buffer's capacity, reads of the history, ranks, and a raise of the history's horizon.
-    pub(crate) fn rows(self, met: &mut Met) -> Result<(), Ended> {
+    pub(crate) fn rows<P: Print>(self, rt: &P, met: &mut Met) -> Result<(), Ended> {
         let Made {
             replica,
-            mut buffer,
+            buffer,
             contest: _,
-            mut history,
+            history,
         } = self;
-        let first = reference(replica, 1);
-        let touched = buffer.touch(first).is_ok() && buffer.touch(first).is_ok();
-        met.holds(touched && buffer.is_full(), "a touch is refused")?;
-        buffer.clear();
-        met.holds(
-            buffer.touch(first).is_ok(),
-            "a touch of an emptied buffer is refused",
-        )?;
-        let known = Some(PageHist::Once(first.stamp));
-        met.holds(history.get(first.page) == known, "a history forgets")?;
-        let key = key_of(first.page, known);
-        met.holds(key.page() == first.page, "a key is of its page")?;
-        history.raise(2);
-        let forgets = history.horizon() == 2 && history.get(first.page) == None;
-        met.holds(
-            forgets,
-            "a history remembers what is older than its horizon",
-        )
+        touched(rt, met, buffer, replica)?;
+        remembered(rt, met, history, replica)
     }
+}
+
+// Touches of a buffer of two up to its capacity, and one more after it is emptied.
+fn touched<P: Print>(
+    rt: &P,
+    met: &mut Met,
+    mut buffer: RefBuffer,
+    replica: ReplicaId,
+) -> Result<(), Ended> {
+    let first = reference(replica, 1);
+    takes_none(rt, "touch")?;
+    met.holds(buffer.touch(first).is_ok(), "a touch is refused")?;
+    takes_none(rt, "touch up to the capacity")?;
+    let touched = buffer.touch(first).is_ok();
+    met.holds(touched && buffer.is_full(), "a second touch is refused")?;
+    takes_none(rt, "clear")?;
+    buffer.clear();
+    takes_none(rt, "touch of an emptied buffer")?;
+    met.holds(
+        buffer.touch(first).is_ok(),
+        "a touch of an emptied buffer is refused",
+    )
+}
+
+// Reads of a history of one page, its rank, and a raise of the horizon past its stamp.
+fn remembered<P: Print>(
+    rt: &P,
+    met: &mut Met,
+    mut history: History,
+    replica: ReplicaId,
+) -> Result<(), Ended> {
+    let first = reference(replica, 1);
+    let known = Some(PageHist::Once(first.stamp));
+    takes_none(rt, "get")?;
+    met.holds(history.get(first.page) == known, "a history forgets")?;
+    takes_none(rt, "at")?;
+    met.holds(history.at(0).is_some(), "a history has no entry")?;
+    takes_none(rt, "unordered")?;
+    met.holds(
+        history.unordered().next().is_some(),
+        "a history goes over no entry",
+    )?;
+    takes_none(rt, "key_of")?;
+    let key = key_of(first.page, known);
+    met.holds(key.page() == first.page, "a key is of its page")?;
+    takes_none(rt, "raise")?;
+    history.raise(2);
+    let forgets = history.horizon() == 2 && history.get(first.page) == None;
+    met.holds(
+        forgets,
+        "a history remembers what is older than its horizon",
+    )
 }

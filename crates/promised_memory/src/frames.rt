@@ -1,6 +1,7 @@
 //! Frames whose reading takes no memory.
-use refused_rows::{Ended, Met};
+use refused_rows::{Ended, Met, takes_none};
 use std::alloc::Global;
+use std::io::Print;
 use warm_frames::{Message, decode};
 
 // Sender 3 says nothing, and has horizon 5.
@@ -40,25 +41,31 @@ fn is_digests(alloc: Global, bytes: &[u8], since: u64) -> bool {
     matches!(decode(alloc, bytes), Ok(Message::Digest { horizon, .. }) if horizon == since)
 }
 
-fn narrow(met: &mut Met, alloc: Global) -> Result<(), Ended> {
+fn narrow<P: Print>(rt: &P, met: &mut Met, alloc: Global) -> Result<(), Ended> {
+    takes_none(rt, "decode of no narrow entries")?;
     met.holds(
         is_nothing(alloc, &NARROW_NOTHING, 0),
         "no narrow entries are refused",
     )?;
+    takes_none(rt, "decode of a narrow request")?;
     met.holds(
         is_request(alloc, &NARROW_REQUEST, 0),
         "a narrow request is refused",
     )?;
     let mut bytes = [7u8; 2059];
     bytes[..11].copy_from_slice(&NARROW_DIGESTS);
+    takes_none(rt, "decode of narrow digests")?;
     met.holds(is_digests(alloc, &bytes, 0), "narrow digests are refused")
 }
 
-pub(crate) fn rows(met: &mut Met, alloc: Global) -> Result<(), Ended> {
+pub(crate) fn rows<P: Print>(rt: &P, met: &mut Met, alloc: Global) -> Result<(), Ended> {
+    takes_none(rt, "decode of no entries")?;
     met.holds(is_nothing(alloc, &NOTHING, 5), "no entries are refused")?;
+    takes_none(rt, "decode of a request")?;
     met.holds(is_request(alloc, &REQUEST, 5), "a request is refused")?;
     let mut bytes = [7u8; 2067];
     bytes[..19].copy_from_slice(&DIGESTS);
+    takes_none(rt, "decode of digests")?;
     met.holds(is_digests(alloc, &bytes, 5), "digests are refused")?;
-    narrow(met, alloc)
+    narrow(rt, met, alloc)
 }

@@ -1,6 +1,7 @@
 //! Lines of a schedule whose parsing takes no memory: all but `put`.
-use refused_rows::{Ended, Met};
+use refused_rows::{Ended, Met, takes_none};
 use std::alloc::Global;
+use std::io::Print;
 use warm_schedule::{LineFault, parse_line};
 
 const LINES: [&str; 18] = [
@@ -24,13 +25,15 @@ const LINES: [&str; 18] = [
     "show 1",
 ];
 
-pub(crate) fn rows(met: &mut Met, alloc: Global) -> Result<(), Ended> {
+pub(crate) fn rows<P: Print>(rt: &P, met: &mut Met, alloc: Global) -> Result<(), Ended> {
     for line in LINES {
+        takes_none(rt, "parse_line")?;
         met.holds(
             parse_line(alloc, line.as_bytes()).is_ok(),
             "a line is refused",
         )?;
     }
+    takes_none(rt, "parse_line of a bad line")?;
     let bad = matches!(parse_line(alloc, b"put 1 2.3 4 5"), Err(LineFault::Bad));
     met.holds(bad, "half a pair of digits is no byte")
 }

@@ -1,34 +1,43 @@
-//! Calls that take no memory, each asked for after what it needs was made.
+//! Calls whose memory is promised: none, or what their results need.
 //!
-//! `scripts/refuse-growths` runs this with all allocations refused from the first, second, .. on: where there was memory for what the
-//! calls need, none of them may be refused.
+//! `scripts/refuse-allocations` runs this twice. First it counts the allocations between the lines that are printed here, and compares what
+//! each call takes with its bound. Then it refuses all allocations from the first call on that takes no memory, and none may be refused:
+//! all that these calls need is made before them.
 #![tactic(auto)]
 
 mod calls;
 mod frames;
+mod kept;
 mod lines;
+mod sizes;
 
 use crate::calls::Made;
-use refused_rows::{Ended, Met, report};
+use crate::kept::Kept;
+use refused_rows::{Ended, Met, is_done, report};
 use std::alloc::Global;
+use std::io::Print;
 use std::process::ExitCode;
 use warm_devices::MemDevice;
 use warm_stamps::ByteList;
 
-fn play(met: &mut Met, alloc: Global) -> Result<(), Ended> {
-    let mut node = calls::opened(alloc, MemDevice::new(alloc, 8, 16)?)?;
+fn play<P: Print>(rt: &P, met: &mut Met, alloc: Global) -> Result<(), Ended> {
+    sizes::rows(rt, met, alloc)?;
+    let kept = Kept::new(rt, alloc)?;
+    let mut node = calls::opened(alloc, MemDevice::new(alloc, 8, 16)?, 1)?;
     let mut bytes = Vec::new(alloc);
     bytes.extend_from_slice(b"warm")?;
     let made = Made::new(alloc)?;
     // from here on nothing is allocated
-    calls::rows(met, &mut node, ByteList::of(bytes))?;
-    made.rows(met)?;
-    frames::rows(met, alloc)?;
-    lines::rows(met, alloc)
+    calls::rows(rt, met, &mut node, ByteList::of(bytes))?;
+    made.rows(rt, met)?;
+    kept.rows(rt, met)?;
+    frames::rows(rt, met, alloc)?;
+    lines::rows(rt, met, alloc)?;
+    is_done(rt)
 }
 
 fn main(rt: HostRuntime) -> ExitCode {
     let mut met = Met::new();
-    let ended = play(&mut met, rt.alloc());
+    let ended = play(&rt, &mut met, rt.alloc());
     report(&rt, &met, ended)
 }

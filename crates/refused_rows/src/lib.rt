@@ -1,10 +1,11 @@
 //! Rows of calls that may be refused for memory: how a row ends, and what was met on the way.
 //!
-//! The programs of such rows (`refused_memory`, `refused_worlds`, `promised_memory`) are run by `scripts/refuse-growths`, which
-//! refuses each allocation in turn, and reads the one line that [`report`] prints.
+//! The programs of such rows (`refused_memory`, `refused_worlds`, `promised_memory`) are run by `scripts/refuse-allocations`, which
+//! makes each allocation fail in turn, and reads the last line, which [`report`] prints. Where the allocations of a call are counted, the
+//! lines of [`takes_none`], [`takes`] and [`is_done`] say which call it is.
 #![tactic(auto)]
 
-ghost use Rattle.std.specs.Prelude.{◌≡◌, Ok, Err, if◌then◌else◌};
+ghost use Rattle.std.specs.Prelude.{◌≡◌, Ok, Err, OnOk, OnErr, if◌then◌else◌};
 ghost use Rattle.refused_rows.specs.declared.Ended.TheVariants.{NoMemory, Broken};
 
 use std::alloc::AllocError;
@@ -72,6 +73,39 @@ impl Met {
         self.count();
         self.holds(is_as_before, what)
     }
+}
+
+// A row whose line could not be printed ends.
+fn printed(line: io::Result<()>) -> Result<(), Ended>
+    ensures ok { OnOk line (result ≡ Ok tt) }
+    ensures err { OnErr line (result ≡ Err Broken) }
+{
+    match line {
+        Ok(()) => Ok(()),
+        Err(_) => Err(Ended::Broken),
+    }
+}
+
+/// Prints the name of the call that comes next, which takes no memory. What is allocated up to the next line is of that call.
+///
+/// `Broken` occurs where nothing could be printed.
+pub fn takes_none<P: Print>(rt: &P, call: &str) -> Result<(), Ended> {
+    printed(println!(rt; "takes no memory: {call}"))
+}
+
+/// Prints the name of the call that comes next, which takes memory, and the size of what it works on, of which a bound of that memory is
+/// computed. What is allocated up to the next line is of that call.
+///
+/// `Broken` occurs where nothing could be printed.
+pub fn takes<P: Print>(rt: &P, size: usize, call: &str) -> Result<(), Ended> {
+    printed(println!(rt; "takes memory for {size}: {call}"))
+}
+
+/// Prints that the last call has returned. What is allocated after it prepares the next call, and is not counted.
+///
+/// `Broken` occurs where nothing could be printed.
+pub fn is_done<P: Print>(rt: &P) -> Result<(), Ended> {
+    printed(println!(rt; "done"))
 }
 
 // Prints how the rows ended.

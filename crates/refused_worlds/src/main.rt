@@ -1,6 +1,6 @@
 //! Rows of calls of worlds, files, setups and command lines that may be refused for memory.
 //!
-//! `scripts/refuse-growths` runs this with each allocation refused in turn, as it does `refused_memory`, which has the rows of what
+//! `scripts/refuse-allocations` runs this with each allocation refused in turn, as it does `refused_memory`, which has the rows of what
 //! is below a world. A call that is refused has to leave what can be seen as it was, or to give back what it took, and is asked for
 //! once more, which has to succeed. What is printed says how many calls were refused; or that a row had no memory for what it needs
 //! before its call, and ended.

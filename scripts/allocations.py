@@ -1,4 +1,4 @@
-"""Runs a program of which some allocations fail, or with little address space."""
+"""Runs a program of which some allocations fail or all are counted, or with little address space."""
 import os
 import resource
 import subprocess
@@ -30,7 +30,7 @@ class Ended:
 
 
 class Refuser:
-    """Refuses allocations by a library in front of the C library's allocator. The toolchain's clang compiles it."""
+    """Refuses and counts allocations by a library in front of the C library's allocator. The toolchain's clang compiles it."""
 
     def __init__(self, folder):
         page = subprocess.run(["rt", "doc"], check=True, capture_output=True, text=True).stdout.strip()
@@ -58,6 +58,18 @@ class Refuser:
             with os.fdopen(reads, "rb") as notes:
                 is_refused = notes.read() != b""
         return Ended(ran.returncode, ran.stdout, ran.stderr, is_refused)
+
+    def count(self, words, folder=None):
+        """Runs the words in the folder, with a line 'allocation BYTES' among those that it prints for each allocation."""
+        ran = subprocess.run(
+            words,
+            input=b"",
+            capture_output=True,
+            cwd=folder,
+            env={"LD_PRELOAD": self.library, "REFUSE_SIZES": "1"},
+            timeout=LIMIT,
+        )
+        return Ended(ran.returncode, ran.stdout, ran.stderr)
 
 
 def within(words, space, sent=b"", folder=None):

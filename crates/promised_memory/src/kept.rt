@@ -1,0 +1,104 @@
+//! Calls whose result is kept: the first takes memory, and the second, with no news since, none.
+
+use crate::calls::opened;
+use refused_rows::{Ended, Met, is_done, takes, takes_none};
+use std::alloc::Global;
+use std::io::Print;
+use warm_devices::MemDevice;
+use warm_digest::{DigestedHistory, Digests};
+use warm_gossip::{Call, Node, Reply};
+use warm_history::History;
+use warm_stamps::{PageId, Reference, ReplicaId, Stamp};
+
+// How many frames the node has. It knows as many pages.
+const FRAMES: usize = 2;
+
+// A node that has offered its digests and taken one step of its warm-up, and a history whose digests were taken.
+#[derive(Drop)]
+pub(crate) struct Kept {
+    node: Node<MemDevice>,
+    history: DigestedHistory,
+    digests: Digests,
+}
+
+fn is_offered(node: &mut Node<MemDevice>) -> bool {
+    matches!(node.call(Call::Offer), Reply::Sent(_))
+}
+
+// Whether a step of the warm-up loads page `no` of device 0, or none.
+fn is_loaded(node: &mut Node<MemDevice>, no: Option<u64>) -> bool {
+    let page = match no {
+        Some(no) => Some(PageId { dev: 0, no }),
+        None => None,
+    };
+    matches!(node.call(Call::WarmStep), Reply::Loaded(found) if found == page)
+}
+
+fn taken_once(history: &mut DigestedHistory) -> Result<(), Ended> {
+    let replica = match ReplicaId::new(1) {
+        Ok(replica) => replica,
+        Err(_) => return Err(Ended::Broken),
+    };
+    history.absorb(&[Reference {
+        page: PageId { dev: 0, no: 1 },
+        stamp: Stamp { time: 1, replica },
+    }])?;
+    Ok(())
+}
+
+fn digested<P: Print>(rt: &P, alloc: Global) -> Result<DigestedHistory, Ended> {
+    let mut history = DigestedHistory::new(alloc);
+    taken_once(&mut history)?;
+    takes(rt, 1, "digests")?;
+    let _first = history.digests()?;
+    is_done(rt)?;
+    Ok(history)
+}
+
+impl Kept {
+    pub(crate) fn new<P: Print>(rt: &P, alloc: Global) -> Result<Kept, Ended> {
+        let mut node = opened(alloc, MemDevice::new(alloc, 8, 16)?, FRAMES)?;
+        takes(rt, FRAMES, "offer")?;
+        if !is_offered(&mut node) {
+            return Err(Ended::NoMemory);
+        }
+        takes(rt, FRAMES, "warm_step")?;
+        if !is_loaded(&mut node, Some(2)) {
+            return Err(Ended::NoMemory);
+        }
+        is_done(rt)?;
+        let history = digested(rt, alloc)?;
+        Ok(Kept {
+            node,
+            history,
+            digests: Digests::new(alloc),
+        })
+    }
+
+    // The second call of each, with no news since the first.
+    pub(crate) fn rows<P: Print>(self, rt: &P, met: &mut Met) -> Result<(), Ended> {
+        let Kept {
+            mut node,
+            mut history,
+            mut digests,
+        } = self;
+        takes_none(rt, "second offer")?;
+        met.holds(is_offered(&mut node), "an offer without news is refused")?;
+        takes_none(rt, "second warm_step")?;
+        met.holds(is_loaded(&mut node, Some(1)), "a step of a list is refused")?;
+        takes_none(rt, "warm_step with nothing to load")?;
+        met.holds(is_loaded(&mut node, None), "the last step is refused")?;
+        takes_none(rt, "second digests")?;
+        met.holds(history.digests().is_ok(), "kept digests are refused")?;
+        takes_none(rt, "digests_since at the same horizon")?;
+        met.holds(
+            history.digests_since(0).is_ok(),
+            "kept digests at the same horizon are refused",
+        )?;
+        takes_none(rt, "renew of no bucket")?;
+        met.holds(
+            digests.renew(history.history(), 0).is_ok(),
+            "a renewal of nothing is refused",
+        )
+    }
+}
