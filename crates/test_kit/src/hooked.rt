@@ -9,6 +9,9 @@ pub trait Hooks: Drop {
     /// A page is about to be read. The device passes the call on when this returns.
     fn before_read(&self);
 
+    /// A page is about to be written, whether that will be refused or not.
+    fn before_write(&self) {}
+
     /// The drop of the device has begun: whether something waits for a flush. Nothing was settled yet.
     fn at_drop(&self, waiting: bool);
 
@@ -16,7 +19,7 @@ pub trait Hooks: Drop {
     fn page_at_drop(&self, no: u64, bytes: &[u8]);
 }
 
-/// A device in memory that passes each call on, and calls its hooks before a read and as its drop begins.
+/// A device in memory that passes each call on, and calls its hooks before a read or a write and as its drop begins.
 pub struct Hooked<H: Hooks> {
     inner: MemDevice,
     hooks: H,
@@ -66,6 +69,7 @@ impl<H: Hooks> PageDevice for Hooked<H> {
     }
 
     fn write(&mut self, no: u64, bytes: &[u8]) -> Result<(), DeviceFault> {
+        self.hooks.before_write();
         self.inner.write(no, bytes)
     }
 

@@ -1,10 +1,15 @@
-//! Hooks that note what the drop of a device finds.
+//! Hooks that note what the drop of a device finds, and how often a device is written to and dropped.
 //!
 //! No contract can say what becomes of a box that leaves: a test reads the [`Note`].
-use crate::Hooks;
+ghost use Rattle.std.specs.Prelude.{◌≡◌, IfOk};
+ghost use Rattle.test_kit.specs.HookedParts.{hooked_state};
+ghost use Rattle.warm_devices.specs.Device.{zeroed};
+
+use crate::{Hooked, Hooks};
 use std::alloc::{AllocError, Global};
 use std::sync::Arc;
-use std::sync::atomic::{AtomicU8, Ordering};
+use std::sync::atomic::{AtomicU8, AtomicU64, Ordering};
+use warm_devices::MemDevice;
 
 /// What a drop found waiting.
 #[derive(Clone, Copy, PartialEq, Eq, Debug)]
@@ -17,10 +22,12 @@ pub enum Found {
     Waiting,
 }
 
-/// What a device held as its drop began. It outlives the device.
+/// What a device held as its drop began, and how often it was written to and dropped. It outlives the device.
 #[derive(Drop)]
 pub struct Note {
     found: AtomicU8,
+    writes: AtomicU64,
+    drops: AtomicU64,
     pages: Vec<Vec<AtomicU8>>,
 }
 
@@ -44,6 +51,8 @@ impl Note {
         }
         let note = Note {
             found: AtomicU8::new(0),
+            writes: AtomicU64::new(0),
+            drops: AtomicU64::new(0),
             pages: all,
         };
         Ok(Arc::new(alloc, note)?)
@@ -56,6 +65,12 @@ impl Note {
             1 => Found::Settled,
             _ => Found::Waiting,
         }
+    }
+
+    /// How many pages were written, and how many drops have begun.
+    pub fn counts(&self) -> (u64, u64) {
+        let writes = self.writes.load(Ordering::SeqCst);
+        (writes, self.drops.load(Ordering::SeqCst))
     }
 
     /// Whether the drop found just these bytes in page `no`.
@@ -74,7 +89,12 @@ impl Note {
 impl Hooks for Arc<Note, Global> {
     fn before_read(&self) {}
 
+    fn before_write(&self) {
+        self.writes.fetch_add(1, Ordering::SeqCst);
+    }
+
     fn at_drop(&self, waiting: bool) {
+        self.drops.fetch_add(1, Ordering::SeqCst);
         let found = if waiting { 2 } else { 1 };
         self.found.store(found, Ordering::SeqCst);
     }
@@ -87,4 +107,25 @@ impl Hooks for Arc<Note, Global> {
             noted.store(*byte, Ordering::SeqCst);
         }
     }
+}
+
+/// A device in memory that notes its drop.
+pub type Noting = Hooked<Arc<Note, Global>>;
+
+/// A device of `pages` pages of `page_size` zeros that notes its drop, and the note.
+///
+/// # Errors
+/// Where memory for them is refused.
+pub fn noting(
+    alloc: Global,
+    pages: u64,
+    page_size: usize,
+) -> Result<(Noting, Arc<Note, Global>), AllocError>
+    ensures { IfOk result (λ made. hooked_state made.0 ≡ zeroed pages page_size) }
+{
+    let note = Note::blank(alloc, pages, page_size)?;
+    let other = Arc::try_clone(&note)?;
+    let inner = MemDevice::new(alloc, pages, page_size)?;
+    let device = Hooked::new(alloc, inner, other)?;
+    Ok((device, note))
 }

@@ -142,6 +142,8 @@ fn differing_buckets_are_set_bits(rt: HostRuntime) {
     let more = [(0, 1, 10, 1), (0, 63, 10, 1), (64, 0, 10, 1)];
     let more = digests_of(&rt, rt.alloc(), &more);
     assert!(rt; differing(&more, &one_page) == 0x8000_0000_0000_0001);
+    let all = DigestTable::of([[0; 32]; 64]);
+    assert!(rt; differing(&all, &more) == u64::MAX);
 }
 
 #[test]
@@ -151,4 +153,9 @@ fn a_renewal_is_of_the_buckets_asked_for(rt: HostRuntime) {
     kept.renew(&history, 2)
         .expect(&rt, "memory for the digests");
     assert!(rt; has_digests(&kept.table(), Pages::OfBucket1));
+    kept.renew(&history, 0).expect(&rt, "nothing to renew");
+    assert!(rt; has_digests(&kept.table(), Pages::OfBucket1));
+    kept.renew(&history, u64::MAX)
+        .expect(&rt, "memory for the digests");
+    assert!(rt; has_digests(&kept.table(), Pages::All));
 }

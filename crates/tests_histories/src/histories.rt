@@ -42,6 +42,17 @@ fn every_page_twice(rt: &impl Abort, alloc: Global) -> Vec<Reference> {
     batch
 }
 
+// A history takes in a history of nothing and no entries, and one of nothing is copied and takes in the history.
+fn joins_nothing(rt: &impl Abort, alloc: Global, here: &mut History) {
+    let nothing = History::new(alloc);
+    here.join(&nothing).expect(rt, "nothing to take in");
+    here.join_entries(0, &[]).expect(rt, "nothing to take in");
+    let mut copy = nothing.copy().expect(rt, "nothing to copy");
+    assert!(rt; are_equal(&copy, &nothing));
+    copy.join(here).expect(rt, "memory for a join");
+    assert!(rt; are_equal(&copy, here));
+}
+
 #[test]
 fn takes_in_100_000_references_at_once_and_none(rt: HostRuntime) {
     let batch = every_page_twice(&rt, rt.alloc());
@@ -53,6 +64,8 @@ fn takes_in_100_000_references_at_once_and_none(rt: HostRuntime) {
     }
     let before = here.copy().expect(&rt, "memory for a copy");
     here.absorb(&[]).expect(&rt, "nothing to take in");
+    assert!(rt; are_equal(&here, &before));
+    joins_nothing(&rt, rt.alloc(), &mut here);
     assert!(rt; are_equal(&here, &before));
 }
 
@@ -139,7 +152,8 @@ fn goes_over_devices_and_buckets_in_page_order(rt: HostRuntime) {
 // The number of a bucket, a page, how many entries after it are asked for, the number of the first, and how many come.
 type Row = (u8, (u16, u64), usize, Option<u64>, usize);
 
-const LATER: [Row; 6] = [
+const LATER: [Row; 7] = [
+    (0, (0, 0), usize::MAX, Some(64), 4),
     (0, (0, 0), 9, Some(64), 4),
     (0, (0, 63), 2, Some(64), 2),
     (0, (0, 4_294_967_295), 9, Some(4_294_967_296), 3),

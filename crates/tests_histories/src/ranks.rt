@@ -35,7 +35,10 @@ fn a_raised_horizon_changes_which_page_leaves(rt: HostRuntime) {
     let given = [(0, 1, 1, 1), (0, 1, 100, 1), (0, 2, 50, 1), (0, 2, 60, 1)];
     let mut history = history_of(rt.alloc(), &given).expect(&rt, "memory for a history");
     assert!(rt; leaves_first(&history, 1, 2));
-    assert!(rt; are_hottest(&rt, rt.alloc(), &history, 2, &[page(2), page(1)]));
+    assert!(rt; are_hottest(&rt, rt.alloc(), &history, 0, &[]));
+    for n in [2, usize::MAX] {
+        assert!(rt; are_hottest(&rt, rt.alloc(), &history, n, &[page(2), page(1)]));
+    }
     history.raise(60);
     assert!(rt; leaves_first(&history, 2, 1));
     assert!(rt; are_hottest(&rt, rt.alloc(), &history, 2, &[page(1), page(2)]));
@@ -67,6 +70,7 @@ fn rises(rt: &impl Abort, alloc: Global, slots: u32) -> bool
     first == Some(0) && contest.least() == next
 }
 
+// A contest of one slot more is no call, since `new` requires that there are at most 65,536.
 #[test]
 fn contest_has_any_number_of_slots(rt: HostRuntime) {
     for slots in [1, 2, 3, 65_535, 65_536u32] {

@@ -3,8 +3,10 @@
 //! Each call stands in a function of its own, so that what is proved of a test does not grow with its rows. What must not fail ends
 //! the process where it does: a `?` would be one more way out, on which the drop of all that is owned is proved.
 
+mod dropped;
 mod formats;
 mod horizons;
+mod sizes;
 
 use std::alloc::Global;
 use std::process::Abort;
@@ -23,7 +25,7 @@ const fn slot(index: u32, generation: u64) -> Slot {
     Slot { index, generation }
 }
 
-// A node of a replica with this many frames over a device.
+// A node of a replica with this many frames for the pages of a device.
 fn over<D: PageDevice>(
     rt: &impl Abort,
     alloc: Global,
@@ -31,8 +33,9 @@ fn over<D: PageDevice>(
     frames: usize,
     device: D,
 ) -> Node<D> {
+    let page_size = device.page_size();
     let devices = alone(alloc, device).expect(rt, "memory for a list");
-    match Pool::new(alloc, frames, 16, devices) {
+    match Pool::new(alloc, frames, page_size, devices) {
         Ok(pool) => Node::new(alloc, replica(number), pool),
         Err(_) => panic!(rt; "no pool"),
     }

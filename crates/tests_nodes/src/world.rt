@@ -1,7 +1,9 @@
-//! A world of nodes: a long list of events, run at once.
+//! A world of nodes: a long list of events, run at once, and none.
 ghost use Rattle.std.specs.Prelude.{◌≡◌, length};
 ghost use Rattle.warm_world.specs.Opening.{AreFew};
 ghost use Rattle.warm_world.specs.Views.{listed};
+
+mod dropped;
 
 use std::alloc::Global;
 use std::process::Abort;
@@ -33,7 +35,11 @@ fn fresh(rt: &impl Abort, alloc: Global) -> World<MemDevice> {
 }
 
 // The one place where a world is run: what else is asked of the answers need not know what a run promises.
-fn answers(rt: &impl Abort, world: &mut World<MemDevice>, events: Vec<Event>) -> Vec<Answer> {
+fn answers<D: PageDevice>(
+    rt: &impl Abort,
+    world: &mut World<D>,
+    events: Vec<Event>,
+) -> Vec<Answer> {
     world.run(events).ok().expect(rt, "memory is ample")
 }
 
@@ -82,4 +88,10 @@ fn seventy_thousand_events_run_at_once(rt: HostRuntime) {
     let mut world = fresh(&rt, rt.alloc());
     let answers = answers(&rt, &mut world, references_in_turn(&rt, rt.alloc(), 70_000));
     assert!(rt; answers.len() == 70_002 && are_of_all(answers.as_slice()));
+}
+
+#[test]
+fn no_events_have_no_answers(rt: HostRuntime) {
+    let mut world = fresh(&rt, rt.alloc());
+    assert!(rt; answers(&rt, &mut world, Vec::new(rt.alloc())).is_empty());
 }

@@ -282,8 +282,15 @@ fn references(
 }
 
 // A schedule prints ok `count` times, and then this.
-fn prints_after(rt: &impl Abort, alloc: Global, schedule: &[u8], count: usize, want: &[u8]) {
-    let answers = answers_of(rt, alloc, default_setup(), schedule);
+fn prints_after(
+    rt: &impl Abort,
+    alloc: Global,
+    setup: Setup,
+    schedule: &[u8],
+    count: usize,
+    want: &[u8],
+) {
+    let answers = answers_of(rt, alloc, setup, schedule);
     let mut rest = answers.as_slice();
     for _ in 0..count {
         rest = rest.strip_prefix(b"ok\n").expect(rt, "the reference waits");
@@ -296,7 +303,31 @@ fn prints_after(rt: &impl Abort, alloc: Global, schedule: &[u8], count: usize, w
 fn a_full_buffer_is_flushed_first(rt: HostRuntime) {
     let schedule = references(&rt, rt.alloc(), 65, 0, 1, "show 1\nflush 1 1\nshow 1\n");
     let want = "0:0 last 64@1 prev 63@1\nend 1\nok\n0:0 last 65@1 prev 64@1\nend 1\n";
-    prints_after(&rt, rt.alloc(), schedule.as_slice(), 65, want.as_bytes());
+    prints_after(
+        &rt,
+        rt.alloc(),
+        default_setup(),
+        &schedule,
+        65,
+        want.as_bytes(),
+    );
+}
+
+// As many replicas, workers and references in a buffer as there may be, and then as many frames.
+#[test]
+fn the_largest_worlds_play(rt: HostRuntime) {
+    let alloc = rt.alloc();
+    let setup = Setup::new(64, 16, 1024, 1, 16).expect(&rt, "a setup");
+    let lines = "show 1\nref 64 16 0:1 5\nflush 64 16\nshow 64\nflush 64 17\nflush 65 1\n";
+    let want =
+        "0:0 last 1024@1 prev 1023@1\nend 1\nok\nok\n0:1 last 5@64\nend 1\nrefused 15 NoSuchWorker\nrefused 14 NoSuchReplica\n";
+    let schedule = references(&rt, alloc, 1025, 0, 1, lines);
+    prints_after(&rt, alloc, setup, &schedule, 1025, want.as_bytes());
+    let setup = Setup::new(1, 1, 1, 65_536, 16).expect(&rt, "a setup");
+    let lines = "flush 1 1\nwarmstep 1\nwarmstep 1\npin 1 0:2\n";
+    let schedule = references(&rt, alloc, 1, 0, 1, lines);
+    let want = b"ok\nloaded 0:0\nnone\nslot 1.1\n";
+    prints_after(&rt, alloc, setup, &schedule, 1, want);
 }
 
 // The first `count` pages of bucket 0, each referenced once at the time of its place; then these lines.
@@ -319,7 +350,7 @@ fn a_long_bucket_takes_two_frames(rt: HostRuntime) {
     add(&rt, &mut want, 1, b"ok\nframe 1\nframe 2\ntook 0\n");
     show_pages(&rt, &mut want, 1000, "end 1000\ntook 0\n");
     show_pages(&rt, &mut want, 1001, "end 1001\nframe 3\ntook 3 from 4\n");
-    prints_after(&rt, rt.alloc(), schedule.as_slice(), 1001, want.as_slice());
+    prints_after(&rt, rt.alloc(), default_setup(), &schedule, 1001, &want);
 }
 
 fn drawn(rt: &impl Abort, alloc: Global, seed: u64, events: u32) -> Vec<u8> {

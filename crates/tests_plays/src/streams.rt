@@ -1,11 +1,13 @@
-//! Readers and writers of `play` that give bytes one by one, are interrupted, or fail: what no contract says of its text.
+//! Readers and writers of `play` that give bytes one by one, are interrupted, or fail, and writers of `random_schedule` that note or
+//! refuse a flush: what no contract says of their text.
 use crate::player::{add, ended};
 use crate::schedules::GOSSIP;
 use std::alloc::Global;
 use std::io;
 use std::io::{ErrorKind, Read, Write};
 use std::process::Abort;
-use warm_schedule::PlayFault;
+use warm_schedule::{PlayFault, random_schedule};
+use warm_world::Setup;
 
 // Gives one byte at a time, each after a read that was interrupted.
 #[derive(Drop)]
@@ -154,4 +156,59 @@ fn a_failed_write_ends_the_play(rt: HostRuntime) {
         assert!(rt; played == Err(PlayFault::WriteFault), "of {left} bytes");
     }
     assert!(rt; ended_in(rt.alloc(), 13) == Ok(()));
+}
+
+// Notes the most bytes that were asked for at once.
+#[derive(Drop)]
+struct Counted<'a> {
+    rest: &'a [u8],
+    most: usize,
+}
+
+impl Read for Counted<'_> {
+    fn read(&mut self, bytes: &mut [u8]) -> io::Result<usize> {
+        self.most = self.most.max(bytes.len());
+        self.rest.read(bytes)
+    }
+}
+
+// That a play ends after 2^40 reads is beyond a test.
+#[test]
+fn a_read_asks_for_65_536_bytes(rt: HostRuntime) {
+    let mut reader = Counted {
+        rest: b"show 1\n",
+        most: 0,
+    };
+    let mut answers = Vec::new(rt.alloc());
+    let played = ended(rt.alloc(), &mut reader, &mut answers);
+    assert!(rt; played == Ok(()) && reader.most == 65_536);
+}
+
+// The first lines of the schedule of seed 7 for one replica with one worker, as the independent program of tests_values gives them: 32
+// bytes.
+const DRAWN: &str = "ref 1 1 0:95 1\nsend 1 23\nshow 1\n";
+
+// Draws that many lines of it.
+fn draw<W: Write>(writer: &mut W, events: u32) -> Result<(), PlayFault> {
+    let setup = Setup::new(1, 1, 1, 1, 16).unwrap();
+    random_schedule(writer, 7, events, &setup)
+}
+
+// The writer is flushed after the last line, also where there is none, and a flush that fails is no Ok.
+#[test]
+fn a_drawn_schedule_is_flushed(rt: HostRuntime) {
+    for (events, len) in [(3, 32), (1, 15), (0, 0usize)] {
+        let mut writer = Marked {
+            taken: Vec::new(rt.alloc()),
+        };
+        assert!(rt; draw(&mut writer, events) == Ok(()));
+        let lines = writer.taken.as_slice().strip_suffix(b"|");
+        assert!(rt; lines == DRAWN.as_bytes().get(..len));
+        let mut writer = Narrow { left: len };
+        assert!(rt; draw(&mut writer, events) == Err(PlayFault::WriteFault));
+        let mut writer = Narrow {
+            left: len.wrapping_add(1),
+        };
+        assert!(rt; draw(&mut writer, events) == Ok(()));
+    }
 }

@@ -102,6 +102,23 @@ fn memory_for_more_pages_than_any_is_refused(rt: HostRuntime) {
     }
 }
 
+// Whether a device has this shape, and nothing waits on it.
+fn is_shaped<D: PageDevice>(device: &D, pages: u64, page_size: usize) -> bool {
+    device.pages() == pages && device.page_size() == page_size && !device.waiting()
+}
+
+#[test]
+fn devices_may_have_no_pages_and_pages_no_bytes(rt: HostRuntime) {
+    let path = "shaped.pages";
+    for (pages, page_size) in [(0, 16), (16, 0), (0, 0), (2, 65_536)] {
+        let inner = MemDevice::new(rt.alloc(), pages, page_size).expect(&rt, "memory for pages");
+        assert!(rt; is_shaped(&inner, pages, page_size));
+        let file = FileDevice::open(&rt, path, pages, page_size).expect(&rt, "opened");
+        assert!(rt; is_shaped(&file, pages, page_size));
+    }
+    fs::remove_file(&rt, path).expect(&rt, "the file goes");
+}
+
 // 2^33 pages of one byte.
 const WIDE: u64 = 8_589_934_592;
 

@@ -7,8 +7,8 @@ ghost use Rattle.warm_devices.specs.Device.{zeroed};
 use std::alloc::Global;
 use std::process::Abort;
 use std::sync::Arc;
-use test_kit::{Found, Hooked, Note};
-use warm_devices::{Flaky, MemDevice, PageDevice};
+use test_kit::{Found, Note, Noting};
+use warm_devices::{Flaky, PageDevice};
 
 // A device that notes its drop, and the note.
 fn noting(
@@ -16,14 +16,10 @@ fn noting(
     alloc: Global,
     pages: u64,
     page_size: usize,
-) -> (Hooked<Arc<Note, Global>>, Arc<Note, Global>)
+) -> (Noting, Arc<Note, Global>)
     ensures { hooked_state result.0 ≡ zeroed pages page_size }
 {
-    let note = Note::blank(alloc, pages, page_size).expect(rt, "memory for a note");
-    let other = Arc::try_clone(&note).expect(rt, "a second owner");
-    let inner = MemDevice::new(alloc, pages, page_size).expect(rt, "memory for pages");
-    let device = Hooked::new(alloc, inner, other).expect(rt, "memory for a page");
-    (device, note)
+    test_kit::noting(alloc, pages, page_size).expect(rt, "memory for a device")
 }
 
 // Whether what is noted of three pages of two bytes is 7 and 8 on page 2, and zeros.
@@ -39,8 +35,10 @@ fn has_just(note: &Note) -> bool {
 fn a_drop_is_noted_before_it_settles(rt: HostRuntime) {
     let (mut device, note) = noting(&rt, rt.alloc(), 3, 2);
     assert!(rt; device.write(2, &[7, 8]) == Ok(()) && note.found() == Found::NoDrop);
+    assert!(rt; note.counts() == (1, 0));
     drop(device);
     assert!(rt; note.found() == Found::Waiting && has_just(&note));
+    assert!(rt; note.counts() == (1, 1));
 }
 
 // What is noted of a device whose call of this number fails, where a page was written and not flushed.

@@ -8,13 +8,14 @@ ghost use Rattle.std.specs.Prelude.{◌≤◌, length};
 ghost use Rattle.warm_pool.specs.State.{IsRankedByAll, RankedBy};
 
 mod let_go;
+mod limits;
 mod ranks;
 mod wide;
 
 use std::alloc::Global;
 use std::process::Abort;
 use test_kit::{alone, both, flaky, memory, page, page_on};
-use warm_devices::PageDevice;
+use warm_devices::{MemDevice, PageDevice};
 use warm_history::History;
 use warm_pool::{NewPoolFault, Pool, PoolFault, Slot, Unretired};
 use warm_stamps::PageId;
@@ -32,7 +33,7 @@ fn pool_of<D: PageDevice>(
     page_size: usize,
     devices: Vec<D>,
 ) -> Pool<D>
-    requires { length devices.items ≤ 2 }
+    requires { length devices.items ≤ 65536 }
     ensures { IsRankedByAll result }
 {
     match Pool::new(alloc, frames, page_size, devices) {
@@ -453,12 +454,14 @@ fn unmade<D: PageDevice>(
 #[test]
 fn refused_pools_give_their_devices_back(rt: HostRuntime) {
     let alloc = rt.alloc();
-    for (frames, page_size, fault) in [
-        (0, 16, NewPoolFault::BadFrames),
-        (65_537, 16, NewPoolFault::BadFrames),
-        (2, 8, NewPoolFault::SizeDiffers),
+    for (frames, page_size, own, fault) in [
+        (0, 16, 16, NewPoolFault::BadFrames),
+        (65_537, 16, 16, NewPoolFault::BadFrames),
+        (2, 8, 16, NewPoolFault::SizeDiffers),
+        (2, 0, 0, NewPoolFault::SizeDiffers),
+        (2, 65_537, 65_537, NewPoolFault::SizeDiffers),
     ] {
-        let device = memory(alloc, 8).expect(&rt, AMPLE);
+        let device = MemDevice::new(alloc, 2, own).expect(&rt, AMPLE);
         assert!(rt; unmade(&rt, alloc, frames, page_size, device) == (fault, 1));
     }
 }

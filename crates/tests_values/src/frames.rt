@@ -1,9 +1,9 @@
 //! Frames and their bytes: what is read of them and written, their sizes, and lists of entries.
-use crate::bytes::{WIDENED, encoded, put};
+use crate::bytes::{WIDENED, encoded, fault, put};
 use std::alloc::Global;
 use std::process::Abort;
 use test_kit::{NARROW, WIDE, bucket, entry, once, page, page_on, replica, twice};
-use warm_frames::{DigestTable, EntryList, Message, decode, put_entry};
+use warm_frames::{DigestTable, EntryList, FrameFault, Message, decode, put_entry};
 use warm_history::Entry;
 
 // The frame that these bytes are read as, and which is written as those wanted.
@@ -105,36 +105,76 @@ fn digests_stand_bucket_0_first(rt: HostRuntime) {
     assert!(rt; bring_digests(&rt, rt.alloc(), &narrow_table(), 0));
 }
 
-// A frame of 1000 entries of two stamps each, which is as long as one can be: its header and count, and the zeros with which the
-// number of a page begins before its last four bytes.
-fn longest(rt: &impl Abort, alloc: Global, header: &[u8], zeros: &[u8]) -> Vec<u8> {
+// A frame of this many entries, whose header and count come first: an entry has no device, a number of these zeros and four bytes, and
+// a history of these bytes.
+fn frame_of(
+    rt: &impl Abort,
+    alloc: Global,
+    header: &[u8],
+    count: u32,
+    zeros: &[u8],
+    hist: &[u8],
+) -> Vec<u8> {
     let mut text = Vec::new(alloc);
     put(rt, &mut text, header);
-    for no in 0..1000u32 {
+    for no in 0..count {
         put(rt, &mut text, &[0, 0]);
         put(rt, &mut text, zeros);
         put(rt, &mut text, &no.to_be_bytes());
-        put(rt, &mut text, &NARROW[21..]);
+        put(rt, &mut text, hist);
     }
     text
 }
 
+// The header and the count of sender 1's entries: how many bytes the body has, and its count, by their last two bytes.
+const fn wide_start(len: [u8; 2], count: [u8; 2]) -> [u8; 23] {
+    [
+        0x4C, 0x32, 0x47, 0x32, 1, 0, 1, 0, 0, 0, 0, 0, 0, 0, 0, 0, 0, len[0], len[1], 0, 0,
+        count[0], count[1],
+    ]
+}
+
+// A frame of 1000 entries of two stamps each, which is as long as one can be: its body has 31,004 bytes.
+pub(crate) fn longest_wide(rt: &impl Abort, alloc: Global) -> Vec<u8> {
+    let start = wide_start([0x79, 0x1C], [3, 0xE8]);
+    frame_of(rt, alloc, &start, 1000, &[0; 4], &NARROW[21..])
+}
+
+// Whether a frame of this many entries is read, and written as it was.
+fn has_entries(rt: &impl Abort, alloc: Global, bytes: &[u8], count: usize) -> bool {
+    let (_, _, entries) = said_in(rt, read_as(rt, alloc, bytes, bytes));
+    entries.as_slice().len() == count
+}
+
 #[test]
 fn the_longest_frame_of_each_format(rt: HostRuntime) {
-    // Their bodies have 27,004 and 31,004 bytes.
+    let alloc = rt.alloc();
+    let wide = longest_wide(&rt, alloc);
+    assert!(rt; wide.len() == 31_023 && has_entries(&rt, alloc, &wide, 1000));
+    // Its body has 27,004 bytes.
     let narrow = [
         0x4C, 0x32, 0x47, 0x31, 1, 0, 1, 0, 0, 0x69, 0x7C, 0, 0, 3, 0xE8,
     ];
-    let wide = [
-        0x4C, 0x32, 0x47, 0x32, 1, 0, 1, 0, 0, 0, 0, 0, 0, 0, 0, 0, 0, 0x79, 0x1C, 0, 0, 3, 0xE8,
-    ];
-    let wide = longest(&rt, rt.alloc(), &wide, &[0; 4]);
-    assert!(rt; wide.len() == 31_023);
-    let (_, _, entries) = said_in(&rt, read_as(&rt, rt.alloc(), &wide, &wide));
-    assert!(rt; entries.as_slice().len() == 1000);
-    let narrow = longest(&rt, rt.alloc(), &narrow, &[]);
+    let narrow = frame_of(&rt, alloc, &narrow, 1000, &[], &NARROW[21..]);
     assert!(rt; narrow.len() == 27_015);
-    let _ = read_as(&rt, rt.alloc(), &narrow, &wide);
+    let _ = read_as(&rt, alloc, &narrow, &wide);
+    // 999 entries have 30,973 bytes.
+    let start = wide_start([0x78, 0xFD], [3, 0xE7]);
+    let wide = frame_of(&rt, alloc, &start, 999, &[0; 4], &NARROW[21..]);
+    assert!(rt; has_entries(&rt, alloc, &wide, 999));
+}
+
+// Entries of one stamp each have 21 bytes: a body of 1001 is shorter than the longest one.
+#[test]
+fn a_frame_of_1001_short_entries_is_refused(rt: HostRuntime) {
+    let alloc = rt.alloc();
+    let once = [1, 0, 0, 0, 0, 0, 0, 0, 0x14, 0, 1];
+    let start = wide_start([0x52, 0x0C], [3, 0xE8]);
+    let wide = frame_of(&rt, alloc, &start, 1000, &[0; 4], &once);
+    assert!(rt; has_entries(&rt, alloc, &wide, 1000));
+    let start = wide_start([0x52, 0x21], [3, 0xE9]);
+    let wide = frame_of(&rt, alloc, &start, 1001, &[0; 4], &once);
+    assert!(rt; fault(alloc, &wide) == Some(FrameFault::BadCount));
 }
 
 #[test]
@@ -173,6 +213,7 @@ fn is_refused(rt: &impl Abort, alloc: Global, rising: u64, last: u64) -> bool {
 #[test]
 fn a_list_has_at_most_1000_entries_of_rising_pages(rt: HostRuntime) {
     for (rising, last, want) in [
+        (998, 998, false),
         (999, 999, false),
         (1000, 1000, true),
         (8, 6, true),

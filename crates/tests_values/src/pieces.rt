@@ -3,6 +3,7 @@ use crate::bytes::{
     NARROW_NOTHING, NARROW_REQUEST, NOTHING, REQUEST, WIDENED, changed, encoded, fault, joined,
     narrow_changed, put, row_holds,
 };
+use crate::frames::longest_wide;
 use std::alloc::Global;
 use std::process::Abort;
 use test_kit::{NARROW, WIDE};
@@ -98,6 +99,7 @@ fn comes_twice(rt: &impl Abort, alloc: Global, bytes: &[u8], want: &[u8], size: 
     assert!(rt; decoder.finish() == Ok(()));
     assert!(rt; fault_of(&mut decoder, &[0; 4]) == Some(FrameFault::BadMagic));
     assert!(rt; fault_of(&mut decoder, bytes) == Some(FrameFault::Failed));
+    assert!(rt; fault_of(&mut decoder, &[]) == Some(FrameFault::Failed));
     assert!(rt; decoder.finish() == Err(FrameFault::Failed));
 }
 
@@ -107,6 +109,37 @@ fn a_frame_twice_over(rt: HostRuntime) {
         comes_twice(&rt, rt.alloc(), &WIDE, &WIDE, size);
         comes_twice(&rt, rt.alloc(), &NARROW, &WIDENED, size);
     }
+}
+
+// Whether an empty piece is taken, and gives no frame.
+fn takes_nothing(decoder: &mut Decoder) -> bool {
+    match decoder.feed(&[]) {
+        Ok(fed) => fed.taken == 0 && fed.frame.is_none(),
+        Err(_) => false,
+    }
+}
+
+#[test]
+fn an_empty_piece_changes_nothing(rt: HostRuntime) {
+    for first in 0..=54usize {
+        let mut decoder = Decoder::new(rt.alloc());
+        let mut text = Vec::new(rt.alloc());
+        let (begin, end) = WIDE.split_at(first.min(WIDE.len()));
+        feed_all(&rt, rt.alloc(), &mut decoder, begin, &mut text);
+        row_holds(&rt, first, takes_nothing(&mut decoder));
+        feed_all(&rt, rt.alloc(), &mut decoder, end, &mut text);
+        row_holds(&rt, first, text.as_slice() == WIDE.as_slice());
+    }
+}
+
+// Three of the longest frames, 93,069 bytes, are fed as one piece.
+#[test]
+fn a_piece_may_have_more_than_65_536_bytes(rt: HostRuntime) {
+    let frame = longest_wide(&rt, rt.alloc());
+    let frame = frame.as_slice();
+    let stream = joined(&rt, rt.alloc(), &[frame, frame, frame]);
+    assert!(rt; stream.len() == 93_069);
+    assert!(rt; give(&rt, rt.alloc(), &[stream.as_slice()], stream.as_slice()));
 }
 
 // Bytes of a frame without its last byte are taken whole, and are no end of a stream.

@@ -1,11 +1,14 @@
-//! What a device holds as the pool lets it go: all that was written, and nothing waits.
+//! What a device holds as the pool lets it go: all that was written, and nothing waits. A pool that is dropped writes nothing.
 ghost use Rattle.warm_pool.specs.State.{RankedBy};
 
-use super::{AMPLE, Said, closes, exchange, held, not_closed, pool_over, unpin, unretired, write};
+use super::{
+    AMPLE, Row, Said, closes, exchange, held, not_closed, pool_of, pool_over, runs, unpin,
+    unretired, write,
+};
 use std::alloc::Global;
 use std::process::Abort;
 use std::sync::Arc;
-use test_kit::{Found, Hooked, Note};
+use test_kit::{Found, Hooked, Note, Noting, both};
 use warm_devices::{MemDevice, PageDevice};
 use warm_history::History;
 use warm_pool::{Pool, PoolFault, Slot};
@@ -13,10 +16,7 @@ use warm_pool::{Pool, PoolFault, Slot};
 // What a device of eight pages holds before the pool writes to it.
 const STORED: [u8; 16] = [0x55; 16];
 
-// A device that notes what its drop finds.
-type Noting = Hooked<Arc<Note, Global>>;
-
-// Such a device, and the note.
+// A device that notes what its drop finds, and the note.
 fn witness(rt: &impl Abort, alloc: Global) -> (Noting, Arc<Note, Global>) {
     let note = Note::blank(alloc, 8, 16).expect(rt, AMPLE);
     let mut device = MemDevice::new(alloc, 8, 16).expect(rt, AMPLE);
@@ -31,11 +31,14 @@ fn witness(rt: &impl Abort, alloc: Global) -> (Noting, Arc<Note, Global>) {
     (device, note)
 }
 
-// Whether nothing waited on the device as its drop began, and it held page 0 as it was written, and all others as they were.
+// Whether nothing waited on the device as its drop began, and its pages from this one on were as they had been stored.
+fn has_stored(note: &Note, from: u64) -> bool {
+    note.found() == Found::Settled && (from..8).all(|no| note.has(no, &STORED))
+}
+
+// Whether so it was, and page 0 was as it was written.
 fn is_kept(note: &Note) -> bool {
-    note.found() == Found::Settled
-        && note.has(0, &[0xAA; 16])
-        && (1..8).all(|no| note.has(no, &STORED))
+    has_stored(note, 1) && note.has(0, &[0xAA; 16])
 }
 
 // A pool over such a device. Its page 0:0 is filled with AA, and went to no device yet.
@@ -93,4 +96,28 @@ fn a_closed_pools_device_has_what_was_written(rt: HostRuntime) {
     assert!(rt; unpin(&mut pool, &history, held));
     closes(&rt, pool);
     assert!(rt; is_kept(&note));
+}
+
+// Page 0:0 is written back, and then once more to its frame alone.
+const WRITTEN_ONCE: [Row<'static>; 5] = [
+    Row::Loads(1, 0, Said::At(0, 1)),
+    Row::Pins(0, Said::At(1, 1)),
+    Row::Writes(1, 1, 0, &[0xAA; 16], Said::Done),
+    Row::WritesBack(Said::Done),
+    Row::Writes(1, 1, 0, &[0xBB; 16], Said::Done),
+];
+
+// Each device has what was last written to it, and is dropped once.
+#[test]
+fn a_dropped_pool_writes_to_no_device(rt: HostRuntime) {
+    let alloc = rt.alloc();
+    let history = History::new(alloc);
+    let (first, first_note) = witness(&rt, alloc);
+    let (second, second_note) = witness(&rt, alloc);
+    let devices = both(alloc, first, second).expect(&rt, AMPLE);
+    let mut pool = pool_of(&rt, alloc, 2, 16, devices);
+    runs(&rt, &mut pool, &history, &WRITTEN_ONCE);
+    drop(pool);
+    assert!(rt; is_kept(&first_note) && first_note.counts() == (1, 1));
+    assert!(rt; has_stored(&second_note, 0) && second_note.counts() == (0, 1));
 }
