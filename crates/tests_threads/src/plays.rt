@@ -101,31 +101,53 @@ fn each_replica_shows_all_references(rt: HostRuntime) {
     }
 }
 
-// A line for each of 1,001 pages of a bucket.
-fn lines_of(rt: &impl Abort, alloc: Global, before: &str, after: &str) -> String {
+// A line for each of so many pages of a bucket.
+fn lines_of(rt: &impl Abort, alloc: Global, pages: u32, before: &str, after: &str) -> String {
     let mut text = String::new(alloc);
-    for place in 0..1001u32 {
+    for place in 0..pages {
         let page = u32::wrapping_mul(place, 64);
         writeln!(text, "{before}0:{page}{after}").expect(rt, "memory for a line");
     }
     text
 }
 
-// What two replicas print that have seen these.
-fn shown_twice(rt: &impl Abort, alloc: Global) -> String {
-    let entries = lines_of(rt, alloc, "", " last 7@1");
-    format!(in alloc; "replica 1\n{entries}end 1001\nreplica 2\n{entries}end 1001\n").expect(
-        rt,
-        "memory for a text",
-    )
+// What replicas print of which each knows these entries.
+fn shown_by(rt: &impl Abort, alloc: Global, replicas: u16, entries: &str, count: u32) -> String {
+    let mut text = String::new(alloc);
+    for number in 1..=replicas {
+        writeln!(text, "replica {number}\n{entries}end {count}").expect(rt, "memory for a text");
+    }
+    text
 }
 
-// Two pages of a bucket of 1,001 are sent in a second message.
+// Pages of a bucket at one of two replicas: a full message, and an empty one; one page in a second message; and one in a third.
 #[test]
 fn a_bucket_is_sent_whole(rt: HostRuntime) {
-    let text = lines_of(&rt, rt.alloc(), "ref 1 1 ", " 7");
-    let got = played_by(&rt, rt.alloc(), (2, 1, 64), text.as_bytes());
-    let want = shown_twice(&rt, rt.alloc());
+    for pages in [1000, 1001, 2001] {
+        let text = lines_of(&rt, rt.alloc(), pages, "ref 1 1 ", " 7");
+        let got = played_by(&rt, rt.alloc(), (2, 1, 64), text.as_bytes());
+        let entries = lines_of(&rt, rt.alloc(), pages, "", " last 7@1");
+        let want = shown_by(&rt, rt.alloc(), 2, entries.as_str(), pages);
+        assert!(rt; is_printed(&got, want.as_str()));
+    }
+}
+
+// A reference of each of 64 replicas, to a page and at a time of its own, and the entries of all of them.
+fn one_of_each(rt: &impl Abort, alloc: Global) -> (String, String) {
+    let mut text = String::new(alloc);
+    let mut entries = String::new(alloc);
+    for number in 1..=64u16 {
+        writeln!(text, "ref {number} 1 0:{number} 7{number}").expect(rt, "memory for a line");
+        writeln!(entries, "0:{number} last 7{number}@{number}").expect(rt, "memory for an entry");
+    }
+    (text, entries)
+}
+
+#[test]
+fn sixty_four_replicas_show_all(rt: HostRuntime) {
+    let (text, entries) = one_of_each(&rt, rt.alloc());
+    let got = played_by(&rt, rt.alloc(), (64, 1, 1), text.as_bytes());
+    let want = shown_by(&rt, rt.alloc(), 64, entries.as_str(), 64);
     assert!(rt; is_printed(&got, want.as_str()));
 }
 

@@ -1,8 +1,10 @@
 mod Pairings
 mod Runnings
+mod Exchangings
 mod Numberings
 mod Plannings
 mod Askings
 mod Openings
 mod Showings
 mod Playings
+mod Stoppings

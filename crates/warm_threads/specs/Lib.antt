@@ -3,7 +3,9 @@ pub mod Faults
 pub mod Numbers
 pub mod Steps
 pub mod Plans
+pub mod Exchanges
 pub mod Works
 pub mod Opened
 pub mod Shown
 pub mod Played
+pub mod Refusals

@@ -12,11 +12,12 @@ use Rattle.warm_replica.specs.declared.job.Job.{Job}
 use Rattle.warm_replica.specs.Jobs.{Calls, JobWentAs}
 use Rattle.warm_replica.specs.Pairs.{Triples}
 use Rattle.warm_replica.specs.Replied.{AreTaken, Replied}
+use Rattle.warm_threads.specs.Exchanges.{SendsAll, IsReceipt}
 
 module _ {X : Type 0} (goes : X → Call → Reply → X → Type 0) where
-  -- some legal list of calls leads from one state to the other
-  abbrev pub Leads : X → X → Type 0
-  Leads x z = (calls : Calls) × Runs goes x calls z
+  -- a legal list of calls of this kind leads from one state to the other
+  abbrev pub LeadsBy : (Calls → Type 0) → X → X → Type 0
+  LeadsBy Kind x z = (calls : Calls) × Runs goes x calls z × Kind calls
 
   -- A legal list of calls leads from one state to the other in which the calls of each job's own number are just the flushes of that job's
   -- steps, all of them taken; no two jobs have one number
@@ -30,11 +31,13 @@ module _ {X : Type 0} (goes : X → Call → Reply → X → Type 0) where
     pub stand : (k : ℕ) (e : Ended Call Reply) → get_elem? workers k ≡ some e → calls_by e.number calls ≡ e.calls
     pub apart : NoRepeat workers
 
-  -- The workers of a machine have ended, and then it has sent what it knows and heard of others
+  -- The workers of a machine have ended; then it has sent every bucket whole, by these calls alone; and then it has received messages, and answered each
   pub record WentOn (jobs : List Job) (x z : X) : Type 0 where
     pub worked : X
+    pub shared : X
     pub works : Works jobs x worked
-    pub leads : Leads worked z
+    pub sends : LeadsBy SendsAll worked shared
+    pub receives : LeadsBy (All IsReceipt) shared z
 
   -- the same of machines place by place: where they were, the jobs of their workers, and where they are
   abbrev pub Went : List X → List (Vec Job) → List X → Type 0

@@ -4,7 +4,8 @@ ghost use Rattle.std.specs.List.{All};
 ghost use Rattle.warm_replica.specs.declared.fan.TheConstants.{MAX_JOBS};
 ghost use Rattle.warm_replica.specs.Pairs.{Pairs};
 ghost use Rattle.warm_threads.specs.declared.fault.CrewFault.TheVariants.{Closed};
-ghost use Rattle.warm_threads.specs.Works.{Leads, Went, Works};
+ghost use Rattle.warm_threads.specs.Exchanges.{IsReceipt, SendsAll};
+ghost use Rattle.warm_threads.specs.Works.{LeadsBy, Went, Works};
 
 use crate::exchange::{hear_all, send_all};
 use crate::fault::CrewFault;
@@ -70,7 +71,7 @@ fn send_one<M: Absorbing + Drop, R: Wait>(
     one: Knowing<M>,
 ) -> Result<Hearing<M>, CrewFault>
     ensures { IfOk result
-        (λ h. Leads M.goes (M.view one.machine) (M.view h.machine)) }
+        (λ h. LeadsBy M.goes SendsAll (M.view one.machine) (M.view h.machine)) }
 {
     let Knowing {
         machine,
@@ -90,7 +91,8 @@ fn hear_one<M: Absorbing + Drop, R: Wait>(
     alloc: Global,
     one: Hearing<M>,
 ) -> Result<M, CrewFault>
-    ensures { IfOk result (λ m. Leads M.goes (M.view one.machine) (M.view m)) }
+    ensures { IfOk result
+        (λ m. LeadsBy M.goes (All IsReceipt) (M.view one.machine) (M.view m)) }
 {
     let Hearing {
         machine,
@@ -154,27 +156,29 @@ fn all_send<M: Absorbing + Send + Drop, R: Threads + Wait + Sync>(
     alloc: Global,
     knowing: Vec<Knowing<M>>,
 ) -> Result<Vec<Hearing<M>>, CrewFault>
-    ensures { IfOk result (λ v. Pairs (λ k h. Leads M.goes
+    ensures { IfOk result (λ v. Pairs (λ k h. LeadsBy M.goes SendsAll
         (M.view k.machine) (M.view h.machine)) knowing.items v.items) }
 {
     let run = move |one: Knowing<M>| -> Result<Hearing<M>, CrewFault>
-        ensures { IfOk result (λ h. Leads M.goes (M.view one.machine) (M.view h.machine)) }
+        ensures { IfOk result
+            (λ h. LeadsBy M.goes SendsAll (M.view one.machine) (M.view h.machine)) }
     { send_one(rt, alloc, one) };
     let done = thread::map_vec(rt, knowing, &run)?;
     gathered(alloc, done)
 }
 
-// Each hears all that the others have sent.
+// Each receives all that the others have sent.
 fn all_hear<M: Absorbing + Send + Drop, R: Threads + Wait + Sync>(
     rt: &R,
     alloc: Global,
     hearing: Vec<Hearing<M>>,
 ) -> Result<Vec<M>, CrewFault>
-    ensures { IfOk result (λ v. Pairs (λ h m. Leads M.goes
+    ensures { IfOk result (λ v. Pairs (λ h m. LeadsBy M.goes (All IsReceipt)
         (M.view h.machine) (M.view m)) hearing.items v.items) }
 {
     let run = move |one: Hearing<M>| -> Result<M, CrewFault>
-        ensures { IfOk result (λ m. Leads M.goes (M.view one.machine) (M.view m)) }
+        ensures { IfOk result
+            (λ m. LeadsBy M.goes (All IsReceipt) (M.view one.machine) (M.view m)) }
     { hear_one(rt, alloc, one) };
     let done = thread::map_vec(rt, hearing, &run)?;
     gathered(alloc, done)
@@ -244,12 +248,12 @@ fn crews_of<M: Drop>(
     Ok(crews)
 }
 
-/// Has each machine's workers do their jobs, in threads of their own, and then has each machine send all that it knows to each
-/// other.
+/// Has each machine's workers do their jobs, in threads of their own, and then has each machine send every bucket whole to each
+/// other, and receive what was sent to it.
 ///
 /// # Errors
 /// `Memory`: an allocation failed, of a worker, of a machine or of a channel too. `NoThread`: a worker had no thread, or left a
-/// call behind. `Closed`: a replica ended before all was sent to it. All machines are dropped.
+/// call behind. `Closed`: a replica ended before all was sent to it, and none has another fault. All machines are dropped.
 pub(crate) fn run_all<M: Absorbing + Send + Drop, R: Threads + Wait + Sync>(
     rt: &R,
     alloc: Global,

@@ -1,17 +1,24 @@
 //! What replicas send each other when their workers have ended.
-ghost use Rattle.std.specs.Prelude.{IfOk};
-ghost use Rattle.warm_threads.specs.Works.{Leads};
+ghost use Rattle.std.specs.Prelude.{◌≡◌, ◌<◌, ◌≤◌, List, length, IfOk, IfSome, IsNone, OnOk, Some, None};
+ghost use Rattle.std.specs.List.{All};
+ghost use Rattle.warm_frames.specs.declared.layout.TheConstants.{MAX_ENTRIES};
+ghost use Rattle.warm_frames.specs.declared.message.Message.{Message};
+ghost use Rattle.warm_frames.specs.Spelling.{Spells};
+ghost use Rattle.warm_gossip.specs.declared.call.Call.TheVariants.{Send, Receive};
+ghost use Rattle.warm_gossip.specs.declared.call.Reply.TheVariants.{Sent, Answers};
+ghost use Rattle.warm_gossip.specs.Pieces.{last_page};
+ghost use Rattle.warm_threads.specs.Exchanges.{entries_in, IsReceipt, SendsAll, SendsBucket};
+ghost use Rattle.warm_threads.specs.Works.{LeadsBy};
 
 use crate::fault::CrewFault;
 use crossbeam_channel::{Receiver, Sender};
 use std::alloc::Global;
 use std::sync::Wait;
-use warm_frames::{MAX_ENTRIES, Message, encode};
+use warm_frames::{MAX_ENTRIES, Message, decode, encode};
 use warm_gossip::{Call, Reply};
-use warm_refbuffer::RefBuffer;
-use warm_replica::{Mail, MailIter, Outboxes, Worker, mail_loop};
+use warm_replica::{Mail, MailIter};
 use warm_stamps::{BUCKETS, Bucket, ByteList, PageId};
-use warm_turn::{Machine, Turn};
+use warm_turn::Machine;
 
 /// How many items of mail a replica takes at most.
 pub(crate) const MOST_MAIL: u64 = 1_000_000;
@@ -40,7 +47,11 @@ fn post_stops<R: Wait>(rt: &R, boxes: &[Sender<Mail>]) -> Result<(), CrewFault> 
 }
 
 // The page after which more of the bucket may follow: the last one of a message that is full. `None` where nothing follows.
-fn next_after(message: &Message) -> Option<PageId> {
+fn next_after(message: &Message) -> Option<PageId>
+    ensures full { IfSome result (λ page. MAX_ENTRIES ≤ length (entries_in message.now)) }
+    ensures last { IfSome result (λ page. last_page (entries_in message.now) ≡ Some page) }
+    ensures rest { IsNone result → length (entries_in message.now) < MAX_ENTRIES }
+{
     let Message::Entries { entries, .. } = message else {
         return None;
     };
@@ -60,7 +71,8 @@ fn asked_message<M: Machine<Call = Call, Reply = Reply>>(
     bucket: Bucket,
     after: Option<PageId>,
 ) -> Result<Message, CrewFault>
-    ensures { Leads M.goes (M.view machine.old) (M.view machine.new) }
+    ensures { IfOk result (λ message. M.goes (M.view machine.old)
+        (Send bucket after) (Sent message) (M.view machine.new)) }
 {
     let reply = machine.call(Call::Send { bucket, after });
     match reply {
@@ -77,7 +89,8 @@ fn send_bucket<M: Machine<Call = Call, Reply = Reply>, R: Wait>(
     bucket: Bucket,
     boxes: &[Sender<Mail>],
 ) -> Result<(), CrewFault>
-    ensures { Leads M.goes (M.view machine.old) (M.view machine.new) }
+    ensures { OnOk result
+        (LeadsBy M.goes (SendsBucket bucket None) (M.view machine.old) (M.view machine.new)) }
 {
     let mut after = None;
     for _ in rt.forever() {
@@ -89,7 +102,7 @@ fn send_bucket<M: Machine<Call = Call, Reply = Reply>, R: Wait>(
         };
         after = Some(last);
     }
-    Ok(())
+    unreachable!()
 }
 
 /// Has the machine send every bucket whole to each of the channels, and then a Stop.
@@ -102,7 +115,7 @@ pub(crate) fn send_all<M: Machine<Call = Call, Reply = Reply> + Drop, R: Wait>(
     machine: M,
     boxes: &[Sender<Mail>],
 ) -> Result<M, CrewFault>
-    ensures { IfOk result (λ m. Leads M.goes (M.view machine) (M.view m)) }
+    ensures { IfOk result (λ m. LeadsBy M.goes SendsAll (M.view machine) (M.view m)) }
 {
     let mut machine = machine;
     for number in 0..BUCKETS {
@@ -115,10 +128,30 @@ pub(crate) fn send_all<M: Machine<Call = Call, Reply = Reply> + Drop, R: Wait>(
     Ok(machine)
 }
 
-/// Has the machine take the mail of a channel, until `stops` Stops or [`MOST_MAIL`] items came.
+// Has the machine receive the message that the bytes spell. Its answers are dropped: entries have none, and no replica sends another
+// kind of message.
+fn receive<M: Machine<Call = Call, Reply = Reply>>(
+    alloc: Global,
+    machine: &mut M,
+    bytes: ByteList,
+) -> Result<(), CrewFault>
+    ensures { OnOk result ((message : Message) × (answers : List Message) × Spells bytes message
+        × M.goes (M.view machine.old) (Receive message) (Answers answers) (M.view machine.new)) }
+{
+    let Ok(message) = decode(alloc, bytes.as_slice()) else {
+        return Err(CrewFault::Memory);
+    };
+    let reply = machine.call(Call::Receive(message));
+    match reply {
+        Reply::Answers(_) => Ok(()),
+        _ => Err(CrewFault::Memory),
+    }
+}
+
+/// Has the machine receive the messages of a channel, until `stops` Stops or [`MOST_MAIL`] items came.
 ///
 /// # Errors
-/// `Memory`: an allocation failed, of the machine too. `NoThread`: a call was left behind.
+/// `Memory`: an allocation failed, of the machine too, or bytes spelled no message. What else came is dropped.
 pub(crate) fn hear_all<M: Machine<Call = Call, Reply = Reply> + Drop, R: Wait>(
     rt: &R,
     alloc: Global,
@@ -126,29 +159,21 @@ pub(crate) fn hear_all<M: Machine<Call = Call, Reply = Reply> + Drop, R: Wait>(
     receiver: Receiver<Mail>,
     stops: u64,
 ) -> Result<M, CrewFault>
-    ensures { IfOk result (λ m. Leads M.goes (M.view machine) (M.view m)) }
+    ensures { IfOk result (λ m. LeadsBy M.goes (All IsReceipt) (M.view machine) (M.view m)) }
 {
-    let buffer = RefBuffer::new(alloc, 1)?;
-    let (replica, pass) = Turn::new(alloc, machine)?;
-    let mut worker = Worker::new(pass, buffer);
-    let mail = MailIter::new(rt, receiver, MOST_MAIL);
-    // Entries are answered by nothing, and no replica sends another kind of message.
-    let mut post = Outboxes::new(rt, Vec::new(alloc));
-    let report = mail_loop(
-        rt,
-        alloc,
-        &replica,
-        &mut worker,
-        mail,
-        &mut post,
-        stops,
-        MOST_MAIL,
-    );
-    let (pass, _nothing) = worker.into_parts();
-    let closed = replica.close(pass);
-    if report.refused > 0 {
-        return Err(CrewFault::Memory);
+    let mut machine = machine;
+    let mut missing = stops;
+    if missing == 0 {
+        return Ok(machine);
     }
-    let machine = closed?;
+    for item in MailIter::new(rt, receiver, MOST_MAIL) {
+        match item {
+            Mail::Bytes(bytes) => receive(alloc, &mut machine, bytes)?,
+            Mail::Stop => missing -= 1,
+        }
+        if missing == 0 {
+            return Ok(machine);
+        }
+    }
     Ok(machine)
 }

@@ -3,18 +3,17 @@ use crossbeam_channel::SendError;
 use std::alloc::{AllocError, AllocFailed};
 use thiserror::Error;
 use warm_play_fault::PlayFault;
-use warm_refbuffer::BufferFault;
 use warm_replica::RunFault;
 use warm_turn::{Busy, Memory};
 
 /// Why a crew came to no end. Each fault is displayed as its name.
 #[derive(Clone, Copy, Debug, Error)]
 pub(crate) enum CrewFault {
-    /// An allocation failed: the crew's own, a channel's, or the machine's, which then refuses a call. A call for which no ticket is
-    /// left counts as refused too.
+    /// An allocation failed: the crew's own, a channel's, or the machine's, which then refuses a call. A worker's call for which no
+    /// ticket is left counts as refused too, and mail that spells no message, which no crew sends.
     #[error("Memory")]
     Memory,
-    /// A worker's thread could not be started, or a call was left behind.
+    /// A worker's thread could not be started, or left a call behind.
     #[error("NoThread")]
     NoThread,
     /// A channel was closed: the crew that was to take its mail ended early.
@@ -52,18 +51,6 @@ impl<M: Drop> From<Memory<M>> for CrewFault {
     ghost from_gives = { λ _ fault. fault ≡ Memory };
 
     fn from(_: Memory<M>) -> CrewFault {
-        CrewFault::Memory
-    }
-}
-
-// A crew makes a buffer of capacity 1 alone, which is refused for memory alone.
-impl From<BufferFault> for CrewFault {
-    ghost use Rattle.std.specs.Prelude.{◌≡◌};
-    ghost use Rattle.warm_threads.specs.declared.fault.CrewFault.TheVariants.{Memory};
-
-    ghost from_gives = { λ _ fault. fault ≡ Memory };
-
-    fn from(_: BufferFault) -> CrewFault {
         CrewFault::Memory
     }
 }

@@ -5,7 +5,8 @@
 //! lines there may be, and what is printed.
 //!
 //! - `reading` reads a schedule whole, `ask` a line of it, and `plan` makes the jobs of the workers.
-//! - `work` runs the workers' jobs, and `exchange` has a replica send and hear; both are generic in the machine behind a turn.
+//! - `work` runs the workers' jobs, over a machine behind a turn; `exchange` has a replica send and receive, and calls the machine
+//!   directly. Both are generic in the machine.
 //! - `crews` does both for all replicas at once, and `play` puts all together. `fault` says why they fail.
 #![tactic(auto)]
 

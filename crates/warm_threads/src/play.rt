@@ -1,5 +1,5 @@
 //! A schedule played by threads, over nodes.
-ghost use Rattle.std.specs.Prelude.{◌≡◌, ◌≤◌, ◌↔◌, ◌⊎◌, List, ℕ, length, map, Some, None};
+ghost use Rattle.std.specs.Prelude.{◌≡◌, ◌≢◌, ◌≤◌, ◌↔◌, List, ℕ, length, map, Some, None};
 ghost use Rattle.std.specs.Prelude.{OnOk, IfOk, IfErr, IfSome, Err, IsTrue};
 ghost use Rattle.std.specs.Global.{Vec};
 ghost use Rattle.std.specs.List.{All};
@@ -17,6 +17,7 @@ ghost use Rattle.warm_threads.specs.Opened.{opened_node, opened_nodes, AreUsable
 ghost use Rattle.warm_threads.specs.Plans.{AreJobsOf};
 ghost use Rattle.warm_threads.specs.Shown.{replica_text, replicas_text};
 ghost use Rattle.warm_threads.specs.Played.{Played};
+ghost use Rattle.warm_threads.specs.Refusals.{OpenRefused, StopsThreads, ThreadsRefused};
 ghost use Rattle.warm_threads.specs.Works.{Went};
 
 use crate::crews::run_all;
@@ -127,8 +128,9 @@ fn nodes_over<D: PageDevice>(
     ensures count { IfOk result (λ nodes. length nodes.items ≡ setup.replicas) }
     ensures misfit { (AreUsable setup (listed D.state devices.items) → ⊥)
         → result ≡ Err BadDevices }
-    ensures usable { AreUsable setup (listed D.state devices.items)
-        → IfErr result (λ why. why ≡ Memory) }
+    ensures usable { OnOk result (AreUsable setup (listed D.state devices.items)) }
+    ensures refused { IfErr result (λ why.
+        OpenRefused setup (listed D.state devices.items) why) }
 {
     if !are_usable(setup, &devices) {
         return Err(PlayFault::BadDevices);
@@ -173,6 +175,7 @@ fn play_over<M: Absorbing + Send + Drop, T: Threads + Wait + Sync, R: Read>(
         (λ text. first_bad setup (lines text) ≡ None)) }
     ensures bad { (number : ℕ) → result ≡ Err (BadLine number)
         → IfSome (R.remaining reader.old) (λ text. first_bad setup (lines text) ≡ Some number) }
+    ensures stopped { IfErr result StopsThreads }
     ensures each { IfOk result (λ v. length v.items ≡ setup.replicas) }
     ensures went { IfOk result (λ v. (jobs : List (Vec Job))
         × IfSome (R.remaining reader.old) (λ text. AreJobsOf setup (asks setup (lines text)) jobs)
@@ -190,12 +193,12 @@ fn play_over<M: Absorbing + Send + Drop, T: Threads + Wait + Sync, R: Read>(
 /// The schedule is read whole, and may hold `ref` and `flush` lines of the setup's replicas and workers; blank lines and comments
 /// are passed over. Each worker has a thread that does its own lines in their order: a full buffer is flushed before a further
 /// reference, and what a buffer holds at the end is flushed last. When all have ended, each replica sends every bucket whole to each
-/// other, and then a Stop; loops over mail, in threads of their own where these can be made, take what was sent, until a Stop of each
-/// other replica or 1,000,000 items came. It may wait.
+/// other, and then a Stop. When all have sent, each receives what was sent to it, until a Stop of each other replica or 1,000,000 items
+/// came. Replicas do so in threads of their own where these can be made. It may wait.
 ///
 /// # Errors
 /// - `BadDevices`: the devices are not one list for each replica, each of at most [`warm_pool::MAX_DEVICES`], with pages of the
-///   setup's size. Nothing was read.
+///   setup's size. Nothing was read or written.
 /// - `ReadFault`: the reader failed, or 2^40 reads came to no end.
 /// - `BadLine` with the number of the first line that is none of these. No thread was started.
 /// - `Memory`: an allocation failed, of a worker, of a replica or of a channel too.
@@ -204,7 +207,7 @@ fn play_over<M: Absorbing + Send + Drop, T: Threads + Wait + Sync, R: Read>(
 /// - `WriteFault`: the writer failed.
 ///
 /// Of the faults of the threads (`CrewFault`), `Memory` comes out as `Memory`, and `NoThread` and `Closed` as `NoThread`. In each
-/// case all devices are dropped. Nothing is said of how much was written.
+/// case all devices are dropped. Nothing was written but where it is `WriteFault`, and then nothing is said of how much.
 pub fn play_threads<D, T, R, W>(
     rt: &T,
     alloc: Global,
@@ -219,12 +222,16 @@ where
     R: Read,
     W: Write,
     ensures misfit { (AreUsable setup (listed D.state devices.items) → ⊥)
-        → result ≡ Err BadDevices }
+        → (result ≡ Err BadDevices)
+        × (reader.new ≡ reader.old) × (writer.new ≡ writer.old) }
     ensures end { OnOk result (IsAtEnd (R.remaining reader.new)) }
     ensures good { OnOk result (IfSome (R.remaining reader.old)
         (λ text. first_bad setup (lines text) ≡ None)) }
     ensures bad { (number : ℕ) → result ≡ Err (BadLine number)
         → IfSome (R.remaining reader.old) (λ text. first_bad setup (lines text) ≡ Some number) }
+    ensures refused { IfErr result (λ why.
+        ThreadsRefused setup (listed D.state devices.items) why) }
+    ensures unwritten { IfErr result (λ why. why ≢ WriteFault → writer.new ≡ writer.old) }
     ensures played { OnOk result (IfSome (R.remaining reader.old) (λ text. (out : List ℕ)
         × Played setup (listed D.state devices.items) text out
         × Appends (W.contents writer.old) (W.contents writer.new) out)) }

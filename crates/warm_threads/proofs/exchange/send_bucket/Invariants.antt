@@ -1,6 +1,6 @@
-use Rattle.warm_threads.specs.Works.{Leads}
+use Rattle.warm_threads.proofs.Exchangings.{IsSending}
 use Rattle.warm_threads.proofs.exchange.send_bucket.Given as goal
 
--- the machine was led here by its calls
+-- what the bucket has up to this page was sent
 abbrev pub invariant-loop : goal.invariant-loop
-invariant-loop g l = Leads g.M.Machine.goes (g.M.Machine.view l.fn.machine) (g.M.Machine.view l.machine)
+invariant-loop g l = IsSending g.M.Machine.goes l.fn.bucket (g.M.Machine.view l.fn.machine) l.after (g.M.Machine.view l.machine)

@@ -1,0 +1,31 @@
+-- Which faults end a play by threads.
+use Rattle.std.specs.Prelude.{List}
+use Rattle.warm_devices.specs.Device.{DeviceState}
+use Rattle.warm_play_fault.specs.declared.PlayFault.{PlayFault}
+use Rattle.warm_play_fault.specs.declared.PlayFault.TheVariants.{Memory, ReadFault, WriteFault, BadLine, NoThread, BadDevices}
+use Rattle.warm_world.specs.Sizes.{Sizes}
+use Rattle.warm_threads.specs.Opened.{AreUsable}
+
+-- what stops the threads of a play: want of memory, of a thread, or of a replica that takes mail
+abbrev pub StopsCrews : PlayFault → Type 0
+StopsCrews Memory = Unit {0}
+StopsCrews NoThread = Unit {0}
+StopsCrews why = ⊥
+
+-- what stops a play that has begun: the same, the reader, the writer, or a line that threads can't play
+abbrev pub StopsThreads : PlayFault → Type 0
+StopsThreads ReadFault = Unit {0}
+StopsThreads WriteFault = Unit {0}
+StopsThreads (BadLine number) = Unit {0}
+StopsThreads why = StopsCrews why
+
+-- why no play begins: the devices can't be used; or they can, and there is no memory
+abbrev pub OpenRefused : Sizes → List (List DeviceState) → PlayFault → Type 0
+OpenRefused s devices BadDevices = AreUsable s devices → ⊥
+OpenRefused s devices Memory = AreUsable s devices
+OpenRefused s devices why = ⊥
+
+-- why a play does not come to its end: the devices can't be used; or they can, and it was stopped
+abbrev pub ThreadsRefused : Sizes → List (List DeviceState) → PlayFault → Type 0
+ThreadsRefused s devices BadDevices = AreUsable s devices → ⊥
+ThreadsRefused s devices why = AreUsable s devices × StopsThreads why
