@@ -145,8 +145,8 @@ impl<D: PageDevice> Node<D> {
 
     /// A message of the digests of all buckets: the call `Offer`.
     ///
-    /// The digests are kept. Having them costs nothing where nothing was taken in since the last offer or the last digests received, and
-    /// else a pass over the history, and the hashing of the buckets of what was.
+    /// The digests are kept. Having them costs nothing where nothing was taken in or forgotten since the last offer or the last digests
+    /// received; else a pass over the buckets of what was, whose entries are hashed.
     ///
     /// # Errors
     /// `Memory`: an allocation failed; nothing has changed that a caller sees, and the next offer takes the same digests again.

@@ -28,8 +28,8 @@ pub enum PlayFault {
     /// nothing was written.
     #[error("BadLine")]
     BadLine(u64),
-    /// A thread could not be started, for want of memory or otherwise: 5. Only a play by threads answers it. The threads that were
-    /// started have run to their end.
+    /// A thread could not be started, for want of memory or otherwise, or left a call behind; or a replica ended before all was sent to
+    /// it, and no replica has another fault: 5. Only a play by threads answers it. The threads that were started have run to their end.
     #[error("NoThread")]
     NoThread,
     /// The world refused the devices, for the number of their lists or the size of their pages: 6.
