@@ -2,7 +2,7 @@
 """Measures visits to resident pages of a pool, pins of pages that are in no frame, and the emptying of a full pool beside those in plain
 Rust, and how emptying a pool and retiring a device grow with the frames, and prints the tables of docs/PERFORMANCE.md.
 
-usage: measure.py [NAME..]      empty, full, visits, misses, boxed (all, where none is named)
+usage: measure.py [NAME..]      empty, full, visits, misses, boxed, strides (all, where none is named)
 
 It wants the proved program (`rt run` in crates/benches leaves it as crates/benches/out/benches) and `rustc`.
 The programs run in turn, five times, and the fastest run of each counts. All must print the same sum.
@@ -131,7 +131,32 @@ def print_misses() -> None:
     beside(["misses", str(MISSES)], MISSES, PLAINS)
 
 
-TABLES = {"empty": print_emptying, "full": print_full, "visits": print_visits, "misses": print_misses, "boxed": print_boxed}
+def searches(command: list[str | Path]) -> dict[str, float]:
+    """The nanoseconds of one search, by which pages are in the frames."""
+    said = subprocess.run(command, stdout=subprocess.PIPE, check=True, text=True).stdout
+    return {which: int(spent.split()[0]) / (16 * MANY) for which, spent in (line.split(": ") for line in said.splitlines())}
+
+
+def print_strides() -> None:
+    """Of the strides, powers of two up to 2^40, that which takes longest."""
+    print("| index | drawn pages, ns | the longest stride, ns | one page of each device, ns | the longest by drawn |")
+    print("|---|---|---|---|---|")
+    with tempfile.TemporaryDirectory() as folder:
+        plain = Path(folder) / "plain"
+        subprocess.run(["rustc", "-O", "--edition", "2024", "-o", plain, HERE / "plain.rs"], check=True)
+        commands = {"ours": [*OURS, "strides", str(MANY)], "a HashMap": [plain, "strides"], "a HashMap whose hash multiplies": [plain, "strides", "mixed"]}
+        for name, command in commands.items():
+            rounds = [searches(command) for _ in range(RUNS)]
+            best = {which: min(spent[which] for spent in rounds) for which in rounds[0]}
+            longest = max((spent, which) for which, spent in best.items() if which.startswith("stride"))
+            print(
+                f"| {name} | {best['drawn']:.0f} | {longest[0]:.0f} ({longest[1].removeprefix('stride ')}) | {best['devices']:.0f} | "
+                f"{max(longest[0], best['devices']) / best['drawn']:.2f} |",
+                flush=True,
+            )
+
+
+TABLES = {"empty": print_emptying, "full": print_full, "visits": print_visits, "misses": print_misses, "boxed": print_boxed, "strides": print_strides}
 
 
 def main() -> None:

@@ -1,7 +1,8 @@
 //! The visits and misses of `benches pool` in plain Rust, over a pool with a `HashMap` for its index.
 //!
 //! With no argument 1,000 visits are made; with a number that many, and the nanoseconds are printed too; with `misses` and a
-//! number that many pins of pages that are in no frame; with `empty` a full pool is emptied, and the nanoseconds are printed. The map has the hash that std gives it, or, with a further word `mixed`,
+//! number that many pins of pages that are in no frame; with `empty` a full pool is emptied, and the nanoseconds are printed; with `strides`
+//! pages are found in the map alone, by how far apart they are. The map has the hash that std gives it, or, with a further word `mixed`,
 //! one that multiplies, as that of the proved pool's index does. The page that leaves is found by a winner tree, as in the
 //! proved pool, or, with a further word `ordered`, by a `BTreeSet` of ranks.
 
@@ -422,9 +423,45 @@ fn done<H: BuildHasher + Default, C: Contest>(what: &str, count: u32) -> Option<
     }
 }
 
+const FIRST: Page = Page { dev: 0, no: 0 };
+
+/// How long it takes to find each of as many pages as there are frames, which follow one another so, 16 times.
+fn searched<S: BuildHasher + Default>(after: impl Fn(Page) -> Page) -> Duration {
+    let mut frames = HashMap::with_capacity_and_hasher(FRAMES as usize, S::default());
+    let mut page = FIRST;
+    for frame in 0..FRAMES {
+        frames.insert(page, frame);
+        page = after(page);
+    }
+    let start = Instant::now();
+    for _ in 0..16 {
+        let mut page = FIRST;
+        let mut found = 0;
+        for _ in 0..FRAMES {
+            found += u32::from(frames.contains_key(&page));
+            page = after(page);
+        }
+        assert_eq!(black_box(found), FRAMES, "all pages are found");
+    }
+    start.elapsed()
+}
+
+/// Prints it of pages that are drawn, of pages apart by each power of two up to 2^40, and of one page of each of as many devices.
+fn print_strides<S: BuildHasher + Default>() {
+    let drawn = |page: Page| Page { no: page.no.wrapping_mul(6_364_136_223_846_793_005).wrapping_add(1_442_695_040_888_963_407), ..page };
+    println!("drawn: {} ns", searched::<S>(drawn).as_nanos());
+    for power in 0..41 {
+        println!("stride 2^{power}: {} ns", searched::<S>(|page| Page { no: page.no + (1 << power), ..page }).as_nanos());
+    }
+    println!("devices: {} ns", searched::<S>(|page| Page { dev: page.dev.wrapping_add(1), ..page }).as_nanos());
+}
+
 fn main() {
     let words: Vec<String> = std::env::args().skip(1).collect();
     let has = |word: &str| words.iter().any(|other| other == word);
+    if has("strides") {
+        return if has("mixed") { print_strides::<BuildHasherDefault<Mixed>>() } else { print_strides::<RandomState>() };
+    }
     let number = words.iter().find_map(|word| word.parse().ok());
     let count = number.unwrap_or(1_000);
     let what = ["misses", "empty"].into_iter().find(|what| has(what)).unwrap_or("visits");

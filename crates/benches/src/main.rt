@@ -11,6 +11,7 @@ mod history;
 mod parts;
 mod pool;
 mod replica;
+mod strides;
 mod turn;
 
 use anyhow::{Result, bail};

@@ -8,11 +8,14 @@
 //! - `empty` or `retire`, a number of frames and a word: a pool of that many frames is emptied, or the device of the pages that it
 //!   holds is retired (where all frames hold one, that of the lower half).
 //!
+//! - `strides` and a number of frames: how long the pages of a full pool are searched, by how far apart they are (`strides.rt`).
+//!
 //! With no word a little of each is done.
 ghost use Rattle.std.specs.Prelude.{IfOk};
 ghost use Rattle.warm_pool.specs.State.{IsRankedByAll, RankedBy};
 
 use crate::parts::{added, next, replica, twice};
+use crate::strides;
 use anyhow::{Context, Result, bail};
 use std::alloc::Global;
 use std::time::{Clock, Duration, Instant};
@@ -433,7 +436,7 @@ fn play_small(rt: &HostRuntime) -> Result<()> {
     println!(rt; "4096 frames emptied")?;
     timed(rt, rt.alloc(), 4_096, Held::UpperHalf, Call::Retire)?;
     println!(rt; "the device of 2048 frames retired")?;
-    Ok(())
+    strides::play_small(rt)
 }
 
 // Says what visits or misses read, and the time that they took.
@@ -462,6 +465,11 @@ fn play_call(rt: &HostRuntime, call: Call, frames: &str, held: &str) -> Result<(
     Ok(())
 }
 
+fn play_strides(rt: &HostRuntime, frames: &str) -> Result<()> {
+    let frames = frames.parse::<usize>().context("the number of frames")?;
+    strides::play(rt, frames)
+}
+
 // Visits or misses, as the words say.
 fn play_pins(rt: &HostRuntime, place: Place, words: &[String]) -> Result<()> {
     match words {
@@ -475,6 +483,7 @@ pub(crate) fn play(rt: &HostRuntime, words: &[String]) -> Result<()> {
     match words {
         [] => play_small(rt),
         [word, rest @ ..] if word.as_str() == "boxed" => play_pins(rt, Place::Boxed, rest),
+        [word, frames] if word.as_str() == "strides" => play_strides(rt, frames),
         [call, frames, held] => play_call(rt, Call::from_word(call)?, frames, held),
         _ => play_pins(rt, Place::Named, words),
     }

@@ -7,6 +7,7 @@ mod dropped;
 mod formats;
 mod horizons;
 mod sizes;
+mod warm_ups;
 
 use std::alloc::Global;
 use std::process::Abort;

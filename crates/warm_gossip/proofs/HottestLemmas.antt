@@ -25,7 +25,7 @@ use Rattle.warm_rank.proofs.LeavingLemmas.{leaving_order}
 -- ---- the items of a list
 
 -- what is true of all is true of each
-all_has : {A : Type 0} (P : A → Type 0) (xs : List A) (x : A) → AllByRecursion P xs → Has xs x → P x
+pub all_has : {A : Type 0} (P : A → Type 0) (xs : List A) (x : A) → AllByRecursion P xs → Has xs x → P x
 all_has P [] x all has = absurd has
 all_has P (y ∷ ys) x all (inl is) = subst P is all.0
 all_has P (y ∷ ys) x all (inr later) = all_has P ys x all.1 later
@@ -35,7 +35,7 @@ has_take : {A : Type 0} (n : ℕ) (xs : List A) (x : A) → Has (take n xs) x �
 has_take n xs x has = all_has (Has xs) (take n xs) x (all_take (Has xs) n xs (all_of_has (Has xs) xs (λ y is. is))) has
 
 -- the two ways to say that a list has an item
-contains_has : {A : Type 0} (xs : List A) (x : A) → Contains xs x → Has xs x
+pub contains_has : {A : Type 0} (xs : List A) (x : A) → Contains xs x → Has xs x
 contains_has xs x contained = All-contains (Has xs) xs x (All-from_recursion (Has xs) xs (all_of_has (Has xs) xs (λ y has. has))) contained
 
 pub has_contains : {A : Type 0} (xs : List A) (x : A) → Has xs x → Contains xs x

@@ -55,7 +55,7 @@ pub none_changed : (old new : NodeView) → new ≡ old → KeepsNode old new
 none_changed old new same = subst (KeepsNode old) (sym same) (refl, λ i. refl)
 
 -- where the number of fixes of one frame changes
-fixes_change : (v w : PoolView) (k n : ℕ) → k < length v.frames → w.frames ≡ set v.frames k (record (frame_at v k) { fixes = n }) → KeepsPages v w
+pub fixes_change : (v w : PoolView) (k n : ℕ) → k < length v.frames → w.frames ≡ set v.frames k (record (frame_at v k) { fixes = n }) → KeepsPages v w
 fixes_change v w k n there becomes i =
     let changed : FrameView = record (frame_at v k) { fixes = n } in
     same_frames (record v { frames = set v.frames k changed }) w becomes i

@@ -29,6 +29,7 @@ use Rattle.warm_gossip.specs.declared.call.Call.TheVariants.{WarmStep}
 use Rattle.warm_gossip.specs.declared.call.Reply.TheVariants.{Loaded, Refused}
 use Rattle.warm_gossip.specs.State.{NodeView}
 use Rattle.warm_gossip.specs.Step.{IsFirstLoadable, IsLoadable, IsNextWarm, Step, nth_page}
+use Rattle.warm_gossip.specs.WarmingUp.{IsPast}
 use Rattle.warm_gossip.specs.WarmUps.{PagesDiffer, WarmSteps, WarmStepKeepsHottest, WarmUpLoads}
 use Rattle.warm_gossip.proofs.HottestLemmas.{has_contains, after_listed}
 use Rattle.warm_gossip.proofs.Ranks.{differs}
@@ -37,7 +38,7 @@ use Rattle.warm_gossip.proofs.VictimLemmas.{no_frame, frames_after, none_changed
 -- ---- the pages in the frames
 
 -- a frame has this page, or it has not
-held_or_not : (p : PageId) (o : Option PageId) → (o ≡ Some p) ⊎ (o ≢ Some p)
+pub held_or_not : (p : PageId) (o : Option PageId) → (o ≡ Some p) ⊎ (o ≢ Some p)
 held_or_not p o = elim (cases_Bool (is_page p o)) [ inl is ↦ inl (page_found p o is) | inr is ↦ inr (λ held. absurd (false≢true (sym is ∙ found_page p o held))) ]
 
 -- a page is in a frame, or in none
@@ -64,7 +65,7 @@ unfixed_has (f ∷ fs) unfixed (suc i) p is =
     rw (unfixed 0) (elim f.page as (λ o. Has (cons_option o (pages_in (map unfixed_page fs))) p) [ None ↦ later | Some q ↦ inr later ])
 
 -- over the same devices a page is had, whatever the frames
-has_same : (v w : PoolView) (p : PageId) → w.devices ≡ v.devices → HasPage v p → HasPage w p
+pub has_same : (v w : PoolView) (p : PageId) → w.devices ≡ v.devices → HasPage v p → HasPage w p
 has_same v w p same has = record { device = rw same has.device; number = rw same has.number }
 
 same_page : (p q : PageId) → Decides (eq_by_cmp page_cmp p q) (p ≡ q)
@@ -138,12 +139,12 @@ stays S n s {w} {q} {slot} warming puts new p listed =
         (λ i r is. last r (has_contains U r (unfixed_has s.pool.frames warming.unfixed i r is)))
 
 -- there are as many frames as before
-frames_count : {h : HistoryView} {v w : PoolView} {q : PageId} {slot : Slot} → PutsIn h v q 0 slot w → length w.frames ≡ length v.frames
-frames_count {h} {v} {w} {q} {slot} puts = ap (λ x. length x.frames) puts.becomes ∙ length-set v.frames slot.index _
+pub frames_count : {h : HistoryView} {v w : PoolView} {q : PageId} {fixes : ℕ} {slot : Slot} → PutsIn h v q fixes slot w → length w.frames ≡ length v.frames
+frames_count {h} {v} {w} {q} {fixes} {slot} puts = ap (λ x. length x.frames) puts.becomes ∙ length-set v.frames slot.index _
 
 -- the page is in the frame into which it was put
-came_in : {h : HistoryView} {v w : PoolView} {q : PageId} {slot : Slot} → PutsIn h v q 0 slot w → (frame_at w slot.index).page ≡ Some q
-came_in {h} {v} {w} {q} {slot} puts = frames_after puts (λ i f. i ≡ slot.index → f.page ≡ Some q) (λ same. refl) (λ j other same. absurd (other same)) slot.index refl
+pub came_in : {h : HistoryView} {v w : PoolView} {q : PageId} {fixes : ℕ} {slot : Slot} → PutsIn h v q fixes slot w → (frame_at w slot.index).page ≡ Some q
+came_in {h} {v} {w} {q} {fixes} {slot} puts = frames_after puts (λ i f. i ≡ slot.index → f.page ≡ Some q) (λ same. refl) (λ j other same. absurd (other same)) slot.index refl
 
 -- still no page is in two frames
 differ_after : {h : HistoryView} {v w : PoolView} {q : PageId} {slot : Slot} → PutsIn h v q 0 slot w → PagesDiffer v → PagesDiffer w
@@ -152,10 +153,6 @@ differ_after {h} {v} {w} {q} {slot} puts differ i j p first =
     (λ came. frames_after puts (λ l f. f.page ≡ Some p → slot.index ≡ l) (λ same. refl) (λ l other had. absurd (puts.absent l (had ∙ sym came))))
     (λ k other had. frames_after puts (λ l f. f.page ≡ Some p → k ≡ l) (λ came. absurd (puts.absent k (had ∙ sym came))) (λ l too. differ k l p had))
     i first j
-
--- none of the first k pages of the list could be loaded
-abbrev IsPast : List PageId → ℕ → PoolView → Type 0
-IsPast list k v = (j : ℕ) → j < k → j < length list → IsLoadable v (nth_page list j) → ⊥
 
 -- a step has passed so one page more
 record Advances (S : ReferenceSet) (n k : ℕ) (old new : NodeView) : Type 0 where

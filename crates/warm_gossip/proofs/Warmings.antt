@@ -1,17 +1,15 @@
 -- What loading does of a page that a device has and no frame.
-use Rattle.std.proofs.Common.{◌≡◌, ℕ, List, Option, length, ap, inl, inr, subst, sym, ◌∙◌, arith}
+use Rattle.std.proofs.Common.{◌≡◌, ℕ, List, Option, Some, length, ap, inl, inr, subst, sym, arith}
 use Rattle.warm_stamps.specs.declared.PageId.{PageId}
-use Rattle.warm_history.specs.Histories.{HistoryView, IsHistory, history, refs}
+use Rattle.warm_history.specs.Histories.{HistoryView, IsHistory, refs}
 use Rattle.warm_history.proofs.JoinLemmas.{history_of_own_references}
 use Rattle.warm_rank.specs.Ranking.{warm}
+use Rattle.warm_rank.specs.WarmUp.{IsWarmUp}
 use Rattle.warm_pool.specs.declared.slot.Slot.{Slot}
 use Rattle.warm_pool.specs.declared.fault.PoolFault.{PoolFault}
 use Rattle.warm_pool.specs.declared.fault.PoolFault.TheVariants.{NoDevice, NoPage}
-use Rattle.warm_pool.specs.State.{PoolState}
-use Rattle.warm_pool.specs.View.{view_of, PoolView}
+use Rattle.warm_pool.specs.View.{PoolView}
 use Rattle.warm_pool.specs.Pinning.{Loaded, LoadRefused, PutsIn, PutRefused}
-use Rattle.warm_gossip.specs.declared.remembered.Hottest.{Hottest}
-use Rattle.warm_gossip.specs.Remembered.{IsHottest}
 use Rattle.warm_gossip.specs.State.{NodeView}
 use Rattle.warm_gossip.specs.Step.{IsFirstLoadable, IsLoadable}
 
@@ -33,9 +31,11 @@ pub same_node : (id : ℕ) (v : PoolView) (h k : HistoryView) → k ≡ h → no
 same_node id v h k is = ap (node id v) is
 
 -- the first page of a list of as many of the hottest pages as there are frames is the next to load
-pub next_warm : (s : PoolState) (h k : HistoryView) (list : Hottest) (ps : List PageId) (n : ℕ) (o : Option PageId) → IsHistory k → k ≡ h
-    → IsHottest h list → list.asked ≡ n → ps ≡ list.pages.items → n ≡ length (view_of s).frames
-    → IsFirstLoadable (view_of s) ps o → IsFirstLoadable (view_of s) (warm (refs h) (length (view_of s).frames)) o
-next_warm s h k list ps n o whole is hottest many are frames =
-    let own : h ≡ history (refs h) = sym (history_of_own_references h (subst IsHistory is whole)) in
-    subst (λ xs. IsFirstLoadable (view_of s) xs o) (are ∙ hottest (refs h) own ∙ ap (warm (refs h)) (many ∙ frames))
+pub next_warm : (v : PoolView) (h : HistoryView) (ps : List PageId) (o : Option PageId) → IsHistory h → IsWarmUp h (length v.frames) ps
+    → IsFirstLoadable v ps o → IsFirstLoadable v (warm (refs h) (length v.frames)) o
+next_warm v h ps o whole hottest = subst (λ xs. IsFirstLoadable v xs o) (hottest (refs h) (sym (history_of_own_references h whole)))
+
+-- the same of a page that is that one
+pub next_is : (v : PoolView) (h : HistoryView) (ps : List PageId) (p q : PageId) → IsHistory h → IsWarmUp h (length v.frames) ps
+    → IsFirstLoadable v ps (Some p) → p ≡ q → IsFirstLoadable v (warm (refs h) (length v.frames)) (Some q)
+next_is v h ps p q whole hottest first is = next_warm v h ps (Some q) whole hottest (subst (λ x. IsFirstLoadable v ps (Some x)) is first)

@@ -1,10 +1,10 @@
 pub mod Faults
 pub mod State
-pub mod Remembered
 pub mod Answers
 pub mod Pieces
 pub mod Round
 pub mod Step
+pub mod WarmingUp
 pub mod Batches
 pub mod Told
 pub mod Clauses

@@ -6,9 +6,8 @@ ghost use Rattle.warm_history.specs.Losses.{bucket_since, raised};
 ghost use Rattle.warm_digest.specs.BucketDigests.{digests_since};
 ghost use Rattle.warm_gossip.specs.Answers.{AnswersDigests, entry_messages, requested_messages, refs_in};
 
-use crate::remembered::Remembered;
 use std::alloc::{AllocError, Global};
-use warm_digest::differing;
+use warm_digest::{DigestedHistory, differing};
 use warm_frames::{DigestTable, EntryList, MAX_ENTRIES, Message};
 use warm_history::{Entry, History};
 use warm_stamps::{BUCKETS, Bucket, ReplicaId};
@@ -147,13 +146,13 @@ fn answer_given(
 pub(crate) fn answer_to_digests(
     alloc: Global,
     id: ReplicaId,
-    history: &mut Remembered,
+    history: &mut DigestedHistory,
     horizon: u64,
     digests: &DigestTable,
 ) -> Result<Vec<Message>, AllocError>
     ensures answer { IfOk result (λ messages.
-        AnswersDigests id (raised horizon history.old) digests.now messages.items) }
-    ensures same { history.new ≡ history.old }
+        AnswersDigests id (raised horizon history.old.history) digests.now messages.items) }
+    ensures same { history.new.history ≡ history.old.history }
 {
     let own = history.digests_since(horizon)?;
     answer_given(alloc, id, history.history(), horizon, &own, digests)

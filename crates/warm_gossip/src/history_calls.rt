@@ -1,5 +1,5 @@
 //! The calls on a node's history.
-ghost use Rattle.std.specs.Prelude.{◌≡◌, IfErr, IfOk, OnOk, map};
+ghost use Rattle.std.specs.Prelude.{◌≡◌, IfErr, IfOk, OnOk};
 ghost use Rattle.warm_gossip.specs.declared.call.Call.TheVariants.{Absorb, Send, Offer, Receive, Horizon, WarmList};
 ghost use Rattle.warm_gossip.specs.declared.call.Reply.TheVariants.{Sent, Answers, Kept, Pages};
 ghost use Rattle.warm_gossip.specs.declared.fault.NodeFault.TheVariants.{Memory};
@@ -9,7 +9,7 @@ ghost use Rattle.warm_gossip.specs.Clauses.{Answered, Goes, Learns, SameView, do
 use crate::answers::{answer_to_digests, horizon_of, requested_messages};
 use crate::fault::NodeFault;
 use crate::node::Node;
-use std::alloc::{AllocError, Global};
+use crate::warm_step::WarmUp;
 use warm_devices::PageDevice;
 use warm_frames::{EntryList, MAX_ENTRIES, Message, MessageList};
 use warm_history::Entry;
@@ -25,9 +25,9 @@ impl<D: PageDevice> Node<D> {
     pub fn absorb(&mut self, batch: &[Reference]) -> Result<(), NodeFault>
         ensures { Answered self.old (Absorb batch.now) done result self.new }
     {
-        let touched = pages_of_references(self.alloc, batch)?;
         self.history.absorb(batch)?;
-        self.pool.refresh(self.history.history(), &touched);
+        self.warm_up = WarmUp::new();
+        self.pool.refresh(self.history.history(), batch);
         Ok(())
     }
 
@@ -36,14 +36,14 @@ impl<D: PageDevice> Node<D> {
         ensures learnt { OnOk result (Learns self.old horizon entries.now self.new) }
         ensures refused { IfErr result (λ why. (why ≡ Memory) × SameView self.old self.new) }
     {
-        let named = pages_of_entries(self.alloc, entries)?;
         let own = self.history.horizon();
         self.history.join_entries(horizon, entries)?;
+        self.warm_up = WarmUp::new();
         if own < horizon {
             self.pool.refresh_all(self.history.history());
             return Ok(());
         }
-        self.pool.refresh(self.history.history(), &named);
+        self.pool.refresh(self.history.history(), entries);
         Ok(())
     }
 
@@ -60,6 +60,7 @@ impl<D: PageDevice> Node<D> {
             return own;
         }
         self.history.raise(time);
+        self.warm_up = WarmUp::new();
         self.pool.refresh_all(self.history.history());
         self.history.horizon()
     }
@@ -174,18 +175,4 @@ impl<D: PageDevice> Node<D> {
         let pages = warm_list(self.alloc, history, n)?;
         Ok(PageList::of(pages))
     }
-}
-
-// The pages of references, as they come.
-fn pages_of_references(alloc: Global, batch: &[Reference]) -> Result<Vec<PageId>, AllocError>
-    ensures { IfOk result (λ pages. pages.items ≡ map (λ r. r.page) batch.now) }
-{
-    batch.iter().map(|reference| reference.page).collect(alloc)
-}
-
-// The pages of entries, as they come.
-fn pages_of_entries(alloc: Global, entries: &[Entry]) -> Result<Vec<PageId>, AllocError>
-    ensures { IfOk result (λ pages. pages.items ≡ map (λ e. e.page) entries.now) }
-{
-    entries.iter().map(|entry| entry.page).collect(alloc)
 }

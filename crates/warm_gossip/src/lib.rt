@@ -24,7 +24,6 @@ pub mod laws;
 mod machine;
 mod node;
 mod pool_calls;
-mod remembered;
 mod warm_step;
 
 pub use call::{Call, Reply};

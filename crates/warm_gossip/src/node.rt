@@ -8,10 +8,11 @@ ghost use Rattle.warm_gossip.specs.Clauses.{Answered, Goes};
 
 use crate::call::{Call, Reply};
 use crate::fault::NodeFault;
-use crate::remembered::Remembered;
+use crate::warm_step::WarmUp;
 use std::alloc::Global;
 use std::marker::Model;
 use warm_devices::PageDevice;
+use warm_digest::DigestedHistory;
 use warm_history::History;
 use warm_pool::Pool;
 use warm_stamps::ReplicaId;
@@ -24,12 +25,13 @@ use warm_stamps::ReplicaId;
 /// A pin is no reference: pages are ranked by the references that the node absorbed. Whoever pins a page also absorbs one.
 ///
 /// To clauses a node is plain data, of which it always holds that its pool is ranked by its history. What a caller sees of it is its
-/// `node_view`.
+/// `node_view`; what it keeps of a warm-up is no part of it.
 pub struct Node<D: PageDevice> {
     pub(crate) alloc: Global,
     pub(crate) id: ReplicaId,
-    pub(crate) history: Remembered,
+    pub(crate) history: DigestedHistory,
     pub(crate) pool: Pool<D>,
+    pub(crate) warm_up: WarmUp,
 }
 
 // By hand, so that an owner makes one call at each way out (see `History`).
@@ -40,21 +42,26 @@ impl<D: PageDevice> Drop for Node<D> {
             id: _,
             history,
             pool,
+            warm_up,
         } = self;
         drop(history);
         drop(pool);
+        drop(warm_up);
     }
 }
 
 impl<D: PageDevice> Model for Node<D> {
     ghost use Rattle.warm_pool.specs.State.{RankedBy};
+    ghost use Rattle.warm_pool.specs.View.{view_of};
     ghost use Rattle.warm_gossip.specs.State.{NodeState};
+    ghost use Rattle.warm_gossip.specs.WarmingUp.{IsWarming};
 
     ghost Value = { NodeState };
 
-    ghost view = { λ n. record { id = n.id; history = n.history; pool = n.pool } };
+    ghost view = { λ n. record { id = n.id; history = n.history.history; pool = n.pool } };
 
-    ghost invariant = { λ n. RankedBy n.pool n.history };
+    ghost invariant = { λ n. RankedBy n.pool n.history.history
+        × IsWarming n.history.history (view_of n.pool) n.warm_up };
 }
 
 impl<D: PageDevice> Node<D> {
@@ -66,8 +73,9 @@ impl<D: PageDevice> Node<D> {
         Node {
             alloc,
             id,
-            history: Remembered::new(alloc),
+            history: DigestedHistory::new(alloc),
             pool,
+            warm_up: WarmUp::new(),
         }
     }
 
@@ -156,6 +164,7 @@ impl<D: PageDevice> Node<D> {
             id: _,
             history: _,
             pool,
+            warm_up: _,
         } = self;
         pool
     }

@@ -12,6 +12,7 @@ ghost use Rattle.warm_gossip.specs.Step.{IsWithin};
 
 use crate::fault::NodeFault;
 use crate::node::Node;
+use crate::warm_step::{WarmUp, passed_at_pin};
 use warm_devices::PageDevice;
 use warm_pool::{PoolFault, Slot};
 use warm_stamps::{ByteList, PageId};
@@ -29,6 +30,7 @@ impl<D: PageDevice> Node<D> {
         ensures frame { IfOk result (λ slot. TakesFrame self.old.pool page slot self.new.pool) }
         ensures refused { IfErr result (λ why. PinLeaves self.old page why self.new) }
     {
+        self.warm_up.passed = passed_at_pin(&self.pool, self.warm_up.passed, page);
         Ok(self.pool.pin(page, self.history.history())?)
     }
 
@@ -110,6 +112,7 @@ impl<D: PageDevice> Node<D> {
     {
         self.pool.empty()?;
         self.history.clear();
+        self.warm_up = WarmUp::new();
         Ok(())
     }
 

@@ -1,23 +1,51 @@
 //! Warming up a node's pool, a page at a time.
-ghost use Rattle.std.specs.Prelude.{◌↔◌, IsTrue};
+ghost use Rattle.std.specs.Prelude.{◌≡◌, ◌↔◌, ◌<◌, length, None, IfOk, IsTrue};
 ghost use Rattle.warm_gossip.specs.declared.call.Call.TheVariants.{WarmStep};
 ghost use Rattle.warm_gossip.specs.declared.call.Reply.TheVariants.{Loaded};
 ghost use Rattle.warm_pool.specs.View.{view_of};
 ghost use Rattle.warm_gossip.specs.Clauses.{Answered};
-ghost use Rattle.warm_gossip.specs.Step.{IsFirstLoadable, IsLoadable};
+ghost use Rattle.warm_gossip.specs.Step.{IsLoadable, nth_page};
+ghost use Rattle.warm_gossip.specs.WarmingUp.{IsPast, IsUnderWay, IsWarming, PassedAtLoad, PassedAtPin};
 
 use crate::fault::NodeFault;
 use crate::node::Node;
+use std::alloc::{AllocError, Global};
+use std::cmp::Ordering;
 use warm_devices::PageDevice;
+use warm_history::History;
 use warm_history::laws::is_history;
+use warm_pool::Pool;
+use warm_rank::{leaving_order, warm_list};
 use warm_stamps::PageId;
+
+/// How far a warm-up has come: the hottest pages, hottest first, as many as the pool has frames, where they are kept; and how many of
+/// them are passed. None of these could be loaded: each is resident, or no device has it.
+#[derive(Drop)]
+pub(crate) struct WarmUp {
+    pub(crate) pages: Option<Vec<PageId>>,
+    pub(crate) passed: usize,
+}
+
+impl WarmUp {
+    /// One that has not begun. Takes no memory.
+    pub(crate) fn new() -> WarmUp
+        ensures { result.pages ≡ None }
+    {
+        WarmUp {
+            pages: None,
+            passed: 0,
+        }
+    }
+}
 
 impl<D: PageDevice> Node<D> {
     /// Loads the hottest page that is not resident and that a device has, of as many as the pool has frames, and gives it; `None`
     /// where there is none: the call `WarmStep`. On a standby it is called until it gives none, before the standby takes over.
     ///
     /// The list of these pages is made at the first step, at the cost of [`Node::warm_list`], and kept until the node takes something
-    /// in or restarts. A step that finds it kept takes no memory for it, and looks the pages up from the hottest on until it finds one.
+    /// in or restarts. A step that finds it kept takes no memory for it, and looks pages up from where the last one came to until it
+    /// finds one to load. So a whole warm-up looks each page up once, where none leaves that was passed: after a pin that brings a page
+    /// in, or a step that puts a page of the list out, the next step begins with the hottest again.
     ///
     /// # Errors
     /// `Memory`: there was no memory for the list of the hottest pages; the next step makes it. `Pool`, with the fault and the order of
@@ -27,32 +55,102 @@ impl<D: PageDevice> Node<D> {
     {
         // The list is that of the references that the history holds: they give this very history.
         is_history(self.history.history());
-        let list = self.history.take_hottest(self.pool.frames())?;
-        let next = self.first_loadable(&list.pages);
-        self.history.keep(list);
-        let Some(page) = next else {
+        let history = self.history.history();
+        let pages = take_pages(self.alloc, &mut self.warm_up, history, &self.pool)?;
+        let at = first_loadable(&self.pool, &pages, self.warm_up.passed);
+        if at >= pages.len() {
+            self.warm_up = WarmUp {
+                pages: Some(pages),
+                passed: at,
+            };
             return Ok(None);
+        }
+        let page = pages[at];
+        self.warm_up = WarmUp {
+            pages: Some(pages),
+            passed: at,
         };
+        let victim = self.pool.victim();
         self.pool.load(page, self.history.history())?;
+        self.warm_up.passed = passed_at_load(&self.pool, self.history.history(), at, page, victim);
         Ok(Some(page))
     }
+}
 
-    // The first of the pages that a device has and no frame.
-    fn first_loadable(&self, pages: &[PageId]) -> Option<PageId>
-        ensures { IsFirstLoadable (view_of self.now.pool) pages.now result }
-    {
-        for page in pages {
-            if self.is_loadable(*page) {
-                return Some(*page);
-            }
+// The pages of the warm-up: those kept, or else made, and then none is passed.
+fn take_pages<D: PageDevice>(
+    alloc: Global,
+    warm_up: &mut WarmUp,
+    history: &History,
+    pool: &Pool<D>,
+) -> Result<Vec<PageId>, AllocError>
+    requires { IsWarming history.now (view_of pool.now) warm_up.old }
+    ensures pages { IfOk result (λ pages.
+        IsUnderWay history.now (view_of pool.now) pages.items warm_up.new.passed) }
+    ensures taken { warm_up.new.pages ≡ None }
+{
+    if let Some(pages) = warm_up.pages.take() {
+        return Ok(pages);
+    }
+    warm_up.passed = 0;
+    let pages = warm_list(alloc, history, pool.frames())?;
+    Ok(pages)
+}
+
+// The place of the first of the pages that could be loaded, from a place on before which none could; their number where none could.
+fn first_loadable<D: PageDevice>(pool: &Pool<D>, pages: &[PageId], passed: usize) -> usize
+    requires { IsPast pages.now passed (view_of pool.now) }
+    ensures past { IsPast pages.now result (view_of pool.now) }
+    ensures there { result < length pages.now
+        → IsLoadable (view_of pool.now) (nth_page pages.now result) }
+{
+    for at in passed..pages.len() {
+        if is_loadable(pool, pages[at]) {
+            return at;
         }
-        None
     }
+    pages.len()
+}
 
-    // Whether a device has the page, and no frame.
-    fn is_loadable(&self, page: PageId) -> bool
-        ensures { IsTrue result ↔ IsLoadable (view_of self.now.pool) page }
-    {
-        self.pool.has(page) && !self.pool.resident(page)
+// Whether a device has the page, and no frame.
+fn is_loadable<D: PageDevice>(pool: &Pool<D>, page: PageId) -> bool
+    ensures { IsTrue result ↔ IsLoadable (view_of pool.now) page }
+{
+    pool.has(page) && !pool.resident(page)
+}
+
+// How many pages of the list are passed once this one, which stood after so many, has come in: it too, unless it put out one of those
+// before it. These leave after it.
+fn passed_at_load<D: PageDevice>(
+    pool: &Pool<D>,
+    history: &History,
+    at: usize,
+    page: PageId,
+    victim: Option<PageId>,
+) -> usize
+    requires { at < usize.MAX }
+    ensures { PassedAtLoad history.now (view_of pool.now) page victim at result }
+{
+    let Some(victim) = victim else {
+        return at + 1;
+    };
+    if pool.resident(victim) {
+        return at + 1;
     }
+    // The order is that of the references that the history holds: they give this very history.
+    is_history(history);
+    match leaving_order(history, victim, page) {
+        Ordering::Less => at + 1,
+        Ordering::Equal | Ordering::Greater => 0,
+    }
+}
+
+/// How many pages of the list are still passed where this page is pinned: none, where it comes in, since it may put out one of them.
+pub(crate) fn passed_at_pin<D: PageDevice>(pool: &Pool<D>, passed: usize, page: PageId) -> usize
+    ensures { PassedAtPin (view_of pool.now) page passed result }
+{
+    if passed == 0 || pool.resident(page) {
+        return passed;
+    }
+    0
 }

@@ -3,7 +3,7 @@ use Rattle.std.proofs.Common.{◌≡◌, ◌≢◌, ℕ, zero, suc, ◌+◌, ◌
 use Rattle.std.proofs.lemmas.List.{length-set, length-map, length-replicate, get_or-map, get_or-replicate, get_or_read, map-set, set-set}
 use Rattle.std.proofs.lemmas.Bool.{cases_eq, cases_lt}
 use Rattle.warm_stamps.specs.declared.PageId.{PageId}
-use Rattle.warm_pool.specs.Chains.{IsFirstFrom, AreChains, AreInTurn, AreLinked, chain_of, chains_of, page_in}
+use Rattle.warm_pool.specs.Chains.{IsFirstFrom, AreChains, AreInTurn, AreLinked, chain_of, chains_of, hash_of, mixed, page_in}
 use Rattle.warm_pool.proofs.ChainLemmas.{link_first}
 use Rattle.warm_pool.specs.Residents.{IsFirstFree}
 
@@ -19,10 +19,15 @@ in_range [] frame page is = let no : None ≡ Some page = is in absurd (cc)
 in_range (held ∷ pages) zero page is = omega arith
 in_range (held ∷ pages) (suc frame) page is = let lt = in_range pages frame page is in omega arith
 
--- pages have other chains_of than frames without one
+-- a page's hash has 32 bits
+pub hash_low : (page : PageId) → hash_of page < 4294967296
+unfolding hash_of mixed
+hash_low page = omega arith
+
+-- pages have other chains than frames without one
 pub chain_of_page : (n : ℕ) (page : PageId) → 0 < n → chain_of n (Some page) < n
 unfolding chain_of
-chain_of_page n page some = grind arith
+chain_of_page n page some = let low = hash_low page in grind arith
 
 pub chain_of_none : (n : ℕ) → chain_of n None ≡ n
 unfolding chain_of

@@ -4,7 +4,7 @@ use Rattle.std.specs.Option.{option_map}
 use Rattle.std.proofs.Math.ListN.{get_or-map as mapped}
 use Rattle.std.proofs.lemmas.Bool.{cases_eq, cases_lt, cases_Bool}
 use Rattle.std.proofs.lemmas.Option.{same_Some}
-use Rattle.std.proofs.lemmas.List.{set-get_or, get_or_past, length-map}
+use Rattle.std.proofs.lemmas.List.{get_or-map, set-get_or, get_or_past, length-map}
 use Rattle.warm_stamps.specs.declared.PageId.{PageId}
 use Rattle.warm_history.specs.Histories.{HistoryView, hist, refs}
 use Rattle.warm_rank.specs.declared.RankKey.{RankKey}
@@ -111,6 +111,16 @@ all_renewed {s} {t} h pages k r all g ranked agree i = of_page (nth_frame s.fram
       where
         below : (j : ℕ) → j < length pages → j < k
         below j lt = omega arith
+
+-- the same where items name the pages
+pub named_renewed : {A : Type 0} {s t u : PoolState} (h : HistoryView) (named : A → PageId) (items : List A) (k : ℕ) (item : A) {q : PageId} → Renewed s t h (map named items) k → k < length items
+    → item ≡ get_or items k item → q ≡ named item → view_of u ≡ view_of t → KeepsBytes t u → Renews t q (rank_key q (hist (refs h) q)) u → Renewed s u h (map named items) (k + 1)
+named_renewed h named items k item {q} r low is names =
+    one_renewed h (map named items) k q r (omega (arith, low, length-map items named)) (λ d. get_or-map named items k item d low ∙ ap named (sym is) ∙ sym names)
+
+pub all_named : {A : Type 0} {s t : PoolState} (h : HistoryView) (named : A → PageId) (items : List A) (k : ℕ) → Renewed s t h (map named items) k → length items ≤ k
+    → (g : HistoryView) → RankedBy s g → AgreeOutside (map named items) g h → RankedBy t h
+all_named h named items k r all = all_renewed h (map named items) k r (omega (arith, all, length-map items named))
 
 -- the pages of the first k frames were renewed
 pub record RenewedFirst (s t : PoolState) (h : HistoryView) (k : ℕ) : Type 0 where

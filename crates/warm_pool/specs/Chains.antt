@@ -7,10 +7,23 @@ use Rattle.warm_rank.specs.declared.TheConstants.{MAX_SLOTS}
 abbrev pub page_in : List (Option PageId) → ℕ → Option PageId
 page_in pages frame = slice_index_or pages frame None
 
--- the chain of a frame that holds this, of n and one: pages are spread over the first n, and the frames without a page have the last
+-- The hash of a page
+
+-- 32 bits mixed: the upper half is added to the lower one, and then each bit is carried up by an odd factor
+unfoldable pub mixed : ℕ → ℕ
+mixed x = ((x + x / 65536) % 4294967296 * 2246822507) % 4294967296
+
+-- the page's number and that of its device in 32 bits, of which each depends on every bit of both
+unfoldable pub hash_of : PageId → ℕ
+hash_of page = mixed (mixed ((page.no % 4294967296 * 2654435769 + page.no / 4294967296 * 1000000007 + page.dev * 2246822519) % 4294967296))
+
+-- Chains
+
+-- the chain of a frame that holds this, of n and one: pages are spread over the first n by their hash, and the frames without a page
+-- have the last
 unfoldable pub chain_of : ℕ → Option PageId → ℕ
 chain_of n None = n
-chain_of n (Some page) = (((page.no % 4294967296 * 2654435769 + page.no / 4294967296 * 1000000007 + page.dev * 2246822519) % 4294967296) * n) / 4294967296
+chain_of n (Some page) = hash_of page * n / 4294967296
 
 -- the chain of each frame
 abbrev pub chains_of : List (Option PageId) → List ℕ

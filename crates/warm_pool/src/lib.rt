@@ -19,6 +19,7 @@ mod flush;
 mod frame;
 mod frames;
 pub mod laws;
+mod named;
 mod pool;
 mod residents;
 mod slot;
@@ -26,6 +27,7 @@ mod slot;
 pub use close::Unclosed;
 pub use device_list::all_sized;
 pub use fault::{NewPoolFault, PoolFault, Unmade, Unretired};
+pub use named::NamesPage;
 pub use pool::Pool;
 pub use slot::Slot;
 

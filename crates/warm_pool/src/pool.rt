@@ -19,6 +19,7 @@ use crate::MAX_DEVICES;
 use crate::device_list::{all_sized, pages_of, read_page, write_page};
 use crate::fault::{NewPoolFault, PoolFault, Unmade};
 use crate::frames::Frames;
+use crate::named::NamesPage;
 use crate::slot::Slot;
 use std::alloc::Global;
 use std::marker::Model;
@@ -299,16 +300,16 @@ impl<D: PageDevice> Pool<D> {
         Ok(())
     }
 
-    /// Renews the ranks of those of the pages that are resident. Other pages keep theirs.
-    pub fn refresh(&mut self, history: &History, pages: &[PageId])
-        ensures ranked { RefreshesRanks pages.now history.now
+    /// Renews the ranks of those of the pages named that are resident. Other pages keep theirs. Takes no memory.
+    pub fn refresh<T: NamesPage>(&mut self, history: &History, items: &[T])
+        ensures ranked { RefreshesRanks (map T.named items.now) history.now
             self.old self.new }
-        ensures others { KeepsOtherRanks pages.now self.old self.new }
+        ensures others { KeepsOtherRanks (map T.named items.now) self.old self.new }
         ensures same { view_of self.new ≡ view_of self.old }
         ensures kept { KeepsBytes self.old self.new }
     {
-        for page in pages {
-            self.renew(history, *page);
+        for item in items {
+            self.renew(history, item.named());
         }
     }
 

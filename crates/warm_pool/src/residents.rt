@@ -4,7 +4,7 @@
 //! without a page stand in one of their own. A link is the number of the next frame, and the number of frames ends a chain. All memory
 //! is taken when the frames are made.
 ghost use Rattle.std.specs.Prelude.{◌≡◌, ℕ, List, ◌+◌, ◌<◌, ◌≤◌, length, map, replicate, set, slice_index, IfOk, IsTrue, None, Some, ◌↔◌};
-ghost use Rattle.warm_pool.specs.Chains.{AreChains, AreInTurn, AreLinked, IsLastBelow, after, chain_of, chains_of, heads_led, link_after, next_led, loose, page_in};
+ghost use Rattle.warm_pool.specs.Chains.{AreChains, AreInTurn, AreLinked, IsLastBelow, after, chain_of, chains_of, hash_of, heads_led, link_after, loose, mixed, next_led, page_in};
 ghost use Rattle.warm_pool.specs.Residents.{IsFirstFree, IsPlaceOf};
 ghost use Rattle.warm_pool.specs.WritingBack.{is_chosen};
 ghost use Rattle.warm_pool.specs.Retiring.{clear_if};
@@ -169,6 +169,28 @@ fn find_in(pages: &[Option<PageId>], heads: &[u32], next: &[u32], page: PageId) 
     None
 }
 
+// Mixes 32 bits: the upper half is added to the lower one, and then each bit is carried up by an odd factor.
+#[tactic(auto, unfolding(crate::specs::Chains::mixed))]
+fn mix(bits: u64) -> u64
+    requires { bits < 4294967296 }
+    ensures is { result ≡ mixed bits }
+    ensures low { result < 4294967296 }
+{
+    (bits + bits / 65536) % 4294967296 * 2246822507 % 4294967296
+}
+
+// The page's number and that of its device in 32 bits. One product alone would let pages that are some fixed number apart share a chain.
+#[tactic(auto, unfolding(crate::specs::Chains::hash_of))]
+fn hash_of(page: PageId) -> u64
+    ensures is { result ≡ hash_of page }
+    ensures low { result < 4294967296 }
+{
+    let low = page.no % 4294967296 * 2654435769;
+    let high = page.no / 4294967296 * 1000000007;
+    let folded = (low + high + u64::from(page.dev) * 2246822519) % 4294967296;
+    mix(mix(folded))
+}
+
 // The chain of a frame that holds this.
 #[tactic(auto, unfolding(crate::specs::Chains::chain_of))]
 fn chain_of(frames: usize, page: Option<PageId>) -> usize
@@ -179,10 +201,7 @@ fn chain_of(frames: usize, page: Option<PageId>) -> usize
     let Some(page) = page else {
         return frames;
     };
-    let low = page.no % 4294967296 * 2654435769;
-    let high = page.no / 4294967296 * 1000000007;
-    let mixed = (low + high + u64::from(page.dev) * 2246822519) % 4294967296;
-    (mixed * frames as u64 / 4294967296) as usize
+    (hash_of(page) * frames as u64 / 4294967296) as usize
 }
 
 fn holds(held: Option<PageId>, page: PageId) -> bool

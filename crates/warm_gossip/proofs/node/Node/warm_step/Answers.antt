@@ -1,29 +1,77 @@
-use Rattle.std.proofs.Common.{Some, None, ◌∙◌}
+use Rattle.std.proofs.Common.{◌≡◌, ◌<◌, length, None, refl, sym, ap, subst, ◌∙◌, arith}
+use Rattle.std.proofs.lemmas.List.{get_or_default}
 use Rattle.std.proofs.lemmas.Result.{err_from_is_err_and}
+use Rattle.warm_history.specs.Histories.{HistoryView, IsHistory}
 use Rattle.warm_pool.specs.View.{view_of}
-use Rattle.warm_gossip.proofs.Warmings.{loaded_in, load_refused_in, next_warm, same_node}
+use Rattle.warm_pool.specs.Pinning.{PutsIn}
+use Rattle.warm_gossip.specs.Step.{IsLoadable, nth_page}
+use Rattle.warm_gossip.specs.WarmingUp.{IsPast, IsUnderWay, PassedAtLoad}
+use Rattle.warm_gossip.proofs.Passed.{first_there, loaded, none_left}
+use Rattle.warm_gossip.proofs.Warmings.{loaded_in, load_refused_in, next_warm, next_is}
 use Rattle.warm_gossip.proofs.node.Node.warm_step.Goals as goal
 
-pub returns-in_default : goal.returns-in_default
-returns-in_default g c = rw (← c.self.view_is) (
-  next_warm c.self.inside.pool c.self.inside.history _ c.in_ok-list.list _ _ None c.is_history.ensures c.history.ensures c.in_ok-list.ensures.list c.in_ok-list.ensures.many c.deref.ensures.value c.frames.ensures c.in_default.ensures,
-  same_node c.self.inside.id (view_of c.self.inside.pool) _ _ (c.keep.ensures ∙ c.take_hottest.ensures.same),
-)
+pub returns-then-at-len : goal.returns-then-at-len
+returns-then-at-len g c =
+    let v = view_of c.self.inside.pool in
+    let ps = c.in_ok-pages.pages.items in
+    let len : c.len.result ≡ length ps = c.len.ensures ∙ sym c.deref.ensures.len ∙ ap length c.deref.ensures.value in
+    let whole = subst IsHistory c.history.ensures c.is_history.ensures in
+    let under = subst (λ (h : HistoryView). IsUnderWay h v ps c.take_pages.new.warm_up.passed) c.history-history.ensures c.in_ok-pages.ensures.pages in
+    let past = subst (λ xs. IsPast xs c.first_loadable-at.result v) c.deref.ensures.value c.first_loadable-at.ensures.past in
+    rw (← c.self.view_is) (next_warm v c.self.inside.history.history ps None whole under.hottest (none_left v ps c.first_loadable-at.result past (omega (arith, len, c.if-at-len.true))), refl)
 
 pub returns-in_err-load : goal.returns-in_err-load
 returns-in_err-load g c =
     let given = err_from_is_err_and c.from_residual-in_err-load.result c.from_residual-in_err-load.ensures.1 in
-    let same = c.keep.ensures ∙ c.take_hottest.ensures.same in
+    let v = view_of c.self.inside.pool in
+    let at = c.first_loadable-at.result in
+    let ps = c.in_ok-pages.pages.items in
+    let len : c.len.result ≡ length ps = c.len.ensures ∙ sym c.deref.ensures.len ∙ ap length c.deref.ensures.value in
+    let there : at < length ps = omega (arith, len, c.if-at-len.false) in
+    let page_is : nth_page ps at ≡ c.index-page.result.now = get_or_default _ _ _ _ there ∙ sym c.index-page.ensures in
+    let whole = subst IsHistory c.history.ensures c.is_history.ensures in
+    let under = subst (λ (h : HistoryView). IsUnderWay h v ps c.take_pages.new.warm_up.passed) c.history-history.ensures c.in_ok-pages.ensures.pages in
+    let past = subst (λ xs. IsPast xs at v) c.deref.ensures.value c.first_loadable-at.ensures.past in
+    let loadable = subst (λ xs. IsLoadable v (nth_page xs at)) c.deref.ensures.value (c.first_loadable-at.ensures.there (omega (arith, there, ap length c.deref.ensures.value))) in
     rw (given.1, given.2, ← c.self.view_is) (
-      c.in-Some.page,
-      next_warm c.self.inside.pool c.self.inside.history _ c.in_ok-list.list _ _ (Some c.in-Some.page) c.is_history.ensures c.history.ensures c.in_ok-list.ensures.list c.in_ok-list.ensures.many c.deref.ensures.value c.frames.ensures c.in-Some.ensures,
-      (same_node c.self.inside.id (view_of c.load.new.self) _ _ same, load_refused_in _ _ c.in_err-load.field-0.0 c.in-Some.ensures.3 (rw (c.history-2.ensures ∙ same) at c.in_err-load.ensures.refused)),
+      c.index-page.result.now,
+      next_is v c.self.inside.history.history ps _ _ whole under.hottest (first_there v ps at past there loadable) page_is,
+      (refl, load_refused_in _ _ c.in_err-load.field-0.0 (subst (IsLoadable v) page_is loadable) (rw c.history-2.ensures at c.in_err-load.ensures.refused)),
     )
 
 pub returns : goal.returns
 returns g c =
-    let same = c.keep.ensures ∙ c.take_hottest.ensures.same in
+    let v = view_of c.self.inside.pool in
+    let at = c.first_loadable-at.result in
+    let ps = c.in_ok-pages.pages.items in
+    let len : c.len.result ≡ length ps = c.len.ensures ∙ sym c.deref.ensures.len ∙ ap length c.deref.ensures.value in
+    let there : at < length ps = omega (arith, len, c.if-at-len.false) in
+    let page_is : nth_page ps at ≡ c.index-page.result.now = get_or_default _ _ _ _ there ∙ sym c.index-page.ensures in
+    let whole = subst IsHistory c.history.ensures c.is_history.ensures in
+    let under = subst (λ (h : HistoryView). IsUnderWay h v ps c.take_pages.new.warm_up.passed) c.history-history.ensures c.in_ok-pages.ensures.pages in
+    let past = subst (λ xs. IsPast xs at v) c.deref.ensures.value c.first_loadable-at.ensures.past in
+    let loadable = subst (λ xs. IsLoadable v (nth_page xs at)) c.deref.ensures.value (c.first_loadable-at.ensures.there (omega (arith, there, ap length c.deref.ensures.value))) in
     rw (← c.self.view_is) (
-      next_warm c.self.inside.pool c.self.inside.history _ c.in_ok-list.list _ _ (Some c.in-Some.page) c.is_history.ensures c.history.ensures c.in_ok-list.ensures.list c.in_ok-list.ensures.many c.deref.ensures.value c.frames.ensures c.in-Some.ensures,
-      (same_node c.self.inside.id (view_of c.load.new.self) _ _ same, (_, loaded_in c.in-Some.ensures.3 (rw (c.history-2.ensures ∙ same) at c.in_ok-load.ensures.loaded))),
+      next_is v c.self.inside.history.history ps _ _ whole under.hottest (first_there v ps at past there loadable) page_is,
+      (refl, (_, loaded_in (subst (IsLoadable v) page_is loadable) (rw c.history-2.ensures at c.in_ok-load.ensures.loaded))),
+    )
+
+pub invariant_of-self-2 : goal.invariant_of-self-2
+invariant_of-self-2 g c =
+    let h = c.self.inside.history.history in
+    let v = view_of c.self.inside.pool in
+    let w = view_of c.load.new.self in
+    let at = c.first_loadable-at.result in
+    let ps = c.in_ok-pages.pages.items in
+    let len : c.len.result ≡ length ps = c.len.ensures ∙ sym c.deref.ensures.len ∙ ap length c.deref.ensures.value in
+    let there : at < length ps = omega (arith, len, c.if-at-len.false) in
+    let page_is : nth_page ps at ≡ c.index-page.result.now = get_or_default _ _ _ _ there ∙ sym c.index-page.ensures in
+    let whole = subst IsHistory c.history.ensures c.is_history.ensures in
+    let under = subst (λ (x : HistoryView). IsUnderWay x v ps c.take_pages.new.warm_up.passed) c.history-history.ensures c.in_ok-pages.ensures.pages in
+    let past = subst (λ xs. IsPast xs at v) c.deref.ensures.value c.first_loadable-at.ensures.past in
+    let loadable = subst (λ xs. IsLoadable v (nth_page xs at)) c.deref.ensures.value (c.first_loadable-at.ensures.there (omega (arith, there, ap length c.deref.ensures.value))) in
+    let puts = subst (λ p. PutsIn h v p 0 c.in_ok-load.field-0 w) (sym page_is) (loaded_in (subst (IsLoadable v) page_is loadable) (rw c.history-2.ensures at c.in_ok-load.ensures.loaded)) in
+    let moves = subst (λ p. PassedAtLoad h w p c.victim-victim.result at c.passed_at_load-self-inside.result) (sym page_is) (rw c.history-3.ensures at c.passed_at_load-self-inside.ensures) in (
+      rw c.history-2.ensures at c.load.ensures.ranked,
+      loaded h v w ps c.in_ok-load.field-0 c.victim-victim.result at c.passed_at_load-self-inside.result whole there (record { hottest = under.hottest; past = past }) puts (c.victim-victim.ensures h c.self.invariant.0) moves,
     )
