@@ -1,5 +1,5 @@
 -- An exchange of the buckets that differ, page by page.
-use Rattle.std.proofs.Common.{◌≡◌, ◌≢◌, ◌⊎◌, inl, inr, ℕ, zero, suc, ◌<◌, ◌≤◌, Bool, true, false, cond, List, [], ◌∷◌, ◌++◌, map, filter, max, Some, None, Result, Ok, Err, refl, sym, ap, subst, ◌∙◌, arith, Decides}
+use Rattle.std.proofs.Common.{◌≡◌, ◌≢◌, ◌⊎◌, inl, inr, ℕ, zero, suc, ◌<◌, ◌≤◌, Bool, true, false, cond, List, [], ◌∷◌, ◌++◌, map, filter, max, None, Result, Ok, Err, refl, sym, ap, subst, ◌∙◌, arith, Decides}
 use Rattle.std.specs.Prelude.{◌==◌}
 use Rattle.std.specs.List.{AllByRecursion}
 use Rattle.std.specs.Int.{bit_at}
@@ -21,6 +21,7 @@ use Rattle.warm_history.specs.Carried.{bucket_entries}
 use Rattle.warm_history.specs.ReferenceSets.{ReferenceSet, recent, references, ◌∪◌}
 use Rattle.warm_history.specs.ListHistories.{references_to, first_two, hist}
 use Rattle.warm_history.specs.Histories.{HistoryView, entries_of, history}
+use Rattle.warm_history.proofs.ChangeLemmas.{get-bucket}
 use Rattle.warm_history.proofs.KeptLemmas.{kept_alike}
 use Rattle.warm_history.proofs.ListJoinLemmas.{hist_repeat}
 use Rattle.warm_history.proofs.ListHistoryLemmas.{get, joined, hist-append, get-history}
@@ -69,21 +70,6 @@ same_entries (e ∷ es) (f ∷ fs) some others same =
     cc
 
 -- ---- a bucket says all of its pages
-
-pub get-bucket : (bucket : ℕ) (es : List Entry) (p : PageId) → page_bucket p ≡ bucket → get (bucket_entries bucket es) p ≡ get es p
-get-bucket bucket [] p is = refl
-get-bucket bucket (e ∷ es) p is = cases (page_bucket e.page == bucket) refl (is_eq (page_cmp e.page p)) refl (get-bucket bucket es p is)
-  where
-    cases : (b : Bool) → (page_bucket e.page == bucket) ≡ b → (c : Bool) → is_eq (page_cmp e.page p) ≡ c → get (bucket_entries bucket es) p ≡ get es p
-        → get (cond b (e ∷ bucket_entries bucket es) (bucket_entries bucket es)) p ≡ cond c (Some e.hist) (get es p)
-    cases true there true here rest = rw here refl
-    cases true there false other rest = rw other rest
-    cases false away true here rest =
-        let same : e.page ≡ p = page_order.same e.page p (is_equal (page_cmp e.page p) here) in
-        let there : (page_bucket e.page == bucket) ≡ true = eq-eqb (page_bucket e.page) bucket (ap page_bucket same ∙ is) in
-        let never : true ≡ false = sym there ∙ away in
-        absurd (cc)
-    cases false away false other rest = rest
 
 -- lists that agree on a bucket say the same of each of its pages
 same_bucket_same_hist : (S T : ReferenceSet) (p : PageId) → bucket_entries (page_bucket p) (entries_of (history S)) ≡ bucket_entries (page_bucket p) (entries_of (history T)) → hist (references S) p ≡ hist (references T) p

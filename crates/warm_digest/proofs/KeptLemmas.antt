@@ -1,143 +1,33 @@
--- Buckets that a history's growth does not touch, and digests that are renewed bucket by bucket.
-use Rattle.std.proofs.Common.{◌≡◌, ◌≢◌, inl, inr, ℕ, suc, ◌<◌, ◌^◌, Bool, true, false, cond, List, [], ◌∷◌, ◌++◌, length, max, min, ◌-◌, None, Result, Ok, Err, IfOk, refl, sym, ap, subst, ◌∙◌, arith}
-use Rattle.std.specs.Prelude.{◌==◌, bit_and, bit_or}
+-- Digests that are kept, and renewed bucket by bucket.
+use Rattle.std.proofs.Common.{◌≡◌, inl, inr, ℕ, ◌<◌, ◌^◌, List, [], length, max, min, ◌-◌, Result, Ok, Err, IfOk, sym, ap, ◌∙◌, arith}
+use Rattle.std.specs.Prelude.{bit_and, bit_or}
 use Rattle.std.specs.Int.{bit_at, bit_not, w64}
-use Rattle.std.specs.List.{All}
-use Rattle.std.specs.Option.{option_and_then}
-use Rattle.std.specs.Ordering.{is_eq, on, flip_args}
-use Rattle.std.proofs.lemmas.Bool.{cases_eq, eqb-true}
+use Rattle.std.proofs.lemmas.Bool.{cases_eq}
 use Rattle.std.proofs.lemmas.List.FromFn.{fill_by_all, get_or-map-range_with_len}
 use Rattle.std.proofs.lemmas.Nat.Bits.{bit_at-lt, bit_at_and, bit_at_not, bit_at_or, bit_at_ones}
-use Rattle.warm_stamps.specs.declared.PageId.{PageId}
-use Rattle.warm_stamps.specs.declared.Reference.{Reference}
 use Rattle.warm_stamps.specs.declared.TheConstants.{BUCKETS}
-use Rattle.warm_stamps.specs.Buckets.{page_bucket}
-use Rattle.warm_stamps.specs.Distinct.{distinct}
-use Rattle.warm_stamps.specs.Stamps.{page_cmp, stamp_cmp}
-use Rattle.warm_stamps.proofs.DistinctLemmas.{is_equal, rising_filter}
-use Rattle.warm_stamps.proofs.StampLemmas.{page_order}
 use Rattle.warm_history.specs.declared.hist.Entry.{Entry}
-use Rattle.warm_history.specs.Carried.{bucket_entries}
-use Rattle.warm_history.specs.KeptEntries.{kept_hist}
-use Rattle.warm_history.specs.ReferenceSets.{ReferenceSet, references, since, these, ◌∪◌}
-use Rattle.warm_history.specs.Losses.{bucket_since, raised}
-use Rattle.warm_history.specs.ListHistories as list
-use Rattle.warm_history.specs.ListHistories.{PagesRise}
-use Rattle.warm_history.specs.Histories.{HistoryView, IsHistory, entries_of, first_two, history, holding, holding_since, entry_refs, refs}
-use Rattle.warm_history.proofs.KeptLemmas.{hist-kept}
-use Rattle.warm_history.proofs.HistoryLemmas.{entries-history}
-use Rattle.warm_history.proofs.JoinLemmas.{raised_to_no_later}
-use Rattle.warm_history.proofs.ListHistoryLemmas.{IsHistory-history, get, get-history, same_gets, told, told-append, told_entry}
+use Rattle.warm_history.specs.Changes.{MarksChanged}
+use Rattle.warm_history.specs.Losses.{MarksLosing, raised}
+use Rattle.warm_history.specs.Histories.{HistoryView, entries_of, holding}
 use Rattle.warm_frames.specs.Entries.{entries_bytes}
 use Rattle.warm_frames.specs.Digests.{digest_at}
 use Rattle.sha2.specs.Sha256.{sha256}
 use Rattle.warm_digest.specs.BucketDigests.{bucket_digest, digests_of, digests_since}
-use Rattle.warm_digest.specs.KeptDigests.{HasDigestsOf, SameDigestsOutside, IsKept, HasPageIn, Marks, MarksLosing}
-use Rattle.warm_digest.proofs.MarkLemmas.{all_elsewhere, clear_before}
-use Rattle.warm_digest.proofs.ExchangeLemmas.{get-bucket}
-
--- ---- buckets that are not touched
-
--- a bucket says nothing of the pages of others
-get_elsewhere : (bucket : ℕ) (es : List Entry) (p : PageId) → page_bucket p ≢ bucket → get (bucket_entries bucket es) p ≡ None
-get_elsewhere bucket [] p away = refl
-get_elsewhere bucket (e ∷ es) p away = cases (page_bucket e.page == bucket) refl (is_eq (page_cmp e.page p)) refl (get_elsewhere bucket es p away)
-  where
-    cases : (b : Bool) → (page_bucket e.page == bucket) ≡ b → (c : Bool) → is_eq (page_cmp e.page p) ≡ c → get (bucket_entries bucket es) p ≡ None
-        → get (cond b (e ∷ bucket_entries bucket es) (bucket_entries bucket es)) p ≡ None
-    cases true inside true here rest =
-        let same : e.page ≡ p = page_order.same e.page p (is_equal (page_cmp e.page p) here) in
-        absurd (away (ap page_bucket (sym same) ∙ eqb-true (page_bucket e.page) bucket inside))
-    cases true inside false other rest = rw other rest
-    cases false out c there rest = rest
-
--- lists that say the same of each page of a bucket have the same entries in it
-same_bucket : (bucket : ℕ) (h g : List Entry) → PagesRise h → PagesRise g → ((p : PageId) → page_bucket p ≡ bucket → get h p ≡ get g p) → bucket_entries bucket h ≡ bucket_entries bucket g
-same_bucket bucket h g whole_h whole_g alike =
-    let by_page = on (λ (e : Entry). e.page) page_cmp in
-    let is_in : Entry → Bool = λ e. page_bucket e.page == bucket in
-    same_gets (bucket_entries bucket h) (bucket_entries bucket g) (rising_filter by_page is_in h whole_h) (rising_filter by_page is_in g whole_g) (λ p. elim (cases_eq (page_bucket p) bucket) [
-      | inl there ↦ get-bucket bucket h p there ∙ alike p there ∙ sym (get-bucket bucket g p there)
-      | inr away ↦ get_elsewhere bucket h p away ∙ sym (get_elsewhere bucket g p away)
-    ])
-
--- pages of two buckets differ
-apart : (q p : PageId) → page_bucket q ≢ page_bucket p → is_eq (page_cmp q p) ≡ false
-apart q p buckets = cases (is_eq (page_cmp q p)) refl
-  where
-    cases : (c : Bool) → is_eq (page_cmp q p) ≡ c → c ≡ false
-    cases true here = absurd (buckets (ap page_bucket (page_order.same q p (is_equal (page_cmp q p) here))))
-    cases false other = refl
-
--- nothing is told of a page by references to pages of other buckets
-untold : (T : List Reference) (p : PageId) → All (λ r. page_bucket r.page ≢ page_bucket p) T → told T p ≡ []
-untold [] p away = refl
-untold (r ∷ T) p away = rw (apart r.page p (away 0 r (omega arith))) (untold T p (λ k d low. away (suc k) d (omega (arith, low))))
-
--- nor by entries of such pages
-untold_entries : (es : List Entry) (p : PageId) → All (λ e. page_bucket e.page ≢ page_bucket p) es → told (list.refs es) p ≡ []
-untold_entries [] p away = refl
-untold_entries (e ∷ es) p away =
-    told-append (entry_refs e) (list.refs es) p
-    ∙ ap (λ ss. ss ++ told (list.refs es) p) (told_entry e.page e.hist p)
-    ∙ rw (apart e.page p (away 0 e (omega arith))) (untold_entries es p (λ k d low. away (suc k) d (omega (arith, low))))
-
--- what tells nothing of a bucket's pages changes nothing in it but what its horizon does
-untouched : (h : HistoryView) (T : ReferenceSet) (bucket : ℕ) → ((p : PageId) → page_bucket p ≡ bucket → told T.told p ≡ []) → bucket_entries bucket (entries_of (history (refs h ∪ T))) ≡ bucket_since T.horizon bucket h
-untouched h T bucket none =
-    let es = entries_of h in
-    let m = max h.horizon T.horizon in
-    let both = references (refs h ∪ T) in
-    let alone = references (since T.horizon (refs h)) in
-    ap (bucket_entries bucket) (entries-history (refs h ∪ T))
-    ∙ same_bucket bucket (list.history both) (list.history alone) (IsHistory-history both).pages_rise (IsHistory-history alone).pages_rise (λ p there.
-    get-history both p
-    ∙ hist-kept m (list.refs es ++ T.told) p
-    ∙ ap (λ ss. option_and_then (kept_hist m) (first_two (distinct (flip_args stamp_cmp) ss))) (told-append (list.refs es) T.told p ∙ ap (λ ss. told (list.refs es) p ++ ss) (none p there) ∙ sym (told-append (list.refs es) [] p))
-    ∙ sym (hist-kept m (list.refs es ++ []) p)
-    ∙ sym (get-history alone p))
-    ∙ ap (bucket_entries bucket) (sym (entries-history (since T.horizon (refs h))))
+use Rattle.warm_digest.specs.KeptDigests.{HasDigestsOf, SameDigestsOutside, IsKept}
 
 abbrev digest_from : List Entry → List ℕ
 digest_from es = sha256 (entries_bytes es)
 
--- the digests that are not marked stay right when references are taken in
-pub kept_with_references : (h g : HistoryView) (batch : List Reference) (old new : ℕ) (digests : List (List ℕ)) → IsHistory h → g ≡ history (refs h ∪ these batch)
-    → IsKept old (entries_of h) digests → Marks (HasPageIn (λ r. r.page) batch) old new → IsKept new (entries_of g) digests
-kept_with_references h g batch old new digests whole is kept marks bucket low clear =
-    let before = clear_before (HasPageIn (λ (r : Reference). r.page) batch) old new bucket marks low clear in
-    let away : All (λ r. page_bucket r.page ≢ bucket) batch = all_elsewhere (λ (r : Reference). r.page) batch bucket before.1 in
-    let same : bucket_entries bucket (entries_of g) ≡ bucket_entries bucket (entries_of h) =
-    ap (λ (k : HistoryView). bucket_entries bucket (entries_of k)) is
-    ∙ untouched h (these batch) bucket (λ p there. untold batch p (subst (λ b. All (λ r. page_bucket r.page ≢ b) batch) (sym there) away))
-    ∙ ap (λ (k : HistoryView). bucket_entries bucket (entries_of k)) (raised_to_no_later h 0 whole (omega arith)) in
-    kept bucket low before.0 ∙ sym (ap digest_from same)
-
 -- a bit of two sets of buckets together is clear where both are
-pub both_clear : (a b i : ℕ) → bit_at (bit_or a b) i ≡ 0 → (bit_at a i ≡ 0) × (bit_at b i ≡ 0)
+both_clear : (a b i : ℕ) → bit_at (bit_or a b) i ≡ 0 → (bit_at a i ≡ 0) × (bit_at b i ≡ 0)
 both_clear a b i clear = let is = bit_at_or a b i in (omega (arith, is, clear), omega (arith, is, clear))
 
--- when a history is raised they do where the buckets are marked that lose something
-pub kept_raised : (h g : HistoryView) (time old lost : ℕ) (digests : List (List ℕ)) → g ≡ history (since time (refs h))
-    → IsKept old (entries_of h) digests → MarksLosing time h lost → IsKept (bit_or old lost) (entries_of g) digests
-kept_raised h g time old lost digests is kept marks bucket low clear =
-    let both = both_clear old lost bucket clear in
-    let same : bucket_entries bucket (entries_of g) ≡ bucket_entries bucket (entries_of h) =
-    ap (λ (k : HistoryView). bucket_entries bucket (entries_of k)) is ∙ (marks bucket low).1 both.1 in
-    kept bucket low both.0 ∙ sym (ap digest_from same)
-
--- and when entries are taken in, where theirs are marked too
-pub kept_with_entries : (h g : HistoryView) (horizon : ℕ) (more : List Entry) (old lost new : ℕ) (digests : List (List ℕ)) → g ≡ history (refs h ∪ refs (holding_since horizon more))
-    → IsKept old (entries_of h) digests → MarksLosing horizon h lost → Marks (HasPageIn (λ e. e.page) more) (bit_or old lost) new → IsKept new (entries_of g) digests
-kept_with_entries h g horizon more old lost new digests is kept loses marks bucket low clear =
-    let before = clear_before (HasPageIn (λ (e : Entry). e.page) more) (bit_or old lost) new bucket marks low clear in
-    let both = both_clear old lost bucket before.0 in
-    let away : All (λ e. page_bucket e.page ≢ bucket) more = all_elsewhere (λ (e : Entry). e.page) more bucket before.1 in
-    let same : bucket_entries bucket (entries_of g) ≡ bucket_entries bucket (entries_of h) =
-    ap (λ (k : HistoryView). bucket_entries bucket (entries_of k)) is
-    ∙ untouched h (refs (holding_since horizon more)) bucket (λ p there. untold_entries more p (subst (λ b. All (λ e. page_bucket e.page ≢ b) more) (sym there) away))
-    ∙ (loses bucket low).1 both.1 in
-    kept bucket low both.0 ∙ sym (ap digest_from same)
+-- the digests that are not marked stay right where the buckets are marked whose entries change
+pub kept_as_marked : (es fs : List Entry) (old changed : ℕ) (digests : List (List ℕ)) → IsKept old es digests → MarksChanged es fs changed → IsKept (bit_or old changed) fs digests
+kept_as_marked es fs old changed digests kept marks bucket low clear =
+    let both = both_clear old changed bucket clear in
+    kept bucket low both.0 ∙ sym (ap digest_from ((marks bucket low).1 both.1))
 
 -- ---- renewed digests
 

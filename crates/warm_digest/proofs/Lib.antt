@@ -1,5 +1,4 @@
 mod Examples
 pub mod ExchangeLemmas
 pub mod KeptLemmas
-mod BucketSets
 pub mod MarkLemmas

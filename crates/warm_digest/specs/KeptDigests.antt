@@ -1,12 +1,11 @@
 -- Digests that are kept while a history grows, and renewed bucket by bucket.
-use Rattle.std.specs.Prelude.{◌≡◌, ◌⊎◌, ◌↔◌, ℕ, ◌<◌, List, map, Contains}
+use Rattle.std.specs.Prelude.{◌≡◌, ◌⊎◌, ◌↔◌, ℕ, ◌<◌, List}
 use Rattle.std.specs.Int.{bit_at}
-use Rattle.warm_stamps.specs.declared.PageId.{PageId}
 use Rattle.warm_stamps.specs.declared.TheConstants.{BUCKETS}
-use Rattle.warm_stamps.specs.Buckets.{page_bucket}
 use Rattle.warm_history.specs.declared.hist.Entry.{Entry}
-use Rattle.warm_history.specs.Histories.{HistoryView}
-use Rattle.warm_history.specs.Losses.{KeepsIn, LosesIn}
+use Rattle.warm_history.specs.Changes.{ChangesIn}
+use Rattle.warm_history.specs.Histories.{HistoryView, entries_of}
+use Rattle.warm_history.specs.Losses.{LosesIn}
 use Rattle.warm_frames.specs.Digests.{digest_at}
 use Rattle.warm_digest.specs.BucketDigests.{bucket_digest}
 
@@ -27,9 +26,10 @@ pub record DigestedView : Type 0 where
   pub history : HistoryView
   pub marked : ℕ
 
--- a bucket is marked now exactly where it was so before, or this is true of it
-abbrev pub Marks : (ℕ → Type 0) → ℕ → ℕ → Type 0
-Marks adds old new = (bucket : ℕ) → bucket < BUCKETS → (bit_at new bucket ≡ 1) ↔ ((bit_at old bucket ≡ 1) ⊎ adds bucket)
+-- a bucket is marked now exactly where it was so before, or its entries have changed
+abbrev pub MarksChanges : DigestedView → DigestedView → Type 0
+MarksChanges old new = (bucket : ℕ) → bucket < BUCKETS
+    → (bit_at new.marked bucket ≡ 1) ↔ ((bit_at old.marked bucket ≡ 1) ⊎ ChangesIn bucket (entries_of old.history) (entries_of new.history))
 
 -- a bucket that is marked now was so before
 abbrev pub MarksNoMore : ℕ → ℕ → Type 0
@@ -38,15 +38,3 @@ MarksNoMore old new = (bucket : ℕ) → bit_at new bucket ≡ 1 → bit_at old 
 -- a bucket that is marked would lose a stamp at the horizon
 abbrev pub MarkedLose : ℕ → HistoryView → ℕ → Type 0
 MarkedLose horizon h marked = (bucket : ℕ) → bucket < BUCKETS → bit_at marked bucket ≡ 1 → LosesIn horizon bucket h
-
--- one of the items has a page in the bucket
-abbrev pub HasPageIn : {A : Type 0} → (A → PageId) → List A → ℕ → Type 0
-HasPageIn page items bucket = Contains (map (λ x. page_bucket (page x)) items) bucket
-
--- the bit of a bucket is set exactly where the history would have other entries of it at the horizon
-abbrev pub TellsLoss : ℕ → HistoryView → ℕ → ℕ → Type 0
-TellsLoss horizon h bucket bit = (bit ≡ 1 → LosesIn horizon bucket h) × (bit ≡ 0 → KeepsIn horizon bucket h)
-
--- and so each bit of the set
-abbrev pub MarksLosing : ℕ → HistoryView → ℕ → Type 0
-MarksLosing horizon h buckets = (bucket : ℕ) → bucket < BUCKETS → TellsLoss horizon h bucket (bit_at buckets bucket)

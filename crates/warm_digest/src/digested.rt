@@ -1,21 +1,19 @@
 //! A history whose bucket digests are kept.
-ghost use Rattle.std.specs.Prelude.{◌≡◌, ◌⊎◌, ◌≤◌, [], IfOk, IsOk, OnOk, OnErr};
+ghost use Rattle.std.specs.Prelude.{◌≡◌, ◌≤◌, [], IfOk, IsOk, OnOk, OnErr};
+ghost use Rattle.warm_history.specs.Changes.{MarksChanged};
 ghost use Rattle.warm_history.specs.ReferenceSets.{these, since, ◌∪◌};
 ghost use Rattle.warm_history.specs.Histories.{entries_of, history, holding, holding_since, join, refs};
-ghost use Rattle.warm_history.specs.Losses.{LosesIn};
-ghost use Rattle.warm_stamps.specs.Buckets.{page_bucket};
 ghost use Rattle.warm_digest.specs.BucketDigests.{digests_of, digests_since};
-ghost use Rattle.warm_digest.specs.KeptDigests.{HasPageIn, Marks, MarkedLose, MarksLosing, MarksNoMore};
+ghost use Rattle.warm_digest.specs.KeptDigests.{MarksChanges, MarkedLose, MarksNoMore};
 
 use crate::kept::Digests;
 use std::alloc::{AllocError, Global};
 use std::marker::Model;
 use warm_frames::DigestTable;
-use warm_history::laws::is_history;
 use warm_history::{Entry, History};
-use warm_stamps::{BUCKETS, Bucket, PageId, Reference, bucket_of};
+use warm_stamps::Reference;
 
-/// A history whose bucket digests are kept: what it takes in marks buckets, which takes no memory, and
+/// A history whose bucket digests are kept: a bucket whose entries change is marked, which takes no memory, and
 /// [`DigestedHistory::digests`] computes again only the digests of the marked ones.
 ///
 /// Contracts see it as its history and the set of the marked buckets.
@@ -24,7 +22,7 @@ pub struct DigestedHistory {
     alloc: Global,
     history: History,
     digests: Digests,
-    // The buckets of which a page may have changed since their digest was taken.
+    // The buckets of which an entry may have changed since their digest was taken.
     changed: u64,
 }
 
@@ -75,36 +73,38 @@ impl DigestedHistory {
         &self.history
     }
 
-    /// Takes in references, as [`History::absorb`] does: `AllocError` changes nothing. It marks the buckets of their pages.
-    pub fn absorb(&mut self, batch: &[Reference]) -> Result<(), AllocError>
+    /// Takes in references, as [`History::absorb`] does: `AllocError` changes nothing. It marks the buckets whose entries changed, and
+    /// returns the set of them: bit b, of value 2^b, is set for bucket b.
+    pub fn absorb(&mut self, batch: &[Reference]) -> Result<u64, AllocError>
         ensures exact { OnOk result
             (self.new.history ≡ history (refs self.old.history ∪ these batch.now)) }
-        ensures marks { OnOk result
-            (Marks (HasPageIn (λ r. r.page) batch.now) self.old.marked self.new.marked) }
+        ensures changed { IfOk result
+            (MarksChanged (entries_of self.old.history) (entries_of self.new.history)) }
+        ensures none { IfOk result
+            (λ changed. changed ≡ 0 → self.new.history ≡ self.old.history) }
+        ensures marks { OnOk result (MarksChanges self.old self.new) }
         ensures err { OnErr result (self.new ≡ self.old) }
     {
-        // Pages rise, so the entries of a bucket without a reference of the batch stay.
-        is_history(&self.history);
-        self.history.absorb(batch)?;
-        self.changed = mark_references(self.changed, batch);
-        Ok(())
+        let changed = self.history.absorb(batch)?;
+        self.changed |= changed;
+        Ok(changed)
     }
 
     /// Takes in all that these entries hold, as [`History::join_entries`] does: `AllocError` changes
-    /// nothing. It marks the buckets of their pages, and those that lose a stamp to the horizon.
-    pub fn join_entries(&mut self, horizon: u64, more: &[Entry]) -> Result<(), AllocError>
+    /// nothing. It marks the buckets whose entries changed, also those that lost a stamp to the horizon, and returns the set of them.
+    pub fn join_entries(&mut self, horizon: u64, more: &[Entry]) -> Result<u64, AllocError>
         ensures exact { OnOk result
             (self.new.history ≡ join self.old.history (holding_since horizon more.now)) }
-        ensures marks { OnOk result (Marks
-            (λ bucket. LosesIn horizon bucket self.old.history
-            ⊎ HasPageIn (λ e. e.page) more.now bucket)
-            self.old.marked self.new.marked) }
+        ensures changed { IfOk result
+            (MarksChanged (entries_of self.old.history) (entries_of self.new.history)) }
+        ensures none { IfOk result (λ changed.
+            changed ≡ 0 → entries_of self.new.history ≡ entries_of self.old.history) }
+        ensures marks { OnOk result (MarksChanges self.old self.new) }
         ensures err { OnErr result (self.new ≡ self.old) }
     {
-        let lost = losing(&self.history, horizon);
-        self.history.join_entries(horizon, more)?;
-        self.changed = mark_entries(self.changed | lost, more);
-        Ok(())
+        let changed = self.history.join_entries(horizon, more)?;
+        self.changed |= changed;
+        Ok(changed)
     }
 
     /// The time before which stamps are forgotten. Takes no memory.
@@ -114,18 +114,20 @@ impl DigestedHistory {
         self.history.horizon()
     }
 
-    /// Forgets all stamps before this time, as [`History::raise`] does.
+    /// Forgets all stamps before this time, as [`History::raise`] does. It marks the buckets that lose a stamp, and returns the set of them.
     ///
-    /// It marks the buckets that lose a stamp, and no other. To know them each bucket is gone over once more, up to its first older stamp,
-    /// where the time is past the horizon.
-    pub fn raise(&mut self, time: u64)
+    /// To know them each bucket is gone over once more, up to its first older stamp, where the time is past the horizon.
+    pub fn raise(&mut self, time: u64) -> u64
         ensures exact { self.new.history ≡ history (since time (refs self.old.history)) }
-        ensures marks { Marks
-            (λ bucket. LosesIn time bucket self.old.history) self.old.marked self.new.marked }
+        ensures changed { MarksChanged (entries_of self.old.history) (entries_of self.new.history) result }
+        ensures none { result ≡ 0
+            → entries_of self.new.history ≡ entries_of self.old.history }
+        ensures marks { MarksChanges self.old self.new }
     {
-        let lost = losing(&self.history, time);
+        let lost = self.history.losing(time);
         self.history.raise(time);
         self.changed |= lost;
+        lost
     }
 
     /// Forgets everything. Takes no memory.
@@ -170,52 +172,9 @@ impl DigestedHistory {
         if horizon <= self.history.horizon() {
             return self.digests();
         }
-        let lost = losing(&self.history, horizon);
+        let lost = self.history.losing(horizon);
         self.digests.renew(&self.history, self.changed & !lost)?;
         self.changed &= lost;
         self.digests.table_since(&self.history, horizon, lost)
     }
-}
-
-// The set of buckets, with the page's bucket.
-fn mark(buckets: u64, page: PageId) -> u64
-    ensures { Marks (λ bucket. page_bucket page ≡ bucket) buckets result }
-{
-    buckets | 1 << bucket_of(page).get()
-}
-
-// The set of buckets, with those of the references' pages.
-fn mark_references(changed: u64, batch: &[Reference]) -> u64
-    ensures { Marks (HasPageIn (λ r. r.page) batch.now) changed result }
-{
-    let mut buckets = changed;
-    for reference in batch {
-        buckets = mark(buckets, reference.page);
-    }
-    buckets
-}
-
-// The buckets that would lose a stamp at the horizon, as a set: bit b, of value 2^b, is set for bucket b.
-fn losing(history: &History, horizon: u64) -> u64
-    ensures { MarksLosing horizon history.now result }
-{
-    let mut buckets: u64 = 0;
-    for index in 0..BUCKETS {
-        let Some(bucket) = Bucket::new(index) else {
-            unreachable!()
-        };
-        buckets |= u64::from(history.loses(bucket, horizon)) << index;
-    }
-    buckets
-}
-
-// The set of buckets, with those of the entries' pages.
-fn mark_entries(changed: u64, more: &[Entry]) -> u64
-    ensures { Marks (HasPageIn (λ e. e.page) more.now) changed result }
-{
-    let mut buckets = changed;
-    for entry in more {
-        buckets = mark(buckets, entry.page);
-    }
-    buckets
 }

@@ -14,8 +14,8 @@ use Rattle.warm_history.specs.ListHistories.{latest_of, stamps_held, held}
 use Rattle.warm_history.specs.Places.{IsPlace}
 use Rattle.warm_history.specs.Tree.{Pairs, AreKept, TakesStamps}
 use Rattle.warm_history.specs.Undo.{put_back, noted, Undoes}
-use Rattle.warm_history.specs.BucketMaps.{pairs_of, joined, LiesIn, AreBuckets, map_at, with_map, PlacesRise, found, IsNote, Records}
-use Rattle.warm_history.proofs.TreeLemmas.{exact_pair, kept_more, put_back-insert}
+use Rattle.warm_history.specs.BucketMaps.{pairs_of, joined, LiesIn, AreBuckets, map_at, with_map, PlacesRise, found, IsNote, Records, TellsNote}
+use Rattle.warm_history.proofs.TreeLemmas.{exact_pair, kept_more, put_back-insert, found_inserted}
 use Rattle.warm_history.proofs.PlaceOrder.{below_all_places}
 use Rattle.warm_history.proofs.BucketLemmas.{map_at-of, lies_in_own, find_joined, insert_joined, set_joined, remove_joined}
 
@@ -124,16 +124,16 @@ map_rises (suc i) (m ∷ ms) rise = map_rises i ms (rise_later m (joined ms) ris
 
 -- ---- what a bucket's map records, all maps record
 
-note_joined : (b i p : ℕ) (note : Option Known) (ms : List Pairs) (n : Pairs) → AreBuckets b ms → LiesIn (b + i) p → IsNote note p (map_at ms i) n → IsNote note p (joined ms) (joined (with_map ms i n))
-note_joined b i p None ms n are is same = ap (λ t. joined (with_map ms i t)) same ∙ ap joined (with_same ms i)
-note_joined b i p (Some k) ms n are is known = (known.0, known.1 ∙ sym (find_joined b i p ms are is))
+note_joined : (b i p : ℕ) (h : PageHist) (note : Option Known) (ms : List Pairs) (n : Pairs) → AreBuckets b ms → LiesIn (b + i) p → IsNote note p h (map_at ms i) n → IsNote note p h (joined ms) (joined (with_map ms i n))
+note_joined b i p h None ms n are is same = ap (λ t. joined (with_map ms i t)) same ∙ ap joined (with_same ms i)
+note_joined b i p h (Some k) ms n are is known = (known.0, known.1 ∙ sym (find_joined b i p ms are is), known.2)
 
 pub records_joined : (b i p : ℕ) (more : PageHist) (note : Option Known) (ms : List Pairs) (n : Pairs) → AreBuckets b ms → LiesIn (b + i) p → i < length ms → Records (map_at ms i) p more note n → Records (joined ms) p more note (joined (with_map ms i n))
 records_joined b i p more note ms n are is there records = (
   records.0,
   records.1 ∙ ap (λ k. latest_of (stamps_held more ++ held k)) (sym (find_joined b i p ms are is)),
   ap (λ t. joined (with_map ms i t)) records.2 ∙ sym (insert_joined b i p records.0 ms are is there),
-  note_joined b i p note ms n are is records.3,
+  note_joined b i p records.0 note ms n are is records.3,
 )
 
 -- a map that records at a place of its bucket stays with it, and one that records nothing too
@@ -156,6 +156,13 @@ records_undo old new p more (Some k) are records =
     ap (λ q. put_back q k.hist new) place
     ∙ ap (put_back p k.hist) records.2
     ∙ put_back-insert p records.0 old are.places_rise k.hist records.3.1
+
+-- a note tells of a change
+pub records_tell : (old new : Pairs) (p : ℕ) (more : PageHist) (note : Option Known) → Records old p more note new → TellsNote note p old new
+records_tell old new p more None records = records.3
+records_tell old new p more (Some k) records = λ same.
+    let now : found p new ≡ Some records.0 = ap (found p) records.2 ∙ found_inserted p records.0 old in
+    records.3.2 (records.3.1 ∙ sym same ∙ now)
 
 -- ---- the maps, with one that recorded in its place
 

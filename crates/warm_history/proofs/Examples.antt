@@ -8,6 +8,8 @@ use Rattle.warm_history.specs.declared.hist.Entry.{Entry}
 use Rattle.warm_history.specs.ReferenceSets.{ReferenceSet, these, since}
 use Rattle.warm_history.specs.Histories.{holding, holding_since, history, join}
 use Rattle.warm_history.specs.Carried.{carried}
+use Rattle.warm_history.specs.Changes.{ChangesIn, StaysIn}
+use Rattle.warm_history.specs.Losses.{KeepsIn, bucket_since}
 
 abbrev pub page : ℕ → ℕ → PageId
 page dev n = record { dev = dev; no = n }
@@ -109,3 +111,21 @@ forgotten = refl
 cut_by_other : join (holding_since 9 (twice 1 (at 9 2) (at 8 2) ∷ [])) (holding_since 12 (once 1 (at 20 1) ∷ [])) ≡ holding_since 12 (once 1 (at 20 1) ∷ [])
 unfolding history
 cut_by_other = refl
+
+-- ---- which buckets change
+
+-- a page more is in bucket 7, and pages 1 and 65 are in bucket 1
+changes_in_own : ChangesIn 7 (once 1 (at 5 1) ∷ once 65 (at 6 1) ∷ []) (once 1 (at 5 1) ∷ once 7 (at 8 1) ∷ once 65 (at 6 1) ∷ [])
+changes_in_own same = absurd (cc)
+
+stays_in_others : StaysIn 1 (once 1 (at 5 1) ∷ once 65 (at 6 1) ∷ []) (once 1 (at 5 1) ∷ once 7 (at 8 1) ∷ once 65 (at 6 1) ∷ [])
+stays_in_others = refl
+
+-- at 10 page 1 loses a stamp, and page 2 none
+loses_one : bucket_since 10 1 (holding (twice 1 (at 12 1) (at 5 1) ∷ once 2 (at 10 1) ∷ [])) ≡ once 1 (at 12 1) ∷ []
+unfolding history
+loses_one = refl
+
+keeps_other : KeepsIn 10 2 (holding (twice 1 (at 12 1) (at 5 1) ∷ once 2 (at 10 1) ∷ []))
+unfolding history
+keeps_other = refl

@@ -18,6 +18,9 @@ pub mod PlaceOrder
 pub mod OrderLemmas
 pub mod TreeLemmas
 pub mod BucketLemmas
+pub mod BucketSets
+pub mod ChangeLemmas
+pub mod RecordLemmas
 pub mod BucketSteps
 pub mod BucketCounts
 pub mod BucketParts

@@ -14,7 +14,7 @@ use Rattle.warm_history.proofs.RaiseLemmas.{raised_to}
 -- ---- what is left of a bucket
 
 -- it is the bucket of what is left
-bucket_left : (m bucket : ℕ) (es : List Entry) → kept_entries m (bucket_entries bucket es) ≡ bucket_entries bucket (kept_entries m es)
+pub bucket_left : (m bucket : ℕ) (es : List Entry) → kept_entries m (bucket_entries bucket es) ≡ bucket_entries bucket (kept_entries m es)
 bucket_left m bucket [] = refl
 bucket_left m bucket (e ∷ es) = cases (is_recent m e.hist) refl (page_bucket e.page == bucket) refl (bucket_left m bucket es)
   where
@@ -35,7 +35,7 @@ raised_bucket h time bucket whole = bucket_left (max h.horizon time) bucket (ent
 -- ---- whether something is lost
 
 -- nothing that is left is older than the horizon
-none_left_older : (m : ℕ) (es : List Entry) → NoneOlder m (kept_entries m es)
+pub none_left_older : (m : ℕ) (es : List Entry) → NoneOlder m (kept_entries m es)
 none_left_older m [] = tt
 none_left_older m (e ∷ es) = cases (is_recent m e.hist) refl (none_left_older m es)
   where

@@ -289,6 +289,22 @@ set-insert p h g (e ∷ pairs) rising is = cases (set-insert p h g pairs rising.
         let rest : found p pairs ≡ Some g = sym (ap (λ o. cond (is_eq o) (Some e.1) (found p pairs)) pe) ∙ is in
         rw pe (ap (λ t. e ∷ t) (later rest))
 
+-- what was put in at a place is found there
+pub found_inserted : (p : ℕ) (h : PageHist) (pairs : Pairs) → found p (insert_entry nat_cmp pairs p h) ≡ Some h
+found_inserted p h [] = let own : nat_cmp p p ≡ Equal = tied_itself nat_order.total p in rw own refl
+found_inserted p h (e ∷ pairs) = by_cases (nat_cmp p e.0) _
+    (λ pe. let own : nat_cmp p p ≡ Equal = tied_itself nat_order.total p in rw pe (rw own refl))
+    (λ pe. rw pe (rw pe refl))
+    (λ pe. rw pe (rw pe (found_inserted p h pairs)))
+
+-- and is written over there
+pub set_inserted : (p : ℕ) (g h : PageHist) (pairs : Pairs) → set_value (is_at (nat_cmp p)) (insert_entry nat_cmp pairs p g) h ≡ insert_entry nat_cmp pairs p h
+set_inserted p g h [] = let own : nat_cmp p p ≡ Equal = tied_itself nat_order.total p in rw own refl
+set_inserted p g h (e ∷ pairs) = by_cases (nat_cmp p e.0) _
+    (λ pe. let own : nat_cmp p p ≡ Equal = tied_itself nat_order.total p in rw pe (rw own refl))
+    (λ pe. rw pe (rw pe refl))
+    (λ pe. rw pe (rw pe (ap (λ t. e ∷ t) (set_inserted p g h pairs))))
+
 -- ---- steps of a loop
 
 pub left_more : {A : Type 0} (xs : List A) (i : ℕ) (x : A) → i < length xs → x ≡ get_or xs i x → drop i xs ≡ x ∷ drop (i + 1) xs

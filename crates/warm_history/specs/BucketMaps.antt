@@ -1,5 +1,5 @@
 -- A map from places that is kept as a map for each bucket.
-use Rattle.std.specs.Prelude.{◌≡◌, ℕ, Bool, true, List, [], ◌∷◌, ◌++◌, ◌+◌, ◌≤◌, ◌<◌, length, ⊤, zero, suc, map, filter, Option, Some, None}
+use Rattle.std.specs.Prelude.{◌≡◌, ◌≢◌, ℕ, Bool, true, List, [], ◌∷◌, ◌++◌, ◌+◌, ◌≤◌, ◌<◌, length, ⊤, zero, suc, map, filter, Option, Some, None}
 use Rattle.std.specs.List.{AllByRecursion}
 use Rattle.std.specs.Map.{lookup}
 use Rattle.std.specs.BTreeMap.{BTreeMap, is_at, insert_entry}
@@ -67,11 +67,16 @@ PlacesRise pairs = IsRising (on (λ e. e.0) nat_cmp) pairs
 abbrev pub found : ℕ → Pairs → Option PageHist
 found place pairs = lookup (is_at (nat_cmp place)) pairs
 
--- the note says what the pairs had at the place; without one, they are as they were
-abbrev pub IsNote : Option Known → ℕ → Pairs → Pairs → Type 0
-IsNote None place old new = new ≡ old
-IsNote (Some k) place old new = (k.place ≡ place) × (k.hist ≡ found place old)
+-- the note says what the pairs had at the place, where they have h now, which is something else; without one, they are as they were
+abbrev pub IsNote : Option Known → ℕ → PageHist → Pairs → Pairs → Type 0
+IsNote None place h old new = new ≡ old
+IsNote (Some k) place h old new = (k.place ≡ place) × (k.hist ≡ found place old) × (k.hist ≢ Some h)
 
 -- new are the pairs old, with the two latest of the stamps there and those of `more` at the place
 abbrev pub Records : Pairs → ℕ → PageHist → Option Known → Pairs → Type 0
-Records old place more note new = (h : PageHist) × (Some h ≡ latest_of (stamps_held more ++ held (found place old))) × (new ≡ insert_entry nat_cmp old place h) × IsNote note place old new
+Records old place more note new = (h : PageHist) × (Some h ≡ latest_of (stamps_held more ++ held (found place old))) × (new ≡ insert_entry nat_cmp old place h) × IsNote note place h old new
+
+-- what is found at the place is something else now, if there is a note; without one, the pairs are as they were
+abbrev pub TellsNote : Option Known → ℕ → Pairs → Pairs → Type 0
+TellsNote None place old new = new ≡ old
+TellsNote (Some k) place old new = found place new ≢ found place old

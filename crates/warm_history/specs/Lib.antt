@@ -3,6 +3,7 @@ pub mod KeptEntries
 pub mod ReferenceSets
 pub mod Histories
 pub mod Carried
+pub mod Changes
 pub mod Losses
 pub mod Laws
 pub mod References

@@ -1,7 +1,8 @@
 -- What a history would lose at a horizon.
-use Rattle.std.specs.Prelude.{◌≡◌, ◌≢◌, ℕ, List}
+use Rattle.std.specs.Prelude.{ℕ, List}
 use Rattle.warm_history.specs.declared.hist.Entry.{Entry}
 use Rattle.warm_history.specs.Carried.{bucket_entries}
+use Rattle.warm_history.specs.Changes.{ChangesIn, StaysIn, MarksChanged}
 use Rattle.warm_history.specs.Histories.{HistoryView, entries_of, history, refs}
 use Rattle.warm_history.specs.ReferenceSets.{since}
 
@@ -15,8 +16,12 @@ bucket_since horizon bucket h = bucket_entries bucket (entries_of (raised horizo
 
 -- they would be others than it has
 abbrev pub LosesIn : ℕ → ℕ → HistoryView → Type 0
-LosesIn horizon bucket h = bucket_since horizon bucket h ≢ bucket_entries bucket (entries_of h)
+LosesIn horizon bucket h = ChangesIn bucket (entries_of h) (entries_of (raised horizon h))
 
 -- they would be the same
 abbrev pub KeepsIn : ℕ → ℕ → HistoryView → Type 0
-KeepsIn horizon bucket h = bucket_since horizon bucket h ≡ bucket_entries bucket (entries_of h)
+KeepsIn horizon bucket h = StaysIn bucket (entries_of h) (entries_of (raised horizon h))
+
+-- a bucket is in the set exactly where they would be others
+abbrev pub MarksLosing : ℕ → HistoryView → ℕ → Type 0
+MarksLosing horizon h buckets = MarksChanged (entries_of h) (entries_of (raised horizon h)) buckets

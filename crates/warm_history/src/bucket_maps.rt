@@ -1,12 +1,12 @@
 //! A map from places, kept as a map for each bucket: a look-up goes down a small map.
 ghost use Rattle.std.specs.Iterator.{YieldsFirst};
-ghost use Rattle.std.specs.Prelude.{◌≡◌, ◌<◌, ◌≤◌, ◌^◌, [], length, map, OnOk, OnErr, IfOk, IfSome, IfNone, Some, ◌++◌};
-ghost use Rattle.warm_history.specs.ListHistories.{latest_of, stamps_held};
+ghost use Rattle.std.specs.Prelude.{◌≡◌, ◌≢◌, ◌+◌, ◌<◌, ◌≤◌, ◌^◌, [], length, map, OnOk, OnErr, IfOk, IfSome, IfNone, None, Some, ◌++◌};
+ghost use Rattle.warm_history.specs.ListHistories.{held, latest_of, stamps_held};
 ghost use Rattle.warm_history.specs.Places.{IsPlace};
 ghost use Rattle.warm_history.specs.Cuts.{cut_at};
 ghost use Rattle.warm_stamps.specs.declared.TheConstants.{BUCKETS};
 ghost use Rattle.warm_history.specs.Tree.{AreKept, TakesStamps};
-ghost use Rattle.warm_history.specs.BucketMaps.{joined, pairs_of, pairs_left, HoldsBucket, PlacesRise, Records, found};
+ghost use Rattle.warm_history.specs.BucketMaps.{joined, pairs_of, pairs_left, HoldsBucket, PlacesRise, Records, TellsNote, found};
 ghost use Rattle.warm_history.specs.Undo.{put_back, noted, Undoes};
 
 use crate::hist::{PageHist, join_hist, join_known, keep_since};
@@ -28,7 +28,7 @@ pub(crate) const MOST: usize = 288_230_376_151_711_744;
 #[derive(Debug, Clone, Copy)]
 pub(crate) struct Known {
     place: u128,
-    hist: Option<PageHist>,
+    pub(crate) hist: Option<PageHist>,
 }
 
 // What is known of places, in the order of their numbers: a map for each bucket.
@@ -106,19 +106,23 @@ impl BucketMaps {
     }
 
     // Takes in the stamps given for the page at a place, and returns what was known of it, where that changes.
+    //
+    // It takes the way that is sooner for a page that is new where this is likely, and else the one for a known page.
     pub(crate) fn record(
         &mut self,
         place: u128,
         more: PageHist,
+        likely_new: bool,
     ) -> Result<Option<Known>, AllocError>
         requires place { IsPlace place }
         requires kept { AreKept self.old }
         ensures exact { OnOk result (TakesStamps self.old place more self.new) }
         ensures whole { AreKept self.new }
         ensures undo { IfOk result (λ note. Undoes (noted note) self.new self.old) }
+        ensures tells { IfOk result (λ note. TellsNote note place self.old self.new) }
         ensures err { OnErr result (self.new ≡ self.old) }
     {
-        record_in(&mut self.maps[bucket_at(place)], place, more)
+        record_in(&mut self.maps[bucket_at(place)], place, more, likely_new)
     }
 
     // Puts back what was known of a page. Takes no memory.
@@ -204,6 +208,50 @@ fn record_in(
     map: &mut BTreeMap<u128, PageHist>,
     place: u128,
     more: PageHist,
+    likely_new: bool,
+) -> Result<Option<Known>, AllocError>
+    requires { PlacesRise map.old.entries }
+    ensures ok { IfOk result (λ note. Records map.old.entries place more note map.new.entries) }
+    ensures err { OnErr result (map.new.entries ≡ map.old.entries) }
+    ensures small { length map.old.entries < MOST → length map.new.entries < MOST }
+{
+    if likely_new && map.len() < MOST - 1 {
+        return record_likely_new(map, place, more);
+    }
+    record_likely_known(map, place, more)
+}
+
+// The same for a page that is likely new: it is put in at once, which costs one way down the map where it is new and two where it is known.
+fn record_likely_new(
+    map: &mut BTreeMap<u128, PageHist>,
+    place: u128,
+    more: PageHist,
+) -> Result<Option<Known>, AllocError>
+    requires rise { PlacesRise map.old.entries }
+    requires few { length map.old.entries + 1 < MOST }
+    ensures ok { IfOk result (λ note. Records map.old.entries place more note map.new.entries) }
+    ensures err { OnErr result (map.new.entries ≡ map.old.entries) }
+    ensures small { length map.new.entries < MOST }
+{
+    let Some(before) = map.insert(place, alone(&more))? else {
+        return Ok(Some(Known { place, hist: None }));
+    };
+    let Some(known) = map.get_mut(&place) else {
+        unreachable!()
+    };
+    *known = before;
+    let Some(before) = raise(known, more) else {
+        return Ok(None);
+    };
+    let hist = Some(before);
+    Ok(Some(Known { place, hist }))
+}
+
+// The same for a page that is likely known: it is looked up first, which costs one way down the map where it is known and two where it is new.
+fn record_likely_known(
+    map: &mut BTreeMap<u128, PageHist>,
+    place: u128,
+    more: PageHist,
 ) -> Result<Option<Known>, AllocError>
     requires { PlacesRise map.old.entries }
     ensures ok { IfOk result (λ note. Records map.old.entries place more note map.new.entries) }
@@ -225,10 +273,18 @@ fn record_in(
     Ok(Some(Known { place, hist: None }))
 }
 
+// The two latest of these stamps, of a page of which nothing else is known.
+fn alone(more: &PageHist) -> PageHist
+    ensures { Some result ≡ latest_of (stamps_held more.now ++ held None) }
+{
+    join_known(None, *more)
+}
+
 // Takes more into what is known of a page, and returns what was known before, where that changes.
 fn raise(known: &mut PageHist, more: PageHist) -> Option<PageHist>
     ensures now { Some known.new ≡ latest_of (stamps_held more ++ stamps_held known.old) }
     ensures before { IfSome result (λ h. h ≡ known.old) }
+    ensures differs { IfSome result (λ h. h ≢ known.new) }
     ensures same { IfNone result (known.new ≡ known.old) }
 {
     let before = *known;

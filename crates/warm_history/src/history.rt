@@ -3,11 +3,13 @@ ghost use Rattle.std.specs.Prelude.{◌≡◌, ◌≤◌, [], false, length, max
 ghost use Rattle.warm_history.specs.ReferenceSets.{ReferenceSet, these, since, ◌∪◌};
 ghost use Rattle.warm_history.specs.Histories.{entries_of, holding, holding_since, hist, refs, history, join, StandsFor, TakesIn, IsHistory};
 ghost use Rattle.warm_history.specs.Carried.{AreCarried, bucket_entries};
-ghost use Rattle.warm_history.specs.Losses.{KeepsIn, LosesIn, bucket_since};
+ghost use Rattle.warm_history.specs.Losses.{KeepsIn, LosesIn, MarksLosing, bucket_since, raised};
+ghost use Rattle.warm_history.specs.Changes.{MarksChanged};
 ghost use Rattle.warm_history.specs.Merges.{later_of_bucket};
 
 use crate::bucket_maps::{BucketMaps, EachPair};
 use crate::hist::{Entry, PageHist};
+use crate::losses::losing;
 use crate::merges::{AllParts, Source, all_parts};
 use crate::parts::{later_pairs, next_entry};
 use crate::place::page_at;
@@ -153,6 +155,16 @@ impl History {
         !none_older(self.bucket(bucket), horizon)
     }
 
+    /// The buckets that would have other entries at a horizon, as a set: bit b, of value 2^b, is set for bucket b. Takes no memory.
+    ///
+    /// It costs what [`History::loses`] costs for each bucket.
+    pub fn losing(&self, horizon: u64) -> u64
+        ensures lost { MarksLosing horizon self.now result }
+        ensures none { result ≡ 0 → entries_of (raised horizon self.now) ≡ entries_of self.now }
+    {
+        losing(self, horizon)
+    }
+
     /// The entries, in no order that is promised: sooner than [`History::iter`]. Takes no memory.
     ///
     /// Each of the 64 buckets costs a look-up on the way, and each entry a step.
@@ -171,50 +183,60 @@ impl History {
         known_of(&self.maps, page)
     }
 
-    /// Takes in references, in any order, of which any may be known already.
+    /// Takes in references, in any order, of which any may be known already, and returns the set of the buckets whose entries changed:
+    /// bit b, of value 2^b, is set for bucket b.
     ///
     /// Time grows with the batch, and with the logarithm of the number of pages. `AllocError` comes
     /// only where memory for what was known of the batch's pages, or for a new page, was refused, and
     /// changes nothing.
-    pub fn absorb(&mut self, batch: &[Reference]) -> Result<(), AllocError>
+    pub fn absorb(&mut self, batch: &[Reference]) -> Result<u64, AllocError>
         ensures ok { OnOk result (TakesIn self.old (these batch.now) self.new) }
         ensures exact { OnOk result (self.new ≡ history (refs self.old ∪ these batch.now)) }
+        ensures changed { IfOk result (MarksChanged (entries_of self.old) (entries_of self.new)) }
+        ensures none { IfOk result (λ changed. changed ≡ 0 → self.new ≡ self.old) }
         ensures err { OnErr result (self.new ≡ self.old) }
     {
-        take_references(self.alloc, &mut self.maps, self.horizon, batch)?;
-        Ok(())
+        let changed = take_references(self.alloc, &mut self.maps, self.horizon, batch)?;
+        Ok(changed)
     }
 
-    /// Takes in all that the other history holds.
+    /// Takes in all that the other history holds, and returns the set of the buckets whose entries changed, as [`History::absorb`] does.
     ///
     /// The other is gone over once, and each of its pages is looked up here. `AllocError` comes only
     /// where memory for what was known of these pages, or for a new page, was refused, and changes
     /// nothing.
-    pub fn join(&mut self, other: &History) -> Result<(), AllocError>
+    pub fn join(&mut self, other: &History) -> Result<u64, AllocError>
         ensures ok { OnOk result (TakesIn self.old (refs other.now) self.new) }
         ensures exact { OnOk result (self.new ≡ join self.old other.now) }
+        ensures changed { IfOk result (MarksChanged (entries_of self.old) (entries_of self.new)) }
         ensures err { OnErr result (self.new ≡ self.old) }
     {
+        let lost = self.losing(other.horizon);
         let horizon = later(self.horizon, other.horizon);
-        take_pairs(self.alloc, &mut self.maps, horizon, &other.maps)?;
+        let changed = take_pairs(self.alloc, &mut self.maps, horizon, &other.maps)?;
         self.horizon = raise(&mut self.maps, self.horizon, horizon);
-        Ok(())
+        Ok(changed | lost)
     }
 
-    /// Takes in all that these entries hold, which may come in any order and name a page often.
+    /// Takes in all that these entries hold, which may come in any order and name a page often, and returns the set of the buckets whose
+    /// entries changed, as [`History::absorb`] does: also those that lost a stamp to the horizon.
     ///
     /// The entries are gone over once, and each page is looked up here. `AllocError` comes only where
     /// memory for what was known of these pages, or for a new page, was refused, and changes nothing.
-    pub fn join_entries(&mut self, horizon: u64, more: &[Entry]) -> Result<(), AllocError>
+    pub fn join_entries(&mut self, horizon: u64, more: &[Entry]) -> Result<u64, AllocError>
         ensures ok { OnOk result
             (TakesIn self.old (refs (holding_since horizon more.now)) self.new) }
         ensures exact { OnOk result (self.new ≡ join self.old (holding_since horizon more.now)) }
+        ensures changed { IfOk result (MarksChanged (entries_of self.old) (entries_of self.new)) }
+        ensures none { IfOk result
+            (λ changed. changed ≡ 0 → entries_of self.new ≡ entries_of self.old) }
         ensures err { OnErr result (self.new ≡ self.old) }
     {
+        let lost = self.losing(horizon);
         let horizon = later(self.horizon, horizon);
-        take_entries(self.alloc, &mut self.maps, horizon, more)?;
+        let changed = take_entries(self.alloc, &mut self.maps, horizon, more)?;
         self.horizon = raise(&mut self.maps, self.horizon, horizon);
-        Ok(())
+        Ok(changed | lost)
     }
 
     /// A second history, equal to this one. `AllocError` comes only where its memory was refused.

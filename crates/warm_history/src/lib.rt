@@ -14,6 +14,7 @@ mod bucket_maps;
 mod hist;
 mod history;
 pub mod laws;
+mod losses;
 mod merges;
 mod order;
 mod parts;

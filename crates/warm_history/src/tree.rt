@@ -2,7 +2,8 @@
 //!
 //! What a change took away is noted. Where no memory is left the notes are put back, the last one
 //! first, which takes none.
-ghost use Rattle.std.specs.Prelude.{◌≡◌, OnOk, OnErr, max};
+ghost use Rattle.std.specs.Prelude.{◌≡◌, IfOk, OnOk, OnErr, max};
+ghost use Rattle.warm_history.specs.Changes.{MarksChanged};
 ghost use Rattle.warm_history.specs.Places.{place_of, page_at, IsPlace};
 ghost use Rattle.warm_history.specs.Tree.{
   AreKept,
@@ -20,9 +21,18 @@ ghost use Rattle.warm_history.specs.Undo.{undone, LeadsBack};
 
 use crate::bucket_maps::{BucketMaps, Known};
 use crate::hist::{Entry, PageHist};
-use crate::place::place_of;
+use crate::place::{bucket_at, place_of};
 use std::alloc::{AllocError, Global};
 use warm_stamps::{PageId, Reference};
+
+// What became of the stamps that were taken in for a page.
+#[derive(Debug, Clone, Copy)]
+struct Taken {
+    // The set of the buckets that changed: bit b, of value 2^b, is set for bucket b.
+    changed: u64,
+    // Whether the page was new. Pages often come in runs that are all new or all known, so the next one is likely to be what this one was.
+    is_new: bool,
+}
 
 // What is known of a page.
 pub(crate) fn known_of(maps: &BucketMaps, page: PageId) -> Option<PageHist>
@@ -39,18 +49,21 @@ pub(crate) fn take_references(
     maps: &mut BucketMaps,
     horizon: u64,
     batch: &[Reference],
-) -> Result<(), AllocError>
+) -> Result<u64, AllocError>
     requires { AreKept maps.old }
     ensures exact { OnOk result (TakesReferences horizon maps.old batch.now maps.new) }
+    ensures changed { IfOk result (MarksChanged (kept maps.old) (kept maps.new)) }
     ensures whole { AreKept maps.new }
     ensures err { OnErr result (maps.new ≡ maps.old) }
 {
     let mut undo = Vec::with_capacity(alloc, batch.len())?;
-    if let Err(fault) = take_each_reference(maps, &mut undo, horizon, batch) {
-        put_all_back(maps, &mut undo);
-        return Err(fault);
+    match take_each_reference(maps, &mut undo, horizon, batch) {
+        Ok(changed) => Ok(changed),
+        Err(fault) => {
+            put_all_back(maps, &mut undo);
+            Err(fault)
+        }
     }
-    Ok(())
 }
 
 // Takes in all stamps of entries, which may come in any order, that are not older than the horizon, or none.
@@ -59,18 +72,21 @@ pub(crate) fn take_entries(
     maps: &mut BucketMaps,
     horizon: u64,
     more: &[Entry],
-) -> Result<(), AllocError>
+) -> Result<u64, AllocError>
     requires { AreKept maps.old }
     ensures exact { OnOk result (TakesEntries horizon maps.old more.now maps.new) }
+    ensures changed { IfOk result (MarksChanged (kept maps.old) (kept maps.new)) }
     ensures whole { AreKept maps.new }
     ensures err { OnErr result (maps.new ≡ maps.old) }
 {
     let mut undo = Vec::new(alloc);
-    if let Err(fault) = take_each_entry(maps, &mut undo, horizon, more) {
-        put_all_back(maps, &mut undo);
-        return Err(fault);
+    match take_each_entry(maps, &mut undo, horizon, more) {
+        Ok(changed) => Ok(changed),
+        Err(fault) => {
+            put_all_back(maps, &mut undo);
+            Err(fault)
+        }
     }
-    Ok(())
 }
 
 // Takes in all that another map has and that isn't older than the horizon, or nothing.
@@ -79,19 +95,22 @@ pub(crate) fn take_pairs(
     maps: &mut BucketMaps,
     horizon: u64,
     more: &BucketMaps,
-) -> Result<(), AllocError>
+) -> Result<u64, AllocError>
     requires here { AreKept maps.old }
     requires there { AreKept more.now }
     ensures exact { OnOk result (TakesPairs horizon maps.old more.now maps.new) }
+    ensures changed { IfOk result (MarksChanged (kept maps.old) (kept maps.new)) }
     ensures whole { AreKept maps.new }
     ensures err { OnErr result (maps.new ≡ maps.old) }
 {
     let mut undo = Vec::new(alloc);
-    if let Err(fault) = take_each_pair(maps, &mut undo, horizon, more) {
-        put_all_back(maps, &mut undo);
-        return Err(fault);
+    match take_each_pair(maps, &mut undo, horizon, more) {
+        Ok(changed) => Ok(changed),
+        Err(fault) => {
+            put_all_back(maps, &mut undo);
+            Err(fault)
+        }
     }
-    Ok(())
 }
 
 // Takes in the stamps given for the page at a place, and notes what was known of it.
@@ -100,19 +119,29 @@ fn take(
     undo: &mut Vec<Known>,
     place: u128,
     more: PageHist,
-) -> Result<(), AllocError>
+    likely_new: bool,
+) -> Result<Taken, AllocError>
     requires place { IsPlace place }
     requires kept { AreKept maps.old }
     ensures exact { OnOk result (TakesStamps maps.old place more maps.new) }
+    ensures changed { IfOk result
+        (λ taken. MarksChanged (kept maps.old) (kept maps.new) taken.changed) }
     ensures undo { LeadsBack undo.new.items maps.new undo.old.items maps.old }
     ensures whole { AreKept maps.new }
 {
     undo.reserve(1)?;
-    let Some(known) = maps.record(place, more)? else {
-        return Ok(());
+    let Some(known) = maps.record(place, more, likely_new)? else {
+        return Ok(Taken {
+            changed: 0,
+            is_new: false,
+        });
     };
+    let before = known.hist;
     undo.push_reserved(known);
-    Ok(())
+    Ok(Taken {
+        changed: 1 << bucket_at(place),
+        is_new: before.is_none(),
+    })
 }
 
 // Takes in the stamps given for the page at a place that are not older than the horizon.
@@ -122,18 +151,24 @@ fn take_recent(
     horizon: u64,
     place: u128,
     more: PageHist,
-) -> Result<(), AllocError>
+    likely_new: bool,
+) -> Result<Taken, AllocError>
     requires place { IsPlace place }
     requires kept { AreKept maps.old }
     ensures exact { OnOk result (TakesRecent horizon maps.old place more maps.new) }
+    ensures changed { IfOk result
+        (λ taken. MarksChanged (kept maps.old) (kept maps.new) taken.changed) }
     ensures undo { LeadsBack undo.new.items maps.new undo.old.items maps.old }
     ensures whole { AreKept maps.new }
 {
     let Some(recent) = more.since(horizon) else {
-        return Ok(());
+        return Ok(Taken {
+            changed: 0,
+            is_new: likely_new,
+        });
     };
-    take(maps, undo, place, recent)?;
-    Ok(())
+    let taken = take(maps, undo, place, recent, likely_new)?;
+    Ok(taken)
 }
 
 fn take_each_reference(
@@ -141,17 +176,23 @@ fn take_each_reference(
     undo: &mut Vec<Known>,
     horizon: u64,
     batch: &[Reference],
-) -> Result<(), AllocError>
+) -> Result<u64, AllocError>
     requires { AreKept maps.old }
     ensures exact { OnOk result (TakesReferences horizon maps.old batch.now maps.new) }
+    ensures changed { IfOk result (MarksChanged (kept maps.old) (kept maps.new)) }
     ensures undo { LeadsBack undo.new.items maps.new undo.old.items maps.old }
     ensures whole { AreKept maps.new }
 {
+    let mut changed: u64 = 0;
+    let mut is_new = false;
     for reference in batch {
         let place = place_of(reference.page);
-        take_recent(maps, undo, horizon, place, PageHist::Once(reference.stamp))?;
+        let more = PageHist::Once(reference.stamp);
+        let taken = take_recent(maps, undo, horizon, place, more, is_new)?;
+        changed |= taken.changed;
+        is_new = taken.is_new;
     }
-    Ok(())
+    Ok(changed)
 }
 
 fn take_each_entry(
@@ -159,17 +200,22 @@ fn take_each_entry(
     undo: &mut Vec<Known>,
     horizon: u64,
     more: &[Entry],
-) -> Result<(), AllocError>
+) -> Result<u64, AllocError>
     requires { AreKept maps.old }
     ensures exact { OnOk result (TakesEntries horizon maps.old more.now maps.new) }
+    ensures changed { IfOk result (MarksChanged (kept maps.old) (kept maps.new)) }
     ensures undo { LeadsBack undo.new.items maps.new undo.old.items maps.old }
     ensures whole { AreKept maps.new }
 {
+    let mut changed: u64 = 0;
+    let mut is_new = false;
     for entry in more {
         let place = place_of(entry.page);
-        take_recent(maps, undo, horizon, place, entry.hist)?;
+        let taken = take_recent(maps, undo, horizon, place, entry.hist, is_new)?;
+        changed |= taken.changed;
+        is_new = taken.is_new;
     }
-    Ok(())
+    Ok(changed)
 }
 
 fn take_each_pair(
@@ -177,17 +223,22 @@ fn take_each_pair(
     undo: &mut Vec<Known>,
     horizon: u64,
     more: &BucketMaps,
-) -> Result<(), AllocError>
+) -> Result<u64, AllocError>
     requires here { AreKept maps.old }
     requires there { AreKept more.now }
     ensures exact { OnOk result (TakesPairs horizon maps.old more.now maps.new) }
+    ensures changed { IfOk result (MarksChanged (kept maps.old) (kept maps.new)) }
     ensures undo { LeadsBack undo.new.items maps.new undo.old.items maps.old }
     ensures whole { AreKept maps.new }
 {
+    let mut changed: u64 = 0;
+    let mut is_new = false;
     for (place, hist) in more.each_pair() {
-        take_recent(maps, undo, horizon, place, hist)?;
+        let taken = take_recent(maps, undo, horizon, place, hist, is_new)?;
+        changed |= taken.changed;
+        is_new = taken.is_new;
     }
-    Ok(())
+    Ok(changed)
 }
 
 // Forgets what is older than a time that is past the horizon, and returns the horizon from then on.

@@ -1,9 +1,18 @@
-use Rattle.std.proofs.Common.{◌≡◌, ◌≢◌, ◌↔◌, ap, arith, subst, not, ◌∙◌}
+use Rattle.std.proofs.Common.{◌≡◌, ◌≢◌, ◌↔◌, ℕ, Bool, true, false, List, ap, arith, refl, subst, sym, not, true≢false, ◌∙◌}
 use Rattle.std.specs.Prelude.{bytes_eq}
 use Rattle.std.specs.Int.{from_bool}
+use Rattle.std.proofs.lemmas.Slice.Eq.{bytes_eq-Decides}
+use Rattle.warm_history.proofs.BucketSets.{seen_more, rest_more}
 use Rattle.warm_frames.specs.Digests.{digest_at}
-use Rattle.warm_digest.proofs.BucketSets.{is_set, seen_more, rest_more}
 use Rattle.warm_digest.proofs.differing.Goals as goal
+
+-- a bit is given exactly where two digests differ
+is_set : (x y : List ℕ) (n : ℕ) → n ≡ from_bool (not (bytes_eq x y)) → (n ≡ 1) ↔ (x ≢ y)
+is_set x y n is = go (bytes_eq x y) refl is
+  where
+    go : (b : Bool) → bytes_eq x y ≡ b → n ≡ from_bool (not b) → (n ≡ 1) ↔ (x ≢ y)
+    go true e is = ((λ one same. absurd (omega (arith, one, is))), (λ differ. absurd (differ ((bytes_eq-Decides x y).0 e))))
+    go false e is = ((λ one same. true≢false (sym ((bytes_eq-Decides x y).1 same) ∙ e)), (λ differ. is))
 
 pub loop-index-preserved : goal.loop-index-preserved
 loop-index-preserved c =

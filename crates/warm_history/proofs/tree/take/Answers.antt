@@ -1,5 +1,9 @@
-use Rattle.std.proofs.Common.{ap, ◌∙◌}
+use Rattle.std.proofs.Common.{◌*◌, ◌%◌, ◌^◌, ap, subst, sym, ◌∙◌}
+use Rattle.warm_history.specs.BucketMaps.{TellsNote}
+use Rattle.warm_history.specs.Changes.{MarksChanged}
+use Rattle.warm_history.specs.Tree.{kept}
 use Rattle.warm_history.specs.Undo.{undone}
+use Rattle.warm_history.proofs.ChangeLemmas.{marks_at}
 use Rattle.warm_history.proofs.TreeLemmas.{undone_more}
 use Rattle.warm_history.proofs.tree.take.Goals as goal
 
@@ -11,3 +15,12 @@ returns-clause-undo c =
     ap (λ u. undone u new) c.push_reserved.ensures.items
     ∙ undone_more notes _ c.in-Some.known old new c.in-Some.is c.in_ok-known.ensures.undo
     ∙ ap (λ u. undone u old) c.reserve.ensures.items
+
+pub returns-clause-changed : goal.returns-clause-changed
+returns-clause-changed c =
+    let old = c.args.maps.now in
+    let new = c.record.new.self in
+    let p = c.args.place in
+    let differs = subst (λ note. TellsNote note p old new) c.in-Some.is c.in_ok-known.ensures.tells in
+    subst (λ i. MarksChanged (kept old) (kept new) (1 * 2 ^ i % 2 ^ 64)) (sym c.bucket_at.ensures)
+    (marks_at old new p c.args.more c.requires.place c.requires.kept c.record.ensures.whole c.in_ok-known.ensures.exact differs)

@@ -1,11 +1,23 @@
-use Rattle.std.proofs.Common.{◌+◌, ◌++◌, List, drop, ap, ◌∙◌}
+use Rattle.std.proofs.Common.{refl, ◌+◌, ◌++◌, List, drop, ap, ◌∙◌}
 use Rattle.warm_history.specs.declared.hist.Entry.{Entry}
 use Rattle.warm_history.specs.ReferenceSets.{recent}
 use Rattle.warm_history.specs.ListHistories.{refs, history, entry_refs}
 use Rattle.warm_history.specs.Tree.{kept}
 use Rattle.warm_history.proofs.TreeLemmas.{IsHistory-kept, goes_on, all_taken, left_more, none_left}
+use Rattle.warm_history.proofs.ChangeLemmas.{grows_same, marks_none, takes_more}
 use Rattle.warm_history.proofs.RecentLemmas.{recent_more}
 use Rattle.warm_history.proofs.tree.take_each_entry.Goals as goal
+
+pub loop-entry-init : goal.loop-entry-init
+loop-entry-init c =
+    let first = kept c.args.maps.now in
+    record {
+      whole = c.requires;
+      goes_on = refl;
+      undo = refl;
+      grows = grows_same first (IsHistory-kept c.args.maps.now c.requires);
+      changed = marks_none first;
+    }
 
 pub loop-entry-preserved : goal.loop-entry-preserved
 loop-entry-preserved c =
@@ -14,10 +26,13 @@ loop-entry-preserved c =
     let more : List Entry = c.args.more.now in
     let e : Entry = c.entry-item.result in
     let m : _ = c.args.horizon in
+    let taken = takes_more m c.place_of-place.result (e.hist) c.args.maps.now c.loop-entry.maps c.take_recent.new.maps c.loop-entry.changed c.in_ok-taken.taken.changed c.requires inv.whole c.in_ok-taken.ensures.exact inv.grows inv.changed c.in_ok-taken.ensures.changed in
     record {
       whole = c.take_recent.ensures.whole;
-      goes_on = goes_on _ (kept c.take_recent.new.maps) (recent m (entry_refs e)) (recent m (refs (drop (i + 1) more))) (recent m (refs (drop i more))) _ (c.in_ok-take_recent.ensures.exact ∙ ap (λ p. history (refs (kept c.loop-entry.maps) ++ recent m (entry_refs (record { page = p; hist = e.hist })))) c.place_of-place.ensures.back) (recent_more m (entry_refs e) (refs (drop (i + 1) more)) (refs (drop i more)) (ap refs (left_more more i e c.loop-entry-test.true c.entry-item.is))) inv.goes_on;
+      goes_on = goes_on _ (kept c.take_recent.new.maps) (recent m (entry_refs e)) (recent m (refs (drop (i + 1) more))) (recent m (refs (drop i more))) _ (c.in_ok-taken.ensures.exact ∙ ap (λ p. history (refs (kept c.loop-entry.maps) ++ recent m (entry_refs (record { page = p; hist = e.hist })))) c.place_of-place.ensures.back) (recent_more m (entry_refs e) (refs (drop (i + 1) more)) (refs (drop i more)) (ap refs (left_more more i e c.loop-entry-test.true c.entry-item.is))) inv.goes_on;
       undo = c.take_recent.ensures.undo ∙ inv.undo;
+      grows = taken.0;
+      changed = taken.1;
     }
 
 pub returns-clause-exact : goal.returns-clause-exact

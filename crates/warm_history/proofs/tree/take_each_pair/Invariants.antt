@@ -3,7 +3,9 @@ use Rattle.warm_history.specs.ReferenceSets.{recent}
 use Rattle.warm_history.specs.ListHistories.{refs, history}
 use Rattle.warm_history.specs.Tree.{as_entries, kept, AreKept}
 use Rattle.warm_history.proofs.TreeLemmas.{ArePlaces}
+use Rattle.warm_history.specs.Changes.{MarksChanged}
 use Rattle.warm_history.specs.Undo.{undone}
+use Rattle.warm_history.proofs.ChangeLemmas.{Grows}
 use Rattle.warm_history.proofs.tree.take_each_pair.Given as goal
 
 abbrev pub invariant-loop-place : goal.invariant-loop-place
@@ -12,4 +14,6 @@ invariant-loop-place l = record {
   whole : AreKept l.maps;
   goes_on : history (refs (kept l.maps) ++ recent l.horizon (refs (as_entries l.place-iterator))) ≡ history (refs (kept l.initial.maps) ++ recent l.horizon (refs (as_entries l.more)));
   undo : undone l.undo.items l.maps ≡ undone l.initial.undo.items l.initial.maps;
+  grows : Grows (kept l.initial.maps) (kept l.maps);
+  changed : MarksChanged (kept l.initial.maps) (kept l.maps) l.changed;
 }

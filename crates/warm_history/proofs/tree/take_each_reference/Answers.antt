@@ -1,11 +1,24 @@
-use Rattle.std.proofs.Common.{◌+◌, ◌∷◌, ◌++◌, [], List, drop, ap, ◌∙◌}
+use Rattle.std.proofs.Common.{refl, ◌+◌, ◌∷◌, ◌++◌, [], List, drop, ap, ◌∙◌}
 use Rattle.warm_stamps.specs.declared.Reference.{Reference}
+use Rattle.warm_history.specs.declared.hist.PageHist.TheVariants.{Once}
 use Rattle.warm_history.specs.ReferenceSets.{recent}
 use Rattle.warm_history.specs.ListHistories.{refs, history}
 use Rattle.warm_history.specs.Tree.{kept}
 use Rattle.warm_history.proofs.TreeLemmas.{IsHistory-kept, goes_on, all_taken, left_more, none_left}
+use Rattle.warm_history.proofs.ChangeLemmas.{grows_same, marks_none, takes_more}
 use Rattle.warm_history.proofs.RecentLemmas.{recent_more}
 use Rattle.warm_history.proofs.tree.take_each_reference.Goals as goal
+
+pub loop-reference-init : goal.loop-reference-init
+loop-reference-init c =
+    let first = kept c.args.maps.now in
+    record {
+      whole = c.requires;
+      goes_on = refl;
+      undo = refl;
+      grows = grows_same first (IsHistory-kept c.args.maps.now c.requires);
+      changed = marks_none first;
+    }
 
 pub loop-reference-preserved : goal.loop-reference-preserved
 loop-reference-preserved c =
@@ -14,10 +27,13 @@ loop-reference-preserved c =
     let batch : List Reference = c.args.batch.now in
     let r : Reference = c.reference-item.result in
     let m : _ = c.args.horizon in
+    let taken = takes_more m c.place_of-place.result (Once r.stamp) c.args.maps.now c.loop-reference.maps c.take_recent.new.maps c.loop-reference.changed c.in_ok-taken.taken.changed c.requires inv.whole c.in_ok-taken.ensures.exact inv.grows inv.changed c.in_ok-taken.ensures.changed in
     record {
       whole = c.take_recent.ensures.whole;
-      goes_on = goes_on _ (kept c.take_recent.new.maps) (recent m (r ∷ [])) (recent m (drop (i + 1) batch)) (recent m (drop i batch)) _ (c.in_ok-take_recent.ensures.exact ∙ ap (λ p. history (refs (kept c.loop-reference.maps) ++ recent m (record { page = p; stamp = r.stamp } ∷ []))) c.place_of-place.ensures.back) (recent_more m (r ∷ []) (drop (i + 1) batch) (drop i batch) (left_more batch i r c.loop-reference-test.true c.reference-item.is)) inv.goes_on;
+      goes_on = goes_on _ (kept c.take_recent.new.maps) (recent m (r ∷ [])) (recent m (drop (i + 1) batch)) (recent m (drop i batch)) _ (c.in_ok-taken.ensures.exact ∙ ap (λ p. history (refs (kept c.loop-reference.maps) ++ recent m (record { page = p; stamp = r.stamp } ∷ []))) c.place_of-place.ensures.back) (recent_more m (r ∷ []) (drop (i + 1) batch) (drop i batch) (left_more batch i r c.loop-reference-test.true c.reference-item.is)) inv.goes_on;
       undo = c.take_recent.ensures.undo ∙ inv.undo;
+      grows = taken.0;
+      changed = taken.1;
     }
 
 pub returns-clause-exact : goal.returns-clause-exact

@@ -2,7 +2,9 @@ use Rattle.std.proofs.Common.{◌≡◌, ◌++◌, drop}
 use Rattle.warm_history.specs.ReferenceSets.{recent}
 use Rattle.warm_history.specs.ListHistories.{refs, history}
 use Rattle.warm_history.specs.Tree.{kept, AreKept}
+use Rattle.warm_history.specs.Changes.{MarksChanged}
 use Rattle.warm_history.specs.Undo.{undone}
+use Rattle.warm_history.proofs.ChangeLemmas.{Grows}
 use Rattle.warm_history.proofs.tree.take_each_reference.Given as goal
 
 abbrev pub invariant-loop-reference : goal.invariant-loop-reference
@@ -10,4 +12,6 @@ invariant-loop-reference l = record {
   whole : AreKept l.maps;
   goes_on : history (refs (kept l.maps) ++ recent l.horizon (drop l.reference-index l.batch)) ≡ history (refs (kept l.initial.maps) ++ recent l.horizon l.batch);
   undo : undone l.undo.items l.maps ≡ undone l.initial.undo.items l.initial.maps;
+  grows : Grows (kept l.initial.maps) (kept l.maps);
+  changed : MarksChanged (kept l.initial.maps) (kept l.maps) l.changed;
 }

@@ -17,7 +17,7 @@ pub returns-clause-table : goal.returns-clause-table
 returns-clause-table c =
     let asked = c.table_since in
     subst (λ (v : DigestedView). IfOk asked.result (λ table. table ≡ digests_since c.args.horizon v.history)) c.self.view_is
-    (right_since asked.result c.self.inside.changed c.losing-lost.result c.args.horizon c.self.inside.history c.renew.new.self (invariant_of-self-2 c) c.losing-lost.ensures asked.ensures.wanted asked.ensures.others asked.ensures.count)
+    (right_since asked.result c.self.inside.changed c.losing-lost.result c.args.horizon c.self.inside.history c.renew.new.self (invariant_of-self-2 c) c.losing-lost.ensures.lost asked.ensures.wanted asked.ensures.others asked.ensures.count)
 
 -- at no later horizon than its own a history is raised to itself
 pub returns-then-horizon-clause-table : goal.returns-then-horizon-clause-table
@@ -41,4 +41,4 @@ returns-clause-left c =
     let old = c.self.inside.changed in
     let lost = c.losing-lost.result in
     subst (λ (v : DigestedView). OnOk c.table_since.result (MarkedLose c.args.horizon v.history (bit_and old lost))) c.self.view_is
-    (some_lose_if c.table_since.result c.args.horizon c.self.inside.history old lost c.losing-lost.ensures)
+    (some_lose_if c.table_since.result c.args.horizon c.self.inside.history old lost c.losing-lost.ensures.lost)

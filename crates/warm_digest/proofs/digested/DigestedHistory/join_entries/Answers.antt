@@ -1,21 +1,27 @@
-use Rattle.std.proofs.Common.{◌⊎◌, subst}
+use Rattle.std.proofs.Common.{◌≡◌, subst}
 use Rattle.std.specs.Prelude.{bit_or}
-use Rattle.warm_history.specs.declared.hist.Entry.{Entry}
-use Rattle.warm_history.specs.Losses.{LosesIn}
-use Rattle.warm_digest.specs.KeptDigests.{DigestedView, HasPageIn, Marks}
-use Rattle.warm_digest.proofs.KeptLemmas.{kept_with_entries}
-use Rattle.warm_digest.proofs.MarkLemmas.{marks_both, marks_lost}
+use Rattle.warm_history.specs.Changes.{MarksChanged}
+use Rattle.warm_history.specs.Histories.{entries_of}
+use Rattle.warm_digest.specs.KeptDigests.{DigestedView, MarksChanges}
+use Rattle.warm_digest.proofs.KeptLemmas.{kept_as_marked}
+use Rattle.warm_digest.proofs.MarkLemmas.{marks_changes}
 use Rattle.warm_digest.proofs.digested.DigestedHistory.join_entries.Goals as goal
 
 pub invariant_of-self-2 : goal.invariant_of-self-2
 invariant_of-self-2 c =
-    kept_with_entries c.self.inside.history c.join_entries.new.self c.args.horizon c.args.more.now c.self.inside.changed c.losing-lost.result _ c.self.inside.digests c.in_ok-join_entries.ensures.exact c.self.invariant c.losing-lost.ensures c.mark_entries-self-inside.ensures
+    kept_as_marked (entries_of c.self.inside.history) (entries_of c.join_entries.new.self) c.self.inside.changed c.in_ok-changed.changed c.self.inside.digests c.self.invariant c.in_ok-changed.ensures.changed
+
+pub returns-clause-changed : goal.returns-clause-changed
+returns-clause-changed c =
+    subst (λ (v : DigestedView). MarksChanged (entries_of v.history) (entries_of c.join_entries.new.self) c.in_ok-changed.changed) c.self.view_is c.in_ok-changed.ensures.changed
+
+pub returns-clause-none : goal.returns-clause-none
+returns-clause-none c none = subst (λ (v : DigestedView). entries_of c.join_entries.new.self ≡ entries_of v.history) c.self.view_is (c.in_ok-changed.ensures.none none)
 
 pub returns-clause-marks : goal.returns-clause-marks
 returns-clause-marks c =
     let old = c.self.inside.changed in
-    let new = c.mark_entries-self-inside.result in
-    let lost = c.losing-lost.result in
-    subst (λ (v : DigestedView). Marks (λ b. LosesIn c.args.horizon b v.history ⊎ HasPageIn (λ (e : Entry). e.page) c.args.more.now b) v.marked new) c.self.view_is
-    (marks_both (λ b. LosesIn c.args.horizon b c.self.inside.history) (HasPageIn (λ (e : Entry). e.page) c.args.more.now) old (bit_or old lost) new
-    (marks_lost c.self.inside.history c.args.horizon old lost c.losing-lost.ensures) c.mark_entries-self-inside.ensures)
+    let g = c.join_entries.new.self in
+    let changed = c.in_ok-changed.changed in
+    subst (λ (v : DigestedView). MarksChanges v (record { history = g; marked = bit_or old changed })) c.self.view_is
+    (marks_changes c.self.inside.history g old changed c.in_ok-changed.ensures.changed)

@@ -1,16 +1,34 @@
-use Rattle.std.proofs.Common.{subst}
+use Rattle.std.proofs.Common.{◌≡◌, ap, subst, sym, ◌∙◌}
 use Rattle.std.specs.Prelude.{bit_or}
-use Rattle.warm_history.specs.Losses.{LosesIn}
-use Rattle.warm_digest.specs.KeptDigests.{DigestedView, Marks}
-use Rattle.warm_digest.proofs.KeptLemmas.{kept_raised}
-use Rattle.warm_digest.proofs.MarkLemmas.{marks_lost}
+use Rattle.warm_history.specs.Changes.{MarksChanged}
+use Rattle.warm_history.specs.Histories.{HistoryView, entries_of}
+use Rattle.warm_digest.specs.KeptDigests.{DigestedView, MarksChanges}
+use Rattle.warm_digest.proofs.KeptLemmas.{kept_as_marked}
+use Rattle.warm_digest.proofs.MarkLemmas.{marks_changes}
 use Rattle.warm_digest.proofs.digested.DigestedHistory.raise.Goals as goal
 
 pub invariant_of-self : goal.invariant_of-self
 invariant_of-self c =
-    kept_raised c.self.inside.history c.raise.new.self c.args.time c.self.inside.changed c.losing-lost.result c.self.inside.digests c.raise.ensures.exact c.self.invariant c.losing-lost.ensures
+    let es = entries_of c.self.inside.history in
+    let lost = c.losing-lost.result in
+    kept_as_marked es (entries_of c.raise.new.self) c.self.inside.changed lost c.self.inside.digests c.self.invariant
+    (subst (λ (h : HistoryView). MarksChanged es (entries_of h) lost) (sym c.raise.ensures.exact) c.losing-lost.ensures.lost)
+
+pub returns-clause-changed : goal.returns-clause-changed
+returns-clause-changed c =
+    let es = entries_of c.self.inside.history in
+    let lost = c.losing-lost.result in
+    subst (λ (v : DigestedView). MarksChanged (entries_of v.history) (entries_of c.raise.new.self) lost) c.self.view_is
+    (subst (λ (h : HistoryView). MarksChanged es (entries_of h) lost) (sym c.raise.ensures.exact) c.losing-lost.ensures.lost)
+
+pub returns-clause-none : goal.returns-clause-none
+returns-clause-none c none = subst (λ (v : DigestedView). entries_of c.raise.new.self ≡ entries_of v.history) c.self.view_is (ap entries_of c.raise.ensures.exact ∙ c.losing-lost.ensures.none none)
 
 pub returns-clause-marks : goal.returns-clause-marks
 returns-clause-marks c =
-    subst (λ (v : DigestedView). Marks (λ b. LosesIn c.args.time b v.history) v.marked (bit_or c.self.inside.changed c.losing-lost.result)) c.self.view_is
-    (marks_lost c.self.inside.history c.args.time c.self.inside.changed c.losing-lost.result c.losing-lost.ensures)
+    let old = c.self.inside.changed in
+    let es = entries_of c.self.inside.history in
+    let g = c.raise.new.self in
+    let lost = c.losing-lost.result in
+    subst (λ (v : DigestedView). MarksChanges v (record { history = g; marked = bit_or old lost })) c.self.view_is
+    (marks_changes c.self.inside.history g old lost (subst (λ (h : HistoryView). MarksChanged es (entries_of h) lost) (sym c.raise.ensures.exact) c.losing-lost.ensures.lost))

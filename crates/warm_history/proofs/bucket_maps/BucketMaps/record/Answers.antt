@@ -4,7 +4,7 @@ use Rattle.warm_history.specs.Tree.{AreKept, Pairs}
 use Rattle.warm_history.proofs.BucketCounts.{small_at, small_with}
 use Rattle.warm_history.specs.BucketMaps.{pairs_of, joined, AreBuckets, AreSmall, PlacesRise}
 use Rattle.warm_history.proofs.BucketLemmas.{map_at-of, lies_in_own}
-use Rattle.warm_history.proofs.BucketSteps.{AllIn, pairs_of-set, length-set, bucket_in, buckets_with, map_rises, stays_in, own_map, recorded_in_own, unchanged, ok_then, either_way, records_exact, records_whole, records_undo}
+use Rattle.warm_history.proofs.BucketSteps.{AllIn, pairs_of-set, length-set, bucket_in, buckets_with, map_rises, stays_in, own_map, recorded_in_own, unchanged, ok_then, either_way, records_exact, records_whole, records_undo, records_tell}
 use Rattle.warm_history.proofs.bucket_maps.BucketMaps.record.Goals as goal
 
 pub record_in-requires : goal.record_in-requires
@@ -53,6 +53,12 @@ returns-clause-undo c =
     let p = c.args.place in
     let ok = recorded_in_own c.record_in.result c.self.inside.maps c.bucket_at.result p c.args.more c.index-self-bucket_at.result c.record_in.new.map c.args.self.now (c.self.invariant.0, c.self.invariant.1) c.bucket_at.ensures c.requires.place c.self.view_is c.record_in.ensures.ok in
     IfOk-weaker c.record_in.result _ _ (λ note records. records_undo c.args.self.now _ p c.args.more note c.requires.kept records) ok
+
+pub returns-clause-tells : goal.returns-clause-tells
+returns-clause-tells c =
+    let p = c.args.place in
+    let ok = recorded_in_own c.record_in.result c.self.inside.maps c.bucket_at.result p c.args.more c.index-self-bucket_at.result c.record_in.new.map c.args.self.now (c.self.invariant.0, c.self.invariant.1) c.bucket_at.ensures c.requires.place c.self.view_is c.record_in.ensures.ok in
+    IfOk-weaker c.record_in.result _ _ (λ note records. records_tell c.args.self.now _ p c.args.more note records) ok
 
 pub returns-clause-err : goal.returns-clause-err
 returns-clause-err c =

@@ -1,10 +1,14 @@
-use Rattle.std.proofs.Common.{ap, ◌∙◌, arith, ◌≤◌}
+use Rattle.std.proofs.Common.{◌≡◌, ap, subst, sym, ◌∙◌, arith, ◌≤◌}
+use Rattle.std.specs.Prelude.{bit_or}
+use Rattle.warm_history.specs.Changes.{MarksChanged}
+use Rattle.warm_history.specs.Losses.{MarksLosing}
 use Rattle.warm_history.specs.ReferenceSets.{◌∪◌}
 use Rattle.warm_history.specs.ListHistories as list
-use Rattle.warm_history.specs.Histories.{HistoryView, holding_since, refs, history}
+use Rattle.warm_history.specs.Histories.{HistoryView, entries_of, holding_since, refs, history}
 use Rattle.warm_history.specs.Tree.{kept}
 use Rattle.warm_history.proofs.JoinLemmas.{history_first}
-use Rattle.warm_history.proofs.RaiseLemmas.{none_taken, joined_to, none_of}
+use Rattle.warm_history.proofs.ChangeLemmas.{marks_cut}
+use Rattle.warm_history.proofs.RaiseLemmas.{none_taken, joined_to, none_of, whole_of}
 use Rattle.warm_history.proofs.history.History.join.Goals as goal
 
 -- nothing that was taken in is older than the horizon
@@ -12,11 +16,11 @@ pub raise-self-inside-requires-clause-recent : goal.raise-self-inside-requires-c
 raise-self-inside-requires-clause-recent c =
     let m = c.later-horizon.result in
     let le : c.self.inside.horizon ≤ m = omega (arith, c.later-horizon.ensures) in
-    none_taken c.self.inside.horizon m (kept c.self.inside.maps) (kept c.take_pairs.new.maps) (list.refs (kept c.other.inside.maps)) le c.self.invariant.1 c.in_ok-take_pairs.ensures.exact
+    none_taken c.self.inside.horizon m (kept c.self.inside.maps) (kept c.take_pairs.new.maps) (list.refs (kept c.other.inside.maps)) le c.self.invariant.1 c.in_ok-changed.ensures.exact
 
 pub returns-clause-exact : goal.returns-clause-exact
 returns-clause-exact c =
-    joined_to c.self.inside.horizon (c.other.inside.horizon) c.later-horizon.result c.raise-self-inside.result (kept c.self.inside.maps) (kept c.take_pairs.new.maps) (kept c.raise-self-inside.new.maps) (list.refs (kept c.other.inside.maps)) c.later-horizon.ensures c.raise-self-inside.ensures.later c.in_ok-take_pairs.ensures.exact c.raise-self-inside.ensures.cut
+    joined_to c.self.inside.horizon (c.other.inside.horizon) c.later-horizon.result c.raise-self-inside.result (kept c.self.inside.maps) (kept c.take_pairs.new.maps) (kept c.raise-self-inside.new.maps) (list.refs (kept c.other.inside.maps)) c.later-horizon.ensures c.raise-self-inside.ensures.later c.in_ok-changed.ensures.exact c.raise-self-inside.ensures.cut
     ∙ ap (λ (h : HistoryView). history (refs h ∪ refs (holding_since (c.other.inside.horizon) (kept c.other.inside.maps)))) c.self.view_is
     ∙ ap (λ (g : HistoryView). history (refs c.args.self.now ∪ refs g)) c.other.view_is
 
@@ -25,3 +29,13 @@ invariant_of-self-2 c = (c.raise-self-inside.ensures.whole, none_of c.raise-self
 
 pub returns-clause-ok : goal.returns-clause-ok
 returns-clause-ok c S stands = returns-clause-exact c ∙ ap (λ (h : HistoryView). history (refs h ∪ refs c.args.other.now)) stands ∙ history_first S (refs c.args.other.now)
+
+pub returns-clause-changed : goal.returns-clause-changed
+returns-clause-changed c =
+    let a = c.self.inside.horizon in
+    let old = c.self.inside.maps in
+    let lost = c.losing-lost.result in
+    let loses : MarksLosing (c.other.inside.horizon) (holding_since a (kept old)) lost = subst (λ (h : HistoryView). MarksLosing (c.other.inside.horizon) h lost) (sym c.self.view_is) c.losing-lost.ensures.lost in
+    subst (λ (h : HistoryView). MarksChanged (entries_of h) (kept c.raise-self-inside.new.maps) (bit_or c.in_ok-changed.changed lost)) c.self.view_is
+    (marks_cut a (c.other.inside.horizon) c.later-horizon.result c.raise-self-inside.result (kept old) (kept c.take_pairs.new.maps) (kept c.raise-self-inside.new.maps) (list.refs (kept c.other.inside.maps)) c.in_ok-changed.changed lost
+    (whole_of a old c.self.invariant.0 c.self.invariant.1) c.later-horizon.ensures c.raise-self-inside.ensures.later c.in_ok-changed.ensures.exact c.raise-self-inside.ensures.cut c.in_ok-changed.ensures.changed loses)

@@ -6,7 +6,7 @@ use Rattle.std.proofs.lemmas.Map.Steps.{set_value_same}
 use Rattle.warm_history.specs.Histories.{stamps_held, held, latest_of}
 use Rattle.warm_history.specs.Tree.{Pairs}
 use Rattle.warm_history.proofs.TreeLemmas.{set-insert}
-use Rattle.warm_history.proofs.bucket_maps.record_in.Goals as goal
+use Rattle.warm_history.proofs.bucket_maps.record_likely_known.Goals as goal
 
 -- the page is there, and what is known of it stays as it was
 pub returns-in_default-raise-clause-ok : goal.returns-in_default-raise-clause-ok
@@ -34,7 +34,7 @@ returns-in-Some-clause-ok c =
       h,
       c.raise.ensures.now ∙ ap (λ k. latest_of (stamps_held c.args.more ++ held k)) c.in-Some.ensures.value,
       through.0 ∙ set-insert c.args.place h g old c.requires (sym c.in-Some.ensures.value),
-      (refl, ap (λ x. Some x) c.in-Some-raise.ensures.before ∙ c.in-Some.ensures.value),
+      (refl, ap (λ x. Some x) c.in-Some-raise.ensures.before ∙ c.in-Some.ensures.value, λ same. c.in-Some-raise.ensures.differs (cc)),
     )
 
 -- it is new
@@ -46,5 +46,5 @@ returns-clause-ok c =
       h,
       c.join_known-hist.ensures ∙ ap (λ k. latest_of (stamps_held c.args.more ++ held k)) c.in_default.ensures.value,
       c.in_ok-insert.ensures.entries ∙ ap (λ (es : Pairs). insert_entry nat_cmp es place h) kept,
-      (refl, c.in_default.ensures.value),
+      (refl, c.in_default.ensures.value, λ same. absurd (cc)),
     )

@@ -1,32 +1,23 @@
 -- A set of buckets to which one more is added.
-use Rattle.std.proofs.Common.{◌≡◌, ◌≢◌, ◌↔◌, ◌<◌, ◌≤◌, ◌+◌, ◌*◌, ◌%◌, ◌^◌, ℕ, Bool, true, false, not, List, max, refl, sym, ap, subst, ◌∙◌, arith, true≢false, zero-mul, below_more}
+use Rattle.std.proofs.Common.{◌≡◌, ◌≢◌, ◌<◌, ◌≤◌, ◌+◌, ◌*◌, ◌%◌, ◌^◌, ℕ, Bool, true, false, max, sym, ap, subst, ◌∙◌, arith, zero-mul, below_more}
 use Rattle.std.specs.Int.{bit_at, from_bool, w64}
-use Rattle.std.specs.Prelude.{bit_or, bytes_eq}
-use Rattle.std.proofs.lemmas.Slice.Eq.{bytes_eq-Decides}
+use Rattle.std.specs.Prelude.{bit_or}
 use Rattle.std.proofs.lemmas.Nat.Bits.{bit_at_or, bit_at-zero, bit_at_set_same, bit_at_set_other}
 
 -- no bit is given by 0
-pub nothing_set : (buckets b i : ℕ) → bit_at (bit_or buckets (from_bool false * 2 ^ i % 2 ^ 64)) b ≡ bit_at buckets b
+nothing_set : (buckets b i : ℕ) → bit_at (bit_or buckets (from_bool false * 2 ^ i % 2 ^ 64)) b ≡ bit_at buckets b
 nothing_set buckets b i =
     let zero_is : from_bool false * 2 ^ i % 2 ^ 64 ≡ 0 = ap (λ (n : ℕ). n % 2 ^ 64) (zero-mul (2 ^ i)) in
     ap (λ (n : ℕ). bit_at (bit_or buckets n) b) zero_is ∙ bit_at_or buckets 0 b ∙ ap (λ (n : ℕ). max (bit_at buckets b) n) (bit_at-zero b) ∙ omega arith
 
-pub other_kept : (d : Bool) (buckets i b : ℕ) → i < 64 → b ≢ i → bit_at (bit_or buckets (from_bool d * 2 ^ i % 2 ^ 64)) b ≡ bit_at buckets b
+other_kept : (d : Bool) (buckets i b : ℕ) → i < 64 → b ≢ i → bit_at (bit_or buckets (from_bool d * 2 ^ i % 2 ^ 64)) b ≡ bit_at buckets b
 other_kept true buckets i b low other = bit_at_set_other w64 buckets i low b other
 other_kept false buckets i b low other = nothing_set buckets b i
 
 -- the bit that is given, where it was clear
-pub same_set : (d : Bool) (buckets i : ℕ) → i < 64 → bit_at buckets i ≡ 0 → bit_at (bit_or buckets (from_bool d * 2 ^ i % 2 ^ 64)) i ≡ from_bool d
+same_set : (d : Bool) (buckets i : ℕ) → i < 64 → bit_at buckets i ≡ 0 → bit_at (bit_or buckets (from_bool d * 2 ^ i % 2 ^ 64)) i ≡ from_bool d
 same_set true buckets i low clear = bit_at_set_same w64 buckets i low
 same_set false buckets i low clear = nothing_set buckets i i ∙ clear
-
--- a bit is given exactly where two digests differ
-pub is_set : (x y : List ℕ) (n : ℕ) → n ≡ from_bool (not (bytes_eq x y)) → (n ≡ 1) ↔ (x ≢ y)
-is_set x y n is = go (bytes_eq x y) refl is
-  where
-    go : (b : Bool) → bytes_eq x y ≡ b → n ≡ from_bool (not b) → (n ≡ 1) ↔ (x ≢ y)
-    go true e is = ((λ one same. absurd (omega (arith, one, is))), (λ differ. absurd (differ ((bytes_eq-Decides x y).0 e))))
-    go false e is = ((λ one same. true≢false (sym ((bytes_eq-Decides x y).1 same) ∙ e)), (λ differ. is))
 
 -- what is said of the bits so far, and of the bit that is given, is said of the bits that follow
 pub seen_more : (Says : ℕ → ℕ → Type 0) (buckets i given : ℕ) (d : Bool) → i < 64 → given ≡ from_bool d → bit_at buckets i ≡ 0 → Says i given

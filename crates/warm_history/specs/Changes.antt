@@ -1,0 +1,23 @@
+-- Which buckets change from one list of entries to another. A set of buckets is a number of 64 bits: bit b, of value 2^b, is set where bucket b is
+-- in the set.
+use Rattle.std.specs.Prelude.{◌≡◌, ◌≢◌, ℕ, ◌<◌, List}
+use Rattle.std.specs.Int.{bit_at}
+use Rattle.warm_stamps.specs.declared.TheConstants.{BUCKETS}
+use Rattle.warm_history.specs.declared.hist.Entry.{Entry}
+use Rattle.warm_history.specs.Carried.{bucket_entries}
+
+-- the new list has other entries of the bucket than the old one
+abbrev pub ChangesIn : ℕ → List Entry → List Entry → Type 0
+ChangesIn bucket old new = bucket_entries bucket new ≢ bucket_entries bucket old
+
+-- it has the same
+abbrev pub StaysIn : ℕ → List Entry → List Entry → Type 0
+StaysIn bucket old new = bucket_entries bucket new ≡ bucket_entries bucket old
+
+-- the bit of a bucket tells which
+abbrev pub TellsChange : List Entry → List Entry → ℕ → ℕ → Type 0
+TellsChange old new bucket bit = (bit ≡ 1 → ChangesIn bucket old new) × (bit ≡ 0 → StaysIn bucket old new)
+
+-- a bucket is in the set exactly where its entries change
+abbrev pub MarksChanged : List Entry → List Entry → ℕ → Type 0
+MarksChanged old new buckets = (bucket : ℕ) → bucket < BUCKETS → TellsChange old new bucket (bit_at buckets bucket)
