@@ -23,7 +23,9 @@ fn is_same_history(left: &History, right: &History) -> bool {
 pub(crate) fn is_same(left: &Answer, right: &Answer) -> bool {
     match (left, right) {
         (Answer::Done, Answer::Done) => true,
-        (Answer::Shown(left), Answer::Shown(right)) => is_same_history(left, right),
+        (Answer::Shown(left), Answer::Shown(right)) => {
+            is_same_history(left.as_history(), right.as_history())
+        }
         (Answer::FrameNo(left), Answer::FrameNo(right)) => left == right,
         (
             Answer::Took { count, first },

@@ -7,7 +7,7 @@ use Rattle.warm_schedule.specs.Fields.{◌>>=◌, digit_of, digits_after, number
 step : (n x d : ℕ) (rest : List ℕ) → digit_of x ≡ Some d → digits_after n (x ∷ rest) ≡ digits_after (10 * n + d) rest
 step n x d rest h = ap (λ (o : Option ℕ). o >>= λ e. digits_after (10 * n + e) rest) h
 
-stop : (n x : ℕ) (rest : List ℕ) → digit_of x ≡ None → digits_after n (x ∷ rest) ≡ None
+pub stop : (n x : ℕ) (rest : List ℕ) → digit_of x ≡ None → digits_after n (x ∷ rest) ≡ None
 stop n x rest h = ap (λ (o : Option ℕ). o >>= λ e. digits_after (10 * n + e) rest) h
 
 at_place : (word : List ℕ) (n i : ℕ) → i < length word → digits_after n (drop i word) ≡ digits_after n (get_or word i 0 ∷ drop (i + 1) word)

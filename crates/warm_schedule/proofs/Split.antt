@@ -4,7 +4,6 @@ use Rattle.std.proofs.lemmas.Bool.{eq-eqb, ne_eqb}
 use Rattle.std.proofs.lemmas.List.{take_all, length-drop}
 use Rattle.std.proofs.lemmas.Bool.{eqb-true, eqb-false}
 use Rattle.warm_schedule.specs.Text.{split, onto_first, words}
-use Rattle.warm_schedule.specs.Fields.{page_of, slot_of}
 
 -- the first separator of a text
 pub cut_found : (separator : ℕ) (text : List ℕ) (i : ℕ) → i < length text → get_or text i 0 ≡ separator → ((k : ℕ) → k < i → get_or text k 0 ≢ separator)
@@ -64,20 +63,6 @@ cond_some_piece : (b : Bool) (xs ys : List (List ℕ)) → ((piece : List ℕ) �
 cond_some_piece true xs ys h k = h
 cond_some_piece false xs ys h k = k
 
-first_of_split : (s : ℕ) (text : List ℕ) → (piece : List ℕ) × (pieces : List (List ℕ)) × (split s text ≡ piece ∷ pieces)
+pub first_of_split : (s : ℕ) (text : List ℕ) → (piece : List ℕ) × (pieces : List (List ℕ)) × (split s text ≡ piece ∷ pieces)
 first_of_split s [] = ([], [], refl)
 first_of_split s (c ∷ cs) = cond_some_piece (eqb c s) ([] ∷ split s cs) (onto_first c (split s cs)) ([], split s cs, refl) (onto_some c (split s cs))
-
--- a page has one colon
-pub two_colons : (word device number more after : List ℕ) → split 58 word ≡ device ∷ split 58 number → split 58 number ≡ more ∷ split 58 after → None ≡ page_of word
-unfolding page_of
-two_colons word device number more after e f =
-    let third = first_of_split 58 after in
-    rw (e, f, third.2) refl
-
--- a slot has one dot
-pub two_dots : (word frame generation more after : List ℕ) → split 46 word ≡ frame ∷ split 46 generation → split 46 generation ≡ more ∷ split 46 after → None ≡ slot_of word
-unfolding slot_of
-two_dots word frame generation more after e f =
-    let third = first_of_split 46 after in
-    rw (e, f, third.2) refl

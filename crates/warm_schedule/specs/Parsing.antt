@@ -1,6 +1,5 @@
 -- What the readers of a line hold, as the definitions see it.
-use Rattle.std.specs.Prelude.{ℕ, List, Option, Some, None, option_map}
-use Rattle.warm_world.specs.declared.event.Event.{Event}
+use Rattle.std.specs.Prelude.{Option, Some, option_map}
 use Rattle.warm_world.specs.declared.event.Event.TheVariants as event
 use Rattle.warm_schedule.specs.Fields.{bytes_of}
 use Rattle.warm_schedule.specs.Grammar.{Reader, refer_of, flush_of, send_of, offer_of, deliver_of, pin_of, unpin_of, put_of, get_of, victim_of, warm_of, warmstep_of, restart_of, horizon_of, show_of}
@@ -29,12 +28,8 @@ reader_of command.Restart = restart_of
 reader_of command.Horizon = horizon_of
 reader_of command.Show = show_of
 
--- the event, whose bytes the word of a put is to spell
-abbrev pub event_parsed : Parsed → Option Event
-event_parsed (parsed.Event event) = Some event
-event_parsed (parsed.Put replica slot at word) = option_map (event.Put replica slot at) (bytes_of word.now)
-
--- a line without words, or a comment, where nothing is parsed
-abbrev pub line_parsed : Option Parsed → Option Line
-line_parsed None = Some Nothing
-line_parsed (Some parsed) = option_map Act (event_parsed parsed)
+-- what the line says: nothing where it has no word or is a comment; the bytes of a put are those that its word spells
+abbrev pub line_parsed : Parsed → Option Line
+line_parsed parsed.Nothing = Some Nothing
+line_parsed (parsed.Event event) = Some (Act event)
+line_parsed (parsed.Put replica slot at word) = option_map Act (option_map (event.Put replica slot at) (bytes_of word.now))

@@ -3,7 +3,8 @@ ghost use Rattle.std.specs.Prelude.{◌≡◌, map, option_map, option_and_then}
 ghost use Rattle.warm_schedule.specs.Text.{words};
 ghost use Rattle.warm_schedule.specs.Grammar.{ends_with, refer_of, flush_of, send_of, offer_of, deliver_of, pin_of, unpin_of, put_of, get_of};
 ghost use Rattle.warm_schedule.specs.Grammar.{victim_of, warm_of, warmstep_of, restart_of, horizon_of, show_of, looked_up, commands};
-ghost use Rattle.warm_schedule.specs.Parsing.{reader_of, event_parsed};
+ghost use Rattle.warm_schedule.specs.Parsing.{reader_of, line_parsed};
+ghost use Rattle.warm_schedule.specs.declared.parse.Line.TheVariants.{Act};
 
 use crate::fields::{
     after_at, bucket_at, count_at, long_at, page_at, replica_at, slot_at, worker_at,
@@ -71,10 +72,11 @@ pub(crate) fn command_named(word: &[u8]) -> Option<Command>
     command_in(&COMMANDS, word)
 }
 
-// What a command with its fields asks for, read without taking memory: the bytes of a `put` are left as the word that is to
-// spell them.
+// What a line says, read without taking memory: the bytes of a `put` are left as the word that is to spell them.
 #[derive(Drop)]
 pub(crate) enum Parsed<'a> {
+    // It has no word, or is a comment.
+    Nothing,
     Event(Event),
     Put {
         replica: u16,
@@ -86,7 +88,8 @@ pub(crate) enum Parsed<'a> {
 
 // What a command asks for with these fields.
 pub(crate) fn read_fields<'a>(command: Command, fields: &'a [u8]) -> Option<Parsed<'a>>
-    ensures { option_and_then event_parsed result ≡ reader_of command (words fields.now) }
+    ensures { option_and_then line_parsed result
+        ≡ option_map Act (reader_of command (words fields.now)) }
 {
     match command {
         Command::Refer => whole(refer(fields)),
@@ -108,7 +111,7 @@ pub(crate) fn read_fields<'a>(command: Command, fields: &'a [u8]) -> Option<Pars
 }
 
 fn whole<'a>(event: Option<Event>) -> Option<Parsed<'a>>
-    ensures { option_and_then event_parsed result ≡ event }
+    ensures { option_and_then line_parsed result ≡ option_map Act event }
 {
     Some(Parsed::Event(event?))
 }
@@ -193,7 +196,7 @@ fn unpin(fields: &[u8]) -> Option<Event>
 
 #[tactic(auto, unfolding(crate::specs::Grammar::put_of, crate::specs::Fields::bytes_field))]
 fn put<'a>(fields: &'a [u8]) -> Option<Parsed<'a>>
-    ensures { option_and_then event_parsed result ≡ put_of (words fields.now) }
+    ensures { option_and_then line_parsed result ≡ option_map Act (put_of (words fields.now)) }
 {
     let (replica, rest) = replica_at(fields)?;
     let (slot, rest) = slot_at(rest)?;

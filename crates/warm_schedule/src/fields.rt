@@ -51,34 +51,30 @@ fn number(word: &[u8], limit: u64) -> Option<u64>
     let mut number = 0u64;
     for c in word {
         number = with_digit(number, digit(*c)?)?;
-        if number > limit {
-            return None;
-        }
+    }
+    if number > limit {
+        return None;
     }
     Some(number)
 }
 
-#[tactic(auto, unfolding(crate::specs::Fields::page_of))]
+// A second colon is no digit of the number.
+#[tactic(auto, using(crate::proofs::Parts::page_parts), unfolding(crate::specs::Fields::page_of))]
 fn page(word: &[u8]) -> Option<PageId>
     ensures { result ≡ page_of word.now }
 {
     let (dev, no) = cut(word, b':')?;
-    if let Some(_) = cut(no, b':') {
-        return None;
-    }
     let dev = number(dev, MOST_DEVICE)? as u16;
     let no = number(no, u64::MAX)?;
     Some(PageId { dev, no })
 }
 
-#[tactic(auto, unfolding(crate::specs::Fields::slot_of))]
+// A second dot is no digit of the generation.
+#[tactic(auto, using(crate::proofs::Parts::slot_parts), unfolding(crate::specs::Fields::slot_of))]
 fn slot(word: &[u8]) -> Option<Slot>
     ensures { result ≡ slot_of word.now }
 {
     let (index, generation) = cut(word, b'.')?;
-    if let Some(_) = cut(generation, b'.') {
-        return None;
-    }
     let index = number(index, MOST_FRAME)? as u32;
     let generation = number(generation, u64::MAX)?;
     Some(Slot { index, generation })

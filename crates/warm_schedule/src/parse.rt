@@ -67,23 +67,22 @@ impl From<AllocError> for LineFault {
 /// How many bytes a line may have, its line end not included: a longer one is bad, whatever it begins with.
 pub const MAX_LINE: usize = 262144;
 
-// What a line says, read without taking memory: `Some(None)` where it has no word or is a comment, `None` where it is bad. The
-// word that is to spell the bytes of a `put` is not read.
+// What a line says, read without taking memory: `None` where it is bad. The word that is to spell the bytes of a `put` is not
+// read.
 #[tactic(auto, unfolding(crate::specs::Grammar::meaning, crate::specs::Grammar::line_of))]
-pub(crate) fn parsed_in(line: &[u8]) -> Option<Option<Parsed<'_>>>
+pub(crate) fn parsed_in(line: &[u8]) -> Option<Parsed<'_>>
     ensures { meaning line.now ≡ option_and_then line_parsed result }
 {
     if line.len() > MAX_LINE {
         return None;
     }
     let Some((word, fields)) = next_word(line) else {
-        return Some(None);
+        return Some(Parsed::Nothing);
     };
     if let [b'#', ..] = word {
-        return Some(None);
+        return Some(Parsed::Nothing);
     }
-    let command = command_named(word)?;
-    Some(Some(read_fields(command, fields)?))
+    read_fields(command_named(word)?, fields)
 }
 
 /// What a line says, its line end not included.
@@ -99,21 +98,19 @@ pub fn parse_line(alloc: Global, line: &[u8]) -> Result<Line, LineFault>
     ensures { Reads PutsBytes (meaning line.now) result }
 {
     match parsed_in(line) {
-        Some(Some(Parsed::Event(event))) => Ok(Line::Act(event)),
+        Some(Parsed::Event(event)) => Ok(Line::Act(event)),
         Some(
-            Some(
-                Parsed::Put {
-                    replica,
-                    slot,
-                    at,
-                    word,
-                },
-            ),
+            Parsed::Put {
+                replica,
+                slot,
+                at,
+                word,
+            },
         ) => {
             let bytes = bytes(alloc, word)?;
             Ok(Line::Act(Event::Put(replica, slot, at, bytes)))
         }
-        Some(None) => Ok(Line::Nothing),
+        Some(Parsed::Nothing) => Ok(Line::Nothing),
         None => Err(LineFault::Bad),
     }
 }

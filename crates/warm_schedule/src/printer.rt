@@ -1,10 +1,11 @@
 //! What is printed for the answers of a world. Nothing here takes memory.
-ghost use Rattle.std.specs.Prelude.{◌≡◌, ◌<◌, codes, flat_map};
+ghost use Rattle.std.specs.Prelude.{◌≡◌, ◌<◌, ◌≤◌, codes, flat_map, length};
 ghost use Rattle.warm_history.specs.Histories.{entries_of};
 ghost use Rattle.warm_schedule.specs.Answers.{Prints, page_text, stamp_text, hist_text, entry_text, end_text};
 ghost use Rattle.warm_schedule.specs.Answers.{shown_text, pages_text};
 ghost use Rattle.warm_schedule.specs.Answers.{slot_text, hex_text, byte_text, bytes_text, page_if_any, refused_text};
 ghost use Rattle.warm_schedule.specs.Answers.{answer_text, bad_line, end_refused};
+ghost use Rattle.warm_schedule.specs.declared.printer.TheConstants.{AT_ONCE};
 
 use std::io::{self, Write};
 use warm_history::{Entries, Entry, History, PageHist};
@@ -115,10 +116,24 @@ fn hex_digit(digit: u8) -> u8
     b'a' - 10 + digit
 }
 
-fn print_byte<W: Write>(writer: &mut W, byte: u8) -> io::Result<()>
-    ensures { Prints result (W.contents writer.old) (W.contents writer.new) (byte_text byte) }
+// How many bytes are printed by one write.
+const AT_ONCE: usize = 64;
+
+// How many digits they have.
+const DIGITS: usize = 2 * AT_ONCE;
+
+// Bytes as hexadecimal digits, by one write.
+fn print_digits<W: Write>(writer: &mut W, bytes: &[u8]) -> io::Result<()>
+    requires { length bytes.now ≤ AT_ONCE }
+    ensures { Prints result (W.contents writer.old) (W.contents writer.new)
+        (flat_map byte_text bytes.now) }
 {
-    writer.write_all(&[hex_digit(byte / 16), hex_digit(byte % 16)])
+    let mut digits = [0; DIGITS];
+    for i in 0..bytes.len() {
+        digits[2 * i] = hex_digit(bytes[i] / 16);
+        digits[2 * i + 1] = hex_digit(bytes[i] % 16);
+    }
+    writer.write_all(&digits[..2 * bytes.len()])
 }
 
 // Bytes after a space, or nothing where there is none.
@@ -129,8 +144,8 @@ fn print_bytes<W: Write>(writer: &mut W, bytes: &[u8]) -> io::Result<()>
         return Ok(());
     }
     writer.write_all(b" ")?;
-    for byte in bytes {
-        print_byte(writer, *byte)?;
+    for chunk in bytes.chunks(AT_ONCE) {
+        print_digits(writer, chunk)?;
     }
     Ok(())
 }
@@ -163,7 +178,7 @@ pub fn print_answer<W: Write>(writer: &mut W, answer: &Answer) -> io::Result<()>
 {
     match answer {
         Answer::Done => writer.write_all(b"ok\n"),
-        Answer::Shown(history) => print_history(writer, history),
+        Answer::Shown(shown) => print_history(writer, shown.as_history()),
         Answer::FrameNo(number) => writeln!(writer, "frame {number}"),
         Answer::Took { count, first } => {
             if *count == 0 {

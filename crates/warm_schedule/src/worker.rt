@@ -43,8 +43,8 @@ pub fn parse_worker_line(line: &[u8]) -> Option<Option<WorkerLine>>
     ensures { result ≡ worker_line_in (meaning line.now) }
 {
     match parsed_in(line)? {
-        Some(Parsed::Event(event)) => Some(Some(asked_by(&event)?)),
-        Some(Parsed::Put { .. }) => None,
-        None => Some(None),
+        Parsed::Event(event) => Some(Some(asked_by(&event)?)),
+        Parsed::Put { .. } => None,
+        Parsed::Nothing => Some(None),
     }
 }

@@ -28,6 +28,11 @@ Restarts old (Ok done) new =
     × (new ≡ record { node = record old.node { history = holding []; pool = pool }; buffers = map cleared old.buffers })
 Restarts old (Err why) new = Step old.node call.Restart (reply.Refused why) new.node × (new.buffers ≡ old.buffers)
 
+-- what is answered for the result of a node's call
+abbrev pub answered : Result Answer NodeFault → Answer
+answered (Ok answer) = answer
+answered (Err why) = Refused (Node why)
+
 -- there is a call and a reply, and a node answers the call so
 abbrev pub Replies : NodeView → Option Call → Option Reply → NodeView → Type 0
 Replies old (Some call) (Some reply) new = Step old call reply new

@@ -6,10 +6,10 @@ ghost use Rattle.warm_world.specs.declared.event.WorldFault.TheVariants as fault
 ghost use Rattle.warm_world.specs.declared.event.BadWorld.TheVariants as bad;
 ghost use Rattle.warm_world.specs.Next.{replica_of, worker_of, message_of};
 
+use crate::shown::ShownHistory;
 use std::alloc::AllocError;
 use thiserror::Error;
 use warm_gossip::NodeFault;
-use warm_history::History;
 use warm_pool::Slot;
 use warm_stamps::{Bucket, ByteList, PageId, PageList};
 
@@ -62,8 +62,8 @@ pub enum Event {
 pub enum Answer {
     /// Refer, Flush, Unpin, Put or Restart happened.
     Done,
-    /// Show: a copy of the history.
-    Shown(History),
+    /// Show: a copy of the history, in memory of its own.
+    Shown(ShownHistory),
     /// Send and Offer: the number of the message, counted from 1 over all messages of the world.
     FrameNo(u64),
     /// Deliver: how many messages it was answered by, and the number of the first of them; 0 and 0 where
@@ -90,7 +90,7 @@ pub enum Answer {
 #[derive(Clone, Copy, Debug, PartialEq, Eq, Error)]
 pub enum WorldFault {
     /// 1 and 4 to 13: what the replica's node says. `Memory`, which is 1, also where a message could not be
-    /// kept or a history not copied; of Refer only where the buffer is full, and of Pin, Unpin, Put, Victim,
+    /// kept or a copy of a history not made; of Refer only where the buffer is full, and of Pin, Unpin, Put, Victim,
     /// Restart and Horizon never.
     #[error(transparent)]
     Node(NodeFault),

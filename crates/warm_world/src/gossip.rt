@@ -7,6 +7,7 @@ ghost use Rattle.warm_world.specs.Views.{world_view};
 ghost use Rattle.warm_world.specs.Stands.{view_shape, Steps};
 
 use crate::event::{Answer, Event, WorldFault};
+use crate::shown::ShownHistory;
 use crate::world::World;
 use std::alloc::{AllocError, Global};
 use warm_devices::PageDevice;
@@ -147,8 +148,11 @@ impl<D: PageDevice> World<D> {
         requires named { IsNamed (view_shape (world_view self.now)) (Event.Show i) }
         ensures { Steps (world_view self.now) (Event.Show i) result (world_view self.now) }
     {
-        match self.replicas[i as usize - 1].node.history().copy() {
-            Ok(history) => Answer::Shown(history),
+        let Ok(copied) = self.replicas[i as usize - 1].node.history().copy() else {
+            return Answer::Refused(WorldFault::Node(NodeFault::Memory));
+        };
+        match ShownHistory::new(self.alloc, copied) {
+            Ok(shown) => Answer::Shown(shown),
             Err(error) => Answer::Refused(error.into()),
         }
     }

@@ -17,10 +17,12 @@ pub mod laws;
 mod pool_events;
 mod replica;
 mod setup;
+mod shown;
 mod world;
 
 pub use event::{Answer, BadWorld, Event, WorldFault};
 pub use setup::{BadSetup, Setup};
+pub use shown::ShownHistory;
 pub use world::{World, are_sized};
 
 /// The most workers that a replica has. They are numbered from 1.

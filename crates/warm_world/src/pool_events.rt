@@ -2,49 +2,38 @@
 ghost use Rattle.std.specs.Prelude.{IsSome};
 ghost use Rattle.warm_gossip.specs.State.{node_view};
 ghost use Rattle.warm_world.specs.Next.{call_of, reply_of};
-ghost use Rattle.warm_world.specs.Replicas.{Replies};
+ghost use Rattle.warm_world.specs.Replicas.{Replies, answered};
 
 use crate::event::{Answer, Event};
 use warm_devices::PageDevice;
-use warm_gossip::Node;
+use warm_gossip::{Node, NodeFault};
 
-/// Asks the node the call that the event makes of it, and answers what it replies.
+/// Asks the node the call that the event makes of it, and answers what it replies, or why it refuses.
 ///
 /// Each call is made by its method, not as a value: a `Call` and a `Reply` have space for a message's digests, 2 KB, which each
-/// function on the way of a pin would clear. A `Result` of an answer, which has space for a history, would cost as much.
-pub(crate) fn ask<D: PageDevice>(node: &mut Node<D>, event: Event) -> Answer
+/// function on the way of a pin would clear.
+pub(crate) fn ask<D: PageDevice>(node: &mut Node<D>, event: Event) -> Result<Answer, NodeFault>
     requires calls { IsSome (call_of event) }
-    ensures { Replies (node_view node.old) (call_of event) (reply_of result)
+    ensures { Replies (node_view node.old) (call_of event) (reply_of (answered result))
         (node_view node.new) }
 {
     match event {
-        Event::Pin(_, page) => match node.pin(page) {
-            Ok(slot) => Answer::Pinned(slot),
-            Err(why) => Answer::Refused(why.into()),
-        },
-        Event::Unpin(_, slot) => match node.unpin(slot) {
-            Ok(()) => Answer::Done,
-            Err(why) => Answer::Refused(why.into()),
-        },
-        Event::Put(_, slot, at, bytes) => {
-            match node.write(slot, at as usize, bytes.as_slice()) {
-                Ok(()) => Answer::Done,
-                Err(why) => Answer::Refused(why.into()),
-            }
+        Event::Pin(_, page) => Ok(Answer::Pinned(node.pin(page)?)),
+        Event::Unpin(_, slot) => {
+            node.unpin(slot)?;
+            Ok(Answer::Done)
         }
-        Event::Get(_, slot, at, len) => match node.read(slot, at as usize, len as usize) {
-            Ok(bytes) => Answer::Bytes(bytes),
-            Err(why) => Answer::Refused(why.into()),
-        },
-        Event::Victim(_) => Answer::Page(node.victim()),
-        Event::Warm(_, n) => match node.warm_list(n as usize) {
-            Ok(pages) => Answer::Pages(pages),
-            Err(why) => Answer::Refused(why.into()),
-        },
-        Event::WarmStep(_) => match node.warm_step() {
-            Ok(page) => Answer::Loaded(page),
-            Err(why) => Answer::Refused(why.into()),
-        },
+        Event::Put(_, slot, at, bytes) => {
+            node.write(slot, at as usize, bytes.as_slice())?;
+            Ok(Answer::Done)
+        }
+        Event::Get(_, slot, at, len) => {
+            let bytes = node.read(slot, at as usize, len as usize)?;
+            Ok(Answer::Bytes(bytes))
+        }
+        Event::Victim(_) => Ok(Answer::Page(node.victim())),
+        Event::Warm(_, n) => Ok(Answer::Pages(node.warm_list(n as usize)?)),
+        Event::WarmStep(_) => Ok(Answer::Loaded(node.warm_step()?)),
         _ => unreachable!(),
     }
 }

@@ -219,7 +219,10 @@ impl<D: PageDevice> World<D> {
             Event::Show(i) => self.show(i),
             of_pool => {
                 let i = of_pool.replica();
-                ask(&mut self.replicas[i as usize - 1].node, of_pool)
+                match ask(&mut self.replicas[i as usize - 1].node, of_pool) {
+                    Ok(answer) => answer,
+                    Err(why) => Answer::Refused(why.into()),
+                }
             }
         }
     }

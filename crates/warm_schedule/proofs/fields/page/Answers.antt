@@ -1,5 +1,9 @@
-use Rattle.warm_schedule.proofs.Split.{two_colons}
+use Rattle.std.proofs.Common.{rules}
+use Rattle.warm_schedule.proofs.Parts.{page_parts}
 use Rattle.warm_schedule.proofs.fields.page.Goals as goal
 
-pub returns-in-Some : goal.returns-in-Some
-returns-in-Some c = two_colons c.args.word.now c.in_ok-dev.dev.now c.in_ok-dev.no.now c.in-Some.field-0.0.now c.in-Some.field-0.1.now c.in_ok-dev.ensures.pieces c.in-Some.ensures.pieces
+pub returns-in_err-no : goal.returns-in_err-no
+returns-in_err-no c = rw (page_parts _ _ _ c.in_ok-dev.ensures.pieces) (search rules)
+
+pub returns : goal.returns
+returns c = rw (page_parts _ _ _ c.in_ok-dev.ensures.pieces) (search rules)

@@ -1,0 +1,40 @@
+//! A history as an answer holds it.
+ghost use Rattle.std.specs.Prelude.{◌≡◌, IfOk};
+
+use std::alloc::{AllocError, Global};
+use std::marker::Model;
+use warm_history::History;
+
+/// A history in memory of its own: a pointer, where a [`History`] has the roots of its 64 maps in itself, which are
+/// some 1.5 KB. Contracts see the history.
+#[derive(Debug, Drop)]
+pub struct ShownHistory {
+    history: Box<History>,
+}
+
+impl Model for ShownHistory {
+    ghost use Rattle.warm_history.specs.Histories.{HistoryView};
+
+    ghost Value = { HistoryView };
+
+    ghost view = { λ shown. shown.history.value };
+}
+
+impl ShownHistory {
+    /// The history, moved to memory that is taken here.
+    ///
+    /// `AllocError` comes only where that memory was refused. The history is then dropped.
+    pub fn new(alloc: Global, history: History) -> Result<ShownHistory, AllocError>
+        ensures { IfOk result (λ shown. shown ≡ history) }
+    {
+        let history = Box::new(alloc, history)?;
+        Ok(ShownHistory { history })
+    }
+
+    /// The history. Takes no memory.
+    pub fn as_history(&self) -> &History
+        ensures { result.now ≡ self.now }
+    {
+        &self.history
+    }
+}
