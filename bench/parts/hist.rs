@@ -1,6 +1,8 @@
 //! What is known of a page, in plain Rust, for the programs that the proved ones are measured beside.
 
+/// Of 10 bytes, as pages are, so that a map has little memory to go over.
 #[derive(Clone, Copy, PartialEq, Eq, PartialOrd, Ord)]
+#[repr(packed(2))]
 pub struct Stamp {
     pub time: u64,
     pub replica: u16,
@@ -12,6 +14,7 @@ impl Stamp {
 }
 
 #[derive(Clone, Copy, PartialEq, Eq, PartialOrd, Ord, Hash)]
+#[repr(packed(2))]
 pub struct Page {
     pub dev: u16,
     pub no: u64,

@@ -1,7 +1,7 @@
 //! A history in plain Rust: a map for each bucket, by the page's order, and a horizon.
 
 use super::hist::{Entry, Hist, Page, Stamp};
-use std::cmp::Reverse;
+use std::cmp::{Ordering, Reverse};
 use std::collections::btree_map::Entry as Place;
 use std::collections::{BTreeMap, BinaryHeap};
 use std::ops::Bound;
@@ -115,14 +115,48 @@ impl History {
 
     /// The hottest pages, hottest first.
     pub fn hottest(&self, count: usize) -> Vec<Page> {
-        let mut ranks: Vec<(Hist, Page)> = Vec::with_capacity(self.len());
-        ranks.extend(self.entries().map(|entry| (entry.hist, entry.page)));
+        let mut ranks: Vec<Rank> = Vec::with_capacity(self.len());
+        ranks.extend(self.entries().map(Rank::of));
         if count < ranks.len() {
             ranks.select_nth_unstable_by(count, |a, b| b.cmp(a));
             ranks.truncate(count);
         }
         ranks.sort_unstable_by(|a, b| b.cmp(a));
-        ranks.into_iter().map(|rank| rank.1).collect()
+        ranks.into_iter().map(|rank| Page { dev: rank.dev, no: rank.no }).collect()
+    }
+}
+
+/// What is known of a page, and the page, in the order of ranks and in 32 bytes: the wide numbers first.
+#[derive(Clone, Copy, PartialEq, Eq)]
+struct Rank {
+    prev: u64,
+    last: u64,
+    no: u64,
+    prev_replica: u16,
+    last_replica: u16,
+    dev: u16,
+}
+
+impl Rank {
+    fn of(entry: Entry) -> Rank {
+        let Entry { page: Page { dev, no }, hist } = entry;
+        // no stamp is less than every stamp
+        let prev = hist.prev().unwrap_or(Stamp { time: 0, replica: 0 });
+        let last = hist.last();
+        Rank { prev: prev.time, last: last.time, no, prev_replica: prev.replica, last_replica: last.replica, dev }
+    }
+}
+
+impl Ord for Rank {
+    fn cmp(&self, other: &Rank) -> Ordering {
+        let key = |rank: &Rank| (rank.prev, rank.prev_replica, rank.last, rank.last_replica, rank.dev, rank.no);
+        key(self).cmp(&key(other))
+    }
+}
+
+impl PartialOrd for Rank {
+    fn partial_cmp(&self, other: &Rank) -> Option<Ordering> {
+        Some(self.cmp(other))
     }
 }
 
