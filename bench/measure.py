@@ -30,7 +30,7 @@ RUNS = 5
 REPLICAS = 64
 WINDOW, EVERY = 100_000, 10_000
 SIZES = [1_000, 10_000, 100_000, 1_000_000]
-OURS, PLAIN, UNDO = "warmplay", "plain", "plain with undo"
+OURS, PLAIN = "warmplay", "plain"
 
 
 def user_seconds(program: list[str], schedule: Path, answer: Path) -> float:
@@ -70,7 +70,6 @@ class Bench:
         self.programs = {
             OURS: [str(WARMPLAY), "play", "--setup", str(setup)],
             PLAIN: [plain, str(REPLICAS)],
-            UNDO: [plain, str(REPLICAS), "undo"],
         }
 
     def write(self, name: str, lines: Iterable[str]) -> Path:
@@ -86,8 +85,7 @@ class Bench:
             for name, program in self.programs.items():
                 seconds = user_seconds(program, schedule, self.folder / f"{name}.answer")
                 best[name] = min(best.get(name, seconds), seconds)
-        for name in (PLAIN, UNDO):
-            subprocess.run(["cmp", self.folder / f"{OURS}.answer", self.folder / f"{name}.answer"], check=True)
+        subprocess.run(["cmp", self.folder / f"{OURS}.answer", self.folder / f"{PLAIN}.answer"], check=True)
         return best
 
     def added(self, setup: list[str], events: list[str]) -> dict[str, float]:
@@ -98,9 +96,8 @@ class Bench:
 
 
 def row(what: str, seconds: dict[str, float], note: str) -> None:
-    ours, plain, undo = (seconds[name] for name in (OURS, PLAIN, UNDO))
-    times = f"{ours:.3f} s | {plain:.3f} s | {undo:.3f} s | {plain / ours:.2f} | {undo / ours:.2f}"
-    print(f"| {what} | {times} | {note} |", flush=True)
+    ours, plain = seconds[OURS], seconds[PLAIN]
+    print(f"| {what} | {ours:.3f} s | {plain:.3f} s | {plain / ours:.2f} | {note} |", flush=True)
 
 
 def whole(bench: Bench, what: str, schedule: Path) -> None:
@@ -181,7 +178,7 @@ def memory(bench: Bench) -> None:
     schedule = bench.write("pages", reached(1, scattered(1_000_000), 1))
     held = {name: (peak_kb(program, schedule) - peak_kb(program, nothing)) * 1024 / 1e6 for name, program in bench.programs.items()}
     shares = " | ".join(f"{held[name]:.1f} bytes" for name in bench.programs)
-    print(f"| memory a page, of 1,000,000 | {shares} | {held[PLAIN] / held[OURS]:.2f} | {held[UNDO] / held[OURS]:.2f} | |", flush=True)
+    print(f"| memory a page, of 1,000,000 | {shares} | {held[PLAIN] / held[OURS]:.2f} | |", flush=True)
 
 
 def moving(pages: int, window: int, every: int) -> Iterable[str]:
@@ -222,7 +219,7 @@ def growth(bench: Bench) -> None:
             ("`show`", new, [f"show {i}" for _ in range(rounds) for i in replicas], pages * rounds),
         ):
             seconds = bench.added(setup, events)
-            for name in (OURS, PLAIN):
+            for name in bench.programs:
                 loads.setdefault(f"{what}, {name}", []).append(f"{seconds[name] / count * 1e9:.0f}")
     for what, cells in loads.items():
         print(f"| {what} | " + " | ".join(cells) + " |", flush=True)
@@ -247,7 +244,7 @@ def main() -> None:
     names = sys.argv[1:] or list(CASES)
     with tempfile.TemporaryDirectory() as folder:
         bench = Bench(Path(folder))
-        print("| what | warmplay | plain Rust | plain with undo | plain time by ours | with undo | |\n|---|---|---|---|---|---|---|")
+        print("| what | warmplay | plain Rust | plain time by ours | |\n|---|---|---|---|---|")
         for name in names:
             CASES[name](bench)
 

@@ -6,9 +6,9 @@
 #[path = "../parts/mod.rs"]
 mod parts;
 
-use parts::frames::{Decoder, decode, encode, digests};
+use parts::frames::{Decoder, decode, digests, encode};
 use parts::hist::{Entry, Hist, Page, Stamp};
-use std::collections::BTreeMap;
+use parts::history::History;
 use std::hint::black_box;
 use std::time::Instant;
 
@@ -21,7 +21,7 @@ fn entries_of(pages: u32, apart: u32) -> Vec<Entry> {
     (0..pages)
         .map(|i| {
             let stamp = |time| Stamp { time, replica: 1 };
-            let hist = Hist::Twice { last: stamp(u64::from(i) + 7), prev: stamp(u64::from(i)) };
+            let hist = Hist::twice(stamp(u64::from(i) + 7), stamp(u64::from(i))).expect("the later stamp is the last");
             Entry { page: Page { dev: 0, no: u64::from(i * apart) }, hist }
         })
         .collect()
@@ -50,7 +50,10 @@ fn main() {
     let asked = std::env::args().nth(1);
     let rounds: u64 = asked.as_ref().map_or(1, |word| word.parse().expect("how often each is done"));
     let entries = entries_of(FULL, 64);
-    let history: BTreeMap<Page, Hist> = entries_of(MANY, 1).into_iter().map(|entry| (entry.page, entry.hist)).collect();
+    let mut history = History::new();
+    for entry in entries_of(MANY, 1) {
+        history.take(entry);
+    }
 
     let start = Instant::now();
     let mut bytes = Vec::new();
@@ -67,7 +70,7 @@ fn main() {
     let start = Instant::now();
     let mut first = [0; 32];
     for _ in 0..rounds {
-        first = digests(black_box(&history).iter().map(|(&page, &hist)| Entry { page, hist }))[0];
+        first = digests(black_box(&history))[0];
     }
     let summing = start.elapsed();
 

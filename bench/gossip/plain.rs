@@ -1,6 +1,6 @@
 //! The gossip and the warm-up of `benches gossip` in plain Rust, for the same measurements.
 //!
-//! A replica is a `BTreeMap` with a horizon, and a pool that finds its pages by a `HashMap`. It keeps the digests of its buckets and its
+//! A replica is a map for each bucket with a horizon, and a pool that finds its pages by a `HashMap`. It keeps the digests of its buckets and its
 //! warm-up list until its history changes. Nothing is undone where memory runs out, as nothing is refused here. The arguments are those
 //! of the proved program, which has to take, beside `round`, `warm`, `offer` and `history`:
 //! - `raised PAGES OFFERS`: that many offers by a replica that knows PAGES pages by two stamps each, of the times 2^40 + i and
@@ -13,9 +13,9 @@
 mod parts;
 
 use parts::frames::{decode, encode, header, renew};
-use parts::hist::{Entry, Hist, Page, Stamp, forget, join, since};
-use std::collections::btree_map::Entry as Place;
-use std::collections::{BTreeMap, HashMap};
+use parts::hist::{Entry, Hist, Page, Stamp};
+use parts::history::{BUCKETS, History};
+use std::collections::HashMap;
 use std::time::Instant;
 
 const WARMED: usize = 4_096;
@@ -26,26 +26,9 @@ const LATE: u64 = 1 << 40;
 
 /// How a page is ranked: what leaves first is least.
 #[derive(Clone, Copy, PartialEq, Eq, PartialOrd, Ord)]
-enum Rank {
-    Never(Page),
-    Once(Stamp, Page),
-    Twice { prev: Stamp, last: Stamp, page: Page },
-}
-
-impl Rank {
-    fn of(page: Page, hist: Option<Hist>) -> Rank {
-        match hist {
-            None => Rank::Never(page),
-            Some(Hist::Once(last)) => Rank::Once(last, page),
-            Some(Hist::Twice { last, prev }) => Rank::Twice { prev, last, page },
-        }
-    }
-
-    fn page(&self) -> Page {
-        match self {
-            Rank::Never(page) | Rank::Once(_, page) | Rank::Twice { page, .. } => *page,
-        }
-    }
+struct Rank {
+    hist: Option<Hist>,
+    page: Page,
 }
 
 struct Frame {
@@ -75,32 +58,31 @@ impl Pool {
     fn load(&mut self, rank: Rank) -> Option<()> {
         let at = self.free.pop()?;
         let frame = &mut self.frames[at];
-        frame.bytes.copy_from_slice(&self.device[rank.page().no as usize]);
+        frame.bytes.copy_from_slice(&self.device[rank.page.no as usize]);
         frame.rank = Some(rank);
         frame.generation += 1;
-        self.index.insert(rank.page(), at);
+        self.index.insert(rank.page, at);
         Some(())
     }
 
     /// The frame of a page whose history changed gets its new rank.
     fn refresh(&mut self, page: Page, hist: Hist) {
         if let Some(at) = self.index.get(&page) {
-            self.frames[*at].rank = Some(Rank::of(page, Some(hist)));
+            self.frames[*at].rank = Some(Rank { hist: Some(hist), page });
         }
     }
 
     /// All pages in frames are ranked again.
-    fn refresh_all(&mut self, history: &BTreeMap<Page, Hist>) {
+    fn refresh_all(&mut self, history: &History) {
         for (page, at) in &self.index {
-            self.frames[*at].rank = Some(Rank::of(*page, history.get(page).copied()));
+            self.frames[*at].rank = Some(Rank { hist: history.get(*page), page: *page });
         }
     }
 }
 
 struct Node {
     id: u16,
-    horizon: u64,
-    history: BTreeMap<Page, Hist>,
+    history: History,
     pool: Pool,
     digests: Vec<[u8; 32]>,
     // The buckets whose digests are not those of the history.
@@ -111,39 +93,30 @@ struct Node {
 impl Node {
     fn new(id: u16, frames: usize, pages: u64) -> Node {
         let pool = Pool::new(frames, pages);
-        Node { id, horizon: 0, history: BTreeMap::new(), pool, digests: vec![[0; 32]; 64], changed: u64::MAX, hottest: None }
+        Node { id, history: History::new(), pool, digests: vec![[0; 32]; BUCKETS], changed: u64::MAX, hottest: None }
     }
 
-    fn take(&mut self, page: Page, more: Hist) {
-        let Some(more) = since(more, self.horizon) else { return };
+    // What is known of a page has become this, where anything was taken in.
+    fn has_changed(&mut self, page: Page, known: Option<Hist>) {
+        let Some(known) = known else { return };
         self.changed |= 1 << page.bucket();
         self.hottest = None;
-        let known = match self.history.entry(page) {
-            Place::Occupied(mut place) => {
-                let known = place.get_mut();
-                *known = join(more, *known);
-                *known
-            }
-            Place::Vacant(place) => *place.insert(more),
-        };
         self.pool.refresh(page, known);
     }
 
-    /// Forgets what is older, in one pass, where the horizon rises. Only the buckets of pages that lost a stamp have changed.
+    fn see(&mut self, page: Page, stamp: Stamp) {
+        let known = self.history.see(page, stamp);
+        self.has_changed(page, known);
+    }
+
+    fn take(&mut self, entry: Entry) {
+        let known = self.history.take(entry);
+        self.has_changed(entry.page, known);
+    }
+
+    /// Only the buckets of pages that lost a stamp have changed.
     fn raise(&mut self, time: u64) {
-        if time <= self.horizon {
-            return;
-        }
-        self.horizon = time;
-        let mut lost = 0;
-        self.history.retain(|page, hist| {
-            let was_once = matches!(hist, Hist::Once(_));
-            let is_left = forget(hist, time);
-            if !is_left || matches!(hist, Hist::Once(_)) != was_once {
-                lost |= 1 << page.bucket();
-            }
-            is_left
-        });
+        let lost = self.history.raise(time);
         if lost != 0 {
             self.changed |= lost;
             self.hottest = None;
@@ -151,13 +124,8 @@ impl Node {
         }
     }
 
-    fn entries(&self) -> impl Iterator<Item = Entry> {
-        self.history.iter().map(|(page, hist)| Entry { page: *page, hist: *hist })
-    }
-
     fn renewed(&mut self) -> &[[u8; 32]] {
-        let history = self.history.iter().map(|(page, hist)| Entry { page: *page, hist: *hist });
-        renew(&mut self.digests, self.changed, history);
+        renew(&mut self.digests, self.changed, &self.history);
         self.changed = 0;
         &self.digests
     }
@@ -168,21 +136,25 @@ impl Node {
     }
 
     fn framed(&self, kind: u8, body: &[u8]) -> Vec<u8> {
-        let mut bytes = header(kind, self.id, self.horizon, body.len());
+        let mut bytes = header(kind, self.id, self.history.horizon, body.len());
         bytes.extend_from_slice(body);
         bytes
     }
 
     /// The entries of a set of buckets, in messages.
     fn wanted(&self, mask: u64) -> Vec<Vec<u8>> {
-        let mut lists = vec![Vec::new(); 64];
-        for entry in self.entries() {
-            let bucket = entry.page.bucket();
-            if mask >> bucket & 1 == 1 {
-                lists[bucket].push(entry);
+        let mut messages = Vec::new();
+        let mut part = Vec::with_capacity(FULL);
+        for bucket in (0..BUCKETS).filter(|bucket| mask >> bucket & 1 == 1) {
+            let mut rest = self.history.bucket(bucket);
+            part.extend(rest.by_ref().take(FULL));
+            while !part.is_empty() {
+                messages.push(encode(self.id, self.history.horizon, &part));
+                part.clear();
+                part.extend(rest.by_ref().take(FULL));
             }
         }
-        lists.iter().flat_map(|list| list.chunks(FULL)).map(|part| encode(self.id, self.horizon, part)).collect()
+        messages
     }
 
     fn receive(&mut self, bytes: &[u8]) -> Vec<Vec<u8>> {
@@ -190,7 +162,7 @@ impl Node {
             let frame = decode(bytes).expect("the frame is one of entries");
             self.raise(frame.horizon);
             for entry in frame.entries {
-                self.take(entry.page, entry.hist);
+                self.take(entry);
             }
             return Vec::new();
         }
@@ -210,24 +182,13 @@ impl Node {
         answers
     }
 
-    /// The hottest pages, of as many as there are frames.
-    fn warm_list(&self) -> Vec<Page> {
-        let mut ranks: Vec<Rank> = self.history.iter().map(|(page, hist)| Rank::of(*page, Some(*hist))).collect();
-        let hottest = match ranks.len().checked_sub(self.pool.frames.len() + 1) {
-            Some(next) => ranks.select_nth_unstable(next).2,
-            None => &mut ranks,
-        };
-        hottest.sort_unstable();
-        hottest.iter().rev().map(Rank::page).collect()
-    }
-
     fn warm_step(&mut self) -> Option<Page> {
-        let hottest = self.hottest.take().unwrap_or_else(|| self.warm_list());
+        let hottest = self.hottest.take().unwrap_or_else(|| self.history.hottest(self.pool.frames.len()));
         let is_loadable = |page: &&Page| page.no < self.pool.device.len() as u64 && !self.pool.index.contains_key(*page);
         let next = hottest.iter().find(is_loadable).copied();
         self.hottest = Some(hottest);
         let page = next?;
-        self.pool.load(Rank::of(page, self.history.get(&page).copied()))?;
+        self.pool.load(Rank { hist: self.history.get(page), page })?;
         Some(page)
     }
 }
@@ -248,7 +209,7 @@ fn scattered(i: u64, pages: u64) -> Page {
 fn remember(node: &mut Node, pages: u64, from: u64) {
     for i in 0..pages {
         for time in [from + i, from + i + 7] {
-            node.take(scattered(i, pages), Hist::Once(Stamp { time, replica: 1 }));
+            node.see(scattered(i, pages), Stamp { time, replica: 1 });
         }
     }
 }
@@ -260,10 +221,8 @@ fn told(id: u16, frames: usize, pages: u64) -> Node {
 }
 
 fn sum_of(node: &Node) -> u64 {
-    node.entries().fold(0u64, |sum, entry| {
-        let (Hist::Once(last) | Hist::Twice { last, .. }) = entry.hist;
-        sum.wrapping_mul(31).wrapping_add(entry.page.no).wrapping_add(last.time)
-    })
+    let in_order = node.history.in_order();
+    in_order.fold(0u64, |sum, entry| sum.wrapping_mul(31).wrapping_add(entry.page.no).wrapping_add(entry.hist.last().time))
 }
 
 fn answers(node: &mut Node, sent: &[Vec<u8>]) -> Vec<Vec<u8>> {
@@ -287,7 +246,7 @@ fn rounds(pages: u64, buckets: u64, rounds: u64) -> (u64, u128) {
     for i in 0..rounds {
         for no in 0..buckets {
             let time = LATE + i;
-            first.take(Page { dev: 0, no }, Hist::Once(Stamp { time, replica: 1 }));
+            first.see(Page { dev: 0, no }, Stamp { time, replica: 1 });
         }
         sent += round(&mut first, &mut second);
     }
@@ -313,7 +272,7 @@ fn offers(pages: u64, buckets: u64, offers: u64) -> (u64, u128) {
     for i in 0..offers {
         for no in 0..buckets {
             let time = LATE + i;
-            node.take(Page { dev: 0, no }, Hist::Once(Stamp { time, replica: 1 }));
+            node.see(Page { dev: 0, no }, Stamp { time, replica: 1 });
         }
         let start = Instant::now();
         let bytes = node.offer();
@@ -332,7 +291,7 @@ fn raised_offers(pages: u64, offers: u64) -> (u64, u128) {
     let (mut sum, mut nanos) = (0u64, 0);
     for i in 0..offers {
         for k in 0..DROPPED {
-            node.take(Page { dev: 0, no: first + 64 * k }, Hist::Once(Stamp { time: i + 1, replica: 1 }));
+            node.see(Page { dev: 0, no: first + 64 * k }, Stamp { time: i + 1, replica: 1 });
         }
         node.offer();
         node.raise(i + 2);

@@ -12,7 +12,7 @@ use std::time::{Duration, Instant};
 #[path = "../parts/mod.rs"]
 mod parts;
 
-use parts::hist::{Hist, Page, Stamp, join};
+use parts::hist::{Hist, Page, Stamp};
 
 const BATCH: usize = 64;
 const BUCKETS: usize = 64;
@@ -55,7 +55,7 @@ fn record<K: Key>(maps: &mut Maps<K>, key: K, more: Hist) -> Option<(K, Option<H
     let map = &mut maps[key.bucket()];
     if let Some(known) = map.get_mut(&key) {
         let before = *known;
-        *known = join(more, before);
+        known.join(more);
         return (*known != before).then_some((key, Some(before)));
     }
     map.insert(key, more);
@@ -101,7 +101,7 @@ fn next(drawn: &mut u64) -> u64 {
 impl Given {
     fn of(pages: u64) -> Given {
         let page = |i: u64| Page { dev: 0, no: i.wrapping_mul(7919) % pages };
-        let once = |time| Hist::Once(Stamp { time, replica: 1 });
+        let once = |time| Hist::once(Stamp { time, replica: 1 });
         let octaves = u64::from(pages.ilog2()) + 1;
         let (mut first, mut second) = (1, 11);
         let drawn = |time| {

@@ -41,15 +41,13 @@ def main() -> None:
     with tempfile.TemporaryDirectory() as folder:
         plain = Path(folder) / "plain"
         subprocess.run(["rustc", "-O", "--edition", "2024", "-o", plain, HERE / "plain.rs"], check=True)
-        print("| pages | what | ours, ns | plain Rust, ns | ours to plain | with undo, ns | of 64 maps, ns |")
-        print("|---|---|---|---|---|---|---|")
+        print("| pages | what | ours, ns | plain Rust, ns | plain time by ours |")
+        print("|---|---|---|---|---|")
         for pages in counts:
             best = measured(plain, pages)
             for what, ours in best["ours"].items():
                 other = best["plain"][what]
-                others = [best["plain"].get(what + kind) for kind in (", noted", ", of 64 maps")]
-                more = " | ".join(f"{it:,}" if it else "" for it in others)
-                print(f"| {pages:,} | {what} | {ours:,} | {other:,} | {other / ours:.2f} | {more} |")
+                print(f"| {pages:,} | {what} | {ours:,} | {other:,} | {other / ours:.2f} |")
 
 
 if __name__ == "__main__":

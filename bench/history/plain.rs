@@ -1,7 +1,6 @@
-//! The histories of `benches history` in plain Rust, as one BTreeMap and a horizon, for the same measurements.
+//! The histories of `benches history` in plain Rust, as a map for each bucket and a horizon, for the same measurements.
 //!
-//! Prints what was made and the nanoseconds. Absorbing is done a second time with a list of what was
-//! there before, as all or nothing wants it.
+//! Prints what was made and the nanoseconds.
 //!
 //! A raise of the horizon is measured over a history in which each page has one stamp: page `scattered(i, PAGES)` that of the time
 //! PAGES + i. `benches history PAGES` has to print, after all other lines and each for a copy of its own, the sum over the history
@@ -9,15 +8,12 @@
 //! - `raise, none dropped`: to the time PAGES, a pass that finds nothing to drop;
 //! - `raise, half dropped`: to PAGES + PAGES / 2;
 //! - `raise, all dropped`: to 2 * PAGES.
-//!
-//! Here a raise is done a second time over 64 maps, one for each bucket, as the proved history has them.
 
 #[path = "../parts/mod.rs"]
 mod parts;
 
-use parts::hist::{Hist, Page, Stamp, forget, join, since};
-use std::collections::BTreeMap;
-use std::collections::btree_map::Entry as Slot;
+use parts::hist::{Entry, Hist, Page, Stamp};
+use parts::history::History;
 use std::hint::black_box;
 use std::time::{Duration, Instant};
 
@@ -29,14 +25,6 @@ struct Reference {
     page: Page,
     stamp: Stamp,
 }
-
-#[derive(Clone, Default)]
-struct History {
-    horizon: u64,
-    pages: BTreeMap<Page, Hist>,
-}
-
-type Undo = Vec<(Page, Option<Hist>)>;
 
 fn next(drawn: u64) -> u64 {
     drawn.wrapping_mul(6_364_136_223_846_793_005).wrapping_add(1_442_695_040_888_963_407)
@@ -57,63 +45,26 @@ fn zipf_page(drawn: u64, pages: u64) -> Page {
     scattered(below + (drawn >> 40) % below, pages)
 }
 
-// What is older than the horizon is dropped.
-fn take(history: &mut History, page: Page, more: Hist) {
-    let Some(more) = since(more, history.horizon) else { return };
-    match history.pages.entry(page) {
-        Slot::Occupied(mut slot) => {
-            let known = slot.get_mut();
-            *known = join(more, *known);
-        }
-        Slot::Vacant(slot) => {
-            slot.insert(more);
-        }
-    }
-}
-
 #[inline(never)]
 fn absorb(history: &mut History, batch: &[Reference]) {
     for seen in batch {
-        take(history, seen.page, Hist::Once(seen.stamp));
+        history.see(seen.page, seen.stamp);
     }
 }
 
 #[inline(never)]
-fn absorb_noted(history: &mut History, batch: &[Reference]) {
-    let mut undo: Undo = Vec::with_capacity(batch.len());
-    for seen in batch {
-        let Some(more) = since(Hist::Once(seen.stamp), history.horizon) else { continue };
-        match history.pages.entry(seen.page) {
-            Slot::Occupied(mut slot) => {
-                let known = *slot.get();
-                slot.insert(join(more, known));
-                undo.push((seen.page, Some(known)));
-            }
-            Slot::Vacant(slot) => {
-                slot.insert(more);
-                undo.push((seen.page, None));
-            }
-        }
+fn join(history: &mut History, entries: impl Iterator<Item = Entry>) {
+    for entry in entries {
+        history.take(entry);
     }
-    black_box(&undo);
-}
-
-// Forgets what is older, in one pass, where the horizon rises.
-#[inline(never)]
-fn raise(history: &mut History, time: u64) {
-    if time <= history.horizon {
-        return;
-    }
-    history.horizon = time;
-    history.pages.retain(|_, hist| forget(hist, time));
 }
 
 fn sum_of(history: &History) -> u64 {
     let mut sum = 0u64;
-    for (page, hist) in &history.pages {
+    for Entry { page, hist } in history.in_order() {
         sum = sum.wrapping_mul(31).wrapping_add(page.no);
-        if let Hist::Once(stamp) = hist {
-            sum = sum.wrapping_add(stamp.time);
+        if !hist.is_twice() {
+            sum = sum.wrapping_add(hist.last().time);
         }
     }
     sum
@@ -130,9 +81,9 @@ fn timed<T>(work: impl FnOnce() -> T) -> (T, Duration) {
     (made, start.elapsed())
 }
 
-fn absorbed(what: &str, all: &[Reference], one: fn(&mut History, &[Reference])) -> History {
-    let mut history = History::default();
-    let ((), spent) = timed(|| all.chunks(BATCH).for_each(|batch| one(&mut history, batch)));
+fn absorbed(what: &str, all: &[Reference]) -> History {
+    let mut history = History::new();
+    let ((), spent) = timed(|| all.chunks(BATCH).for_each(|batch| absorb(&mut history, batch)));
     told(what, sum_of(&history), spent);
     history
 }
@@ -140,36 +91,18 @@ fn absorbed(what: &str, all: &[Reference], one: fn(&mut History, &[Reference])) 
 // A history of all pages, raised to a time.
 fn raised(what: &str, whole: &History, time: u64) {
     let mut history = whole.clone();
-    let ((), spent) = timed(|| raise(&mut history, time));
+    let (_, spent) = timed(|| history.raise(time));
     told(what, sum_of(&history), spent);
 }
 
-// The same over a map for each bucket.
-fn raised_buckets(what: &str, whole: &History, time: u64) {
-    let mut buckets = vec![BTreeMap::new(); 64];
-    for (page, hist) in &whole.pages {
-        buckets[page.bucket()].insert(*page, *hist);
-    }
-    let retain = |pages: &mut BTreeMap<Page, Hist>| pages.retain(|_, hist| forget(hist, time));
-    let ((), spent) = timed(|| buckets.iter_mut().for_each(retain));
-    let joined = History { horizon: time, pages: buckets.into_iter().flatten().collect() };
-    told(&format!("{what}, of 64 maps"), sum_of(&joined), spent);
-}
-
 fn raises(each: &[Reference], pages: u64) {
-    let mut whole = History::default();
+    let mut whole = History::new();
     for seen in each {
-        let stamp = Stamp { time: pages + seen.stamp.time, ..seen.stamp };
-        take(&mut whole, seen.page, Hist::Once(stamp));
+        whole.see(seen.page, Stamp { time: pages + seen.stamp.time, ..seen.stamp });
     }
-    for (what, time) in [
-        ("raise, none dropped", pages),
-        ("raise, half dropped", pages + pages / 2),
-        ("raise, all dropped", 2 * pages),
-    ] {
-        raised(what, &whole, time);
-        raised_buckets(what, &whole, time);
-    }
+    raised("raise, none dropped", &whole, pages);
+    raised("raise, half dropped", &whole, pages + pages / 2);
+    raised("raise, all dropped", &whole, 2 * pages);
 }
 
 fn main() {
@@ -185,24 +118,22 @@ fn main() {
     let each: Vec<Reference> =
         (0..pages).map(|time| Reference { page: scattered(time, pages), stamp: stamp(time) }).collect();
     let mut drawn = 7;
-    let more: Vec<(Page, Hist)> = (0..SMALL)
+    let more: Vec<Entry> = (0..SMALL)
         .map(|time| {
             drawn = next(drawn);
-            (scattered(drawn >> 33, pages), Hist::Once(stamp(time)))
+            Entry { page: scattered(drawn >> 33, pages), hist: Hist::once(stamp(time)) }
         })
         .collect();
-    drop(absorbed("absorb by Zipf's law", &zipf, absorb));
-    drop(absorbed("absorb by Zipf's law, noted", &zipf, absorb_noted));
-    drop(absorbed("absorb new pages, noted", &each, absorb_noted));
-    let mut large = absorbed("absorb new pages", &each, absorb);
-    let ((), spent) = timed(|| more.iter().for_each(|(page, hist)| take(&mut large, *page, *hist)));
+    drop(absorbed("absorb by Zipf's law", &zipf));
+    let mut large = absorbed("absorb new pages", &each);
+    let ((), spent) = timed(|| join(&mut large, more.iter().copied()));
     told("join 1,000 entries", sum_of(&large), spent);
     let (copied, spent) = timed(|| large.clone());
     told("copy", sum_of(&copied), spent);
-    let ((), spent) = timed(|| copied.pages.iter().for_each(|(page, hist)| take(&mut large, *page, *hist)));
+    let ((), spent) = timed(|| join(&mut large, copied.entries()));
     told("join all, known", sum_of(&large), spent);
-    let mut empty = History::default();
-    let ((), spent) = timed(|| large.pages.iter().for_each(|(page, hist)| take(&mut empty, *page, *hist)));
+    let mut empty = History::new();
+    let ((), spent) = timed(|| join(&mut empty, large.entries()));
     told("join all, new", sum_of(&empty), spent);
     let (sum, spent) = timed(|| sum_of(black_box(&large)));
     told("go over all", sum, spent);
@@ -211,7 +142,7 @@ fn main() {
         (0..pages)
             .filter(|_| {
                 drawn = next(drawn);
-                large.pages.contains_key(&scattered(drawn >> 33, pages))
+                large.get(scattered(drawn >> 33, pages)).is_some()
             })
             .count()
     });

@@ -1,6 +1,7 @@
 //! Frames of entries as bytes, and the digests of all buckets.
 
 use super::hist::{Entry, Hist, Page, Stamp};
+use super::history::History;
 use super::sha256::Sha256;
 
 fn set_page(bytes: &mut [u8], page: Page) {
@@ -15,17 +16,17 @@ fn set_stamp(bytes: &mut [u8], stamp: Stamp) {
 
 /// An entry's bytes are made in an array and appended at once: one test of the capacity, and one store for each number.
 pub fn put_entry(bytes: &mut Vec<u8>, entry: &Entry) {
-    match entry.hist {
-        Hist::Once(last) => {
+    match entry.hist.prev() {
+        None => {
             let mut one = [1; 21];
             set_page(&mut one[..10], entry.page);
-            set_stamp(&mut one[11..], last);
+            set_stamp(&mut one[11..], entry.hist.last());
             bytes.extend_from_slice(&one);
         }
-        Hist::Twice { last, prev } => {
+        Some(prev) => {
             let mut two = [2; 31];
             set_page(&mut two[..10], entry.page);
-            set_stamp(&mut two[11..21], last);
+            set_stamp(&mut two[11..21], entry.hist.last());
             set_stamp(&mut two[21..], prev);
             bytes.extend_from_slice(&two);
         }
@@ -52,7 +53,7 @@ pub fn header(kind: u8, sender: u16, horizon: u64, len: usize) -> Vec<u8> {
 }
 
 pub fn encode(sender: u16, horizon: u64, entries: &[Entry]) -> Vec<u8> {
-    let len: usize = entries.iter().map(|e| if let Hist::Once(_) = e.hist { 21 } else { 31 }).sum();
+    let len: usize = entries.iter().map(|entry| if entry.hist.is_twice() { 31 } else { 21 }).sum();
     let mut bytes = header(1, sender, horizon, 4 + len);
     bytes.extend_from_slice(&(entries.len() as u32).to_be_bytes());
     for entry in entries {
@@ -93,10 +94,10 @@ fn entry_at(wide: bool, bytes: &[u8]) -> Option<(Entry, &[u8])> {
     let (tag, rest) = rest.split_first()?;
     let (last, rest) = stamp_at(rest)?;
     match tag {
-        1 => Some((Entry { page, hist: Hist::Once(last) }, rest)),
+        1 => Some((Entry { page, hist: Hist::once(last) }, rest)),
         2 => {
             let (prev, rest) = stamp_at(rest)?;
-            (prev < last).then_some((Entry { page, hist: Hist::Twice { last, prev } }, rest))
+            Some((Entry { page, hist: Hist::twice(last, prev)? }, rest))
         }
         _ => None,
     }
@@ -228,28 +229,23 @@ fn size_of(header: &[u8]) -> Option<Option<usize>> {
 }
 
 /// Computes the digests of a set of buckets again.
-pub fn renew(digests: &mut [[u8; 32]], mask: u64, history: impl Iterator<Item = Entry>) {
-    if mask == 0 {
-        return;
-    }
-    let mut hashers: Vec<Sha256> = (0..64).map(|_| Sha256::new()).collect();
+pub fn renew(digests: &mut [[u8; 32]], mask: u64, history: &History) {
     let mut bytes = Vec::with_capacity(31);
-    for entry in history {
-        let bucket = entry.page.bucket();
-        if mask >> bucket & 1 == 1 {
+    for (bucket, digest) in digests.iter_mut().enumerate() {
+        if mask >> bucket & 1 == 0 {
+            continue;
+        }
+        let mut hasher = Sha256::new();
+        for entry in history.bucket(bucket) {
             bytes.clear();
             put_entry(&mut bytes, &entry);
-            hashers[bucket].update(&bytes);
+            hasher.update(&bytes);
         }
-    }
-    for (bucket, hasher) in hashers.into_iter().enumerate() {
-        if mask >> bucket & 1 == 1 {
-            digests[bucket] = hasher.finalize();
-        }
+        *digest = hasher.finalize();
     }
 }
 
-pub fn digests(history: impl Iterator<Item = Entry>) -> Vec<[u8; 32]> {
+pub fn digests(history: &History) -> Vec<[u8; 32]> {
     let mut digests = vec![[0; 32]; 64];
     renew(&mut digests, u64::MAX, history);
     digests

@@ -1,12 +1,20 @@
 //! What is known of a page, in plain Rust, for the programs that the proved ones are measured beside.
 
+/// Of 10 bytes, as pages are, so that a map has little memory to go over.
 #[derive(Clone, Copy, PartialEq, Eq, PartialOrd, Ord)]
+#[repr(packed(2))]
 pub struct Stamp {
     pub time: u64,
     pub replica: u16,
 }
 
+impl Stamp {
+    /// Less than every stamp, as replicas are numbered from 1. It stands for a stamp that is not there.
+    const NONE: Stamp = Stamp { time: 0, replica: 0 };
+}
+
 #[derive(Clone, Copy, PartialEq, Eq, PartialOrd, Ord, Hash)]
+#[repr(packed(2))]
 pub struct Page {
     pub dev: u16,
     pub no: u64,
@@ -19,49 +27,63 @@ impl Page {
     }
 }
 
-#[derive(Clone, Copy, PartialEq, Eq)]
-pub enum Hist {
-    Once(Stamp),
-    Twice { last: Stamp, prev: Stamp },
+/// The two latest stamps of a page, or its only one. The order is that of ranks: a page of one stamp is less than every page of two, and
+/// of two pages of two stamps the one whose second latest is earlier is less.
+#[derive(Clone, Copy, PartialEq, Eq, PartialOrd, Ord)]
+pub struct Hist {
+    prev: Stamp,
+    last: Stamp,
+}
+
+impl Hist {
+    pub fn once(last: Stamp) -> Hist {
+        Hist { prev: Stamp::NONE, last }
+    }
+
+    /// `None` where the stamps are not in order.
+    pub fn twice(last: Stamp, prev: Stamp) -> Option<Hist> {
+        (prev < last).then_some(Hist { prev, last })
+    }
+
+    pub fn last(self) -> Stamp {
+        self.last
+    }
+
+    pub fn prev(self) -> Option<Stamp> {
+        self.is_twice().then_some(self.prev)
+    }
+
+    pub fn is_twice(self) -> bool {
+        self.prev.replica != 0
+    }
+
+    /// Takes in a further stamp.
+    pub fn see(&mut self, stamp: Stamp) {
+        if stamp > self.last {
+            self.prev = self.last;
+            self.last = stamp;
+        } else if stamp < self.last && stamp > self.prev {
+            self.prev = stamp;
+        }
+    }
+
+    /// Takes in what else is known of the page.
+    pub fn join(&mut self, more: Hist) {
+        self.see(more.last);
+        self.see(more.prev);
+    }
+
+    /// Forgets the stamps before a time. Says whether one is left.
+    pub fn forget(&mut self, horizon: u64) -> bool {
+        if self.prev.time < horizon {
+            self.prev = Stamp::NONE;
+        }
+        horizon <= self.last.time
+    }
 }
 
 #[derive(Clone, Copy)]
 pub struct Entry {
     pub page: Page,
     pub hist: Hist,
-}
-
-pub fn with(hist: Hist, stamp: Stamp) -> Hist {
-    match hist {
-        Hist::Once(last) if last < stamp => Hist::Twice { last: stamp, prev: last },
-        Hist::Once(last) if stamp < last => Hist::Twice { last, prev: stamp },
-        Hist::Twice { last, .. } if last < stamp => Hist::Twice { last: stamp, prev: last },
-        Hist::Twice { last, prev } if stamp < last && prev < stamp => Hist::Twice { last, prev: stamp },
-        _ => hist,
-    }
-}
-
-/// Forgets the stamps before a time. Says whether one is left.
-pub fn forget(hist: &mut Hist, horizon: u64) -> bool {
-    match *hist {
-        Hist::Once(last) => horizon <= last.time,
-        Hist::Twice { last, prev } => {
-            if prev.time < horizon {
-                *hist = Hist::Once(last);
-            }
-            horizon <= last.time
-        }
-    }
-}
-
-/// What is left of it from a time on.
-pub fn since(mut hist: Hist, horizon: u64) -> Option<Hist> {
-    forget(&mut hist, horizon).then_some(hist)
-}
-
-pub fn join(a: Hist, b: Hist) -> Hist {
-    match a {
-        Hist::Once(last) => with(b, last),
-        Hist::Twice { last, prev } => with(with(b, prev), last),
-    }
 }

@@ -3,4 +3,6 @@
 
 pub mod frames;
 pub mod hist;
+pub mod history;
 pub mod sha256;
+pub mod text;

@@ -26,7 +26,7 @@ from busy import all_processors_busy  # noqa: E402
 OURS = [HERE.parent.parent / "crates/benches/out/benches", "replica"]
 RUNS = 11
 CROWDS = [1, 2, 4]
-PLAIN = ["map", "node", "buckets"]
+PLAIN = ["history", "node"]
 LINE = re.compile(r"workers (\d): (\d+) in (\d+) ns")
 
 
@@ -67,7 +67,7 @@ def main() -> None:
         plain = Path(folder) / "plain"
         subprocess.run(["rustc", "-O", "--edition", "2024", "-o", plain, HERE / "plain.rs"], check=True)
         commands = {"ours": (OURS, [])} | {name: ([plain], [name]) for name in PLAIN}
-        heads = [f"a plain {name} | ours to it | middle" for name in ["map", "node", "node of 64 maps"]]
+        heads = [f"a plain {name} | ours to it | middle" for name in PLAIN]
         print(f"| processors | workers | ours, million a second | {' | '.join(heads)} |")
         print("|---" * (3 + 3 * len(heads)) + "|")
         for are_busy in {"idle": [False], "busy": [True], "both": [False, True]}[when]:

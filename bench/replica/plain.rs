@@ -1,16 +1,15 @@
 //! The workers of `benches replica` in plain Rust, over one replica behind a `std::sync::Mutex`, for the same measurements.
 //!
-//! `plain WORKERS REFERENCES PAGES [map|node|buckets]`: WORKERS workers bring REFERENCES references each, to PAGES pages, by buffers of
-//! 64. With `map` the replica is a `BTreeMap` of the two latest stamps of each page. With `node` it also does what a node does beside:
-//! it keeps what was known, to put it back where memory runs out, marks the buckets whose digests are to be computed again, and looks each page
-//! up among those in frames. With `buckets` it is such a node that keeps a map for each bucket.
+//! `plain WORKERS REFERENCES PAGES [history|node]`: WORKERS workers bring REFERENCES references each, to PAGES pages, by buffers of 64.
+//! With `history` the replica is a history, a map for each bucket. With `node` it also does what a node does beside: it marks the buckets
+//! whose digests are to be computed again, and looks each page up among those in frames.
 
 #[path = "../parts/mod.rs"]
 mod parts;
 
-use parts::hist::{Hist, Page, Stamp, join, since};
-use std::collections::btree_map::Entry as Slot;
-use std::collections::{BTreeMap, HashMap};
+use parts::hist::{Hist, Page, Stamp};
+use parts::history::History;
+use std::collections::HashMap;
 use std::hint::black_box;
 use std::sync::Mutex;
 use std::time::Instant;
@@ -41,88 +40,55 @@ fn reference(load: Load, worker: u64, i: u64, drawn: u64) -> Reference {
 
 trait Replica: Send {
     fn absorb(&mut self, batch: &[Reference]);
-    fn maps(&self) -> &[BTreeMap<Page, Hist>];
+    fn history(&self) -> &History;
 }
 
-const BUCKETS: usize = 64;
-
-/// A map, and the time before which references are dropped. It is 0, which the compiler is not to know: each is compared with it.
-struct Map {
-    horizon: u64,
-    history: [BTreeMap<Page, Hist>; 1],
+// A reference is compared with the horizon of a history. It is 0, which the compiler is not to know.
+fn new_history() -> History {
+    let mut history = History::new();
+    history.horizon = black_box(0);
+    history
 }
 
-impl Map {
-    fn new() -> Map {
-        Map { horizon: black_box(0), history: [BTreeMap::new()] }
-    }
-}
-
-impl Replica for Map {
+impl Replica for History {
     fn absorb(&mut self, batch: &[Reference]) {
         for seen in batch {
-            let Some(more) = since(Hist::Once(seen.stamp), self.horizon) else { continue };
-            match self.history[0].entry(seen.page) {
-                Slot::Occupied(mut slot) => {
-                    let known = slot.get_mut();
-                    *known = join(more, *known);
-                }
-                Slot::Vacant(slot) => {
-                    slot.insert(more);
-                }
-            }
+            self.see(seen.page, seen.stamp);
         }
     }
 
-    fn maps(&self) -> &[BTreeMap<Page, Hist>] {
-        &self.history
+    fn history(&self) -> &History {
+        self
     }
 }
 
-/// A node with one map, or with one for each bucket.
-struct Node<const MAPS: usize> {
-    horizon: u64,
-    histories: [BTreeMap<Page, Hist>; MAPS],
+struct Node {
+    history: History,
     changed: u64,
     frames: HashMap<Page, usize>,
     ranks: Vec<Hist>,
 }
 
-impl<const MAPS: usize> Node<MAPS> {
-    fn new() -> Self {
-        let histories = [const { BTreeMap::new() }; MAPS];
-        Node { horizon: black_box(0), histories, changed: 0, frames: HashMap::new(), ranks: Vec::new() }
+impl Node {
+    fn new() -> Node {
+        Node { history: new_history(), changed: 0, frames: HashMap::new(), ranks: Vec::new() }
     }
 }
 
-impl<const MAPS: usize> Replica for Node<MAPS> {
+impl Replica for Node {
     fn absorb(&mut self, batch: &[Reference]) {
-        let mut undo: Vec<(Page, Option<Hist>)> = Vec::with_capacity(batch.len());
         for seen in batch {
-            let Some(more) = since(Hist::Once(seen.stamp), self.horizon) else { continue };
-            match self.histories[seen.page.bucket() % MAPS].entry(seen.page) {
-                Slot::Occupied(mut slot) => {
-                    let known = *slot.get();
-                    slot.insert(join(more, known));
-                    undo.push((seen.page, Some(known)));
-                }
-                Slot::Vacant(slot) => {
-                    slot.insert(more);
-                    undo.push((seen.page, None));
-                }
-            }
-        }
-        black_box(&undo);
-        for seen in batch {
+            let Some(known) = self.history.see(seen.page, seen.stamp) else { continue };
             self.changed |= 1 << seen.page.bucket();
             if let Some(at) = self.frames.get(&seen.page) {
-                self.ranks[*at] = self.histories[seen.page.bucket() % MAPS][&seen.page];
+                self.ranks[*at] = known;
             }
         }
+        black_box(self.changed);
     }
 
-    fn maps(&self) -> &[BTreeMap<Page, Hist>] {
-        &self.histories
+    fn history(&self) -> &History {
+        &self.history
     }
 }
 
@@ -145,18 +111,8 @@ fn bring(replica: &Mutex<impl Replica>, worker: u64, load: Load) {
     flush(replica, &mut buffer);
 }
 
-/// A page of two references is hotter than one of one; then its second latest counts, then its latest.
-fn heat(page: Page, hist: Hist) -> (Option<Stamp>, Stamp, Page) {
-    match hist {
-        Hist::Once(last) => (None, last, page),
-        Hist::Twice { last, prev } => (Some(prev), last, page),
-    }
-}
-
-fn sum_of(maps: &[BTreeMap<Page, Hist>]) -> u64 {
-    let mut ranks: Vec<_> = maps.iter().flatten().map(|(page, hist)| heat(*page, *hist)).collect();
-    ranks.sort_unstable();
-    ranks.iter().rev().take(HOTTEST).fold(0u64, |sum, rank| sum.wrapping_mul(31).wrapping_add(rank.2.no))
+fn sum_of(history: &History) -> u64 {
+    history.hottest(HOTTEST).iter().fold(0u64, |sum, page| sum.wrapping_mul(31).wrapping_add(page.no))
 }
 
 fn run(replica: impl Replica, workers: u64, load: Load) {
@@ -174,17 +130,16 @@ fn run(replica: impl Replica, workers: u64, load: Load) {
     }
     let spent = start.elapsed();
     let replica = replica.into_inner().expect("no worker panics");
-    println!("workers {workers}: {} in {} ns", sum_of(replica.maps()), spent.as_nanos());
+    println!("workers {workers}: {} in {} ns", sum_of(replica.history()), spent.as_nanos());
 }
 
 fn main() {
     let words: Vec<String> = std::env::args().skip(1).collect();
     let number = |i: usize| words[i].parse::<u64>().expect("a number");
     let load = Load { references: number(1), pages: number(2) };
-    match words.get(3).map_or("map", String::as_str) {
-        "map" => run(Map::new(), number(0), load),
-        "node" => run(Node::<1>::new(), number(0), load),
-        "buckets" => run(Node::<BUCKETS>::new(), number(0), load),
-        _ => panic!("map, node or buckets"),
+    match words.get(3).map_or("history", String::as_str) {
+        "history" => run(new_history(), number(0), load),
+        "node" => run(Node::new(), number(0), load),
+        _ => panic!("history or node"),
     }
 }

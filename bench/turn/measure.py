@@ -1,12 +1,15 @@
 #!/usr/bin/env python3
-"""Measures turns a second beside a std::sync::Mutex round the same counter, with 1, 2, 4 and 8 threads, and the
-processor time of a turn; and prints the tables of docs/PERFORMANCE.md.
+"""Measures turns a second beside a std::sync::Mutex round the same counter, with 1, 2, 4 and 8 threads, the processor
+time of a turn and the longest wait of a call; and prints the tables of docs/PERFORMANCE.md.
 
 usage: measure.py [idle|busy|both] [TURNS]      both, and 2,000,000 turns in all threads together, where nothing is said
 
-For `busy` as many other processes as there are processors each keep one busy meanwhile. It wants the proved program
-(`rt run` in crates/benches leaves it as crates/benches/out/benches) and `rustc`. Both programs run in turn, nine
-times, and the fastest run of each counts, and its least processor time. Every total must be what was asked for.
+First of a counter, then of one that sleeps for a millisecond in each call, as a machine over a slow device does, with a
+thousandth of the turns. For `busy` as many other processes as there are processors each keep one busy meanwhile. It wants
+the proved program (`rt run` in crates/benches leaves it as crates/benches/out/benches) and `rustc`. Both programs run in
+turn, nine times, and the fastest run of each counts, and its least processor time. The longest wait is that of all calls of
+nine further runs, in which each call is timed; of a counter that sleeps each call is timed in all runs. Every total must be
+what was asked for.
 """
 
 import os
@@ -15,6 +18,7 @@ import subprocess
 import sys
 import tempfile
 from pathlib import Path
+from typing import NamedTuple
 
 HERE = Path(__file__).resolve().parent
 sys.path.insert(0, str(HERE.parent))
@@ -23,30 +27,48 @@ from busy import all_processors_busy  # noqa: E402
 TURN = [HERE.parent.parent / "crates/benches/out/benches", "turn"]
 RUNS = 9
 CROWDS = [1, 2, 4, 8]
-LINE = re.compile(r"(\d) threads?: (\d+) in (\d+) ns")
+LINE = re.compile(r"(\d) threads?: (\d+) in (\d+) ns(?:, (\d+) ns)?")
 
 
-def one_run(command: list, threads: int, turns: int) -> tuple[float, float]:
-    """Turns a second, and nanoseconds of processor time a turn, user's and system's."""
-    with subprocess.Popen([*command, str(threads), str(turns // threads)], stdout=subprocess.PIPE, text=True) as running:
+class Ran(NamedTuple):
+    speed: float  # turns a second
+    used: float  # nanoseconds of processor time a turn, the user's and the system's
+    longest: float  # nanoseconds of the longest call, where each was timed
+
+
+def one_run(command: list, threads: int, turns: int, kind: list[str]) -> Ran:
+    words = [*command, str(threads), str(turns // threads), *kind]
+    with subprocess.Popen(words, stdout=subprocess.PIPE, text=True) as running:
         said = running.stdout.read()
         _, status, used = os.wait4(running.pid, 0)
         running.returncode = os.waitstatus_to_exitcode(status)
     assert running.returncode == 0, f"{command} ended with {running.returncode}"
-    counted, total, spent = (int(it) for it in LINE.fullmatch(said.strip()).groups())
+    counted, total, spent, longest = (int(it or 0) for it in LINE.fullmatch(said.strip()).groups())
     assert counted == threads and total == turns // threads * threads, f"{command}: {said}"
-    return total / spent * 1e9, (used.ru_utime + used.ru_stime) / total * 1e9
+    return Ran(total / spent * 1e9, (used.ru_utime + used.ru_stime) / total * 1e9, longest)
 
 
-def measured(commands: dict[str, list], turns: int) -> dict[tuple[str, int], tuple[float, float]]:
-    best = {}
+def measured(commands: dict[str, list], turns: int, kinds: list[list[str]]) -> dict[tuple[str, int], Ran]:
+    """Of the first kind the most speed and the least processor time, and of all kinds the longest wait."""
+    best: dict[tuple[str, int], Ran] = {}
     for _ in range(RUNS):
         for threads in CROWDS:
             for name, command in commands.items():
-                speed, used = one_run(command, threads, turns)
-                known = best.get((name, threads), (0, float("inf")))
-                best[name, threads] = max(speed, known[0]), min(used, known[1])
+                runs = [one_run(command, threads, turns, kind) for kind in kinds]
+                known = best.get((name, threads), Ran(0, float("inf"), 0))
+                longest = max(it.longest for it in [known, *runs])
+                best[name, threads] = Ran(max(runs[0].speed, known.speed), min(runs[0].used, known.used), longest)
     return best
+
+
+def print_table(load: str, unit: str, per: float, best: dict[tuple[str, int], Ran]) -> None:
+    for threads in CROWDS:
+        turn, lock = best["turn", threads], best["mutex", threads]
+        print(
+            f"| {load} | {threads} | {turn.speed / per:.2f} {unit} | {lock.speed / per:.2f} | {turn.speed / lock.speed:.2f} "
+            f"| {turn.used:.0f} | {lock.used:.0f} | {turn.longest / 1e6:.3f} | {lock.longest / 1e6:.3f} |",
+            flush=True,
+        )
 
 
 def main() -> None:
@@ -56,17 +78,14 @@ def main() -> None:
     with tempfile.TemporaryDirectory() as folder:
         mutex = Path(folder) / "mutex"
         subprocess.run(["rustc", "-O", "--edition", "2024", "-o", mutex, HERE / "mutex.rs"], check=True)
-        print("| processors | threads | turn, million a second | Mutex | turn to Mutex | turn, ns of processor | Mutex |")
-        print("|---|---|---|---|---|---|---|")
+        commands = {"turn": TURN, "mutex": [mutex]}
+        heads = "turn, a second | Mutex | turn to Mutex | turn, ns of processor | Mutex | turn, longest wait, ms | Mutex"
+        print(f"| processors | threads | {heads} |\n|---|---|---|---|---|---|---|---|---|")
         for are_busy in {"idle": [False], "busy": [True], "both": [False, True]}[when]:
+            load = "busy" if are_busy else "idle"
             with all_processors_busy(are_busy):
-                best = measured({"turn": TURN, "mutex": [mutex]}, turns)
-            for threads in CROWDS:
-                (turn, turn_used), (lock, lock_used) = best["turn", threads], best["mutex", threads]
-                print(
-                    f"| {'busy' if are_busy else 'idle'} | {threads} | {turn / 1e6:.2f} | {lock / 1e6:.2f} "
-                    f"| {turn / lock:.2f} | {turn_used:.0f} | {lock_used:.0f} |"
-                )
+                print_table(load, "million", 1e6, measured(commands, turns, [[], ["waits"]]))
+                print_table(f"{load}, calls of 1 ms", "", 1, measured(commands, max(turns // 1000, 8), [["slow"]]))
 
 
 if __name__ == "__main__":

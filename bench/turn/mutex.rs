@@ -1,10 +1,12 @@
 //! The counter of `benches turn` behind a `std::sync::Mutex`, for the same measurements.
 //!
-//! `mutex THREADS TURNS`: THREADS threads add TURNS times each, and the total and the nanoseconds are printed.
+//! `mutex THREADS TURNS`: THREADS threads add TURNS times each, and the total and the nanoseconds are printed. With the word `waits` after
+//! these also the nanoseconds of the longest call, with `slow` the same of a counter that sleeps for a millisecond in each call.
 
 use std::hint::black_box;
 use std::sync::Mutex;
-use std::time::Instant;
+use std::thread;
+use std::time::{Duration, Instant};
 
 enum Added {
     Total(u64),
@@ -13,10 +15,14 @@ enum Added {
 
 struct Counter {
     total: u64,
+    sleeps: bool,
 }
 
 impl Counter {
     fn call(&mut self, more: u64) -> Added {
+        if self.sleeps {
+            thread::sleep(Duration::from_millis(1));
+        }
         match self.total.checked_add(more) {
             Some(total) => {
                 self.total = total;
@@ -27,38 +33,63 @@ impl Counter {
     }
 }
 
-fn add_ones(counter: &Mutex<Counter>, turns: u64) {
-    for _ in 0..turns {
-        let reply = counter.lock().expect("no thread panics").call(black_box(1));
-        match black_box(reply) {
-            Added::Total(total) => drop(black_box(total)),
-            Added::Overflow => unreachable!(),
-        }
+fn add_one(counter: &Mutex<Counter>) {
+    let reply = counter.lock().expect("no thread panics").call(black_box(1));
+    match black_box(reply) {
+        Added::Total(total) => drop(black_box(total)),
+        Added::Overflow => unreachable!(),
     }
 }
 
-fn count(threads: usize, turns: u64) -> u64 {
-    let counter = Mutex::new(Counter { total: 0 });
-    if threads == 1 {
-        add_ones(&counter, turns);
-    } else {
-        std::thread::scope(|scope| {
-            for _ in 0..threads {
-                scope.spawn(|| add_ones(&counter, turns));
-            }
-        });
+// Says how long the longest call took, where that is asked.
+fn add_ones(counter: &Mutex<Counter>, turns: u64, is_timed: bool) -> Duration {
+    let mut longest = Duration::ZERO;
+    for _ in 0..turns {
+        if is_timed {
+            let start = Instant::now();
+            add_one(counter);
+            longest = longest.max(start.elapsed());
+        } else {
+            add_one(counter);
+        }
     }
-    counter.into_inner().expect("no thread panics").total
+    longest
+}
+
+// The total, and how long the longest call took.
+fn count(threads: usize, turns: u64, sleeps: bool, is_timed: bool) -> (u64, Duration) {
+    let counter = Mutex::new(Counter { total: 0, sleeps });
+    let longest = if threads == 1 {
+        add_ones(&counter, turns, is_timed)
+    } else {
+        thread::scope(|scope| {
+            let add = || add_ones(&counter, turns, is_timed);
+            let all: Vec<_> = (0..threads).map(|_| scope.spawn(add)).collect();
+            all.into_iter().map(|one| one.join().expect("no thread panics")).max().unwrap_or_default()
+        })
+    };
+    (counter.into_inner().expect("no thread panics").total, longest)
 }
 
 fn main() {
-    let mut words = std::env::args().skip(1).map(|word| word.parse::<u64>().expect("a number"));
-    let (Some(threads), Some(turns)) = (words.next(), words.next()) else {
-        panic!("mutex THREADS TURNS")
+    let words: Vec<String> = std::env::args().skip(1).collect();
+    let words: Vec<&str> = words.iter().map(String::as_str).collect();
+    let number = |word: &str| word.parse::<u64>().expect("a number");
+    let [threads, turns, ref rest @ ..] = words[..] else { panic!("mutex THREADS TURNS, and waits or slow") };
+    let (threads, turns) = (number(threads), number(turns));
+    let (sleeps, is_timed) = match rest {
+        [] => (false, false),
+        ["waits"] => (false, true),
+        ["slow"] => (true, true),
+        _ => panic!("waits or slow"),
     };
     let start = Instant::now();
-    let total = count(threads as usize, turns);
+    let (total, longest) = count(threads as usize, turns, sleeps, is_timed);
     let spent = start.elapsed();
     let name = if threads == 1 { "thread" } else { "threads" };
-    println!("{threads} {name}: {total} in {} ns", spent.as_nanos());
+    if is_timed {
+        println!("{threads} {name}: {total} in {} ns, {} ns", spent.as_nanos(), longest.as_nanos());
+    } else {
+        println!("{threads} {name}: {total} in {} ns", spent.as_nanos());
+    }
 }

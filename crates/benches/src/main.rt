@@ -75,7 +75,7 @@ fn play<T: Threads + Wait + Clock + Print + AllocGlobal + Sync>(
     words: &[String],
 ) -> Result<()> {
     match bench {
-        Bench::Turn => turn::play(threads, words),
+        Bench::Turn => turn::play(threads, *rt, words),
         Bench::History => history::play(rt, words),
         Bench::Pool => pool::play(rt, words),
         Bench::Frames => frames::play(rt, words),

@@ -2,7 +2,9 @@
 //!
 //! With no word each thread takes 1,000 turns, and the totals are printed. With two numbers,
 //! `THREADS TURNS`, 1, 2, 4 or 8 threads take that many turns each, and the nanoseconds are printed
-//! too, for `bench/turn/measure.py`.
+//! too, for `bench/turn/measure.py`; with the word `waits` after them also the nanoseconds of the
+//! longest call; and with `slow` the same of a counter that sleeps for a millisecond in each call,
+//! as a machine over a slow device does.
 ghost use Rattle.std.specs.Prelude.{◌≡◌};
 ghost use Rattle.std.specs.Thread.{IsSend, IsSync};
 
@@ -11,101 +13,151 @@ use std::alloc::Global;
 use std::io::Print;
 use std::sync::Wait;
 use std::thread::{Threads, join};
-use std::time::{Clock, Instant};
+use std::time::{Clock, Duration, Instant};
+use std::{io, thread};
 use warm_turn::{Add, Added, Counter, Machine, Pass, Turn};
 
-// Takes this many turns.
-fn add_ones<M: Machine<Call = Add, Reply = Added>, R: Wait>(
+// A counter that sleeps for a millisecond in each call.
+#[derive(Drop)]
+struct SlowCounter {
+    clock: HostRuntime,
+    counter: Counter,
+}
+
+impl Machine for SlowCounter {
+    ghost use Rattle.warm_turn.specs.Counting.{Counts};
+
+    type Call = Add;
+
+    type Reply = Added;
+
+    type State = u64;
+
+    ghost view = { λ s. s.counter.total };
+
+    ghost goes = { Counts };
+
+    fn call(&mut self, call: Add) -> Added {
+        thread::sleep(&self.clock, Duration::from_millis(1));
+        self.counter.call(call)
+    }
+}
+
+// The nanoseconds since then, or 0 where the clock cannot say.
+fn nanos_since<R: Clock>(rt: &R, start: io::Result<Instant>) -> u64 {
+    let Ok(start) = start else {
+        return 0;
+    };
+    match start.elapsed(rt) {
+        Ok(spent) => u64::try_from(spent.as_nanos()).unwrap_or(u64::MAX),
+        Err(_) => 0,
+    }
+}
+
+// Takes this many turns, and says how many nanoseconds the longest of them took, or 0 where that
+// is not asked.
+fn add_ones<M: Machine<Call = Add, Reply = Added>, R: Wait + Clock>(
     rt: &R,
     turn: &Turn<M>,
     mut pass: Pass<M>,
     turns: u64,
-) -> Pass<M>
+    is_timed: bool,
+) -> (Pass<M>, u64)
     requires { pass.table ≡ turn.now.table }
-    ensures { result.table ≡ turn.now.table }
+    ensures { result.0.table ≡ turn.now.table }
 {
+    let mut longest = 0u64;
     for _ in 0..turns {
-        let _ = turn.call(rt, &mut pass, Add(1));
+        if is_timed {
+            let start = Instant::now(rt);
+            let _ = turn.call(rt, &mut pass, Add(1));
+            longest = longest.max(nanos_since(rt, start));
+        } else {
+            let _ = turn.call(rt, &mut pass, Add(1));
+        }
     }
-    pass
+    (pass, longest)
 }
 
 // Two threads take this many turns each, and their passes are ended into this one.
-fn add_in_two<M: Machine<Call = Add, Reply = Added> + Send, R: Threads + Wait + Sync>(
+fn add_in_two<M: Machine<Call = Add, Reply = Added> + Send, R: Threads + Wait + Clock + Sync>(
     rt: &R,
     turn: &Turn<M>,
     mut pass: Pass<M>,
     turns: u64,
-) -> Pass<M>
+    is_timed: bool,
+) -> (Pass<M>, u64)
     requires { pass.table ≡ turn.now.table }
-    ensures { result.table ≡ turn.now.table }
+    ensures { result.0.table ≡ turn.now.table }
 {
     let other = turn.pass(&mut pass);
-    let (mut pass, other) = join(
+    let ((mut pass, first), (other, second)) = join(
         rt,
-        move || -> Pass<M>
+        move || -> (Pass<M>, u64)
             requires { pass.table ≡ turn.now.table }
-            ensures { result.table ≡ turn.entry.now.table }
-        { add_ones(rt, turn, pass, turns) },
-        move || -> Pass<M>
+            ensures { result.0.table ≡ turn.entry.now.table }
+        { add_ones(rt, turn, pass, turns, is_timed) },
+        move || -> (Pass<M>, u64)
             requires { other.table ≡ turn.now.table }
-            ensures { result.table ≡ turn.entry.now.table }
-        { add_ones(rt, turn, other, turns) },
+            ensures { result.0.table ≡ turn.entry.now.table }
+        { add_ones(rt, turn, other, turns, is_timed) },
     );
     turn.end(&mut pass, other);
-    pass
+    (pass, first.max(second))
 }
 
 // The same with four threads.
-fn add_in_four<M: Machine<Call = Add, Reply = Added> + Send, R: Threads + Wait + Sync>(
+fn add_in_four<M: Machine<Call = Add, Reply = Added> + Send, R: Threads + Wait + Clock + Sync>(
     rt: &R,
     turn: &Turn<M>,
     mut pass: Pass<M>,
     turns: u64,
-) -> Pass<M>
+    is_timed: bool,
+) -> (Pass<M>, u64)
     requires { pass.table ≡ turn.now.table }
-    ensures { result.table ≡ turn.now.table }
+    ensures { result.0.table ≡ turn.now.table }
 {
     let other = turn.pass(&mut pass);
-    let (mut pass, other) = join(
+    let ((mut pass, first), (other, second)) = join(
         rt,
-        move || -> Pass<M>
+        move || -> (Pass<M>, u64)
             requires { IsSend M.row × IsSync R.row × (pass.table ≡ turn.now.table) }
-            ensures { result.table ≡ turn.entry.now.table }
-        { add_in_two(rt, turn, pass, turns) },
-        move || -> Pass<M>
+            ensures { result.0.table ≡ turn.entry.now.table }
+        { add_in_two(rt, turn, pass, turns, is_timed) },
+        move || -> (Pass<M>, u64)
             requires { IsSend M.row × IsSync R.row × (other.table ≡ turn.now.table) }
-            ensures { result.table ≡ turn.entry.now.table }
-        { add_in_two(rt, turn, other, turns) },
+            ensures { result.0.table ≡ turn.entry.now.table }
+        { add_in_two(rt, turn, other, turns, is_timed) },
     );
     turn.end(&mut pass, other);
-    pass
+    (pass, first.max(second))
 }
 
 // The same with eight threads.
-fn add_in_eight<M: Machine<Call = Add, Reply = Added> + Send, R: Threads + Wait + Sync>(
+fn add_in_eight<M: Machine<Call = Add, Reply = Added> + Send, R: Threads + Wait + Clock + Sync>(
     rt: &R,
     turn: &Turn<M>,
     mut pass: Pass<M>,
     turns: u64,
-) -> Pass<M>
+    is_timed: bool,
+) -> (Pass<M>, u64)
     requires { pass.table ≡ turn.now.table }
-    ensures { result.table ≡ turn.now.table }
+    ensures { result.0.table ≡ turn.now.table }
 {
     let other = turn.pass(&mut pass);
-    let (mut pass, other) = join(
+    let ((mut pass, first), (other, second)) = join(
         rt,
-        move || -> Pass<M>
+        move || -> (Pass<M>, u64)
             requires { IsSend M.row × IsSync R.row × (pass.table ≡ turn.now.table) }
-            ensures { result.table ≡ turn.entry.now.table }
-        { add_in_four(rt, turn, pass, turns) },
-        move || -> Pass<M>
+            ensures { result.0.table ≡ turn.entry.now.table }
+        { add_in_four(rt, turn, pass, turns, is_timed) },
+        move || -> (Pass<M>, u64)
             requires { IsSend M.row × IsSync R.row × (other.table ≡ turn.now.table) }
-            ensures { result.table ≡ turn.entry.now.table }
-        { add_in_four(rt, turn, other, turns) },
+            ensures { result.0.table ≡ turn.entry.now.table }
+        { add_in_four(rt, turn, other, turns, is_timed) },
     );
     turn.end(&mut pass, other);
-    pass
+    (pass, first.max(second))
 }
 
 #[derive(Clone, Copy)]
@@ -140,52 +192,133 @@ impl Crowd {
     }
 }
 
-// The total that the crowd counts to from 0.
-fn count<R: Threads + Wait + Sync>(rt: &R, alloc: Global, crowd: Crowd, turns: u64) -> Result<u64> {
-    let Ok((turn, pass)) = Turn::new(alloc, Counter { total: 0 }) else {
-        bail!("no memory")
-    };
-    let pass = match crowd {
-        Crowd::One => add_ones(rt, &turn, pass, turns),
-        Crowd::Two => add_in_two(rt, &turn, pass, turns),
-        Crowd::Four => add_in_four(rt, &turn, pass, turns),
-        Crowd::Eight => add_in_eight(rt, &turn, pass, turns),
-    };
-    let Ok(counter) = turn.close(pass) else {
-        bail!("a ticket was not passed on")
-    };
-    Ok(counter.total)
+// What is counted: plainly, with each call timed, or by a machine that sleeps and with each call timed.
+#[derive(Clone, Copy)]
+enum Kind {
+    Plain,
+    Timed,
+    Slow,
 }
 
-// Has the crowd count, and prints the total and how long it took.
-fn time<R: Threads + Wait + Sync + Clock + Print>(
+// The pass after the crowd's turns, and how long the longest took.
+fn counted<M: Machine<Call = Add, Reply = Added> + Send, R: Threads + Wait + Clock + Sync>(
+    rt: &R,
+    turn: &Turn<M>,
+    pass: Pass<M>,
+    crowd: Crowd,
+    turns: u64,
+    is_timed: bool,
+) -> (Pass<M>, u64)
+    requires { pass.table ≡ turn.now.table }
+    ensures { result.0.table ≡ turn.now.table }
+{
+    match crowd {
+        Crowd::One => add_ones(rt, turn, pass, turns, is_timed),
+        Crowd::Two => add_in_two(rt, turn, pass, turns, is_timed),
+        Crowd::Four => add_in_four(rt, turn, pass, turns, is_timed),
+        Crowd::Eight => add_in_eight(rt, turn, pass, turns, is_timed),
+    }
+}
+
+// The total that the crowd counts to from 0, and the nanoseconds of the longest call.
+fn count<R: Threads + Wait + Clock + Sync>(
     rt: &R,
     alloc: Global,
     crowd: Crowd,
     turns: u64,
+    is_timed: bool,
+) -> Result<(u64, u64)> {
+    let Ok((turn, pass)) = Turn::new(alloc, Counter { total: 0 }) else {
+        bail!("no memory")
+    };
+    let (pass, longest) = counted(rt, &turn, pass, crowd, turns, is_timed);
+    let Ok(counter) = turn.close(pass) else {
+        bail!("a ticket was not passed on")
+    };
+    Ok((counter.total, longest))
+}
+
+// The same of a machine that sleeps.
+fn count_slowly<R: Threads + Wait + Clock + Sync>(
+    rt: &R,
+    alloc: Global,
+    clock: HostRuntime,
+    crowd: Crowd,
+    turns: u64,
+) -> Result<(u64, u64)> {
+    let counter = Counter { total: 0 };
+    let Ok((turn, pass)) = Turn::new(alloc, SlowCounter { clock, counter }) else {
+        bail!("no memory")
+    };
+    let (pass, longest) = counted(rt, &turn, pass, crowd, turns, true);
+    let Ok(slow) = turn.close(pass) else {
+        bail!("a ticket was not passed on")
+    };
+    Ok((slow.counter.total, longest))
+}
+
+// Has the crowd count, and prints the total, how long it took, and how long the longest call took where
+// that was asked.
+fn time<R: Threads + Wait + Clock + Print + AllocGlobal + Sync>(
+    rt: &R,
+    clock: HostRuntime,
+    kind: Kind,
+    crowd: Crowd,
+    turns: u64,
 ) -> Result<()> {
     let start = Instant::now(rt)?;
-    let total = count(rt, alloc, crowd, turns)?;
-    let spent = start.elapsed(rt)?;
-    println!(rt; "{}: {} in {} ns", crowd.name(), total, spent.as_nanos())?;
+    let (total, longest) = match kind {
+        Kind::Plain => count(rt, rt.alloc(), crowd, turns, false)?,
+        Kind::Timed => count(rt, rt.alloc(), crowd, turns, true)?,
+        Kind::Slow => count_slowly(rt, rt.alloc(), clock, crowd, turns)?,
+    };
+    let spent = start.elapsed(rt)?.as_nanos();
+    match kind {
+        Kind::Plain => println!(rt; "{}: {} in {} ns", crowd.name(), total, spent)?,
+        Kind::Timed | Kind::Slow => {
+            println!(rt;
+                "{}: {} in {} ns, {} ns",
+                crowd.name(),
+                total,
+                spent,
+                longest
+            )?
+        }
+    }
     Ok(())
+}
+
+// What is counted, by the words after the numbers.
+fn kind_of(words: &[String]) -> Result<Kind> {
+    if words.is_empty() {
+        return Ok(Kind::Plain);
+    }
+    if let [word] = words {
+        match word.as_str() {
+            "waits" => return Ok(Kind::Timed),
+            "slow" => return Ok(Kind::Slow),
+            _ => {}
+        }
+    }
+    bail!("turn takes two numbers, of threads and of the turns of each, and waits or slow")
 }
 
 pub(crate) fn play<R: Threads + Wait + Clock + Print + AllocGlobal + Sync>(
     rt: &R,
+    clock: HostRuntime,
     words: &[String],
 ) -> Result<()> {
-    if let [threads, turns] = words {
+    if let [threads, turns, rest @ ..] = words {
         let turns = turns
             .parse::<u64>()
             .context("the number of turns of each thread")?;
-        return time(rt, rt.alloc(), Crowd::of(threads)?, turns);
+        return time(rt, clock, kind_of(rest)?, Crowd::of(threads)?, turns);
     }
     if !words.is_empty() {
-        bail!("turn takes two numbers, of threads and of the turns of each")
+        bail!("turn takes two numbers, of threads and of the turns of each, and waits or slow")
     }
     for crowd in CROWDS {
-        let total = count(rt, rt.alloc(), crowd, 1_000)?;
+        let (total, _) = count(rt, rt.alloc(), crowd, 1_000, false)?;
         println!(rt; "{}: {}", crowd.name(), total)?;
     }
     Ok(())

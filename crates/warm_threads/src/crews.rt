@@ -7,7 +7,7 @@ ghost use Rattle.warm_threads.specs.declared.fault.CrewFault.TheVariants.{Closed
 ghost use Rattle.warm_threads.specs.Exchanges.{IsReceipt, SendsAll};
 ghost use Rattle.warm_threads.specs.Works.{LeadsBy, Went, Works};
 
-use crate::exchange::{hear_all, send_all};
+use crate::exchange::{Parcel, hear_all, send_all};
 use crate::fault::CrewFault;
 use crate::work::work;
 use crossbeam_channel::{Receiver, Sender, unbounded};
@@ -15,30 +15,30 @@ use std::alloc::{AllocError, Global};
 use std::sync::Wait;
 use std::thread;
 use std::thread::Threads;
-use warm_replica::{Absorbing, Job, Mail};
+use warm_replica::{Absorbing, Job};
 
 // A machine, the jobs of its workers, where it sends what it knows, and where it hears of others.
 #[derive(Drop)]
 struct Crew<M> {
     machine: M,
     jobs: Vec<Job>,
-    boxes: Vec<Sender<Mail>>,
-    receiver: Receiver<Mail>,
+    boxes: Vec<Sender<Parcel>>,
+    receiver: Receiver<Parcel>,
 }
 
 // The same, when the workers have ended.
 #[derive(Drop)]
 struct Knowing<M> {
     machine: M,
-    boxes: Vec<Sender<Mail>>,
-    receiver: Receiver<Mail>,
+    boxes: Vec<Sender<Parcel>>,
+    receiver: Receiver<Parcel>,
 }
 
 // The same, when all was sent: `stops` Stops are to come.
 #[derive(Drop)]
 struct Hearing<M> {
     machine: M,
-    receiver: Receiver<Mail>,
+    receiver: Receiver<Parcel>,
     stops: u64,
 }
 
@@ -188,7 +188,7 @@ fn all_hear<M: Absorbing + Send + Drop, R: Threads + Wait + Sync>(
 fn channels(
     alloc: Global,
     count: usize,
-) -> Result<(Vec<Sender<Mail>>, Vec<Receiver<Mail>>), AllocError>
+) -> Result<(Vec<Sender<Parcel>>, Vec<Receiver<Parcel>>), AllocError>
     ensures { IfOk result (λ ends. length ends.1.items ≡ count) }
 {
     let mut senders = Vec::with_capacity(alloc, count)?;
@@ -204,9 +204,9 @@ fn channels(
 // The channels of all but one.
 fn others(
     alloc: Global,
-    senders: &[Sender<Mail>],
+    senders: &[Sender<Parcel>],
     but: usize,
-) -> Result<Vec<Sender<Mail>>, AllocError> {
+) -> Result<Vec<Sender<Parcel>>, AllocError> {
     let mut boxes = Vec::with_capacity(alloc, senders.len())?;
     for at in 0..senders.len() {
         if at != but {

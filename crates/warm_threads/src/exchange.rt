@@ -13,35 +13,41 @@ ghost use Rattle.warm_threads.specs.Works.{LeadsBy};
 use crate::fault::CrewFault;
 use crossbeam_channel::{Receiver, Sender};
 use std::alloc::Global;
-use std::sync::Wait;
+use std::sync::{Arc, Wait};
 use warm_frames::{MAX_ENTRIES, Message, decode, encode};
 use warm_gossip::{Call, Reply};
-use warm_replica::{Mail, MailIter};
 use warm_stamps::{BUCKETS, Bucket, ByteList, PageId};
 use warm_turn::Machine;
 
 /// How many items of mail a replica takes at most.
 pub(crate) const MOST_MAIL: u64 = 1_000_000;
 
-// Sends these bytes to each of the channels.
+/// One item of mail: what a channel carries to the replica whose mail it is.
+#[derive(Drop)]
+pub(crate) enum Parcel {
+    /// Bytes that spell a message. All replicas that it is sent to share them: they are freed when the last has received it.
+    Bytes(Arc<ByteList, Global>),
+    /// A sign that a sender is done.
+    Stop,
+}
+
+// Sends these bytes, which are not copied, to each of the channels.
 fn post_bytes<R: Wait>(
     rt: &R,
-    alloc: Global,
-    bytes: &[u8],
-    boxes: &[Sender<Mail>],
+    bytes: &Arc<ByteList, Global>,
+    boxes: &[Sender<Parcel>],
 ) -> Result<(), CrewFault> {
     for sender in boxes {
-        let mut copy = Vec::new(alloc);
-        copy.extend_from_slice(bytes)?;
-        sender.send(rt, Mail::Bytes(ByteList::of(copy)))?;
+        let shared = Arc::try_clone(bytes)?;
+        sender.send(rt, Parcel::Bytes(shared))?;
     }
     Ok(())
 }
 
 // Sends a Stop to each of the channels.
-fn post_stops<R: Wait>(rt: &R, boxes: &[Sender<Mail>]) -> Result<(), CrewFault> {
+fn post_stops<R: Wait>(rt: &R, boxes: &[Sender<Parcel>]) -> Result<(), CrewFault> {
     for sender in boxes {
-        sender.send(rt, Mail::Stop)?;
+        sender.send(rt, Parcel::Stop)?;
     }
     Ok(())
 }
@@ -87,7 +93,7 @@ fn send_bucket<M: Machine<Call = Call, Reply = Reply>, R: Wait>(
     alloc: Global,
     machine: &mut M,
     bucket: Bucket,
-    boxes: &[Sender<Mail>],
+    boxes: &[Sender<Parcel>],
 ) -> Result<(), CrewFault>
     ensures { OnOk result
         (LeadsBy M.goes (SendsBucket bucket None) (M.view machine.old) (M.view machine.new)) }
@@ -95,8 +101,9 @@ fn send_bucket<M: Machine<Call = Call, Reply = Reply>, R: Wait>(
     let mut after = None;
     for _ in rt.forever() {
         let message = asked_message(machine, bucket, after)?;
-        let bytes = encode(alloc, &message)?;
-        post_bytes(rt, alloc, &bytes, boxes)?;
+        let bytes = ByteList::of(encode(alloc, &message)?);
+        let bytes = Arc::new(alloc, bytes)?;
+        post_bytes(rt, &bytes, boxes)?;
         let Some(last) = next_after(&message) else {
             return Ok(());
         };
@@ -113,7 +120,7 @@ pub(crate) fn send_all<M: Machine<Call = Call, Reply = Reply> + Drop, R: Wait>(
     rt: &R,
     alloc: Global,
     machine: M,
-    boxes: &[Sender<Mail>],
+    boxes: &[Sender<Parcel>],
 ) -> Result<M, CrewFault>
     ensures { IfOk result (λ m. LeadsBy M.goes SendsAll (M.view machine) (M.view m)) }
 {
@@ -133,12 +140,13 @@ pub(crate) fn send_all<M: Machine<Call = Call, Reply = Reply> + Drop, R: Wait>(
 fn receive<M: Machine<Call = Call, Reply = Reply>>(
     alloc: Global,
     machine: &mut M,
-    bytes: ByteList,
+    bytes: &[u8],
 ) -> Result<(), CrewFault>
-    ensures { OnOk result ((message : Message) × (answers : List Message) × Spells bytes message
+    ensures { OnOk result ((message : Message) × (answers : List Message)
+        × Spells bytes.now message
         × M.goes (M.view machine.old) (Receive message) (Answers answers) (M.view machine.new)) }
 {
-    let Ok(message) = decode(alloc, bytes.as_slice()) else {
+    let Ok(message) = decode(alloc, bytes) else {
         return Err(CrewFault::Memory);
     };
     let reply = machine.call(Call::Receive(message));
@@ -156,23 +164,23 @@ pub(crate) fn hear_all<M: Machine<Call = Call, Reply = Reply> + Drop, R: Wait>(
     rt: &R,
     alloc: Global,
     machine: M,
-    receiver: Receiver<Mail>,
+    receiver: Receiver<Parcel>,
     stops: u64,
 ) -> Result<M, CrewFault>
     ensures { IfOk result (λ m. LeadsBy M.goes (All IsReceipt) (M.view machine) (M.view m)) }
 {
     let mut machine = machine;
     let mut missing = stops;
-    if missing == 0 {
-        return Ok(machine);
-    }
-    for item in MailIter::new(rt, receiver, MOST_MAIL) {
-        match item {
-            Mail::Bytes(bytes) => receive(alloc, &mut machine, bytes)?,
-            Mail::Stop => missing -= 1,
-        }
+    for _ in 0..MOST_MAIL {
         if missing == 0 {
             return Ok(machine);
+        }
+        let Ok(parcel) = receiver.recv(rt) else {
+            return Ok(machine);
+        };
+        match parcel {
+            Parcel::Bytes(bytes) => receive(alloc, &mut machine, bytes.as_slice())?,
+            Parcel::Stop => missing -= 1,
         }
     }
     Ok(machine)

@@ -194,7 +194,8 @@ fn play_over<M: Absorbing + Send + Drop, T: Threads + Wait + Sync, R: Read>(
 /// are passed over. Each worker has a thread that does its own lines in their order: a full buffer is flushed before a further
 /// reference, and what a buffer holds at the end is flushed last. When all have ended, each replica sends every bucket whole to each
 /// other, and then a Stop. When all have sent, each receives what was sent to it, until a Stop of each other replica or 1,000,000 items
-/// came. Replicas do so in threads of their own where these can be made. It may wait.
+/// came. Replicas do so in threads of their own where these can be made. It may wait. A message is encoded once, and all that it is
+/// sent to share its bytes: beside the histories, the sent messages take the bytes of one encoded copy of each history.
 ///
 /// # Errors
 /// - `BadDevices`: the devices are not one list for each replica, each of at most [`warm_pool::MAX_DEVICES`], with pages of the

@@ -89,26 +89,32 @@ impl<M: Machine> Model for Note<M> {
     ghost invariant = { λ p. (p.place.me.1 ≡ []) × IsNote p.place.me.0 };
 }
 
-// How often a caller that waits looks with a hint to the processor alone between two looks. Then it sleeps between them.
+// How often a caller that waits looks with a hint to the processor alone between two looks, for less than a short call and a change of
+// threads take. Then it sleeps between them.
 const SPINS: u32 = 100;
 
-// How often a caller looks for a ticket that is served at once. Then it takes one that is not.
-const LOOKS: u32 = 200;
+// How often a caller sleeps before it takes a ticket that is not served at once, so that it is not passed over for long: with naps of
+// 50 to 800 microseconds after 6.8 ms.
+const NAPS: u32 = 16;
+
+// How often a caller without a ticket looks. Then it takes one all the same.
+const LOOKS: u32 = SPINS + NAPS;
 
 // How long a caller sleeps between two looks at first, in microseconds, where the serving word stays as it was.
 const NAP: u64 = 50;
 
-// How many times as long a caller that has no ticket sleeps in the end.
-const LONGEST: u32 = 16;
+// How often the caller whose ticket is next yields: some hundred microseconds in all, in which most calls end. Then it sleeps as the
+// others do, so that it keeps no processor busy while the call before it waits for a slow device.
+const YIELDS: u32 = 500;
 
 // How long a caller without a ticket sleeps after this many looks, in microseconds: a little longer each time, so that many
 // who wait at once do not wake too often.
 fn longer_nap(looks: u32) -> u64 {
     let naps = looks.saturating_sub(SPINS);
-    if naps < LONGEST {
+    if naps < NAPS {
         NAP * u64::from(naps + 1)
     } else {
-        NAP * u64::from(LONGEST)
+        NAP * u64::from(NAPS)
     }
 }
 
@@ -165,7 +171,8 @@ fn take_ticket<M: Machine, R: Wait>(rt: &R, top: &Top<M>, place: &mut Place<M>) 
     unreachable!()
 }
 
-// Waits until the ticket is served. Then the seat has the machine. Whoever is next sleeps no longer than others run.
+// Waits until the ticket is served. Then the seat has the machine. Whoever is next yields before it sleeps: if it slept at once, all
+// behind it would wait for its nap.
 fn wait_turn<M: Machine, R: Wait>(rt: &R, top: &Top<M>, place: &mut Place<M>, ticket: u64)
     requires table { (place.old.table_id ≡ top.now.table_id) × IsBoard top.now.table_id }
     requires waits { (place.old.me.1 ≡ []) × (place.old.me.0.waits ≡ true)
@@ -173,18 +180,20 @@ fn wait_turn<M: Machine, R: Wait>(rt: &R, top: &Top<M>, place: &mut Place<M>, ti
     ensures table { (place.new.table_id ≡ place.old.table_id) × (place.new.id ≡ place.old.id) }
     ensures serves { HasMachine M.view place.old.me.0 place.new.me }
 {
-    let mut looks = 0;
+    let mut looks = 0u32;
+    let mut yields = 0u32;
     for _ in rt.forever() {
         let served = top.load::<Look>(place, 1);
         if served == ticket {
             return;
         }
-        if looks >= SPINS && served.wrapping_add(1) == ticket {
+        if looks >= SPINS && yields < YIELDS && served.wrapping_add(1) == ticket {
             yield_now();
+            yields += 1;
         } else {
             pause(rt, top, served, looks, NAP);
+            looks = looks.saturating_add(1);
         }
-        looks = looks.saturating_add(1);
     }
 }
 

@@ -1,0 +1,165 @@
+//! A history in plain Rust: a map for each bucket, by the page's order, and a horizon.
+
+use super::hist::{Entry, Hist, Page, Stamp};
+use std::cmp::{Ordering, Reverse};
+use std::collections::btree_map::Entry as Place;
+use std::collections::{BTreeMap, BinaryHeap};
+use std::ops::Bound;
+
+pub const BUCKETS: usize = 64;
+
+type Bucket = BTreeMap<Page, Hist>;
+
+#[derive(Clone)]
+pub struct History {
+    pub horizon: u64,
+    buckets: [Bucket; BUCKETS],
+}
+
+impl History {
+    pub fn new() -> History {
+        History { horizon: 0, buckets: [const { Bucket::new() }; BUCKETS] }
+    }
+
+    pub fn len(&self) -> usize {
+        self.buckets.iter().map(Bucket::len).sum()
+    }
+
+    pub fn get(&self, page: Page) -> Option<Hist> {
+        self.buckets[page.bucket()].get(&page).copied()
+    }
+
+    /// Takes in a reference. Says what is known of its page afterwards, and nothing where the reference is before the horizon.
+    pub fn see(&mut self, page: Page, stamp: Stamp) -> Option<Hist> {
+        if stamp.time < self.horizon {
+            return None;
+        }
+        match self.buckets[page.bucket()].entry(page) {
+            Place::Vacant(place) => Some(*place.insert(Hist::once(stamp))),
+            Place::Occupied(mut place) => {
+                let known = place.get_mut();
+                known.see(stamp);
+                Some(*known)
+            }
+        }
+    }
+
+    /// The same of an entry, but for its stamps before the horizon.
+    pub fn take(&mut self, entry: Entry) -> Option<Hist> {
+        let Entry { page, hist: mut more } = entry;
+        if !more.forget(self.horizon) {
+            return None;
+        }
+        match self.buckets[page.bucket()].entry(page) {
+            Place::Vacant(place) => Some(*place.insert(more)),
+            Place::Occupied(mut place) => {
+                let known = place.get_mut();
+                known.join(more);
+                Some(*known)
+            }
+        }
+    }
+
+    /// Forgets all stamps before a time, in one pass, where the horizon rises. Says which buckets lost some, as a set of bits.
+    pub fn raise(&mut self, time: u64) -> u64 {
+        if time <= self.horizon {
+            return 0;
+        }
+        self.horizon = time;
+        let mut lost = 0;
+        for (number, bucket) in self.buckets.iter_mut().enumerate() {
+            let mut loses = false;
+            bucket.retain(|_, hist| {
+                let was_twice = hist.is_twice();
+                let is_left = hist.forget(time);
+                loses |= !is_left || hist.is_twice() != was_twice;
+                is_left
+            });
+            lost |= u64::from(loses) << number;
+        }
+        lost
+    }
+
+    /// All entries of a bucket, in the order of their pages.
+    pub fn bucket(&self, number: usize) -> impl Iterator<Item = Entry> {
+        self.buckets[number].iter().map(entry)
+    }
+
+    /// The entries of a bucket that are greater than a page.
+    pub fn after(&self, number: usize, page: Option<Page>) -> impl Iterator<Item = Entry> {
+        let from = page.map_or(Bound::Unbounded, Bound::Excluded);
+        self.buckets[number].range((from, Bound::Unbounded)).map(entry)
+    }
+
+    /// All entries, bucket by bucket.
+    pub fn entries(&self) -> impl Iterator<Item = Entry> {
+        self.buckets.iter().flatten().map(entry)
+    }
+
+    /// All entries, in the order of their pages.
+    pub fn in_order(&self) -> impl Iterator<Item = Entry> {
+        let mut rests = self.buckets.each_ref().map(|bucket| bucket.iter());
+        let firsts = rests.iter_mut().enumerate();
+        let mut next: BinaryHeap<_> =
+            firsts.filter_map(|(number, rest)| rest.next().map(|(page, hist)| Reverse((page, number, hist)))).collect();
+        std::iter::from_fn(move || {
+            let mut least = next.peek_mut()?;
+            let Reverse((page, number, hist)) = *least;
+            match rests[number].next() {
+                Some((page, hist)) => *least = Reverse((page, number, hist)),
+                None => drop(std::collections::binary_heap::PeekMut::pop(least)),
+            }
+            Some(Entry { page: *page, hist: *hist })
+        })
+    }
+
+    /// The hottest pages, hottest first.
+    pub fn hottest(&self, count: usize) -> Vec<Page> {
+        let mut ranks: Vec<Rank> = Vec::with_capacity(self.len());
+        ranks.extend(self.entries().map(Rank::of));
+        if count < ranks.len() {
+            ranks.select_nth_unstable_by(count, |a, b| b.cmp(a));
+            ranks.truncate(count);
+        }
+        ranks.sort_unstable_by(|a, b| b.cmp(a));
+        ranks.into_iter().map(|rank| Page { dev: rank.dev, no: rank.no }).collect()
+    }
+}
+
+/// What is known of a page, and the page, in the order of ranks and in 32 bytes: the wide numbers first.
+#[derive(Clone, Copy, PartialEq, Eq)]
+struct Rank {
+    prev: u64,
+    last: u64,
+    no: u64,
+    prev_replica: u16,
+    last_replica: u16,
+    dev: u16,
+}
+
+impl Rank {
+    fn of(entry: Entry) -> Rank {
+        let Entry { page: Page { dev, no }, hist } = entry;
+        // no stamp is less than every stamp
+        let prev = hist.prev().unwrap_or(Stamp { time: 0, replica: 0 });
+        let last = hist.last();
+        Rank { prev: prev.time, last: last.time, no, prev_replica: prev.replica, last_replica: last.replica, dev }
+    }
+}
+
+impl Ord for Rank {
+    fn cmp(&self, other: &Rank) -> Ordering {
+        let key = |rank: &Rank| (rank.prev, rank.prev_replica, rank.last, rank.last_replica, rank.dev, rank.no);
+        key(self).cmp(&key(other))
+    }
+}
+
+impl PartialOrd for Rank {
+    fn partial_cmp(&self, other: &Rank) -> Option<Ordering> {
+        Some(self.cmp(other))
+    }
+}
+
+fn entry((page, hist): (&Page, &Hist)) -> Entry {
+    Entry { page: *page, hist: *hist }
+}
