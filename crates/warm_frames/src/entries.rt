@@ -39,8 +39,16 @@ impl EntryList {
         if entries.len() > MAX_ENTRIES || !pages_rise(&entries) {
             return Err(entries);
         }
+        Ok(EntryList::holding(entries))
+    }
+
+    /// The entries as a list that a frame may carry, as the caller has proved. Takes no memory, and tests nothing.
+    pub fn holding(entries: Vec<Entry>) -> EntryList
+        requires { FitsInFrame entries.items }
+        ensures { result ≡ entries.items }
+    {
         are_entries(&entries);
-        Ok(EntryList { entries })
+        EntryList { entries }
     }
 
     // A list that was read.
