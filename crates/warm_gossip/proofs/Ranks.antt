@@ -1,8 +1,9 @@
--- What a history says of the pages of which it takes in no reference: what it said before, where its horizon does not rise.
-use Rattle.std.proofs.Common.{◌≡◌, ℕ, ◌≤◌, suc, false, List, [], ◌∷◌, ◌++◌, map, max, sym, ap, refl, ◌∙◌, arith}
+-- What a history says of pages as before: of those of which it takes in no reference, where its horizon does not rise; and of all, where its
+-- entries stay.
+use Rattle.std.proofs.Common.{◌≡◌, ℕ, ◌≤◌, suc, false, List, [], ◌∷◌, ◌++◌, map, filter, length, max, Option, Some, None, IfSome, sym, ap, refl, ◌∙◌, arith}
 use Rattle.std.proofs.lemmas.List.{append-nil}
 use Rattle.std.specs.List.{Contains}
-use Rattle.std.specs.Option.{option_and_then}
+use Rattle.std.specs.Option.{option_and_then, option_map}
 use Rattle.std.specs.Ordering.{is_eq, flip_args}
 use Rattle.warm_stamps.specs.declared.PageId.{PageId}
 use Rattle.warm_stamps.specs.declared.Reference.{Reference}
@@ -11,14 +12,24 @@ use Rattle.warm_stamps.specs.Distinct.{distinct}
 use Rattle.warm_stamps.proofs.DistinctLemmas.{by_cases}
 use Rattle.warm_stamps.proofs.StampLemmas.{page_order}
 use Rattle.warm_history.specs.declared.hist.Entry.{Entry}
+use Rattle.warm_history.specs.declared.hist.PageHist.{PageHist}
 use Rattle.warm_history.specs.KeptEntries.{kept_hist}
-use Rattle.warm_history.specs.ReferenceSets.{ReferenceSet, recent, these, ◌∪◌}
+use Rattle.warm_history.specs.ReferenceSets.{ReferenceSet, recent, references, these, ◌∪◌}
 use Rattle.warm_history.specs.ListHistories as list
-use Rattle.warm_history.specs.Histories.{HistoryView, holding_since, first_two, hist, history, entry_refs, refs}
+use Rattle.warm_history.specs.Histories.{HistoryView, IsHistory, holding_since, first_two, hist, history, entries_of, entry_refs, refs}
 use Rattle.warm_history.proofs.KeptLemmas.{hist-kept}
 use Rattle.warm_history.proofs.ListHistoryLemmas.{told, told-append, told_entry}
-use Rattle.warm_history.proofs.HistoryLemmas.{hist_refs-history}
+use Rattle.warm_history.proofs.HistoryLemmas.{hist_refs-history, references-refs}
+use Rattle.warm_history.proofs.JoinLemmas.{history_of_own_references}
+use Rattle.warm_rank.specs.Keys.{rank_key}
+use Rattle.warm_rank.specs.WarmUp.{IsWarmUp}
+use Rattle.warm_rank.proofs.LeavingLemmas.{order_kept, rank_alike}
+use Rattle.warm_pool.specs.Frames.{nth_frame}
 use Rattle.warm_pool.specs.Refreshing.{AgreeOutside}
+use Rattle.warm_pool.specs.State.{PoolState, RankedBy}
+use Rattle.warm_pool.specs.View.{PoolView, view_of}
+use Rattle.warm_gossip.specs.declared.warm_step.WarmUp.{WarmUp}
+use Rattle.warm_gossip.specs.WarmingUp.{IsUnderWay, IsWarming}
 
 pub differs : (q p : PageId) → (q ≡ p → ⊥) → is_eq (page_cmp q p) ≡ false
 differs q p apart = by_cases (page_cmp q p) _ (λ less. ap is_eq less) (λ tied. absurd (apart (page_order.same q p tied))) (λ more. ap is_eq more)
@@ -56,3 +67,35 @@ absorbed_agrees h batch p unnamed = hist_as_before (refs h) (these batch) p (ome
 -- and one that takes entries in, of no later horizon, outside the pages of these
 pub joined_agrees : (h : HistoryView) (horizon : ℕ) (es : List Entry) → horizon ≤ h.horizon → AgreeOutside (map (λ e. e.page) es) h (history (refs h ∪ refs (holding_since horizon es)))
 joined_agrees h horizon es le p unnamed = hist_as_before (refs h) (refs (holding_since horizon es)) p le (untold_entries es p unnamed)
+
+-- ---- the same entries at another horizon
+
+-- histories of the same entries say the same of each page, whatever their horizons
+hist_of_entries : (h g : HistoryView) → IsHistory h → IsHistory g → entries_of g ≡ entries_of h → (p : PageId) → hist (refs h) p ≡ hist (refs g) p
+hist_of_entries h g whole later same p =
+    let kept : references (refs h) ≡ references (refs g) = references-refs h whole ∙ sym (ap list.refs same) ∙ sym (references-refs g later) in
+    ap (λ rs. first_two (distinct (flip_args stamp_cmp) (map (λ r. r.stamp) (filter (λ r. is_eq (page_cmp r.page p)) rs)))) kept
+
+-- so they rank a pool alike
+ranked_by_entries : (s : PoolState) (h g : HistoryView) → ((p : PageId) → hist (refs h) p ≡ hist (refs g) p) → RankedBy s h → RankedBy s g
+ranked_by_entries s h g alike ranked i =
+    ranked i ∙ ap (λ (f : PageId → Option PageHist). option_map (λ p. rank_key p (f p)) (nth_frame s.frames i).page) (λ j p. alike p j)
+
+-- and have the same warm-up lists
+list_of_entries : (h g : HistoryView) (n : ℕ) (ps : List PageId) → IsHistory h → ((p : PageId) → hist (refs h) p ≡ hist (refs g) p) → IsWarmUp h n ps → IsWarmUp g n ps
+list_of_entries h g n ps whole alike hottest S stands =
+    hottest (refs h) (sym (history_of_own_references h whole)) ∙ (rank_alike (refs h) (refs g) alike).warm_alike n ∙ (order_kept g S stands).warm_alike n
+
+-- what is kept of a warm-up
+warming_by_entries : (h g : HistoryView) (v : PoolView) (x : WarmUp) → IsHistory h → ((p : PageId) → hist (refs h) p ≡ hist (refs g) p) → IsWarming h v x → IsWarming g v x
+warming_by_entries h g v x whole alike under = elim x.pages as (λ o. IfSome o (λ ps. IsUnderWay h v ps.items x.passed) → IfSome o (λ ps. IsUnderWay g v ps.items x.passed)) [
+  | None ↦ λ none. none
+  | Some ps ↦ λ u. record { hottest = list_of_entries h g (length v.frames) ps.items whole alike u.hottest; past = u.past }
+] under
+
+-- so all that a node keeps by its history stands by another of the same entries
+pub kept_by_entries : (s : PoolState) (h g : HistoryView) (x : WarmUp) → IsHistory h → IsHistory g → entries_of g ≡ entries_of h
+    → RankedBy s h × IsWarming h (view_of s) x → RankedBy s g × IsWarming g (view_of s) x
+kept_by_entries s h g x whole later same (ranked, under) =
+    let alike = hist_of_entries h g whole later same in
+    (ranked_by_entries s h g alike ranked, warming_by_entries h g (view_of s) x whole alike under)

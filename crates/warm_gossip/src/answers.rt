@@ -24,13 +24,10 @@ fn message_of(
     ensures { IfOk result (λ message. message ≡ Message.Entries id horizon part.now) }
 {
     let copied = Vec::from_slice(alloc, part)?;
-    let Ok(entries) = EntryList::of(copied) else {
-        unreachable!()
-    };
     Ok(Message::Entries {
         sender: id,
         horizon,
-        entries,
+        entries: EntryList::holding(copied),
     })
 }
 

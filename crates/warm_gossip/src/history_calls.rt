@@ -20,24 +20,33 @@ use warm_stamps::{Bucket, PageId, PageList, Reference};
 impl<D: PageDevice> Node<D> {
     /// Takes references into the history: the call `Absorb`.
     ///
+    /// References that bring nothing new change nothing: digests and the list of the warm-up are kept, and no page is ranked again.
+    ///
     /// # Errors
     /// `Memory`: an allocation failed; nothing has changed.
     pub fn absorb(&mut self, batch: &[Reference]) -> Result<(), NodeFault>
         ensures { Answered self.old (Absorb batch.now) done result self.new }
     {
-        self.history.absorb(batch)?;
+        let changed = self.history.absorb(batch)?;
+        if changed == 0 {
+            return Ok(());
+        }
         self.warm_up = WarmUp::new();
         self.pool.refresh(self.history.history(), batch);
         Ok(())
     }
 
-    /// Takes entries into the history.
+    /// Takes entries into the history. Where no entry changes, digests and the list of the warm-up are kept, and no page is ranked again.
     pub(crate) fn learn(&mut self, horizon: u64, entries: &[Entry]) -> Result<(), NodeFault>
         ensures learnt { OnOk result (Learns self.old horizon entries.now self.new) }
         ensures refused { IfErr result (λ why. (why ≡ Memory) × SameView self.old self.new) }
     {
-        let own = self.history.horizon();
-        self.history.join_entries(horizon, entries)?;
+        let own = self.history.history().horizon();
+        let changed = self.history.join_entries(horizon, entries)?;
+        // The same entries rank pages alike at any horizon.
+        if changed == 0 {
+            return Ok(());
+        }
         self.warm_up = WarmUp::new();
         if own < horizon {
             self.pool.refresh_all(self.history.history());
@@ -49,17 +58,20 @@ impl<D: PageDevice> Node<D> {
 
     /// Forgets all stamps before this time, and returns the horizon from then on: the call `Horizon`. Takes no memory.
     ///
-    /// A time that is not past the horizon costs nothing. Else the entries are gone over, and all resident pages are ranked again.
+    /// A time that is not past the horizon costs nothing. Else the entries are gone over. Where none loses a stamp, digests and the list of
+    /// the warm-up are kept; else all resident pages are ranked again.
     pub fn raise(&mut self, time: u64) -> u64
         ensures { Goes self.old (Horizon time) (Kept result) self.new }
     {
-        let own = self.history.horizon();
+        let own = self.history.history().horizon();
         if time <= own {
-            // None of the history's stamps is older than its horizon.
-            is_history(self.history.history());
             return own;
         }
-        self.history.raise(time);
+        let lost = self.history.raise(time);
+        // The same entries rank pages alike at any horizon.
+        if lost == 0 {
+            return self.history.horizon();
+        }
         self.warm_up = WarmUp::new();
         self.pool.refresh_all(self.history.history());
         self.history.horizon()
@@ -134,20 +146,17 @@ impl<D: PageDevice> Node<D> {
     {
         let history = self.history.history();
         let entries = history.entries(bucket, after, MAX_ENTRIES)?;
-        let Ok(entries) = EntryList::of(entries) else {
-            unreachable!()
-        };
         Ok(Message::Entries {
             sender: self.id,
             horizon: history.horizon(),
-            entries,
+            entries: EntryList::holding(entries),
         })
     }
 
     /// A message of the digests of all buckets: the call `Offer`.
     ///
-    /// The digests are kept. Having them costs nothing where nothing was taken in or forgotten since the last offer or the last digests
-    /// received; else a pass over the buckets of what was, whose entries are hashed.
+    /// The digests are kept. Having them costs nothing where no entry has changed since the last offer or the last digests received: what
+    /// brings nothing new keeps them. Else it costs a pass over the buckets of the entries that changed, whose entries are hashed.
     ///
     /// # Errors
     /// `Memory`: an allocation failed; nothing has changed that a caller sees, and the next offer takes the same digests again.

@@ -19,8 +19,8 @@ use warm_stamps::ReplicaId;
 
 /// One replica: the history of the references that reached it, and its buffer pool, which that history ranks.
 ///
-/// It keeps the digests of its history's buckets, and the list of pages by which it warms up, until it takes something in or restarts:
-/// an offer, and a step of the warm-up, with nothing taken in since the last one makes neither again.
+/// It keeps the digests of its history's buckets, and the list of pages by which it warms up, until an entry of its history changes or it
+/// restarts. What brings nothing new, as gossip that repeats itself, keeps both: no offer and no step of the warm-up makes them again.
 ///
 /// A pin is no reference: pages are ranked by the references that the node absorbed. Whoever pins a page also absorbs one.
 ///

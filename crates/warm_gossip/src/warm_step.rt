@@ -42,10 +42,11 @@ impl<D: PageDevice> Node<D> {
     /// Loads the hottest page that is not resident and that a device has, of as many as the pool has frames, and gives it; `None`
     /// where there is none: the call `WarmStep`. On a standby it is called until it gives none, before the standby takes over.
     ///
-    /// The list of these pages is made at the first step, at the cost of [`Node::warm_list`], and kept until the node takes something
-    /// in or restarts. A step that finds it kept takes no memory for it, and looks pages up from where the last one came to until it
-    /// finds one to load. So a whole warm-up looks each page up once, where none leaves that was passed: after a pin that brings a page
-    /// in, or a step that puts a page of the list out, the next step begins with the hottest again.
+    /// The list of these pages is made at the first step, at the cost of [`Node::warm_list`], and kept until an entry of the history
+    /// changes or the node restarts: what brings nothing new keeps it. A step that finds it kept takes no memory for it, and looks pages
+    /// up from where the last one came to until it finds one to load. So a whole warm-up looks each page up once, where none leaves that
+    /// was passed: after a pin that brings a page in, or a step that puts a page of the list out, the next step begins with the hottest
+    /// again.
     ///
     /// # Errors
     /// `Memory`: there was no memory for the list of the hottest pages; the next step makes it. `Pool`, with the fault and the order of

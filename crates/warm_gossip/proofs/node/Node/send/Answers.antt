@@ -9,4 +9,4 @@ pub returns : goal.returns
 returns g c =
     let h = c.history-history.result.now in
     let carried = c.in_ok-entries.ensures.carried (refs h) (sym (history_of_own_references h c.horizon.ensures.whole)) in
-    (rw (c.in-Ok.ensures.value, carried, c.horizon.ensures.value, c.history-history.ensures) (ap (λ (s : NodeState). sent s.id s.history c.args.bucket c.args.after) c.self.view_is), refl)
+    (rw (c.holding.ensures, carried, c.horizon.ensures.value, c.history-history.ensures) (ap (λ (s : NodeState). sent s.id s.history c.args.bucket c.args.after) c.self.view_is), refl)
