@@ -1,4 +1,5 @@
-//! Calls whose result is kept: the first takes memory, and the second, with no news since, none.
+//! Calls whose result is kept: the first takes memory, and the second, with no news since, none. What was taken in again in between is
+//! no news.
 
 use crate::calls::opened;
 use refused_rows::{Ended, Met, is_done, takes, takes_none};
@@ -13,7 +14,7 @@ use warm_stamps::{PageId, Reference, ReplicaId, Stamp};
 // How many frames the node has. It knows as many pages.
 const FRAMES: usize = 2;
 
-// A node that has offered its digests and taken one step of its warm-up, and a history whose digests were taken.
+// A node that has offered its digests and taken one step of its warm-up, and a history whose digests were taken before a batch came again.
 #[derive(Drop)]
 pub(crate) struct Kept {
     node: Node<MemDevice>,
@@ -52,6 +53,8 @@ fn digested<P: Print>(rt: &P, alloc: Global) -> Result<DigestedHistory, Ended> {
     takes(rt, 1, "digests")?;
     let _first = history.digests()?;
     is_done(rt)?;
+    // A repeated batch changes nothing, so that the digests stay.
+    taken_once(&mut history)?;
     Ok(history)
 }
 

@@ -1,5 +1,5 @@
 -- Sets of marked buckets: which buckets are marked, and which stay so.
-use Rattle.std.proofs.Common.{◌≡◌, ◌⊎◌, inl, inr, ℕ, ◌<◌, max, Result, Ok, Err, OnOk, ap, ◌∙◌, arith}
+use Rattle.std.proofs.Common.{◌≡◌, inl, inr, ℕ, Result, Ok, Err, OnOk, ap, ◌∙◌, arith}
 use Rattle.std.specs.Prelude.{bit_and, bit_or}
 use Rattle.std.specs.Int.{bit_at}
 use Rattle.std.proofs.lemmas.Bool.{cases_eq}

@@ -1,4 +1,4 @@
-use Rattle.std.proofs.Common.{◌≡◌, ap, subst, sym, ◌∙◌, arith, ◌≤◌}
+use Rattle.std.proofs.Common.{ap, subst, sym, ◌∙◌, arith, ◌≤◌}
 use Rattle.std.specs.Prelude.{bit_or}
 use Rattle.warm_history.specs.Changes.{MarksChanged}
 use Rattle.warm_history.specs.Losses.{MarksLosing}
