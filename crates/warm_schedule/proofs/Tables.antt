@@ -1,5 +1,5 @@
 -- Tables of commands, and what a word finds in them.
-use Rattle.std.proofs.Common.{◌≡◌, ℕ, List, [], ◌∷◌, Bool, true, false, Option, Some, None, map, refl}
+use Rattle.std.proofs.Common.{◌≡◌, ℕ, List, [], ◌∷◌, Bool, true, false, Option, Some, map, refl}
 use Rattle.std.specs.Prelude.{bytes_eq, option_map, if◌then◌else◌}
 use Rattle.warm_schedule.specs.Grammar.{looked_up}
 

@@ -34,8 +34,8 @@ pub(crate) enum Command {
     Show,
 }
 
-// The word that each command begins with.
-const COMMANDS: [(&str, Command); 15] = [
+// The word that each command begins with. A static, since a constant that holds references may be made again at each use.
+static COMMANDS: [(&str, Command); 15] = [
     ("ref", Command::Refer),
     ("flush", Command::Flush),
     ("send", Command::Send),
