@@ -4,10 +4,6 @@
 
 use super::{NO_PAGE, Row, Said, Sent, lives};
 
-const fn loads(no: u64) -> Row {
-    Row::Loads(Said::Loaded(Some(no)))
-}
-
 const NONE_LEFT: Row = Row::Loads(Said::Loaded(None));
 
 // Two references to each of pages 1 to 4, so that 4 is the hottest, then 3, 2 and 1.
@@ -26,45 +22,45 @@ const FOUR: Row = Row::Absorbs(&[
 // page 10 does the same.
 const BETWEEN_PINS: &[Row] = &[
     FOUR,
-    loads(4),
-    loads(3),
+    Row::Loads(Said::Loaded(Some(4))),
+    Row::Loads(Said::Loaded(Some(3))),
     Row::Pins(9, Said::Pinned(2, 1)),
-    loads(2),
+    Row::Loads(Said::Loaded(Some(2))),
     Row::Victim(Some(2)),
-    loads(1),
+    Row::Loads(Said::Loaded(Some(1))),
     Row::Victim(Some(1)),
-    loads(2),
-    loads(1),
+    Row::Loads(Said::Loaded(Some(2))),
+    Row::Loads(Said::Loaded(Some(1))),
     Row::Unpins(2, 1),
     Row::Victim(Some(9)),
-    loads(2),
+    Row::Loads(Said::Loaded(Some(2))),
     NONE_LEFT,
     Row::Pins(4, Said::Pinned(0, 1)),
     NONE_LEFT,
     Row::Pins(10, Said::Pinned(3, 5)),
-    loads(1),
-    loads(2),
+    Row::Loads(Said::Loaded(Some(1))),
+    Row::Loads(Said::Loaded(Some(2))),
     Row::Unpins(3, 5),
-    loads(1),
+    Row::Loads(Said::Loaded(Some(1))),
     NONE_LEFT,
 ];
 
 // A pin puts out the hottest page, which was loaded first: all other frames are fixed.
 const HOTTEST_PUT_OUT: &[Row] = &[
     FOUR,
-    loads(4),
+    Row::Loads(Said::Loaded(Some(4))),
     Row::Pins(7, Said::Pinned(1, 1)),
     Row::Pins(8, Said::Pinned(2, 1)),
     Row::Pins(9, Said::Pinned(3, 1)),
     Row::Pins(10, Said::Pinned(0, 2)),
     Row::Unpins(1, 1),
-    loads(4),
+    Row::Loads(Said::Loaded(Some(4))),
     Row::Unpins(2, 1),
-    loads(3),
+    Row::Loads(Said::Loaded(Some(3))),
     Row::Unpins(3, 1),
-    loads(2),
+    Row::Loads(Said::Loaded(Some(2))),
     Row::Unpins(0, 2),
-    loads(1),
+    Row::Loads(Said::Loaded(Some(1))),
     NONE_LEFT,
 ];
 
@@ -80,12 +76,12 @@ const OVER_COLD_PAGES: &[Row] = &[
     Row::Unpins(3, 1),
     FOUR,
     Row::Victim(Some(11)),
-    loads(4),
+    Row::Loads(Said::Loaded(Some(4))),
     Row::Victim(Some(12)),
-    loads(3),
-    loads(2),
+    Row::Loads(Said::Loaded(Some(3))),
+    Row::Loads(Said::Loaded(Some(2))),
     Row::Victim(Some(14)),
-    loads(1),
+    Row::Loads(Said::Loaded(Some(1))),
     Row::Victim(Some(1)),
     NONE_LEFT,
     NONE_LEFT,
@@ -101,9 +97,9 @@ const NOT_THERE: &[Row] = &[
         (0, 256, 10, 1),
     ]),
     Row::Pins(256, NO_PAGE),
-    loads(4),
+    Row::Loads(Said::Loaded(Some(4))),
     Row::Pins(256, NO_PAGE),
-    loads(3),
+    Row::Loads(Said::Loaded(Some(3))),
     NONE_LEFT,
     Row::Pins(9, Said::Pinned(2, 1)),
     NONE_LEFT,
@@ -112,18 +108,18 @@ const NOT_THERE: &[Row] = &[
 // What the node takes in, by each of three calls, is ranked and loaded, also where a warm-up has passed all pages.
 const TAKEN_IN: &[Row] = &[
     FOUR,
-    loads(4),
-    loads(3),
-    loads(2),
-    loads(1),
+    Row::Loads(Said::Loaded(Some(4))),
+    Row::Loads(Said::Loaded(Some(3))),
+    Row::Loads(Said::Loaded(Some(2))),
+    Row::Loads(Said::Loaded(Some(1))),
     NONE_LEFT,
     Row::Absorbs(&[(0, 5, 9, 1), (0, 5, 10, 1)]),
-    loads(5),
+    Row::Loads(Said::Loaded(Some(5))),
     Row::Victim(Some(2)),
     NONE_LEFT,
     // Page 1 is now as hot as its references at 11 and 12.
     Row::Receives(Sent::Entries(0, &[(0, 1, 11, 1), (0, 1, 12, 1)]), &[]),
-    loads(1),
+    Row::Loads(Said::Loaded(Some(1))),
     Row::Victim(Some(3)),
     NONE_LEFT,
     // Pages 2 to 4 are forgotten but for the second reference to 4, and pages 1 and 5 are not.
@@ -134,7 +130,7 @@ const TAKEN_IN: &[Row] = &[
     Row::Restarts,
     NONE_LEFT,
     FOUR,
-    loads(4),
+    Row::Loads(Said::Loaded(Some(4))),
 ];
 
 #[test]
