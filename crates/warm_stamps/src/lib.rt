@@ -32,7 +32,8 @@ pub const BUCKETS: u8 = 64;
 /// The number of a replica, from 1 to [`MAX_REPLICAS`].
 #[derive(Debug, Clone, Copy, PartialEq, Eq, PartialOrd, Ord)]
 pub struct ReplicaId {
-    number: u16,
+    // In 64 bits, so that a stamp has no padding, which a move would copy in pieces.
+    number: u64,
 }
 
 impl Model for ReplicaId {
@@ -62,7 +63,9 @@ impl ReplicaId {
         if number == 0 || number > MAX_REPLICAS {
             return Err(BadReplica);
         }
-        Ok(ReplicaId { number })
+        Ok(ReplicaId {
+            number: u64::from(number),
+        })
     }
 
     /// The replica's number.
@@ -71,7 +74,7 @@ impl ReplicaId {
         ensures low { 0 < result }
         ensures high { result ≤ MAX_REPLICAS }
     {
-        self.number
+        self.number as u16
     }
 }
 
