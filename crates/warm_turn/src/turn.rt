@@ -89,9 +89,10 @@ impl<M: Machine> Model for Note<M> {
     ghost invariant = { λ p. (p.place.me.1 ≡ []) × IsNote p.place.me.0 };
 }
 
-// How often a caller that waits looks with a hint to the processor alone between two looks, for less than a short call and a change of
-// threads take. Then it sleeps between them.
-const SPINS: u32 = 100;
+// How often a caller that waits looks before it sleeps between two looks. It spins in between, twice as long each time, 255 hints to the
+// processor in all, which is less than a change of threads takes: a look takes the words' cache line from whoever is served, so one that
+// comes often would slow down short calls.
+const SPINS: u32 = 8;
 
 // How often a caller sleeps before it takes a ticket that is not served at once, so that it is not passed over for long: with naps of
 // 50 to 800 microseconds after 6.8 ms.
@@ -103,9 +104,9 @@ const LOOKS: u32 = SPINS + NAPS;
 // How long a caller sleeps between two looks at first, in microseconds, where the serving word stays as it was.
 const NAP: u64 = 50;
 
-// How often the caller whose ticket is next yields: some hundred microseconds in all, in which most calls end. Then it sleeps as the
-// others do, so that it keeps no processor busy while the call before it waits for a slow device.
-const YIELDS: u32 = 500;
+// How often the caller whose ticket is next yields: some ten microseconds in all. Then it sleeps as the others do, so that it keeps no
+// processor busy while the call before it waits for a slow device.
+const YIELDS: u32 = 50;
 
 // How long a caller without a ticket sleeps after this many looks, in microseconds: a little longer each time, so that many
 // who wait at once do not wake too often.
@@ -124,7 +125,9 @@ fn pause<M: Machine, R: Wait>(rt: &R, top: &Top<M>, served: u64, looks: u32, nap
     requires { IsBoard top.now.table_id }
 {
     if looks < SPINS {
-        spin_loop();
+        for _ in 0..1u32 << looks {
+            spin_loop();
+        }
     } else {
         let low = (served & 0xFFFF_FFFF) as u32;
         top.park_timeout(rt, 1, low, Duration::from_micros(nap));
