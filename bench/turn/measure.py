@@ -7,9 +7,9 @@ usage: measure.py [idle|busy|both] [TURNS]      both, and 2,000,000 turns in all
 First of a counter, then of one that sleeps for a millisecond in each call, as a machine over a slow device does, with a
 thousandth of the turns. For `busy` as many other processes as there are processors each keep one busy meanwhile. It wants
 the proved program (`rt run` in crates/benches leaves it as crates/benches/out/benches) and `rustc`. Both programs run in
-turn, nine times, and the fastest run of each counts, and its least processor time. The longest wait is that of all calls of
-nine further runs, in which each call is timed; of a counter that sleeps each call is timed in all runs. Every total must be
-what was asked for.
+turn, nine times, and the middle run of each counts, and its middle processor time: the fastest run would be one in which the
+threads hardly met. The longest wait is that of all calls of nine further runs, in which each call is timed; of a counter that
+sleeps each call is timed in all runs. Every total must be what was asked for.
 """
 
 import os
@@ -18,6 +18,7 @@ import subprocess
 import sys
 import tempfile
 from pathlib import Path
+from statistics import median
 from typing import NamedTuple
 
 HERE = Path(__file__).resolve().parent
@@ -49,21 +50,23 @@ def one_run(command: list, threads: int, turns: int, kind: list[str]) -> Ran:
 
 
 def measured(commands: dict[str, list], turns: int, kinds: list[list[str]]) -> dict[tuple[str, int], Ran]:
-    """Of the first kind the most speed and the least processor time, and of all kinds the longest wait."""
-    best: dict[tuple[str, int], Ran] = {}
-    for _ in range(RUNS):
-        for threads in CROWDS:
-            for name, command in commands.items():
-                runs = [one_run(command, threads, turns, kind) for kind in kinds]
-                known = best.get((name, threads), Ran(0, float("inf"), 0))
-                longest = max(it.longest for it in [known, *runs])
-                best[name, threads] = Ran(max(runs[0].speed, known.speed), min(runs[0].used, known.used), longest)
-    return best
-
-
-def print_table(load: str, unit: str, per: float, best: dict[tuple[str, int], Ran]) -> None:
+    """Of the first kind the middle speed and the middle processor time, and of all kinds the longest wait."""
+    middle: dict[tuple[str, int], Ran] = {}
     for threads in CROWDS:
-        turn, lock = best["turn", threads], best["mutex", threads]
+        runs: dict[str, list[list[Ran]]] = {name: [] for name in commands}
+        for _ in range(RUNS):
+            for name, command in commands.items():
+                runs[name].append([one_run(command, threads, turns, kind) for kind in kinds])
+        for name, rounds in runs.items():
+            longest = max(it.longest for kinds_of_round in rounds for it in kinds_of_round)
+            first = [kinds_of_round[0] for kinds_of_round in rounds]
+            middle[name, threads] = Ran(median(it.speed for it in first), median(it.used for it in first), longest)
+    return middle
+
+
+def print_table(load: str, unit: str, per: float, middle: dict[tuple[str, int], Ran]) -> None:
+    for threads in CROWDS:
+        turn, lock = middle["turn", threads], middle["mutex", threads]
         print(
             f"| {load} | {threads} | {turn.speed / per:.2f} {unit} | {lock.speed / per:.2f} | {turn.speed / lock.speed:.2f} "
             f"| {turn.used:.0f} | {lock.used:.0f} | {turn.longest / 1e6:.3f} | {lock.longest / 1e6:.3f} |",
