@@ -1,7 +1,8 @@
 //! A history in plain Rust: a map for each bucket, by the page's order, and a horizon.
 
 use super::hist::{Entry, Hist, Page, Stamp};
-use std::cmp::{Ordering, Reverse};
+use super::rank::Rank;
+use std::cmp::Reverse;
 use std::collections::btree_map::Entry as Place;
 use std::collections::{BTreeMap, BinaryHeap};
 use std::ops::Bound;
@@ -29,7 +30,7 @@ impl History {
         self.buckets[page.bucket()].get(&page).copied()
     }
 
-    /// Takes in a reference. Says what is known of its page afterwards, and nothing where the reference is before the horizon.
+    /// Takes in a reference. Says what is known of its page afterwards, and nothing where this is as it was.
     pub fn see(&mut self, page: Page, stamp: Stamp) -> Option<Hist> {
         if stamp.time < self.horizon {
             return None;
@@ -38,8 +39,7 @@ impl History {
             Place::Vacant(place) => Some(*place.insert(Hist::once(stamp))),
             Place::Occupied(mut place) => {
                 let known = place.get_mut();
-                known.see(stamp);
-                Some(*known)
+                known.see(stamp).then_some(*known)
             }
         }
     }
@@ -54,8 +54,7 @@ impl History {
             Place::Vacant(place) => Some(*place.insert(more)),
             Place::Occupied(mut place) => {
                 let known = place.get_mut();
-                known.join(more);
-                Some(*known)
+                known.join(more).then_some(*known)
             }
         }
     }
@@ -113,50 +112,21 @@ impl History {
         })
     }
 
-    /// The hottest pages, hottest first.
-    pub fn hottest(&self, count: usize) -> Vec<Page> {
+    /// The ranks of the hottest pages, hottest first.
+    pub fn hottest_ranks(&self, count: usize) -> Vec<Rank> {
         let mut ranks: Vec<Rank> = Vec::with_capacity(self.len());
-        ranks.extend(self.entries().map(Rank::of));
+        ranks.extend(self.entries().map(Rank::of_entry));
         if count < ranks.len() {
             ranks.select_nth_unstable_by(count, |a, b| b.cmp(a));
             ranks.truncate(count);
         }
         ranks.sort_unstable_by(|a, b| b.cmp(a));
-        ranks.into_iter().map(|rank| Page { dev: rank.dev, no: rank.no }).collect()
+        ranks
     }
-}
 
-/// What is known of a page, and the page, in the order of ranks and in 32 bytes: the wide numbers first.
-#[derive(Clone, Copy, PartialEq, Eq)]
-struct Rank {
-    prev: u64,
-    last: u64,
-    no: u64,
-    prev_replica: u16,
-    last_replica: u16,
-    dev: u16,
-}
-
-impl Rank {
-    fn of(entry: Entry) -> Rank {
-        let Entry { page: Page { dev, no }, hist } = entry;
-        // no stamp is less than every stamp
-        let prev = hist.prev().unwrap_or(Stamp { time: 0, replica: 0 });
-        let last = hist.last();
-        Rank { prev: prev.time, last: last.time, no, prev_replica: prev.replica, last_replica: last.replica, dev }
-    }
-}
-
-impl Ord for Rank {
-    fn cmp(&self, other: &Rank) -> Ordering {
-        let key = |rank: &Rank| (rank.prev, rank.prev_replica, rank.last, rank.last_replica, rank.dev, rank.no);
-        key(self).cmp(&key(other))
-    }
-}
-
-impl PartialOrd for Rank {
-    fn partial_cmp(&self, other: &Rank) -> Option<Ordering> {
-        Some(self.cmp(other))
+    /// The hottest pages, hottest first.
+    pub fn hottest(&self, count: usize) -> Vec<Page> {
+        self.hottest_ranks(count).into_iter().map(Rank::page).collect()
     }
 }
 
