@@ -6,8 +6,8 @@ usage: measure.py [CASE..]      the cases are: refs zipf pins steady orders long
 
 It wants the proved program (`rt run` in crates/warmplay leaves it as crates/warmplay/out/warmplay; the variable WARMPLAY names another)
 and `rustc`. Every case runs all programs in turn, on one machine, and takes the least user time of five runs or more; their answers must
-be equal. A case with a set-up is measured by difference: the whole schedule against the schedule of the set-up alone. Each row says what
-is measured, what it takes warmplay and plain Rust, and how many times as much plain Rust takes: 1 or more is good.
+be equal. Of a case with a set-up the events after it count alone, by the processor time of the program, which has the system's for it in
+it. Each row says what is measured, what it takes warmplay and plain Rust, and how many times as much plain Rust takes: 1 or more is good.
 """
 
 import array
@@ -59,20 +59,44 @@ def user_seconds(program: list[str], schedule: Path, answer: Path) -> float:
     return used.ru_utime
 
 
-def peak_kb(program: list[str], schedule: Path) -> int:
-    """The most memory that the program held, read when it has taken its whole input and still waits for more."""
-    process = subprocess.Popen(program, stdin=subprocess.PIPE, stdout=subprocess.DEVNULL)
+def feed(process: subprocess.Popen, schedule: Path) -> None:
+    """Gives the program a schedule, and waits until it has taken all of it and waits for more."""
     with open(schedule, "rb") as text:
         shutil.copyfileobj(text, process.stdin)
     process.stdin.flush()
     unread = array.array("i", [1])
     while unread[0] > 0 or "(sleeping)" not in Path(f"/proc/{process.pid}/status").read_text():
         fcntl.ioctl(process.stdin, termios.FIONREAD, unread)
-        time.sleep(0.05)
+        time.sleep(0.01)
+
+
+def peak_kb(program: list[str], schedule: Path) -> int:
+    """The most memory that the program held, read when it has taken its whole input and still waits for more."""
+    process = subprocess.Popen(program, stdin=subprocess.PIPE, stdout=subprocess.DEVNULL)
+    feed(process, schedule)
     status = Path(f"/proc/{process.pid}/status").read_text()
     process.stdin.close()
     process.wait()
     return int(re.search(r"VmHWM:\s+(\d+) kB", status)[1])
+
+
+def spent(process: subprocess.Popen) -> float:
+    """The processor time that a program has taken so far, the system's for it among it: Linux has a clock for each process."""
+    return time.clock_gettime((~process.pid << 3) | 2)
+
+
+def later_seconds(program: list[str], setup: Path, events: Path, answer: Path) -> float:
+    """The processor time that the events take, from when the set-up is answered until they are."""
+    with open(answer, "wb") as out:
+        process = subprocess.Popen(program, stdin=subprocess.PIPE, stdout=out)
+        feed(process, setup)
+        before = spent(process)
+        feed(process, events)
+        seconds = spent(process) - before
+        process.stdin.close()
+    if process.wait() != 0:
+        sys.exit(f"{program} ended with status {process.returncode}")
+    return seconds
 
 
 class Bench:
@@ -105,22 +129,24 @@ class Bench:
             subprocess.run([self.folder / "loads", *map(str, words)], stdout=out, check=True)
         return path
 
-    def best(self, schedule: Path, runs: int = RUNS) -> dict[str, float]:
-        """The least user time of each program, which take turns; their answers must be equal."""
-        best: dict[str, float] = {}
+    def least(self, seconds: Callable[[list[str], Path], float], runs: int) -> dict[str, float]:
+        """The least time of each program, which take turns; their answers must be equal."""
+        least: dict[str, float] = {}
         programs = self.programs
         for _ in range(runs):
             for name, program in programs.items():
-                seconds = user_seconds(program, schedule, self.folder / f"{name}.answer")
-                best[name] = min(best.get(name, seconds), seconds)
+                took = seconds(program, self.folder / f"{name}.answer")
+                least[name] = min(least.get(name, took), took)
         subprocess.run(["cmp", self.folder / f"{OURS}.answer", self.folder / f"{PLAIN}.answer"], check=True)
-        return best
+        return least
+
+    def best(self, schedule: Path) -> dict[str, float]:
+        return self.least(lambda program, answer: user_seconds(program, schedule, answer), RUNS)
 
     def added(self, setup: list[str], events: list[str], runs: int = RUNS) -> dict[str, float]:
         """What the events cost after the set-up."""
-        before = self.best(self.write("setup", setup), runs)
-        after = self.best(self.write("schedule", setup + events), runs)
-        return {name: max(after[name] - before[name], 1e-9) for name in before}
+        before, after = self.write("setup", setup), self.write("events", events)
+        return self.least(lambda program, answer: later_seconds(program, before, after, answer), runs)
 
 
 def row(what: str, took: dict[str, float], unit: str, digits: int = 0, note: str = "") -> None:
