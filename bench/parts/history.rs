@@ -9,6 +9,9 @@ use std::ops::Bound;
 
 pub const BUCKETS: usize = 64;
 
+/// How many times as many entries a map may have as are brought to it, for a walk along the map to cost less than searches.
+const MANY: usize = 8;
+
 type Bucket = BTreeMap<Page, Hist>;
 
 #[derive(Clone)]
@@ -55,6 +58,52 @@ impl History {
             Place::Occupied(mut place) => {
                 let known = place.get_mut();
                 known.join(more).then_some(*known)
+            }
+        }
+    }
+
+    /// The same of entries whose pages rise. Tells of each page that changed, and what is known of it afterwards.
+    ///
+    /// Entries of one bucket that are many beside it are merged with it: a step along a map costs less than a search.
+    pub fn take_all(&mut self, entries: &[Entry], mut tell: impl FnMut(Page, Hist)) {
+        let [first, .., last] = entries else {
+            return self.take_each(entries, tell);
+        };
+        let number = first.page.bucket();
+        let is_one = entries.iter().all(|entry| entry.page.bucket() == number);
+        let bucket = &mut self.buckets[number];
+        if !is_one || bucket.len() > MANY * entries.len() {
+            return self.take_each(entries, tell);
+        }
+        let mut new = Vec::new();
+        let mut rest = bucket.range_mut(first.page..=last.page);
+        let mut next = rest.next();
+        for &Entry { page, hist: mut more } in entries {
+            if !more.forget(self.horizon) {
+                continue;
+            }
+            while next.as_ref().is_some_and(|(known, _)| **known < page) {
+                next = rest.next();
+            }
+            match &mut next {
+                Some((known, hist)) if **known == page => {
+                    if hist.join(more) {
+                        tell(page, **hist);
+                    }
+                }
+                _ => {
+                    new.push((page, more));
+                    tell(page, more);
+                }
+            }
+        }
+        add(bucket, new);
+    }
+
+    fn take_each(&mut self, entries: &[Entry], mut tell: impl FnMut(Page, Hist)) {
+        for entry in entries {
+            if let Some(known) = self.take(*entry) {
+                tell(entry.page, known);
             }
         }
     }
@@ -127,6 +176,15 @@ impl History {
     /// The hottest pages, hottest first.
     pub fn hottest(&self, count: usize) -> Vec<Page> {
         self.hottest_ranks(count).into_iter().map(Rank::page).collect()
+    }
+}
+
+/// Adds pages to a bucket, which are rising and not there. Many are merged with those that are.
+fn add(bucket: &mut Bucket, new: Vec<(Page, Hist)>) {
+    if bucket.len() > MANY * new.len() {
+        bucket.extend(new);
+    } else {
+        bucket.append(&mut new.into_iter().collect());
     }
 }
 

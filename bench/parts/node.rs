@@ -3,7 +3,7 @@
 //! The digests and the warm-up list are kept until the history changes. Nothing is undone where memory runs out, as nothing is refused.
 
 use super::frames::{decode, encode, header, renew};
-use super::hist::{Entry, Hist, Page, Stamp};
+use super::hist::{Entry, Page, Stamp};
 use super::history::{BUCKETS, History};
 use super::pool::{Pool, Refusal, Slot};
 use super::rank::Rank;
@@ -37,9 +37,9 @@ impl Node {
         self.changed
     }
 
-    // What is known of a page has become this, where it changed.
     #[inline]
-    fn has_changed(&mut self, page: Page, known: Option<Hist>) {
+    pub fn see(&mut self, page: Page, stamp: Stamp) {
+        let known = self.history.see(page, stamp);
         if known.is_some() {
             self.changed |= 1 << page.bucket();
             self.warm_up = None;
@@ -47,15 +47,14 @@ impl Node {
         }
     }
 
-    #[inline]
-    pub fn see(&mut self, page: Page, stamp: Stamp) {
-        let known = self.history.see(page, stamp);
-        self.has_changed(page, known);
-    }
-
-    fn take(&mut self, entry: Entry) {
-        let known = self.history.take(entry);
-        self.has_changed(entry.page, known);
+    // Entries whose pages rise.
+    fn take(&mut self, entries: &[Entry]) {
+        let Node { history, pool, changed, warm_up, .. } = self;
+        history.take_all(entries, |page, known| {
+            *changed |= 1 << page.bucket();
+            *warm_up = None;
+            pool.refresh(page, || Rank::of(page, Some(known)));
+        });
     }
 
     /// Only the buckets of pages that lost a stamp have changed.
@@ -115,9 +114,7 @@ impl Node {
         if bytes[4] == 1 {
             let frame = decode(bytes).expect("the frame is one of entries");
             self.raise(frame.horizon);
-            for entry in frame.entries {
-                self.take(entry);
-            }
+            self.take(&frame.entries);
             return Vec::new();
         }
         let (horizon, body) = horizon_and_body(bytes);
