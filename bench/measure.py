@@ -315,13 +315,14 @@ def frames(bench: Bench) -> None:
 
 
 def replicas(bench: Bench) -> None:
-    """Nanoseconds an entry that is delivered, digests and requests among what they pay for. Short schedules run more often."""
+    """Nanoseconds an entry that is delivered, with what digests and requests cost. In a ring of 2 each entry comes twice, and is known then."""
     first = None
     for count in RINGS:
         bench.setup = Setup(count)
         lines = bench.load("ring", count, 10_000).read_text(encoding="ascii").splitlines()
         at = next(n for n, line in enumerate(lines) if line.startswith("#"))
         entries = int(lines[at].removeprefix("# "))
+        # a short schedule needs more runs, for its time to be told from what else the machine does
         seconds = bench.added(lines[:at], lines[at + 1 :], max(RUNS, RINGS[-1] // count))
         nanos = {name: it / entries * 1e9 for name, it in seconds.items()}
         first = first or nanos

@@ -9,7 +9,7 @@ use std::ops::Bound;
 
 pub const BUCKETS: usize = 64;
 
-/// How many times as many entries a map may have as are brought to it, for a walk along the map to cost less than searches.
+/// How many times as many entries a map may have as are brought to it, for a walk along it to cost less than searches.
 const MANY: usize = 8;
 
 type Bucket = BTreeMap<Page, Hist>;
@@ -179,12 +179,12 @@ impl History {
     }
 }
 
-/// Adds pages to a bucket, which are rising and not there. Many are merged with those that are.
+/// Adds pages to a bucket, which are rising and not there.
 fn add(bucket: &mut Bucket, new: Vec<(Page, Hist)>) {
-    if bucket.len() > MANY * new.len() {
-        bucket.extend(new);
+    if bucket.is_empty() {
+        *bucket = new.into_iter().collect();
     } else {
-        bucket.append(&mut new.into_iter().collect());
+        bucket.extend(new);
     }
 }
 

@@ -147,8 +147,7 @@ impl Node {
     /// Loads the hottest page that is in no frame, of as many as there are frames.
     pub fn warm_step(&mut self) -> Result<Option<Page>, Refusal> {
         let Node { history, pool, warm_up, .. } = self;
-        let WarmUp { ranks, passed } =
-            warm_up.get_or_insert_with(|| WarmUp { ranks: history.hottest_ranks(pool.len()), passed: 0 });
+        let WarmUp { ranks, passed } = warm_up.get_or_insert_with(|| WarmUp { ranks: history.hottest_ranks(pool.len()), passed: 0 });
         let next = ranks[*passed..].iter().position(|rank| pool.is_loadable(rank.page()));
         let Some(further) = next else {
             *passed = ranks.len();

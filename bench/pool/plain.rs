@@ -102,9 +102,7 @@ fn visit_often<H: BuildHasher + Default, C: Contest>(visits: u32) -> Result<(u64
     let mut drawn = 1u64;
     let mut sum = 0u64;
     for _ in 0..visits {
-        drawn = drawn
-            .wrapping_mul(6_364_136_223_846_793_005)
-            .wrapping_add(1_442_695_040_888_963_407);
+        drawn = drawn.wrapping_mul(6_364_136_223_846_793_005).wrapping_add(1_442_695_040_888_963_407);
         let no = drawn >> 48;
         let byte = visit(pool, Page { dev: 0, no }, &history, Some([(drawn >> 40) as u8; 8]))?;
         sum = sum.wrapping_mul(31).wrapping_add(u64::from(byte));
