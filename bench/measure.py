@@ -200,7 +200,7 @@ def zipf(bench: Bench) -> None:
 
 
 def pins(bench: Bench) -> None:
-    """Misses are one access of four: the victim of each leaves, and is written back where it was written to."""
+    """Three accesses of ten are misses: once all frames hold pages a victim leaves at each, and is written back where it was written to."""
     bench.setup = Setup(1, 4_096, 100_000)
     what = "1,000,000 `ref`, `pin` and `unpin`, with 250,000 `put` and `get`, Zipf over 100,000 pages, 4,096 frames"
     whole(bench, what, bench.load("pins", 1_000_000, bench.setup.frames, bench.setup.pages))
