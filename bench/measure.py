@@ -1,11 +1,13 @@
 #!/usr/bin/env python3
-"""Measures warmplay beside a plain Rust program of the same job, and prints the tables of docs/PERFORMANCE.md.
+"""Measures warmplay beside a plain Rust program of the same job, and prints the table of docs/PERFORMANCE.md.
 
-usage: measure.py [CASE..]      the cases are: refs zipf orders longline gossip warm memory window growth (all of them, where none is named)
+usage: measure.py [CASE..]      the cases are: refs zipf pins steady orders longline gossip warm memory window growth frames replicas
+                                (all of them, where none is named)
 
-It wants the proved program (`rt run` in crates/warmplay leaves it as crates/warmplay/out/warmplay) and `rustc`.
-Every case runs all programs in turn, on one machine, and takes the least user time of five runs; their answers must be equal.
-A case with a set-up is measured by difference: the whole schedule against the schedule of the set-up alone.
+It wants the proved program (`rt run` in crates/warmplay leaves it as crates/warmplay/out/warmplay; the variable WARMPLAY names another)
+and `rustc`. Every case runs all programs in turn, on one machine, and takes the least user time of five runs or more; their answers must
+be equal. Of a case with a set-up the events after it count alone, by the processor time of the program, which has the system's for it in
+it. Each row says what is measured, what it takes warmplay and plain Rust, and how many times as much plain Rust takes: 1 or more is good.
 """
 
 import array
@@ -20,17 +22,30 @@ import tempfile
 import termios
 import time
 from pathlib import Path
-from typing import Callable, Iterable
+from typing import Callable, Iterable, NamedTuple
 
 HERE = Path(__file__).resolve().parent
 ROOT = HERE.parent
-WARMPLAY = ROOT / "crates/warmplay/out/warmplay"
+WARMPLAY = Path(os.environ.get("WARMPLAY", ROOT / "crates/warmplay/out/warmplay"))
 ORDERS = ROOT / "examples/sqlite-orders"
 RUNS = 5
 REPLICAS = 64
 WINDOW, EVERY = 100_000, 10_000
 SIZES = [1_000, 10_000, 100_000, 1_000_000]
+POOLS = [4_096, 8_192, 16_384, 32_768, 65_536]
+RINGS = [2, 4, 8, 16, 32, 64]
 OURS, PLAIN = "warmplay", "plain"
+
+
+class Setup(NamedTuple):
+    """What the setup file says. Frames and pages are those that a replica has without a file, where nothing is said."""
+
+    replicas: int = REPLICAS
+    frames: int = 4
+    pages: int = 256
+
+    def toml(self) -> str:
+        return f"replicas = {self.replicas}\nframes = {self.frames}\ndevice = [{{pages = {self.pages}}}]\n"
 
 
 def user_seconds(program: list[str], schedule: Path, answer: Path) -> float:
@@ -44,32 +59,61 @@ def user_seconds(program: list[str], schedule: Path, answer: Path) -> float:
     return used.ru_utime
 
 
-def peak_kb(program: list[str], schedule: Path) -> int:
-    """The most memory that the program held, read when it has taken its whole input and still waits for more."""
-    process = subprocess.Popen(program, stdin=subprocess.PIPE, stdout=subprocess.DEVNULL)
+def feed(process: subprocess.Popen, schedule: Path) -> None:
+    """Gives the program a schedule, and waits until it has taken all of it and waits for more."""
     with open(schedule, "rb") as text:
         shutil.copyfileobj(text, process.stdin)
     process.stdin.flush()
     unread = array.array("i", [1])
     while unread[0] > 0 or "(sleeping)" not in Path(f"/proc/{process.pid}/status").read_text():
         fcntl.ioctl(process.stdin, termios.FIONREAD, unread)
-        time.sleep(0.05)
+        time.sleep(0.01)
+
+
+def peak_kb(program: list[str], schedule: Path) -> int:
+    """The most memory that the program held, read when it has taken its whole input and still waits for more."""
+    process = subprocess.Popen(program, stdin=subprocess.PIPE, stdout=subprocess.DEVNULL)
+    feed(process, schedule)
     status = Path(f"/proc/{process.pid}/status").read_text()
     process.stdin.close()
     process.wait()
     return int(re.search(r"VmHWM:\s+(\d+) kB", status)[1])
 
 
+def spent(process: subprocess.Popen) -> float:
+    """The processor time that a program has taken so far, the system's for it among it: Linux has a clock for each process."""
+    return time.clock_gettime((~process.pid << 3) | 2)
+
+
+def later_seconds(program: list[str], setup: Path, events: Path, answer: Path) -> float:
+    """The processor time that the events take, from when the set-up is answered until they are."""
+    with open(answer, "wb") as out:
+        process = subprocess.Popen(program, stdin=subprocess.PIPE, stdout=out)
+        feed(process, setup)
+        before = spent(process)
+        feed(process, events)
+        seconds = spent(process) - before
+        process.stdin.close()
+    if process.wait() != 0:
+        sys.exit(f"{program} ended with status {process.returncode}")
+    return seconds
+
+
 class Bench:
     def __init__(self, folder: Path) -> None:
         self.folder = folder
-        plain = str(folder / "plain")
-        subprocess.run(["rustc", "-O", "--edition", "2024", "-o", plain, HERE / "plain.rs"], check=True)
-        setup = folder / "setup.toml"
-        setup.write_text(f"replicas = {REPLICAS}\n", encoding="ascii")
-        self.programs = {
+        self.setup = Setup()
+        for name in ("plain", "loads"):
+            subprocess.run(["rustc", "-O", "--edition", "2024", "-o", folder / name, HERE / f"{name}.rs"], check=True)
+
+    @property
+    def programs(self) -> dict[str, list[str]]:
+        """The commands, for the setup that is chosen."""
+        setup = self.folder / "setup.toml"
+        setup.write_text(self.setup.toml(), encoding="ascii")
+        return {
             OURS: [str(WARMPLAY), "play", "--setup", str(setup)],
-            PLAIN: [plain, str(REPLICAS)],
+            PLAIN: [str(self.folder / "plain"), *map(str, self.setup)],
         }
 
     def write(self, name: str, lines: Iterable[str]) -> Path:
@@ -78,36 +122,53 @@ class Bench:
             out.writelines(f"{line}\n" for line in lines)
         return path
 
-    def best(self, schedule: Path) -> dict[str, float]:
-        """The least user time of each program, which take turns; their answers must be equal."""
-        best: dict[str, float] = {}
-        for _ in range(RUNS):
-            for name, program in self.programs.items():
-                seconds = user_seconds(program, schedule, self.folder / f"{name}.answer")
-                best[name] = min(best.get(name, seconds), seconds)
+    def load(self, *words: object) -> Path:
+        """A schedule that loads.rs prints."""
+        path = self.folder / "load"
+        with open(path, "wb") as out:
+            subprocess.run([self.folder / "loads", *map(str, words)], stdout=out, check=True)
+        return path
+
+    def least(self, seconds: Callable[[list[str], Path], float], runs: int) -> dict[str, float]:
+        """The least time of each program, which take turns; their answers must be equal."""
+        least: dict[str, float] = {}
+        programs = self.programs
+        for _ in range(runs):
+            for name, program in programs.items():
+                took = seconds(program, self.folder / f"{name}.answer")
+                least[name] = min(least.get(name, took), took)
         subprocess.run(["cmp", self.folder / f"{OURS}.answer", self.folder / f"{PLAIN}.answer"], check=True)
-        return best
+        return least
 
-    def added(self, setup: list[str], events: list[str]) -> dict[str, float]:
+    def best(self, schedule: Path) -> dict[str, float]:
+        return self.least(lambda program, answer: user_seconds(program, schedule, answer), RUNS)
+
+    def added(self, setup: list[str], events: list[str], runs: int = RUNS) -> dict[str, float]:
         """What the events cost after the set-up."""
-        before = self.best(self.write("setup", setup))
-        after = self.best(self.write("schedule", setup + events))
-        return {name: max(after[name] - before[name], 1e-9) for name in self.programs}
+        before, after = self.write("setup", setup), self.write("events", events)
+        return self.least(lambda program, answer: later_seconds(program, before, after, answer), runs)
 
 
-def row(what: str, seconds: dict[str, float], note: str) -> None:
-    ours, plain = seconds[OURS], seconds[PLAIN]
-    print(f"| {what} | {ours:.3f} s | {plain:.3f} s | {plain / ours:.2f} | {note} |", flush=True)
+def row(what: str, took: dict[str, float], unit: str, digits: int = 0, note: str = "") -> None:
+    """What it took each program, and how many times as much it took the plain one."""
+    ours, plain = took[OURS], took[PLAIN]
+    print(f"| {what} | {ours:,.{digits}f} {unit} | {plain:,.{digits}f} {unit} | {plain / ours:.2f} | {note} |", flush=True)
 
 
-def whole(bench: Bench, what: str, schedule: Path) -> None:
+def whole(bench: Bench, what: str, schedule: Path, note: str = "") -> None:
     seconds = bench.best(schedule)
-    row(what, seconds, f"{schedule.stat().st_size / 1e6 / max(seconds[OURS], 0.001):.0f} MB/s")
+    speed = f"{schedule.stat().st_size / 1e6 / max(seconds[OURS], 0.001):.0f} MB/s"
+    row(what, seconds, "s", 3, note or speed)
 
 
 def each(bench: Bench, what: str, setup: list[str], events: list[str]) -> None:
     seconds = bench.added(setup, events)
-    row(what, seconds, f"{seconds[OURS] / len(events) * 1e3:.3f} ms an event, {len(events)} events")
+    row(what, seconds, "s", 3, f"{seconds[OURS] / len(events) * 1e3:.3f} ms an event, {len(events)} events")
+
+
+def times(took: dict[str, float], first: dict[str, float], what: str) -> str:
+    """How many times what the first took."""
+    return f"{took[OURS] / first[OURS]:.1f} times that of {what}, plain Rust {took[PLAIN] / first[PLAIN]:.1f}"
 
 
 def reached(replica: int, pages: Iterable[int], start: int) -> list[str]:
@@ -136,6 +197,19 @@ def zipf(bench: Bench) -> None:
     ranks = (int(1_000_000 ** draw.random()) - 1 for _ in range(2_000_000))
     lines = (f"ref 1 {1 + n % 2} 0:{pages[rank]} {n}" for n, rank in enumerate(ranks))
     whole(bench, "2,000,000 `ref` lines, Zipf over 1,000,000 pages", bench.write("zipf", lines))
+
+
+def pins(bench: Bench) -> None:
+    """Three accesses of ten are misses: once all frames hold pages a victim leaves at each, and is written back where it was written to."""
+    bench.setup = Setup(1, 4_096, 100_000)
+    what = "1,000,000 `ref`, `pin` and `unpin`, with 250,000 `put` and `get`, Zipf over 100,000 pages, 4,096 frames"
+    whole(bench, what, bench.load("pins", 1_000_000, bench.setup.frames, bench.setup.pages))
+
+
+def steady(bench: Bench) -> None:
+    bench.setup = Setup(8)
+    what = "500,000 `ref`, Zipf over 100,000 pages, by 8 replicas, two of which gossip after each 4,000"
+    whole(bench, what, bench.load("steady", bench.setup.replicas, 500, 1_000, 4, 100_000))
 
 
 def orders(bench: Bench) -> None:
@@ -176,9 +250,9 @@ def warm(bench: Bench) -> None:
 def memory(bench: Bench) -> None:
     nothing = bench.write("nothing", [])
     schedule = bench.write("pages", reached(1, scattered(1_000_000), 1))
-    held = {name: (peak_kb(program, schedule) - peak_kb(program, nothing)) * 1024 / 1e6 for name, program in bench.programs.items()}
-    shares = " | ".join(f"{held[name]:.1f} bytes" for name in bench.programs)
-    print(f"| memory a page, of 1,000,000 | {shares} | {held[PLAIN] / held[OURS]:.2f} | |", flush=True)
+    programs = bench.programs.items()
+    held = {name: (peak_kb(program, schedule) - peak_kb(program, nothing)) * 1024 / 1e6 for name, program in programs}
+    row("memory a page, of 1,000,000", held, "bytes", 1)
 
 
 def moving(pages: int, window: int, every: int) -> Iterable[str]:
@@ -193,41 +267,74 @@ def window(bench: Bench) -> None:
     """What a replica holds that sees 10,000,000 pages through a window of 100,000, beside one that has seen as many as the window has."""
     nothing, seen = bench.write("nothing", []), bench.write("seen", moving(WINDOW, WINDOW, EVERY))
     wide = bench.write("moving", moving(100 * WINDOW, WINDOW, EVERY))
-    print("\n| memory of a replica, MB | " + " | ".join(bench.programs) + " |\n|---|" + "---|" * len(bench.programs))
     kb = {name: [peak_kb(program, schedule) for schedule in (nothing, seen, wide)] for name, program in bench.programs.items()}
-    for what, at in ((f"of {WINDOW:,} pages", 1), (f"of {100 * WINDOW:,} through a window of {WINDOW:,}", 2)):
-        print(f"| {what} | " + " | ".join(f"{(peaks[at] - peaks[0]) * 1024 / 1e6:.2f}" for peaks in kb.values()) + " |", flush=True)
-    times = ((peaks[2] - peaks[0]) / (peaks[1] - peaks[0]) for peaks in kb.values())
-    print("| times as much | " + " | ".join(f"{it:.2f}" for it in times) + " |", flush=True)
+    few, many = ({name: (peaks[at] - peaks[0]) * 1024 / 1e6 for name, peaks in kb.items()} for at in (1, 2))
+    row(f"memory of a replica of {WINDOW:,} pages", few, "MB", 2)
+    note = times(many, few, f"{WINDOW:,} pages")
+    row(f"memory of a replica of {100 * WINDOW:,} pages through a window of {WINDOW:,}", many, "MB", 2, note)
+
+
+def growth_loads(size: int) -> Iterable[tuple[str, list[str], list[str], int]]:
+    """What is measured, the set-up, the events, and their pages: in as many replicas as hold a million pages, or all."""
+    replicas = range(1, min(REPLICAS, 1_000_000 // size) + 1)
+    rounds = max(1, 1_000_000 // (size * len(replicas)))
+    new = [line for i in replicas for line in reached(i, scattered(size), 1)]
+    known = [line for n in range(rounds) for i in replicas for line in reached(i, scattered(size), 2 + n)]
+    listed = [f"warm {i} {size // 8}" for _ in range(rounds) for i in replicas]
+    shown = [f"show {i}" for _ in range(rounds) for i in replicas]
+    pages = size * len(replicas)
+    yield "a `ref` line of a new page", [], new, pages
+    yield "a `ref` line of a known page", new, known, pages * rounds
+    yield "`warm` of an eighth, a page", new, listed, pages * rounds
+    yield "`show`, a page", new, shown, pages * rounds
 
 
 def growth(bench: Bench) -> None:
-    """Nanoseconds a page, in as many replicas as hold a million pages, or all."""
-    print("\n| a page of, in ns | " + " | ".join(f"{size:,}" for size in SIZES) + " |\n|---|" + "---|" * len(SIZES))
-    loads: dict[str, list[str]] = {}
+    """Nanoseconds a page."""
+    loads: dict[str, list[dict[str, float]]] = {}
     for size in SIZES:
-        replicas = range(1, min(REPLICAS, 1_000_000 // size) + 1)
-        rounds = max(1, 1_000_000 // (size * len(replicas)))
-        new = [line for i in replicas for line in reached(i, scattered(size), 1)]
-        known = [line for n in range(rounds) for i in replicas for line in reached(i, scattered(size), 2 + n)]
-        listed = [f"warm {i} {size // 8}" for _ in range(rounds) for i in replicas]
-        pages = size * len(replicas)
-        for what, setup, events, count in (
-            ("a `ref` line of a new page", [], new, pages),
-            ("a `ref` line of a known page", new, known, pages * rounds),
-            ("`warm` of an eighth", new, listed, pages * rounds),
-            ("`show`", new, [f"show {i}" for _ in range(rounds) for i in replicas], pages * rounds),
-        ):
+        for what, setup, events, count in growth_loads(size):
             seconds = bench.added(setup, events)
-            for name in bench.programs:
-                loads.setdefault(f"{what}, {name}", []).append(f"{seconds[name] / count * 1e9:.0f}")
-    for what, cells in loads.items():
-        print(f"| {what} | " + " | ".join(cells) + " |", flush=True)
+            loads.setdefault(what, []).append({name: it / count * 1e9 for name, it in seconds.items()})
+    for what, took in loads.items():
+        for size, nanos in zip(SIZES, took):
+            row(f"{what}, of {size:,}", nanos, "ns", 0, times(nanos, took[0], f"{SIZES[0]:,}"))
+
+
+def frames(bench: Bench) -> None:
+    """A complete warm-up. That of 65,536 frames may take 20 times the time of that of 4,096."""
+    setup = reached(1, scattered(1_000_000), 1)
+    first = None
+    for count in POOLS:
+        bench.setup = Setup(1, count, 1_048_576)
+        seconds = bench.added(setup, ["warmstep 1"] * count)
+        first = first or seconds
+        nanos = f"{seconds[OURS] / count * 1e9:.0f} ns a step, plain Rust {seconds[PLAIN] / count * 1e9:.0f}"
+        note = f"{nanos}; {times(seconds, first, f'{POOLS[0]:,}')}"
+        row(f"a whole warm-up of {count:,} frames, of 1,000,000 pages", seconds, "s", 3, note)
+
+
+def replicas(bench: Bench) -> None:
+    """Nanoseconds an entry that is delivered, with what digests and requests cost. In a ring of 2 each entry comes twice, and is known then."""
+    first = None
+    for count in RINGS:
+        bench.setup = Setup(count)
+        lines = bench.load("ring", count, 10_000).read_text(encoding="ascii").splitlines()
+        at = next(n for n, line in enumerate(lines) if line.startswith("#"))
+        entries = int(lines[at].removeprefix("# "))
+        # a short schedule needs more runs, for its time to be told from what else the machine does
+        seconds = bench.added(lines[:at], lines[at + 1 :], max(RUNS, RINGS[-1] // count))
+        nanos = {name: it / entries * 1e9 for name, it in seconds.items()}
+        first = first or nanos
+        what = f"an entry delivered, {count} replicas of 10,000 pages in a ring"
+        row(what, nanos, "ns", 0, f"{entries:,} entries; {times(nanos, first, f'{RINGS[0]} replicas')}")
 
 
 CASES: dict[str, Callable[[Bench], None]] = {
     "refs": refs,
     "zipf": zipf,
+    "pins": pins,
+    "steady": steady,
     "orders": orders,
     "longline": longline,
     "gossip": gossip,
@@ -235,6 +342,8 @@ CASES: dict[str, Callable[[Bench], None]] = {
     "memory": memory,
     "window": window,
     "growth": growth,
+    "frames": frames,
+    "replicas": replicas,
 }
 
 
@@ -246,6 +355,7 @@ def main() -> None:
         bench = Bench(Path(folder))
         print("| what | warmplay | plain Rust | plain time by ours | |\n|---|---|---|---|---|")
         for name in names:
+            bench.setup = Setup()
             CASES[name](bench)
 
 

@@ -1,40 +1,27 @@
 //! The same job as `warmplay play`, in plain Rust: the measure for docs/PERFORMANCE.md, and no part of the product.
 //!
 //! It reads a schedule from standard input, answers each line, and writes its answers out before it reads more. A history is a map for
-//! each bucket with a horizon, and a frame is the bytes that go over the wire, as the product's are. It has no pool, undoes nothing, and
-//! knows the lines of the measured schedules alone.
+//! each bucket with a horizon, a pool is over one device in memory, and a frame is the bytes that go over the wire, as the product's are.
+//! It undoes nothing, and knows all lines but `restart`.
 //!
-//!     plain REPLICAS
+//!     plain REPLICAS [FRAMES PAGES]
 //!
-//! Built by `bench/measure.py` with `rustc -O`.
+//! FRAMES and PAGES are those of each replica's pool and of its device. Built by `bench/measure.py` with `rustc -O`.
 
 #[path = "parts/mod.rs"]
 mod parts;
 
-use parts::frames::{decode, encode};
-use parts::hist::{Entry, Page, Stamp};
-use parts::history::History;
-use parts::text::{LONGEST, Pieces, Words, put_line, put_number, put_page};
+use parts::hist::Page;
+use parts::pool::{Refusal, Slot};
+use parts::text::{LONGEST, Pieces, Words, put_hex, put_line, put_number, put_page, put_slot};
+use parts::world::{Setup, World};
 use std::env;
 use std::io::{self, Write};
 
-const WORKERS: usize = 2;
-const ROOM: usize = 64;
-const FULL: usize = 1000;
 const OUTPUT: usize = 65_536;
 
-struct Replica {
-    history: History,
-    buffers: [Vec<(Page, u64)>; WORKERS],
-}
-
-impl Replica {
-    fn new() -> Replica {
-        Replica { history: History::new(), buffers: std::array::from_fn(|_| Vec::with_capacity(ROOM)) }
-    }
-}
-
-/// A line without words or with a comment, or an event. Replicas, workers and frames are numbered from 1, and may be none.
+/// A line without words or with a comment, or an event. Replicas, workers and frames are numbered from 1, and may be none. The bytes of a
+/// `put` stand beside it.
 #[derive(Clone, Copy)]
 enum Line {
     Nothing,
@@ -42,15 +29,23 @@ enum Line {
     Flush { worker: usize },
     Horizon { time: u64 },
     Send { bucket: usize, after: Option<Page> },
-    Deliver { frame: usize },
+    Offer,
+    Deliver { frame: u64 },
+    Pin { page: Page },
+    Unpin { slot: Slot },
+    Put { slot: Slot, at: usize },
+    Get { slot: Slot, at: usize, len: usize },
+    Victim,
+    WarmStep,
     Warm { count: usize },
     Show,
 }
 
-/// The replica of a line, and what it says. `None` where it is bad.
+/// The replica of a line, and what it says; the bytes of a `put` are left in `bytes`. `None` where it is bad.
 #[inline]
-fn line_of(words: &mut Words) -> Option<(usize, Line)> {
+fn line_of(words: &mut Words, bytes: &mut Vec<u8>) -> Option<(usize, Line)> {
     const SHORT: u64 = u16::MAX as u64;
+    const COUNT: u64 = u32::MAX as u64;
     let command = words.word();
     if matches!(command, [] | [b'#', ..]) {
         return Some((0, Line::Nothing));
@@ -58,6 +53,15 @@ fn line_of(words: &mut Words) -> Option<(usize, Line)> {
     let replica = words.number(SHORT)? as usize;
     let line = match command {
         b"ref" => Line::Ref { worker: words.number(SHORT)? as usize, page: words.page()?, time: words.number(u64::MAX)? },
+        b"pin" => Line::Pin { page: words.page()? },
+        b"unpin" => Line::Unpin { slot: words.slot()? },
+        b"put" => {
+            let (slot, at) = (words.slot()?, words.number(COUNT)? as usize);
+            bytes.clear();
+            words.hex(bytes)?;
+            Line::Put { slot, at }
+        }
+        b"get" => Line::Get { slot: words.slot()?, at: words.number(COUNT)? as usize, len: words.number(COUNT)? as usize },
         b"flush" => Line::Flush { worker: words.number(SHORT)? as usize },
         b"horizon" => Line::Horizon { time: words.number(u64::MAX)? },
         b"send" => {
@@ -65,92 +69,121 @@ fn line_of(words: &mut Words) -> Option<(usize, Line)> {
             let after = if words.is_done() { None } else { Some(words.page()?) };
             Line::Send { bucket, after }
         }
-        b"deliver" => Line::Deliver { frame: words.number(u64::MAX)? as usize },
-        b"warm" => Line::Warm { count: words.number(u64::from(u32::MAX))? as usize },
+        b"offer" => Line::Offer,
+        b"deliver" => Line::Deliver { frame: words.number(u64::MAX)? },
+        b"victim" => Line::Victim,
+        b"warmstep" => Line::WarmStep,
+        b"warm" => Line::Warm { count: words.number(COUNT)? as usize },
         b"show" => Line::Show,
         _ => return None,
     };
     words.is_done().then_some((replica, line))
 }
 
-struct World {
-    replicas: Vec<Replica>,
-    frames: Vec<Vec<u8>>,
-    carried: Vec<Entry>,
-}
-
-impl World {
-    fn new(replicas: usize) -> World {
-        let replicas = (0..replicas).map(|_| Replica::new()).collect();
-        World { replicas, frames: Vec::new(), carried: Vec::with_capacity(FULL) }
-    }
-
-    /// Plays an event, and prints its answer. Gives why it is refused.
-    fn play(&mut self, number: usize, line: Line, out: &mut Vec<u8>) -> Result<(), &'static str> {
-        let at = number.wrapping_sub(1);
-        let replica = self.replicas.get_mut(at).ok_or("14 NoSuchReplica")?;
-        match line {
-            Line::Nothing => {}
-            Line::Ref { worker, page, time } => {
-                let buffer = replica.buffers.get_mut(worker.wrapping_sub(1)).ok_or("15 NoSuchWorker")?;
-                if buffer.len() == ROOM {
-                    flush(buffer, &mut replica.history, number);
-                }
-                buffer.push((page, time));
-                out.extend_from_slice(b"ok\n");
-            }
-            Line::Flush { worker } => {
-                let buffer = replica.buffers.get_mut(worker.wrapping_sub(1)).ok_or("15 NoSuchWorker")?;
-                flush(buffer, &mut replica.history, number);
-                out.extend_from_slice(b"ok\n");
-            }
-            Line::Horizon { time } => {
-                replica.history.raise(time);
-                put_numbered(out, b"horizon ", replica.history.horizon);
-            }
-            Line::Send { bucket, after } => {
-                self.carried.clear();
-                self.carried.extend(replica.history.after(bucket, after).take(FULL));
-                self.frames.push(encode(number as u16, replica.history.horizon, &self.carried));
-                put_numbered(out, b"frame ", self.frames.len() as u64);
-            }
-            Line::Deliver { frame } => {
-                let bytes = self.frames.get(frame.wrapping_sub(1)).ok_or("16 NoSuchFrame")?;
-                let frame = decode(bytes).expect("a frame of entries");
-                replica.history.raise(frame.horizon);
-                for entry in frame.entries {
-                    replica.history.take(entry);
-                }
-                out.extend_from_slice(b"took 0\n");
-            }
-            Line::Warm { count } => {
-                out.extend_from_slice(b"pages");
-                for page in replica.history.hottest(count) {
-                    out.push(b' ');
-                    put_page(out, page);
-                }
-                out.push(b'\n');
-            }
-            Line::Show => {
-                for entry in replica.history.in_order() {
-                    put_line(out, &entry);
-                }
-                put_numbered(out, b"end ", replica.history.len() as u64);
-            }
+/// Plays an event, and prints its answer. Gives why it is refused.
+fn play(world: &mut World, number: usize, line: Line, bytes: &[u8], out: &mut Vec<u8>) -> Result<(), Refusal> {
+    match line {
+        Line::Nothing => {}
+        Line::Ref { worker, page, time } => {
+            world.replica(number)?.refer(worker, page, time)?;
+            out.extend_from_slice(b"ok\n");
         }
-        Ok(())
+        Line::Flush { worker } => {
+            world.replica(number)?.flush(worker)?;
+            out.extend_from_slice(b"ok\n");
+        }
+        Line::Send { bucket, after } => put_numbered(out, b"frame ", world.send(number, bucket, after)?),
+        Line::Offer => put_numbered(out, b"frame ", world.offer(number)?),
+        Line::Deliver { frame } => {
+            let (count, first) = world.deliver(number, frame)?;
+            out.extend_from_slice(b"took ");
+            put_number(out, count);
+            if count > 0 {
+                out.extend_from_slice(b" from ");
+                put_number(out, first);
+            }
+            out.push(b'\n');
+        }
+        Line::Pin { .. } | Line::Unpin { .. } | Line::Put { .. } | Line::Get { .. } => {
+            play_slot(world, number, line, bytes, out)?;
+        }
+        _ => play_node(world, number, line, out)?,
     }
+    Ok(())
 }
 
-fn flush(buffer: &mut Vec<(Page, u64)>, history: &mut History, replica: usize) {
-    for (page, time) in buffer.drain(..) {
-        history.see(page, Stamp { time, replica: replica as u16 });
+/// What is done with a slot.
+fn play_slot(world: &mut World, number: usize, line: Line, bytes: &[u8], out: &mut Vec<u8>) -> Result<(), Refusal> {
+    let node = &mut world.replica(number)?.node;
+    match line {
+        Line::Pin { page } => {
+            let slot = node.pin(page)?;
+            out.extend_from_slice(b"slot ");
+            put_slot(out, slot);
+            out.push(b'\n');
+            return Ok(());
+        }
+        Line::Unpin { slot } | Line::Put { slot, .. } | Line::Get { slot, .. } if !node.pool.holds(slot) => {
+            return Err("13 StaleSlot");
+        }
+        Line::Unpin { slot } => node.pool.unpin(slot),
+        Line::Put { slot, at } => node.pool.write(slot, at, bytes)?,
+        Line::Get { slot, at, len } => {
+            let read = node.pool.read(slot, at, len)?;
+            out.extend_from_slice(if read.is_empty() { b"bytes" } else { b"bytes " });
+            put_hex(out, read);
+            out.push(b'\n');
+            return Ok(());
+        }
+        _ => {}
     }
+    out.extend_from_slice(b"ok\n");
+    Ok(())
+}
+
+/// What is asked of a replica as a whole.
+fn play_node(world: &mut World, number: usize, line: Line, out: &mut Vec<u8>) -> Result<(), Refusal> {
+    let node = &mut world.replica(number)?.node;
+    match line {
+        Line::Horizon { time } => {
+            node.raise(time);
+            put_numbered(out, b"horizon ", node.history.horizon);
+        }
+        Line::Victim => put_page_or_none(out, b"page ", node.pool.victim()),
+        Line::WarmStep => put_page_or_none(out, b"loaded ", node.warm_step()?),
+        Line::Warm { count } => {
+            out.extend_from_slice(b"pages");
+            for page in node.history.hottest(count) {
+                out.push(b' ');
+                put_page(out, page);
+            }
+            out.push(b'\n');
+        }
+        Line::Show => {
+            for entry in node.history.in_order() {
+                put_line(out, &entry);
+            }
+            put_numbered(out, b"end ", node.history.len() as u64);
+        }
+        _ => {}
+    }
+    Ok(())
 }
 
 fn put_numbered(out: &mut Vec<u8>, what: &[u8], number: u64) {
     out.extend_from_slice(what);
     put_number(out, number);
+    out.push(b'\n');
+}
+
+fn put_page_or_none(out: &mut Vec<u8>, what: &[u8], page: Option<Page>) {
+    match page {
+        None => out.extend_from_slice(b"none"),
+        Some(page) => {
+            out.extend_from_slice(what);
+            put_page(out, page);
+        }
+    }
     out.push(b'\n');
 }
 
@@ -160,25 +193,32 @@ fn write_out(out: &mut Vec<u8>) -> io::Result<()> {
     Ok(())
 }
 
+fn setup() -> Option<Setup> {
+    let mut words = env::args().skip(1);
+    let setup = Setup::of(words.next()?.parse().ok()?);
+    let Some(frames) = words.next() else { return Some(setup) };
+    Some(Setup { frames: frames.parse().ok()?, pages: words.next()?.parse().ok()?, ..setup })
+}
+
 fn main() -> io::Result<()> {
-    let replicas = env::args().nth(1).and_then(|word| word.parse().ok()).expect("plain REPLICAS");
-    let mut world = World::new(replicas);
+    let mut world = World::new(setup().expect("plain REPLICAS [FRAMES PAGES]"));
     let mut pieces = Pieces::new(io::stdin().lock());
     let mut out = Vec::with_capacity(2 * OUTPUT);
+    let mut bytes = Vec::new();
     let mut number = 0;
     while let Some(piece) = pieces.next()? {
         let mut rest = piece;
         while !rest.is_empty() {
             number += 1;
             let mut words = Words::new(rest);
-            let line = line_of(&mut words);
+            let line = line_of(&mut words, &mut bytes);
             let after = words.after_line();
             let is_short = rest.len() - after.len() <= LONGEST + 1;
             match line.filter(|_| is_short) {
                 None => put_numbered(&mut out, b"bad line ", number),
                 Some((_, Line::Nothing)) => {}
                 Some((replica, line)) => {
-                    if let Err(why) = world.play(replica, line, &mut out) {
+                    if let Err(why) = play(&mut world, replica, line, &bytes, &mut out) {
                         out.extend_from_slice(b"refused ");
                         out.extend_from_slice(why.as_bytes());
                         out.push(b'\n');
@@ -192,5 +232,6 @@ fn main() -> io::Result<()> {
         }
         write_out(&mut out)?;
     }
+    world.finish();
     Ok(())
 }

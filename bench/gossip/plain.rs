@@ -12,194 +12,15 @@
 #[path = "../parts/mod.rs"]
 mod parts;
 
-use parts::frames::{decode, encode, header, renew};
-use parts::hist::{Entry, Hist, Page, Stamp};
-use parts::history::{BUCKETS, History};
-use std::collections::HashMap;
+use parts::hist::{Page, Stamp};
+use parts::node::Node;
+use parts::pool::Pool;
 use std::time::Instant;
 
 const WARMED: usize = 4_096;
 const PAGE_SIZE: usize = 16;
-const FULL: usize = 1000;
 const DROPPED: u64 = 100;
 const LATE: u64 = 1 << 40;
-
-/// How a page is ranked: what leaves first is least.
-#[derive(Clone, Copy, PartialEq, Eq, PartialOrd, Ord)]
-struct Rank {
-    hist: Option<Hist>,
-    page: Page,
-}
-
-struct Frame {
-    rank: Option<Rank>,
-    generation: u64,
-    bytes: Vec<u8>,
-}
-
-struct Pool {
-    device: Vec<Vec<u8>>,
-    frames: Vec<Frame>,
-    index: HashMap<Page, usize>,
-    free: Vec<usize>,
-}
-
-impl Pool {
-    fn new(frames: usize, pages: u64) -> Pool {
-        let frame = || Frame { rank: None, generation: 0, bytes: vec![0; PAGE_SIZE] };
-        Pool {
-            device: (0..pages).map(|_| vec![0; PAGE_SIZE]).collect(),
-            frames: (0..frames).map(|_| frame()).collect(),
-            index: HashMap::with_capacity(frames),
-            free: (0..frames).rev().collect(),
-        }
-    }
-
-    fn load(&mut self, rank: Rank) -> Option<()> {
-        let at = self.free.pop()?;
-        let frame = &mut self.frames[at];
-        frame.bytes.copy_from_slice(&self.device[rank.page.no as usize]);
-        frame.rank = Some(rank);
-        frame.generation += 1;
-        self.index.insert(rank.page, at);
-        Some(())
-    }
-
-    /// The frame of a page whose history changed gets its new rank.
-    fn refresh(&mut self, page: Page, hist: Hist) {
-        if let Some(at) = self.index.get(&page) {
-            self.frames[*at].rank = Some(Rank { hist: Some(hist), page });
-        }
-    }
-
-    /// All pages in frames are ranked again.
-    fn refresh_all(&mut self, history: &History) {
-        for (page, at) in &self.index {
-            self.frames[*at].rank = Some(Rank { hist: history.get(*page), page: *page });
-        }
-    }
-}
-
-struct Node {
-    id: u16,
-    history: History,
-    pool: Pool,
-    digests: Vec<[u8; 32]>,
-    // The buckets whose digests are not those of the history.
-    changed: u64,
-    hottest: Option<Vec<Page>>,
-}
-
-impl Node {
-    fn new(id: u16, frames: usize, pages: u64) -> Node {
-        let pool = Pool::new(frames, pages);
-        Node { id, history: History::new(), pool, digests: vec![[0; 32]; BUCKETS], changed: u64::MAX, hottest: None }
-    }
-
-    // What is known of a page has become this, where anything was taken in.
-    fn has_changed(&mut self, page: Page, known: Option<Hist>) {
-        let Some(known) = known else { return };
-        self.changed |= 1 << page.bucket();
-        self.hottest = None;
-        self.pool.refresh(page, known);
-    }
-
-    fn see(&mut self, page: Page, stamp: Stamp) {
-        let known = self.history.see(page, stamp);
-        self.has_changed(page, known);
-    }
-
-    fn take(&mut self, entry: Entry) {
-        let known = self.history.take(entry);
-        self.has_changed(entry.page, known);
-    }
-
-    /// Only the buckets of pages that lost a stamp have changed.
-    fn raise(&mut self, time: u64) {
-        let lost = self.history.raise(time);
-        if lost != 0 {
-            self.changed |= lost;
-            self.hottest = None;
-            self.pool.refresh_all(&self.history);
-        }
-    }
-
-    fn renewed(&mut self) -> &[[u8; 32]] {
-        renew(&mut self.digests, self.changed, &self.history);
-        self.changed = 0;
-        &self.digests
-    }
-
-    fn offer(&mut self) -> Vec<u8> {
-        let digests = self.renewed().concat();
-        self.framed(2, &digests)
-    }
-
-    fn framed(&self, kind: u8, body: &[u8]) -> Vec<u8> {
-        let mut bytes = header(kind, self.id, self.history.horizon, body.len());
-        bytes.extend_from_slice(body);
-        bytes
-    }
-
-    /// The entries of a set of buckets, in messages.
-    fn wanted(&self, mask: u64) -> Vec<Vec<u8>> {
-        let mut messages = Vec::new();
-        let mut part = Vec::with_capacity(FULL);
-        for bucket in (0..BUCKETS).filter(|bucket| mask >> bucket & 1 == 1) {
-            let mut rest = self.history.bucket(bucket);
-            part.extend(rest.by_ref().take(FULL));
-            while !part.is_empty() {
-                messages.push(encode(self.id, self.history.horizon, &part));
-                part.clear();
-                part.extend(rest.by_ref().take(FULL));
-            }
-        }
-        messages
-    }
-
-    fn receive(&mut self, bytes: &[u8]) -> Vec<Vec<u8>> {
-        if bytes[4] == 1 {
-            let frame = decode(bytes).expect("the frame is one of entries");
-            self.raise(frame.horizon);
-            for entry in frame.entries {
-                self.take(entry);
-            }
-            return Vec::new();
-        }
-        let (horizon, body) = horizon_and_body(bytes);
-        self.raise(horizon);
-        if bytes[4] == 3 {
-            return self.wanted(u64::from_be_bytes(body.try_into().expect("a mask")));
-        }
-        let own = self.renewed();
-        let differ = |b: &usize| body[32 * b..32 * b + 32] != own[*b];
-        let mask = (0..64).filter(differ).fold(0u64, |mask, b| mask | 1 << b);
-        if mask == 0 {
-            return Vec::new();
-        }
-        let mut answers = self.wanted(mask);
-        answers.push(self.framed(3, &mask.to_be_bytes()));
-        answers
-    }
-
-    fn warm_step(&mut self) -> Option<Page> {
-        let hottest = self.hottest.take().unwrap_or_else(|| self.history.hottest(self.pool.frames.len()));
-        let is_loadable = |page: &&Page| page.no < self.pool.device.len() as u64 && !self.pool.index.contains_key(*page);
-        let next = hottest.iter().find(is_loadable).copied();
-        self.hottest = Some(hottest);
-        let page = next?;
-        self.pool.load(Rank { hist: self.history.get(page), page })?;
-        Some(page)
-    }
-}
-
-/// The horizon and the body of a frame in either format; in the older one the horizon is 0.
-fn horizon_and_body(bytes: &[u8]) -> (u64, &[u8]) {
-    match &bytes[..4] {
-        b"L2G2" => (u64::from_be_bytes(bytes[7..15].try_into().expect("eight bytes")), &bytes[19..]),
-        _ => (0, &bytes[11..]),
-    }
-}
 
 fn scattered(i: u64, pages: u64) -> Page {
     Page { dev: 0, no: i.wrapping_mul(7919) % pages }
@@ -215,7 +36,7 @@ fn remember(node: &mut Node, pages: u64, from: u64) {
 }
 
 fn told(id: u16, frames: usize, pages: u64) -> Node {
-    let mut node = Node::new(id, frames, pages);
+    let mut node = Node::new(id, Pool::new(frames, pages, PAGE_SIZE));
     remember(&mut node, pages, 0);
     node
 }
@@ -258,7 +79,7 @@ fn rounds(pages: u64, buckets: u64, rounds: u64) -> (u64, u128) {
 fn warmed(pages: u64, steps: u64) -> (u64, u128) {
     let mut node = told(1, WARMED, pages);
     let start = Instant::now();
-    let loaded = (0..steps).map_while(|_| node.warm_step());
+    let loaded = (0..steps).map_while(|_| node.warm_step().expect("no page is fixed"));
     let sum = loaded.fold(0u64, |sum, page| sum.wrapping_mul(31).wrapping_add(page.no));
     let nanos = start.elapsed().as_nanos();
     (sum, nanos)
@@ -284,7 +105,7 @@ fn offers(pages: u64, buckets: u64, offers: u64) -> (u64, u128) {
 
 // This many offers, each after a raise that dropped pages of one bucket. The offers alone are timed.
 fn raised_offers(pages: u64, offers: u64) -> (u64, u128) {
-    let mut node = Node::new(1, 1, pages);
+    let mut node = Node::new(1, Pool::new(1, pages, PAGE_SIZE));
     remember(&mut node, pages, LATE);
     node.offer();
     let first = pages.next_multiple_of(64);
@@ -295,7 +116,7 @@ fn raised_offers(pages: u64, offers: u64) -> (u64, u128) {
         }
         node.offer();
         node.raise(i + 2);
-        assert!(node.changed == 1, "the raise changes bucket 0 alone");
+        assert!(node.changed() == 1, "the raise changes bucket 0 alone");
         let start = Instant::now();
         let bytes = node.offer();
         nanos += start.elapsed().as_nanos();
@@ -305,7 +126,7 @@ fn raised_offers(pages: u64, offers: u64) -> (u64, u128) {
 }
 
 fn remembered(pages: u64) -> (u64, u128) {
-    let mut node = Node::new(1, 1, 1);
+    let mut node = Node::new(1, Pool::new(1, 1, PAGE_SIZE));
     let start = Instant::now();
     remember(&mut node, pages, 0);
     let nanos = start.elapsed().as_nanos();

@@ -228,19 +228,26 @@ fn size_of(header: &[u8]) -> Option<Option<usize>> {
     (4..=4 + longest * MOST).contains(&len).then_some(Some(whole + len))
 }
 
+/// As many bytes of entries are hashed at once, or a few more.
+const HASHED: usize = 8192;
+
 /// Computes the digests of a set of buckets again.
 pub fn renew(digests: &mut [[u8; 32]], mask: u64, history: &History) {
-    let mut bytes = Vec::with_capacity(31);
+    let mut bytes = Vec::with_capacity(HASHED + 31);
     for (bucket, digest) in digests.iter_mut().enumerate() {
         if mask >> bucket & 1 == 0 {
             continue;
         }
         let mut hasher = Sha256::new();
         for entry in history.bucket(bucket) {
-            bytes.clear();
             put_entry(&mut bytes, &entry);
-            hasher.update(&bytes);
+            if bytes.len() >= HASHED {
+                hasher.update(&bytes);
+                bytes.clear();
+            }
         }
+        hasher.update(&bytes);
+        bytes.clear();
         *digest = hasher.finalize();
     }
 }

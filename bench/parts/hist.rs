@@ -57,20 +57,23 @@ impl Hist {
         self.prev.replica != 0
     }
 
-    /// Takes in a further stamp.
-    pub fn see(&mut self, stamp: Stamp) {
+    /// Takes in a further stamp. Says whether it brings anything new.
+    pub fn see(&mut self, stamp: Stamp) -> bool {
         if stamp > self.last {
             self.prev = self.last;
             self.last = stamp;
-        } else if stamp < self.last && stamp > self.prev {
+            return true;
+        }
+        let is_new = stamp < self.last && stamp > self.prev;
+        if is_new {
             self.prev = stamp;
         }
+        is_new
     }
 
-    /// Takes in what else is known of the page.
-    pub fn join(&mut self, more: Hist) {
-        self.see(more.last);
-        self.see(more.prev);
+    /// Takes in what else is known of the page. Says whether it brings anything new.
+    pub fn join(&mut self, more: Hist) -> bool {
+        self.see(more.last) | self.see(more.prev)
     }
 
     /// Forgets the stamps before a time. Says whether one is left.

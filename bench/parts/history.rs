@@ -1,12 +1,16 @@
 //! A history in plain Rust: a map for each bucket, by the page's order, and a horizon.
 
 use super::hist::{Entry, Hist, Page, Stamp};
-use std::cmp::{Ordering, Reverse};
+use super::rank::Rank;
+use std::cmp::Reverse;
 use std::collections::btree_map::Entry as Place;
 use std::collections::{BTreeMap, BinaryHeap};
 use std::ops::Bound;
 
 pub const BUCKETS: usize = 64;
+
+/// How many times as many entries a map may have as are brought to it, for a walk along it to cost less than searches.
+const MANY: usize = 8;
 
 type Bucket = BTreeMap<Page, Hist>;
 
@@ -29,7 +33,7 @@ impl History {
         self.buckets[page.bucket()].get(&page).copied()
     }
 
-    /// Takes in a reference. Says what is known of its page afterwards, and nothing where the reference is before the horizon.
+    /// Takes in a reference. Says what is known of its page afterwards, and nothing where this is as it was.
     pub fn see(&mut self, page: Page, stamp: Stamp) -> Option<Hist> {
         if stamp.time < self.horizon {
             return None;
@@ -38,8 +42,7 @@ impl History {
             Place::Vacant(place) => Some(*place.insert(Hist::once(stamp))),
             Place::Occupied(mut place) => {
                 let known = place.get_mut();
-                known.see(stamp);
-                Some(*known)
+                known.see(stamp).then_some(*known)
             }
         }
     }
@@ -54,8 +57,53 @@ impl History {
             Place::Vacant(place) => Some(*place.insert(more)),
             Place::Occupied(mut place) => {
                 let known = place.get_mut();
-                known.join(more);
-                Some(*known)
+                known.join(more).then_some(*known)
+            }
+        }
+    }
+
+    /// The same of entries whose pages rise. Tells of each page that changed, and what is known of it afterwards.
+    ///
+    /// Entries of one bucket that are many beside it are merged with it: a step along a map costs less than a search.
+    pub fn take_all(&mut self, entries: &[Entry], mut tell: impl FnMut(Page, Hist)) {
+        let [first, .., last] = entries else {
+            return self.take_each(entries, tell);
+        };
+        let number = first.page.bucket();
+        let is_one = entries.iter().all(|entry| entry.page.bucket() == number);
+        let bucket = &mut self.buckets[number];
+        if !is_one || bucket.len() > MANY * entries.len() {
+            return self.take_each(entries, tell);
+        }
+        let mut new = Vec::new();
+        let mut rest = bucket.range_mut(first.page..=last.page);
+        let mut next = rest.next();
+        for &Entry { page, hist: mut more } in entries {
+            if !more.forget(self.horizon) {
+                continue;
+            }
+            while next.as_ref().is_some_and(|(known, _)| **known < page) {
+                next = rest.next();
+            }
+            match &mut next {
+                Some((known, hist)) if **known == page => {
+                    if hist.join(more) {
+                        tell(page, **hist);
+                    }
+                }
+                _ => {
+                    new.push((page, more));
+                    tell(page, more);
+                }
+            }
+        }
+        add(bucket, new);
+    }
+
+    fn take_each(&mut self, entries: &[Entry], mut tell: impl FnMut(Page, Hist)) {
+        for entry in entries {
+            if let Some(known) = self.take(*entry) {
+                tell(entry.page, known);
             }
         }
     }
@@ -113,50 +161,30 @@ impl History {
         })
     }
 
-    /// The hottest pages, hottest first.
-    pub fn hottest(&self, count: usize) -> Vec<Page> {
+    /// The ranks of the hottest pages, hottest first.
+    pub fn hottest_ranks(&self, count: usize) -> Vec<Rank> {
         let mut ranks: Vec<Rank> = Vec::with_capacity(self.len());
-        ranks.extend(self.entries().map(Rank::of));
+        ranks.extend(self.entries().map(Rank::of_entry));
         if count < ranks.len() {
             ranks.select_nth_unstable_by(count, |a, b| b.cmp(a));
             ranks.truncate(count);
         }
         ranks.sort_unstable_by(|a, b| b.cmp(a));
-        ranks.into_iter().map(|rank| Page { dev: rank.dev, no: rank.no }).collect()
+        ranks
+    }
+
+    /// The hottest pages, hottest first.
+    pub fn hottest(&self, count: usize) -> Vec<Page> {
+        self.hottest_ranks(count).into_iter().map(Rank::page).collect()
     }
 }
 
-/// What is known of a page, and the page, in the order of ranks and in 32 bytes: the wide numbers first.
-#[derive(Clone, Copy, PartialEq, Eq)]
-struct Rank {
-    prev: u64,
-    last: u64,
-    no: u64,
-    prev_replica: u16,
-    last_replica: u16,
-    dev: u16,
-}
-
-impl Rank {
-    fn of(entry: Entry) -> Rank {
-        let Entry { page: Page { dev, no }, hist } = entry;
-        // no stamp is less than every stamp
-        let prev = hist.prev().unwrap_or(Stamp { time: 0, replica: 0 });
-        let last = hist.last();
-        Rank { prev: prev.time, last: last.time, no, prev_replica: prev.replica, last_replica: last.replica, dev }
-    }
-}
-
-impl Ord for Rank {
-    fn cmp(&self, other: &Rank) -> Ordering {
-        let key = |rank: &Rank| (rank.prev, rank.prev_replica, rank.last, rank.last_replica, rank.dev, rank.no);
-        key(self).cmp(&key(other))
-    }
-}
-
-impl PartialOrd for Rank {
-    fn partial_cmp(&self, other: &Rank) -> Option<Ordering> {
-        Some(self.cmp(other))
+/// Adds pages to a bucket, which are rising and not there.
+fn add(bucket: &mut Bucket, new: Vec<(Page, Hist)>) {
+    if bucket.is_empty() {
+        *bucket = new.into_iter().collect();
+    } else {
+        bucket.extend(new);
     }
 }
 

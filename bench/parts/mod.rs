@@ -4,5 +4,9 @@
 pub mod frames;
 pub mod hist;
 pub mod history;
+pub mod node;
+pub mod pool;
+pub mod rank;
 pub mod sha256;
 pub mod text;
+pub mod world;

@@ -9,6 +9,43 @@ const K: [u32; 64] = [
     0x682e6ff3, 0x748f82ee, 0x78a5636f, 0x84c87814, 0x8cc70208, 0x90befffa, 0xa4506ceb, 0xbef9a3f7, 0xc67178f2,
 ];
 
+/// One round. The words change places by the order in which the next round names them, and none is moved.
+macro_rules! round {
+    ($a:ident $b:ident $c:ident $d:ident $e:ident $f:ident $g:ident $h:ident, $word:expr) => {
+        let s1 = $e.rotate_right(6) ^ $e.rotate_right(11) ^ $e.rotate_right(25);
+        let t1 = $h.wrapping_add(s1).wrapping_add($g ^ ($e & ($f ^ $g))).wrapping_add($word);
+        let s0 = $a.rotate_right(2) ^ $a.rotate_right(13) ^ $a.rotate_right(22);
+        $d = $d.wrapping_add(t1);
+        $h = t1.wrapping_add(s0).wrapping_add(($a & $b) | ($c & ($a | $b)));
+    };
+}
+
+fn compress(state: &mut [u32; 8], block: &[u8; 64]) {
+    let mut w = [0u32; 64];
+    for (word, four) in w.iter_mut().zip(block.as_chunks::<4>().0) {
+        *word = u32::from_be_bytes(*four);
+    }
+    for i in 16..64 {
+        let s0 = w[i - 15].rotate_right(7) ^ w[i - 15].rotate_right(18) ^ (w[i - 15] >> 3);
+        let s1 = w[i - 2].rotate_right(17) ^ w[i - 2].rotate_right(19) ^ (w[i - 2] >> 10);
+        w[i] = w[i - 16].wrapping_add(s0).wrapping_add(w[i - 7]).wrapping_add(s1);
+    }
+    let [mut a, mut b, mut c, mut d, mut e, mut f, mut g, mut h] = *state;
+    for (w, k) in w.as_chunks::<8>().0.iter().zip(K.as_chunks::<8>().0) {
+        round!(a b c d e f g h, k[0].wrapping_add(w[0]));
+        round!(h a b c d e f g, k[1].wrapping_add(w[1]));
+        round!(g h a b c d e f, k[2].wrapping_add(w[2]));
+        round!(f g h a b c d e, k[3].wrapping_add(w[3]));
+        round!(e f g h a b c d, k[4].wrapping_add(w[4]));
+        round!(d e f g h a b c, k[5].wrapping_add(w[5]));
+        round!(c d e f g h a b, k[6].wrapping_add(w[6]));
+        round!(b c d e f g h a, k[7].wrapping_add(w[7]));
+    }
+    for (word, more) in state.iter_mut().zip([a, b, c, d, e, f, g, h]) {
+        *word = word.wrapping_add(more);
+    }
+}
+
 pub struct Sha256 {
     state: [u32; 8],
     block: [u8; 64],
@@ -22,50 +59,34 @@ impl Sha256 {
         Sha256 { state, block: [0; 64], held: 0, len: 0 }
     }
 
-    fn compress(&mut self) {
-        let mut w = [0u32; 64];
-        for (word, four) in w.iter_mut().zip(self.block.chunks_exact(4)) {
-            *word = u32::from_be_bytes(four.try_into().expect("four bytes"));
-        }
-        for i in 16..64 {
-            let s0 = w[i - 15].rotate_right(7) ^ w[i - 15].rotate_right(18) ^ (w[i - 15] >> 3);
-            let s1 = w[i - 2].rotate_right(17) ^ w[i - 2].rotate_right(19) ^ (w[i - 2] >> 10);
-            w[i] = w[i - 16].wrapping_add(s0).wrapping_add(w[i - 7]).wrapping_add(s1);
-        }
-        let [mut a, mut b, mut c, mut d, mut e, mut f, mut g, mut h] = self.state;
-        for i in 0..64 {
-            let s1 = e.rotate_right(6) ^ e.rotate_right(11) ^ e.rotate_right(25);
-            let t1 = h.wrapping_add(s1).wrapping_add((e & f) ^ (!e & g)).wrapping_add(K[i]).wrapping_add(w[i]);
-            let s0 = a.rotate_right(2) ^ a.rotate_right(13) ^ a.rotate_right(22);
-            let t2 = s0.wrapping_add((a & b) ^ (a & c) ^ (b & c));
-            (h, g, f, e, d, c, b, a) = (g, f, e, d.wrapping_add(t1), c, b, a, t1.wrapping_add(t2));
-        }
-        for (word, more) in self.state.iter_mut().zip([a, b, c, d, e, f, g, h]) {
-            *word = word.wrapping_add(more);
-        }
-        self.held = 0;
-    }
-
+    /// Whole blocks are taken from where they are.
     pub fn update(&mut self, mut bytes: &[u8]) {
         self.len += bytes.len() as u64;
-        while !bytes.is_empty() {
+        if self.held > 0 {
             let n = bytes.len().min(64 - self.held);
             self.block[self.held..self.held + n].copy_from_slice(&bytes[..n]);
             self.held += n;
             bytes = &bytes[n..];
-            if self.held == 64 {
-                self.compress();
+            if self.held < 64 {
+                return;
             }
+            compress(&mut self.state, &self.block);
         }
+        let (blocks, rest) = bytes.as_chunks::<64>();
+        for block in blocks {
+            compress(&mut self.state, block);
+        }
+        self.block[..rest.len()].copy_from_slice(rest);
+        self.held = rest.len();
     }
 
     pub fn finalize(mut self) -> [u8; 32] {
         let bits = self.len * 8;
-        self.update(&[0x80]);
-        while self.held != 56 {
-            self.update(&[0]);
-        }
-        self.update(&bits.to_be_bytes());
+        let padding = if self.held < 56 { 56 - self.held } else { 120 - self.held };
+        let mut last = [0; 72];
+        last[0] = 0x80;
+        last[padding..padding + 8].copy_from_slice(&bits.to_be_bytes());
+        self.update(&last[..padding + 8]);
         let mut digest = [0; 32];
         for (four, word) in digest.chunks_exact_mut(4).zip(self.state) {
             four.copy_from_slice(&word.to_be_bytes());

@@ -1,6 +1,7 @@
 //! Schedules as text: the pieces of an input, the words of its lines, and numbers, pages and entries as they are printed.
 
 use super::hist::{Entry, Page, Stamp};
+use super::pool::Slot;
 use std::io::{self, Read};
 
 /// The longest line, its end not counted.
@@ -120,6 +121,31 @@ impl<'a> Words<'a> {
         self.is_between().then_some(Page { dev, no })
     }
 
+    /// The next word, where it is a slot.
+    #[inline]
+    pub fn slot(&mut self) -> Option<Slot> {
+        self.skip_spaces();
+        let index = self.digits(u64::from(u32::MAX))? as u32;
+        let [b'.', rest @ ..] = self.rest else { return None };
+        self.rest = rest;
+        let generation = self.digits(u64::MAX)?;
+        self.is_between().then_some(Slot { index, generation })
+    }
+
+    /// The next word, where it is pairs of hexadecimal digits: the bytes that they spell come after those that are there.
+    pub fn hex(&mut self, bytes: &mut Vec<u8>) -> Option<()> {
+        let (pairs, []) = self.word().as_chunks::<2>() else { return None };
+        if pairs.is_empty() {
+            return None;
+        }
+        bytes.reserve(pairs.len());
+        for [high, low] in pairs {
+            let byte = NIBBLES[usize::from(*high)] << 4 | NIBBLES[usize::from(*low)];
+            bytes.push(u8::try_from(byte).ok()?);
+        }
+        Some(())
+    }
+
     /// Whether no word is left.
     #[inline]
     pub fn is_done(&mut self) -> bool {
@@ -147,6 +173,18 @@ const PAIRS: [[u8; 2]; 100] = {
     pairs
 };
 
+/// The value of each hexadecimal digit. What stands for the other bytes makes more than a byte of each pair that it is in.
+const NIBBLES: [u16; 256] = {
+    let mut nibbles = [0x100; 256];
+    let mut at = 0;
+    while at < 16 {
+        nibbles[b"0123456789abcdef"[at] as usize] = at as u16;
+        nibbles[b"0123456789ABCDEF"[at] as usize] = at as u16;
+        at += 1;
+    }
+    nibbles
+};
+
 /// Prints a number, two digits at a time.
 pub fn put_number(out: &mut Vec<u8>, number: u64) {
     let mut digits = [0; 20];
@@ -168,6 +206,19 @@ pub fn put_page(out: &mut Vec<u8>, page: Page) {
     put_number(out, u64::from(page.dev));
     out.push(b':');
     put_number(out, page.no);
+}
+
+pub fn put_slot(out: &mut Vec<u8>, slot: Slot) {
+    put_number(out, u64::from(slot.index));
+    out.push(b'.');
+    put_number(out, slot.generation);
+}
+
+pub fn put_hex(out: &mut Vec<u8>, bytes: &[u8]) {
+    const DIGITS: &[u8; 16] = b"0123456789abcdef";
+    for byte in bytes {
+        out.extend_from_slice(&[DIGITS[usize::from(byte >> 4)], DIGITS[usize::from(byte & 15)]]);
+    }
 }
 
 fn put_stamp(out: &mut Vec<u8>, stamp: Stamp) {
