@@ -152,7 +152,8 @@ class Bench:
 def row(what: str, took: dict[str, float], unit: str, digits: int = 0, note: str = "") -> None:
     """What it took each program, and how many times as much it took the plain one."""
     ours, plain = took[OURS], took[PLAIN]
-    print(f"| {what} | {ours:,.{digits}f} {unit} | {plain:,.{digits}f} {unit} | {plain / ours:.2f} | {note} |", flush=True)
+    ratio = f"{plain / ours:.2f}" if ours > 0 else "too short"
+    print(f"| {what} | {ours:,.{digits}f} {unit} | {plain:,.{digits}f} {unit} | {ratio} | {note} |", flush=True)
 
 
 def whole(bench: Bench, what: str, schedule: Path, note: str = "") -> None:
