@@ -17,7 +17,6 @@ use std::hint::spin_loop;
 use std::marker::Model;
 use std::snapshot::Snapshot;
 use std::sync::Wait;
-use std::thread::yield_now;
 use std::time::Duration;
 
 /// A machine that threads share: they call it through a `&`, each with a [`Pass`] of its own.
@@ -104,10 +103,6 @@ const LOOKS: u32 = SPINS + NAPS;
 // How long a caller sleeps between two looks at first, in microseconds, where the serving word stays as it was.
 const NAP: u64 = 50;
 
-// How often the caller whose ticket is next yields: some ten microseconds in all. Then it sleeps as the others do, so that it keeps no
-// processor busy while the call before it waits for a slow device.
-const YIELDS: u32 = 50;
-
 // How long a caller without a ticket sleeps after this many looks, in microseconds: a little longer each time, so that many
 // who wait at once do not wake too often.
 fn longer_nap(looks: u32) -> u64 {
@@ -174,8 +169,8 @@ fn take_ticket<M: Machine, R: Wait>(rt: &R, top: &Top<M>, place: &mut Place<M>) 
     unreachable!()
 }
 
-// Waits until the ticket is served. Then the seat has the machine. Whoever is next yields before it sleeps: if it slept at once, all
-// behind it would wait for its nap.
+// Waits until the ticket is served. Then the seat has the machine. Whoever is next sleeps as the others do, and does not yield: on busy
+// processors a yield gives a whole slice of time away, for which all behind it would wait too.
 fn wait_turn<M: Machine, R: Wait>(rt: &R, top: &Top<M>, place: &mut Place<M>, ticket: u64)
     requires table { (place.old.table_id ≡ top.now.table_id) × IsBoard top.now.table_id }
     requires waits { (place.old.me.1 ≡ []) × (place.old.me.0.waits ≡ true)
@@ -184,19 +179,13 @@ fn wait_turn<M: Machine, R: Wait>(rt: &R, top: &Top<M>, place: &mut Place<M>, ti
     ensures serves { HasMachine M.view place.old.me.0 place.new.me }
 {
     let mut looks = 0u32;
-    let mut yields = 0u32;
     for _ in rt.forever() {
         let served = top.load::<Look>(place, 1);
         if served == ticket {
             return;
         }
-        if looks >= SPINS && yields < YIELDS && served.wrapping_add(1) == ticket {
-            yield_now();
-            yields += 1;
-        } else {
-            pause(rt, top, served, looks, NAP);
-            looks = looks.saturating_add(1);
-        }
+        pause(rt, top, served, looks, NAP);
+        looks = looks.saturating_add(1);
     }
 }
 
