@@ -13,9 +13,10 @@
 
 #include <stdlib.h>
 #include <string.h>
+#include <time.h>
 #include <unistd.h>
 
-enum { TOPIC_ROOM = 64, KEEPALIVE = 10, RETRY_MICROSECONDS = 100000 };
+enum { TOPIC_ROOM = 64, KEEPALIVE = 10, RETRY_MILLISECONDS = 200 };
 
 static void state_topic(char topic[TOPIC_ROOM], unsigned replica) { snprintf(topic, TOPIC_ROOM, "warm/%u/state", replica); }
 
@@ -59,8 +60,18 @@ static void on_message(struct mosquitto *client, void *data, const struct mosqui
     if (status == WARM_OK && frame_sender(message->payload, length) == g->file->replica) g->own++;
 }
 
+static uint64_t milliseconds_now(void) {
+    struct timespec now;
+    clock_gettime(CLOCK_MONOTONIC, &now);
+    return (uint64_t)now.tv_sec * 1000 + (uint64_t)now.tv_nsec / 1000000;
+}
+
+/* Tries now and then: a database's transactions do not wait for a broker. */
 static void connect_to_broker(gossip *g) {
-    if (mosquitto_connect(g->client, g->host, g->port, KEEPALIVE) != MOSQ_ERR_SUCCESS) usleep(RETRY_MICROSECONDS);
+    uint64_t now = milliseconds_now();
+    if (now < g->retry_at) return;
+    g->retry_at = now + RETRY_MILLISECONDS;
+    mosquitto_connect(g->client, g->host, g->port, KEEPALIVE);
 }
 
 bool gossip_open(gossip *g, pool_file *file, const char *host, int port, unsigned peer) {
@@ -83,6 +94,7 @@ void gossip_poll(gossip *g, int milliseconds) {
     if (result == MOSQ_ERR_SUCCESS) return;
     g->is_connected = false;
     connect_to_broker(g);
+    usleep(1000 * (unsigned)milliseconds);
 }
 
 static uint64_t hash_of(const uint8_t *bytes, size_t length) {

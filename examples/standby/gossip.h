@@ -22,6 +22,7 @@ typedef struct gossip {
     int port;
     unsigned peer;
     bool is_connected, peer_is_gone;
+    uint64_t retry_at; /* when to connect again, in milliseconds */
     published buckets[BUCKETS];
     uint64_t sent, unsent;                   /* frames that were given to the broker, and that were not while it was gone */
     uint64_t statuses[WARM_BAD_BUCKET + 1];  /* of frames that came */

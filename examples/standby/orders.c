@@ -26,11 +26,12 @@ static const char *const texts[ORDER_STATEMENTS] = {
 };
 
 static const char schema[] =
-    "CREATE TABLE customers(id INTEGER PRIMARY KEY, name, balance, orders, data);"
-    "CREATE TABLE stock(id INTEGER PRIMARY KEY, name, price, quantity, sold, data);"
-    "CREATE TABLE orders(id INTEGER PRIMARY KEY AUTOINCREMENT, customer, total, lines);"
+    "CREATE TABLE customers(id INTEGER PRIMARY KEY, name TEXT, balance INTEGER, orders INTEGER, data TEXT);"
+    "CREATE TABLE stock(id INTEGER PRIMARY KEY, name TEXT, price INTEGER, quantity INTEGER, sold INTEGER, data TEXT);"
+    "CREATE TABLE orders(id INTEGER PRIMARY KEY AUTOINCREMENT, customer INTEGER, total INTEGER, lines INTEGER);"
     "CREATE INDEX orders_of ON orders(customer, id);"
-    "CREATE TABLE order_lines(order_no, line, item, quantity, amount, PRIMARY KEY(order_no, line)) WITHOUT ROWID;"
+    "CREATE TABLE order_lines(order_no INTEGER, line INTEGER, item INTEGER, quantity INTEGER, amount INTEGER, PRIMARY KEY(order_no, line))"
+    " WITHOUT ROWID;"
     "WITH RECURSIVE n(i) AS (SELECT 1 UNION ALL SELECT i + 1 FROM n LIMIT %d)"
     " INSERT INTO customers SELECT i, 'customer ' || i, 0, 0, hex(zeroblob(180)) FROM n;"
     "WITH RECURSIVE n(i) AS (SELECT 1 UNION ALL SELECT i + 1 FROM n LIMIT %d)"

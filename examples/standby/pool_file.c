@@ -74,7 +74,7 @@ static int open_handle(pool_file *file, int which, size_t page_size) {
     if (status != WARM_OK) return status;
     file->current = which;
     file->page_size = page_size;
-    memset(file->generations, 0, file->frames * sizeof *file->generations);
+    residents_clear(&file->residents);
     return WARM_OK;
 }
 
@@ -85,9 +85,8 @@ int pool_file_open(pool_file *file, int fd, uint16_t replica, size_t frames) {
     read_clock(file);
     memcpy(file->counter, header + COUNTER_AT, POOL_COUNTER);
     file->header_page_size = page_size_in(header + SIZE_AT);
-    file->generations = calloc(frames + 1, sizeof *file->generations);
-    if (file->generations == NULL) return WARM_MEMORY;
-    int status = open_handle(file, 0, file->header_page_size != 0 ? file->header_page_size : DEFAULT_PAGE_SIZE);
+    int status = residents_open(&file->residents, frames) ? WARM_OK : WARM_MEMORY;
+    if (status == WARM_OK) status = open_handle(file, 0, file->header_page_size != 0 ? file->header_page_size : DEFAULT_PAGE_SIZE);
     if (status != WARM_OK) pool_file_close(file);
     return status;
 }
@@ -95,8 +94,7 @@ int pool_file_open(pool_file *file, int fd, uint16_t replica, size_t frames) {
 void pool_file_close(pool_file *file) {
     warm_close(&file->handles[0]);
     warm_close(&file->handles[1]);
-    free(file->generations);
-    file->generations = NULL;
+    residents_close(&file->residents);
 }
 
 /* ---- references ---- */
@@ -118,8 +116,7 @@ static void refer(pool_file *file, uint64_t no) {
 static int pin(pool_file *file, uint64_t no, warm_slot *slot, bool *came_in) {
     int status = warm_pin(pool_file_handle(file), (warm_page){.no = no}, slot);
     if (status != WARM_OK) return status;
-    *came_in = file->generations[slot->index] != slot->generation;
-    file->generations[slot->index] = slot->generation;
+    *came_in = residents_note(&file->residents, *slot, no);
     /* A page beyond the end of the file is made of zeros, and read from no device. */
     if (*came_in && no * file->page_size < file->size) file->device_reads++;
     return WARM_OK;
@@ -142,10 +139,29 @@ static int read_part(pool_file *file, uint64_t no, size_t at, uint8_t *into, siz
     return status != WARM_OK ? status : unpinned;
 }
 
-/* A page that is written was read before, and referenced then. A page that is new to the file is referenced as it is written. */
+/* Writes a page to the file itself. */
+static int write_past_pool(pool_file *file, uint64_t no, const uint8_t *bytes) {
+    file->is_unsynced = true;
+    for (size_t done = 0; done < file->page_size;) {
+        ssize_t put = pwrite(file->fd, bytes + done, file->page_size - done, (off_t)(no * file->page_size + done));
+        if (put < 0 && errno == EINTR) continue;
+        if (put <= 0) return POOL_IO;
+        done += (size_t)put;
+    }
+    file->direct_writes++;
+    return WARM_OK;
+}
+
+/*
+ * A page that is written was read before, and referenced then. A page that is new to the file is referenced as it is written.
+ *
+ * A page that has left its frame since it was read is written whole to the file: a pin would first read, for nothing, what is
+ * written over at once. It is in no frame, so no frame has older bytes.
+ */
 static int write_part(pool_file *file, uint64_t no, size_t at, const uint8_t *bytes, size_t length) {
     warm_slot slot;
     bool came_in, is_new = no * file->page_size >= file->size;
+    if (!is_new && length == file->page_size && !residents_have(&file->residents, no)) return write_past_pool(file, no, bytes);
     int status = pin(file, no, &slot, &came_in);
     if (status != WARM_OK) return status;
     file->is_dirty = true;
@@ -233,7 +249,7 @@ int pool_file_truncate(pool_file *file, uint64_t size) {
     }
     if (ftruncate(file->fd, (off_t)size) != 0) return POOL_IO;
     file->size = size;
-    file->is_cut = file->has_written = true;
+    file->is_unsynced = file->has_written = true;
     return WARM_OK;
 }
 
@@ -242,19 +258,24 @@ static bool cut_to_size(pool_file *file) {
     struct stat about;
     if (fstat(file->fd, &about) != 0) return false;
     if ((uint64_t)about.st_size == file->size) return true;
-    file->is_cut = true;
-    return ftruncate(file->fd, (off_t)file->size) == 0;
+    return ftruncate(file->fd, (off_t)file->size) == 0 && fsync(file->fd) == 0;
+}
+
+/* Where something is dirty the flush in warm_write_back comes after all writes past the pool, and is one of the same file. */
+static int write_and_sync(pool_file *file) {
+    if (file->is_dirty) return warm_write_back(pool_file_handle(file));
+    return fsync(file->fd) == 0 ? WARM_OK : POOL_IO;
 }
 
 int pool_file_sync(pool_file *file) {
     if (file->is_failed) return POOL_IO;
-    if (!file->is_dirty && !file->is_cut) return WARM_OK;
-    int status = file->is_dirty ? warm_write_back(pool_file_handle(file)) : WARM_OK;
-    bool is_synced = status == WARM_OK && cut_to_size(file) && (!file->is_cut || fsync(file->fd) == 0);
+    if (!file->is_dirty && !file->is_unsynced) return WARM_OK;
+    int status = write_and_sync(file);
+    if (status == WARM_OK && !cut_to_size(file)) status = POOL_IO;
     /* A failed sync is not repaired by the next one: the system may have dropped what it could not write. So no later call succeeds. */
-    file->is_failed = !is_synced;
-    if (is_synced) file->is_dirty = file->is_cut = false;
-    return is_synced ? WARM_OK : status != WARM_OK ? status : POOL_IO;
+    file->is_failed = status != WARM_OK;
+    if (status == WARM_OK) file->is_dirty = file->is_unsynced = false;
+    return status;
 }
 
 /* ---- other processes ---- */
@@ -331,9 +352,10 @@ int pool_file_step(pool_file *file, bool *found) {
     int status = warm_step(pool_file_handle(file), found, &page);
     if (status != WARM_OK || !*found) return status;
     file->warmed++;
-    /* The page is there: a pin tells the generation of its frame, so that its first read counts as a hit. */
+    /* The page is there: a pin tells its frame. If it did not, the pool could no longer say which pages are in it. */
     status = warm_pin(pool_file_handle(file), page, &slot);
-    if (status != WARM_OK) return status;
-    file->generations[slot.index] = slot.generation;
-    return warm_unpin(pool_file_handle(file), slot);
+    if (status == WARM_OK) status = warm_unpin(pool_file_handle(file), slot);
+    if (status == WARM_OK) residents_note(&file->residents, slot, page.no);
+    else file->is_failed = true;
+    return status;
 }

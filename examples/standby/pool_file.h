@@ -6,6 +6,7 @@
 #include <stddef.h>
 #include <stdint.h>
 
+#include "residents.h"
 #include "warm.h"
 
 /* What a call answers besides the statuses of warm.h. */
@@ -25,17 +26,17 @@ typedef struct pool_file {
     uint16_t replica;
     size_t frames, page_size;
     uint64_t size;  /* of the file, as if every dirty page were written */
-    bool is_dirty;  /* something was written since the last sync: it may be in frames or in the file by now */
-    bool is_cut;    /* the file was truncated since the last sync */
-    bool has_written; /* it was written or truncated since pool_file_enter */
-    bool is_failed; /* a sync failed: what the file holds is unknown until SQLite opens it anew and rolls its journal back */
+    bool is_dirty;    /* something was written into the pool since the last sync: it may be in frames or in the file by now */
+    bool is_unsynced; /* the file was written or truncated past the pool since the last sync */
+    bool has_written; /* either of both, since pool_file_enter */
+    bool is_failed;   /* a sync failed: what the file holds is unknown until SQLite opens it anew and rolls its journal back */
     uint8_t counter[POOL_COUNTER]; /* the change counter and what follows it, as the file had them when a lock was last held */
     size_t header_page_size;       /* of SQLite's pages, as the header last read or written says */
     warm_reference batch[POOL_BATCH];
     size_t batched;
     uint64_t time;         /* of the next reference */
-    uint64_t *generations; /* of each frame, as last seen: a greater one means that a page came in */
-    uint64_t page_reads, device_reads, warmed, lost_references, reloads;
+    residents residents;   /* of the open handle */
+    uint64_t page_reads, device_reads, warmed, lost_references, reloads, direct_writes;
 } pool_file;
 
 /* A pool of so many frames over a file that is open for reading and writing. The caller closes the descriptor after pool_file_close. */
