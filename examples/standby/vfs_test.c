@@ -228,9 +228,11 @@ static void full_disk(void) {
     sqlite3_close(db);
 }
 
-/* Writes fail beneath the pool: the commit is refused, and so is all that follows, until the database is opened anew. */
-static void failing_device(void) {
-    pool_vfs_register(1, 8);
+/* Writes fail beneath the pool. Where a sync finds it, all that follows is refused until the database is opened anew. Where a write past
+ * the pool finds it, SQLite rolls the transaction back, and goes on once the file can be written. */
+static void failing_device(size_t frames, bool is_at_sync) {
+    pool_vfs_register(1, frames);
+    unlink(path_of("failing"));
     sqlite3 *db = open_by(POOL_VFS, "failing", 0);
     MUST(done(db, "CREATE TABLE t(a INTEGER PRIMARY KEY, b); INSERT INTO t VALUES (1, hex(zeroblob(20000)))"));
     int fd = pool_vfs_of(db)->fd, kept = dup(fd), reader = open(path_of("failing"), O_RDONLY);
@@ -238,7 +240,8 @@ static void failing_device(void) {
     int result = sqlite3_exec(db, "UPDATE t SET b = 'new'", NULL, NULL, NULL);
     MUST((result & 0xff) == SQLITE_IOERR);
     MUST(dup2(kept, fd) == fd);
-    MUST((sqlite3_exec(db, "SELECT b FROM t", NULL, NULL, NULL) & 0xff) == SQLITE_IOERR);
+    MUST((sqlite3_exec(db, "SELECT b FROM t", NULL, NULL, NULL) & 0xff) == (is_at_sync ? SQLITE_IOERR : SQLITE_OK));
+    if (!is_at_sync) MUST(answers(db, "SELECT a, length(b) FROM t", "1|40000|\n"));
     sqlite3_close(db);
     close(kept);
     close(reader);
@@ -299,7 +302,8 @@ int main(int count, char **words) {
     two_connections();
     other_process();
     full_disk();
-    failing_device();
+    failing_device(100, true);
+    failing_device(1, false);
     killed_without_sync();
     modes();
     for (int at = 0; at < runs; at++) random_run(seed + (uint64_t)at, frames[at % 6], 400);
