@@ -241,19 +241,17 @@ int pool_file_write(pool_file *file, const uint8_t *bytes, size_t length, uint64
     return status;
 }
 
-/* Dirty pages are written first: one beyond the new end that leaves its frame later would make the file long again. */
+/* A dirty page beyond the new end stays in its frame. Where it reaches the file, the next sync cuts the file again. */
 int pool_file_truncate(pool_file *file, uint64_t size) {
-    if (file->is_dirty || file->is_failed) {
-        int status = pool_file_sync(file);
-        if (status != WARM_OK) return status;
-    }
+    if (file->is_failed) return POOL_IO;
+    file->is_unsynced = file->has_written = true;
     if (ftruncate(file->fd, (off_t)size) != 0) return POOL_IO;
     file->size = size;
-    file->is_unsynced = file->has_written = true;
     return WARM_OK;
 }
 
-/* After a page of the pool was written back, the file may be longer than SQLite's pages, where these are smaller. */
+/* Once pages were written back the file may be longer than it should: a page of the pool is written whole where SQLite's are smaller, and
+ * one beyond the end after a truncation. */
 static bool cut_to_size(pool_file *file) {
     struct stat about;
     if (fstat(file->fd, &about) != 0) return false;
@@ -314,7 +312,9 @@ static int reload(pool_file *file, size_t new_size) {
     return WARM_OK;
 }
 
-/* SQLite drops its own cache where the change counter in the header is another than it last saw. The pool goes by the same rule. */
+/* After VACUUM has changed the size of SQLite's pages the pool still has the old one, and is right, until the next lock.
+ *
+ * SQLite drops its own cache where the change counter in the header is another than it last saw. The pool goes by the same rule. */
 int pool_file_enter(pool_file *file) {
     uint8_t header[HEADER_PART];
     if (file->is_failed) return POOL_IO;
@@ -338,9 +338,7 @@ int pool_file_leave(pool_file *file) {
     if (!read_header(file, header)) return POOL_IO;
     memcpy(file->counter, header + COUNTER_AT, POOL_COUNTER);
     file->has_written = false;
-    /* Pages of another size from now on, as VACUUM makes them. */
-    bool is_resized = file->header_page_size != 0 && file->header_page_size != file->page_size;
-    return is_resized ? reload(file, file->header_page_size) : WARM_OK;
+    return WARM_OK;
 }
 
 /* ---- warm-up ---- */

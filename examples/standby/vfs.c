@@ -250,7 +250,7 @@ static int db_control(sqlite3_file *file, int code, void *argument) {
     return SQLITE_OK;
 }
 
-/* Whether each write of SQLite is one of whole pages of the pool. It is not after a change of the page size, until the lock is lowered. */
+/* Whether each write of SQLite is one of whole pages of the pool. It is not after a change of the page size, until the next lock. */
 static bool has_own_pages(const pool_file *pool) { return pool->header_page_size == 0 || pool->header_page_size == pool->page_size; }
 
 static int db_sector_size(sqlite3_file *file) {

@@ -7,6 +7,7 @@
 #include <stdlib.h>
 #include <string.h>
 #include <sys/resource.h>
+#include <sys/stat.h>
 #include <sys/wait.h>
 #include <unistd.h>
 
@@ -114,6 +115,12 @@ static void same_answer(sqlite3 *one, sqlite3 *other, const char *drawn) {
     sqlite3_free(sql);
 }
 
+static off_t size_of(const char *name) {
+    struct stat about;
+    MUST(stat(path_of(name), &about) == 0);
+    return about.st_size;
+}
+
 static void random_run(uint64_t seed, size_t frames, int statements) {
     char sql[256];
     random_state = seed;
@@ -134,13 +141,84 @@ static void random_run(uint64_t seed, size_t frames, int statements) {
     sqlite3_exec(stock, "ROLLBACK; PRAGMA locking_mode=NORMAL; SELECT 1 FROM t", NULL, NULL, NULL);
     sqlite3_exec(pooled, "ROLLBACK", NULL, NULL, NULL);
     MUST(is_whole(pooled));
+    MUST(pool_vfs_of(pooled)->page_size == pool_vfs_of(pooled)->header_page_size);
     sqlite3_close(pooled);
+    MUST(size_of("pooled") == size_of("stock"));
     pooled = open_by("unix", "pooled", 0);
     MUST(is_whole(pooled));
     same_answer(stock, pooled, "SELECT * FROM t ORDER BY a");
     same_answer(stock, pooled, "PRAGMA page_count");
     sqlite3_close(pooled);
     sqlite3_close(stock);
+}
+
+/* ---- bytes of a file beside bytes in memory ---- */
+
+enum { MODEL_ROOM = 100000 };
+
+typedef struct model {
+    uint8_t bytes[MODEL_ROOM], read[MODEL_ROOM];
+    size_t size;
+} model;
+
+static void compare_read(pool_file *file, model *m, size_t at, size_t length) {
+    size_t there = at >= m->size ? 0 : length < m->size - at ? length : m->size - at;
+    memset(m->read, 'x', length);
+    MUST(pool_file_read(file, m->read, length, at) == (there < length ? POOL_SHORT : WARM_OK));
+    MUST(memcmp(m->read, m->bytes + at, length) == 0); /* the model has zeros behind its end */
+}
+
+static void write_both(pool_file *file, model *m, size_t at, size_t length) {
+    memset(m->bytes + at, (int)(1 + draw(255)), length);
+    MUST(pool_file_write(file, m->bytes + at, length, at) == WARM_OK);
+    if (m->size < at + length) m->size = at + length;
+}
+
+static void truncate_both(pool_file *file, model *m) {
+    size_t size = draw((uint32_t)m->size + 1);
+    memset(m->bytes + size, 0, m->size - size);
+    m->size = size;
+    MUST(pool_file_truncate(file, size) == WARM_OK);
+}
+
+/* After a sync the file has the bytes and the size of the model. */
+static void sync_both(pool_file *file, model *m) {
+    MUST(pool_file_sync(file) == WARM_OK);
+    MUST(pread(file->fd, m->read, MODEL_ROOM, 0) == (ssize_t)m->size);
+    MUST(memcmp(m->read, m->bytes, m->size) == 0);
+}
+
+/* Another process writes, and counts that in the header. */
+static void foreign_write(pool_file *file, model *m) {
+    size_t at = 512 + draw(MODEL_ROOM - 8192), length = 1 + draw(3000);
+    sync_both(file, m);
+    memset(m->bytes + at, (int)(1 + draw(255)), length);
+    m->bytes[24]++; /* the counter is another than before, as SQLite's is */
+    if (m->size < at + length) m->size = at + length;
+    MUST(pwrite(file->fd, m->bytes, m->size, 0) == (ssize_t)m->size);
+    MUST(pool_file_enter(file) == WARM_OK);
+}
+
+static void random_bytes(uint64_t seed, size_t frames) {
+    static model m;
+    static pool_file file;
+    int fd = open(path_of("bytes"), O_RDWR | O_CREAT | O_TRUNC, 0666);
+    m = (model){.size = 0};
+    random_state = seed;
+    MUST(fd >= 0 && pool_file_open(&file, fd, 1, frames) == WARM_OK);
+    for (int at = 0; at < 1000; at++) {
+        uint32_t kind = draw(10), page = 512u << draw(4), length = draw(3) == 0 ? 1 + draw(5000) : page;
+        size_t offset = draw((MODEL_ROOM - 8192) / page) * page;
+        /* Bytes 16 to 39 mean something to the pool: nothing is written there. */
+        if (kind < 4 && offset >= 512) write_both(&file, &m, offset, length);
+        else if (kind < 8) compare_read(&file, &m, draw(2) == 0 ? offset : draw(MODEL_ROOM - 8192), length);
+        else if (kind == 8 && draw(4) == 0) truncate_both(&file, &m);
+        else if (kind == 9 && draw(4) == 0) foreign_write(&file, &m);
+        else if (kind == 9) sync_both(&file, &m);
+    }
+    sync_both(&file, &m);
+    pool_file_close(&file);
+    close(fd);
 }
 
 /* ---- other connections ---- */
@@ -161,14 +239,13 @@ static void two_connections(void) {
     /* A lock that one holds stays although another connection of the process closes. */
     MUST(done(one, "BEGIN IMMEDIATE"));
     sqlite3_close(two);
-    if (fork() == 0) {
-        sqlite3 *other = open_by("unix", "shared", 0);
-        _exit(sqlite3_exec(other, "DELETE FROM t", NULL, NULL, NULL) == SQLITE_BUSY ? 0 : 1);
-    }
-    int status;
-    wait(&status);
-    MUST(status == 0);
+    char command[600];
+    snprintf(command, sizeof command, "sqlite3 %s 'DELETE FROM t' 2> %s", path_of("shared"), path_of("refused"));
+    /* Another program, and no fork, which would have SQLite's own notes of this process's locks. */
+    MUST(system(command) != 0);
     MUST(done(one, "COMMIT"));
+    MUST(system(command) == 0);
+    MUST(answers(one, "SELECT count(*) FROM t", "0|\n"));
     sqlite3_close(one);
 }
 
@@ -189,12 +266,16 @@ static void other_process(void) {
     size_t before, after;
     sqlite3 *db = open_by(POOL_VFS, "foreign", 0);
     MUST(done(db, "CREATE TABLE t(a INTEGER PRIMARY KEY, b); INSERT INTO t VALUES (1, 'x'), (2, 'y')"));
+    MUST(done(db, "INSERT INTO t VALUES (3, hex(zeroblob(50000))); DELETE FROM t WHERE a = 3")); /* references to many pages */
     MUST(answers(db, "SELECT * FROM t", "1|x|\n2|y|\n"));
     pool_file_absorb(pool_vfs_of(db));
-    MUST(warm_history_length(pool_file_handle(pool_vfs_of(db)), &before) == WARM_OK && before > 0);
+    MUST(warm_history_length(pool_file_handle(pool_vfs_of(db)), &before) == WARM_OK && before > 20);
     elsewhere("foreign", "UPDATE t SET b = 'z' WHERE a = 2; INSERT INTO t SELECT a + 10, hex(zeroblob(2000)) FROM t");
     MUST(answers(db, "SELECT a, substr(b, 1, 2) FROM t", "1|x|\n2|z|\n11|00|\n12|00|\n"));
     MUST(warm_history_length(pool_file_handle(pool_vfs_of(db)), &after) == WARM_OK && after >= before); /* only the frames are dropped */
+    uint64_t reloads = pool_vfs_of(db)->reloads;
+    MUST(answers(db, "SELECT count(*) FROM t", "4|\n"));
+    MUST(pool_vfs_of(db)->reloads == reloads); /* nor are they dropped twice */
     elsewhere("foreign", "PRAGMA page_size=1024; VACUUM");
     MUST(answers(db, "SELECT count(*) FROM t", "4|\n"));
     MUST(pool_vfs_of(db)->page_size == 1024);
@@ -260,6 +341,7 @@ static void killed_without_sync(void) {
         int status;
         if (fork() == 0) {
             sqlite3 *db = open_by(POOL_VFS, "unsynced", 0);
+            if (at > 2) MUST(answers(db, "PRAGMA locking_mode=EXCLUSIVE", "exclusive|\n")); /* no lock is lowered then */
             MUST(done(db, "PRAGMA synchronous=OFF; CREATE TABLE IF NOT EXISTS t(a INTEGER PRIMARY KEY, b); INSERT INTO t(b) VALUES (hex(zeroblob(9000)))"));
             kill(getpid(), SIGKILL);
         }
@@ -279,6 +361,7 @@ static void modes(void) {
     MUST(done(db, "CREATE TABLE t(a); INSERT INTO t VALUES (5)"));
     MUST(answers(db, "PRAGMA journal_mode=MEMORY", "memory|\n"));
     MUST(done(db, "INSERT INTO t VALUES (6)"));
+    MUST(pool_vfs_of(db)->reloads == 0); /* its own commits do not drop its frames */
     MUST(done(db, "ATTACH ':memory:' AS m; CREATE TABLE m.u(a); INSERT INTO m.u SELECT a FROM t; CREATE TEMP TABLE v AS SELECT a FROM m.u"));
     MUST(answers(db, "SELECT sum(a) FROM v", "11|\n"));
     MUST(done(db, "DETACH m"));
@@ -306,6 +389,7 @@ int main(int count, char **words) {
     failing_device(1, false);
     killed_without_sync();
     modes();
+    for (int at = 0; at < runs; at++) random_bytes(seed + (uint64_t)at, frames[at % 6]);
     for (int at = 0; at < runs; at++) random_run(seed + (uint64_t)at, frames[at % 6], 400);
     printf("vfs_test: %d checks\n", checks);
     return 0;
