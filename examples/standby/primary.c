@@ -41,7 +41,7 @@ static void work_on(const options *o, orders *work, gossip *g, pool_file *file, 
     uint64_t published = 0;
     for (uint64_t done = 0; o->transactions == 0 || done < o->transactions; done++) {
         int64_t order;
-        must_be_ok(orders_next(work, &order), work->db, "transaction");
+        must_be_ok(orders_next(work, &order), NULL, "transaction");
         note_committed(committed, order);
         if (g == NULL) continue;
         gossip_poll(g, 0);

@@ -101,7 +101,7 @@ static void go_on(const options *o, sqlite3 *db) {
     uint64_t asked = 0, device = 0;
     must_be_ok(orders_begin(&work, db, o->seed), db, "begin");
     while (asked < o->reads) {
-        must_be_ok(orders_next(&work, &order), db, "transaction");
+        must_be_ok(orders_next(&work, &order), NULL, "transaction");
         count_pages(db, pool_vfs_of(db), &asked, &device);
         printf("after %llu %llu\n", (unsigned long long)asked, (unsigned long long)device);
     }
