@@ -355,6 +355,85 @@ static void killed_without_sync(void) {
     }
 }
 
+/* ---- refused memory ---- */
+
+/* Of the allocations of this program and of the pool, not of SQLite's library, the one at which the countdown ends is refused. */
+static long countdown;
+
+static bool is_refused(void) { return countdown > 0 && --countdown == 0; }
+
+void *__real_malloc(size_t size);
+void *__real_calloc(size_t count, size_t size);
+void *__real_realloc(void *old, size_t size);
+void *__wrap_malloc(size_t size);
+void *__wrap_calloc(size_t count, size_t size);
+void *__wrap_realloc(void *old, size_t size);
+
+void *__wrap_malloc(size_t size) { return is_refused() ? NULL : __real_malloc(size); }
+void *__wrap_calloc(size_t count, size_t size) { return is_refused() ? NULL : __real_calloc(count, size); }
+void *__wrap_realloc(void *old, size_t size) { return is_refused() ? NULL : __real_realloc(old, size); }
+
+/* Whether SQL was done. Where it was not, memory is the reason. */
+static bool done_or_refused(sqlite3 *db, const char *sql) {
+    int result = sqlite3_exec(db, sql, NULL, NULL, NULL);
+    if (result == SQLITE_OK) return true;
+    int extended = sqlite3_extended_errcode(db);
+    MUST(result == SQLITE_NOMEM || result == SQLITE_CANTOPEN || extended == SQLITE_IOERR_NOMEM);
+    return false;
+}
+
+/* One connection commits, reads, sees that another has committed, and commits again. Gives how many rows must be there. */
+static int rows_of_a_run(long refused) {
+    sqlite3 *db;
+    int rows = 0;
+    countdown = refused;
+    if (pool_vfs_open(path_of("refused"), SQLITE_OPEN_READWRITE, &db) == SQLITE_OK) {
+        rows += done_or_refused(db, "INSERT INTO t(b) VALUES (hex(zeroblob(3000)))");
+        done_or_refused(db, "SELECT sum(length(b)) FROM t");
+        long left = countdown;
+        countdown = 0;
+        sqlite3 *other = open_by(POOL_VFS, "refused", 0);
+        MUST(done(other, "INSERT INTO t(b) VALUES ('other')"));
+        sqlite3_close(other);
+        rows++;
+        countdown = left;
+        done_or_refused(db, "SELECT count(*) FROM t");
+        rows += done_or_refused(db, "INSERT INTO t(b) VALUES (hex(zeroblob(5000)))");
+    }
+    sqlite3_close(db);
+    return rows;
+}
+
+static long refused_memory(void) {
+    int rows = 0;
+    long refused;
+    bool is_over = false;
+    pool_vfs_register(1, 3);
+    unlink(path_of("refused"));
+    sqlite3 *db = open_by(POOL_VFS, "refused", 0);
+    MUST(done(db, "CREATE TABLE t(a INTEGER PRIMARY KEY, b)"));
+    sqlite3_close(db);
+    for (refused = 1; !is_over; refused++) {
+        char wanted[32];
+        rows += rows_of_a_run(refused);
+        is_over = countdown > 0; /* there were fewer allocations */
+        countdown = 0;
+        db = open_by(POOL_VFS, "refused", 0);
+        snprintf(wanted, sizeof wanted, "%d|\n", rows);
+        MUST(answers(db, "SELECT count(*) FROM t", wanted));
+        MUST(is_whole(db));
+        MUST(done(db, "DELETE FROM t WHERE a % 3 > 0"));
+        sqlite3_close(db);
+        db = open_by("unix", "refused", 0);
+        MUST(is_whole(db));
+        char *left = answer(db, "SELECT count(*) FROM t");
+        rows = atoi(left);
+        sqlite3_free(left);
+        sqlite3_close(db);
+    }
+    return refused - 2;
+}
+
 static void modes(void) {
     sqlite3 *db = open_by(POOL_VFS, "modes", 0);
     MUST(answers(db, "PRAGMA journal_mode=WAL", "delete|\n"));
@@ -388,9 +467,10 @@ int main(int count, char **words) {
     failing_device(100, true);
     failing_device(1, false);
     killed_without_sync();
+    long allocations = refused_memory();
     modes();
     for (int at = 0; at < runs; at++) random_bytes(seed + (uint64_t)at, frames[at % 6]);
     for (int at = 0; at < runs; at++) random_run(seed + (uint64_t)at, frames[at % 6], 400);
-    printf("vfs_test: %d checks\n", checks);
+    printf("vfs_test: %d checks, each of %ld allocations refused once\n", checks, allocations);
     return 0;
 }
