@@ -164,8 +164,8 @@ static int write_part(pool_file *file, uint64_t no, size_t at, const uint8_t *by
     if (!is_new && length == file->page_size && !residents_have(&file->residents, no)) return write_past_pool(file, no, bytes);
     int status = pin(file, no, &slot, &came_in);
     if (status != WARM_OK) return status;
-    file->is_dirty = true;
     status = warm_write(pool_file_handle(file), slot, at, bytes, length);
+    if (status == WARM_OK) file->is_dirty = true;
     int unpinned = warm_unpin(pool_file_handle(file), slot);
     if (is_new) refer_to_pinned(file, no, came_in);
     return status != WARM_OK ? status : unpinned;
@@ -219,8 +219,8 @@ static int write_zeros(pool_file *file, uint64_t end) {
     return WARM_OK;
 }
 
-/* Takes the room on the disk as the file grows, and makes it longer, as a write to the file would. Else a full disk were found only at the sync, too late to
- * say SQLITE_FULL. Where the file system cannot do it, it is found at the sync. */
+/* Takes the room on the disk as the file grows, and makes it longer, as a write to the file would. Else a full disk would be found at the
+ * sync, too late to say SQLITE_FULL. It is still found there where the file system cannot take room. */
 static int take_room(const pool_file *file, uint64_t end) {
     if (end <= file->size) return WARM_OK;
     while (fallocate(file->fd, 0, (off_t)file->size, (off_t)(end - file->size)) != 0) {

@@ -61,11 +61,18 @@ static shared_fd *find_shared(const struct stat *about) {
     return at;
 }
 
-static int add_shared(const char *path, int flags) {
-    struct stat about;
+static int open_fd(const char *path, int flags) {
     int fd;
     do fd = open(path, flags | O_CLOEXEC);
     while (fd < 0 && errno == EINTR);
+    return fd;
+}
+
+/* For writing, where the system allows it: a connection that only reads may be the first of several. */
+static int add_shared(const char *path) {
+    struct stat about;
+    int fd = open_fd(path, O_RDWR);
+    if (fd < 0) fd = open_fd(path, O_RDONLY);
     if (fd < 0) return -1;
     shared_fd *added = malloc(sizeof *added);
     if (added == NULL || fstat(fd, &about) != 0) {
@@ -79,11 +86,11 @@ static int add_shared(const char *path, int flags) {
 }
 
 /* A file that is open already is found without opening it: closing that again would drop the locks. */
-static int take_fd(const char *path, bool is_read_only) {
+static int take_fd(const char *path) {
     struct stat about;
     sqlite3_mutex_enter(list_mutex());
     shared_fd *found = stat(path, &about) == 0 ? find_shared(&about) : NULL;
-    int fd = found != NULL ? found->fd : add_shared(path, is_read_only ? O_RDONLY : O_RDWR);
+    int fd = found != NULL ? found->fd : add_shared(path);
     if (found != NULL) found->users++;
     sqlite3_mutex_leave(list_mutex());
     return fd;
@@ -112,8 +119,8 @@ static int close_pool(pool_file *pool) {
     return SQLITE_OK;
 }
 
-static int open_pool(const char *path, bool is_read_only, pool_file **opened) {
-    int fd = take_fd(path, is_read_only);
+static int open_pool(const char *path, pool_file **opened) {
+    int fd = take_fd(path);
     if (fd < 0) return SQLITE_CANTOPEN;
     pool_file *pool = malloc(sizeof *pool);
     int status = pool == NULL ? WARM_MEMORY : pool_file_open(pool, fd, own_replica, own_frames);
@@ -142,7 +149,7 @@ int pool_vfs_prepare(const char *path, pool_file **pool) {
     if (prepared != NULL) return SQLITE_MISUSE;
     prepared_path = full_path(path);
     if (prepared_path == NULL) return SQLITE_CANTOPEN;
-    int result = open_pool(prepared_path, false, &prepared);
+    int result = open_pool(prepared_path, &prepared);
     if (result == SQLITE_OK) {
         *pool = prepared;
         return SQLITE_OK;
@@ -292,7 +299,7 @@ static int open_db(const char *name, sqlite3_file *file, int flags, int *flags_o
     if (result != SQLITE_OK) return result;
     own->lock = SQLITE_LOCK_NONE;
     own->pool = take_prepared(name);
-    if (own->pool == NULL) result = open_pool(name, (opened_with & SQLITE_OPEN_READONLY) != 0, &own->pool);
+    if (own->pool == NULL) result = open_pool(name, &own->pool);
     if (result != SQLITE_OK) {
         inner(file)->pMethods->xClose(inner(file));
         return result;

@@ -448,6 +448,10 @@ static void modes(void) {
     db = open_by(POOL_VFS, "modes", SQLITE_OPEN_READONLY);
     MUST(answers(db, "SELECT sum(a) FROM t", "11|\n"));
     MUST((sqlite3_exec(db, "DELETE FROM t", NULL, NULL, NULL) & 0xff) == SQLITE_READONLY);
+    sqlite3 *writer = open_by(POOL_VFS, "modes", 0); /* it shares the descriptor */
+    MUST(done(writer, "INSERT INTO t VALUES (7)"));
+    sqlite3_close(writer);
+    MUST(answers(db, "SELECT sum(a) FROM t", "18|\n"));
     sqlite3_close(db);
 }
 
