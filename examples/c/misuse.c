@@ -145,9 +145,26 @@ static void slots(void) {
     close(fd);
 }
 
+/* A node without references hears by digests what the other one knows: one page. */
+static void answers(warm *handle) {
+    warm other = {0};
+    uint8_t frame[4096];
+    size_t length, count;
+    OK(warm_open(&other, 2, 1, PAGE_SIZE, NULL, 0));
+    OK(warm_offer(&other, frame, sizeof frame, &length));
+    OK(warm_receive(handle, frame, length));
+    EXPECT(WARM_BUFFER_TOO_SMALL, warm_next_answer(handle, frame, 10, &length));
+    MUST(length == 54); /* it stays the next */
+    OK(warm_next_answer(handle, frame, length, &length));
+    OK(warm_receive(&other, frame, length));
+    OK(warm_history_length(&other, &count));
+    MUST(count == 1);
+    warm_close(&other);
+}
+
 static void buffers(void) {
     int fd = temporary();
-    warm handle = {0}, other = {0};
+    warm handle = {0};
     const warm_reference good[] = {{.time = 20, .no = 7, .replica = 1}, {.time = 10, .no = 7, .replica = 1}};
     const warm_reference bad[] = {{.time = 30, .no = 8, .replica = 1}, {.time = 30, .no = 8, .replica = 65}};
     uint8_t frame[4096];
@@ -169,19 +186,10 @@ static void buffers(void) {
     EXPECT(WARM_BAD_BUCKET, warm_send(&handle, 64, NULL, frame, sizeof frame, &length));
     EXPECT(WARM_BUFFER_TOO_SMALL, warm_send(&handle, 7, NULL, frame, 53, &length));
     MUST(length == 54);
-    OK(warm_open(&other, 2, 1, PAGE_SIZE, NULL, 0));
-    OK(warm_offer(&other, frame, sizeof frame, &length));
-    OK(warm_receive(&handle, frame, length));
-    EXPECT(WARM_BUFFER_TOO_SMALL, warm_next_answer(&handle, frame, 10, &length));
-    MUST(length == 54); /* it stays the next */
-    OK(warm_next_answer(&handle, frame, length, &length));
-    OK(warm_receive(&other, frame, length));
-    OK(warm_history_length(&other, &count));
-    MUST(count == 1);
+    answers(&handle);
     OK(warm_horizon(&handle, 15, &horizon));
     OK(warm_horizon(&handle, 3, &horizon));
     MUST(horizon == 15); /* a horizon does not fall */
-    warm_close(&other);
     warm_close(&handle);
     close(fd);
 }

@@ -89,7 +89,9 @@ static void draw_statement(char *sql, size_t room) {
         "PRAGMA freelist_count", "PRAGMA integrity_check", "PRAGMA shrink_memory", "PRAGMA secure_delete=1"};
     uint32_t a = draw(4000), n = 1 + draw(300);
     switch (draw(8)) {
-        case 0: snprintf(sql, room, "INSERT OR REPLACE INTO t SELECT value, value * 7919 %% 1000, hex(zeroblob(value %% 97)) FROM generate(%u, %u)", a, n); break;
+        case 0:
+            snprintf(sql, room, "INSERT OR REPLACE INTO t SELECT value, value * 7919 %% 1000, hex(zeroblob(value %% 97)) FROM generate(%u, %u)", a, n);
+            break;
         case 1: snprintf(sql, room, "UPDATE t SET b = b + 1, c = c || 'xyz' WHERE a BETWEEN %u AND %u", a, a + n); break;
         case 2: snprintf(sql, room, "DELETE FROM t WHERE a BETWEEN %u AND %u", a, a + 2 * n); break;
         case 3: snprintf(sql, room, "SELECT count(*), sum(b), sum(length(c)) FROM t WHERE a > %u", a); break;
