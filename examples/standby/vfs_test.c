@@ -11,6 +11,7 @@
 #include <sys/wait.h>
 #include <unistd.h>
 
+#include "frames.h"
 #include "vfs.h"
 
 static const char *folder;
@@ -219,6 +220,26 @@ static void random_bytes(uint64_t seed, size_t frames) {
         else if (kind == 9) sync_both(&file, &m);
     }
     sync_both(&file, &m);
+    pool_file_close(&file);
+    close(fd);
+}
+
+/* A bucket of more pages than a frame carries is handed over in pieces: as the pool is opened anew, and as gossip publishes it. */
+static void many_pages(void) {
+    enum { PAGES = 2 * FRAME_ENTRIES + 500 };
+    static pool_file file;
+    size_t known;
+    uint8_t header[40] = {[24] = 1};
+    int fd = open(path_of("many"), O_RDWR | O_CREAT | O_TRUNC, 0666);
+    MUST(fd >= 0 && pool_file_open(&file, fd, 1, 4) == WARM_OK);
+    for (uint64_t at = 0; at < 2 * PAGES; at++) {
+        /* each third page has one stamp, and each other one has two, so that entries differ in length */
+        warm_reference reference = {.time = at + 1, .no = BUCKETS * (at % PAGES), .replica = 1};
+        if (at < PAGES || at % 3 != 0) MUST(warm_absorb(pool_file_handle(&file), &reference, 1) == WARM_OK);
+    }
+    MUST(pwrite(fd, header, sizeof header, 0) == sizeof header);
+    MUST(pool_file_enter(&file) == WARM_OK && file.reloads == 1);
+    MUST(warm_history_length(pool_file_handle(&file), &known) == WARM_OK && known == PAGES);
     pool_file_close(&file);
     close(fd);
 }
@@ -475,6 +496,7 @@ int main(int count, char **words) {
     killed_without_sync();
     long allocations = refused_memory();
     modes();
+    many_pages();
     for (int at = 0; at < runs; at++) random_bytes(seed + (uint64_t)at, frames[at % 6]);
     for (int at = 0; at < runs; at++) random_run(seed + (uint64_t)at, frames[at % 6], 400);
     printf("vfs_test: %d checks, each of %ld allocations refused once\n", checks, allocations);
