@@ -546,6 +546,8 @@ int warm_open(warm *handle, uint16_t replica, size_t frames, size_t page_size, c
     if (frames < 1 || frames > 65536) return WARM_BAD_FRAMES;
     if (page_size < 1 || page_size > 65536) return WARM_SIZE_DIFFERS;
     if (device_count > 65536) return WARM_NO_DEVICE;
+    for (size_t at = 0; at < device_count; at++)
+        if (devices[at].pages > (uint64_t)INT64_MAX / page_size) return WARM_NO_DEVICE;
     node *n = calloc(1, sizeof *n);
     if (n == NULL) return WARM_MEMORY;
     *n = (node){.replica = replica, .frame_count = frames, .page_size = page_size, .device_count = device_count};
@@ -662,13 +664,13 @@ int warm_offer(warm *handle, uint8_t *frame, size_t room, size_t *length) {
     return WARM_OK;
 }
 
-int warm_send(warm *handle, uint8_t number, const warm_page *after, uint8_t *frame, size_t room, size_t *length) {
+int warm_send(warm *handle, uint8_t number, bool has_after, warm_page after, uint8_t *frame, size_t room, size_t *length) {
     node *n = open_node(handle);
     if (n == NULL) return WARM_CLOSED;
     if (number >= BUCKETS) return WARM_BAD_BUCKET;
     const bucket *b = &n->buckets[number];
     size_t at = 0;
-    while (after != NULL && at < b->count && page_order(b->items[at].page, *after) <= 0) at++;
+    while (has_after && at < b->count && page_order(b->items[at].page, after) <= 0) at++;
     size_t count = b->count - at < PIECE ? b->count - at : PIECE;
     *length = HEADER + 4 + entries_size(b->items + at, count);
     if (room < *length) return WARM_BUFFER_TOO_SMALL;

@@ -71,7 +71,7 @@ static void closed_handle(void) {
     warm_page page = {0};
     warm_reference reference = {.time = 1, .replica = 1};
     uint8_t byte = 0;
-    bool found;
+    bool found = false;
     size_t length;
     uint64_t horizon;
     EXPECT(WARM_CLOSED, warm_absorb(&handle, &reference, 1));
@@ -83,7 +83,7 @@ static void closed_handle(void) {
     EXPECT(WARM_CLOSED, warm_list(&handle, &page, 1, &length));
     EXPECT(WARM_CLOSED, warm_step(&handle, &found, &page));
     EXPECT(WARM_CLOSED, warm_offer(&handle, &byte, 1, &length));
-    EXPECT(WARM_CLOSED, warm_send(&handle, 0, NULL, &byte, 1, &length));
+    EXPECT(WARM_CLOSED, warm_send(&handle, 0, false, page, &byte, 1, &length));
     EXPECT(WARM_CLOSED, warm_receive(&handle, &byte, 1));
     EXPECT(WARM_CLOSED, warm_next_answer(&handle, &byte, 1, &length));
     EXPECT(WARM_CLOSED, warm_horizon(&handle, 1, &horizon));
@@ -95,7 +95,7 @@ static void closed_handle(void) {
 
 static void opening(void) {
     int fd = temporary();
-    warm_device device = {.pages = 8, .fd = fd};
+    warm_device device = {.pages = 8, .fd = fd}, too_large = {.pages = UINT64_MAX / PAGE_SIZE, .fd = fd};
     warm handle = {0};
     EXPECT(WARM_BAD_REPLICA, warm_open(&handle, 0, 1, PAGE_SIZE, &device, 1));
     EXPECT(WARM_BAD_REPLICA, warm_open(&handle, 65, 1, PAGE_SIZE, &device, 1));
@@ -103,6 +103,7 @@ static void opening(void) {
     EXPECT(WARM_BAD_FRAMES, warm_open(&handle, 1, 65537, PAGE_SIZE, &device, 1));
     EXPECT(WARM_SIZE_DIFFERS, warm_open(&handle, 1, 1, 0, &device, 1));
     EXPECT(WARM_SIZE_DIFFERS, warm_open(&handle, 1, 1, 65537, &device, 1));
+    EXPECT(WARM_NO_DEVICE, warm_open(&handle, 1, 1, PAGE_SIZE, &too_large, 1));
     MUST(!handle.is_open);
     OK(warm_open(&handle, 1, 2, PAGE_SIZE, &device, 1));
     write_one(&handle, 'a');
@@ -110,7 +111,7 @@ static void opening(void) {
     MUST(read_one(&handle) == 'a'); /* the second open took nothing from the first */
     warm_close(&handle);
     MUST(!handle.is_open);
-    OK(warm_open(&handle, 1, 1, PAGE_SIZE, NULL, 0)); /* a node without a device: a history alone */
+    OK(warm_open(&handle, 1, 1, PAGE_SIZE, &device, 0)); /* a node without a device: a history alone */
     warm_slot slot;
     EXPECT(WARM_NO_DEVICE, warm_pin(&handle, (warm_page){0}, &slot));
     OK(warm_write_back(&handle));
@@ -132,8 +133,8 @@ static void slots(void) {
     EXPECT(WARM_OUT_OF_PAGE, warm_read(&handle, slot, PAGE_SIZE + 1, bytes, 0));
     EXPECT(WARM_OUT_OF_PAGE, warm_write(&handle, slot, PAGE_SIZE, bytes, 1));
     EXPECT(WARM_OUT_OF_PAGE, warm_write(&handle, slot, SIZE_MAX, bytes, 2));
-    OK(warm_read(&handle, slot, PAGE_SIZE, NULL, 0)); /* no bytes, at the very end */
-    OK(warm_write(&handle, slot, 0, NULL, 0));
+    OK(warm_read(&handle, slot, PAGE_SIZE, bytes, 0)); /* no bytes, at the very end */
+    OK(warm_write(&handle, slot, 0, bytes, 0));
     OK(warm_unpin(&handle, slot));
     EXPECT(WARM_STALE_SLOT, warm_unpin(&handle, slot)); /* its page has no fix */
     OK(warm_pin(&handle, (warm_page){.no = 2}, &other));
@@ -148,9 +149,10 @@ static void slots(void) {
 /* A node without references hears by digests what the other one knows: one page. */
 static void answers(warm *handle) {
     warm other = {0};
+    warm_device none = {0};
     uint8_t frame[4096];
     size_t length, count;
-    OK(warm_open(&other, 2, 1, PAGE_SIZE, NULL, 0));
+    OK(warm_open(&other, 2, 1, PAGE_SIZE, &none, 0));
     OK(warm_offer(&other, frame, sizeof frame, &length));
     OK(warm_receive(handle, frame, length));
     EXPECT(WARM_BUFFER_TOO_SMALL, warm_next_answer(handle, frame, 10, &length));
@@ -168,23 +170,24 @@ static void buffers(void) {
     const warm_reference good[] = {{.time = 20, .no = 7, .replica = 1}, {.time = 10, .no = 7, .replica = 1}};
     const warm_reference bad[] = {{.time = 30, .no = 8, .replica = 1}, {.time = 30, .no = 8, .replica = 65}};
     uint8_t frame[4096];
+    warm_page page = {0};
     size_t length = 0, count;
     uint64_t horizon;
     open_over(&handle, fd, 2);
-    OK(warm_absorb(&handle, NULL, 0));
+    OK(warm_absorb(&handle, good, 0));
     OK(warm_absorb(&handle, good, 2));
     EXPECT(WARM_BAD_REPLICA, warm_absorb(&handle, bad, 2));
     OK(warm_history_length(&handle, &count));
     MUST(count == 1); /* all or none: the first of the refused references is not there */
-    OK(warm_list(&handle, NULL, 0, &count));
+    OK(warm_list(&handle, &page, 0, &count));
     MUST(count == 0);
-    EXPECT(WARM_BUFFER_TOO_SMALL, warm_offer(&handle, NULL, 0, &length));
+    EXPECT(WARM_BUFFER_TOO_SMALL, warm_offer(&handle, frame, 0, &length));
     MUST(length == 2067);
     EXPECT(WARM_BUFFER_TOO_SMALL, warm_offer(&handle, frame, length - 1, &length));
     OK(warm_offer(&handle, frame, sizeof frame, &length));
     MUST(memcmp(frame + 19 + 7 * 32, "\x57\x8d\x81\xdb\xdf\x5f\xd3\xe0", 8) == 0); /* the digest of bucket 7 begins so, docs/FORMATS.md says */
-    EXPECT(WARM_BAD_BUCKET, warm_send(&handle, 64, NULL, frame, sizeof frame, &length));
-    EXPECT(WARM_BUFFER_TOO_SMALL, warm_send(&handle, 7, NULL, frame, 53, &length));
+    EXPECT(WARM_BAD_BUCKET, warm_send(&handle, 64, false, page, frame, sizeof frame, &length));
+    EXPECT(WARM_BUFFER_TOO_SMALL, warm_send(&handle, 7, false, page, frame, 53, &length));
     MUST(length == 54);
     answers(&handle);
     OK(warm_horizon(&handle, 15, &horizon));
@@ -209,9 +212,10 @@ static void damaged_frames(void) {
         0, 0, 0, 0, 0, 0, 0, 20, 0, 1, 0, 0, 0, 0, 0, 0, 0, 10, 0, 1};
     uint8_t frame[sizeof good];
     size_t count;
+    warm_device none = {0};
     warm handle = {0};
-    OK(warm_open(&handle, 2, 1, PAGE_SIZE, NULL, 0));
-    EXPECT(WARM_TRUNCATED, warm_receive(&handle, NULL, 0));
+    OK(warm_open(&handle, 2, 1, PAGE_SIZE, &none, 0));
+    EXPECT(WARM_TRUNCATED, warm_receive(&handle, good, 0));
     EXPECT(WARM_TRUNCATED, warm_receive(&handle, good, sizeof good - 1));
     for (size_t at = 0; at < sizeof cases / sizeof *cases; at++) {
         memcpy(frame, good, sizeof good);

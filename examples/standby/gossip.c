@@ -55,9 +55,11 @@ static void on_message(struct mosquitto *client, void *data, const struct mosqui
         g->peer_is_gone = length == 4 && memcmp(message->payload, "gone", 4) == 0;
         return;
     }
-    int status = warm_receive(pool_file_handle(g->file), message->payload, length);
+    static const uint8_t no_bytes[1];
+    const uint8_t *frame = length > 0 ? message->payload : no_bytes; /* a pointer is not null, also where there is no byte */
+    int status = warm_receive(pool_file_handle(g->file), frame, length);
     if (status >= 0 && status <= WARM_BAD_BUCKET) g->statuses[status]++;
-    if (status == WARM_OK && frame_sender(message->payload, length) == g->file->replica) g->own++;
+    if (status == WARM_OK && frame_sender(frame, length) == g->file->replica) g->own++;
 }
 
 static uint64_t milliseconds_now(void) {
@@ -132,13 +134,13 @@ static void publish_piece(gossip *g, unsigned bucket, size_t piece, const uint8_
 }
 
 static void publish_bucket(gossip *g, uint8_t bucket, uint8_t *frame) {
-    warm_page after;
+    warm_page after = {0};
     size_t piece = 0;
     bool is_later = false;
     do {
         size_t length;
         /* Without memory the rest of the bucket is published next time. */
-        if (warm_send(pool_file_handle(g->file), bucket, is_later ? &after : NULL, frame, FRAME_ROOM, &length) != WARM_OK) return;
+        if (warm_send(pool_file_handle(g->file), bucket, is_later, after, frame, FRAME_ROOM, &length) != WARM_OK) return;
         publish_piece(g, bucket, piece++, frame, length);
         is_later = frame_is_full(frame, &after);
     } while (is_later);

@@ -283,11 +283,11 @@ static int hand_history_over(warm *from, warm *to) {
     uint8_t *frame = malloc(FRAME_ROOM);
     int status = frame == NULL ? WARM_MEMORY : WARM_OK;
     for (uint8_t bucket = 0; bucket < BUCKETS && status == WARM_OK; bucket++) {
-        warm_page after;
+        warm_page after = {0};
         bool is_later = false;
         do {
             size_t length;
-            status = warm_send(from, bucket, is_later ? &after : NULL, frame, FRAME_ROOM, &length);
+            status = warm_send(from, bucket, is_later, after, frame, FRAME_ROOM, &length);
             if (status == WARM_OK) status = warm_receive(to, frame, length);
             is_later = status == WARM_OK && frame_is_full(frame, &after);
         } while (is_later);
@@ -346,6 +346,7 @@ int pool_file_leave(pool_file *file) {
 int pool_file_step(pool_file *file, bool *found) {
     warm_page page;
     warm_slot slot;
+    *found = false;
     pool_file_absorb(file);
     int status = warm_step(pool_file_handle(file), found, &page);
     if (status != WARM_OK || !*found) return status;
