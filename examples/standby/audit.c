@@ -59,7 +59,8 @@ static uint64_t committed_orders(sqlite3 *db, const char *path) {
 
 static uint64_t digest_of(sqlite3 *db) {
     static const char *const rows[] = {"SELECT * FROM customers ORDER BY id", "SELECT * FROM stock ORDER BY id DESC",
-        "SELECT * FROM orders ORDER BY customer, id", "SELECT * FROM order_lines ORDER BY order_no, line", "SELECT item, sum(amount) FROM order_lines GROUP BY item ORDER BY 2 DESC, 1"};
+        "SELECT * FROM orders ORDER BY customer, id", "SELECT * FROM order_lines ORDER BY order_no, line",
+        "SELECT item, sum(amount) FROM order_lines GROUP BY item ORDER BY 2 DESC, 1"};
     uint64_t hash = 0xcbf29ce484222325u;
     for (size_t at = 0; at < sizeof rows / sizeof *rows; at++) {
         sqlite3_stmt *statement;
