@@ -30,7 +30,7 @@ pub mod values;
 
 use crate::handle::Handle;
 use crate::opening::open;
-use crate::status::{Refusal, name_of_status, status_of};
+use crate::status::{Refusal, name_of_status, put_text, status_of};
 use crate::values::{WarmDevice, WarmPage, WarmReference, WarmSlot, page_if};
 use std::alloc::Global;
 use warm_gossip::NodeFault;
@@ -397,27 +397,16 @@ pub extern "C" fn warm_history_length(
     status_of(Ok(()))
 }
 
-// Copies as many of the bytes as there is room for.
-fn put_some(bytes: &[u8], into: &mut [u8])
-    ensures { into.new ≡ with_some bytes.now into.old }
-{
-    let count = bytes.len().min(into.len());
-    into[..count].copy_from_slice(&bytes[..count]);
-}
-
 /// Writes the name of a status, as many bytes of it as there is room for, and a zero byte after it where there is room left. Its length,
 /// without the zero, is written. What is no status is called `Unknown`. Answers 0.
 #[unsafe(no_mangle)]
 pub extern "C" fn warm_status_name(status: i32, name: &mut [u8], len: &mut usize) -> i32
     ensures text { name.new ≡ with_some (status_name status ++ 0 ∷ []) name.old }
-    ensures len { len.new ≡ length (status_name status) }
+    ensures size { len.new ≡ length (status_name status) }
     ensures answer { result ≡ pos 0 }
 {
     let text = name_of_status(status).as_bytes();
     *len = text.len();
-    put_some(text, name);
-    if text.len() < name.len() {
-        name[text.len()] = 0;
-    }
+    put_text(text, name);
     0
 }

@@ -1,7 +1,8 @@
 //! Why a call is refused, as a number and by name.
-ghost use Rattle.std.specs.Prelude.{◌≡◌};
+ghost use Rattle.std.specs.Prelude.{◌≡◌, [], ◌∷◌, ◌++◌};
 ghost use Rattle.warm_c.specs.Statuses.{code_of, frame_code_of, status_of};
 ghost use Rattle.warm_c.specs.StatusNames.{frame_name_at, library_name_at, name_at, pool_name_at, status_name, NamesRefusals};
+ghost use Rattle.warm_c.specs.Values.{with_some};
 
 use std::alloc::AllocError;
 use warm_frames::FrameFault;
@@ -196,3 +197,16 @@ pub fn name_of_status(status: i32) -> &'static str
 pub fn statuses_name_refusals()
     ensures { NamesRefusals }
 {}
+
+/// Puts a text at the start of a buffer, and a zero byte after it, as far as there is room.
+pub fn put_text(text: &[u8], into: &mut [u8])
+    ensures { into.new ≡ with_some (text.now ++ 0 ∷ []) into.old }
+{
+    if text.len() >= into.len() {
+        let room = into.len();
+        into.copy_from_slice(&text[..room]);
+        return;
+    }
+    into[..text.len()].copy_from_slice(text);
+    into[text.len()] = 0;
+}
