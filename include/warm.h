@@ -96,8 +96,8 @@ enum {
 
 /* Opens a closed handle: a node of this replica, with a pool of so many empty frames over these devices, and an empty history. A pool
  * has at most 65,536 devices, and the pages of each fit into 2^63 - 1 bytes: else WARM_NO_DEVICE.
- * Caller: devices points to device_count elements, and is not kept; each descriptor stays open until warm_close, and nothing else
- * writes to its file meanwhile. A descriptor that is not open for reading and writing makes reads and writes fail, and no more. */
+ * Caller: devices points to device_count elements, and is not kept; each descriptor stays open until warm_close, does not
+ * append, and nothing else writes to its file meanwhile. One that is not open for reading and writing makes reads or writes fail. */
 int warm_open(warm *handle, uint16_t replica, size_t frames, size_t page_size, const warm_device *devices, size_t device_count);
 
 /* Ends the node of a handle, and closes the handle; a closed one stays closed. Dirty pages that were not written back are lost:

@@ -1,6 +1,5 @@
 //! Making what an open handle holds.
 ghost use Rattle.std.specs.Prelude.{◌≡◌, ◌≤◌, length, map, IfErr, IfOk};
-ghost use Rattle.warm_pool.specs.declared.TheConstants.{MAX_DEVICES};
 ghost use Rattle.warm_c.specs.FdParts.{fd_state};
 ghost use Rattle.warm_c.specs.Handles.{IsUnmade, IsUnopened, asked, devices_of, opened};
 
