@@ -12,8 +12,8 @@
  * refused. What no function checks, the caller guarantees, for every function:
  *  - a handle was all zeros before its first call, and since then only these functions have changed it; it is not copied;
  *  - one call at a time uses a handle, and all calls of a handle come from one thread;
- *  - a pointer with a length points to that many elements, which no other argument overlaps; a pointer may be null where its
- *    length is 0; any other pointer points to one element;
+ *  - a pointer with a length points to that many elements, any other to one; what two arguments point to does not overlap; and no
+ *    pointer is null, also where its length is 0: it may then point to anything;
  *  - no call is made in a signal handler, nor in the forked child of a process with threads;
  *  - malloc, realloc and free are of one allocator.
  * "Caller:" at a function names what it asks of these, and what it asks beyond them.
