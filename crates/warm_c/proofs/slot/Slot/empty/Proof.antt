@@ -36,14 +36,26 @@ use Rattle.warm_c.proofs.slot.Slot.empty.Code as code
 
 pub empty_spec : {M : Type 1} → statement M
 empty_spec 𝓤 𝓛 𝓜 𝓡 wired =
-    let H = 𝓛.H in let 𝓣 = tables 𝓤 H 𝓜 𝓡 𝓡.env in let c = clauses 𝓛 𝓜.mem 𝓡.returns in let fn : Fn = code.function in
-    let s = first signature.params in let hs : Stays signature.params ended.kept = (stay_dropped s ended.kept.0, tt) in
+    let H = 𝓛.H in
+    let 𝓣 = tables 𝓤 H 𝓜 𝓡 𝓡.env in
+    let c = clauses 𝓛 𝓜.mem 𝓡.returns in
+    let fn : Fn = code.function in
+    let s = first signature.params in
+    let hs : Stays signature.params ended.kept = (stay_dropped s ended.kept.0, tt) in
     proved_at 𝓛 ended hs c 𝓜 𝓡 (Goes-blank 𝓛 0 s ended.kept.0 (λ κs x f. tt), tt) #self fn (code.unfolded 𝓤 H 𝓜 𝓡 wired) (λ z are.
-    let Post : Val → SProp 𝓤 = (walk_of 𝓛 ended hs c).post z in let Run : List Val → SProp 𝓤 = λ ws. WpFn 𝓤 H 𝓣.C 𝓣.Λ fn ws Post in
-    let From = type_at s z.0.0 in let To = type_at signature.result z.0.0 in
-    let a = z.0.3.0 in let h = bits a in let w = word null_ptr a in let ws = heap_laws.lowers.val_is a z.0.4.0 are.0 in
-    let made : To.Denot = record { at = null_ptr; alloc = a; held = None } in let Said : Type 0 = made.held ≡ None in
-    qed 𝓛 ((raw (alive 𝓛 signature z.0.0 z.0.1) ⊛ ‵ (owns (types_at signature.params z.0.0) z.0.3 z.0.4)) ∷ ‵ ftrue ∷ []) ∵ split ! $ move ! (1 ∷ []) $ fsplit ! $
+    -- what is passed, and what is made of it
+    let Post : Val → SProp 𝓤 = (walk_of 𝓛 ended hs c).post z in
+    let Run : List Val → SProp 𝓤 = λ ws. WpFn 𝓤 H 𝓣.C 𝓣.Λ fn ws Post in
+    let From = type_at s z.0.0 in
+    let To = type_at signature.result z.0.0 in
+    let a = z.0.3.0 in
+    let h = bits a in
+    let w = word null_ptr a in
+    let ws = heap_laws.lowers.val_is a z.0.4.0 are.0 in
+    let made : To.Denot = record { at = null_ptr; alloc = a; held = None } in
+    let Said : Type 0 = made.held ≡ None in
+    qed 𝓛 ((raw (alive 𝓛 signature z.0.0 z.0.1) ⊛ ‵ (owns (types_at signature.params z.0.0) z.0.3 z.0.4)) ∷ ‵ ftrue ∷ []) ∵
+    split ! $ move ! (1 ∷ []) $ fsplit ! $
     rewrite ! 0 (λ (us : List Val). ‵ (From.own_val a us)) ws refl $
     suffices ! (Run (h ∷ [])) (subst (λ (us : List Val). ent 𝓤 (Run (h ∷ [])) (Run us)) (sym (λ i. ws i ++ [])) (id⊢ 𝓤 (Run (h ∷ [])))) $
     enter ! 𝓣.C 𝓣.Λ fn (h ∷ []) Post $ alloc_all ! (λ l. pass_all ! refl (bits_typed a, tt) $

@@ -36,14 +36,27 @@ use Rattle.warm_c.proofs.slot.Slot.of_loose.Code as code
 
 pub of_loose_spec : {M : Type 1} → statement M
 of_loose_spec 𝓤 𝓛 𝓜 𝓡 wired =
-    let H = 𝓛.H in let 𝓣 = tables 𝓤 H 𝓜 𝓡 𝓡.env in let c = clauses 𝓛 𝓜.mem 𝓡.returns in let fn : Fn = code.function in
-    let s = first signature.params in let hs : Stays signature.params ended.kept = (stay_dropped s ended.kept.0, tt) in
+    let H = 𝓛.H in
+    let 𝓣 = tables 𝓤 H 𝓜 𝓡 𝓡.env in
+    let c = clauses 𝓛 𝓜.mem 𝓡.returns in
+    let fn : Fn = code.function in
+    let s = first signature.params in
+    let hs : Stays signature.params ended.kept = (stay_dropped s ended.kept.0, tt) in
     proved_at 𝓛 ended hs c 𝓜 𝓡 (Goes-blank 𝓛 0 s ended.kept.0 (λ κs x f. tt), tt) #self fn (code.unfolded 𝓤 H 𝓜 𝓡 wired) (λ z are.
-    let Post : Val → SProp 𝓤 = (walk_of 𝓛 ended hs c).post z in let Run : List Val → SProp 𝓤 = λ ws. WpFn 𝓤 H 𝓣.C 𝓣.Λ fn ws Post in
-    let From = type_at s z.0.0 in let To = type_at signature.result z.0.0 in
-    let v = z.0.3.0 in let p = v.pointer in let a = v.allocator in let w = word p a in let ws = told p a z.0.4.0 are.0.0 in
-    let made : To.Denot = record { at = p; alloc = a; held = Some v.content } in let Said : Type 0 = made.held ≡ Some v.content in
-    qed 𝓛 ((raw (alive 𝓛 signature z.0.0 z.0.1) ⊛ ‵ (owns (types_at signature.params z.0.0) z.0.3 z.0.4)) ∷ ‵ ftrue ∷ []) ∵ split ! $ move ! (1 ∷ []) $ fsplit ! $
+    -- what is passed, and what is made of it
+    let Post : Val → SProp 𝓤 = (walk_of 𝓛 ended hs c).post z in
+    let Run : List Val → SProp 𝓤 = λ ws. WpFn 𝓤 H 𝓣.C 𝓣.Λ fn ws Post in
+    let From = type_at s z.0.0 in
+    let To = type_at signature.result z.0.0 in
+    let v = z.0.3.0 in
+    let p = v.pointer in
+    let a = v.allocator in
+    let w = word p a in
+    let ws = told p a z.0.4.0 are.0.0 in
+    let made : To.Denot = record { at = p; alloc = a; held = Some v.content } in
+    let Said : Type 0 = made.held ≡ Some v.content in
+    qed 𝓛 ((raw (alive 𝓛 signature z.0.0 z.0.1) ⊛ ‵ (owns (types_at signature.params z.0.0) z.0.3 z.0.4)) ∷ ‵ ftrue ∷ []) ∵
+    split ! $ move ! (1 ∷ []) $ fsplit ! $
     rewrite ! 0 (λ (us : List Val). ‵ (From.own_val v us)) ws refl $
     -- [what is owned; nothing; the tokens; the `requires`]
     suffices ! (Run (w ∷ [])) (subst (λ (us : List Val). ent 𝓤 (Run (w ∷ [])) (Run us)) (sym (λ i. ws i ++ [])) (id⊢ 𝓤 (Run (w ∷ [])))) $
