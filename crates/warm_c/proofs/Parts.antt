@@ -53,19 +53,19 @@ module _ (X A : RattleType) (laws : Laws A) (ghosts : Ghosts A.Denot) where
     -- opens one: its pointer points into a block, which is owned with the value there, and beside it is the allocator
     pub opened : K → (l : Apart.Denot) (vs : List Val)
         → ((b o : ℕ) (w : Val) → l.pointer ≡ block_ptr b o → vs ≡ pair (vptr b o) w ∷ [] → Good (layout A) w
-            → Seq K 𝓛 (‵ (box_owns (ghosts.dealloc_token l.allocator) X (block_ptr b o) l.content) ∷ ‵ (A.own_val l.allocator (w ∷ [])) ∷ Γ) G)
+        → Seq K 𝓛 (‵ (box_owns (ghosts.dealloc_token l.allocator) X (block_ptr b o) l.content) ∷ ‵ (A.own_val l.allocator (w ∷ [])) ∷ Γ) G)
         → Seq K 𝓛 (‵ (Apart.own_val l vs) ∷ Γ) G
     opened t l vs next =
         fsplit t $ fpick t (λ parts. fsplit t $ feq_l t (λ made. fsplit t $ feq_l t (λ one. fsplit t $
         handle_tells handler t l.allocator parts.1.0 (λ w other good. move t (1 ∷ []) $ drop t $ move t (1 ∷ []) $
         in_a_block t l.pointer (λ p. box_owns (ghosts.dealloc_token l.allocator) X p l.content)
-            (fst∗ 𝓤 (never 𝓤) (sem 𝓛 (ghosts.dealloc_token l.allocator (bare (lone X.mir)) null_ptr)))
-            (λ b o into. next b o w into (pointer_is vs parts.0 parts.1.0 l.pointer b o w made one into other) good)))))
+        (fst∗ 𝓤 (never 𝓤) (sem 𝓛 (ghosts.dealloc_token l.allocator (bare (lone X.mir)) null_ptr)))
+        (λ b o into. next b o w into (pointer_is vs parts.0 parts.1.0 l.pointer b o w made one into other) good)))))
 
     -- closes one again
     pub closed : K → (b o : ℕ) (w : Val) (a : A.Denot) (x : X.Denot)
         → Step K 𝓛 (‵ (Apart.own_val (record { pointer = block_ptr b o; allocator = a; content = x }) (pair (vptr b o) w ∷ [])) ∷ Γ) G
-            (‵ (box_owns (ghosts.dealloc_token a) X (block_ptr b o) x) ∷ ‵ (A.own_val a (w ∷ [])) ∷ Γ) G
+        (‵ (box_owns (ghosts.dealloc_token a) X (block_ptr b o) x) ∷ ‵ (A.own_val a (w ∷ [])) ∷ Γ) G
     closed t b o w a x = step (λ rest.
         let whole : List Val = pair (vptr b o) w ∷ [] in let first : List Val = vptr b o ∷ [] in
         nothing t $ move t (2 ∷ 0 ∷ []) $ fjoin t $ feq_i t (List Val) first first refl $ fjoin t $ feq_i t (List Val) whole whole refl $ fjoin t $

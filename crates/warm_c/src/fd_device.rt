@@ -1,6 +1,7 @@
 //! A device over a file descriptor of the engine. What its file holds is nothing that a contract can say.
-ghost use Rattle.std.specs.Prelude.{◌≡◌, ◌+◌, ◌*◌, ◌^◌, ◌<◌, ◌≤◌, length, IfNone, IfSome};
+ghost use Rattle.std.specs.Prelude.{◌≡◌, ◌*◌, ◌^◌, ◌<◌, ◌≤◌, IfNone, IfSome};
 
+use crate::descriptor::Descriptor;
 use warm_devices::{DeviceFault, PageDevice};
 
 /// Pages in a file that the engine opened, one after another from its start. A flush syncs the file.
@@ -8,7 +9,7 @@ use warm_devices::{DeviceFault, PageDevice};
 /// Pages past the end of the file read as zeros, and a write of one extends the file. The descriptor is the engine's: it is not closed
 /// here. The device is safe whatever the descriptor is and the file gives, and it counts its failures. Of the bytes it claims nothing.
 pub struct FdDevice {
-    fd: i32,
+    descriptor: Descriptor,
     pages: u64,
     page_size: usize,
     waiting: bool,
@@ -21,14 +22,14 @@ impl FdDevice {
 
     /// A device of `pages` pages of `page_size` bytes over this descriptor, of which nothing is asked yet. `None` comes exactly where
     /// the pages do not fit into 2^63 - 1 bytes, which is what a file's offsets can name.
-    pub fn new(fd: i32, pages: u64, page_size: usize) -> Option<FdDevice>
+    pub fn new(descriptor: Descriptor, pages: u64, page_size: usize) -> Option<FdDevice>
         ensures opened { IfSome result (λ device. fd_state device ≡ fd_opened pages page_size) }
         ensures fits { IfSome result (λ _. pages * page_size < 2 ^ 63) }
         ensures refused { IfNone result (2 ^ 63 ≤ pages * page_size) }
     {
         match pages.checked_mul(page_size as u64) {
             Some(len) if len < 1 << 63 => Some(FdDevice {
-                fd,
+                descriptor,
                 pages,
                 page_size,
                 waiting: false,
@@ -37,55 +38,6 @@ impl FdDevice {
             _ => None,
         }
     }
-}
-
-// How many bytes a call moved, of this many at most; `None` where it failed.
-fn moved(answer: isize, most: usize) -> Option<usize>
-    ensures { IfSome result (λ count. count ≤ most) }
-{
-    if answer < 0 {
-        return None;
-    }
-    Some((answer as usize).min(most))
-}
-
-// Fills `into` with the file's bytes from `at` on, and with zeros past its end. False where a read fails.
-fn fill(fd: i32, at: u64, into: &mut [u8]) -> bool
-    requires { at + length into.old < 2 ^ 63 }
-{
-    let mut done = 0;
-    while done < into.len() {
-        let most = into.len() - done;
-        let answer = libc::pread(fd, &mut into[done..], (at + done as u64) as i64);
-        let Some(count) = moved(answer, most) else {
-            return false;
-        };
-        if count == 0 {
-            into[done..].fill(0);
-            return true;
-        }
-        done += count;
-    }
-    true
-}
-
-// Writes all bytes to the file, from `at` on. False where a write fails, or takes none.
-fn put_down(fd: i32, at: u64, bytes: &[u8]) -> bool
-    requires { at + length bytes.now < 2 ^ 63 }
-{
-    let mut done = 0;
-    while done < bytes.len() {
-        let most = bytes.len() - done;
-        let answer = libc::pwrite(fd, &bytes[done..], (at + done as u64) as i64);
-        let Some(count) = moved(answer, most) else {
-            return false;
-        };
-        if count == 0 {
-            return false;
-        }
-        done += count;
-    }
-    true
 }
 
 impl PageDevice for FdDevice {
@@ -111,7 +63,7 @@ impl PageDevice for FdDevice {
 
     fn read(&mut self, no: u64, into: &mut [u8]) -> Result<(), DeviceFault> {
         let at = no * self.page_size as u64;
-        if !fill(self.fd, at, into) {
+        if !self.descriptor.read(at, into) {
             self.failures = self.failures.saturating_add(1);
             return Err(DeviceFault::Read);
         }
@@ -121,7 +73,7 @@ impl PageDevice for FdDevice {
     fn write(&mut self, no: u64, bytes: &[u8]) -> Result<(), DeviceFault> {
         self.waiting = true;
         let at = no * self.page_size as u64;
-        if !put_down(self.fd, at, bytes) {
+        if !self.descriptor.write(at, bytes) {
             self.failures = self.failures.saturating_add(1);
             return Err(DeviceFault::Write);
         }
@@ -129,7 +81,7 @@ impl PageDevice for FdDevice {
     }
 
     fn flush(&mut self) -> Result<(), DeviceFault> {
-        if libc::fsync(self.fd) != 0 {
+        if !self.descriptor.flush() {
             self.failures = self.failures.saturating_add(1);
             return Err(DeviceFault::Flush);
         }
@@ -148,7 +100,7 @@ impl Drop for FdDevice {
     fn drop(mut self) {
         self.settle();
         let FdDevice {
-            fd: _,
+            descriptor: _,
             pages: _,
             page_size: _,
             waiting: _,

@@ -41,12 +41,7 @@ impl Held {
     ///
     /// # Errors
     /// `BufferTooSmall`, with the length written that the frame has; `Memory`. The buffer is then as it was.
-    pub fn offer(
-        &mut self,
-        alloc: Global,
-        frame: &mut [u8],
-        len: &mut usize,
-    ) -> Result<(), Refusal>
+    pub fn offer(&mut self, alloc: Global, frame: &mut [u8], len: &mut usize) -> Result<(), Refusal>
         ensures { Sends Offer frame.old len.old frame.new len.new self.old result self.new }
     {
         let message = self.node.offer()?;

@@ -16,6 +16,7 @@ ghost use Rattle.warm_c.specs.Handles.{Called, Opens, Surely, asked};
 ghost use Rattle.warm_c.specs.StatusNames.{status_name};
 ghost use Rattle.warm_c.specs.Values.{page_if, with_some};
 
+pub mod descriptor;
 pub mod fd_device;
 mod frame_calls;
 pub mod handle;
@@ -44,13 +45,14 @@ use warm_gossip::NodeFault;
 /// too many devices, or the pages of one exceed 2^63 - 1 bytes; 2 and 3 where there are too many frames or none, or bytes of a page; 1
 /// where an allocation failed.
 #[unsafe(no_mangle)]
-pub extern "C" fn warm_open(
+pub extern "C" fn warm_open_served(
     alloc: Global,
     handle: &mut Handle,
     replica: u16,
     frames: usize,
     page_size: usize,
     devices: &[WarmDevice],
+    stream: i32,
 ) -> i32
     ensures { Opens (asked replica frames page_size devices.now) handle.old.slot.held result
         handle.new.slot.held }
@@ -59,7 +61,7 @@ pub extern "C" fn warm_open(
         *handle = Handle::of(held);
         return status_of(Err(Refusal::AlreadyOpen));
     }
-    let held = match open(alloc, replica, frames, page_size, devices) {
+    let held = match open(alloc, replica, frames, page_size, devices, stream) {
         Ok(held) => held,
         Err(why) => return status_of(Err(why)),
     };
@@ -74,7 +76,7 @@ pub extern "C" fn warm_open(
 
 /// Closes a handle, and ends what it holds; a closed one stays closed. Pages that were written to and not written back are lost.
 #[unsafe(no_mangle)]
-pub extern "C" fn warm_close(alloc: Global, handle: &mut Handle)
+pub extern "C" fn warm_close_served(alloc: Global, handle: &mut Handle)
     ensures { handle.new.slot.held ≡ None }
 {
     let _ = handle.take(alloc);
@@ -380,11 +382,7 @@ pub extern "C" fn warm_write_back(alloc: Global, handle: &mut Handle) -> i32
 
 /// Writes how many pages the history knows.
 #[unsafe(no_mangle)]
-pub extern "C" fn warm_history_length(
-    alloc: Global,
-    handle: &mut Handle,
-    number: &mut usize,
-) -> i32
+pub extern "C" fn warm_history_length(alloc: Global, handle: &mut Handle, number: &mut usize) -> i32
     ensures called { Called (Surely (Counts number.new)) handle.old.slot.held result
         handle.new.slot.held }
     ensures closed { handle.old.slot.held ≡ None → number.new ≡ number.old }

@@ -3,6 +3,7 @@ ghost use Rattle.std.specs.Prelude.{◌≡◌, ◌≤◌, length, map, IfErr, If
 ghost use Rattle.warm_c.specs.FdParts.{fd_state};
 ghost use Rattle.warm_c.specs.Handles.{IsUnmade, IsUnopened, asked, devices_of, opened};
 
+use crate::descriptor::Descriptor;
 use crate::fd_device::FdDevice;
 use crate::held::Held;
 use crate::status::Refusal;
@@ -18,6 +19,7 @@ fn devices_of(
     alloc: Global,
     page_size: usize,
     devices: &[WarmDevice],
+    stream: i32,
 ) -> Result<Vec<FdDevice>, Refusal>
     ensures made { IfOk result (λ made.
         map fd_state made.items ≡ devices_of page_size devices.now) }
@@ -29,7 +31,8 @@ fn devices_of(
     }
     let mut made = Vec::with_capacity(alloc, devices.len())?;
     for device in devices {
-        let Some(device) = FdDevice::new(device.fd, device.pages, page_size) else {
+        let descriptor = Descriptor::new(stream, device.fd);
+        let Some(device) = FdDevice::new(descriptor, device.pages, page_size) else {
             return Err(Refusal::Node(NodeFault::Pool(PoolFault::NoDevice)));
         };
         made.push_reserved(device);
@@ -48,6 +51,7 @@ pub fn open(
     frames: usize,
     page_size: usize,
     devices: &[WarmDevice],
+    stream: i32,
 ) -> Result<Held, Refusal>
     ensures opened { IfOk result (λ held.
         held ≡ opened (asked replica frames page_size devices.now)) }
@@ -56,7 +60,7 @@ pub fn open(
     let Ok(replica) = ReplicaId::new(replica) else {
         return Err(Refusal::BadReplica);
     };
-    let devices = devices_of(alloc, page_size, devices)?;
+    let devices = devices_of(alloc, page_size, devices, stream)?;
     match Pool::new(alloc, frames, page_size, devices) {
         Ok(pool) => Ok(Held {
             node: Node::new(alloc, replica, pool),
