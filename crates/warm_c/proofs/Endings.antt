@@ -1,11 +1,11 @@
 -- Calls of handles, from what happens to what they hold.
 use Rattle.std.proofs.Common.{◌≡◌, Option, Some, None, sym, subst}
-use Rattle.std.specs.Prelude.{ℤ, pos, is_some, false}
+use Rattle.std.specs.Prelude.{ℤ, pos}
 use Rattle.warm_c.specs.declared.held.Held.{Held}
-use Rattle.warm_c.specs.declared.status.Refusal.TheVariants.{Closed}
+use Rattle.warm_c.specs.declared.status.Refusal.{Refusal}
 use Rattle.warm_c.specs.Statuses.{code_of, status_of}
 use Rattle.warm_c.specs.Calls.{Ending}
-use Rattle.warm_c.specs.Handles.{Called}
+use Rattle.warm_c.specs.Handles.{Asked, Called, IsUnopened, Opens}
 
 -- an open handle, which holds something before and after
 pub called : (goes : Held → Ending → Held → Type 0) (before after : Option Held) (status : ℤ) (old new : Held) (ending : Ending)
@@ -13,7 +13,8 @@ pub called : (goes : Held → Ending → Held → Type 0) (before after : Option
 called goes before after status old new ending was is went said =
     subst (λ (o : Option Held). Called goes o status after) (sym was) (subst (λ (o : Option Held). Called goes (Some old) status o) (sym is) (ending, went, said))
 
--- a closed one
-pub called_closed : (goes : Held → Ending → Held → Type 0) (before after : Option Held) (status : ℤ)
-    → before ≡ None → after ≡ None → status ≡ pos (code_of Closed) → Called goes before status after
-called_closed goes before after status was is said = subst (λ (o : Option Held). Called goes o status after) (sym was) (said, is)
+-- a closed one of which none was made
+pub unopened : (a : Asked) (before after : Option Held) (status : ℤ) (why : Refusal)
+    → before ≡ None → after ≡ None → status ≡ pos (code_of why) → IsUnopened a why → Opens a before status after
+unopened a before after status why was is said for =
+    subst (λ (o : Option Held). Opens a o status after) (sym was) (subst (λ (o : Option Held). Opens a None status o) (sym is) (why, said, for))

@@ -119,10 +119,11 @@ Sends call before len after len' old ending new =
     ((message : Message) × Replies call old (Sent message) new × PutsFrame message before len after len' ending)
     ⊎ ((why : NodeFault) × (ending ≡ Err (Node why)) × Replies call old (Refused why) new × (after ≡ before) × (len' ≡ len))
 
--- the same of a bucket with this number, where there is one
+-- the number is no bucket's, and nothing has changed; or the same of that bucket
 abbrev pub SendsBucket : ℕ → Option PageId → List ℕ → ℕ → List ℕ → ℕ → Held → Ending → Held → Type 0
-SendsBucket bucket page before len after len' old (Err BadBucket) new = (IsBucket bucket → ⊥) × (after ≡ before) × (len' ≡ len) × (new ≡ old)
-SendsBucket bucket page before len after len' old ending new = Sends (Send bucket page) before len after len' old ending new
+SendsBucket bucket page before len after len' old ending new =
+    ((IsBucket bucket → ⊥) × (ending ≡ Err BadBucket) × (after ≡ before) × (len' ≡ len) × (new ≡ old))
+    ⊎ Sends (Send bucket page) before len after len' old ending new
 
 -- The bytes spell a frame, which the node has received: its answers wait, and none is given yet. Or it refuses the frame; or they spell none.
 abbrev pub Receives : List ℕ → Held → Ending → Held → Type 0
