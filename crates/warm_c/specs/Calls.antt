@@ -1,16 +1,15 @@
 -- What each call does to what an open handle holds, and what it writes.
-use Rattle.std.specs.Prelude.{ℕ, ◌+◌, ◌<◌, ◌≡◌, ◌⊎◌, Bool, List, [], map, length, Option, Some, None, Result, Ok, Err, Contains, slice_get}
+use Rattle.std.specs.Prelude.{ℕ, ◌+◌, ◌<◌, ◌≡◌, ◌⊎◌, Bool, List, map, length, Option, Some, None, Result, Ok, Err, Contains, slice_get}
 use Rattle.warm_stamps.specs.Replicas.{IsReplica}
 use Rattle.warm_stamps.specs.Buckets.{IsBucket}
 use Rattle.warm_stamps.specs.declared.PageId.{PageId}
 use Rattle.warm_history.specs.Histories.{entries_of}
-use Rattle.warm_frames.specs.declared.fault.FrameFault.{FrameFault}
 use Rattle.warm_frames.specs.declared.message.Message.{Message}
 use Rattle.warm_frames.specs.Reading.{Gives, read_frame, reserved_by}
 use Rattle.warm_frames.specs.Spelling.{Spells, spelling}
 use Rattle.warm_pool.specs.State.{IsSettled}
 use Rattle.warm_gossip.specs.declared.call.Call.{Call}
-use Rattle.warm_gossip.specs.declared.call.Call.TheVariants.{Absorb, Send, Offer, Receive, Horizon, Pin, Unpin, Read, Write, Victim, WarmList, WarmStep}
+use Rattle.warm_gossip.specs.declared.call.Call.TheVariants.{Absorb, Send, Receive, Horizon, Pin, Unpin, Read, Write, Victim, WarmList, WarmStep}
 use Rattle.warm_gossip.specs.declared.call.Reply.{Reply}
 use Rattle.warm_gossip.specs.declared.call.Reply.TheVariants.{Done, Sent, Answers, Kept, Pinned, Bytes, Page, Pages, Loaded, Refused}
 use Rattle.warm_gossip.specs.declared.fault.NodeFault.{NodeFault}
@@ -22,7 +21,7 @@ use Rattle.warm_c.specs.declared.status.Refusal.TheVariants.{Node, Frame, Buffer
 use Rattle.warm_c.specs.declared.values.WarmPage.{WarmPage}
 use Rattle.warm_c.specs.declared.values.WarmReference.{WarmReference}
 use Rattle.warm_c.specs.declared.values.WarmSlot.{WarmSlot}
-use Rattle.warm_c.specs.Values.{c_page, c_slot, page_if, page_of, reference_of, slot_of, with_start}
+use Rattle.warm_c.specs.Values.{c_page, page_if, page_of, reference_of, slot_of, with_start}
 
 -- what a call of the library ends with
 abbrev pub Ending : Type 0

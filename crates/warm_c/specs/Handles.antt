@@ -1,5 +1,5 @@
 -- What a call of a handle does: a closed one says so, and an open one makes the call.
-use Rattle.std.specs.Prelude.{ℕ, ℤ, pos, ◌*◌, ◌^◌, ◌<◌, ◌≤◌, ◌≡◌, List, [], map, length, Option, Some, None, Result, Ok, Err, Contains}
+use Rattle.std.specs.Prelude.{ℕ, ℤ, pos, ◌*◌, ◌^◌, ◌<◌, ◌≤◌, ◌≡◌, List, [], map, length, Option, Some, None, Ok, Err, Contains}
 use Rattle.warm_stamps.specs.Replicas.{IsReplica}
 use Rattle.warm_devices.specs.Device.{DeviceState}
 use Rattle.warm_pool.specs.declared.TheConstants.{MAX_DEVICES}

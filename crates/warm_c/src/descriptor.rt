@@ -10,6 +10,9 @@ const WRITE: u8 = 2;
 
 const FLUSH: u8 = 3;
 
+// How often a read is begun again that gives nothing, as where a signal interrupts it.
+const TRIES: u32 = 64;
+
 /// A descriptor, and the stream to the server.
 #[derive(Clone, Copy)]
 pub struct Descriptor {
@@ -30,10 +33,22 @@ fn ask(stream: i32, kind: u8, fd: i32, at: u64, len: u64) -> bool {
     io::write_all(stream, &request)
 }
 
+// Fills `into` from the stream. False where that ends or fails first.
+fn receive(stream: i32, into: &mut [u8]) -> bool {
+    let mut done = 0;
+    for _ in 0..TRIES {
+        done += io::read_full(stream, &mut into[done..]);
+        if done >= into.len() {
+            return true;
+        }
+    }
+    false
+}
+
 // Whether the server says that the call succeeded; `None` where the stream ends or fails.
 fn answer(stream: i32) -> Option<bool> {
     let mut byte = [0u8; 1];
-    if io::read_full(stream, &mut byte) != 1 {
+    if !receive(stream, &mut byte) {
         return None;
     }
     Some(byte[0] == 0)
@@ -47,7 +62,7 @@ fn filled(stream: i32, fd: i32, at: u64, into: &mut [u8]) -> Option<bool> {
     if !answer(stream)? {
         return Some(false);
     }
-    if io::read_full(stream, into) != into.len() {
+    if !receive(stream, into) {
         return None;
     }
     Some(true)

@@ -1,8 +1,11 @@
 //! A replica's node for C and C++: a static library over `Node<FdDevice>`. Its header is include/warm.h.
 //!
 //! A handle holds a node over the caller's file descriptors, and the answers to the frame that it received last. All zeros is a closed
-//! handle. Each function but `warm_open`, `warm_close` and `warm_status_name` is the node's call of its name on an open handle; on a
-//! closed one it answers 64 and changes nothing. A function answers a status: 0, or the number of why it is refused.
+//! handle. Each function but `warm_open_served`, `warm_close_served` and `warm_status_name` is the node's call of its name on an open
+//! handle; on a closed one it answers 64 and changes nothing. A function answers a status: 0, or the number of why it is refused.
+//!
+//! c/warm_files.c has what is not proved: `warm_open`, `warm_close` and `warm_send` of the header, which call `warm_open_served`,
+//! `warm_close_served` and `warm_send_after` here, and the file server, which makes the calls of the system.
 //!
 //! Nothing is undefined for any handle, slot or length, as long as the caller keeps what the header asks: a handle that was all zeros
 //! before its first call, and that only these functions change; one call at a time on one thread; and pointers to as much as their
@@ -38,7 +41,8 @@ use warm_gossip::NodeFault;
 
 /// Opens a closed handle: a node of this replica, with a pool of so many empty frames over these devices, and an empty history.
 ///
-/// `replica` is 1 to 64, `frames` 1 to 65,536, `page_size` 1 to 65,536 bytes. There are 65,536 devices at most.
+/// `replica` is 1 to 64, `frames` 1 to 65,536, `page_size` 1 to 65,536 bytes. There are 65,536 devices at most. The file server is at the
+/// other end of `stream`, until the handle is closed.
 ///
 /// # Errors
 /// 65, and the handle is as it was, where it is open. Else it stays closed: 67 where the replica's number is none; 4 where there are
@@ -219,9 +223,10 @@ pub extern "C" fn warm_list(
     pages: &mut [WarmPage],
     count: &mut usize,
 ) -> i32
-    ensures called { Called (Lists pages.old count.old pages.new count.new) handle.old.slot.held result
-        handle.new.slot.held }
-    ensures closed { handle.old.slot.held ≡ None → (pages.new ≡ pages.old) × (count.new ≡ count.old) }
+    ensures called { Called (Lists pages.old count.old pages.new count.new)
+        handle.old.slot.held result handle.new.slot.held }
+    ensures closed { handle.old.slot.held ≡ None
+        → (pages.new ≡ pages.old) × (count.new ≡ count.old) }
 {
     let Some(mut held) = handle.take(alloc) else {
         return status_of(Err(Refusal::Closed));
@@ -242,8 +247,8 @@ pub extern "C" fn warm_step(
     found: &mut bool,
     page: &mut WarmPage,
 ) -> i32
-    ensures called { Called (Steps found.old page.old found.new page.new) handle.old.slot.held result
-        handle.new.slot.held }
+    ensures called { Called (Steps found.old page.old found.new page.new)
+        handle.old.slot.held result handle.new.slot.held }
     ensures closed { handle.old.slot.held ≡ None → (found.new ≡ found.old) × (page.new ≡ page.old) }
 {
     let Some(mut held) = handle.take(alloc) else {
@@ -265,8 +270,8 @@ pub extern "C" fn warm_offer(
     frame: &mut [u8],
     len: &mut usize,
 ) -> i32
-    ensures called { Called (Sends Offer frame.old len.old frame.new len.new) handle.old.slot.held result
-        handle.new.slot.held }
+    ensures called { Called (Sends Offer frame.old len.old frame.new len.new)
+        handle.old.slot.held result handle.new.slot.held }
     ensures closed { handle.old.slot.held ≡ None → (frame.new ≡ frame.old) × (len.new ≡ len.old) }
 {
     let Some(mut held) = handle.take(alloc) else {
@@ -283,7 +288,7 @@ pub extern "C" fn warm_offer(
 /// 68 where the bucket's number is none; 66 where the frame does not fit, with its length written; 1 where an allocation failed. The
 /// buffer is as it was.
 #[unsafe(no_mangle)]
-pub extern "C" fn warm_send(
+pub extern "C" fn warm_send_after(
     alloc: Global,
     handle: &mut Handle,
     bucket: u8,
@@ -292,8 +297,9 @@ pub extern "C" fn warm_send(
     frame: &mut [u8],
     len: &mut usize,
 ) -> i32
-    ensures called { Called (SendsBucket bucket (page_if has_after after) frame.old len.old frame.new
-        len.new) handle.old.slot.held result handle.new.slot.held }
+    ensures called { Called
+        (SendsBucket bucket (page_if has_after after) frame.old len.old frame.new len.new)
+        handle.old.slot.held result handle.new.slot.held }
     ensures closed { handle.old.slot.held ≡ None → (frame.new ≡ frame.old) × (len.new ≡ len.old) }
 {
     let Some(mut held) = handle.take(alloc) else {
@@ -332,8 +338,8 @@ pub extern "C" fn warm_next_answer(
     frame: &mut [u8],
     len: &mut usize,
 ) -> i32
-    ensures called { Called (GivesNext frame.old len.old frame.new len.new) handle.old.slot.held result
-        handle.new.slot.held }
+    ensures called { Called (GivesNext frame.old len.old frame.new len.new)
+        handle.old.slot.held result handle.new.slot.held }
     ensures closed { handle.old.slot.held ≡ None → (frame.new ≡ frame.old) × (len.new ≡ len.old) }
 {
     let Some(mut held) = handle.take(alloc) else {

@@ -1,4 +1,4 @@
-use Rattle.std.proofs.Common.{rules, Ok, to_z, of_z, w32}
+use Rattle.std.proofs.Common.{rules, to_z, of_z, w32}
 use Rattle.warm_gossip.specs.declared.call.Call.TheVariants.{Offer}
 use Rattle.warm_c.specs.Calls.{Sends}
 use Rattle.warm_c.proofs.Endings.{called}

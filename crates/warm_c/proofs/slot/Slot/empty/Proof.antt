@@ -7,27 +7,24 @@ use base.Fml.{ftrue}
 use prog.Wp.{WpFn}
 use contract.Monad.{fact, fact_i}
 use contract.Running.{tables}
-use types.Kit.{‵, raw, ◌⊛◌, ◌$◌, ◌∵◌, !, qed, by, move, keep, drop, use0, use1, split, fsplit, fjoin, fpack, feq_i, rewrite, suffices}
-use types.Part.{whole, sub, agg}
-use types.Run.{stop, fld, of_opd, lit, no_more, and_then, returns, enter}
-use types.ByLocal.{alloc_all, pass_all, free_all, look_at, get, get_in, sets}
-use denote.Builtin.{RawPtr}
-use denote.RattleType.{RattleType, Valss, owns}
-use denote.RawPtr.{Ptr, null_ptr, ptr_val}
+use types.Kit.{‵, raw, ◌⊛◌, ◌$◌, ◌∵◌, !, qed, by, move, keep, use0, use1, split, fsplit, fjoin, fpack, feq_i, rewrite, suffices}
+use types.Part.{agg}
+use types.Run.{lit, no_more, and_then, returns, enter}
+use types.ByLocal.{alloc_all, pass_all, free_all, look_at, get, sets}
+use denote.RattleType.{Valss, owns}
+use denote.RawPtr.{null_ptr, ptr_val}
 use denote.Signature.{types_at, type_at}
-use denote.Steps.{nothing, heard}
+use denote.Steps.{nothing}
 use denote.Struct.Struct.{within}
 use denote.Struct.Owning.{shape, to}
 use denote.Triple.Entry.{alive}
 use denote.Triple.Walked.{Stays, stay_dropped, walk_of}
 use Rattle.core.proofs.alloc.Calls.{Goes-blank}
-use Rattle.core.proofs.atomic.Steps.{Ptr-Good}
 use Rattle.std.proofs.raw_atomic.Walks.{proved_at, leaves}
 use Rattle.std.proofs.alloc.Global.TheLaws as heap_laws
 use Rattle.std.specs.contracts.alloc.Global as heap
-use Rattle.std.specs.Prelude.{Option, None, Some, IsSome}
-use Rattle.warm_c.proofs.Erased.{first, bits, word, told, typed, bits_typed, opens}
-use Rattle.warm_c.specs.declared.held.Held.{Held}
+use Rattle.std.specs.Prelude.{None}
+use Rattle.warm_c.proofs.Erased.{first, bits, word, typed, bits_typed}
 use Rattle.warm_c.specs.contracts.slot.Slot as slot
 use Rattle.warm_c.specs.contracts.slot.Slot.empty.{ended, clauses, signature}
 use Rattle.warm_c.specs.contracts.slot.Slot.empty.Key.{name as #self}
