@@ -4,6 +4,7 @@
  * the three functions of warm.h whose form in C is another than that of the proved part.
  */
 #define _GNU_SOURCE /* SOCK_CLOEXEC */
+#define _FILE_OFFSET_BITS 64
 #include "warm.h"
 
 #include <errno.h>
