@@ -1,7 +1,7 @@
 /*
  * warm_files.c: the part of the library that makes the calls of the system. The proved part, crates/warm_c, makes none: it asks for them
- * over a stream, as crates/warm_c/src/descriptor.rt says. Here is the server of these requests, a thread for each open handle; and
- * the three functions of warm.h whose form in C is another than that of the proved part.
+ * over a stream, as crates/warm_c/src/descriptor.rt says. Here is the server of these requests, a thread for each open handle, and
+ * the two functions of warm.h that start and end it.
  */
 #define _GNU_SOURCE /* SOCK_CLOEXEC */
 #define _FILE_OFFSET_BITS 64
@@ -15,21 +15,45 @@
 #include <sys/socket.h>
 #include <unistd.h>
 
-/* The proved functions. They leave warm.server as it is. */
+/* The proved functions. While a handle is open, its pointer stays the same. */
 int warm_open_served(warm *handle, uint16_t replica, size_t frames, size_t page_size, const warm_device *devices, size_t device_count,
     int32_t stream);
 void warm_close_served(warm *handle);
-int warm_send_after(warm *handle, uint8_t bucket, bool has_after, warm_page after, uint8_t *frame, size_t room, size_t *length);
 
 /* A page has at most this many bytes. */
 enum { READ = 1, WRITE = 2, FLUSH = 3, REQUEST = 21, MOST = 65536 };
 
-/* ends[0] is the proved part's end of the stream, ends[1] that of the server. */
+/* ends[0] is the proved part's end of the stream, ends[1] that of the server; at is the pointer of its handle. */
 typedef struct server {
     int ends[2];
     pthread_t thread;
+    const void *at;
+    struct server *next;
     uint8_t page[MOST];
 } server;
+
+/* The servers of all open handles, which may be on several threads. */
+static server *servers;
+static pthread_mutex_t servers_lock = PTHREAD_MUTEX_INITIALIZER;
+
+static void keep(server *s, const void *at) {
+    pthread_mutex_lock(&servers_lock);
+    s->at = at;
+    s->next = servers;
+    servers = s;
+    pthread_mutex_unlock(&servers_lock);
+}
+
+/* The server of the handle with this pointer, which is kept no more. */
+static server *taken(const void *at) {
+    pthread_mutex_lock(&servers_lock);
+    server **place = &servers;
+    while (*place != NULL && (*place)->at != at) place = &(*place)->next;
+    server *s = *place;
+    if (s != NULL) *place = s->next;
+    pthread_mutex_unlock(&servers_lock);
+    return s;
+}
 
 static bool receive_all(int stream, uint8_t *into, size_t length) {
     while (length > 0) {
@@ -161,19 +185,14 @@ int warm_open(warm *handle, uint16_t replica, size_t frames, size_t page_size, c
     server *s = started();
     if (s == NULL) return WARM_MEMORY;
     int status = warm_open_served(handle, replica, frames, page_size, device_count > 0 ? devices : &none, device_count, s->ends[0]);
-    if (status == WARM_OK) handle->server = s;
+    if (status == WARM_OK) keep(s, handle->at);
     else stop(s);
     return status;
 }
 
 void warm_close(warm *handle) {
+    server *s = handle->is_open ? taken(handle->at) : NULL;
     /* What was written and waits for a flush is flushed here, so the server ends last. */
     warm_close_served(handle);
-    stop(handle->server);
-    handle->server = NULL;
-}
-
-int warm_send(warm *handle, uint8_t bucket, const warm_page *after, uint8_t *frame, size_t room, size_t *length) {
-    static const warm_page none;
-    return warm_send_after(handle, bucket, after != NULL, after != NULL ? *after : none, frame, room, length);
+    stop(s);
 }

@@ -15,23 +15,16 @@ static int stream;
 int warm_open_served(warm *handle, uint16_t replica, size_t frames, size_t page_size, const warm_device *devices, size_t device_count,
     int32_t asked_over);
 void warm_close_served(warm *handle);
-int warm_send_after(warm *handle, uint8_t bucket, bool has_after, warm_page after, uint8_t *frame, size_t room, size_t *length);
 
 int warm_open_served(warm *handle, uint16_t replica, size_t frames, size_t page_size, const warm_device *devices, size_t device_count,
     int32_t asked_over) {
     if (replica != 1 || frames != 2 || page_size != SIZE || devices->pages != 4 || device_count != 1) return WARM_BAD_FRAMES;
     stream = asked_over;
-    handle->is_open = true;
+    *handle = (warm){.is_open = true, .at = &stream};
     return WARM_OK;
 }
 
-void warm_close_served(warm *handle) { handle->is_open = false; }
-
-int warm_send_after(warm *handle, uint8_t bucket, bool has_after, warm_page after, uint8_t *frame, size_t room, size_t *length) {
-    (void)handle, (void)bucket, (void)frame, (void)room;
-    *length = has_after ? (size_t)after.no : 0;
-    return WARM_OK;
-}
+void warm_close_served(warm *handle) { *handle = (warm){.is_open = false}; }
 
 static void must(bool holds, const char *what) {
     if (holds) return;
@@ -78,10 +71,9 @@ int main(void) {
     char path[] = "/tmp/warm-files-XXXXXX";
     warm handle = {0};
     warm_device device = {.pages = 4, .fd = mkstemp(path)};
-    size_t length;
     MUST(device.fd >= 0 && unlink(path) == 0);
-    MUST(warm_open(&handle, 1, 3, SIZE, &device, 1) == WARM_BAD_FRAMES && handle.server == NULL);
-    MUST(warm_open(&handle, 1, 2, SIZE, &device, 1) == WARM_OK && handle.server != NULL);
+    MUST(warm_open(&handle, 1, 3, SIZE, &device, 1) == WARM_BAD_FRAMES && !handle.is_open);
+    MUST(warm_open(&handle, 1, 2, SIZE, &device, 1) == WARM_OK && handle.is_open);
     MUST(warm_open(&handle, 1, 2, SIZE, &device, 1) == WARM_ALREADY_OPEN && handle.is_open);
     for (size_t at = 0; at < SIZE; at++) page[at] = (uint8_t)(at % 251 + 1);
 
@@ -109,11 +101,13 @@ int main(void) {
     ask(FLUSH, NO_FILE, 0, 0);
     MUST(!succeeded());
 
-    MUST(warm_send(&handle, 0, &(warm_page){.no = 7}, page, SIZE, &length) == WARM_OK && length == 7);
-    MUST(warm_send(&handle, 0, NULL, page, SIZE, &length) == WARM_OK && length == 0);
     warm_close(&handle);
     warm_close(&handle);
-    MUST(!handle.is_open && handle.server == NULL);
+    MUST(!handle.is_open && read(stream, got, 1) < 0); /* the stream is closed */
+    MUST(warm_open(&handle, 1, 2, SIZE, &device, 1) == WARM_OK && handle.is_open); /* and another is opened */
+    ask(FLUSH, device.fd, 0, 0);
+    MUST(succeeded());
+    warm_close(&handle);
     puts("warm_files_test: as expected");
     return 0;
 }

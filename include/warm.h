@@ -13,7 +13,7 @@
  *  - a handle was all zeros before its first call, and since then only these functions have changed it; it is not copied;
  *  - one call at a time uses a handle, and all calls of a handle come from one thread;
  *  - a pointer with a length points to that many elements, any other to one; what two arguments point to does not overlap; and no
- *    pointer is null but after of warm_send, also where its length is 0: it may then point to anything;
+ *    pointer is null, also where its length is 0: it may then point to anything;
  *  - no call is made in a signal handler, nor in the forked child of a process with threads: an open handle has a thread of its own,
  *    which makes the calls of the system for its devices;
  *  - malloc, realloc and free are of one allocator.
@@ -34,7 +34,6 @@ extern "C" {
 typedef struct warm {
     bool is_open;
     void *at;
-    void *server;
 } warm;
 
 /* A page: a device, numbered from 0 in the order of the descriptors, and a page of it, counted from 0. */
@@ -140,9 +139,9 @@ int warm_step(warm *handle, bool *found, warm_page *page);
  * Caller: frame points to room bytes, length to one element. */
 int warm_offer(warm *handle, uint8_t *frame, size_t room, size_t *length);
 
-/* Writes the frame with the first 1000 entries of a bucket, or, where after is not null, of those whose page is greater than it.
- * Caller: after is null or points to one element; frame points to room bytes, length to one element. */
-int warm_send(warm *handle, uint8_t bucket, const warm_page *after, uint8_t *frame, size_t room, size_t *length);
+/* Writes the frame with the first 1000 entries of a bucket, or, where has_after, of those whose page is greater than after; where not,
+ * after means nothing. Caller: has_after is false or true; frame points to room bytes, length to one element. */
+int warm_send(warm *handle, uint8_t bucket, bool has_after, warm_page after, uint8_t *frame, size_t room, size_t *length);
 
 /* Takes in one whole frame that another replica sent. Its answers wait for warm_next_answer; those of the frame before are dropped,
  * unless the call is refused. Caller: frame points to length bytes, of any content. */

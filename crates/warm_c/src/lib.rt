@@ -4,8 +4,8 @@
 //! handle. Each function but `warm_open_served`, `warm_close_served` and `warm_status_name` is the node's call of its name on an open
 //! handle; on a closed one it answers 64 and changes nothing. A function answers a status: 0, or the number of why it is refused.
 //!
-//! c/warm_files.c has what is not proved: `warm_open`, `warm_close` and `warm_send` of the header, which call `warm_open_served`,
-//! `warm_close_served` and `warm_send_after` here, and the file server, which makes the calls of the system.
+//! c/warm_files.c has what is not proved: `warm_open` and `warm_close` of the header, which call `warm_open_served` and
+//! `warm_close_served` here, and the file server, which makes the calls of the system.
 //!
 //! Nothing is undefined for any handle, slot or length, as long as the caller keeps what the header asks: a handle that was all zeros
 //! before its first call, and that only these functions change; one call at a time on one thread; and pointers to as much as their
@@ -288,7 +288,7 @@ pub extern "C" fn warm_offer(
 /// 68 where the bucket's number is none; 66 where the frame does not fit, with its length written; 1 where an allocation failed. The
 /// buffer is as it was.
 #[unsafe(no_mangle)]
-pub extern "C" fn warm_send_after(
+pub extern "C" fn warm_send(
     alloc: Global,
     handle: &mut Handle,
     bucket: u8,
