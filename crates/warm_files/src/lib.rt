@@ -6,8 +6,10 @@
 #![tactic(auto)]
 
 mod fault;
+pub mod laws;
 mod reading;
 mod writing;
 
 pub use fault::DumpFault;
+pub use reading::{MAX_READS, READ_SIZE, read_dump};
 pub use writing::write_dump;

@@ -50,7 +50,7 @@ fn write_bucket<W: Write>(
     horizon: u64,
     mut left: BucketEntries<'_>,
 ) -> Result<(), DumpFault>
-    requires { PagesRise left.entry }
+    requires { PagesRise left }
     ensures written { OnOk result (Appends (W.contents writer.old) (W.contents writer.new)
         (text_of (frames_of sender horizon left.entry))) }
     ensures stopped { IfErr result StopsWriting }
