@@ -107,7 +107,7 @@ all_at (Some known) frames some = (known, some.1)
 -- ---- nothing was read
 
 pub nothing_read : (g : Gathered) → g.whole ≡ false → g.decoder ≡ Inside [] → g.horizon ≡ None → StandsFor g.history (these []) → HasRead [] g
-nothing_read g open inside none stands = inr (open, record {
+nothing_read g unclosed inside none stands = inr (unclosed, record {
   frames = [];
   begun = [];
   front = record { texts = []; whole = refl; each = tt };
@@ -120,8 +120,8 @@ nothing_read g open inside none stands = inr (open, record {
 -- ---- a piece
 
 is_open : (seen : List ℕ) (g : Gathered) → g.whole ≡ false → HasRead seen g → Gathers seen g
-is_open seen g open (inl x) = (let never : true ≡ false = sym x.0 ∙ open in absurd (cc))
-is_open seen g open (inr x) = x.1
+is_open seen g unclosed (inl x) = (let never : true ≡ false = sym x.0 ∙ unclosed in absurd (cc))
+is_open seen g unclosed (inr x) = x.1
 
 pub open_read : (seen : List ℕ) (g : Gathered) → g.whole ≡ false → HasRead seen g → Gathers seen g
 open_read = is_open
@@ -132,10 +132,10 @@ inside_is b c e = cc
 -- all of it is a part of the frame that has begun
 pub took_part : (seen piece : List ℕ) (n : ℕ) (old new : Gathered) → Gathers seen old → n ≡ length piece → ((begun : List ℕ) → old.decoder ≡ Inside begun → IsPart (begun ++ piece) × (new.decoder ≡ Inside (begun ++ piece)))
     → new.history ≡ old.history → new.horizon ≡ old.horizon → new.whole ≡ false → HasRead (seen ++ take n piece) new
-took_part seen piece n old new g all feeds history horizon open =
+took_part seen piece n old new g all feeds history horizon unclosed =
     let next = feeds g.begun g.held in
     let T = texts_of g.front.texts in
-    inr (open, record {
+    inr (unclosed, record {
       frames = g.frames;
       begun = g.begun ++ piece;
       front = record {
@@ -157,13 +157,13 @@ taken_text seen piece n = ap (λ (w : List ℕ). seen ++ w) (append-nil (take n 
 -- of entries
 took_entries : (seen piece : List ℕ) (n sender horizon : ℕ) (es : List Entry) (old new : Gathered) (g : Gathers seen old) → Spells (g.begun ++ take n piece) (Entries sender horizon es) → new.decoder ≡ Inside []
     → Agrees old.horizon horizon → new.horizon ≡ Some horizon → TakesIn old.history (refs (holding_since horizon es)) new.history → new.whole ≡ false → HasRead (seen ++ take n piece) new
-took_entries seen piece n sender horizon es old new g spelt inside agrees known takes open =
+took_entries seen piece n sender horizon es old new g spelt inside agrees known takes unclosed =
     let frames = g.frames ++ Entries sender horizon es ∷ [] in
     let at : AreEntriesAt horizon frames = all_append (IsEntriesAt horizon) g.frames (Entries sender horizon es ∷ []) (some_at old.horizon horizon g.frames g.horizon agrees) (refl, tt) in
     let some : 0 < length frames = omega (arith, length-append g.frames (Entries sender horizon es ∷ [])) in
     let stands : StandsFor new.history (references_in horizon frames) =
     takes (references_at old.horizon g.frames) g.stands ∙ ap history (references_more old.horizon horizon sender es g.frames g.horizon agrees) in
-    inr (open, record {
+    inr (unclosed, record {
       frames = frames;
       begun = [];
       front = subst (λ (w : List ℕ). Begins w frames []) (taken_text seen piece n) (begins_more seen g.begun (take n piece) [] g.frames (Entries sender horizon es) g.front spelt);
@@ -323,7 +323,7 @@ ended_dump seen g whole (inl x) = x.1
 ended_dump seen g whole (inr x) = (let never : false ≡ true = sym x.0 ∙ whole in absurd (cc))
 
 pub ended_short : (seen : List ℕ) (g : Gathered) → g.whole ≡ false → HasRead seen g → IsRefused seen CutShort
-ended_short seen g open read =
-    let s = is_open seen g open read in
+ended_short seen g unclosed read =
+    let s = is_open seen g unclosed read in
     let at = all_at g.horizon s.frames s.horizon in
     (at.0, s.frames, s.begun, at.1, record { texts = s.front.texts; whole = s.front.whole; each = s.front.each; part = s.part })

@@ -210,6 +210,7 @@ impl Gathered {
     }
 
     // The history, where the digests came.
+    #[tactic(auto, using(crate::proofs::ReadLemmas::ended_dump, crate::proofs::ReadLemmas::ended_short))]
     fn finish(self) -> Result<History, DumpFault>
         ensures dump { IfOk result (λ h. (seen : List ℕ) → HasRead seen self → IsDump seen h) }
         ensures cut { IfErr result (λ why. (seen : List ℕ) → HasRead seen self

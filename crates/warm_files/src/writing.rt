@@ -34,10 +34,10 @@ fn next_piece(alloc: Global, left: &mut BucketEntries<'_>) -> Result<Vec<Entry>,
 {
     let mut piece = Vec::new(alloc);
     while piece.len() < MAX_ENTRIES {
-        let Some(entry) = left.next() else {
-            return Ok(piece);
-        };
-        piece.push(entry)?;
+        match left.next() {
+            Some(entry) => piece.push(entry)?,
+            None => return Ok(piece),
+        }
     }
     Ok(piece)
 }
