@@ -149,10 +149,10 @@ impl Gathered {
         match self.decoder.feed(piece) {
             Ok(fed) => {
                 let Fed { taken, frame } = fed;
-                let Some(frame) = frame else {
-                    return Ok(taken);
-                };
-                self.take_frame(frame.as_frame())?;
+                match frame {
+                    Some(frame) => self.take_frame(frame.as_frame())?,
+                    None => return Ok(taken),
+                }
                 Ok(taken)
             }
             Err(fault) => Err(DumpFault::Frame(fault)),

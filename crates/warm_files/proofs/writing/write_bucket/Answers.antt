@@ -1,4 +1,4 @@
-use Rattle.std.proofs.Common.{◌≡◌, ◌<◌, ◌++◌, length, sym, ap, subst, ◌∙◌, arith}
+use Rattle.std.proofs.Common.{◌≡◌, ◌<◌, ◌++◌, length, vec_len, sym, ap, subst, ◌∙◌, arith}
 use Rattle.std.proofs.KnownBytes.{Appends-trans}
 use Rattle.std.proofs.lemmas.Bool.{eqb-false}
 use Rattle.warm_files.proofs.DumpLemmas.{frame_more, left_shorter, piece_fits, rest_rises}
@@ -9,12 +9,12 @@ holding-entries-requires g c = piece_fits _ _ c.in_ok-piece.ensures.piece c.loop
 
 pub loop-piece-smaller-in_ok-write_frame : goal.loop-piece-smaller-in_ok-write_frame
 loop-piece-smaller-in_ok-write_frame g c =
-    let some : 0 < length c.in_ok-piece.piece.items = omega (arith, eqb-false (length c.in_ok-piece.piece.items) 0 (sym c.is_empty.ensures ∙ c.if-is_empty.false)) in
+    let some : 0 < length c.in_ok-piece.piece.items = omega (arith, eqb-false (vec_len c.in_ok-piece.piece) 0 (sym c.is_empty.ensures ∙ c.if-is_empty.false), c.in_ok-piece.piece.ok.0) in
     left_shorter _ _ _ c.in_ok-piece.ensures.piece c.in_ok-piece.ensures.left some
 
 pub loop-piece-preserved-in_ok-write_frame : goal.loop-piece-preserved-in_ok-write_frame
 loop-piece-preserved-in_ok-write_frame g c =
-    let some : 0 < length c.in_ok-piece.piece.items = omega (arith, eqb-false (length c.in_ok-piece.piece.items) 0 (sym c.is_empty.ensures ∙ c.if-is_empty.false)) in
+    let some : 0 < length c.in_ok-piece.piece.items = omega (arith, eqb-false (vec_len c.in_ok-piece.piece) 0 (sym c.is_empty.ensures ∙ c.if-is_empty.false), c.in_ok-piece.piece.ok.0) in
     let before = c.loop-piece.invariant.goes in
     let written = rw c.holding-entries.ensures at c.in_ok-write_frame.ensures.written in
     record {
