@@ -18,6 +18,7 @@ use Rattle.warm_frames.specs.declared.fault.FrameFault.TheVariants as frame_faul
 use Rattle.warm_frames.specs.declared.message.Message.{Message}
 use Rattle.warm_frames.specs.declared.message.Message.TheVariants.{Entries, Digest, Want}
 use Rattle.warm_frames.specs.Pieces.{DecoderState, Inside, Broken, IsPart, ShowsFault, Breaks, Feeds, SpellAll, texts_of, Fails}
+use Rattle.warm_frames.specs.Pieces.{Takes as TakesBytes}
 use Rattle.warm_frames.specs.Reading.{read_frame}
 use Rattle.warm_frames.specs.Spelling.{Spells}
 use Rattle.warm_frames.proofs.FrameLemmas.{frame_read}
@@ -205,6 +206,23 @@ took_frame seen piece n (Digest sender horizon digests) old mid new g feeds hist
     (subst (λ (h : HistoryView). (S : ReferenceSet) → StandsFor h S → StandsFor new.history (since horizon S)) history takes.1) takes.2)
 took_frame seen piece n (Want sender horizon request) old mid new g feeds history known takes = absurd takes
 
+-- what a feed did, of a decoder inside a frame
+fed_inside : (piece : List ℕ) (fed : Fed) (frame : Option Message) (old next : DecoderState) → Feeds old piece (Ok fed) next → fed.frame ≡ frame → (b : List ℕ) → old ≡ Inside b → TakesBytes b piece fed.taken frame next
+fed_inside piece fed frame old next feeds is b inside =
+    subst (λ (o : Option Message). TakesBytes b piece fed.taken o next) is (subst (λ (d : DecoderState). Feeds d piece (Ok fed) next) inside feeds)
+
+pub part_read : (seen piece : List ℕ) (fed : Fed) (old new : Gathered) → Gathers seen old → Feeds old.decoder piece (Ok fed) new.decoder → fed.frame ≡ None
+    → new.history ≡ old.history → new.horizon ≡ old.horizon → new.whole ≡ false → HasRead (seen ++ take fed.taken piece) new
+part_read seen piece fed old new g feeds none history horizon unclosed =
+    let f = fed_inside piece fed None old.decoder new.decoder feeds none in
+    took_part seen piece fed.taken old new g (f g.begun g.held).0 (λ b is. ((f b is).1, (f b is).2)) history horizon unclosed
+
+pub whole_read : (seen piece : List ℕ) (fed : Fed) (frame : Message) (old mid new : Gathered) → Gathers seen old → Feeds old.decoder piece (Ok fed) mid.decoder → fed.frame ≡ Some frame
+    → mid.history ≡ old.history → mid.horizon ≡ old.horizon → new.decoder ≡ mid.decoder → Takes mid frame new → HasRead (seen ++ take fed.taken piece) new
+whole_read seen piece fed frame old mid new g feeds some history horizon same takes =
+    let f = fed_inside piece fed (Some frame) old.decoder mid.decoder feeds some in
+    took_frame seen piece fed.taken frame old mid new g (λ b is. ((f b is).1, same ∙ (f b is).2)) history horizon takes
+
 -- a frame has a byte that the part before it hasn't
 pub some_taken : (seen piece : List ℕ) (n : ℕ) (frame : Message) (old : Gathered) → Gathers seen old → ((begun : List ℕ) → old.decoder ≡ Inside begun → Spells (begun ++ take n piece) frame) → 0 < n
 some_taken seen piece zero frame old g feeds =
@@ -212,6 +230,9 @@ some_taken seen piece zero frame old g feeds =
     let whole : take (length g.begun) g.begun ≡ g.begun = take_all (length g.begun) g.begun (omega arith) in
     absurd (no_ok (sym (g.part (length g.begun)) ∙ ap read_frame whole ∙ frame_read g.begun frame spelt))
 some_taken seen piece (suc n) frame old g feeds = omega arith
+
+pub some_fed : (seen piece : List ℕ) (fed : Fed) (frame : Message) (old : Gathered) (next : DecoderState) → Gathers seen old → Feeds old.decoder piece (Ok fed) next → fed.frame ≡ Some frame → 0 < fed.taken
+some_fed seen piece fed frame old next g feeds some = some_taken seen piece fed.taken frame old g (λ b is. (fed_inside piece fed (Some frame) old.decoder next feeds some b is).1)
 
 -- ---- refusals
 
