@@ -1,5 +1,6 @@
 -- What was read of a dump, frame by frame.
 use Rattle.std.proofs.Common.{◌≡◌, ◌≢◌, ◌⊎◌, inl, inr, ℕ, zero, suc, ◌+◌, ◌<◌, ◌≤◌, Bool, true, false, max, List, [], ◌∷◌, ◌++◌, length, take, drop, Option, Some, None, Result, Ok, Err, refl, sym, ap, subst, ◌∙◌, append_assoc, append-nil, arith, flat_map}
+use Rattle.std.specs.Prelude.{IsErrAnd, IfErr}
 use Rattle.std.specs.List.{AllByRecursion}
 use Rattle.std.proofs.lemmas.List.Concat.{flat_map-append}
 use Rattle.std.proofs.lemmas.List.{take_all, take-append-drop, length-append}
@@ -321,6 +322,16 @@ pub frame_rejected : (seen piece : List ℕ) (n : ℕ) (frame : Message) (why : 
     → mid.history ≡ old.history → mid.horizon ≡ old.horizon → Rejects mid frame why → IsRefusedForGood (seen ++ piece) why
 frame_rejected seen piece n frame why old mid g feeds history known x later =
     rejects_refused seen piece later n frame why old g (feeds g.begun g.held) (rejects_same frame why old mid history known x)
+
+pub whole_rejected : (seen piece : List ℕ) (fed : Fed) (frame : Message) (why : DumpFault) (old mid : Gathered) (next : DecoderState) → Gathers seen old → Feeds old.decoder piece (Ok fed) next → fed.frame ≡ Some frame
+    → mid.history ≡ old.history → mid.horizon ≡ old.horizon → Rejects mid frame why → IsRefusedForGood (seen ++ piece) why
+whole_rejected seen piece fed frame why old mid next g feeds some history known x =
+    frame_rejected seen piece fed.taken frame why old mid g (λ b is. (fed_inside piece fed (Some frame) old.decoder next feeds some b is).1) history known x
+
+-- what holds at a fault holds where a `?` passes the fault on
+pub passed_on : {T E : Type 0} (r : Result T E) (e : E) (P : E → Type 0) → IsErrAnd r (λ y. y ≡ e) → P e → IfErr r P
+passed_on (Ok x) e P is p = tt
+passed_on (Err y) e P is p = subst P (sym is) p
 
 -- ---- pieces one after the other
 
