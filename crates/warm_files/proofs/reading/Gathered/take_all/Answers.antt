@@ -54,4 +54,4 @@ returns-clause-read c = λ seen read.
     let none : length rest ≡ 0 = eqb-true (length rest) 0 (sym c.is_empty.ensures ∙ c.loop-rest-test.false) in
     let empty : [] ≡ rest = take_all 0 rest (omega (arith, none)) in
     let now = goes.2 seen read in
-    read_behind seen goes.0 rest c.args.bytes.now _ goes.1 (subst (λ (w : List ℕ). HasRead w c.loop-rest.self.now) (sym (append-nil (seen ++ goes.0)) ∙ ap (λ (w : List ℕ). (seen ++ goes.0) ++ w) empty) now)
+    read_behind seen goes.0 rest c.args.bytes.now _ goes.1 (subst (λ (w : List ℕ). HasRead w c.loop-rest.self) (sym (append-nil (seen ++ goes.0)) ∙ ap (λ (w : List ℕ). (seen ++ goes.0) ++ w) empty) now)
