@@ -1,4 +1,6 @@
 use Rattle.std.proofs.Common.{[], ◌++◌}
+use Rattle.warm_files.proofs.ReadLemmas.{passed_on}
+use Rattle.warm_files.proofs.StopLemmas.{read_refused}
 use Rattle.warm_files.specs.Reading.{IsDump, IsRefused}
 use Rattle.std.proofs.KnownBytes.{Consumes-nil, Consumes-trans}
 use Rattle.warm_files.proofs.EndLemmas.{whole_text, if_ok_map, if_err_map, any_text, on_ok}
@@ -35,3 +37,10 @@ returns-then-not-branch-clause-refused g c =
 
 pub returns-clause-refused : goal.returns-clause-refused
 returns-clause-refused g c = any_text _ _ (λ t. tt)
+
+pub returns-in_err-read_some-clause-refused : goal.returns-in_err-read_some-clause-refused
+returns-in_err-read_some-clause-refused g c =
+    let so_far = c.loop.invariant.goes in
+    let why = c.in_err-read_some.field-0.0 in
+    passed_on c.from_residual-in_err-read_some.result why _ c.from_residual-in_err-read_some.ensures.1
+    (read_refused (g.R.Read.remaining c.args.reader.now) (g.R.Read.remaining c.loop.reader) (g.R.Read.remaining c.read_some.new.reader) so_far.0 why _ so_far.1 so_far.2 c.in_err-read_some.ensures.refused)
