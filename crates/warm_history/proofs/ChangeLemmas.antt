@@ -220,7 +220,7 @@ hist_left m bucket es p whole there left =
     ∙ get-bucket bucket es p there
     ∙ sym (hist-refs es whole p)
 
--- and it leaves it as it is once more is taken in that isn't older
+-- and it leaves it unchanged after more is taken in that isn't older
 left_with_more : (m bucket : ℕ) (es mid : List Entry) (rs : List Reference) → IsHistory es → mid ≡ history (refs es ++ recent m rs) → kept_entries m (bucket_entries bucket es) ≡ bucket_entries bucket es
     → bucket_entries bucket (kept_entries m mid) ≡ bucket_entries bucket mid
 left_with_more m bucket es mid rs whole is left =

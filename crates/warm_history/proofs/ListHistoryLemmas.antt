@@ -27,7 +27,7 @@ abbrev pub get : List Entry → PageId → Option PageHist
 get [] p = None
 get (e ∷ h) p = cond (is_eq (page_cmp e.page p)) (Some e.hist) (get h p)
 
--- whether the page p is one of the pages
+-- whether the pages contain the page p
 abbrev pub named : List PageId → PageId → Bool
 named [] p = false
 named (q ∷ qs) p = cond (is_eq (page_cmp q p)) true (named qs p)

@@ -15,7 +15,7 @@ use Rattle.warm_history.specs.ListHistories.{IsFalling, PagesRise, IsHistory}
 use Rattle.warm_history.specs.Tree.{put_in, in_page_order}
 use Rattle.warm_history.proofs.ListHistoryLemmas.{get, either_way, AllAbove, above_less}
 
--- two pages of which each is the third are one
+-- two pages that both equal a third are equal
 pub both_same : (p q r : PageId) → is_eq (page_cmp p r) ≡ true → is_eq (page_cmp q r) ≡ true → page_cmp p q ≡ Equal
 both_same p q r first second =
     let here : p ≡ r = page_order.same p r (is_equal (page_cmp p r) first) in
