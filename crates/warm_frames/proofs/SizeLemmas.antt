@@ -182,7 +182,7 @@ size_long bytes size e lt =
     let exact : leb (length h.rest) h.len ≡ false = grind (arith, nat_tests, more) in
     h.reads ∙ rw (enough, exact) refl
 
--- so many bytes are a frame, or have a fault for good
+-- this many bytes are a frame, or have a lasting fault
 pub size_whole : (bytes : List ℕ) (e : FrameFault) → frame_size bytes ≡ Ok (length bytes) → read_frame bytes ≡ Err e → IsLasting e
 size_whole bytes e size is =
     let h = headed bytes (length bytes) size in

@@ -97,7 +97,7 @@ shorter a x b y same le = sym (take-append-le (length a) b y le) ∙ ap (take (l
 longer : (a x b y : List ℕ) → a ++ x ≡ b ++ y → length a ≤ length b → b ≡ a ++ drop (length a) b
 longer a x b y same le = sym (take-append-drop (length a) b) ∙ ap (λ (w : List ℕ). w ++ drop (length a) b) (shorter a x b y same le)
 
--- where one frame's spelling is a front of another's, they are one spelling
+-- where one frame's spelling is a prefix of another's, the two spellings are equal
 front_text : (s t : List ℕ) (f g : Message) (x y : List ℕ) → Spells s f → Spells t g → s ++ x ≡ t ++ y → length s ≤ length t → s ≡ t
 front_text s t f g x y is_f is_g same le =
     let rest = drop (length s) t in
