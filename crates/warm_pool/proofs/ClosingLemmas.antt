@@ -31,7 +31,7 @@ nth_rest which (suc n) [] i le = refl
 nth_rest which (suc n) (f ∷ frames) zero le = absurd (omega arith)
 nth_rest which (suc n) (f ∷ frames) (suc i) le = nth_rest which n frames i (omega arith)
 
--- a frame that is not concerned is as it was
+-- a frame that is not selected is unchanged
 pub nth_other : (which : Option ℕ) (n : ℕ) (frames : List FrameState) (i : ℕ) → is_chosen which (nth_frame frames i).page ≡ false → nth_frame (cleaned_chosen which n frames) i ≡ nth_frame frames i
 nth_other which zero frames i not = refl
 nth_other which (suc n) [] i not = refl
@@ -59,7 +59,7 @@ down_more which n s t u lt first next = let one : suc n ≡ n + 1 = omega arith 
   same = (next.same.0 ∙ first.same.0, next.same.1 ∙ first.same.1);
 }
 
--- a frame that is concerned whose page was not written
+-- a selected frame whose page was not written
 pub one_stops : (which : Option ℕ) (n : ℕ) (s t u : PoolState) → n < length s.frames → PutsDown (cleaned_chosen which n s.frames) s t → view_of t ≡ view_of s → IsTrue (is_chosen which (nth_frame t.frames n).page) → CleanFails t n u → StopsAt which s u
 one_stops which n s t u lt down same chosen fails =
     let here : nth_frame t.frames n ≡ nth_frame s.frames n = ap (λ frames. nth_frame frames n) down.becomes ∙ nth_rest which n s.frames n (omega arith) in

@@ -44,7 +44,7 @@ loaded_takes s t i p key n l there away slot at =
       waits = λ _. subst (λ k. WaitsFor s k t.devices) (sym at) l.waits;
     }
 
--- a refusal of a page that no device has, and one for its fixes, leave the devices as they were
+-- a refusal of a page that no device has, and one for its pin count, leave the devices unchanged
 pub unknown_leaves : (h : HistoryView) (s : PoolState) (p : PageId) → (HasPage (view_of s) p → ⊥) → (why : PoolFault) → LoadRefused h (view_of s) p why (view_of s) → LeavesDevices h s p why s
 unknown_leaves h s p hasnt ReadFault refused = absurd (hasnt refused.0)
 unknown_leaves h s p hasnt WriteBack refused = absurd (hasnt refused.0)

@@ -96,7 +96,7 @@ ranked_keys {s} w h r =
 none_set : IsSome {T = RankKey} None → ⊥
 none_set h = absurd (cc)
 
--- the frame of the least rank has no fix
+-- the frame of the least rank is unpinned
 pub least_there : {s : PoolState} → IsPool s → (i : ℕ) → IsLeast key_cmp (map leaving_key s.frames) (Some i) → i < length s.frames
 least_there {s} w i l = subst (λ m. i < m) (length-map s.frames leaving_key) l.in_range
 

@@ -1,4 +1,5 @@
--- Chains built again, whatever the links were: frames come into their chains from the last one down.
+-- Chains rebuilt, whatever the links were: frames are linked into their chains from the last one
+-- down.
 use Rattle.std.proofs.Common.{◌≡◌, ℕ, zero, suc, ◌<◌, List, [], ◌∷◌, length, get_or, set, replicate, sym, ap, refl, ◌∙◌, subst, Option, None, arith}
 use Rattle.std.proofs.lemmas.List.{length-replicate, get_or-replicate}
 use Rattle.warm_stamps.specs.declared.PageId.{PageId}
