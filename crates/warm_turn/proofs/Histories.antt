@@ -1,4 +1,5 @@
--- The second pass of the rule: each step keeps one legal history, in which the calls of each pass stand once.
+-- The second pass of the rule: each step keeps one legal history, which contains the calls of each
+-- pass once.
 use Rattle.std.proofs.Common.{◌≡◌, ◌≢◌, ℕ, zero, suc, ◌+◌, ◌≤◌, eqb, List, [], ◌∷◌, ◌++◌, length, set, Option, Some, true, false, refl, sym, ap, ◌∙◌, subst, ⊎_elim, arith, length-set, eq-eqb, ne_eqb, length-append, append-nil}
 use mathlib.Core.Option.{some, some-injective, some-ne-none}
 use mathlib.Core.Option as maybe
