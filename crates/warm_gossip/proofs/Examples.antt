@@ -1,4 +1,4 @@
--- Worked rows: pieces of lists, wanted buckets, and what a message teaches, computed.
+-- Worked examples: pieces of lists, wanted buckets, and the history after a message, computed.
 use Rattle.std.proofs.Common.{◌≡◌, ℕ, [], ◌∷◌, None, refl}
 use Rattle.warm_stamps.specs.declared.Stamp.{Stamp}
 use Rattle.warm_history.specs.declared.hist.Entry.{Entry}

@@ -35,7 +35,7 @@ record KeepsPlaces (v w : PoolView) : Type 0 where
   count : length w.frames ≡ length v.frames
   pages : KeepsPages v w
 
--- one frame has another number of fixes
+-- one frame has another pin count
 fixes_differ : (v w : PoolView) (k n : ℕ) → k < length v.frames → w ≡ record v { frames = set v.frames k (record (frame_at v k) { fixes = n }) } → KeepsPlaces v w
 fixes_differ v w k n there becomes = record {
   devices = ap (λ x. x.devices) becomes;

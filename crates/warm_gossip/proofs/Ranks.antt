@@ -76,7 +76,7 @@ hist_of_entries h g whole later same p =
     let kept : references (refs h) ≡ references (refs g) = references-refs h whole ∙ sym (ap list.refs same) ∙ sym (references-refs g later) in
     ap (λ rs. first_two (distinct (flip_args stamp_cmp) (map (λ r. r.stamp) (filter (λ r. is_eq (page_cmp r.page p)) rs)))) kept
 
--- so they rank a pool alike
+-- so they rank a pool equally
 ranked_by_entries : (s : PoolState) (h g : HistoryView) → ((p : PageId) → hist (refs h) p ≡ hist (refs g) p) → RankedBy s h → RankedBy s g
 ranked_by_entries s h g alike ranked i =
     ranked i ∙ ap (λ (f : PageId → Option PageHist). option_map (λ p. rank_key p (f p)) (nth_frame s.frames i).page) (λ j p. alike p j)

@@ -393,7 +393,7 @@ kept_fits horizon (e ∷ es) all =
     let here : IsEntry (shortened_entry horizon e) = record { page = all.0.page; hist = shortened_fits horizon e.hist all.0.hist } in
     elim (is_recent horizon e.hist) as (λ b. AllByRecursion IsEntry (map (shortened_entry horizon) (cond b (e ∷ rest) rest))) [ true ↦ (here, kept_fits horizon es all.1) | false ↦ kept_fits horizon es all.1 ]
 
--- a history of entries that there are has none but such where it is raised
+-- a history of valid entries has only valid entries after it is raised
 raised_fits : (h : HistoryView) (time : ℕ) → IsHistory h → Fits h → Fits (history (since time (refs h)))
 raised_fits h time whole fits =
     let m : ℕ = max h.horizon time in

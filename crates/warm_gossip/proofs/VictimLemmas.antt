@@ -54,7 +54,7 @@ KeepsNode old new = (new ≡ record old { pool = new.pool }) × KeepsPages old.p
 pub none_changed : (old new : NodeView) → new ≡ old → KeepsNode old new
 none_changed old new same = subst (KeepsNode old) (sym same) (refl, λ i. refl)
 
--- where the number of fixes of one frame changes
+-- where the pin count of one frame changes
 pub fixes_change : (v w : PoolView) (k n : ℕ) → k < length v.frames → w.frames ≡ set v.frames k (record (frame_at v k) { fixes = n }) → KeepsPages v w
 fixes_change v w k n there becomes i =
     let changed : FrameView = record (frame_at v k) { fixes = n } in
@@ -80,7 +80,7 @@ pin_refused : (h : HistoryView) (v w : PoolView) (p : PageId) (why : PoolFault) 
 pin_refused h v w p FixesFull refused = elim refused [ inl full ↦ same_pool v w full.2 | inr load ↦ load_refused h v w p FixesFull load ]
 pin_refused h v w p why refused = load_refused h v w p why refused
 
--- a refused call leaves every page where it was, and all but the pool
+-- a refused call leaves every page in its frame, and everything but the pool unchanged
 pub refused : (old new : NodeView) (call : Call) (why : NodeFault) → Refuses old call why new → KeepsNode old new
 refused old new (Absorb batch) Memory same = none_changed old new same
 refused old new (Send bucket after) Memory same = none_changed old new same
@@ -156,7 +156,8 @@ pub frames_after : {h : HistoryView} {v w : PoolView} {p : PageId} {fixes : ℕ}
 frames_after {h} {v} {w} {p} {fixes} {slot} puts P here others i =
     subst (λ x. P i (frame_at x i)) (sym puts.becomes) (at_set no_frame P v.frames slot.index _ (frame_is_there puts) here others i)
 
--- the page of the frame into which another was put was the victim among those without a fix, and every frame had a page
+-- the page of the frame into which another was loaded was the victim among the unpinned pages, and
+-- every frame had a page
 pub victim_left : {h : HistoryView} {v w : PoolView} {p : PageId} {fixes : ℕ} {slot : Slot} → PutsIn h v p fixes slot w → (q : PageId) → (frame_at v slot.index).page ≡ Some q
     → IsFull v × IsVictim (refs h) (unfixed_pages v) (Some q)
 victim_left {h} {v} puts q held = elim puts.place [
