@@ -88,7 +88,8 @@ is_heard old j k kept new d is =
 
 -- ---- deliveries one after the other
 
--- the replica j has heard these records, its answers were kept, and nothing else reached a replica
+-- the replica j has received these records, its answers were stored, and nothing else reached a
+-- replica
 record HeardAll (j : ℕ) (heard_ones : List MessageRecord) (old new : ModelState) : Type 0 where
   added : List MessageRecord
   records : new.records ≡ old.records ++ added
@@ -210,7 +211,7 @@ round_joins i j old new fits others round = elim (cases_eq (place i) (place j)) 
         subst (λ (k : HistoryView). Hears j k (offer i h ∷ []) (map message_kept first.added) (known_to round.asked j)) (knew j)
         (subst (λ (f : Message). Hears j (known_to round.offered j) (f ∷ []) (map message_kept first.added) (known_to round.asked j)) (sym (offered_kept i (reach_of old i))) first.hears)
 
-    -- what j answers to the digests of h, and that these taught it their horizon alone
+    -- the answer of j to the digests of h, and that these brought it only their horizon
     answered : IsAnswer j g (offer i h) (map message_kept first.added)
     answered =
         let whole : offer_heard.0 ≡ map message_kept first.added = sym (offer_heard.4 ∙ ap (λ (fs : List Message). offer_heard.0 ++ fs) offer_heard.3.0 ∙ append-nil offer_heard.0) in

@@ -36,7 +36,7 @@ same_shape w m st =
 pub named_too : (w : WorldView) (m : ModelState) (event : Event) → StandsFor w m → IsNamed (view_shape w) event → IsNamed (shape m) event
 named_too w m event st named = let P : Shape → Type 0 = λ s. IsNamed s event in subst P (same_shape w m st) named
 
--- what is named is not there: the event is refused, and nothing changes
+-- what is named does not exist: the event is refused, and nothing changes
 pub missing_too : (w : WorldView) (m : ModelState) (event : Event) (fault : WorldFault) → StandsFor w m → IsMissing (view_shape w) event fault → Stepped m event (Refused fault) w
 missing_too w m event (Node why) st missing = absurd missing
 missing_too w m event NoSuchReplica st missing = let P : Shape → Type 0 = λ s. IsMissing s event NoSuchReplica in record { new = m; next = (subst P (same_shape w m st) missing, refl); stands = st }
