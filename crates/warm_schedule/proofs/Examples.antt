@@ -1,4 +1,4 @@
--- The language and the answers, computed on lines and answers worked out by hand.
+-- The language and the answers, computed on lines and answers derived by hand.
 use Rattle.std.proofs.Common.{◌≡◌, inl, ◌<◌, List, ℕ, [], ◌∷◌, Some, None, refl, arith}
 use Rattle.std.specs.Fmt.{digits}
 use Rattle.std.specs.Prelude.{codes}

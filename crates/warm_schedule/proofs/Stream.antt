@@ -148,7 +148,7 @@ pub written_then : {A E : Type 0} (r : Result A E) (a b c : Option (List ℕ)) (
 written_then (Ok v) a b c x y h k = Appends-then a b c x y h k
 written_then (Err e) a b c x y h k = tt
 
--- what holds after a call that went well
+-- what holds after a successful call
 pub done : {A E P : Type 0} (r : Result A E) → true ≡ is_ok r → OnOk r P → P
 done (Ok v) well h = h
 done (Err e) well h = absurd cc
