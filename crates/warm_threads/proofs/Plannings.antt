@@ -59,7 +59,8 @@ other_replica i w a other = and_left (a.replica == i) (a.worker == w) (ne_eqb a.
 other_worker : (i w : ℕ) (a : Ask) → w ≢ a.worker → is_of i w a ≡ false
 other_worker i w a other = and_right (a.replica == i) (a.worker == w) (ne_eqb a.worker w (λ e. other (sym e)))
 
--- One ask more: the plan of one worker of one replica goes on. Both stand one place before their numbers.
+-- One more request: the plan of one worker of one replica is extended. The indexes of both are one
+-- less than their numbers.
 pub plans_more : (s : Sizes) (before : List Ask) (a : Ask) (plans : List (Vec Planned)) (r w : ℕ) (old new : Vec Planned) → a.replica ≡ 1 + r → a.worker ≡ 1 + w → r < length plans
     → old ≡ slice_index_or plans r old → w < length old.items → new.items ≡ slice_set old.items w (plan_ask s.buffer (slice_index_or old.items w nothing_planned) a.reference)
     → ArePlansOf s before plans → ArePlansOf s (before ++ a ∷ []) (slice_set plans r new)
