@@ -1,4 +1,4 @@
--- Worked rows: texts, and what they mean. They are computed.
+-- Worked examples, computed: texts and their meanings.
 use Rattle.std.proofs.Common.{◌≡◌, ℕ, List, [], ◌∷◌, ◌++◌, Result, Ok, Err, Some, codes, refl}
 use Rattle.toml.proofs.OnLiterals.{toml_on_literals}
 use Rattle.toml.specs.Parse.{parse_document}

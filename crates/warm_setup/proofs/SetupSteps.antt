@@ -23,7 +23,7 @@ module _ {A : Type 0} (take : A → List ℕ → Data → Result A SetupFault) (
       let found : Ok next ≡ take so_far (string_bytes key) (view value) = sym taken ∙ ap (λ (x : List ℕ). take so_far x (view value)) same in
       ap (λ (r : Result A SetupFault). r >>= λ n. key_by_key take n (members_view rest)) found ∙ sym one_key ∙ ends
 
-  -- a key that is refused: what is meant is that fault
+  -- a key that is refused: the meaning is that fault
   pub stops : (fault : SetupFault) → (fault ≡ Memory) ⊎ (take so_far text (view value) ≡ Err fault) → (fault ≡ Memory) ⊎ (meant ≡ Err fault)
   stops fault (inl memory) = inl memory
   stops fault (inr refused) =
@@ -78,7 +78,7 @@ module _ {A : Type 0} (take : Data → Result A SetupFault) (done : List A) (val
       = ap (λ (xs : List A). each_after take xs (data_of (drop (at + 1) values))) (sym pushed) in
       sym to_now ∙ sym (after_one done first (each take (data_of (drop (at + 1) values)))) ∙ ap meant_by (sym taken) ∙ by_first
 
-  -- an element that is refused: what is meant is that fault
+  -- an element that is refused: the meaning is that fault
   pub each_stops : (fault : SetupFault) → (fault ≡ Memory) ⊎ (take (view value) ≡ Err fault) → (fault ≡ Memory) ⊎ (meant ≡ Err fault)
   unfolding meant_by
   each_stops fault (inl memory) = inl memory
