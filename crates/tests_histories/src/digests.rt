@@ -93,7 +93,7 @@ fn a_bucket_has_the_digest_of_its_entries(rt: HostRuntime) {
     assert!(rt; has_digests(&Digests::new(rt.alloc()).table(), Pages::None));
 }
 
-// Whether the cached digests are those of these of the four pages.
+// Whether the cached digests are those of the given ones of the four pages.
 fn keeps(rt: &impl Abort, digested: &mut DigestedHistory, pages: Pages) -> bool {
     has_digests(
         &digested.digests().expect(rt, "memory for the digests"),
