@@ -66,7 +66,7 @@ pub(crate) const GOSSIP: [(&str, &str); 7] = [
         "ok\nok\nframe 1\nok\nok\nframe 2\n\
          took 0\ntook 0\ntook 0\ntook 0\n0:1 last 20@1 prev 10@1\nend 1\ntook 0\ntook 0\n0:1 last 10@1\nend 1\n",
     ),
-    // through a third replica, of a page whose device nobody has
+    // through a third replica, of a page whose device no replica has
     (
         "ref 1 1 9:1 7\nflush 1 1\nsend 1 10\ndeliver 2 1\nsend 2 10\ndeliver 3 2\nshow 3\n",
         "ok\nok\nframe 1\ntook 0\nframe 2\ntook 0\n9:1 last 7@1\nend 1\n",

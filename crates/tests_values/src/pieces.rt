@@ -1,4 +1,4 @@
-//! Frames that come in pieces, cut at each byte, and the byte at which a fault is detected.
+//! Frames that are given in pieces, cut at each byte, and the byte at which a fault is detected.
 use crate::bytes::{
     NARROW_NOTHING, NARROW_REQUEST, NOTHING, REQUEST, WIDENED, changed, encoded, fault, joined,
     narrow_changed, put, row_holds,

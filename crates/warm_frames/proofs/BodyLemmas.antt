@@ -27,7 +27,7 @@ use Rattle.warm_frames.proofs.FieldLemmas.{bind_ok, want_ok, chosen_ok, ok_is, T
 
 -- ---- entries
 
--- each page comes after the one before, and the first after the one given
+-- each page comes after the one before, and the first after the given one
 abbrev pub RiseFrom : Option PageId → List Entry → Type 0
 RiseFrom before [] = Unit {0}
 RiseFrom before (e ∷ es) = (comes_after before e.page ≡ true) × RiseFrom (Some e.page) es

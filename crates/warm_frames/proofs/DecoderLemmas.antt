@@ -31,7 +31,7 @@ still_unknown begun piece held (Some size) knows short is = absurd (no_ok (sym s
 
 -- ---- the answers of feed
 
--- a decoder that knows something of a size isn't behind a fault
+-- a decoder that knows something of a size isn't after a fault
 pub inside : (old : DecoderState) (failed : Bool) (begun piece : List ℕ) (size : Option ℕ) → state_of failed begun ≡ old → KnowsWith old piece size → (failed ≡ false) × SaysSize begun piece (Ok size)
 inside old true begun piece size view knows = absurd (subst (λ (o : DecoderState). KnowsWith o piece size) (sym view) knows)
 inside old false begun piece size view knows = (refl, subst (λ (o : DecoderState). KnowsWith o piece size) (sym view) knows)
@@ -138,6 +138,6 @@ pub unknown_yet : (begun : List ℕ) (known : Option ℕ) → ((size : ℕ) → 
 unknown_yet begun None none knows = knows
 unknown_yet begun (Some size) none knows = absurd (none size refl)
 
--- what is said of the bytes held
+-- facts about the bytes held
 pub said : (bytes held piece : List ℕ) (r s : Result (Option ℕ) FrameFault) → bytes ≡ held → r ≡ s → SaysSize bytes piece r → SaysSize held piece s
 said bytes held piece r s same is says = subst (λ (h : List ℕ). SaysSize h piece s) same (subst (SaysSize bytes piece) is says)

@@ -221,7 +221,7 @@ held_pages : (format : Format) (sender horizon : ℕ) (es : List Entry) → Hold
 held_pages Narrow sender horizon es holds = holds.1
 held_pages Wide sender horizon es holds = wide_all es
 
--- what a reader of bodies gives is a frame of this kind, sender, horizon and body
+-- a reader of bodies returns a frame of this kind, sender, horizon and body
 pub record IsFrameOf (start : Start) (body : List ℕ) (f : Message) : Type 0 where
   pub start_is : start_of start.format f ≡ start
   pub body_is : body ≡ frame_body start.format f

@@ -1,4 +1,4 @@
--- The laws of spellings, and of streams that come in pieces.
+-- The laws of spellings, and of streams that are given in pieces.
 use Rattle.std.specs.Prelude.{◌≡◌, ℕ, ◌<◌, List, [], ◌++◌, length}
 use Rattle.warm_frames.specs.declared.fault.FrameFault.{FrameFault}
 use Rattle.warm_frames.specs.declared.message.Message.{Message}

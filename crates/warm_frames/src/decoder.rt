@@ -1,4 +1,4 @@
-//! Frames from a stream of bytes that comes in pieces.
+//! Frames from a stream of bytes that is given in pieces.
 ghost use Rattle.std.specs.Prelude.{◌≡◌, ◌⊎◌, ◌<◌, ◌++◌, [], length, None, IfOk, IfErr, OnOk, OnErr};
 ghost use Rattle.warm_frames.specs.declared.layout.TheConstants.{HEADER_SIZE};
 ghost use Rattle.warm_frames.specs.Spelling.{Spells};

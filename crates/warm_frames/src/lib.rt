@@ -4,8 +4,8 @@
 //! A [`Message`] carries entries of a history, the digests of all buckets, or the set of requested
 //! buckets. `specs/Spelling.antt` says which bytes spell a frame: each frame has one spelling in
 //! each format that can hold it, and no two frames share one. `specs/Reading.antt` says how bytes
-//! are read, and which fault is reported. A [`Decoder`] takes frames from a stream that comes in
-//! pieces: `specs/Pieces.antt`.
+//! are read, and which fault is reported. A [`Decoder`] decodes frames from a stream that is given
+//! in pieces: `specs/Pieces.antt`.
 #![tactic(auto)]
 
 mod decoder;

@@ -39,7 +39,7 @@ pub enum Message {
         sender: ReplicaId,
         /// The sender's horizon: the time before which it forgot stamps.
         horizon: u64,
-        /// The buckets: bit b, of value 2^b, asks for bucket b.
+        /// The buckets: bit b, of value 2^b, requests bucket b.
         request: u64,
     },
 }

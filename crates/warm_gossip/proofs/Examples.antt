@@ -35,7 +35,7 @@ two_messages : requested_messages 1 (holding (once 1 (at 10 1) ∷ once 2 (at 11
 unfolding buckets_in
 two_messages = refl
 
--- an empty bucket that is asked for by itself is sent as a message without entries
+-- an empty bucket that is requested alone is sent as a message without entries
 empty_sent : sent 1 (holding (once 1 (at 10 1) ∷ [])) 2 None ≡ Entries 1 0 []
 unfolding history
 empty_sent = refl

@@ -47,7 +47,7 @@ same_frames v w same i = ap (λ fs. let f : FrameView = get_or fs i no_frame in 
 same_pool : (v w : PoolView) → w ≡ v → KeepsPages v w
 same_pool v w same i = ap (λ x. (frame_at x i).page) same
 
--- all but the pool is as it was, and every frame has its page
+-- everything but the pool is unchanged, and every frame has its page
 abbrev pub KeepsNode : NodeView → NodeView → Type 0
 KeepsNode old new = (new ≡ record old { pool = new.pool }) × KeepsPages old.pool new.pool
 
@@ -124,7 +124,7 @@ leads_taught : (S T : ReferenceSet) (call : Call) (old new : NodeView) → old.h
 leads_taught S T call old new is step =
     (ap (λ n. n.history) step ∙ ap (λ h. history (refs h ∪ T)) is ∙ history_first S T, λ other. inl (same_pool old.pool new.pool (ap (λ n. n.pool) step)))
 
--- a call leads to the history of what was given before and of what it gives
+-- a call leads to the history of the references given before and of those that it gives
 pub step_leads : (S : ReferenceSet) (call : Call) (reply : Reply) (old new : NodeView) → old.history ≡ history S → Step old call reply new → Leads (told_by S call reply) call old new
 step_leads S (Absorb batch) Done old new is step = leads_taught S (these batch) (Absorb batch) old new is step
 step_leads S (Send bucket after) (Sent message) old new is step = leads_same S (Send bucket after) old new is step.1
@@ -146,7 +146,7 @@ step_leads S call reply old new is step = absurd step
 
 -- ---- the page that leaves
 
--- the frame into which a page was put is one of the frames
+-- the frame into which a page was loaded is one of the frames
 pub frame_is_there : {h : HistoryView} {v w : PoolView} {p : PageId} {fixes : ℕ} {slot : Slot} → PutsIn h v p fixes slot w → slot.index < length v.frames
 frame_is_there puts = elim puts.place [ inl free ↦ free.there | inr victim ↦ victim.there ]
 

@@ -65,7 +65,7 @@ IsAnswer id h (Entries sender horizon entries) messages = messages ≡ []
 IsAnswer id h (Want sender horizon request) messages = messages ≡ requested_messages id (taught h (Want sender horizon request)) request
 IsAnswer id h (Digest sender horizon digests) messages = AnswersDigests id (taught h (Digest sender horizon digests)) digests messages
 
--- the message of the first entries of the bucket whose page comes after the one given, up to
+-- the message of the first entries of the bucket whose page comes after the given one, up to
 -- MAX_ENTRIES
 abbrev pub sent : ℕ → HistoryView → ℕ → Option PageId → Message
 sent id h bucket after = Entries id h.horizon (entries_of (history (carried (refs h) bucket after MAX_ENTRIES)))

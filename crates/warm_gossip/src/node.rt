@@ -37,7 +37,7 @@ pub struct Node<D: PageDevice> {
     pub(crate) warm_up: WarmUp,
 }
 
-// By hand, so that an owner makes one call at each way out (see `History`).
+// Written by hand, so that an owner makes one call on each exit path (see `History`).
 impl<D: PageDevice> Drop for Node<D> {
     fn drop(mut self) {
         let Self {

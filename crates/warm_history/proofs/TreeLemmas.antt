@@ -1,4 +1,4 @@
--- What is put back after a change gives the pairs from before.
+-- Undoing a change gives the old pairs.
 use Rattle.std.proofs.Common.{◌≡◌, ℕ, Bool, true, false, cond, List, [], ◌∷◌, ◌++◌, sym, ap, refl, ◌∙◌, subst, Option, Some, None, append_assoc, add-one, drop-cons, drop, length, get_or, suc, filter, ◌+◌, ◌<◌, ◌≤◌}
 use Rattle.std.specs.List.{AllByRecursion}
 use Rattle.std.specs.List.Sorted.{IsPermutation}

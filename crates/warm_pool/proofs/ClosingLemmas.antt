@@ -13,7 +13,7 @@ clean_more which n [] lt = absurd (omega arith)
 clean_more which zero (f ∷ frames) lt = refl
 clean_more which (suc n) (f ∷ frames) lt = ap (λ rest. clean_if which f ∷ rest) (clean_more which n frames (omega arith))
 
--- what holds of a frame as it was, and of it clean, holds of it where it may have been cleaned
+-- what holds of the old frame, and of the clean one, holds of a frame that may have been cleaned
 pub clean_each : (P : FrameState → Type 0) (which : Option ℕ) (n : ℕ) (frames : List FrameState) (i : ℕ) → P (nth_frame frames i) → P (cleaned (nth_frame frames i)) → P (nth_frame (cleaned_chosen which n frames) i)
 clean_each P which zero frames i was is = was
 clean_each P which (suc n) [] i was is = was
@@ -24,7 +24,7 @@ clean_each P which (suc n) (f ∷ frames) (suc i) was is = clean_each P which n 
 pub nth_page : (which : Option ℕ) (n : ℕ) (frames : List FrameState) (i : ℕ) → (nth_frame (cleaned_chosen which n frames) i).page ≡ (nth_frame frames i).page
 nth_page which n frames i = clean_each (λ f. f.page ≡ (nth_frame frames i).page) which n frames i refl refl
 
--- those not yet reached are as they were
+-- those not yet reached are unchanged
 pub nth_rest : (which : Option ℕ) (n : ℕ) (frames : List FrameState) (i : ℕ) → n ≤ i → nth_frame (cleaned_chosen which n frames) i ≡ nth_frame frames i
 nth_rest which zero frames i le = refl
 nth_rest which (suc n) [] i le = refl

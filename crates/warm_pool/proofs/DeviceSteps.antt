@@ -114,7 +114,7 @@ same_view s new k e is kept same =
     view_of_kept s new kept
     ∙ ap (λ (failures : List ℕ). let v : PoolView = record (view_of s) { failures = failures } in v) (failures_kept s.devices new k e is same)
 
--- a device of which a page was read is as it was, but for its failures
+-- a device of which a page was read is unchanged, except for its failures
 read_after : {old new : List DeviceState} {k n : ℕ} {bytes : List ℕ} {result : Result (Unit {0}) DeviceFault} (r : PageRead old new k n bytes result) (failures : ℕ)
     → r.after.failures ≡ failures → r.after ≡ record (nth_device old k) { failures = failures }
 read_after r failures is i = record {

@@ -83,7 +83,7 @@ generation_stays = refl
 first_is_clean : cleaned_to 1 (holding 1 0 [] ∷ holding 2 0 [] ∷ []) ≡ (let f : FrameState = record (holding 1 0 []) { dirty = false } in f) ∷ holding 2 0 [] ∷ []
 first_is_clean = refl
 
--- ---- where a page goes that comes in
+-- ---- the frame into which a page is loaded
 
 -- into the first frame without a page, also where another page could leave
 first_free_place : IsPlace (alone []) (view_of (two_frames true (holding 1 0 []) (fresh_frame []))) (Some 1)

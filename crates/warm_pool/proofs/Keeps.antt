@@ -17,7 +17,7 @@ use Rattle.warm_pool.specs.Pinning.{unpinned}
 use Rattle.warm_pool.proofs.Slots.{at_set, same_maps}
 use Rattle.warm_pool.proofs.Bytes.{bytes_alike, bytes_kept, contents_same, frame_seen}
 
--- a frame that may stand at place i of a pool
+-- a frame that may be at index i of a pool
 pub record Fits (s : PoolState) (i : ℕ) (g : FrameState) : Type 0 where
   pub there : i < length s.frames
   pub size : length g.bytes ≡ s.page_size

@@ -1,4 +1,4 @@
--- What a pin and a load come to, from their steps.
+-- The effect of a pin and a load, from their steps.
 use Rattle.std.proofs.Common.{◌≡◌, ℕ, ◌+◌, ◌-◌, ◌^◌, ◌<◌, false, List, length, map, set, Some, Result, OnErr, IfErr, sym, ◌∙◌, ap, subst, inl, inr, arith}
 use Rattle.std.specs.Option.{option_map}
 use Rattle.std.proofs.lemmas.List.{map-set, get_or-set_same, length-set, length-map}

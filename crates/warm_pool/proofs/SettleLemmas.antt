@@ -79,7 +79,7 @@ alike_kept frames old new alike =
     let stays : (p : PageId) → stored new p ≡ stored old p = λ p. ap₂ (λ (honest : Bool) (contents : List (List ℕ)). cond honest (page_at contents p.no) []) (alike.each p.dev).0.honest (alike.each p.dev).1 in
     record { count = alike.count; shape = λ k. (alike.each k).0; absent = λ p away. stays p; clean = λ i p holds is. stays p }
 
--- a device that is as it was
+-- a device that is unchanged
 untouched : (d e : DeviceState) → e ≡ d → SameShape d e × (e.contents ≡ d.contents)
 untouched d e is = (subst (λ x. SameShape d x) (sym is) (same_shape d), ap (λ x. x.contents) is)
 

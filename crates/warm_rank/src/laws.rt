@@ -43,8 +43,8 @@ pub fn same_references_rank_alike()
     ensures { SameReferencesRankAlike }
 {}
 
-/// The victim over what a history holds is a page of greatest backward 2-distance, among those that may leave, over all
-/// references for which the history stands.
+/// The victim over what a history holds is a page of greatest backward 2-distance, among those that
+/// may be evicted, over all references for which the history stands.
 pub fn victim_is_farthest()
     ensures { VictimIsFarthest }
 {}

@@ -363,7 +363,7 @@ Consumes-kept (Some xs) (Some ys) k = sym k
 pub Played-text : (state : ModelState) (a b out : List ℕ) → a ≡ b → Played state a out → Played state b out
 Played-text state a b out same played = subst (λ (text : List ℕ). Played state text out) same played
 
--- over devices that fit, what stops a play is why it does not come to its end
+-- over devices that fit, what stops a play is why it does not reach its end
 pub stopped_play : (setup : Sizes) (devices : List (List DeviceState)) (why : PlayFault) → AreFitting setup devices → StopsPlay why → PlayRefused setup devices why
 stopped_play setup devices play_fault.BadDevices fits stops = absurd stops
 stopped_play setup devices why fits stops = (fits, stops)

@@ -5,7 +5,7 @@
 //! machine, and passes the turn on. A call takes a ticket when the ticket will be served at once,
 //! or after it has polled for such a moment a bounded number of times. A thread calls with a
 //! [`Pass`] of its own, in which contracts see what it knows: a list of calls and replies that some
-//! run of the machine has from the opening state, in which the pass's own calls stand once each, in
+//! run of the machine has from the opening state, which contains the pass's own calls once each, in
 //! their order, with the replies that were given.
 //!
 //! - [`Turn::new`] gives the turn and its first pass, and [`Turn::pass`] splits a pass off another.

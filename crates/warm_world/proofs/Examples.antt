@@ -57,7 +57,7 @@ second_hears : history (heard (one_worker (at 15 2 ∷ at 30 2 ∷ []) []).reach
 unfolding history
 second_hears = refl
 
--- after a restart a replica hears again what it had sent
+-- after a restart a replica receives again what it had sent
 hears_again : history (heard (restarted no_pool (one_worker (at 10 1 ∷ []) (at 20 1 ∷ []))).reach (References 2 (these (at 10 1 ∷ [])))) ≡ holding ((let e : Entry = record { page = record { dev = 0; no = 1 }; hist = Once (at 10 1).stamp } in e) ∷ [])
 unfolding history
 hears_again = refl

@@ -50,7 +50,7 @@ took_one b b' x result done is full = elim (cases_lt (length b.refs) b.capacity)
   | inr many ↦ let never : is_ok result ≡ false = ap is_ok (full many).0 in let ok : is_ok result ≡ true = ap is_ok is in absurd (cc)
 ]
 
--- and one that gave a reference back was full, and is as it was
+-- and one that gave a reference back was full, and is unchanged
 pub gave_back : (b b' : Buffered) (x y : Reference) (result : Result Unit Full) → result ≡ Err (record { 0 = y })
     → (length b.refs < b.capacity → IsOk result × (b' ≡ with_last b x)) → (b.capacity ≤ length b.refs → (result ≡ Err (record { 0 = x })) × (b' ≡ b))
     → (b.capacity ≤ length b.refs) × (b' ≡ b) × (y ≡ x)

@@ -11,7 +11,7 @@ use Rattle.warm_history.proofs.HistoryLemmas.{IsHistory-history}
 use Rattle.warm_history.proofs.JoinLemmas.{raised_to_no_later}
 use Rattle.warm_history.proofs.losses.losing.Goals as goal
 
--- at a horizon that is not past the own one nothing is lost
+-- at a horizon that is not greater than the history's own nothing is lost
 pub returns-then-horizon : goal.returns-then-horizon
 returns-then-horizon c =
     let h = c.args.history.now in
