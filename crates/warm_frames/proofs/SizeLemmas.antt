@@ -78,7 +78,7 @@ length_goes format kind bytes more =
     goes_on (behind more) (behind more) _ _ _ _ (number_goes w32 bytes more) (λ len.
     goes_on (λ b. b) (behind more) _ _ _ _ (stays (want (may_have format kind len.0) BadLength)) (λ allowed. refl))
 
--- once the header says a size or a fault, it says so whatever follows
+-- a size or a fault that the header gives doesn't change, whatever follows
 pub size_goes : (bytes more : List ℕ) → Goes (λ n. n) (frame_size bytes) (frame_size (bytes ++ more))
 unfolding frame_size
 size_goes bytes more =
@@ -299,7 +299,7 @@ size_settled bytes more size is enough = known_stays (frame_size bytes) (frame_s
 
 -- ---- fronts
 
--- what a front says, by what the whole says
+-- what a prefix says, by what the whole says
 size_front : (n : ℕ) (bytes : List ℕ) → Goes (λ k. k) (frame_size (take n bytes)) (frame_size bytes)
 size_front n bytes = subst (λ (whole : List ℕ). Goes (λ k. k) (frame_size (take n bytes)) (frame_size whole)) (take-append-drop n bytes) (size_goes (take n bytes) (drop n bytes))
 

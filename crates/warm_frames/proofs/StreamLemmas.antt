@@ -68,7 +68,7 @@ fed_from (c ∷ calls) new rest ends begun part run =
     subst (λ (fs : List Message). Splits (begun ++ taken_in (c ∷ calls)) fs rest) (sym frames)
     (subst (λ (s : List ℕ). Splits (begun ++ s) (frame_given c.answer ++ frames_given calls) rest) (sym bytes) all)
 
--- what was taken is the frames given and a part of the next
+-- the consumed bytes are the returned frames and a part of the next
 pub in_pieces : (calls : List Feeding) (rest : List ℕ) → Feedings (Inside []) calls (Inside rest) → Splits (taken_in calls) (frames_given calls) rest
 in_pieces calls rest run = fed_from calls (Inside rest) rest refl [] nothing_is_part run
 

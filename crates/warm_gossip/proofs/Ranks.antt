@@ -40,7 +40,7 @@ untold [] p unnamed = refl
 untold (r ∷ T) p unnamed =
     rw (differs r.page p (λ is. unnamed (0, omega arith, is))) (untold T p (λ has. unnamed (suc has.0, omega arith, has.2)))
 
--- nor one that no entry is of
+-- nor a page without an entry
 untold_entries : (es : List Entry) (p : PageId) → (Contains (map (λ e. e.page) es) p → ⊥) → told (list.refs es) p ≡ []
 untold_entries [] p unnamed = refl
 untold_entries (e ∷ es) p unnamed =

@@ -239,7 +239,7 @@ hist_again S T p =
     ∙ hist-append (T ++ T) S p
     ∙ ap (λ x. joined x (hist S p)) (hist-append T T p ∙ joined_same T p)
 
--- what comes back of the wanted buckets says no more than these said before what was sent for them
+-- the answer for the wanted buckets says no more than they said before the request
 hist_back : (request : ℕ) (S T : List Reference) (p : PageId) → hist (T ++ kept (in_request request) (S ++ kept (in_request request) T)) p ≡ hist (T ++ kept (in_request request) S) p
 hist_back request S T p =
     let test = in_request request in
@@ -284,7 +284,7 @@ first_taught i j request h g given h' whole heard =
     hears_refs i S (messages ++ last ∷ []) given h' (subst (λ k. Hears i k (messages ++ last ∷ []) given h') (sym (history_of_own_references h whole)) heard)
     ∙ second_alike S A (in_buckets request (refs g)) (ap (max h.horizon) at) (λ p. ap (λ (R : List Reference). hist R p) told ∙ hist-wanted j request g p)
 
--- and j what i has of them then, which for j is no more than what i had before
+-- and j receives what i then has of them, which for j is no more than what i had before
 second_taught : (i j request : ℕ) (h g : HistoryView) (given last : List Message) (h' g' : HistoryView) → IsHistory g → h.horizon ≤ g.horizon → h' ≡ history (refs h ∪ in_buckets request (refs g))
     → given ≡ requested_messages i h' request → Hears j g given last g' → g' ≡ history (refs g ∪ in_buckets request (refs h))
 second_taught i j request h g given last h' g' whole le is answered back =

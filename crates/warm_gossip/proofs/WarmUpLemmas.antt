@@ -227,7 +227,7 @@ warm_step_keeps_hottest S old new (Loaded (Some q)) stands differ unfixed step p
     gone was.frame (stays S n old warming step.1.1.1 new_listed p listed was.frame was.holds)
 warm_step_keeps_hottest S old new reply stands differ unfixed step p listed leaves = absurd step
 
--- ---- what a pool gives
+-- ---- facts about a pool
 
 -- no page of a pool is in two frames
 pub pages_differ : (s : PoolState) → IsPool s → PagesDiffer (view_of s)

@@ -350,7 +350,7 @@ module _ (bucket : ℕ) (test : PageId → Bool) (of_bucket : (p : PageId) → t
       cases true passed later = rw passed (chosen_above e.0 pairs all.0 (of_bucket (page_at e.0) passed) rising.0 all.1, later)
       cases false failed later = rw failed later
 
-  -- so they are in the map as they are in the history
+  -- so the map has them as the history does
   pub chosen_kept : (pairs : Pairs) → AreKept pairs → filter (λ x. test x.page) (as_entries pairs) ≡ filter (λ x. test x.page) (kept pairs)
   chosen_kept pairs are =
       same_gets (filter (λ (x : Entry). test x.page) (as_entries pairs)) (filter (λ (x : Entry). test x.page) (kept pairs))

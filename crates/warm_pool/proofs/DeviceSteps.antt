@@ -26,7 +26,7 @@ pub device_is : {B : Type 0} (shown : B → DeviceState) (bs : List B) (k : ℕ)
 device_is shown bs k b h e =
     get_or_read (map shown bs) k (shown b) (subst (λ n. k < n) (sym (length-map bs shown)) h) (ap shown e ∙ sym (mapped shown bs k b)) no_device
 
--- a slice of a whole `Vec` that was lent, when it comes back
+-- a slice of a whole `Vec` that was borrowed, when the borrow ends
 pub lent_whole : {A : Type 0} (n : ℕ) (new old : List A) → n ≡ length old → length new ≡ length old → take n (new ++ drop (length new) old) ≡ new
 lent_whole n new old e h = grind (arith, common_steps)
 

@@ -88,7 +88,7 @@ pub rank_of_page : (page : Option PageId) (key : Option RankKey) → page ≢ No
 rank_of_page None key some = absurd (some refl)
 rank_of_page (Some page) key some = refl
 
--- What becomes of them as one of them changes
+-- The frames after one of them changes
 
 -- frame i has this page, this status and this body, and the others are unchanged
 pub record Changes (ps : List (Option PageId)) (ss : List Status) (bs : List FrameBody) (i : ℕ) (p : Option PageId) (s : Status) (b : FrameBody)

@@ -32,7 +32,7 @@ stays_in_frame s t i p slot holds others kept = record {
   waits = λ away. absurd (away i (ap (λ f. f.page) (frame_seen s i) ∙ holds));
 }
 
--- a page came into a frame
+-- a page was loaded into a frame
 pub loaded_takes : (s t : PoolState) (i : ℕ) (p : PageId) (key : RankKey) (n : ℕ) → LoadsInto s i p key n t → i < length s.frames → IsNowhere s.frames p
     → (slot : Slot) → slot.index ≡ i → TakesFrame s p slot t
 loaded_takes s t i p key n l there away slot at =

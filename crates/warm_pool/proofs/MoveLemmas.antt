@@ -1,4 +1,4 @@
--- A frame leaves its chain, and comes into another.
+-- A frame is unlinked from its chain, and linked into another.
 use Rattle.std.proofs.Common.{◌≡◌, ◌≢◌, ℕ, suc, ◌<◌, ◌≤◌, List, length, get_or, set, sym, ap, refl, ◌∙◌, subst, Option, Some, None, inl, inr, ◌⊎◌, arith, get_or-set_same, get_or-set_other}
 use Rattle.std.proofs.lemmas.List.{get_or_read, length-set}
 use Rattle.std.proofs.lemmas.Bool.{cases_eq, cases_lt}

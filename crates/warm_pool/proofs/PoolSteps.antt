@@ -108,7 +108,7 @@ least_unfixed {s} w i l = elim (cases_eq (nth_frame s.frames i).fixes 0) [
       l.is_set))
 ]
 
--- the page that leaves is the victim over what the history holds
+-- the evicted page is the victim over what the history holds
 pub none_leaves : {s : PoolState} → IsPool s → (h : HistoryView) → RankedBy s h → IsLeast key_cmp (map leaving_key s.frames) None
     → IsVictim (refs h) (unfixed_pages (view_of s)) None
 none_leaves {s} w h r l = least_key_is_victim (refs h) (competing s.frames) None (subst (λ keys. IsLeast key_cmp keys None) (ranked_keys w h r) l)

@@ -115,7 +115,7 @@ meaning_cut line =
       | false ↦ λ e. ap meaning (take_all (MAX_LINE + 1) line (omega (arith, ltb-false _ _ e)))
     ] refl
 
--- what the line that is held says is what the whole line says
+-- the meaning of the held line is that of the whole line
 pub says : (held line : List ℕ) → HoldsLine held line → meaning held ≡ meaning line
 says held line h = ap meaning h.held_is ∙ meaning_cut line
 
@@ -318,7 +318,7 @@ ends_after : (m : ModelState) (first answers out : List ℕ) → EndsIn m answer
 ends_after m first answers out (inl same) = inl (ap (λ (xs : List ℕ). first ++ xs) same)
 ends_after m first answers out (inr refused) = inr (refused.0, ap (λ (xs : List ℕ). first ++ xs) refused.1 ∙ sym (append_assoc first answers end_refused))
 
--- a session that was fresh and came to the end of the input
+-- a session that was fresh and reached the end of the input
 pub Goes-whole : (a b : SessionView) (state : ModelState) (bytes out answers closing : List ℕ) → Goes a bytes out b → Ends b answers closing → Holds a state [] → a.number ≡ 1 → Played state bytes (out ++ (answers ++ closing))
 unfolding Goes Ends
 Goes-whole a b state bytes out answers closing goes ends fresh first =

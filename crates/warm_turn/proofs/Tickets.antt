@@ -25,7 +25,7 @@ module _ {X C R : Type 0} where
     full = λ h. off h unmarked;
   }
 
-  -- what the words say of a seat rests on its ticket and its marks alone
+  -- what the words say of a seat depends only on its ticket and its marks
   pub same_queued : (t n : ℕ) (taker : ℕ → ℕ) (j : ℕ) (v w : View X C R) → v.owns ≡ w.owns → v.waits ≡ w.waits → v.serves ≡ w.serves → v.found_last ≡ w.found_last → v.ticket ≡ w.ticket
       → IsQueued t n taker j v → IsQueued t n taker j w
   same_queued t n taker j v w owns waits serves found ticket q = record {

@@ -86,7 +86,7 @@ pub empty_buffers_are : (capacity n : ℕ) → map (buffered capacity) (replicat
 empty_buffers_are capacity zero = refl
 empty_buffers_are capacity (suc n) = ap (λ bs. buffered capacity [] ∷ bs) (empty_buffers_are capacity n)
 
--- ---- what a replica stands for once it has changed
+-- ---- what a replica stands for after it has changed
 
 -- what waits in a buffer reaches the replica
 pub flushes : (capacity place k : ℕ) (old new : ReplicaView) (m : ReplicaState) (batch : List Reference) → ReplicaStands capacity place old m

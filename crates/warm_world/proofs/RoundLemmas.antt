@@ -164,7 +164,7 @@ hears_nothing j fs old new none all =
     subst (λ (rs : List MessageRecord). Hears j (known_to old j) (map message_kept rs) (map message_kept all.added) (known_to new j)) none all.hears in
     (none_mapped all.added hears.0, hears.1)
 
--- what the second replica knows once the offer came
+-- the history of the second replica after it received the offer
 abbrev pub raised_by : ℕ → ℕ → ModelState → HistoryView
 raised_by i j m = history (since (reach_of m i).horizon (reach_of m j))
 

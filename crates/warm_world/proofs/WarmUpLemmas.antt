@@ -75,7 +75,7 @@ warm_up_loads i old new differ unfixed steps p warm_page =
 bare_differs : PagesDiffer no_pool
 bare_differs i j p first second = absurd (let never : None ≡ Some p = first in cc)
 
--- what a reader beyond the last node or replica is given
+-- what a reader beyond the last node or replica gets
 no_node : NodeState
 no_node = opened 0 (opened_pool 0 0 [])
 
