@@ -19,7 +19,7 @@ use std::thread::{Promise, PromisedHandle, Scope, Threads};
 use warm_refbuffer::{MAX_CAPACITY, RefBuffer};
 use warm_turn::{Machine, Pass, Turn};
 
-/// The maximum number of jobs that run at the same time.
+/// The maximum number of jobs of one run.
 pub const MAX_JOBS: usize = 64;
 
 // What a job begins with.
@@ -213,9 +213,9 @@ fn run_ready<M: Absorbing + Send, R: Threads + Wait + Sync, G: Gate + Sync>(
     )
 }
 
-/// Runs each job in a thread of its own, and ends their passes into this one. At most [`MAX_JOBS`]
-/// at a time. The replies are in the order of the jobs, one for each step. References in a job's
-/// buffer after its last step are dropped.
+/// Runs each job in a thread of its own, and ends their passes into this one. There may be at most
+/// [`MAX_JOBS`] jobs. The replies are in the order of the jobs, one for each step. References in a
+/// job's buffer after its last step are dropped.
 ///
 /// Each job's part of the history is exactly its flushes and calls, in order, with the replies of
 /// its steps. A step is answered `TurnsSpent` only where its job found no ticket left, and then no

@@ -250,8 +250,8 @@ pub const READ_SIZE: usize = 65_536;
 /// where that fails, the last line is `end refused 12 Fault`. The devices are dropped before it
 /// returns.
 ///
-/// It reads pieces of at most 65,536 bytes and keeps at most one line, so beside its world the
-/// memory use does not grow with the length of the schedule or of a line. Each line is answered
+/// It reads pieces of at most 65,536 bytes and keeps at most one line, so, apart from its world,
+/// the memory use does not grow with the length of the schedule or of a line. Each line is answered
 /// before the bytes after it are processed. The writer is flushed before each read that follows
 /// answers, and at the end: a sender that waits after a line gets its answer before it sends the
 /// next. An interrupted read is repeated.
