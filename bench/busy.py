@@ -1,4 +1,4 @@
-"""Load for the measurements beside which all processors are to be busy."""
+"""Background load for the measurements in which all processors must be busy."""
 
 import os
 import subprocess
@@ -8,7 +8,7 @@ from contextlib import contextmanager
 
 @contextmanager
 def all_processors_busy(are_busy: bool):
-    """As many other processes as there are processors, each of which goes round in a loop; none where they need not be busy."""
+    """As many other processes as there are processors, each of which runs a busy loop; none where no load is requested."""
     others = []
     try:
         for _ in range(len(os.sched_getaffinity(0)) if are_busy else 0):

@@ -1,4 +1,4 @@
-//! Prints schedules for `measure.py` whose lines name slots and frames that earlier lines are answered by: it plays them in the plain world.
+//! Prints schedules for `measure.py` whose lines name slots and frames from the answers to earlier lines: it plays them in the plain world.
 //!
 //!     loads pins ACCESSES FRAMES PAGES
 //!     loads steady REPLICAS ROUNDS REFS EVERY PAGES
@@ -6,7 +6,7 @@
 //!
 //! - `pins`: of each access a page is drawn by Zipf, referenced, pinned and unpinned; of one in eight eight bytes are written while it is
 //!   pinned, of another eight are read.
-//! - `steady`: in each round a replica that is drawn references REFS pages, drawn by Zipf. After each EVERY rounds it offers its digests to
+//! - `steady`: in each round a random replica references REFS pages, drawn by Zipf. After each EVERY rounds it offers its digests to
 //!   another one, and all that follows is delivered between the two.
 //! - `ring`: each replica references PAGES pages of its own. Then, after a comment line with the number of entries that are delivered, each
 //!   offers its digests to the next in a ring, and all answers are delivered.
@@ -35,13 +35,13 @@ impl Draw {
         self.next() % end
     }
 
-    /// From 0 to below `end`, where r comes in proportion to 1 / (r + 1).
+    /// From 0 to below `end`, where r occurs in proportion to 1 / (r + 1).
     fn zipf(&mut self, end: u64) -> u64 {
         let even = (self.next() >> 11) as f64 / (1u64 << 53) as f64;
         (end as f64).powf(even) as u64 - 1
     }
 
-    /// The numbers below `end`, out of their order.
+    /// The numbers below `end`, in a shuffled order.
     fn scattered(&mut self, end: u64) -> Vec<u64> {
         let mut numbers: Vec<u64> = (0..end).collect();
         for at in (1..numbers.len()).rev() {
@@ -51,7 +51,7 @@ impl Draw {
     }
 }
 
-/// What goes wrong: an event is refused, or a line is not taken.
+/// An error: an event is refused, or a line is not accepted.
 enum Fault {
     Refused(Refusal),
     Write(io::Error),
@@ -107,7 +107,7 @@ impl<W: Write> Printer<W> {
     }
 }
 
-/// How many entries a frame has.
+/// The number of entries of a frame.
 fn entries_of(frame: &[u8]) -> u64 {
     if frame[4] == 1 { u64::from(u32::from_be_bytes(frame[19..23].try_into().expect("four bytes"))) } else { 0 }
 }
@@ -169,8 +169,8 @@ fn steady(replicas: usize, rounds: u64, refs: u64, every: u64, pages: u64, out: 
     Ok(())
 }
 
-/// All offers come first, then all digests are delivered, then all requests, then all entries: so each replica gets what its two neighbours
-/// know of themselves.
+/// All offers come first, then all digests are delivered, then all requests, then all entries: so each replica gets the pages that its two
+/// neighbours referenced themselves.
 fn round_in_ring<W: Write>(printer: &mut Printer<W>, replicas: usize) -> Result<(), Fault> {
     let after = |i: usize| 1 + i % replicas;
     let offers = (1..=replicas).map(|i| printer.offer(i)).collect::<Result<Vec<u64>, Fault>>()?;

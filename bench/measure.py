@@ -1,13 +1,13 @@
 #!/usr/bin/env python3
-"""Measures warmplay beside a plain Rust program of the same job, and prints the table of docs/PERFORMANCE.md.
+"""Measures warmplay against a plain Rust program for the same job, and prints the table of docs/PERFORMANCE.md.
 
 usage: measure.py [CASE..]      the cases are: refs zipf pins steady orders longline gossip warm memory window growth frames replicas
-                                (all of them, where none is named)
+                                (default: all)
 
-It wants the proved program (`rt run` in crates/warmplay leaves it as crates/warmplay/out/warmplay; the variable WARMPLAY names another)
+It needs the proved program (`rt run` in crates/warmplay leaves it as crates/warmplay/out/warmplay; the variable WARMPLAY names another)
 and `rustc`. Every case runs all programs in turn, on one machine, and takes the least user time of five runs or more; their answers must
-be equal. Of a case with a set-up the events after it count alone, by the processor time of the program, which has the system's for it in
-it. Each row says what is measured, what it takes warmplay and plain Rust, and how many times as much plain Rust takes: 1 or more is good.
+be equal. For a case with a set-up only the events after it count, by the processor time of the program, including its system
+time. Each row gives the case, the cost of warmplay and of plain Rust, and the ratio plain Rust / warmplay: 1 or more is good.
 """
 
 import array
@@ -38,7 +38,7 @@ OURS, PLAIN = "warmplay", "plain"
 
 
 class Setup(NamedTuple):
-    """What the setup file says. Frames and pages are those that a replica has without a file, where nothing is said."""
+    """The settings of the setup file. Frames and pages default to those of a replica without a file."""
 
     replicas: int = REPLICAS
     frames: int = 4
@@ -49,7 +49,7 @@ class Setup(NamedTuple):
 
 
 def user_seconds(program: list[str], schedule: Path, answer: Path) -> float:
-    """The processor time that the program itself took, without the system's for it."""
+    """The user time of the program, without its system time."""
     with open(schedule, "rb") as text, open(answer, "wb") as out:
         process = subprocess.Popen(program, stdin=text, stdout=out)
         _, status, used = os.wait4(process.pid, 0)
@@ -60,7 +60,7 @@ def user_seconds(program: list[str], schedule: Path, answer: Path) -> float:
 
 
 def feed(process: subprocess.Popen, schedule: Path) -> None:
-    """Gives the program a schedule, and waits until it has taken all of it and waits for more."""
+    """Gives the program a schedule, and waits until it has read all of it and waits for more."""
     with open(schedule, "rb") as text:
         shutil.copyfileobj(text, process.stdin)
     process.stdin.flush()
@@ -71,7 +71,7 @@ def feed(process: subprocess.Popen, schedule: Path) -> None:
 
 
 def peak_kb(program: list[str], schedule: Path) -> int:
-    """The most memory that the program held, read when it has taken its whole input and still waits for more."""
+    """The peak memory of the program, read when it has read its whole input and still waits for more."""
     process = subprocess.Popen(program, stdin=subprocess.PIPE, stdout=subprocess.DEVNULL)
     feed(process, schedule)
     status = Path(f"/proc/{process.pid}/status").read_text()
@@ -81,12 +81,12 @@ def peak_kb(program: list[str], schedule: Path) -> int:
 
 
 def spent(process: subprocess.Popen) -> float:
-    """The processor time that a program has taken so far, the system's for it among it: Linux has a clock for each process."""
+    """The processor time that a program has used so far, including its system time: Linux has a clock for each process."""
     return time.clock_gettime((~process.pid << 3) | 2)
 
 
 def later_seconds(program: list[str], setup: Path, events: Path, answer: Path) -> float:
-    """The processor time that the events take, from when the set-up is answered until they are."""
+    """The processor time of the events, from the answer to the set-up until theirs."""
     with open(answer, "wb") as out:
         process = subprocess.Popen(program, stdin=subprocess.PIPE, stdout=out)
         feed(process, setup)
@@ -108,7 +108,7 @@ class Bench:
 
     @property
     def programs(self) -> dict[str, list[str]]:
-        """The commands, for the setup that is chosen."""
+        """The commands for the chosen setup."""
         setup = self.folder / "setup.toml"
         setup.write_text(self.setup.toml(), encoding="ascii")
         return {
@@ -144,13 +144,13 @@ class Bench:
         return self.least(lambda program, answer: user_seconds(program, schedule, answer), RUNS)
 
     def added(self, setup: list[str], events: list[str], runs: int = RUNS) -> dict[str, float]:
-        """What the events cost after the set-up."""
+        """The cost of the events after the set-up."""
         before, after = self.write("setup", setup), self.write("events", events)
         return self.least(lambda program, answer: later_seconds(program, before, after, answer), runs)
 
 
 def row(what: str, took: dict[str, float], unit: str, digits: int = 0, note: str = "") -> None:
-    """What it took each program, and how many times as much it took the plain one."""
+    """The cost of each program, and the ratio of the plain one's to ours."""
     ours, plain = took[OURS], took[PLAIN]
     ratio = f"{plain / ours:.2f}" if ours > 0 else "too short"
     print(f"| {what} | {ours:,.{digits}f} {unit} | {plain:,.{digits}f} {unit} | {ratio} | {note} |", flush=True)
@@ -168,18 +168,18 @@ def each(bench: Bench, what: str, setup: list[str], events: list[str]) -> None:
 
 
 def times(took: dict[str, float], first: dict[str, float], what: str) -> str:
-    """How many times what the first took."""
+    """The ratio to the first."""
     return f"{took[OURS] / first[OURS]:.1f} times that of {what}, plain Rust {took[PLAIN] / first[PLAIN]:.1f}"
 
 
 def reached(replica: int, pages: Iterable[int], start: int) -> list[str]:
-    """References to these pages, in this order, and the flush that brings them all to the replica."""
+    """References to these pages, in this order, and the flush that moves them all to the replica."""
     lines = [f"ref {replica} 1 0:{page} {start + at}" for at, page in enumerate(pages)]
     return [*lines, f"flush {replica} 1"]
 
 
 def scattered(count: int, start: int = 0) -> list[int]:
-    """This many pages, out of their order."""
+    """This many pages, in a shuffled order."""
     pages = list(range(start, start + count))
     random.Random(count).shuffle(pages)
     return pages
@@ -194,14 +194,14 @@ def refs(bench: Bench) -> None:
 def zipf(bench: Bench) -> None:
     draw = random.Random(3)
     pages = scattered(1_000_000)
-    # 1,000,000 to a power drawn evenly from 0 to 1: page r comes in proportion to 1 / r
+    # 1,000,000 to a power drawn evenly from 0 to 1: page r occurs in proportion to 1 / r
     ranks = (int(1_000_000 ** draw.random()) - 1 for _ in range(2_000_000))
     lines = (f"ref 1 {1 + n % 2} 0:{pages[rank]} {n}" for n, rank in enumerate(ranks))
     whole(bench, "2,000,000 `ref` lines, Zipf over 1,000,000 pages", bench.write("zipf", lines))
 
 
 def pins(bench: Bench) -> None:
-    """Three accesses of ten are misses: once all frames hold pages a victim leaves at each, and is written back where it was written to."""
+    """Three accesses of ten are misses: once all frames hold pages, each miss evicts a victim, and writes it back where it is dirty."""
     bench.setup = Setup(1, 4_096, 100_000)
     what = "1,000,000 `ref`, `pin` and `unpin`, with 250,000 `put` and `get`, Zipf over 100,000 pages, 4,096 frames"
     whole(bench, what, bench.load("pins", 1_000_000, bench.setup.frames, bench.setup.pages))
@@ -233,7 +233,7 @@ def gossip(bench: Bench) -> None:
     for replica in range(1, REPLICAS + 1):
         setup += reached(replica, scattered(20_000, 20_000 * (replica - 1)), 1)
     sends = [f"send {1 + n % REPLICAS} {n % 64}" for n in range(200 * REPLICAS)]
-    # a frame of replica i comes to replica i + 1, where its pages are new, and then once more, where they are known
+    # a frame of replica i is delivered to replica i + 1, where its pages are new, and then again, where they are known
     delivers = [f"deliver {1 + (n + 1) % REPLICAS} {n + 1}" for n in range(200 * REPLICAS)]
     each(bench, "64 replicas of 20,000 pages, 200 sends each", setup, sends)
     each(bench, "their deliveries", setup + sends, delivers)
@@ -257,7 +257,7 @@ def memory(bench: Bench) -> None:
 
 
 def moving(pages: int, window: int, every: int) -> Iterable[str]:
-    """A reference to each of this many pages, out of their order; after each `every` of them those before the last `window` are forgotten."""
+    """A reference to each of this many pages, in a shuffled order; after each `every` of them those before the last `window` are forgotten."""
     for at in range(pages):
         yield f"ref 1 1 0:{at * 7919 % pages} {at}"
         if (at + 1) % every == 0:
@@ -265,7 +265,7 @@ def moving(pages: int, window: int, every: int) -> Iterable[str]:
 
 
 def window(bench: Bench) -> None:
-    """What a replica holds that sees 10,000,000 pages through a window of 100,000, beside one that has seen as many as the window has."""
+    """The memory of a replica that references 10,000,000 pages through a window of 100,000, beside one with 100,000 pages."""
     nothing, seen = bench.write("nothing", []), bench.write("seen", moving(WINDOW, WINDOW, EVERY))
     wide = bench.write("moving", moving(100 * WINDOW, WINDOW, EVERY))
     kb = {name: [peak_kb(program, schedule) for schedule in (nothing, seen, wide)] for name, program in bench.programs.items()}
@@ -276,7 +276,7 @@ def window(bench: Bench) -> None:
 
 
 def growth_loads(size: int) -> Iterable[tuple[str, list[str], list[str], int]]:
-    """What is measured, the set-up, the events, and their pages: in as many replicas as hold a million pages, or all."""
+    """The case, the set-up, the events, and their pages: in as many replicas as hold a million pages, or all."""
     replicas = range(1, min(REPLICAS, 1_000_000 // size) + 1)
     rounds = max(1, 1_000_000 // (size * len(replicas)))
     new = [line for i in replicas for line in reached(i, scattered(size), 1)]
@@ -316,14 +316,14 @@ def frames(bench: Bench) -> None:
 
 
 def replicas(bench: Bench) -> None:
-    """Nanoseconds an entry that is delivered, with what digests and requests cost. In a ring of 2 each entry comes twice, and is known then."""
+    """Nanoseconds per delivered entry, digests and requests included. In a ring of 2 each entry is delivered twice, the second time known."""
     first = None
     for count in RINGS:
         bench.setup = Setup(count)
         lines = bench.load("ring", count, 10_000).read_text(encoding="ascii").splitlines()
         at = next(n for n, line in enumerate(lines) if line.startswith("#"))
         entries = int(lines[at].removeprefix("# "))
-        # a short schedule needs more runs, for its time to be told from what else the machine does
+        # a short schedule needs more runs, to separate its time from the noise of the machine
         seconds = bench.added(lines[:at], lines[at + 1 :], max(RUNS, RINGS[-1] // count))
         nanos = {name: it / entries * 1e9 for name, it in seconds.items()}
         first = first or nanos

@@ -1,8 +1,8 @@
-//! The same job as `warmplay play`, in plain Rust: the measure for docs/PERFORMANCE.md, and no part of the product.
+//! The same job as `warmplay play`, in plain Rust: the reference for docs/PERFORMANCE.md, not part of the product.
 //!
 //! It reads a schedule from standard input, answers each line, and writes its answers out before it reads more. A history is a map for
-//! each bucket with a horizon, a pool is over one device in memory, and a frame is the bytes that go over the wire, as the product's are.
-//! It undoes nothing, and knows all lines but `restart`.
+//! each bucket with a horizon, a pool is over one device in memory, and a frame is the bytes that are sent, as the product's are.
+//! It has no rollback, and supports all lines but `restart`.
 //!
 //!     plain REPLICAS [FRAMES PAGES]
 //!
@@ -20,8 +20,8 @@ use std::io::{self, Write};
 
 const OUTPUT: usize = 65_536;
 
-/// A line without words or with a comment, or an event. Replicas, workers and frames are numbered from 1, and may be none. The bytes of a
-/// `put` stand beside it.
+/// A line without words or with a comment, or an event. Replicas, workers and frames are numbered from 1, and may be invalid. The bytes of a
+/// `put` are stored beside it.
 #[derive(Clone, Copy)]
 enum Line {
     Nothing,
@@ -41,7 +41,7 @@ enum Line {
     Show,
 }
 
-/// The replica of a line, and what it says; the bytes of a `put` are left in `bytes`. `None` where it is bad.
+/// The replica of a line, and its meaning; the bytes of a `put` are left in `bytes`. `None` where it is bad.
 #[inline]
 fn line_of(words: &mut Words, bytes: &mut Vec<u8>) -> Option<(usize, Line)> {
     const SHORT: u64 = u16::MAX as u64;
@@ -80,7 +80,7 @@ fn line_of(words: &mut Words, bytes: &mut Vec<u8>) -> Option<(usize, Line)> {
     words.is_done().then_some((replica, line))
 }
 
-/// Plays an event, and prints its answer. Gives why it is refused.
+/// Plays an event, and prints its answer. Returns the fault where it is refused.
 fn play(world: &mut World, number: usize, line: Line, bytes: &[u8], out: &mut Vec<u8>) -> Result<(), Refusal> {
     match line {
         Line::Nothing => {}
@@ -112,7 +112,7 @@ fn play(world: &mut World, number: usize, line: Line, bytes: &[u8], out: &mut Ve
     Ok(())
 }
 
-/// What is done with a slot.
+/// An operation on a slot.
 fn play_slot(world: &mut World, number: usize, line: Line, bytes: &[u8], out: &mut Vec<u8>) -> Result<(), Refusal> {
     let node = &mut world.replica(number)?.node;
     match line {
@@ -141,7 +141,7 @@ fn play_slot(world: &mut World, number: usize, line: Line, bytes: &[u8], out: &m
     Ok(())
 }
 
-/// What is asked of a replica as a whole.
+/// An operation on a replica as a whole.
 fn play_node(world: &mut World, number: usize, line: Line, out: &mut Vec<u8>) -> Result<(), Refusal> {
     let node = &mut world.replica(number)?.node;
     match line {

@@ -14,7 +14,7 @@ NEVER_LAST = 2**63
 
 
 class Ended:
-    """How a run ended: its status (below 0: the signal), what it wrote, and whether an allocation was refused."""
+    """How a run ended: its status (below 0: the signal), its output, and whether an allocation failed."""
 
     def __init__(self, status, out, err, is_refused=False):
         self.status = status
@@ -30,7 +30,7 @@ class Ended:
 
 
 class Refuser:
-    """Refuses and counts allocations by a library in front of the C library's allocator. The toolchain's clang compiles it."""
+    """Makes allocations fail, and counts them, by a library in front of the C library's allocator. The toolchain's clang compiles it."""
 
     def __init__(self, folder):
         page = subprocess.run(["rt", "doc"], check=True, capture_output=True, text=True).stdout.strip()
@@ -40,7 +40,7 @@ class Refuser:
         subprocess.run([compiler, *words, os.path.join(HERE, "refuse.c")], check=True)
 
     def run(self, words, sent=b"", first=0, last=0, folder=None):
-        """Runs the words in the folder, and refuses the allocations from the first to the last, counted from 1."""
+        """Runs the command in the folder, and makes the allocations from the first to the last fail, counted from 1."""
         reads, writes = os.pipe()
         refusals = {"REFUSE_FIRST": str(first), "REFUSE_LAST": str(last), "REFUSE_NOTE": str(writes)}
         try:
@@ -60,7 +60,7 @@ class Refuser:
         return Ended(ran.returncode, ran.stdout, ran.stderr, is_refused)
 
     def count(self, words, folder=None):
-        """Runs the words in the folder, with a line 'allocation BYTES' among those that it prints for each allocation."""
+        """Runs the command in the folder, with a line 'allocation BYTES' in its output for each allocation."""
         ran = subprocess.run(
             words,
             input=b"",
@@ -73,7 +73,7 @@ class Refuser:
 
 
 def within(words, space, sent=b"", folder=None):
-    """Runs the words with this many bytes of address space."""
+    """Runs the command with this many bytes of address space."""
     ran = subprocess.run(
         words,
         input=sent,
@@ -87,6 +87,6 @@ def within(words, space, sent=b"", folder=None):
 
 
 def refuser():
-    """A refuser, and the folder that it stands in, which goes when it is no longer used."""
+    """A refuser, and its folder, which is removed when it is no longer used."""
     folder = tempfile.TemporaryDirectory()
     return Refuser(folder.name), folder

@@ -1,9 +1,9 @@
-/* Comes before the allocator of a program (LD_PRELOAD), refuses some of its allocations, and says how large each is. By the environment:
+/* Wraps the allocator of a program (LD_PRELOAD), makes some of its allocations fail, and reports the size of each. By the environment:
  *
- * REFUSE_FIRST, REFUSE_LAST: the first and the last allocation that is refused, counted from 1.
- * REFUSE_NOTE: a descriptor to which a byte is written where the first of them is refused.
- * REFUSE_SIZES: a descriptor to which a line is written for each allocation, 'allocation BYTES'. Of a block that is made larger it has
- * the bytes that are added. Where it is that of standard output, the lines stand between those of the program, in order.
+ * REFUSE_FIRST, REFUSE_LAST: the first and the last allocation that fails, counted from 1.
+ * REFUSE_NOTE: a descriptor to which a byte is written where the first of them fails.
+ * REFUSE_SIZES: a descriptor to which a line is written for each allocation, 'allocation BYTES'. For a block that is enlarged it has
+ * the added bytes. Where it is that of standard output, the lines are between those of the program, in order.
  *
  * It is compiled by the toolchain's own clang, without headers (scripts/allocations.py).
  */

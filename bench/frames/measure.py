@@ -1,9 +1,9 @@
 #!/usr/bin/env python3
-"""Measures frames and bucket digests beside the same in plain Rust, and prints the table of docs/PERFORMANCE.md.
+"""Measures frames and bucket digests against the same in plain Rust, and prints the table of docs/PERFORMANCE.md.
 
-usage: measure.py [ROUNDS]      how often each is done in a run (30, where no number is given)
+usage: measure.py [ROUNDS]      how often each is done in a run (default: 30)
 
-It wants the proved program (`rt run` in crates/benches leaves it as crates/benches/out/benches) and `rustc`. Both
+It needs the proved program (`rt run` in crates/benches leaves it as crates/benches/out/benches) and `rustc`. Both
 programs run in turn, five times, and the fastest run of each counts. Both must print the same.
 """
 
@@ -23,7 +23,7 @@ PIECES = [1, 64, 4_096, 65_536]
 
 
 def one_run(command: list, rounds: int) -> tuple[list[str], list[int]]:
-    """What the program made, and the nanoseconds of encoding, decoding and summing, and of each size of pieces."""
+    """The program's results, and the nanoseconds of encoding, decoding and digesting, and of each size of pieces."""
     said = subprocess.run([*command, str(rounds)], stdout=subprocess.PIPE, check=True, text=True).stdout.splitlines()
     made = [line for line in said if not line.endswith(" ns")]
     return made, [int(word) for line in said if line.endswith(" ns") for word in line.split()[:-1]]

@@ -31,7 +31,7 @@ fn check_sum(bytes: &[u8]) -> u64 {
     bytes.iter().fold(0u64, |sum, byte| sum.wrapping_mul(31).wrapping_add(u64::from(*byte)))
 }
 
-// How many entries a stream has that comes in pieces of this many bytes.
+// The number of entries of a stream that is given in pieces of this many bytes.
 fn feed_in_pieces(stream: &[u8], size: usize) -> usize {
     let mut decoder = Decoder::default();
     let mut count = 0;

@@ -1,12 +1,12 @@
 #!/usr/bin/env python3
-"""Measures gossip, warm-up and the memory of a history beside the same in plain Rust, and prints tables for docs/PERFORMANCE.md.
+"""Measures gossip, warm-up and the memory of a history against the same in plain Rust, and prints tables for docs/PERFORMANCE.md.
 
-usage: measure.py [whole|raised] [PAGES..]      how many pages there are (1000 10000 100000 1000000, where none is named)
+usage: measure.py [whole|raised] [PAGES..]      the numbers of pages (default: 1000 10000 100000 1000000)
 
-With `whole` the warm-up is taken to its end instead, 4,096 steps over 500,000 pages, by each program; with `raised` offers are
-measured alone that come after a raise of the horizon which dropped pages of one bucket. It wants the proved program (`rt run` in
+With `whole` each program runs the warm-up to its end instead, 4,096 steps over 500,000 pages; with `raised` only offers are
+measured that follow a raise of the horizon that dropped pages of one bucket. It needs the proved program (`rt run` in
 crates/benches leaves it as crates/benches/out/benches) and `rustc`. Both programs run in turn, five times, and the fastest run of
-each counts. Both must make the same.
+each counts. Both must have the same results.
 """
 
 import os
@@ -28,7 +28,7 @@ LARGE = [500_000, 1_000_000, 2_000_000]
 class Ran(NamedTuple):
     made: str
     nanos: int
-    peak: int  # the most bytes that it held
+    peak: int  # its peak memory in bytes
 
 
 def one_run(command: list) -> Ran:
@@ -102,7 +102,7 @@ def by_size(plain: Path, sizes: list[int]) -> None:
 
 
 def room(plain: Path) -> None:
-    """The most that each held, where that is more than this script holds: else the system counts that in its place."""
+    """The peak memory of each, where that is more than this script's own: otherwise the system counts the script's instead."""
     head("pages", "ours, MB", "plain Rust, MB", "ours, bytes a page", "plain Rust, bytes a page")
     for pages in LARGE:
         peaks = [it.peak for it in fastest(plain, 1, "history", pages)]

@@ -1,13 +1,13 @@
 //! The gossip and the warm-up of `benches gossip` in plain Rust, for the same measurements.
 //!
-//! A replica is a map for each bucket with a horizon, and a pool that finds its pages by a `HashMap`. It keeps the digests of its buckets and its
-//! warm-up list until its history changes. Nothing is undone where memory runs out, as nothing is refused here. The arguments are those
-//! of the proved program, which has to take, beside `round`, `warm`, `offer` and `history`:
-//! - `raised PAGES OFFERS`: that many offers by a replica that knows PAGES pages by two stamps each, of the times 2^40 + i and
-//!   2^40 + i + 7 for page `scattered(i, PAGES)`, and made an offer. Before offer i, counted from 0, it takes in, in one batch, the 100
+//! A replica is a map for each bucket with a horizon, and a pool that finds its pages by a `HashMap`. It caches the digests of its buckets and its
+//! warm-up list until its history changes. There is no rollback on an allocation failure, as nothing is refused here. The arguments are those
+//! of the proved program, which must accept, in addition to `round`, `warm`, `offer` and `history`:
+//! - `raised PAGES OFFERS`: that many offers by a replica with PAGES pages of two stamps each, of the times 2^40 + i and
+//!   2^40 + i + 7 for page `scattered(i, PAGES)`, that has made an offer. Before offer i, counted from 0, it absorbs, in one batch, the 100
 //!   pages 0:N, 0:N + 64, .. at the time i + 1, where N is the least multiple of 64 that is not below PAGES; it makes an offer; and its
-//!   horizon is raised to i + 2, which drops these 100 pages of bucket 0 and nothing else. The offers after the raises alone are timed,
-//!   and the sum is over their bytes, as for `offer`.
+//!   horizon is raised to i + 2, which drops these 100 pages of bucket 0 and nothing else. Only the offers after the raises are timed,
+//!   and the checksum is over their bytes, as for `offer`.
 
 #[path = "../parts/mod.rs"]
 mod parts;
@@ -85,7 +85,7 @@ fn warmed(pages: u64, steps: u64) -> (u64, u128) {
     (sum, nanos)
 }
 
-// This many offers. Before each the node takes in pages of this many buckets, which is not timed.
+// This many offers. Before each the node absorbs pages of this many buckets, which is not timed.
 fn offers(pages: u64, buckets: u64, offers: u64) -> (u64, u128) {
     let mut node = told(1, 1, pages);
     node.offer();
@@ -103,7 +103,7 @@ fn offers(pages: u64, buckets: u64, offers: u64) -> (u64, u128) {
     (sum, nanos)
 }
 
-// This many offers, each after a raise that dropped pages of one bucket. The offers alone are timed.
+// This many offers, each after a raise that dropped pages of one bucket. Only the offers are timed.
 fn raised_offers(pages: u64, offers: u64) -> (u64, u128) {
     let mut node = Node::new(1, Pool::new(1, pages, PAGE_SIZE));
     remember(&mut node, pages, LATE);

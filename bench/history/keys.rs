@@ -1,8 +1,8 @@
-//! What the width of a key costs in the maps of a history: 64 BTreeMaps, one for each bucket, with keys of 64 bits and of 128, and else
-//! the same. As the proved history does, each change is noted before the next, and a new page is looked up before it is put in.
+//! The cost of the width of a key in the maps of a history: 64 BTreeMaps, one for each bucket, with keys of 64 bits and of 128, and
+//! otherwise the same. As in the proved history, each change is noted before the next, and a new page is looked up before it is inserted.
 //!
-//! `keys PAGES ROUNDS` does all with both keys in turn, so often, and prints the least nanoseconds of each. `keys PAGES KEY WHAT` prepares
-//! what the work of that name wants, does it once with keys of `64` or `128` bits, and `keys PAGES KEY WHAT only` only prepares it: the
+//! `keys PAGES ROUNDS` does all with both keys in turn, ROUNDS times, and prints the least nanoseconds of each. `keys PAGES KEY WHAT` prepares
+//! what the work of that name needs, does it once with keys of `64` or `128` bits, and `keys PAGES KEY WHAT only` only prepares it: the
 //! difference is what the work costs, where instructions are counted.
 
 use std::collections::BTreeMap;
@@ -50,7 +50,7 @@ fn no_maps<K: Key>() -> Maps<K> {
     vec![BTreeMap::new(); BUCKETS]
 }
 
-/// Takes in what is given of a page, and returns what was known, where that changes.
+/// Merges the given stamps of a page, and returns the old value, where that changes.
 fn record<K: Key>(maps: &mut Maps<K>, key: K, more: Hist) -> Option<(K, Option<Hist>)> {
     let map = &mut maps[key.bucket()];
     if let Some(known) = map.get_mut(&key) {
@@ -86,7 +86,7 @@ fn found<K: Key>(maps: &Maps<K>, pages: &[Page]) -> usize {
     pages.iter().filter(is_known).count()
 }
 
-/// What is absorbed, and looked up.
+/// The pages absorbed, and those looked up.
 struct Given {
     zipf: Vec<(Page, Hist)>,
     each: Vec<(Page, Hist)>,
@@ -117,7 +117,7 @@ impl Given {
     }
 }
 
-/// The maps that the work of a name wants, and those that it makes.
+/// The maps that the work of a name needs, and those that it makes.
 struct Work<K> {
     large: Maps<K>,
     other: Maps<K>,
@@ -134,7 +134,7 @@ impl<K: Key> Work<K> {
         Work { large, other, made: no_maps() }
     }
 
-    /// Does the work once, and returns how many pages were found.
+    /// Does the work once, and returns the number of pages found.
     fn play(&mut self, given: &Given, what: &str) -> usize {
         match what {
             "zipf" => absorb(&mut self.large, &given.zipf),

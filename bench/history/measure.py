@@ -1,10 +1,10 @@
 #!/usr/bin/env python3
-"""Measures histories beside the same in plain Rust, and prints the table of docs/PERFORMANCE.md.
+"""Measures histories against the same in plain Rust, and prints the table of docs/PERFORMANCE.md.
 
-usage: measure.py [PAGES..]      how many pages there are (1000 10000 100000 1000000, where none is named)
+usage: measure.py [PAGES..]      the numbers of pages (default: 1000 10000 100000 1000000)
 
-It wants the proved program (`rt run` in crates/benches leaves it as crates/benches/out/benches) and `rustc`. Both
-programs run in turn, nine times, and the fastest run of each counts. Both must make the same.
+It needs the proved program (`rt run` in crates/benches leaves it as crates/benches/out/benches) and `rustc`. Both
+programs run in turn, nine times, and the fastest run of each counts. Both must have the same results.
 """
 
 import subprocess
@@ -18,7 +18,7 @@ RUNS = 9
 
 
 def one_run(command: list, pages: int) -> tuple[dict[str, str], dict[str, int]]:
-    """What the program made, and the nanoseconds that each took."""
+    """The program's results, and the nanoseconds of each."""
     said = subprocess.run([*command, str(pages)], stdout=subprocess.PIPE, check=True, text=True).stdout.splitlines()
     parts = [line.rsplit(": ", 1) for line in said]
     made = {what: it for what, it in parts if not it.endswith(" ns")}

@@ -1,10 +1,10 @@
 //! The histories of `benches history` in plain Rust, as a map for each bucket and a horizon, for the same measurements.
 //!
-//! Prints what was made and the nanoseconds.
+//! Prints the results and the nanoseconds.
 //!
 //! A raise of the horizon is measured over a history in which each page has one stamp: page `scattered(i, PAGES)` that of the time
-//! PAGES + i. `benches history PAGES` has to print, after all other lines and each for a copy of its own, the sum over the history
-//! afterwards, and the nanoseconds of the raise alone, without the copy, of
+//! PAGES + i. `benches history PAGES` must print, after all other lines and each for a copy of its own, the checksum of the history
+//! afterwards, and the nanoseconds of the raise only, without the copy, of
 //! - `raise, none dropped`: to the time PAGES, a pass that finds nothing to drop;
 //! - `raise, half dropped`: to PAGES + PAGES / 2;
 //! - `raise, all dropped`: to 2 * PAGES.

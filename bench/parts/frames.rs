@@ -14,7 +14,7 @@ fn set_stamp(bytes: &mut [u8], stamp: Stamp) {
     bytes[8..].copy_from_slice(&stamp.replica.to_be_bytes());
 }
 
-/// An entry's bytes are made in an array and appended at once: one test of the capacity, and one store for each number.
+/// An entry's bytes are made in an array and appended at once: one check of the capacity, and one store for each number.
 pub fn put_entry(bytes: &mut Vec<u8>, entry: &Entry) {
     match entry.hist.prev() {
         None => {
@@ -33,11 +33,11 @@ pub fn put_entry(bytes: &mut Vec<u8>, entry: &Entry) {
     }
 }
 
-/// The letters with which frames begin that are written, and those of an older format that are read too.
+/// The magic number of frames that are written, and that of an older format that is also read.
 const WIDE: [u8; 4] = *b"L2G2";
 const NARROW: [u8; 4] = *b"L2G1";
 
-/// The longest header: letters, kind, sender, horizon and length.
+/// The longest header: magic number, kind, sender, horizon and length.
 const HEADER: usize = 19;
 const MOST: usize = 1000;
 
@@ -121,7 +121,7 @@ fn entries_in(wide: bool, body: &[u8]) -> Option<Vec<Entry>> {
     rest.is_empty().then_some(entries)
 }
 
-/// Whether a frame of entries is in the wide format, and what follows its letters and its kind.
+/// Whether a frame of entries is in the wide format, and what follows its magic number and its kind.
 fn format_of(bytes: &[u8]) -> Option<(bool, &[u8])> {
     let (letters, rest) = bytes.split_first_chunk::<4>()?;
     let rest = rest.strip_prefix(&[1])?;
@@ -151,8 +151,8 @@ pub fn decode(bytes: &[u8]) -> Option<Entries> {
     Some(Entries { horizon, entries: entries_in(wide, body)? })
 }
 
-/// Frames from a stream that comes in pieces. It holds the bytes of the frame that has begun, at most those of the longest, and decodes
-/// one that is whole in a piece from there.
+/// Frames from a stream that is given in pieces. It holds the bytes of the current frame, at most those of the longest, and decodes
+/// a frame that lies whole in a piece in place.
 #[derive(Default)]
 pub struct Decoder {
     held: Vec<u8>,
@@ -161,7 +161,7 @@ pub struct Decoder {
 }
 
 impl Decoder {
-    /// How many bytes of the piece were taken, and the frame that is whole now. `None` as soon as the byte is there that shows a fault,
+    /// The number of bytes of the piece that were consumed, and the frame that is now complete. `None` at the byte that shows a fault,
     /// and from then on.
     pub fn feed(&mut self, piece: &[u8]) -> Option<(usize, Option<Entries>)> {
         if self.failed {
@@ -194,7 +194,7 @@ impl Decoder {
         Some((missing, Some(entries)))
     }
 
-    // The size of the frame, where its header is whole with the piece. `None` for a fault of the header.
+    // The size of the frame, where its header is complete with the piece. `None` for a fault of the header.
     fn size_with(&self, piece: &[u8]) -> Option<Option<usize>> {
         let mut header = [0; HEADER];
         let len = self.held.len();
@@ -205,7 +205,7 @@ impl Decoder {
     }
 }
 
-// The size that a header says, once it is whole. `None` for a fault.
+// The size that a header gives, once it is complete. `None` for a fault.
 fn size_of(header: &[u8]) -> Option<Option<usize>> {
     let letters = &header[..header.len().min(4)];
     if !WIDE.starts_with(letters) && !NARROW.starts_with(letters) {
@@ -231,7 +231,7 @@ fn size_of(header: &[u8]) -> Option<Option<usize>> {
 /// As many bytes of entries are hashed at once, or a few more.
 const HASHED: usize = 8192;
 
-/// Computes the digests of a set of buckets again.
+/// Recomputes the digests of a set of buckets.
 pub fn renew(digests: &mut [[u8; 32]], mask: u64, history: &History) {
     let mut bytes = Vec::with_capacity(HASHED + 31);
     for (bucket, digest) in digests.iter_mut().enumerate() {

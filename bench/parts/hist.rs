@@ -1,6 +1,6 @@
-//! What is known of a page, in plain Rust, for the programs that the proved ones are measured beside.
+//! The history of a page, in plain Rust, for the programs against which the proved ones are measured.
 
-/// Of 10 bytes, as pages are, so that a map has little memory to go over.
+/// 10 bytes, as pages are, so that a map scans little memory.
 #[derive(Clone, Copy, PartialEq, Eq, PartialOrd, Ord)]
 #[repr(packed(2))]
 pub struct Stamp {
@@ -9,7 +9,7 @@ pub struct Stamp {
 }
 
 impl Stamp {
-    /// Less than every stamp, as replicas are numbered from 1. It stands for a stamp that is not there.
+    /// Less than every stamp, as replicas are numbered from 1. It represents a missing stamp.
     const NONE: Stamp = Stamp { time: 0, replica: 0 };
 }
 
@@ -57,7 +57,7 @@ impl Hist {
         self.prev.replica != 0
     }
 
-    /// Takes in a further stamp. Says whether it brings anything new.
+    /// Merges a further stamp. Returns whether anything changed.
     pub fn see(&mut self, stamp: Stamp) -> bool {
         if stamp > self.last {
             self.prev = self.last;
@@ -71,12 +71,12 @@ impl Hist {
         is_new
     }
 
-    /// Takes in what else is known of the page. Says whether it brings anything new.
+    /// Merges another history of the page. Returns whether anything changed.
     pub fn join(&mut self, more: Hist) -> bool {
         self.see(more.last) | self.see(more.prev)
     }
 
-    /// Forgets the stamps before a time. Says whether one is left.
+    /// Forgets the stamps before a time. Returns whether one is left.
     pub fn forget(&mut self, horizon: u64) -> bool {
         if self.prev.time < horizon {
             self.prev = Stamp::NONE;

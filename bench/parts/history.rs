@@ -9,7 +9,7 @@ use std::ops::Bound;
 
 pub const BUCKETS: usize = 64;
 
-/// How many times as many entries a map may have as are brought to it, for a walk along it to cost less than searches.
+/// The greatest ratio of a map's entries to the entries merged into it at which a walk along the map costs less than searches.
 const MANY: usize = 8;
 
 type Bucket = BTreeMap<Page, Hist>;
@@ -33,7 +33,7 @@ impl History {
         self.buckets[page.bucket()].get(&page).copied()
     }
 
-    /// Takes in a reference. Says what is known of its page afterwards, and nothing where this is as it was.
+    /// Takes in a reference. Returns the new history of its page, or nothing where it is unchanged.
     pub fn see(&mut self, page: Page, stamp: Stamp) -> Option<Hist> {
         if stamp.time < self.horizon {
             return None;
@@ -47,7 +47,7 @@ impl History {
         }
     }
 
-    /// The same of an entry, but for its stamps before the horizon.
+    /// The same for an entry, without its stamps before the horizon.
     pub fn take(&mut self, entry: Entry) -> Option<Hist> {
         let Entry { page, hist: mut more } = entry;
         if !more.forget(self.horizon) {
@@ -62,9 +62,9 @@ impl History {
         }
     }
 
-    /// The same of entries whose pages rise. Tells of each page that changed, and what is known of it afterwards.
+    /// The same for entries whose pages rise. Reports each page that changed, with its new history.
     ///
-    /// Entries of one bucket that are many beside it are merged with it: a step along a map costs less than a search.
+    /// Entries of one bucket that are many compared with its size are merged with it: a step along a map costs less than a search.
     pub fn take_all(&mut self, entries: &[Entry], mut tell: impl FnMut(Page, Hist)) {
         let [first, .., last] = entries else {
             return self.take_each(entries, tell);
@@ -108,7 +108,7 @@ impl History {
         }
     }
 
-    /// Forgets all stamps before a time, in one pass, where the horizon rises. Says which buckets lost some, as a set of bits.
+    /// Forgets all stamps before a time, in one pass, where the horizon rises. Returns the buckets that lost some, as a set of bits.
     pub fn raise(&mut self, time: u64) -> u64 {
         if time <= self.horizon {
             return 0;
@@ -179,7 +179,7 @@ impl History {
     }
 }
 
-/// Adds pages to a bucket, which are rising and not there.
+/// Adds to a bucket pages that are rising and new.
 fn add(bucket: &mut Bucket, new: Vec<(Page, Hist)>) {
     if bucket.is_empty() {
         *bucket = new.into_iter().collect();

@@ -1,6 +1,6 @@
 //! A replica in plain Rust: a history, the digests of its buckets, its pool, and its warm-up.
 //!
-//! The digests and the warm-up list are kept until the history changes. Nothing is undone where memory runs out, as nothing is refused.
+//! The digests and the warm-up list are cached until the history changes. There is no rollback on an allocation failure, as nothing is refused.
 
 use super::frames::{decode, encode, header, renew};
 use super::hist::{Entry, Page, Stamp};
@@ -10,7 +10,7 @@ use super::rank::Rank;
 
 const FULL: usize = 1000;
 
-/// The ranks of the hottest pages, hottest first, as many as there are frames; and how many of them are passed, as none of these can be
+/// The ranks of the hottest pages, hottest first, as many as there are frames; and how many of them are passed: none of the passed ones can be
 /// loaded.
 struct WarmUp {
     ranks: Vec<Rank>,
@@ -32,7 +32,7 @@ impl Node {
         Node { id, history: History::new(), pool, digests: vec![[0; 32]; BUCKETS], changed: u64::MAX, warm_up: None }
     }
 
-    /// The buckets whose digests are to be computed again.
+    /// The buckets whose digests must be recomputed.
     pub fn changed(&self) -> u64 {
         self.changed
     }
@@ -109,7 +109,7 @@ impl Node {
         messages
     }
 
-    /// Takes what a message says, and gives the messages that answer it.
+    /// Receives a message, and returns the messages that answer it.
     pub fn receive(&mut self, bytes: &[u8]) -> Vec<Vec<u8>> {
         if bytes[4] == 1 {
             let frame = decode(bytes).expect("the frame is one of entries");
@@ -136,7 +136,7 @@ impl Node {
     pub fn pin(&mut self, page: Page) -> Result<Slot, Refusal> {
         let Node { history, pool, warm_up, .. } = self;
         pool.pin(page, || {
-            // a page that was passed may leave
+            // a page that was passed may be evicted
             if let Some(warm_up) = warm_up {
                 warm_up.passed = 0;
             }
@@ -144,7 +144,7 @@ impl Node {
         })
     }
 
-    /// Loads the hottest page that is in no frame, of as many as there are frames.
+    /// Loads the hottest page that is in no frame, among as many of the hottest as there are frames.
     pub fn warm_step(&mut self) -> Result<Option<Page>, Refusal> {
         let Node { history, pool, warm_up, .. } = self;
         let WarmUp { ranks, passed } = warm_up.get_or_insert_with(|| WarmUp { ranks: history.hottest_ranks(pool.len()), passed: 0 });

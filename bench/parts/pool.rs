@@ -1,4 +1,4 @@
-//! A buffer pool in plain Rust, over one device in memory: it finds its pages by a `HashMap`, and the page that leaves by a contest of ranks.
+//! A buffer pool in plain Rust, over one device in memory: it finds its pages by a `HashMap`, and the victim by a contest of ranks.
 
 use super::hist::Page;
 use super::rank::Rank;
@@ -6,13 +6,13 @@ use std::collections::HashMap;
 use std::hash::{BuildHasher, BuildHasherDefault, Hasher};
 use std::ops::Range;
 
-/// The rank of the page in each frame, and the frame of the least of those that may leave.
+/// The rank of the page in each frame, and the frame of the least of those that may be evicted.
 pub trait Contest {
     fn new(frames: usize) -> Self;
     fn rank(&self, frame: u32) -> Rank;
-    /// Gives a frame another rank, which says too whether its page stays.
+    /// Gives a frame another rank, which also says whether its page is pinned.
     fn set(&mut self, frame: u32, rank: Rank);
-    /// Lets the page of a frame stay, or leave.
+    /// Makes the page of a frame pinned, or evictable.
     fn hold(&mut self, frame: u32, stays: bool) {
         self.set(frame, self.rank(frame).staying(stays));
     }
@@ -20,7 +20,7 @@ pub trait Contest {
     fn clear(&mut self);
 }
 
-/// A winner tree: node 1 is the root, node j stands over nodes 2j and 2j + 1, and the last nodes are the frames in order.
+/// A winner tree: node 1 is the root, node j is the parent of nodes 2j and 2j + 1, and the last nodes are the frames in order.
 pub struct Winners {
     ranks: Vec<Rank>,
     nodes: Vec<u32>,
@@ -87,7 +87,7 @@ impl Contest for Winners {
     }
 }
 
-/// Multiplies what is hashed, and turns it at the end, as a map takes its place by the lower bits.
+/// Multiplies the hashed number, and rotates it at the end, since a map uses the lower bits.
 #[derive(Default)]
 pub struct Mixed(u64);
 
@@ -120,7 +120,7 @@ struct Frame {
     is_dirty: bool,
 }
 
-/// A frame, and how many pages were put into it.
+/// A frame, and its generation: how many pages were loaded into it.
 #[derive(Clone, Copy)]
 pub struct Slot {
     pub index: u32,
@@ -136,7 +136,7 @@ pub struct Pool<S = MixedState, C = Winners> {
     device: Vec<u8>,
     frames: Vec<Frame>,
     bytes: Vec<u8>,
-    // As many frames, the first, hold pages: none is emptied alone.
+    // The first frames, this many, hold pages: no frame is emptied separately.
     used: usize,
     index: HashMap<Page, u32, S>,
     contest: C,
@@ -167,12 +167,12 @@ impl<S: BuildHasher + Default, C: Contest> Pool<S, C> {
         self.frames.len()
     }
 
-    /// Whether the device has the page, and no frame.
+    /// Whether the device has the page, and it is in no frame.
     pub fn is_loadable(&self, page: Page) -> bool {
         self.check(page).is_ok() && !self.index.contains_key(&page)
     }
 
-    /// The rank of the page that leaves next to make room for another. `None` where a frame is free, or no page may leave.
+    /// The rank of the next victim. `None` where a frame is free, or no page may be evicted.
     pub fn leaving(&self) -> Option<Rank> {
         if self.used < self.frames.len() {
             return None;
@@ -194,7 +194,7 @@ impl<S: BuildHasher + Default, C: Contest> Pool<S, C> {
         Ok(())
     }
 
-    // The frame into which a page goes that comes in.
+    // The frame into which a page is loaded.
     fn place(&self) -> Result<u32, Refusal> {
         let at = if self.used < self.frames.len() { self.used as u32 } else { self.contest.least().ok_or("6 AllFixed")? };
         if self.frames[at as usize].generation == u64::MAX {
@@ -223,7 +223,7 @@ impl<S: BuildHasher + Default, C: Contest> Pool<S, C> {
         }
     }
 
-    // Brings a page in that the device has and no frame, with this many fixes.
+    // Loads a page that the device has and that is in no frame, with this pin count.
     fn bring(&mut self, rank: Rank, fixes: u32) -> Result<Slot, Refusal> {
         let index = self.place()?;
         if (index as usize) < self.used {
@@ -242,13 +242,13 @@ impl<S: BuildHasher + Default, C: Contest> Pool<S, C> {
         Ok(Slot { index, generation: frame.generation })
     }
 
-    /// Brings a page in that is in no frame, without a fix.
+    /// Loads a page that is in no frame, without a pin.
     pub fn load(&mut self, rank: Rank) -> Result<Slot, Refusal> {
         self.check(rank.page())?;
         self.bring(rank, 0)
     }
 
-    /// Gives a page a fix. Its rank is asked for where it is in no frame.
+    /// Pins a page. Its rank is requested where it is in no frame.
     pub fn pin(&mut self, page: Page, rank: impl FnOnce() -> Rank) -> Result<Slot, Refusal> {
         self.check(page)?;
         let Some(&index) = self.index.get(&page) else {
@@ -262,12 +262,12 @@ impl<S: BuildHasher + Default, C: Contest> Pool<S, C> {
         Ok(Slot { index, generation: frame.generation })
     }
 
-    /// Whether the slot's page is still there, with a fix.
+    /// Whether the slot's page is still there, and pinned.
     pub fn holds(&self, slot: Slot) -> bool {
         self.frames.get(slot.index as usize).is_some_and(|frame| frame.generation == slot.generation && frame.fixes > 0)
     }
 
-    /// Of a slot that holds its page.
+    /// Requires a slot that holds its page.
     pub fn unpin(&mut self, slot: Slot) {
         let frame = &mut self.frames[slot.index as usize];
         frame.fixes -= 1;
@@ -284,12 +284,12 @@ impl<S: BuildHasher + Default, C: Contest> Pool<S, C> {
         Ok(from..from + len)
     }
 
-    /// Of a slot that holds its page.
+    /// Requires a slot that holds its page.
     pub fn read(&self, slot: Slot, at: usize, len: usize) -> Result<&[u8], Refusal> {
         Ok(&self.bytes[self.part(slot, at, len)?])
     }
 
-    /// Of a slot that holds its page.
+    /// Requires a slot that holds its page.
     pub fn write(&mut self, slot: Slot, at: usize, bytes: &[u8]) -> Result<(), Refusal> {
         let part = self.part(slot, at, bytes.len())?;
         self.bytes[part].copy_from_slice(bytes);
@@ -297,7 +297,7 @@ impl<S: BuildHasher + Default, C: Contest> Pool<S, C> {
         Ok(())
     }
 
-    /// The frame of a page whose rank changed gets the new one.
+    /// Updates the rank of a page in its frame.
     #[inline]
     pub fn refresh(&mut self, page: Page, rank: impl FnOnce() -> Rank) {
         if let Some(&at) = self.index.get(&page) {
@@ -323,7 +323,7 @@ impl<S: BuildHasher + Default, C: Contest> Pool<S, C> {
         }
     }
 
-    /// Writes each page back that was written to, and takes all pages out of their frames.
+    /// Writes back each dirty page, and evicts all pages.
     pub fn empty(&mut self) -> Result<(), Refusal> {
         if self.frames.iter().any(|frame| frame.fixes > 0) {
             return Err("11 Fixed");

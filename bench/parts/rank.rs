@@ -1,9 +1,9 @@
-//! Ranks in plain Rust: in which order pages leave a pool.
+//! Ranks in plain Rust: the eviction order of a pool.
 
 use super::hist::{Entry, Hist, Page, Stamp};
 use std::cmp::Ordering;
 
-/// What is known of a page, and the page, in the order of ranks and in 32 bytes: the wide numbers first. What leaves first is least. A stamp
+/// The history of a page, and the page, in the order of ranks and in 32 bytes: the wide numbers first. The page that is evicted first is least. A stamp
 /// that is not known is less than every stamp, so a page of no stamp is less than every page of one, and that less than every page of two.
 #[derive(Clone, Copy, PartialEq, Eq)]
 pub struct Rank {
@@ -13,12 +13,12 @@ pub struct Rank {
     prev_replica: u16,
     last_replica: u16,
     dev: u16,
-    /// Whether the page may not leave. It takes room that would be padding, and counts after all that ranks a page.
+    /// Whether the page is pinned. It uses space that would be padding, and is compared after all that ranks a page.
     pub stays: bool,
 }
 
 impl Rank {
-    /// The rank in a frame without a page: nothing leaves it.
+    /// The rank of a frame without a page: nothing can be evicted.
     pub const EMPTY: Rank = Rank { prev: 0, last: 0, no: 0, prev_replica: 0, last_replica: 0, dev: 0, stays: true };
 
     pub fn of(page: Page, hist: Option<Hist>) -> Rank {
@@ -33,7 +33,7 @@ impl Rank {
         Rank::of(entry.page, Some(entry.hist))
     }
 
-    /// The same rank, of a page that stays or may leave.
+    /// The same rank, of a page that is pinned or may be evicted.
     pub fn staying(self, stays: bool) -> Rank {
         Rank { stays, ..self }
     }

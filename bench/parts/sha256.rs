@@ -9,7 +9,7 @@ const K: [u32; 64] = [
     0x682e6ff3, 0x748f82ee, 0x78a5636f, 0x84c87814, 0x8cc70208, 0x90befffa, 0xa4506ceb, 0xbef9a3f7, 0xc67178f2,
 ];
 
-/// One round. The words change places by the order in which the next round names them, and none is moved.
+/// One round. The words are rotated by the order in which the next round names them; none is moved.
 macro_rules! round {
     ($a:ident $b:ident $c:ident $d:ident $e:ident $f:ident $g:ident $h:ident, $word:expr) => {
         let s1 = $e.rotate_right(6) ^ $e.rotate_right(11) ^ $e.rotate_right(25);
@@ -59,7 +59,7 @@ impl Sha256 {
         Sha256 { state, block: [0; 64], held: 0, len: 0 }
     }
 
-    /// Whole blocks are taken from where they are.
+    /// Whole blocks are hashed in place.
     pub fn update(&mut self, mut bytes: &[u8]) {
         self.len += bytes.len() as u64;
         if self.held > 0 {

@@ -4,7 +4,7 @@ use super::hist::{Entry, Page, Stamp};
 use super::pool::Slot;
 use std::io::{self, Read};
 
-/// The longest line, its end not counted.
+/// The maximum length of a line, without its end.
 pub const LONGEST: usize = 262_144;
 const ROOM: usize = 1 << 20;
 
@@ -27,7 +27,7 @@ impl<R: Read> Pieces<R> {
         self.end -= self.given;
         loop {
             if self.end == ROOM {
-                // this line is too long, and stays so without what came last of it
+                // this line is too long, and stays too long without its last part
                 self.end = LONGEST + 1;
             }
             let from = self.end;
@@ -50,7 +50,7 @@ impl<R: Read> Pieces<R> {
     }
 }
 
-/// The words of a line, which go no further than its end.
+/// The words of a line, up to its end.
 pub struct Words<'a> {
     rest: &'a [u8],
 }
@@ -132,7 +132,7 @@ impl<'a> Words<'a> {
         self.is_between().then_some(Slot { index, generation })
     }
 
-    /// The next word, where it is pairs of hexadecimal digits: the bytes that they spell come after those that are there.
+    /// The next word, where it is pairs of hexadecimal digits: the bytes that they spell are appended.
     pub fn hex(&mut self, bytes: &mut Vec<u8>) -> Option<()> {
         let (pairs, []) = self.word().as_chunks::<2>() else { return None };
         if pairs.is_empty() {
@@ -173,7 +173,7 @@ const PAIRS: [[u8; 2]; 100] = {
     pairs
 };
 
-/// The value of each hexadecimal digit. What stands for the other bytes makes more than a byte of each pair that it is in.
+/// The value of each hexadecimal digit. The value of all other bytes makes each pair that contains one exceed a byte.
 const NIBBLES: [u16; 256] = {
     let mut nibbles = [0x100; 256];
     let mut at = 0;

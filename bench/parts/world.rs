@@ -7,7 +7,7 @@ use super::pool::{Pool, Refusal};
 pub const WORKERS: usize = 2;
 const ROOM: usize = 64;
 
-/// What the setup file says.
+/// The settings of the setup file.
 #[derive(Clone, Copy)]
 pub struct Setup {
     pub replicas: usize,
@@ -17,7 +17,7 @@ pub struct Setup {
 }
 
 impl Setup {
-    /// That of so many replicas, and all else as without a file.
+    /// The settings of this many replicas, and otherwise the defaults.
     pub fn of(replicas: usize) -> Setup {
         Setup { replicas, frames: 4, pages: 256, page_size: 16 }
     }
@@ -80,7 +80,7 @@ impl World {
         self.frames.len() as u64
     }
 
-    /// The number of the frame that is sent.
+    /// The number of the sent frame.
     pub fn send(&mut self, number: usize, bucket: usize, after: Option<Page>) -> Result<u64, Refusal> {
         let mut carried = std::mem::take(&mut self.carried);
         let frame = self.replica(number)?.node.send(bucket, after, &mut carried);
@@ -88,13 +88,13 @@ impl World {
         Ok(self.keep(frame))
     }
 
-    /// The number of the frame that is sent.
+    /// The number of the sent frame.
     pub fn offer(&mut self, number: usize) -> Result<u64, Refusal> {
         let frame = self.replica(number)?.node.offer();
         Ok(self.keep(frame))
     }
 
-    /// How many frames answer it, and the number of the first where there is one.
+    /// The number of answering frames, and the number of the first where there is one.
     pub fn deliver(&mut self, number: usize, frame: u64) -> Result<(u64, u64), Refusal> {
         let World { replicas, frames, .. } = self;
         let replica = replicas.get_mut(number.wrapping_sub(1)).ok_or("14 NoSuchReplica")?;
@@ -106,7 +106,7 @@ impl World {
         Ok((count, first))
     }
 
-    /// Writes all pages back.
+    /// Writes back all pages.
     pub fn finish(&mut self) {
         for replica in &mut self.replicas {
             replica.node.pool.write_back_all();

@@ -1,11 +1,11 @@
 #!/usr/bin/env python3
-"""Measures visits to resident pages of a pool, pins of pages that are in no frame, and the emptying of a full pool beside those in plain
-Rust, and how emptying a pool and retiring a device grow with the frames, and prints the tables of docs/PERFORMANCE.md.
+"""Measures visits to resident pages of a pool, pins of pages that are in no frame, and the emptying of a full pool against those in plain
+Rust, and how the cost of emptying a pool and retiring a device depends on the frames, and prints the tables of docs/PERFORMANCE.md.
 
-usage: measure.py [NAME..]      empty, full, visits, misses, boxed, strides (all, where none is named)
+usage: measure.py [NAME..]      empty, full, visits, misses, boxed, strides (default: all)
 
-It wants the proved program (`rt run` in crates/benches leaves it as crates/benches/out/benches) and `rustc`.
-The programs run in turn, five times, and the fastest run of each counts. All must print the same sum.
+It needs the proved program (`rt run` in crates/benches leaves it as crates/benches/out/benches) and `rustc`.
+The programs run in turn, five times, and the fastest run of each counts. All must print the same checksum.
 """
 
 import random
@@ -21,10 +21,10 @@ RUNS = 5
 BOXED_RUNS = 9
 VISITS, MISSES = 5_000_000, 1_000_000
 FEW, MANY = 4_096, 65_536
-# what holds pages as a pool is emptied, and the program's word for it
+# which frames hold pages when a pool is emptied, and the program's argument for it
 HELD = {"none": "none", "the lower half": "lower", "the upper half": "upper", "all": "all"}
 
-# how the plain program finds its pages and victims, and its words for it
+# how the plain program finds its pages and victims, and its arguments for it
 PLAINS = {
     "a HashMap, a winner tree": [],
     "a HashMap whose hash multiplies, a winner tree": ["mixed"],
@@ -34,7 +34,7 @@ PLAINS = {
 
 
 def one_run(command: list[str | Path]) -> tuple[str, int]:
-    """The line with what was read, and the nanoseconds."""
+    """The line with the checksum read, and the nanoseconds."""
     read, spent = subprocess.run(command, stdout=subprocess.PIPE, check=True, text=True).stdout.splitlines()
     return read, int(spent.split()[0])
 
@@ -97,7 +97,7 @@ def beside(what: list[str], count: int, plains: dict[str, list[str]]) -> None:
 
 def print_boxed() -> None:
     """A pin that hits and one that misses, over devices of a named type, in boxes, and in plain Rust. All must have read the same.
-    Each round is in a drawn order, so that none has always the same neighbours in time. The ratios are of the fastest and of the middle runs."""
+    Each round is in a random order, so that no program always runs after the same one. The ratios are of the fastest and of the median runs."""
     print("| what | devices of a named type, ns | in boxes, ns | plain Rust, ns | boxes by named | middle | plain Rust by named | middle |")
     print("|---|---|---|---|---|---|---|---|")
     with tempfile.TemporaryDirectory() as folder:
@@ -138,7 +138,7 @@ def searches(command: list[str | Path]) -> dict[str, float]:
 
 
 def print_strides() -> None:
-    """Of the strides, powers of two up to 2^40, that which takes longest."""
+    """The slowest stride, of powers of two up to 2^40."""
     print("| index | drawn pages, ns | the longest stride, ns | one page of each device, ns | the longest by drawn |")
     print("|---|---|---|---|---|")
     with tempfile.TemporaryDirectory() as folder:

@@ -2,8 +2,8 @@
 //!
 //! With no argument 1,000 visits are made; with a number that many, and the nanoseconds are printed too; with `misses` and a
 //! number that many pins of pages that are in no frame; with `empty` a full pool is emptied, and the nanoseconds are printed; with `strides`
-//! pages are found in the map alone, by how far apart they are. The map has the hash that std gives it, or, with a further word `mixed`,
-//! one that multiplies, as that of the proved pool's index does. The page that leaves is found by a winner tree, as in the
+//! pages are only found in the map, by the distance of their numbers. The map has std's hash, or, with a further word `mixed`,
+//! one that multiplies, as that of the proved pool's index does. The victim is found by a winner tree, as in the
 //! proved pool, or, with a further word `ordered`, by a `BTreeSet` of ranks.
 
 #[path = "../parts/mod.rs"]
@@ -73,7 +73,7 @@ fn opened<H: BuildHasher + Default, C: Contest>(pages: u64, numbered: bool) -> P
     Pool::over(FRAMES as usize, PAGE_SIZE, (0..pages).flat_map(|no| [byte(no); PAGE_SIZE]).collect())
 }
 
-/// Reads eight bytes of a page, writes these in their place where there are some, and gives the first that was read.
+/// Reads eight bytes of a page, writes these in their place where there are some, and returns the first that was read.
 fn visit<H: BuildHasher + Default, C: Contest>(
     pool: &mut Pool<H, C>,
     page: Page,
@@ -90,7 +90,7 @@ fn visit<H: BuildHasher + Default, C: Contest>(
     Ok(first)
 }
 
-/// Makes this many visits to a pool with every page in a frame, and gives the sum of what was read, and how long it took.
+/// Makes this many visits to a pool with every page in a frame, and returns the checksum of the bytes read, and the time it took.
 fn visit_often<H: BuildHasher + Default, C: Contest>(visits: u32) -> Result<(u64, Duration), Refusal> {
     let mut pool = opened::<H, C>(PAGES, false);
     let history = History::new();
@@ -110,8 +110,8 @@ fn visit_often<H: BuildHasher + Default, C: Contest>(visits: u32) -> Result<(u64
     Ok((sum, start.elapsed()))
 }
 
-/// Pins this many pages that are in no frame. Of each page two references are known, so that ranks rise with the pages; those that
-/// follow one another stand far apart in the frames.
+/// Pins this many pages that are in no frame. Each page has two references, so that ranks rise with the page numbers; consecutive
+/// pages are far apart in the frames.
 fn miss_often<H: BuildHasher + Default, C: Contest>(misses: u32) -> Result<(u64, Duration), Refusal> {
     let pages = PAGES + u64::from(misses);
     let stamp = |time: u64| Stamp { time, replica: 1 };
@@ -135,7 +135,7 @@ fn miss_often<H: BuildHasher + Default, C: Contest>(misses: u32) -> Result<(u64,
     Ok((sum, start.elapsed()))
 }
 
-/// How long it takes to empty a pool of which each frame holds a page.
+/// The time to empty a pool in which each frame holds a page.
 fn emptied<H: BuildHasher + Default, C: Contest>() -> Result<(u64, Duration), Refusal> {
     let mut pool = opened::<H, C>(PAGES, false);
     let history = History::new();
@@ -158,7 +158,7 @@ fn done<H: BuildHasher + Default, C: Contest>(what: &str, count: u32) -> Result<
 
 const FIRST: Page = Page { dev: 0, no: 0 };
 
-/// How long it takes to find each of as many pages as there are frames, which follow one another so, 16 times.
+/// The time to find each of as many pages as there are frames, in this sequence, 16 times.
 fn searched<S: BuildHasher + Default>(after: impl Fn(Page) -> Page) -> Duration {
     let mut frames = HashMap::with_capacity_and_hasher(FRAMES as usize, S::default());
     let mut page = FIRST;
@@ -179,7 +179,7 @@ fn searched<S: BuildHasher + Default>(after: impl Fn(Page) -> Page) -> Duration 
     start.elapsed()
 }
 
-/// Prints it of pages that are drawn, of pages apart by each power of two up to 2^40, and of one page of each of as many devices.
+/// Prints it for random pages, for pages at distances of each power of two up to 2^40, and for one page on each of as many devices.
 fn print_strides<S: BuildHasher + Default>() {
     let drawn = |page: Page| Page { no: page.no.wrapping_mul(6_364_136_223_846_793_005).wrapping_add(1_442_695_040_888_963_407), ..page };
     println!("drawn: {} ns", searched::<S>(drawn).as_nanos());

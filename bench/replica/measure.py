@@ -1,14 +1,14 @@
 #!/usr/bin/env python3
-"""Measures references a second that 1, 2 and 4 workers bring to one replica, beside a plain Rust replica behind a
+"""Measures references per second that 1, 2 and 4 workers add to one replica, against a plain Rust replica behind a
 std::sync::Mutex, and prints the table of docs/PERFORMANCE.md.
 
-usage: measure.py [idle|busy|both] [REFERENCES] [PAGES]      both, 1,000,000 of each worker, 100,000, where nothing is said
+usage: measure.py [idle|busy|both] [REFERENCES] [PAGES]      default: both, 1,000,000 per worker, 100,000
 
-For `busy` as many other processes as there are processors each keep one busy meanwhile. It wants the proved program
+For `busy` as many other processes as there are processors keep them busy meanwhile. It needs the proved program
 (`rt run` in crates/benches leaves it as crates/benches/out/benches) and `rustc`. The programs run one
-after another, each time in an order that is drawn, eleven times. Ours is compared with each plain program by the fastest
-run of both, and by the middle of the eleven ratios: a machine whose host takes time shows in how far these differ. All must
-end with the same hottest pages.
+after another, each time in a random order, eleven times. Ours is compared with each plain program by the fastest run of
+both, and by the median of the eleven ratios: where the machine's host is busy, these differ. All must end with the same
+hottest pages.
 """
 
 import random
@@ -31,7 +31,7 @@ LINE = re.compile(r"workers (\d): (\d+) in (\d+) ns")
 
 
 def one_run(command: tuple[list, list], workers: int, references: int, pages: int) -> tuple[int, float]:
-    """The sum of the hottest pages, and references a second. A command has words before its numbers, and after them."""
+    """The checksum of the hottest pages, and references per second. A command has words before its numbers, and after them."""
     before, after = command
     words = [*before, str(workers), str(references), str(pages), *after]
     said = subprocess.run(words, stdout=subprocess.PIPE, check=True, text=True).stdout
@@ -53,7 +53,7 @@ def measured(commands: dict[str, tuple[list, list]], references: int, pages: int
 
 
 def beside(ours: list[float], plain: list[float]) -> str:
-    """The plain program's fastest run, and ours to it by the fastest and by the middle."""
+    """The plain program's fastest run, and our ratio to it by the fastest and by the median run."""
     middle = statistics.median(one / other for one, other in zip(ours, plain))
     return f"{max(plain) / 1e6:.2f} | {max(ours) / max(plain):.2f} | {middle:.2f}"
 

@@ -1,8 +1,8 @@
 //! The workers of `benches replica` in plain Rust, over one replica behind a `std::sync::Mutex`, for the same measurements.
 //!
-//! `plain WORKERS REFERENCES PAGES [history|node]`: WORKERS workers bring REFERENCES references each, to PAGES pages, by buffers of 64.
-//! With `history` the replica is a history, a map for each bucket. With `node` it also does what a node does beside: it marks the buckets
-//! whose digests are to be computed again, and looks each page up among those in frames.
+//! `plain WORKERS REFERENCES PAGES [history|node]`: WORKERS workers add REFERENCES references each, to PAGES pages, by buffers of 64.
+//! With `history` the replica is a history, a map for each bucket. With `node` it also does the other work of a node: it marks the buckets
+//! whose digests must be recomputed, and looks up each page among those in frames.
 
 #[path = "../parts/mod.rs"]
 mod parts;
@@ -43,7 +43,7 @@ trait Replica: Send {
     fn history(&self) -> &History;
 }
 
-// A reference is compared with the horizon of a history. It is 0, which the compiler is not to know.
+// A reference is compared with the horizon of a history. It is 0, which the compiler must not know.
 fn new_history() -> History {
     let mut history = History::new();
     history.horizon = black_box(0);

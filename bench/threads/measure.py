@@ -1,9 +1,9 @@
 #!/usr/bin/env python3
-"""Measures `warmplay threads` beside the same job in plain Rust, with a Mutex round each replica.
+"""Measures `warmplay threads` against the same job in plain Rust, with a Mutex around each replica.
 
-usage: measure.py WARMPLAY [REFERENCES]      how many references there are (1,000,000, where none is named)
+usage: measure.py WARMPLAY [REFERENCES]      the number of references (default: 1,000,000)
 
-It wants the proved program (`rt run` in crates/warmplay leaves it as crates/warmplay/out/warmplay) and `rustc`. Three replicas of 16
+It needs the proved program (`rt run` in crates/warmplay leaves it as crates/warmplay/out/warmplay) and `rustc`. Three replicas of 16
 workers each; buffers of 64 and of 1024 references; 1,000 and 100,000 pages, drawn evenly. Both programs run in turn, five times, and the
 fastest run of each counts, by the clock and by the processor time of the program itself. Their answers must be equal.
 """
@@ -22,7 +22,7 @@ REPLICAS, WORKERS = 3, 16
 
 
 def spent(program: list[str], answer: Path) -> tuple[float, float]:
-    """The seconds that a run took, by the clock and in the program."""
+    """The seconds of a run, by the clock and in processor time."""
     with open(answer, "wb") as out:
         begin = time.perf_counter()
         process = subprocess.Popen(program, stdout=out)

@@ -1,10 +1,10 @@
-//! The same job as `warmplay threads`, in plain Rust: a measure, and no part of the product.
+//! The same job as `warmplay threads`, in plain Rust: a reference, not part of the product.
 //!
 //!     plain FILE REPLICAS WORKERS BUFFER
 //!
-//! It reads the schedule whole, has a thread for each worker of each replica, and a Mutex round each replica's history, a map for each
-//! bucket. When all have ended, every replica sends every bucket as bytes, which are shared, to every other over a channel, and a loop in
-//! a thread of its own takes what comes. It prints what `warmplay threads` prints. Built by `measure.py` with `rustc -O`.
+//! It reads the schedule whole, has a thread for each worker of each replica, and a Mutex around each replica's history, a map for each
+//! bucket. After all have ended, every replica sends every bucket as bytes, which are shared, to every other over a channel, and a loop in
+//! a thread of its own receives them. It prints what `warmplay threads` prints. Built by `measure.py` with `rustc -O`.
 
 #[path = "../parts/mod.rs"]
 mod parts;
@@ -25,7 +25,7 @@ const MOST_ENTRIES: usize = 1000;
 const MOST_MAIL: usize = 1_000_000;
 const OUTPUT: usize = 65_536;
 
-// What a worker is asked: a reference, or a flush.
+// A request to a worker: a reference, or a flush.
 #[derive(Clone, Copy)]
 enum Ask {
     Refer(Page, u64),
@@ -37,7 +37,7 @@ enum Mail {
     Stop,
 }
 
-// What a line asks of which worker of which replica, or nothing; `None` where it is bad.
+// The request of a line, with its worker and replica, or nothing; `None` where it is bad.
 fn asked(words: &mut Words, replicas: usize, workers: usize) -> Option<Option<(usize, usize, Ask)>> {
     let command = words.word();
     if matches!(command, [] | [b'#', ..]) {

@@ -1,15 +1,15 @@
 #!/usr/bin/env python3
-"""Measures turns a second beside a std::sync::Mutex round the same counter, with 1, 2, 4 and 8 threads, the processor
+"""Measures turns per second against a std::sync::Mutex around the same counter, with 1, 2, 4 and 8 threads, the processor
 time of a turn and the longest wait of a call; and prints the tables of docs/PERFORMANCE.md.
 
-usage: measure.py [idle|busy|both] [TURNS]      both, and 2,000,000 turns in all threads together, where nothing is said
+usage: measure.py [idle|busy|both] [TURNS]      default: both, and 2,000,000 turns in all threads together
 
-First of a counter, then of one that sleeps for a millisecond in each call, as a machine over a slow device does, with a
-thousandth of the turns. For `busy` as many other processes as there are processors each keep one busy meanwhile. It wants
+First for a counter, then for one that sleeps for a millisecond in each call, as a machine over a slow device does, with a
+thousandth of the turns. For `busy` as many other processes as there are processors keep them busy meanwhile. It needs
 the proved program (`rt run` in crates/benches leaves it as crates/benches/out/benches) and `rustc`. Both programs run in
-turn, nine times, and the middle run of each counts, and its middle processor time: the fastest run would be one in which the
-threads hardly met. The longest wait is that of all calls of nine further runs, in which each call is timed; of a counter that
-sleeps each call is timed in all runs. Every total must be what was asked for.
+turn, nine times, and the median run of each counts, and its median processor time: the fastest run would be one in which the
+threads hardly contended. The longest wait is that of all calls of nine further runs, in which each call is timed; of a counter that
+sleeps each call is timed in all runs. Every total must be the requested one.
 """
 
 import os
@@ -50,7 +50,7 @@ def one_run(command: list, threads: int, turns: int, kind: list[str]) -> Ran:
 
 
 def measured(commands: dict[str, list], turns: int, kinds: list[list[str]]) -> dict[tuple[str, int], Ran]:
-    """Of the first kind the middle speed and the middle processor time, and of all kinds the longest wait."""
+    """Of the first kind the median speed and the median processor time, and of all kinds the longest wait."""
     middle: dict[tuple[str, int], Ran] = {}
     for threads in CROWDS:
         runs: dict[str, list[list[Ran]]] = {name: [] for name in commands}

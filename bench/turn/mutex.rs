@@ -41,7 +41,7 @@ fn add_one(counter: &Mutex<Counter>) {
     }
 }
 
-// Says how long the longest call took, where that is asked.
+// Returns the time of the longest call, where that is requested.
 fn add_ones(counter: &Mutex<Counter>, turns: u64, is_timed: bool) -> Duration {
     let mut longest = Duration::ZERO;
     for _ in 0..turns {
@@ -56,7 +56,7 @@ fn add_ones(counter: &Mutex<Counter>, turns: u64, is_timed: bool) -> Duration {
     longest
 }
 
-// The total, and how long the longest call took.
+// The total, and the time of the longest call.
 fn count(threads: usize, turns: u64, sleeps: bool, is_timed: bool) -> (u64, Duration) {
     let counter = Mutex::new(Counter { total: 0, sleeps });
     let longest = if threads == 1 {

@@ -1,8 +1,9 @@
-//! Encodes and decodes a full frame, digests the buckets of a history of 100,000 pages, and decodes a stream of frames that
-//! comes in pieces.
+//! Encodes and decodes a full frame, digests the buckets of a history of 100,000 pages, and decodes
+//! a stream of frames given in pieces.
 //!
-//! With no word each is done once, and what came out is printed. With a number each is done that many times, and the
-//! nanoseconds are printed too, for `bench/frames/measure.py`; the stream is then of 1000 frames.
+//! With no argument each is done once, and its result is printed. With a number each is done that
+//! many times, and the nanoseconds are printed too, for `bench/frames/measure.py`; the stream is
+//! then of 1000 frames.
 ghost use Rattle.std.specs.Prelude.{◌<◌};
 
 use crate::parts::{added_bytes, asked_number, replica, twice};
@@ -14,12 +15,12 @@ use warm_frames::{BoxedMessage, Decoder, EntryList, Fed, Message, decode, encode
 use warm_history::History;
 use warm_stamps::{Bucket, PageId, ReplicaId};
 
-// How many pages a full frame has, and how many the history that is digested.
+// The number of pages of a full frame, and of the history that is digested.
 const FULL: u32 = 1000;
 
 const MANY: u32 = 100_000;
 
-// How many frames the stream has where times are asked for, and how many bytes its pieces.
+// The number of frames of the stream where times are measured, and the size of its pieces in bytes.
 const STREAM: u64 = 1000;
 
 const PIECES: [usize; 4] = [1, 64, 4_096, 65_536];
@@ -82,7 +83,7 @@ fn encode_often(alloc: Global, frame: &Message, rounds: u64) -> Result<Vec<u8>> 
     Ok(bytes)
 }
 
-// How many entries were decoded in all rounds.
+// The number of entries decoded in all rounds.
 fn decode_often(alloc: Global, bytes: &[u8], rounds: u64) -> Result<u64> {
     let mut count = 0u64;
     for _ in 0..rounds {
@@ -96,7 +97,7 @@ fn decode_often(alloc: Global, bytes: &[u8], rounds: u64) -> Result<u64> {
     Ok(count)
 }
 
-// The digest of bucket 0, taken in each of the rounds.
+// The digest of bucket 0, computed in each of the rounds.
 fn digest_often(alloc: Global, history: &History, rounds: u64) -> Result<[u8; 32]> {
     let Some(bucket) = Bucket::new(0) else {
         bail!("0 is a bucket")
@@ -120,7 +121,7 @@ fn stream_of(alloc: Global, bytes: &[u8], frames: u64) -> Result<Vec<u8>> {
     Ok(stream)
 }
 
-// How many entries a frame has, where there is one.
+// The number of entries of a frame, where there is one.
 fn entries_in(frame: Option<BoxedMessage>) -> u64 {
     let Some(frame) = frame else {
         return 0;
@@ -148,7 +149,7 @@ fn feed_all(decoder: &mut Decoder, piece: &[u8]) -> Option<u64> {
     Some(count)
 }
 
-// How many entries a stream has that comes in pieces of `size` bytes.
+// The number of entries of a stream given in pieces of `size` bytes.
 fn feed_in_pieces(alloc: Global, stream: &[u8], size: usize) -> Option<u64>
     requires { 0 < size }
 {
@@ -160,7 +161,7 @@ fn feed_in_pieces(alloc: Global, stream: &[u8], size: usize) -> Option<u64>
     Some(count)
 }
 
-// The bytes of a full frame, encoded `often` times, and how long that took.
+// The bytes of a full frame, encoded `often` times, and the time it took.
 fn time_encoding(rt: &HostRuntime, sender: ReplicaId, often: u64) -> Result<(Vec<u8>, Duration)> {
     let frame = full_frame(rt.alloc(), sender)?;
     let start = Instant::now(rt)?;
@@ -169,14 +170,14 @@ fn time_encoding(rt: &HostRuntime, sender: ReplicaId, often: u64) -> Result<(Vec
     Ok((bytes, spent))
 }
 
-// How many entries bytes have, decoded `often` times, and how long that took.
+// The number of entries in the bytes, decoded `often` times, and the time it took.
 fn time_decoding(rt: &HostRuntime, bytes: &[u8], often: u64) -> Result<(u64, Duration)> {
     let start = Instant::now(rt)?;
     let count = decode_often(rt.alloc(), bytes, often)?;
     Ok((count, start.elapsed(rt)?))
 }
 
-// The first digest of a history, taken `often` times, and how long that took.
+// The first digest of a history, computed `often` times, and the time it took.
 fn time_digesting(rt: &HostRuntime, sender: ReplicaId, often: u64) -> Result<([u8; 32], Duration)> {
     let history = history_of(rt.alloc(), sender, MANY, 1)?;
     let start = Instant::now(rt)?;
@@ -185,8 +186,8 @@ fn time_digesting(rt: &HostRuntime, sender: ReplicaId, often: u64) -> Result<([u
     Ok((first, spent))
 }
 
-// Encodes and decodes a full frame, and digests a history, each `rounds` times or once, and prints what came out. Gives the frame's
-// bytes.
+// Encodes and decodes a full frame, and digests a history, each `rounds` times or once, and prints
+// the results. Returns the frame's bytes.
 fn time_whole(rt: &HostRuntime, rounds: Option<u64>) -> Result<Vec<u8>> {
     let sender = replica(1)?;
     let often = rounds.unwrap_or(1);
@@ -207,7 +208,7 @@ fn time_whole(rt: &HostRuntime, rounds: Option<u64>) -> Result<Vec<u8>> {
     Ok(bytes)
 }
 
-// Decodes a stream of frames with these bytes, in pieces of each size, and prints what came out.
+// Decodes a stream of frames with these bytes, in pieces of each size, and prints the results.
 fn time_pieces(rt: &HostRuntime, bytes: &[u8], timed: bool) -> Result<()> {
     let frames = if timed { STREAM } else { 1 };
     let stream = stream_of(rt.alloc(), bytes, frames)?;

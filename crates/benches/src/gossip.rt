@@ -1,16 +1,18 @@
-//! Measures a round of gossip between two replicas, a replica's offer of its digests, a standby's warm-up, and the memory that a
-//! history takes.
+//! Measures a round of gossip between two replicas, a replica's offer of its digests, a standby's
+//! warm-up, and the memory of a history.
 //!
-//! With no word each is done once, small, and what came out is printed. For `bench/gossip/measure.py` the
-//! nanoseconds are printed too:
-//! - `round PAGES BUCKETS ROUNDS`: that many rounds between replicas that know the same pages, and differ in that many
-//!   buckets before each round. Messages go as bytes.
-//! - `offer PAGES BUCKETS OFFERS`: that many offers by a replica that knows that many pages, before each of which it hears
-//!   of a page in each of that many buckets, which is not timed.
-//! - `raised PAGES OFFERS`: that many offers by a replica that knows that many pages, each right after a raise of its horizon that
-//!   drops 100 pages of one bucket and nothing else. The offers alone are timed.
-//! - `warm PAGES STEPS`: that many steps of the warm-up of a replica that knows that many pages, into 4,096 frames.
-//! - `history PAGES`: a replica takes in references to that many pages.
+//! With no argument each is done once, in a small size, and the results are printed. For
+//! `bench/gossip/measure.py` the nanoseconds are printed too:
+//! - `round PAGES BUCKETS ROUNDS`: that many rounds between replicas with the same pages, which
+//!   differ in that many buckets before each round. Messages are sent as bytes.
+//! - `offer PAGES BUCKETS OFFERS`: that many offers by a replica with that many pages; before each
+//!   it absorbs a reference in each of that many buckets, which is not timed.
+//! - `raised PAGES OFFERS`: that many offers by a replica with that many pages, each right after a
+//!   raise of its horizon that drops 100 pages of one bucket and nothing else. Only the offers are
+//!   timed.
+//! - `warm PAGES STEPS`: that many steps of the warm-up of a replica with that many pages, into
+//!   4,096 frames.
+//! - `history PAGES`: a replica absorbs references to that many pages.
 use crate::parts::{added, added_bytes, node_over, replica, scattered, twice};
 use anyhow::{Context, Result, bail};
 use std::alloc::Global;
@@ -23,13 +25,13 @@ use warm_stamps::{PageId, Reference, ReplicaId, Stamp};
 
 const WARMED: usize = 4_096;
 
-// The time from which on replicas hear of what they differ in.
+// The time from which on the replicas absorb the references in which they differ.
 const LATE: u64 = 1 << 40;
 
-// How many pages a raise drops.
+// The number of pages that a raise drops.
 const DROPPED: u64 = 100;
 
-// What came out, and how long it took.
+// The result, and the time it took.
 #[derive(Clone, Copy)]
 struct Made {
     checksum: u64,
@@ -46,7 +48,7 @@ fn refused<T>(fault: NodeFault) -> Result<T> {
     bail!("refused {} {}", fault.code(), fault.name())
 }
 
-// Two references to one page in turn of `pages`, a little apart, from a time on.
+// Two references to the next of `pages` pages in turn, a little apart, from a time on.
 fn two_in_turn(i: u32, pages: u32, from: u64, replica: ReplicaId) -> [Reference; 2] {
     let page = scattered(u64::from(i), u64::from(pages));
     let first = from.wrapping_add(u64::from(i));
@@ -128,7 +130,7 @@ fn encoded(alloc: Global, messages: &[Message]) -> Result<Vec<Vec<u8>>> {
     Ok(all)
 }
 
-// What a node answers to the bytes of a message.
+// The answers of a node to the bytes of a message.
 fn answered(alloc: Global, node: &mut Node<MemDevice>, bytes: &[u8]) -> Result<Vec<Vec<u8>>> {
     let Ok(message) = decode(alloc, bytes) else {
         bail!("the bytes are of a message")
@@ -139,7 +141,7 @@ fn answered(alloc: Global, node: &mut Node<MemDevice>, bytes: &[u8]) -> Result<V
     }
 }
 
-// What a node answers to all of these, one after the other.
+// The answers of a node to all of these, one after the other.
 fn answers(alloc: Global, node: &mut Node<MemDevice>, sent: &[Vec<u8>]) -> Result<Vec<Vec<u8>>> {
     let mut all = Vec::new(alloc);
     for bytes in sent {
@@ -156,7 +158,8 @@ fn length_of(sent: &[Vec<u8>]) -> u64 {
     bytes
 }
 
-// A round: the first offers its digests, and all that is answered comes to whom it answers. Gives how many bytes went.
+// A round: the first offers its digests, and all answers are delivered. Returns the number of bytes
+// sent.
 fn round(alloc: Global, first: &mut Node<MemDevice>, second: &mut Node<MemDevice>) -> Result<u64> {
     let digests = offered(alloc, first)?;
     let entries_and_request = answered(alloc, second, &digests)?;
@@ -166,7 +169,7 @@ fn round(alloc: Global, first: &mut Node<MemDevice>, second: &mut Node<MemDevice
     Ok(sent.wrapping_add(digests.len() as u64))
 }
 
-// All rounds. Before each the first hears of pages in this many buckets.
+// All rounds. Before each the first absorbs references in this many buckets.
 fn rounds_of(
     alloc: Global,
     first: &mut Node<MemDevice>,
@@ -191,7 +194,7 @@ fn last_time(hist: PageHist) -> u64 {
     }
 }
 
-// A checksum of all entries, so that what was made is seen.
+// A checksum of all entries, so that the result is used.
 fn checksum_of(history: &History) -> u64 {
     let mut checksum = 0u64;
     for entry in history.iter() {
@@ -218,7 +221,8 @@ fn gossiped(
     Ok(Made { checksum, nanos })
 }
 
-// A node of the number, over a device of `pages` pages, that knows two references to each from a time on.
+// A node of the number, over a device of `pages` pages, that has absorbed two references to each
+// from a time on.
 fn node_of_pages(
     alloc: Global,
     number: u16,
@@ -243,7 +247,7 @@ fn rounds_over(
     gossiped(clock, alloc, &mut first, &mut second, buckets, rounds)
 }
 
-// What was made by then, and one more offer: a checksum of its bytes, and how long it took.
+// The result so far with one more offer: a checksum of its bytes, and the time it took.
 fn one_more(
     clock: &impl Clock,
     alloc: Global,
@@ -259,7 +263,7 @@ fn one_more(
     })
 }
 
-// The offers of a node that hears of a page in each of this many buckets before each.
+// The offers of a node that absorbs a reference in each of this many buckets before each.
 fn offers_of(
     clock: &impl Clock,
     alloc: Global,
@@ -285,13 +289,13 @@ fn offers_over(
     offers: u32,
 ) -> Result<Made> {
     let mut node = node_of_pages(alloc, 1, 1, pages, 0)?;
-    // The first takes all digests.
+    // The first offer computes all digests.
     let _first = offered(alloc, &mut node)?;
     offers_of(clock, alloc, &mut node, buckets, offers)
 }
 
-// The offers of a node that knows this many pages by late references. Before each it hears early ones to pages of bucket 0, makes an
-// offer, and forgets them.
+// The offers of a node with late references to this many pages. Before each it absorbs early ones
+// to pages of bucket 0, makes an offer, and forgets them.
 fn raised_offers_of(
     clock: &impl Clock,
     alloc: Global,
@@ -313,12 +317,12 @@ fn raised_offers_of(
 
 fn raised_offers_over(clock: &impl Clock, alloc: Global, pages: u32, offers: u32) -> Result<Made> {
     let mut node = node_of_pages(alloc, 1, 1, pages, LATE)?;
-    // The first takes all digests.
+    // The first offer computes all digests.
     let _first = offered(alloc, &mut node)?;
     raised_offers_of(clock, alloc, &mut node, pages, offers)
 }
 
-// The steps of a node's warm-up, and a checksum of the pages that came in, in their order.
+// The steps of a node's warm-up, and a checksum of the loaded pages, in their order.
 fn warm_steps(node: &mut Node<MemDevice>, steps: u32) -> Result<u64> {
     let mut checksum = 0u64;
     for _ in 0..steps {
@@ -341,7 +345,8 @@ fn warmed(clock: &impl Clock, alloc: Global, pages: u32, steps: u32) -> Result<M
     Ok(Made { checksum, nanos })
 }
 
-// A node takes in references to this many pages, a batch at a time, so that nothing but its history takes much memory.
+// A node absorbs references to this many pages, a batch at a time, so that only its history uses
+// much memory.
 fn remember(node: &mut Node<MemDevice>, pages: u32) -> Result<()> {
     let replica = node.id();
     for i in 0..pages {

@@ -1,10 +1,11 @@
-//! Measures histories: absorbing, joining, copying, looking up, going over and raising the horizon.
+//! Measures histories: absorbing, joining, copying, looking up, iterating and raising the horizon.
 //!
-//! With no word it runs with 1,000 pages and prints what came out. With a number of pages it
+//! With no argument it runs with 1,000 pages and prints the results. With a number of pages it
 //! runs with that many, and prints the nanoseconds too, for `bench/history/measure.py`.
 //!
-//! A raise is measured over a history in which each page has one stamp, of the times from the number of pages to below twice that. It
-//! is raised to the first of these times, to the middle one and past the last, each time in a copy, which is not timed.
+//! A raise is measured over a history in which each page has one stamp, of the times from the
+//! number of pages up to but not including twice that. It is raised to the first of these times, to
+//! the middle one and past the last, each time in a copy, which is not timed.
 use crate::parts::{added, asked_number, next, replica, scattered};
 use anyhow::{Result, bail};
 use std::alloc::Global;
@@ -12,12 +13,12 @@ use std::time::{Duration, Instant};
 use warm_history::{Entry, History, PageHist};
 use warm_stamps::{PageId, Reference, ReplicaId, Stamp};
 
-// How many references are absorbed at once, and how many pages a small join brings.
+// The number of references of a batch, and the number of pages of a small join.
 const BATCH: usize = 64;
 
 const SMALL: usize = 1_000;
 
-// About how many powers of two there are among the ranks of this many pages.
+// The approximate number of powers of two among the ranks of this many pages.
 fn octaves_of(pages: u64) -> u64 {
     if pages < 5_000 {
         10
@@ -30,7 +31,7 @@ fn octaves_of(pages: u64) -> u64 {
     }
 }
 
-// A page by Zipf's law: each power of two of ranks is as likely as the next.
+// A page by Zipf's law: each octave of ranks is equally likely.
 fn zipf_page(drawn: u64, pages: u64) -> PageId {
     let octave = (drawn >> 32).checked_rem(octaves_of(pages)).unwrap_or(0);
     let below = 1u64 << octave.min(20);
@@ -89,7 +90,7 @@ fn absorb_all(history: &mut History, all: &[Reference]) -> Result<()> {
     Ok(())
 }
 
-// A checksum of all entries, so that what was made is seen.
+// A checksum of all entries, so that the result is used.
 fn checksum_of(history: &History) -> u64 {
     let mut checksum = 0u64;
     for entry in history.iter() {
@@ -101,7 +102,7 @@ fn checksum_of(history: &History) -> u64 {
     checksum
 }
 
-// How many of the pages drawn are there, of twice as many.
+// The number of drawn pages that the history has; pages are drawn from twice as many.
 fn found_in(history: &History, pages: u64) -> u64 {
     let mut drawn = 11u64;
     let mut found = 0u64;
@@ -115,7 +116,7 @@ fn found_in(history: &History, pages: u64) -> u64 {
     found
 }
 
-// Prints what was made, and in a timed run how long it took.
+// Prints the result, and in a timed run the time it took.
 fn report(rt: &HostRuntime, timed: bool, what: &str, made: u64, spent: Duration) -> Result<()> {
     println!(rt; "{what}: {made}")?;
     if timed {
@@ -193,7 +194,7 @@ fn look_up(rt: &HostRuntime, timed: bool, large: &History, pages: u64) -> Result
     report(rt, timed, "look up", found, spent)
 }
 
-// Raises the horizon of a copy of a history. The raise alone is timed.
+// Raises the horizon of a copy of a history. Only the raise is timed.
 fn raise(rt: &HostRuntime, timed: bool, what: &str, whole: &History, time: u64) -> Result<()> {
     let mut raised = whole.copy()?;
     let start = Instant::now(rt)?;

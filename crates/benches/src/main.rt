@@ -1,8 +1,9 @@
-//! What `docs/PERFORMANCE.md` measures, by the scripts in `bench/`: turn, history, pool, frames, gossip and replica.
+//! The measurements of `docs/PERFORMANCE.md`, run by the scripts in `bench/`: turn, history, pool,
+//! frames, gossip and replica.
 //!
-//! `benches NAME WORDS..` measures what the words ask the bench of that name for, and prints nanoseconds; its module says what the
-//! words are. `benches NAME` does a little of all that the bench measures, and prints what came out. `benches` does so for each
-//! bench, one after the other, under its name.
+//! `benches NAME WORDS..` runs the bench of that name with these arguments, and prints nanoseconds;
+//! its module documents the arguments. `benches NAME` does a little of all that the bench measures,
+//! and prints the results. `benches` does so for each bench, one after the other, under its name.
 #![tactic(auto)]
 
 mod frames;
@@ -21,7 +22,7 @@ use std::sync::Wait;
 use std::thread::Threads;
 use std::time::Clock;
 
-/// What can be measured.
+/// The benches.
 #[derive(Clone, Copy)]
 enum Bench {
     Turn,
@@ -32,7 +33,7 @@ enum Bench {
     Replica,
 }
 
-// In the order in which they are played one after the other.
+// In the order in which they run.
 const BENCHES: [Bench; 6] = [
     Bench::Turn,
     Bench::History,
@@ -67,7 +68,7 @@ impl Bench {
     }
 }
 
-// Plays one, as the words say.
+// Runs one bench with its arguments.
 fn play<T: Threads + Wait + Clock + Print + AllocGlobal + Sync>(
     rt: &HostRuntime,
     threads: &T,

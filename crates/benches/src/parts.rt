@@ -1,4 +1,5 @@
-//! What several benches are made of: numbers that are asked for or drawn, checksums of what came out, pages, references and nodes.
+//! Parts that several benches share: numbers given or drawn, checksums of results, pages,
+//! references and nodes.
 use anyhow::{Context, Result, bail};
 use std::alloc::Global;
 use warm_devices::MemDevice;
@@ -6,10 +7,10 @@ use warm_gossip::Node;
 use warm_pool::Pool;
 use warm_stamps::{PageId, Reference, ReplicaId, Stamp};
 
-// How many bytes the pages of a node have.
+// The page size of a node in bytes.
 const NODE_PAGE_SIZE: usize = 16;
 
-// The number that is the only word, where there is one.
+// The number that is the only argument, where there is one.
 pub(crate) fn asked_number(words: &[String], what: &'static str) -> Result<Option<u64>> {
     match words {
         [] => Ok(None),
@@ -25,8 +26,8 @@ pub(crate) fn next(drawn: u64) -> u64 {
         .wrapping_add(1_442_695_040_888_963_407)
 }
 
-// A checksum of what came out, with one more item. Checksums are printed, so that what was made is seen, and differ where the order
-// does.
+// A checksum with one more item. Checksums are printed, so that results are used, and differ where
+// the order differs.
 pub(crate) fn added(checksum: u64, item: u64) -> u64 {
     checksum.wrapping_mul(31).wrapping_add(item)
 }
@@ -38,7 +39,7 @@ pub(crate) fn added_bytes(mut checksum: u64, bytes: &[u8]) -> u64 {
     checksum
 }
 
-// One page in turn of `pages`, so that all come, in a scattered order.
+// The next of `pages` pages in turn, in a scattered order that covers all.
 pub(crate) fn scattered(i: u64, pages: u64) -> PageId {
     let no = i.wrapping_mul(7919).checked_rem(pages).unwrap_or(0);
     PageId { dev: 0, no }
@@ -59,7 +60,7 @@ pub(crate) fn twice(page: PageId, replica: ReplicaId, times: [u64; 2]) -> [Refer
     })
 }
 
-// A node that knows no reference, with a pool of this many frames over a device of this many pages.
+// A node without references, with a pool of this many frames over a device of this many pages.
 pub(crate) fn node_over(
     alloc: Global,
     number: u16,

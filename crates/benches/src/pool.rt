@@ -2,15 +2,16 @@
 //!
 //! - With a number: this number of visits of resident pages, drawn evenly from 65,536 frames. A visit pins a page, reads eight
 //!   bytes of it, writes eight, and unpins it.
-//! - `misses` and a number: this number of pins of pages that are in no frame of 65,536, each read and unpinned. Of each page two
-//!   references are known, and the page that leaves is in any of the frames.
-//! - Either with `boxed` before it: the same over devices in boxes, whose calls go through a table.
-//! - `empty` or `retire`, a number of frames and a word: a pool of that many frames is emptied, or the device of the pages that it
-//!   holds is retired (where all frames hold one, that of the lower half).
+//! - `misses` and a number: this number of pins of pages that are in no frame of 65,536, each read
+//!   and unpinned. Each page has two references, and the victim may be in any of the frames.
+//! - Either with `boxed` before it: the same over devices in boxes, whose calls are dynamic.
+//! - `empty` or `retire`, a number of frames and a word: a pool of that many frames is emptied, or
+//!   the device of its pages is retired (where all frames hold one, that of the lower half).
 //!
-//! - `strides` and a number of frames: how long the pages of a full pool are searched, by how far apart they are (`strides.rt`).
+//! - `strides` and a number of frames: how long it takes to find the pages of a full pool, by the
+//!   distance of their numbers (`strides.rt`).
 //!
-//! With no word a little of each is done.
+//! With no argument a little of each is done.
 ghost use Rattle.std.specs.Prelude.{IfOk};
 ghost use Rattle.warm_pool.specs.State.{IsRankedByAll, RankedBy};
 
@@ -28,10 +29,11 @@ const FRAMES: u64 = 65_536;
 
 const PAGE_SIZE: usize = 64;
 
-// Some times the memory of a core's own cache.
+// Several times the size of a core's own cache.
 const BESIDE: usize = 32 << 20;
 
-/// How a pool has its devices: as values of a named type, whose calls are static, or in boxes, whose calls go through a table.
+/// How a pool has its devices: as values of a named type, whose calls are static, or in boxes,
+/// whose calls are dynamic.
 #[derive(Clone, Copy)]
 enum Place {
     Named,
@@ -67,7 +69,7 @@ impl Held {
     }
 }
 
-// Pins, reads, writes and unpins a page, and gives the first byte that was read.
+// Pins, reads, writes and unpins a page, and returns the first byte that was read.
 fn visit<D: PageDevice>(
     pool: &mut Pool<D>,
     history: &History,
@@ -85,7 +87,7 @@ fn visit<D: PageDevice>(
     Ok(bytes[0])
 }
 
-// Brings the first pages of a device into frames.
+// Loads the first pages of a device.
 fn load_pages<D: PageDevice>(
     pool: &mut Pool<D>,
     history: &History,
@@ -101,7 +103,7 @@ fn load_pages<D: PageDevice>(
     Ok(())
 }
 
-// Pins, reads and unpins a page, and gives the first byte that was read.
+// Pins, reads and unpins a page, and returns the first byte that was read.
 fn look_at<D: PageDevice>(pool: &mut Pool<D>, history: &History, no: u64) -> Result<u8, PoolFault>
     requires { RankedBy pool.old history.now }
     ensures { RankedBy pool.new history.now }
@@ -113,7 +115,7 @@ fn look_at<D: PageDevice>(pool: &mut Pool<D>, history: &History, no: u64) -> Res
     Ok(bytes[0])
 }
 
-// Brings the first pages of device 0 into all frames, so that pages that follow one another stand far apart.
+// Loads the first pages of device 0 into all frames, so that consecutive pages are far apart.
 fn load_apart<D: PageDevice>(pool: &mut Pool<D>, history: &History) -> Result<(), PoolFault>
     requires { RankedBy pool.old history.now }
     ensures { RankedBy pool.new history.now }
@@ -125,8 +127,9 @@ fn load_apart<D: PageDevice>(pool: &mut Pool<D>, history: &History) -> Result<()
     Ok(())
 }
 
-// Looks at the pages from the number of frames up to another, and gives a checksum of what was read. Where the first pages are
-// in the frames and ranks rise, none of these is, and the page of the least number leaves.
+// Reads the pages from the number of frames up to another number, and returns a checksum of the
+// bytes read. Where the first pages are resident and ranks rise with the page numbers, each is a
+// miss, and the page of the least number is evicted.
 fn miss_often<D: PageDevice>(
     pool: &mut Pool<D>,
     history: &History,
@@ -143,7 +146,7 @@ fn miss_often<D: PageDevice>(
     Ok(checksum)
 }
 
-// Visits pages that a linear congruence draws, and gives a checksum of what was read.
+// Visits pages drawn by a linear congruential generator, and returns a checksum of the bytes read.
 fn visit_often<D: PageDevice>(
     pool: &mut Pool<D>,
     history: &History,
@@ -183,7 +186,7 @@ fn opened<D: PageDevice>(alloc: Global, frames: u64, first: D, second: D) -> Res
     }
 }
 
-// A checksum of what the visits read, and the time that they took.
+// A checksum of the bytes that the visits read, and the time that they took.
 fn visits_of<D: PageDevice>(
     clock: &impl Clock,
     pool: &mut Pool<D>,
@@ -202,7 +205,7 @@ fn visits_of<D: PageDevice>(
     Ok((checksum, start.elapsed(clock)?))
 }
 
-// Visits over two devices. A pool over boxes can be named by no type, so that it lives here.
+// Visits over two devices. The type of a pool over boxes cannot be named, so the pool lives here.
 fn visited_over<D: PageDevice>(
     clock: &impl Clock,
     alloc: Global,
@@ -232,7 +235,7 @@ fn visited(
     }
 }
 
-// What is known of this many pages: of each two references, so that ranks rise with the pages.
+// The history of this many pages: two references to each, so that ranks rise with the page numbers.
 fn references(alloc: Global, pages: u64) -> Result<History> {
     let replica = replica(1)?;
     let mut history = History::new(alloc);
@@ -266,7 +269,7 @@ fn numbered(alloc: Global, pages: u64) -> Result<MemDevice> {
     Ok(device)
 }
 
-// A checksum of what the pins with misses read, and the time that they took.
+// A checksum of the bytes that the pins with misses read, and the time that they took.
 fn misses_of<D: PageDevice>(
     clock: &impl Clock,
     pool: &mut Pool<D>,
@@ -311,7 +314,7 @@ fn missed(clock: &impl Clock, alloc: Global, place: Place, misses: u64) -> Resul
     }
 }
 
-/// What is timed.
+/// The timed call.
 #[derive(Clone, Copy)]
 enum Call {
     Empty,
@@ -328,8 +331,8 @@ impl Call {
     }
 }
 
-// Brings a page of device 0 into each frame of the lower half, and one of device 1 into each of the upper half, as far as these
-// are to hold pages or to have held some.
+// Loads a page of device 0 into each frame of the lower half, and one of device 1 into each of the
+// upper half, where these are to have pages now or before.
 fn load_halves(pool: &mut Pool<MemDevice>, history: &History, half: u64, held: Held) -> Result<()>
     requires { RankedBy pool.old history.now }
 {
@@ -347,7 +350,7 @@ fn load_halves(pool: &mut Pool<MemDevice>, history: &History, half: u64, held: H
     Ok(())
 }
 
-// Takes every page out of its frame.
+// Empties the pool.
 fn empty(pool: &mut Pool<MemDevice>) -> Result<()> {
     match pool.empty() {
         Ok(()) => Ok(()),
@@ -355,7 +358,7 @@ fn empty(pool: &mut Pool<MemDevice>) -> Result<()> {
     }
 }
 
-// Takes the pages of a device out of their frames, as another device takes its place.
+// Retires a device: its pages are evicted, and another device replaces it.
 fn retire(pool: &mut Pool<MemDevice>, dev: u16, another: MemDevice) -> Result<()> {
     match pool.retire(dev, another) {
         Ok(()) => Ok(()),
@@ -363,8 +366,9 @@ fn retire(pool: &mut Pool<MemDevice>, dev: u16, another: MemDevice) -> Result<()
     }
 }
 
-// Writes to enough memory that nothing of a pool is left in a core's own cache: a pool that restarts was not gone over just before, and
-// a small one would else be found there, and a large one not.
+// Writes to enough memory that nothing of a pool is left in a core's own cache: a pool that
+// restarts was not scanned just before; otherwise a small pool would be in the cache, and a large
+// one not.
 fn write_beside(alloc: Global) -> Result<()> {
     let beside = Vec::from_elem(alloc, 1u8, BESIDE)?;
     if beside.first() != Some(&1) {
@@ -391,8 +395,8 @@ fn call_timed(
     Ok(start.elapsed(clock)?)
 }
 
-// The same, once the frames hold the pages that they are to hold. Where the upper half alone is to hold pages, those of the lower
-// half leave as another device takes the place of theirs.
+// The same, after the frames are filled. Where only the upper half is to have pages, those of the
+// lower half are evicted by the replacement of their device.
 fn filled_and_timed(
     clock: &impl Clock,
     alloc: Global,
@@ -408,7 +412,7 @@ fn filled_and_timed(
     call_timed(clock, alloc, pool, held, call, yet_another)
 }
 
-// The time of a call on a pool of which these frames hold a page.
+// The time of a call on a pool of which these frames have a page.
 fn timed(
     clock: &impl Clock,
     alloc: Global,
@@ -439,7 +443,7 @@ fn play_small(rt: &HostRuntime) -> Result<()> {
     strides::play_small(rt)
 }
 
-// Says what visits or misses read, and the time that they took.
+// Prints the checksum of visits or misses, and the time that they took.
 fn print_read(rt: &HostRuntime, count: u64, what: &str, read: (u64, Duration)) -> Result<()> {
     println!(rt; "{} {}: {}", count, what, read.0)?;
     println!(rt; "{} ns", read.1.as_nanos())?;
@@ -470,7 +474,7 @@ fn play_strides(rt: &HostRuntime, frames: &str) -> Result<()> {
     strides::play(rt, frames)
 }
 
-// Visits or misses, as the words say.
+// Visits or misses, by the arguments.
 fn play_pins(rt: &HostRuntime, place: Place, words: &[String]) -> Result<()> {
     match words {
         [visits] => play_visits(rt, place, visits),

@@ -1,8 +1,10 @@
-//! Counts references that workers bring to one replica: each touches and flushes, in a thread of its own.
+//! Measures references that workers add to one replica: each touches and flushes, in a thread of
+//! its own.
 //!
-//! With no word 1, 2 and 4 workers bring 1,000 references each, to 100 pages, and a checksum of the hottest pages is
-//! printed. With three numbers, `WORKERS REFERENCES PAGES`, 1, 2 or 4 workers bring that many each to that many pages, and
-//! the nanoseconds are printed too, for `bench/replica/measure.py`.
+//! With no argument 1, 2 and 4 workers add 1,000 references each, to 100 pages, and a checksum of
+//! the hottest pages is printed. With three numbers, `WORKERS REFERENCES PAGES`, 1, 2 or 4 workers
+//! add that many each to that many pages, and the nanoseconds are printed too, for
+//! `bench/replica/measure.py`.
 ghost use Rattle.std.specs.Prelude.{◌≡◌};
 ghost use Rattle.std.specs.Thread.{IsSend, IsSync};
 
@@ -20,13 +22,13 @@ use warm_replica::{Absorbing, Worker};
 use warm_stamps::{PageId, Reference, ReplicaId, Stamp};
 use warm_turn::{Pass, Turn};
 
-// How many references a worker's buffer holds.
+// The capacity of a worker's buffer, in references.
 const BUFFER: usize = 64;
 
-// Of how many of the hottest pages a checksum is taken.
+// The number of the hottest pages in the checksum.
 const HOTTEST: usize = 1_000;
 
-// How many pages the node's device has.
+// The number of pages of the node's device.
 const DEVICE_PAGES: u64 = 8;
 
 // The reference of a worker's `i`th turn, to the page drawn.
@@ -39,8 +41,8 @@ fn reference(replica: ReplicaId, worker: u64, i: u64, drawn: u64, pages: u64) ->
     }
 }
 
-// Touches this many references to this many pages, and flushes whenever the buffer is full and at the end. Says how many flushes
-// were refused.
+// Touches this many references to this many pages, and flushes whenever the buffer is full and at
+// the end. Returns the number of refused flushes.
 fn bring<M: Absorbing, R: Wait>(
     rt: &R,
     alloc: Global,
@@ -72,7 +74,8 @@ fn bring<M: Absorbing, R: Wait>(
     refused
 }
 
-// A worker of this number brings its references. A buffer that there is no memory for is counted as a refused flush.
+// The worker of this number adds its references. A buffer whose allocation fails is counted as a
+// refused flush.
 fn bring_one<M: Absorbing, R: Wait + AllocGlobal>(
     rt: &R,
     replica: &Turn<M>,
@@ -167,7 +170,7 @@ fn bring_four<M: Absorbing + Send, R: Threads + Wait + AllocGlobal + Sync>(
     (pass, first.wrapping_add(second))
 }
 
-// A checksum of the numbers of the hottest pages, so that what was brought is seen.
+// A checksum of the numbers of the hottest pages, so that the result is used.
 fn checksum_of(pages: &[PageId]) -> u64 {
     let mut checksum = 0u64;
     for page in pages {
@@ -176,7 +179,7 @@ fn checksum_of(pages: &[PageId]) -> u64 {
     checksum
 }
 
-// A checksum of the hottest pages after the workers brought their references, and how long they took.
+// A checksum of the hottest pages after the workers added their references, and the time they took.
 fn brought<R: Threads + Wait + Clock + AllocGlobal + Sync>(
     rt: &R,
     node: Node<MemDevice>,

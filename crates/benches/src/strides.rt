@@ -1,8 +1,10 @@
-//! Measures how long it takes to find the pages of a full pool, by how far apart their numbers are. A page is found along its chain of the
-//! pool's index, so it takes longer where many of the pages share a chain.
+//! Measures the time to find the pages of a full pool, by the distance of their numbers. A page is
+//! found along its hash chain in the pool's page table, so it takes longer where many pages share a
+//! chain.
 //!
-//! `benches pool strides` and a number of frames prints the nanoseconds of 16 searches for each page: of pages that are drawn, of pages
-//! apart by each power of two up to 2^40, and of one page of each of as many devices.
+//! `benches pool strides` and a number of frames prints the nanoseconds of 16 searches for each
+//! page: of random pages, of pages at distances of each power of two up to 2^40, and of one page on
+//! each of as many devices.
 ghost use Rattle.std.specs.Prelude.{IfOk};
 ghost use Rattle.warm_pool.specs.State.{IsRankedByAll, RankedBy};
 
@@ -15,14 +17,14 @@ use warm_history::History;
 use warm_pool::{MAX_DEVICES, Pool, PoolFault};
 use warm_stamps::PageId;
 
-// How often each page is looked for.
+// The number of searches for each page.
 const ROUNDS: u64 = 16;
 
 // Strides are 2 to each power below this.
 const POWERS: u32 = 41;
 
-/// A device that has a page for each number but the last, of one byte, which is 0. It says that it is not honest: what is written to it
-/// is not kept.
+/// A device that has a page for each number but the last, of one byte, which is 0. It is declared
+/// not honest: writes to it are not stored.
 #[derive(Drop)]
 struct Hollow {
     waiting: bool,
@@ -73,7 +75,7 @@ impl PageDevice for Hollow {
     }
 }
 
-/// Which page comes after one.
+/// The page after a given one.
 #[derive(Clone, Copy)]
 enum Spread {
     Drawn,
@@ -102,7 +104,7 @@ impl Spread {
 
 const FIRST: PageId = PageId { dev: 0, no: 0 };
 
-// Brings as many pages into the frames.
+// Loads as many pages as there are frames.
 fn load_spread(
     pool: &mut Pool<Hollow>,
     history: &History,
@@ -120,7 +122,7 @@ fn load_spread(
     Ok(())
 }
 
-// How many of the pages are in a frame.
+// The number of the pages that are resident.
 fn found(pool: &Pool<Hollow>, frames: usize, spread: Spread) -> u64 {
     let mut page = FIRST;
     let mut found = 0u64;
@@ -133,7 +135,7 @@ fn found(pool: &Pool<Hollow>, frames: usize, spread: Spread) -> u64 {
     found
 }
 
-// A pool of this many frames over as many devices as there may be.
+// A pool of this many frames over the greatest number of devices.
 fn hollow_pool(alloc: Global, frames: usize) -> Result<Pool<Hollow>>
     ensures { IfOk result (λ pool. IsRankedByAll pool) }
 {
@@ -150,7 +152,8 @@ fn hollow_pool(alloc: Global, frames: usize) -> Result<Pool<Hollow>>
     }
 }
 
-// How long it takes to find each page of a full pool, in the order in which they came, as often as there are rounds.
+// The time to find each page of a full pool, in the order in which they were loaded, repeated for
+// each round.
 fn searched(clock: &impl Clock, alloc: Global, frames: usize, spread: Spread) -> Result<Duration> {
     let mut pool = hollow_pool(alloc, frames)?;
     if load_spread(&mut pool, &History::new(alloc), frames, spread).is_err() {
@@ -177,7 +180,7 @@ pub(crate) fn play(rt: &HostRuntime, frames: usize) -> Result<()> {
     Ok(())
 }
 
-// A little of it, with no time.
+// A little of it, without times.
 pub(crate) fn play_small(rt: &HostRuntime) -> Result<()> {
     for spread in [Spread::Drawn, Spread::Stride(1 << 20), Spread::Devices] {
         searched(rt, rt.alloc(), 1_024, spread)?;

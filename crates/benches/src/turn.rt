@@ -1,6 +1,7 @@
-//! Counts turns: a counter behind one turn, called by one pass, and by 2, 4 and 8 threads at once.
+//! Measures turns: a counter behind one turn, called by one pass, and by 2, 4 and 8 threads at
+//! once.
 //!
-//! With no word each thread takes 1,000 turns, and the totals are printed. With two numbers,
+//! With no argument each thread takes 1,000 turns, and the totals are printed. With two numbers,
 //! `THREADS TURNS`, 1, 2, 4 or 8 threads take that many turns each, and the nanoseconds are printed
 //! too, for `bench/turn/measure.py`; with the word `waits` after them also the nanoseconds of the
 //! longest call; and with `slow` the same of a counter that sleeps for a millisecond in each call,
@@ -43,7 +44,7 @@ impl Machine for SlowCounter {
     }
 }
 
-// The nanoseconds since then, or 0 where the clock cannot say.
+// The nanoseconds since then, or 0 where the clock fails.
 fn nanos_since<R: Clock>(rt: &R, start: io::Result<Instant>) -> u64 {
     let Ok(start) = start else {
         return 0;
@@ -54,8 +55,8 @@ fn nanos_since<R: Clock>(rt: &R, start: io::Result<Instant>) -> u64 {
     }
 }
 
-// Takes this many turns, and says how many nanoseconds the longest of them took, or 0 where that
-// is not asked.
+// Takes this many turns, and returns the nanoseconds of the longest of them, or 0 where that is not
+// requested.
 fn add_ones<M: Machine<Call = Add, Reply = Added>, R: Wait + Clock>(
     rt: &R,
     turn: &Turn<M>,
@@ -192,7 +193,8 @@ impl Crowd {
     }
 }
 
-// What is counted: plainly, with each call timed, or by a machine that sleeps and with each call timed.
+// The kind of a run: plain, with each call timed, or with a machine that sleeps and each call
+// timed.
 #[derive(Clone, Copy)]
 enum Kind {
     Plain,
@@ -200,7 +202,7 @@ enum Kind {
     Slow,
 }
 
-// The pass after the crowd's turns, and how long the longest took.
+// The pass after the crowd's turns, and the time of the longest.
 fn counted<M: Machine<Call = Add, Reply = Added> + Send, R: Threads + Wait + Clock + Sync>(
     rt: &R,
     turn: &Turn<M>,
@@ -238,7 +240,7 @@ fn count<R: Threads + Wait + Clock + Sync>(
     Ok((counter.total, longest))
 }
 
-// The same of a machine that sleeps.
+// The same, for a machine that sleeps.
 fn count_slowly<R: Threads + Wait + Clock + Sync>(
     rt: &R,
     alloc: Global,
@@ -257,8 +259,8 @@ fn count_slowly<R: Threads + Wait + Clock + Sync>(
     Ok((slow.counter.total, longest))
 }
 
-// Has the crowd count, and prints the total, how long it took, and how long the longest call took where
-// that was asked.
+// Runs the crowd, and prints the total, the time it took, and the time of the longest call where
+// that was requested.
 fn time<R: Threads + Wait + Clock + Print + AllocGlobal + Sync>(
     rt: &R,
     clock: HostRuntime,
@@ -288,7 +290,7 @@ fn time<R: Threads + Wait + Clock + Print + AllocGlobal + Sync>(
     Ok(())
 }
 
-// What is counted, by the words after the numbers.
+// The kind of a run, by the arguments after the numbers.
 fn kind_of(words: &[String]) -> Result<Kind> {
     if words.is_empty() {
         return Ok(Kind::Plain);

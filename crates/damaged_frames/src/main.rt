@@ -1,10 +1,11 @@
-//! Reads bytes that may be frames, whole and in pieces, and says what came of them.
+//! Reads bytes that may be frames, whole and in pieces, and prints the results.
 //!
-//! Each line of standard input is a number and bytes in hexadecimal. For each a line is printed: what `decode` answers to the
-//! bytes; then, behind `|`, what a `Decoder` answers that is fed pieces of that many bytes, and what it says of the end. A frame is
-//! printed with its fields except the horizon, and with `same` where `encode` gives the bytes that it was read from, horizon included:
-//! those of a frame of the format `L2G2`. A frame of `L2G1`, which is only read, is `other`. `examples/damaged-frames/check` compares
-//! with a reader of its own.
+//! Each line of standard input is a number and bytes in hexadecimal. For each a line is printed:
+//! the result of `decode` for the bytes; then, after `|`, the results of a `Decoder` that is fed
+//! pieces of that many bytes, and its result at the end. A frame is printed with its fields except
+//! the horizon, and with `same` where `encode` gives the bytes that it was read from, horizon
+//! included: those of a frame of the format `L2G2`. A frame of `L2G1`, which is only read, is
+//! `other`. `examples/damaged-frames/check` compares with a reader of its own.
 #![tactic(auto)]
 
 use anyhow::{Context, Result, bail};
@@ -40,7 +41,7 @@ fn put_digests<W: Write>(alloc: Global, writer: &mut W, digests: &DigestTable) -
     Ok(())
 }
 
-// A frame's fields, and whether these bytes are how it is spelled.
+// A frame's fields, and whether these bytes are its spelling.
 fn put_frame<W: Write>(alloc: Global, writer: &mut W, frame: &Message, bytes: &[u8]) -> Result<()> {
     match frame {
         Message::Entries {
@@ -87,7 +88,7 @@ fn put_whole<W: Write>(alloc: Global, writer: &mut W, bytes: &[u8]) -> Result<()
     }
 }
 
-// A decoder in the midst of bytes: how many it was fed, and where the frame begins that it is in.
+// A decoder within a stream: the number of bytes fed, and the start of the current frame.
 #[derive(Drop)]
 struct Reader<'a> {
     bytes: &'a [u8],
@@ -96,7 +97,7 @@ struct Reader<'a> {
     begun: usize,
 }
 
-// Feeds what is between here and the end of a piece, once. `false` behind a fault.
+// Feeds the rest of a piece, once. `false` after a fault.
 fn put_fed<W: Write>(
     alloc: Global,
     writer: &mut W,
@@ -125,7 +126,7 @@ fn put_fed<W: Write>(
     }
 }
 
-// Feeds a piece until all of it is taken. `false` behind a fault.
+// Feeds a piece until all of it is consumed. `false` after a fault.
 fn put_piece<W: Write>(
     alloc: Global,
     writer: &mut W,
@@ -143,7 +144,7 @@ fn put_piece<W: Write>(
     Ok(true)
 }
 
-// What the decoder says of the end, and of a byte more behind a fault.
+// The decoder's result at the end, and for a further byte after a fault.
 fn put_end<W: Write>(writer: &mut W, decoder: &mut Decoder) -> Result<()> {
     match decoder.finish() {
         Ok(()) => write!(writer, " end")?,

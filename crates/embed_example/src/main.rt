@@ -1,8 +1,10 @@
-//! Two replicas of a database in one program, each with a buffer pool of its own over a device in memory.
+//! Two replicas of a database in one program, each with its own buffer pool over a device in
+//! memory.
 //!
-//! The primary absorbs references to pages. Messages, passed as bytes, bring them to the standby, until both histories are equal.
-//! The standby loads the hottest pages before it takes over; then a page is pinned, written to and unpinned, and the standby ends in
-//! an orderly way. Each refusal is an error, and `?` returns it.
+//! The primary absorbs references to pages. Messages, sent as bytes, bring them to the standby,
+//! until both histories are equal. The standby loads the hottest pages before it takes over; then a
+//! page is pinned, written to and unpinned, and the standby shuts down in an orderly way. Each
+//! refusal is an error, and `?` returns it.
 #![tactic(auto)]
 
 use anyhow::{Result, bail};
@@ -14,12 +16,12 @@ use warm_gossip::Node;
 use warm_pool::Pool;
 use warm_stamps::{PageId, Reference, ReplicaId, Stamp};
 
-// How many frames each pool has, and how many bytes a page.
+// The number of frames of each pool, and the page size in bytes.
 const FRAMES: usize = 4;
 
 const PAGE_SIZE: usize = 16;
 
-// How often the replicas gossip at most. Where all messages arrive, one round makes them equal.
+// The maximum number of gossip rounds. Where all messages arrive, one round makes them equal.
 const MOST_ROUNDS: u32 = 3;
 
 // A page of device 0.
@@ -55,7 +57,7 @@ fn refer(alloc: Global, node: &mut Node<MemDevice>, from: u64, pages: &[u32]) ->
     Ok(())
 }
 
-// Delivers a message's bytes to a node, and gives those of the messages that it answers.
+// Delivers a message's bytes to a node, and returns those of its answers.
 fn deliver(alloc: Global, node: &mut Node<MemDevice>, bytes: &[u8]) -> Result<Vec<Vec<u8>>> {
     let message = decode(alloc, bytes)?;
     let answers = node.receive(message)?;
@@ -66,7 +68,7 @@ fn deliver(alloc: Global, node: &mut Node<MemDevice>, bytes: &[u8]) -> Result<Ve
     Ok(all)
 }
 
-// Delivers each of these messages to a node, and gives the bytes of all that it answers.
+// Delivers each of these messages to a node, and returns the bytes of all its answers.
 fn deliver_all(
     alloc: Global,
     node: &mut Node<MemDevice>,
@@ -79,7 +81,8 @@ fn deliver_all(
     Ok(answered)
 }
 
-// Rounds of gossip until the second has nothing to answer to the digests of the first: then both hold the same. Gives how many it took.
+// Rounds of gossip until the second has nothing to answer to the digests of the first: then both
+// have the same entries. Returns the number of rounds.
 fn make_equal(
     alloc: Global,
     first: &mut Node<MemDevice>,
@@ -97,7 +100,7 @@ fn make_equal(
     bail!("the histories still differ")
 }
 
-// Loads the hottest pages, and says which.
+// Loads the hottest pages, and prints which.
 fn warm(rt: &impl Print, node: &mut Node<MemDevice>) -> Result<()> {
     for _ in 0..FRAMES {
         let Some(page) = node.warm_step()? else {
@@ -117,7 +120,7 @@ fn change(node: &mut Node<MemDevice>, no: u32, text: &[u8]) -> Result<Vec<u8>> {
     Ok(bytes.into_vec())
 }
 
-// What the two replicas live through, up to the orderly end of the standby.
+// The life of the two replicas, up to the orderly shutdown of the standby.
 fn live(
     rt: &impl Print,
     alloc: Global,
@@ -133,7 +136,8 @@ fn live(
     )?;
     warm(rt, standby)?;
 
-    // The primary is gone, and the standby takes over. A pin is no reference, so it absorbs one beside it.
+    // The primary is gone, and the standby takes over. A pin is not a reference, so it also absorbs
+    // one.
     refer(alloc, standby, 7, &[5])?;
     let bytes = change(standby, 5, b"warm")?;
     println!(rt; "wrote {} bytes", bytes.len())?;

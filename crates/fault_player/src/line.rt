@@ -1,16 +1,16 @@
-//! Lines that ask something of a pool: a word, and numbers behind it.
+//! Lines that are calls of a pool: a word, and numbers after it.
 use anyhow::{Context, Result, bail};
 use std::alloc::Global;
 use warm_pool::Slot;
 use warm_stamps::PageId;
 
-/// How many numbers a line has at most.
+/// The maximum number of numbers of a line.
 const MOST: usize = 5;
 
-/// How many devices a pool has at most, with those that are spare.
+/// The maximum number of devices of a pool, including the spare ones.
 const MOST_DEVICES: usize = 8;
 
-/// What is asked of a pool.
+/// A call of a pool.
 #[derive(Clone, Copy, Debug)]
 pub enum Asked {
     /// `pin DEVICE PAGE`
@@ -23,32 +23,32 @@ pub enum Asked {
     Writes(Slot, usize, usize, u8),
     /// `read FRAME GENERATION`: the whole page.
     Reads(Slot),
-    /// `show`: which pages are in frames, and which leaves next.
+    /// `show`: the resident pages, and the next victim.
     Shows,
     /// `writeback`
     WritesBack,
     /// `empty`
     Empties,
-    /// `retire DEVICE`: the next spare device takes the place of one.
+    /// `retire DEVICE`: the next spare device replaces this one.
     Retires(u16),
     /// `close`
     Closes,
 }
 
-/// A device that is to be made.
+/// The description of a device to be made.
 #[derive(Clone, Copy, Debug)]
 pub struct Made {
-    /// How many pages it has.
+    /// The number of its pages.
     pub pages: u64,
     /// The number of the call that fails, counted from 1, or 0 where none does.
     pub call: u64,
 }
 
-/// The first line of a pool's calls, `FRAMES PAGES CALL PAGES CALL ..`: how many frames it has, and its devices, with those
-/// that are spare behind them.
+/// The first line of a pool's calls, `FRAMES PAGES CALL PAGES CALL ..`: the number of its frames,
+/// and its devices, followed by the spare ones.
 ///
 /// # Errors
-/// Where the line is no such line, or there is no memory.
+/// Where the line is not of this form, or an allocation fails.
 pub fn opening_in(alloc: Global, line: &str) -> Result<(u32, Vec<Made>)> {
     let mut words = line.split_whitespace();
     let frames = number(words.next())?;
@@ -73,10 +73,10 @@ fn number(word: Option<&str>) -> Result<u64> {
     )
 }
 
-/// What a line asks.
+/// The call of a line.
 ///
 /// # Errors
-/// Where the line is none of those above.
+/// Where the line is not one of those above.
 pub fn asked_in(line: &str) -> Result<Asked> {
     let mut words = line.split_whitespace();
     let word = words.next().context("a line has a word")?;

@@ -3,8 +3,9 @@
 //!
 //! - `play CALL FRAMES`: a schedule from standard input, as `warmplay` plays it, over one replica with one worker and this many
 //!   frames, on a device in memory of 8 pages of 16 bytes whose call of that number fails. With 0 none does.
-//! - `pools`: calls of pools from standard input, each with its answer. Pools are parted by blank lines; `src/line.rt` says how a
-//!   pool's first line says what it is over, and how calls are spelled.
+//! - `pools`: calls of pools from standard input, each with its answer. Pools are separated by
+//!   blank lines; `src/line.rt` defines a pool's first line, which describes its frames and
+//!   devices, and the syntax of calls.
 #![tactic(auto)]
 
 mod line;
@@ -21,7 +22,7 @@ use warm_schedule::play;
 use warm_stamps::{PageId, Reference, ReplicaId, Stamp};
 use warm_world::Setup;
 
-// What is known of pages: device, page and time of each reference.
+// The history: device, page and time of each reference.
 const KNOWN: [(u16, u64, u64); 9] = [
     (0, 3, 1),
     (0, 3, 9),
@@ -34,7 +35,7 @@ const KNOWN: [(u16, u64, u64); 9] = [
     (0, 4, 8),
 ];
 
-// A device in memory, of whose calls one fails.
+// A device in memory, one of whose calls fails.
 fn failing(alloc: Global, made: Made) -> Result<Failing> {
     let Ok(memory) = MemDevice::new(alloc, made.pages, PAGE_SIZE) else {
         bail!("no memory")
@@ -59,7 +60,7 @@ fn known(alloc: Global) -> Result<History> {
     Ok(history)
 }
 
-// Asks a pool what the lines after the first say, which says how it is made.
+// Makes a pool by the first line, and makes the calls of the other lines.
 fn ask_pool(rt: &HostRuntime, history: &History, text: &str) -> Result<()> {
     let alloc = rt.alloc();
     let (opening, lines) = text.split_once('\n').context("a pool has calls")?;

@@ -1,4 +1,5 @@
-//! Calls of a pool, each in a function of its own that keeps by which history it is ranked, and prints what came of it.
+//! Calls of a pool, each in a function of its own, whose contract keeps the history by which the
+//! pool is ranked, and which prints the result.
 ghost use Rattle.std.specs.Prelude.{IfOk, IfSome};
 ghost use Rattle.warm_pool.specs.State.{IsRankedByAll, RankedBy};
 
@@ -11,13 +12,13 @@ use warm_history::History;
 use warm_pool::{Pool, PoolFault, Slot};
 use warm_stamps::PageId;
 
-/// How many bytes a page has.
+/// The size of a page in bytes.
 pub const PAGE_SIZE: usize = 16;
 
 /// The number of devices of a pool, and of pages of each that `show` looks for.
 const SHOWN: (u16, u64) = (2, 8);
 
-/// A device in memory, of whose calls one fails.
+/// A device in memory, one of whose calls fails.
 pub type Failing = Flaky<MemDevice>;
 
 /// A pool over two devices, without a page.
@@ -38,11 +39,11 @@ pub fn opened(alloc: Global, frames: u32, first: Failing, second: Failing) -> Re
     }
 }
 
-/// Asks a pool what the lines say, one after the other, up to the first by which it is closed, and prints the answers. The spare
-/// devices are taken from the end.
+/// Makes the calls of the lines on a pool, one after the other, up to the first that closes it, and
+/// prints the results. The spare devices are taken from the end.
 ///
 /// # Errors
-/// Where a line says nothing, or nothing can be printed.
+/// Where a line is not a call, or printing fails.
 pub fn ask_all(
     rt: &impl Print,
     pool: Pool<Failing>,
@@ -65,7 +66,7 @@ pub fn ask_all(
     Ok(())
 }
 
-// Asks a pool what a line says, which does not close it.
+// Makes the call of a line that does not close the pool.
 fn ask(
     rt: &impl Print,
     pool: &mut Pool<Failing>,
@@ -169,7 +170,7 @@ fn show(rt: &impl Print, pool: &Pool<Failing>) -> Result<()> {
     }
 }
 
-// A spare device that is refused stays the next.
+// A spare device that is refused remains the next one.
 fn retire(
     rt: &impl Print,
     pool: &mut Pool<Failing>,

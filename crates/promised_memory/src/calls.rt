@@ -1,4 +1,4 @@
-//! A node's calls that take no memory, and those of a buffer and a contest.
+//! A node's allocation-free calls, and those of a buffer and a contest.
 
 use refused_rows::{Ended, Met, takes_none};
 use std::alloc::Global;
@@ -11,7 +11,7 @@ use warm_rank::{Contest, key_of};
 use warm_refbuffer::RefBuffer;
 use warm_stamps::{ByteList, PageId, Reference, ReplicaId, Stamp};
 
-// A node of some frames over the device, which knows of 0:1 and 0:2.
+// A node of some frames over the device, with references to 0:1 and 0:2.
 pub(crate) fn opened(
     alloc: Global,
     device: MemDevice,
@@ -92,7 +92,8 @@ fn pinned<P: Print>(
     met.holds(is_unpinned(node, 1), "a second unpin is refused")
 }
 
-// A page is pinned, written to and unpinned; another takes its place; the horizon rises past one of them, and the node restarts.
+// A page is pinned, written to and unpinned; another replaces it; the horizon rises past one of
+// them, and the node restarts.
 pub(crate) fn rows<P: Print>(
     rt: &P,
     met: &mut Met,

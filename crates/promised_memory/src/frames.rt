@@ -1,20 +1,20 @@
-//! Frames whose reading takes no memory.
+//! Frames whose decoding is allocation-free.
 use refused_rows::{Ended, Met, takes_none};
 use std::alloc::Global;
 use std::io::Print;
 use warm_frames::{Message, decode};
 
-// Sender 3 says nothing, and has horizon 5.
+// A frame of no entries by sender 3, with horizon 5.
 const NOTHING: [u8; 23] = [
     0x4C, 0x32, 0x47, 0x32, 1, 0, 3, 0, 0, 0, 0, 0, 0, 0, 5, 0, 0, 0, 4, 0, 0, 0, 0,
 ];
 
-// Sender 2 asks for buckets 1 and 2, and has horizon 5.
+// A request of sender 2 for buckets 1 and 2, with horizon 5.
 const REQUEST: [u8; 27] = [
     0x4C, 0x32, 0x47, 0x32, 3, 0, 2, 0, 0, 0, 0, 0, 0, 0, 5, 0, 0, 0, 8, 0, 0, 0, 0, 0, 0, 0, 6,
 ];
 
-// How a frame of digests by sender 1 with horizon 5 begins. It has 2,067 bytes.
+// The header of a frame of digests by sender 1 with horizon 5. The frame has 2,067 bytes.
 const DIGESTS: [u8; 19] = [
     0x4C, 0x32, 0x47, 0x32, 2, 0, 1, 0, 0, 0, 0, 0, 0, 0, 5, 0, 0, 8, 0,
 ];

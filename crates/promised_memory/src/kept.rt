@@ -1,5 +1,5 @@
-//! Calls whose result is kept: the first takes memory, and the second, with no news since, none. What was taken in again in between is
-//! no news.
+//! Calls whose result is cached: the first allocates, and the second, without changes since, does
+//! not. Taking in known references in between is not a change.
 
 use crate::calls::opened;
 use refused_rows::{Ended, Met, is_done, takes, takes_none};
@@ -11,10 +11,11 @@ use warm_gossip::{Call, Node, Reply};
 use warm_history::History;
 use warm_stamps::{PageId, Reference, ReplicaId, Stamp};
 
-// How many frames the node has. It knows as many pages.
+// The number of frames of the node. Its history has as many pages.
 const FRAMES: usize = 2;
 
-// A node that has offered its digests and taken one step of its warm-up, and a history whose digests were taken before a batch came again.
+// A node that has offered its digests and taken one step of its warm-up, and a history whose
+// digests were computed before a batch was repeated.
 #[derive(Drop)]
 pub(crate) struct Kept {
     node: Node<MemDevice>,
@@ -53,7 +54,7 @@ fn digested<P: Print>(rt: &P, alloc: Global) -> Result<DigestedHistory, Ended> {
     takes(rt, 1, "digests")?;
     let _first = history.digests()?;
     is_done(rt)?;
-    // A repeated batch changes nothing, so that the digests stay.
+    // A repeated batch changes nothing, so the digests stay cached.
     taken_once(&mut history)?;
     Ok(history)
 }
@@ -78,7 +79,7 @@ impl Kept {
         })
     }
 
-    // The second call of each, with no news since the first.
+    // The second call of each, without changes since the first.
     pub(crate) fn rows<P: Print>(self, rt: &P, met: &mut Met) -> Result<(), Ended> {
         let Kept {
             mut node,

@@ -1,4 +1,4 @@
-//! Lines of a schedule whose parsing takes no memory: all but `put`.
+//! Lines of a schedule whose parsing is allocation-free: all but `put`.
 use refused_rows::{Ended, Met, takes_none};
 use std::alloc::Global;
 use std::io::Print;

@@ -1,8 +1,9 @@
-//! Calls whose memory is promised: none, or what their results need.
+//! Calls whose allocations are bounded: none, or what their results need.
 //!
-//! `scripts/refuse-allocations` runs this twice. First it counts the allocations between the lines that are printed here, and compares what
-//! each call takes with its bound. Then it refuses all allocations from the first call on that takes no memory, and none may be refused:
-//! all that these calls need is made before them.
+//! `scripts/refuse-allocations` runs this twice. First it counts the allocations between the lines
+//! printed here, and compares those of each call with its bound. Then it makes all allocations fail
+//! from the first allocation-free call on, and no call may be refused: all that these calls need is
+//! made before them.
 #![tactic(auto)]
 
 mod calls;

@@ -1,5 +1,5 @@
-//! Calls that take memory. Each prints how many entries, bytes or slots its result has, of which `scripts/refuse-allocations` computes how
-//! much it may take.
+//! Calls that allocate. Each prints the number of entries, bytes or slots of its result, from which
+//! `scripts/refuse-allocations` computes the bound of its allocations.
 
 use crate::calls::{is_pinned, opened};
 use refused_rows::{Ended, Met, is_done, takes};
@@ -15,7 +15,7 @@ use warm_rank::{Contest, warm_list};
 use warm_refbuffer::RefBuffer;
 use warm_stamps::{Bucket, PageId, RefList, Reference, ReplicaId, Stamp};
 
-// How many pages a history knows, and how many entries a frame has.
+// The number of pages of a history, and of entries of a frame.
 const PAGES: u64 = 1000;
 
 const SLOTS: usize = 64;
@@ -117,7 +117,7 @@ fn decoded<P: Print>(rt: &P, alloc: Global, bytes: &[u8]) -> Result<Message, End
     Ok(message)
 }
 
-// Feeds a piece, all of which the frame needs, and says whether the frame is whole with it.
+// Feeds a piece that lies in the frame, and returns whether the frame is complete with it.
 fn is_whole_with(decoder: &mut Decoder, piece: &[u8]) -> Result<bool, Ended> {
     match decoder.feed(piece) {
         Ok(fed) => Ok(fed.frame.is_some()),
@@ -143,7 +143,7 @@ fn fed<P: Print>(rt: &P, met: &mut Met, alloc: Global, bytes: &[u8]) -> Result<(
     met.holds(both, "a frame in two pieces is whole")
 }
 
-// What is made once, in its whole size.
+// Values that are allocated once in their full size.
 fn made<P: Print>(rt: &P, alloc: Global) -> Result<(), Ended> {
     takes(rt, SLOTS, "RefBuffer::new")?;
     let Ok(_buffer) = RefBuffer::new(alloc, SLOTS) else {
@@ -154,7 +154,7 @@ fn made<P: Print>(rt: &P, alloc: Global) -> Result<(), Ended> {
     is_done(rt)
 }
 
-// Asks a node for what takes memory.
+// Calls of a node that allocate.
 fn asked<P: Print>(
     rt: &P,
     node: &mut Node<MemDevice>,
@@ -171,7 +171,8 @@ fn asked<P: Print>(
     }
 }
 
-// A node takes the references in, and gives the entries of their bucket in one message and as the answer to a request.
+// A node absorbs the references, and returns the entries of their bucket in one message and as the
+// answer to a request.
 fn taught<P: Print>(rt: &P, node: &mut Node<MemDevice>, batch: RefList) -> Result<(), Ended> {
     let size = PAGES as usize;
     asked(rt, node, size, "absorb of a node", Call::Absorb(batch))?;
@@ -209,7 +210,7 @@ fn got<P: Print>(rt: &P, met: &mut Met, node: &mut Node<MemDevice>) -> Result<()
     asked(rt, node, 16, "read", call)
 }
 
-// Calls of two nodes, of which the second learns what the message says.
+// Calls of two nodes, of which the second receives the message.
 fn of_nodes<P: Print>(rt: &P, met: &mut Met, alloc: Global, message: Message) -> Result<(), Ended> {
     let batch = RefList::of(references(alloc)?);
     let mut node = opened(alloc, MemDevice::new(alloc, 8, 16)?, 1)?;

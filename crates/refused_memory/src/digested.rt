@@ -1,4 +1,4 @@
-//! Digests of buckets, taken again and kept.
+//! Digests of buckets, recomputed and cached.
 use crate::histories::{entries_of, history_of_pages};
 use crate::references::references;
 use refused_rows::{Ended, Met};
@@ -41,7 +41,7 @@ fn renewed(met: &mut Met, alloc: Global, whole: &DigestTable) -> Result<(), Ende
     )
 }
 
-// What a history that keeps its digests says of them.
+// The digests of a history that caches them.
 fn kept(met: &mut Met, history: &mut DigestedHistory) -> Result<DigestTable, Ended> {
     let len = history.history().len();
     match history.digests() {
@@ -93,14 +93,14 @@ fn joined(met: &mut Met, alloc: Global, whole: &DigestTable) -> Result<(), Ended
     met.holds(now == *whole, "joined digests are those of the history")
 }
 
-// A history of nine pages at 10, which keeps its digests.
+// A history of nine pages at 10, which caches its digests.
 fn first_known(alloc: Global) -> Result<DigestedHistory, Ended> {
     let mut history = DigestedHistory::new(alloc);
     history.absorb(&references(alloc, 0, 9, 10)?)?;
     Ok(history)
 }
 
-// Entries at 20 come with the horizon 15, and what was known before is forgotten.
+// Entries at 20 are taken in with the horizon 15, and older stamps are forgotten.
 fn joined_later(met: &mut Met, alloc: Global, later: &DigestTable) -> Result<(), Ended> {
     let mut history = first_known(alloc)?;
     let before = kept(met, &mut history)?;

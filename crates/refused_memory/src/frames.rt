@@ -3,7 +3,7 @@ use refused_rows::{Ended, Met};
 use std::alloc::Global;
 use warm_frames::{BoxedMessage, Decoder, Fed, FrameFault, Message, decode, encode};
 
-// Sender 1, whose horizon is 12, says that 0:7 has 20@1 and 10@1.
+// A frame of sender 1, with horizon 12 and the entry 0:7 with stamps 20@1 and 10@1.
 const WIDE: [u8; 54] = [
     0x4C, 0x32, 0x47, 0x32, 1, 0, 1, 0, 0, 0, 0, 0, 0, 0, 0x0C, 0, 0, 0, 0x23, 0, 0, 0, 1, 0, 0, 0,
     0, 0, 0, 0, 0, 0, 7, 2, 0, 0, 0, 0, 0, 0, 0, 0x14, 0, 1, 0, 0, 0, 0, 0, 0, 0, 0x0A, 0, 1,
@@ -42,7 +42,7 @@ fn spelled(met: &mut Met, alloc: Global, frame: &Message, wanted: &[u8]) -> Resu
     met.holds(bytes.as_slice() == wanted, "a frame is written in one way")
 }
 
-// Feeds a piece, all of which the frame needs. A refusal takes nothing, so that the same piece is fed again.
+// Feeds a piece that lies in the frame. A refusal consumes nothing, so the same piece is fed again.
 fn fed(met: &mut Met, decoder: &mut Decoder, piece: &[u8]) -> Result<Option<BoxedMessage>, Ended> {
     let Fed { taken, frame } = match decoder.feed(piece) {
         Ok(fed) => fed,

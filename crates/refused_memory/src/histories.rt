@@ -12,7 +12,7 @@ const MORE: u64 = 200;
 
 const OLD: u64 = 80;
 
-// When the pages were referenced first, and when once more.
+// The times of the first and the second references of the pages.
 const FIRST: u64 = 10;
 
 const LATER: u64 = 20;
@@ -20,7 +20,7 @@ const LATER: u64 = 20;
 // A horizon that drops the first references, and keeps the later ones.
 const BETWEEN: u64 = 15;
 
-// A history that knows the pages from `first` up to below `end` once.
+// A history of the pages from `first` up to but not including `end`, with one stamp each.
 pub(crate) fn history_of_pages(
     alloc: Global,
     first: u64,
@@ -32,8 +32,9 @@ pub(crate) fn history_of_pages(
     Ok(history)
 }
 
-// Whether it has this horizon, and knows the pages from `first` up to below `end` once, and no other. Here and below entries are asked
-// for by number: a loop over all of them at once takes long to prove, since it holds an iterator of each bucket.
+// Whether a history has this horizon, and only the pages from `first` up to but not including
+// `end`, with one stamp each. Here and below entries are read by index: a loop over an iterator
+// takes long to prove, since that holds an iterator of each bucket.
 fn knows(history: &History, horizon: u64, first: u64, end: u64, time: u64) -> Result<bool, Ended> {
     let mut place = 0usize;
     for no in first..end {
@@ -50,17 +51,17 @@ fn knows(history: &History, horizon: u64, first: u64, end: u64, time: u64) -> Re
     Ok(history.horizon() == horizon && history.len() == place)
 }
 
-// Whether it is what a history of the 100 pages was.
+// Whether a history of the 100 pages is unchanged.
 fn is_unchanged(history: &History) -> Result<bool, Ended> {
     knows(history, 0, 0, PAGES, FIRST)
 }
 
-// Whether it has taken in the others, and forgotten what is older than they are.
+// Whether it has taken in the others, and forgotten older stamps.
 fn has_later_alone(history: &History) -> Result<bool, Ended> {
     knows(history, BETWEEN, OLD, MORE, LATER)
 }
 
-// Whether it has taken in the others: 200 pages, of which 20 are known twice.
+// Whether it has taken in the others: 200 pages, of which 20 have two stamps.
 fn has_more(history: &History) -> bool {
     let mut twice = 0u64;
     for place in 0..history.len() {
@@ -93,7 +94,7 @@ fn join(met: &mut Met, alloc: Global) -> Result<(), Ended> {
     met.holds(has_more(&history), "join takes the other in")
 }
 
-// The other has a greater horizon, and what is older is forgotten here too.
+// The other history has a greater horizon, and older stamps are forgotten here too.
 fn join_raised(met: &mut Met, alloc: Global) -> Result<(), Ended> {
     let mut history = history_of_pages(alloc, 0, PAGES, FIRST)?;
     let mut other = history_of_pages(alloc, OLD, MORE, LATER)?;

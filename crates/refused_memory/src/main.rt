@@ -1,8 +1,9 @@
-//! Rows of calls that may be refused for memory.
+//! Test cases of calls whose allocations may fail.
 //!
-//! `scripts/refuse-allocations` runs this with each allocation refused in turn. A call that is refused has to leave what can be seen as it
-//! was, or to give back what it took, and is asked for once more, which has to succeed. What is printed says how many calls were
-//! refused; or that a row had no memory for what it needs before its call, and ended.
+//! `scripts/refuse-allocations` runs this with each allocation failing in turn. A refused call must
+//! leave the observable state unchanged, or give back its arguments, and is then repeated, which
+//! must succeed. The output is the number of refused calls; or that a test case ended because an
+//! allocation before its call failed.
 #![tactic(auto)]
 
 mod digested;
@@ -31,7 +32,7 @@ fn play_turns<R: Threads + Wait + Sync>(met: &mut Met, rt: &R, alloc: Global) ->
     turns::rows(met, rt, alloc, node)
 }
 
-// All rows, one after the other, up to one that ends early.
+// All test cases, one after the other, up to one that ends early.
 fn play<R: Threads + Wait + Sync>(met: &mut Met, rt: &R, alloc: Global) -> Result<(), Ended> {
     histories::rows(met, alloc)?;
     sizes::rows(met, alloc)?;

@@ -1,4 +1,4 @@
-//! A pool over a device in memory, and a node over that pool, which is asked for each kind of call.
+//! A pool over a device in memory, and a node over that pool, with calls of each kind.
 use crate::references::{reference, references, replica};
 use refused_rows::{Ended, Met};
 use std::alloc::Global;
@@ -9,7 +9,8 @@ use warm_history::PageHist;
 use warm_pool::{MAX_DEVICES, NewPoolFault, Pool, Slot};
 use warm_stamps::{BUCKETS, Bucket, ByteList, PageId, RefList};
 
-// A node of two frames over a device of 8 pages. A pool that is refused gives the device back, over which it is asked for once more.
+// A node of two frames over a device of 8 pages. A refused pool gives the device back, and is made
+// again over it.
 pub(crate) fn opened(met: &mut Met, alloc: Global, number: u16) -> Result<Node<MemDevice>, Ended> {
     let id = replica(number)?;
     let mut devices = Vec::with_capacity(alloc, 1)?;
@@ -43,8 +44,8 @@ fn time_of(hist: PageHist) -> u64 {
     }
 }
 
-// What can be seen of a node without memory: its horizon, how many pages it knows, a checksum of what it knows of them, and the page
-// that leaves next.
+// The state of a node that can be observed without allocation: its horizon, the number of its
+// entries, a checksum of them, and the next victim.
 #[derive(Clone, Copy, PartialEq, Eq)]
 struct Face {
     horizon: u64,
@@ -77,7 +78,7 @@ fn page(no: u64) -> PageId {
     PageId { dev: 0, no }
 }
 
-// Where 0:7 is: no page was in a frame before it.
+// The slot of 0:7, the first page that is loaded.
 const FIRST: Slot = Slot {
     index: 0,
     generation: 1,
@@ -85,7 +86,7 @@ const FIRST: Slot = Slot {
 
 const CALLS: usize = 19;
 
-// A write to the page that is at `FIRST`.
+// A write to the page in slot `FIRST`.
 fn write_call(alloc: Global) -> Result<Call, Ended> {
     let mut bytes = Vec::new(alloc);
     bytes.extend_from_slice(b"warm")?;
@@ -96,7 +97,7 @@ fn write_call(alloc: Global) -> Result<Call, Ended> {
     })
 }
 
-// Digests of which none is that of a bucket, by replica 2 with this horizon.
+// Digests by replica 2 with this horizon, none of which is that of a bucket.
 fn digest(horizon: u64) -> Result<Message, Ended> {
     let sender = replica(2)?;
     let digests = DigestTable::of([[0; DIGEST_SIZE]; BUCKETS as usize]);
@@ -118,7 +119,8 @@ fn request(horizon: u64) -> Result<Message, Ended> {
     })
 }
 
-// Calls of each kind, one after the other, on a node of replica 1. The horizons 8, 12 and 21 drop what is known at 5, 10 and 20.
+// Calls of each kind, one after the other, on a node of replica 1. The horizons 8, 12 and 21 drop
+// the stamps at 5, 10 and 20.
 fn call_at(alloc: Global, place: usize) -> Result<Call, Ended> {
     let Some(bucket) = Bucket::new(1) else {
         return Err(Ended::Broken);
@@ -153,12 +155,12 @@ fn call_at(alloc: Global, place: usize) -> Result<Call, Ended> {
     })
 }
 
-// Whether this call is documented to take no memory.
+// Whether this call is documented as allocation-free.
 fn is_free(place: usize) -> bool {
     place == 0 || place == 10 || place >= 15
 }
 
-// Asks a node for a call. A refusal changes nothing, and the same call is then asked for once more.
+// Makes a call of a node. A refusal changes nothing, and the same call is then repeated.
 fn ask(
     met: &mut Met,
     alloc: Global,
@@ -181,7 +183,7 @@ fn ask(
     Err(met.broken("a call is refused again"))
 }
 
-// Entries of another node come to this one.
+// This node receives entries of another.
 fn inform(
     met: &mut Met,
     node: &mut Node<MemDevice>,
@@ -207,7 +209,7 @@ fn inform(
     met.holds(node.receive(message).is_ok(), "a message is refused again")
 }
 
-// Asks what a node would answer to a message, which changes nothing, whether it is refused or not.
+// Calls `answers` of a node, which changes nothing, whether it is refused or not.
 fn answered(
     met: &mut Met,
     node: &mut Node<MemDevice>,
@@ -241,7 +243,8 @@ fn answer(met: &mut Met, node: &mut Node<MemDevice>) -> Result<(), Ended> {
     answered(met, node, &request(21)?, 0)
 }
 
-// Asks a node for the call of a place. After the third another informs it of a page, and it is asked for answers.
+// Makes the call of an index on a node. After the third, another node sends it a page, and its
+// answers are requested.
 fn ask_at(
     met: &mut Met,
     alloc: Global,

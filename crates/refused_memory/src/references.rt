@@ -1,4 +1,4 @@
-//! References that rows are made of.
+//! References for the test cases.
 use refused_rows::Ended;
 use std::alloc::Global;
 use warm_stamps::{PageId, Reference, ReplicaId, Stamp};
@@ -19,7 +19,7 @@ pub(crate) fn reference(no: u64, time: u64) -> Result<Reference, Ended> {
     })
 }
 
-// References to the pages from `first` up to below `end`.
+// References to the pages from `first` up to but not including `end`.
 pub(crate) fn references(
     alloc: Global,
     first: u64,

@@ -1,4 +1,5 @@
-//! What is made once, in its whole size: buffers, contests, devices; and the warm-up list.
+//! Values that are allocated once in their full size: buffers, contests, devices; and the warm-up
+//! list.
 use crate::histories::history_of_pages;
 use refused_rows::{Ended, Met};
 use std::alloc::Global;

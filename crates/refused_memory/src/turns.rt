@@ -17,7 +17,8 @@ use warm_replica::{
 use warm_stamps::{BUCKETS, ByteList, PageId, ReplicaId};
 use warm_turn::{Memory, Pass, Turn};
 
-// A turn over the node. Where it is refused the node comes back, and is shared at the second try.
+// A turn over the node. Where it is refused, the node is given back, and is shared at the second
+// try.
 fn shared(
     met: &mut Met,
     alloc: Global,
@@ -36,7 +37,8 @@ fn shared(
     }
 }
 
-// Fills a worker's buffer of two, and flushes it. A refused flush keeps the two, and the next is taken.
+// Fills a worker's buffer of two, and flushes it. A refused flush keeps the two references, and the
+// next flush succeeds.
 fn flush<R: Wait>(
     met: &mut Met,
     rt: &R,
@@ -67,7 +69,7 @@ fn flush<R: Wait>(
     Ok(worker)
 }
 
-// Asks by a worker for the hottest page, which is that of its flush.
+// Requests the hottest page by a worker, which is that of its flush.
 fn list<R: Wait>(
     met: &mut Met,
     rt: &R,
@@ -92,7 +94,7 @@ fn list<R: Wait>(
     met.holds(pages.as_slice() == [hottest].as_slice(), "0:1 was flushed")
 }
 
-// A gate that holds nobody back.
+// A gate that holds nothing back.
 #[derive(Clone, Copy)]
 struct Open;
 
@@ -135,7 +137,8 @@ fn replies_to<R: Threads + Wait + Sync>(
     Ok(run_workers(rt, alloc, replica, pass, all, &Open))
 }
 
-// The replies of a job, one for each step. Where they are refused they come back, and are listed at the second try.
+// The replies of a job, one for each step. Where the list is refused, they are given back, and are
+// listed at the second try.
 fn listed(met: &mut Met, alloc: Global, replies: Replies) -> Result<Vec<StepReply>, Ended> {
     let back = match replies.into_vec(alloc) {
         Ok(list) => return Ok(list),
@@ -148,7 +151,8 @@ fn listed(met: &mut Met, alloc: Global, replies: Replies) -> Result<Vec<StepRepl
     }
 }
 
-// How many of the steps were refused for memory; none may be refused otherwise.
+// The number of steps refused because of an allocation failure; none may be refused for another
+// reason.
 fn refused_in(met: &mut Met, alloc: Global, replies: Vec<Replies>) -> Result<usize, Ended> {
     let mut refused = 0usize;
     for job in replies {
@@ -169,7 +173,7 @@ fn refused_in(met: &mut Met, alloc: Global, replies: Vec<Replies>) -> Result<usi
     Ok(refused)
 }
 
-// Runs the jobs; where one is refused, or a thread is not to be had, once more.
+// Runs the jobs; where one is refused, or a thread can't be started, again.
 fn run<R: Threads + Wait + Sync>(
     met: &mut Met,
     rt: &R,
@@ -199,7 +203,8 @@ fn run<R: Threads + Wait + Sync>(
     }
 }
 
-// The digests of a history of which nobody has heard, from replica 9, as mail. The horizon drops the first of the two references to 0:1.
+// The digests of an unknown history, from replica 9, as mail. The horizon drops the first of the
+// two references to 0:1.
 fn mail(alloc: Global) -> Result<Vec<Mail>, Ended> {
     let Ok(sender) = ReplicaId::new(9) else {
         return Err(Ended::Broken);
@@ -219,8 +224,9 @@ fn mail(alloc: Global) -> Result<Vec<Mail>, Ended> {
     Ok(items)
 }
 
-// What a loop counted of the one item, and how many answers were kept: a request of all buckets, and an answer for each of the pages
-// 0:1 to 0:3. What is refused for memory is counted.
+// The loop's counts of the one item, and the number of answers kept: a request of all buckets, and
+// an answer for each of the pages 0:1 to 0:3. Refusals because of an allocation failure are
+// counted.
 fn counted(met: &mut Met, report: MailReport, kept: u128) -> Result<(), Ended> {
     met.holds(
         report.joined.wrapping_add(report.refused) == 1,
@@ -241,7 +247,7 @@ fn counted(met: &mut Met, report: MailReport, kept: u128) -> Result<(), Ended> {
     )
 }
 
-// A replica takes mail, and what it answers is kept.
+// A replica takes mail, and its answers are kept.
 fn listen<R: Wait>(
     met: &mut Met,
     rt: &R,

@@ -1,8 +1,9 @@
-//! Rows of calls that may be refused for memory: how a row ends, and what was met on the way.
+//! Test cases of calls whose allocations may fail: how a test case ends, and what was found.
 //!
-//! The programs of such rows (`refused_memory`, `refused_worlds`, `promised_memory`) are run by `scripts/refuse-allocations`, which
-//! makes each allocation fail in turn, and reads the last line, which [`report`] prints. Where the allocations of a call are counted, the
-//! lines of [`takes_none`], [`takes`] and [`is_done`] say which call it is.
+//! The programs of such test cases (`refused_memory`, `refused_worlds`, `promised_memory`) are run
+//! by `scripts/refuse-allocations`, which makes each allocation fail in turn, and reads the last
+//! line, which [`report`] prints. Where the allocations of a call are counted, the lines of
+//! [`takes_none`], [`takes`] and [`is_done`] name the call.
 #![tactic(auto)]
 
 ghost use Rattle.std.specs.Prelude.{◌≡◌, Ok, Err, OnOk, OnErr, if◌then◌else◌};
@@ -12,12 +13,12 @@ use std::alloc::AllocError;
 use std::io::{self, Print};
 use std::process::ExitCode;
 
-/// Why a row ended early.
+/// Why a test case ended early.
 #[derive(Debug, Clone, Copy, PartialEq, Eq)]
 pub enum Ended {
-    /// There was no memory for what the row needs before its call.
+    /// An allocation failed that the test case needs before its call.
     NoMemory,
-    /// Something is as it must not be.
+    /// A check failed.
     Broken,
 }
 
@@ -27,7 +28,7 @@ impl From<AllocError> for Ended {
     }
 }
 
-/// How many calls were refused for memory, and what was found to be as it must not be.
+/// The number of calls refused because of an allocation failure, and the check that failed, if any.
 #[derive(Drop)]
 pub struct Met {
     refused: u32,
@@ -35,7 +36,7 @@ pub struct Met {
 }
 
 impl Met {
-    /// Nothing was met yet.
+    /// No refusals and no failed check.
     pub fn new() -> Met {
         Met {
             refused: 0,
@@ -43,7 +44,7 @@ impl Met {
         }
     }
 
-    /// This is as it must not be: the row ends.
+    /// Records a failed check; the test case ends.
     pub fn broken(&mut self, what: &'static str) -> Ended
         ensures { result ≡ Broken }
     {
@@ -51,7 +52,7 @@ impl Met {
         Ended::Broken
     }
 
-    /// Ends the row where this isn't so.
+    /// Ends the test case where the condition is false.
     pub fn holds(&mut self, is: bool, what: &'static str) -> Result<(), Ended>
         ensures { result ≡ if is then Ok tt else Err Broken }
     {
@@ -61,12 +62,14 @@ impl Met {
         Err(self.broken(what))
     }
 
-    /// Counts a call that was refused for memory, of which nothing can be seen.
+    /// Counts a call that was refused because of an allocation failure and whose effect cannot be
+    /// observed.
     pub fn count(&mut self) {
         self.refused = self.refused.wrapping_add(1);
     }
 
-    /// A call was refused: it has to be for memory, and what can be seen has to be as it was.
+    /// Counts a refused call: the reason must be an allocation failure, and the observable state
+    /// must be unchanged.
     pub fn refuse(&mut self, is_as_before: bool, what: &'static str) -> Result<(), Ended>
         ensures { result ≡ if is_as_before then Ok tt else Err Broken }
     {
@@ -75,7 +78,7 @@ impl Met {
     }
 }
 
-// A row whose line could not be printed ends.
+// A test case whose line could not be printed ends.
 fn printed(line: io::Result<()>) -> Result<(), Ended>
     ensures ok { OnOk line (result ≡ Ok tt) }
     ensures err { OnErr line (result ≡ Err Broken) }
@@ -86,29 +89,31 @@ fn printed(line: io::Result<()>) -> Result<(), Ended>
     }
 }
 
-/// Prints the name of the call that comes next, which takes no memory. What is allocated up to the next line is of that call.
+/// Prints the name of the next call, which is allocation-free. Allocations up to the next line are
+/// counted for that call.
 ///
 /// `Broken` occurs where nothing could be printed.
 pub fn takes_none<P: Print>(rt: &P, call: &str) -> Result<(), Ended> {
     printed(println!(rt; "takes no memory: {call}"))
 }
 
-/// Prints the name of the call that comes next, which takes memory, and the size of what it works on, of which a bound of that memory is
-/// computed. What is allocated up to the next line is of that call.
+/// Prints the name of the next call, which allocates, and the size of its data, from which a bound
+/// of its allocations is computed. Allocations up to the next line are counted for that call.
 ///
 /// `Broken` occurs where nothing could be printed.
 pub fn takes<P: Print>(rt: &P, size: usize, call: &str) -> Result<(), Ended> {
     printed(println!(rt; "takes memory for {size}: {call}"))
 }
 
-/// Prints that the last call has returned. What is allocated after it prepares the next call, and is not counted.
+/// Prints that the last call has returned. Allocations after it prepare the next call, and are not
+/// counted.
 ///
 /// `Broken` occurs where nothing could be printed.
 pub fn is_done<P: Print>(rt: &P) -> Result<(), Ended> {
     printed(println!(rt; "done"))
 }
 
-// Prints how the rows ended.
+// Prints how the test cases ended.
 fn print_end<P: Print>(rt: &P, met: &Met, ended: Result<(), Ended>) -> io::Result<()> {
     match ended {
         Ok(()) => println!(rt; "all rows hold, {} calls refused", met.refused),
@@ -117,7 +122,8 @@ fn print_end<P: Print>(rt: &P, met: &Met, ended: Result<(), Ended>) -> io::Resul
     }
 }
 
-/// Prints how the rows ended. The status is a failure where something was as it must not be, or nothing could be printed.
+/// Prints how the test cases ended. The status is a failure where a check failed, or printing
+/// failed.
 pub fn report<P: Print>(rt: &P, met: &Met, ended: Result<(), Ended>) -> ExitCode {
     if print_end(rt, met, ended).is_err() {
         return ExitCode::FAILURE;

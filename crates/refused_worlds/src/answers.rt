@@ -1,14 +1,14 @@
-//! What a world answers, compared.
+//! Comparison of the answers of worlds.
 use warm_gossip::NodeFault;
 use warm_history::History;
 use warm_world::{Answer, WorldFault};
 
-// Whether an event was refused for memory.
+// Whether an event was refused because of an allocation failure.
 pub(crate) fn is_memory(answer: &Answer) -> bool {
     matches!(answer, Answer::Refused(WorldFault::Node(NodeFault::Memory)))
 }
 
-// Whether it was refused for something else.
+// Whether it was refused for another reason.
 pub(crate) fn is_misnamed(answer: &Answer) -> bool {
     matches!(answer, Answer::Refused(_)) && !is_memory(answer)
 }
@@ -19,7 +19,7 @@ fn is_same_history(left: &History, right: &History) -> bool {
         && (0..left.len()).all(|place| left.at(place) == right.at(place))
 }
 
-// Whether two answers say the same.
+// Whether two answers are equal.
 pub(crate) fn is_same(left: &Answer, right: &Answer) -> bool {
     match (left, right) {
         (Answer::Done, Answer::Done) => true,

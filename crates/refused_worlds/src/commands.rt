@@ -3,7 +3,7 @@ use refused_rows::{Ended, Met};
 use std::alloc::Global;
 use warm_setup::{Cmd, CmdFault, PathText, command_of, not_text};
 
-// What words ask for, or that they are refused.
+// The meaning of words, or that they are refused.
 #[derive(Clone, Copy)]
 enum Asked {
     Play(Option<&'static str>, Option<&'static str>),
@@ -64,7 +64,7 @@ fn read_as(read: &Result<Cmd, CmdFault>, asked: Asked) -> Read {
     Read::Otherwise
 }
 
-// Reads the words. Want of memory says nothing of them, and they are read once more.
+// Reads the words. An allocation failure says nothing about them, and they are read again.
 fn row(met: &mut Met, alloc: Global, words: &[&str], asked: Asked) -> Result<(), Ended> {
     let mut read = read_as(&command_of(alloc, words), asked);
     if read == Read::Memory {
@@ -74,7 +74,7 @@ fn row(met: &mut Met, alloc: Global, words: &[&str], asked: Asked) -> Result<(),
     met.holds(read == Read::Rightly, "words are read otherwise")
 }
 
-// The refusal of words that are no text, which want of memory may hide.
+// The refusal of words that are not text; an allocation failure may come first.
 fn no_text(met: &mut Met, alloc: Global) -> Result<(), Ended> {
     let mut read = read_as(&Err(not_text(alloc)), Asked::Refused);
     if read == Read::Memory {

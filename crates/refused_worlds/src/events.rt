@@ -1,24 +1,25 @@
-//! Events of each kind, that none refuses but for memory.
+//! Events of each kind, which are refused only because of an allocation failure.
 use refused_rows::Ended;
 use std::alloc::Global;
 use warm_pool::Slot;
 use warm_stamps::{Bucket, ByteList, PageId};
 use warm_world::Event;
 
-// How many events there are. Replica 1 informs 2 of its pages, and 2 informs it of its own.
+// The number of events. Replica 1 sends its pages to replica 2, and 2 sends its own to 1.
 pub(crate) const EVENTS: usize = 41;
 
 fn page(no: u64) -> PageId {
     PageId { dev: 0, no }
 }
 
-// Where 0:7 is at replica 1: no page was in a frame before it.
+// The slot of 0:7 at replica 1, the first page that is loaded.
 const FIRST: Slot = Slot {
     index: 0,
     generation: 1,
 };
 
-// Whether what is said of the events of a place says that these take no memory: of a `Refer` into a buffer that is not full.
+// Whether the event of an index is documented as allocation-free, as a `Refer` into a buffer that
+// is not full is.
 pub(crate) fn is_free(place: usize) -> bool {
     matches!(
         place,
@@ -39,7 +40,7 @@ fn put(alloc: Global) -> Result<Event, Ended> {
     Ok(Event::Put(1, FIRST, 2, ByteList::of(bytes)))
 }
 
-// The events of replicas that come to know pages.
+// The events by which replicas take in references.
 fn gossip_at(place: usize) -> Result<Event, Ended> {
     Ok(match place {
         0 => Event::Refer(1, 1, page(1), 10),
@@ -52,7 +53,7 @@ fn gossip_at(place: usize) -> Result<Event, Ended> {
         6 => Event::Deliver(2, 1),
         7 => Event::Refer(2, 1, page(3), 40),
         8 => Event::Flush(2, 1),
-        // digests, answered by what differs and by a request
+        // digests, answered by the differing entries and by a request
         9 => Event::Deliver(2, 2),
         10 => Event::Deliver(1, 3),
         11 => Event::Deliver(1, 4),

@@ -1,4 +1,4 @@
-//! A device over a file.
+//! Tests of a device over a file.
 use refused_rows::{Ended, Met};
 use std::fs::{self, File, Files};
 use warm_devices::{FileDevice, OpenFault, PageDevice};
@@ -7,7 +7,7 @@ const PATH: &str = "rows.pages";
 
 const PAGE: [u8; 16] = *b"what the page is";
 
-// The file as a device of 8 pages. One that is refused is asked for once more.
+// The file as a device of 8 pages. One that is refused is opened again.
 fn opened<R: Files<File = File>>(met: &mut Met, files: &R) -> Result<FileDevice, Ended> {
     let fault = match FileDevice::open(files, PATH, 8, 16) {
         Ok(device) => return Ok(device),
@@ -20,7 +20,7 @@ fn opened<R: Files<File = File>>(met: &mut Met, files: &R) -> Result<FileDevice,
     }
 }
 
-// Writes a page of a device, which takes no memory.
+// Writes a page of a device, which is allocation-free.
 fn write(met: &mut Met, mut device: FileDevice) -> Result<(), Ended> {
     if device.pages() != 8 || device.page_size() != PAGE.len() {
         return Err(met.broken("a device has other pages than it was opened with"));
@@ -29,7 +29,7 @@ fn write(met: &mut Met, mut device: FileDevice) -> Result<(), Ended> {
     met.holds(is_written, "a page is not written")
 }
 
-// Reads it, which takes no memory.
+// Reads it, which is allocation-free.
 fn read(met: &mut Met, mut device: FileDevice) -> Result<(), Ended> {
     if device.pages() != 8 || device.page_size() != PAGE.len() {
         return Err(met.broken("a device has other pages than it was opened with"));
@@ -39,7 +39,8 @@ fn read(met: &mut Met, mut device: FileDevice) -> Result<(), Ended> {
     met.holds(is_read, "a page is not as it was written")
 }
 
-// A page is written, and read from the device that is opened after it, refused at first or not. The file goes in the end.
+// A page is written, and read from the device that is opened next, refused at first or not. The
+// file is removed at the end.
 pub(crate) fn rows<R: Files<File = File>>(met: &mut Met, files: &R) -> Result<(), Ended> {
     let device = opened(met, files)?;
     write(met, device)?;

@@ -1,9 +1,10 @@
-//! Rows of calls of worlds, files, setups and command lines that may be refused for memory.
+//! Test cases of calls of worlds, files, setups and command lines whose allocations may fail.
 //!
-//! `scripts/refuse-allocations` runs this with each allocation refused in turn, as it does `refused_memory`, which has the rows of what
-//! is below a world. A call that is refused has to leave what can be seen as it was, or to give back what it took, and is asked for
-//! once more, which has to succeed. What is printed says how many calls were refused; or that a row had no memory for what it needs
-//! before its call, and ended.
+//! `scripts/refuse-allocations` runs this with each allocation failing in turn, as it does
+//! `refused_memory`, which has the test cases of the layers below a world. A refused call must
+//! leave the observable state unchanged, or give back its arguments, and is then repeated, which
+//! must succeed. The output is the number of refused calls; or that a test case ended because an
+//! allocation before its call failed.
 #![tactic(auto)]
 
 mod answers;
@@ -16,7 +17,7 @@ mod worlds;
 use refused_rows::{Ended, Met, report};
 use std::process::ExitCode;
 
-// All rows, one after the other, up to one that ends early.
+// All test cases, one after the other, up to one that ends early.
 fn play(met: &mut Met, rt: &HostRuntime) -> Result<(), Ended> {
     setups::rows(met, rt.alloc())?;
     commands::rows(met, rt.alloc())?;

@@ -7,7 +7,7 @@ use warm_world::Setup;
 const TEXT: &str =
     "frames = 7\nreplicas = 2\n[[device]]\npages = 80\n[[device]]\npages = 8\npath = \"pages\"\n";
 
-// Texts that are no setup, and why.
+// Texts that are not a setup, and the fault of each.
 const BAD: [(&str, SetupFault); 4] = [
     ("frames", SetupFault::NotToml),
     ("colour = 1", SetupFault::BadKey),
@@ -34,7 +34,7 @@ fn is_device(device: Option<&DeviceSpec>, pages: u32, path: &str) -> bool {
     }
 }
 
-// Whether this is what the text means, and the defaults for what it leaves out.
+// Whether this is the meaning of the text, with the defaults for missing keys.
 fn is_meant(setup: Setup, devices: &[DeviceSpec]) -> bool {
     setup.frames() == 7
         && setup.replicas() == 2
@@ -44,7 +44,8 @@ fn is_meant(setup: Setup, devices: &[DeviceSpec]) -> bool {
         && is_device(devices.last(), 8, "pages")
 }
 
-// What a text means, or why it means nothing. Want of memory says nothing of the text, which is read once more.
+// The meaning of a text, or its fault. An allocation failure says nothing about the text, which is
+// read again.
 fn read(met: &mut Met, alloc: Global, text: &str) -> Result<(Setup, Vec<DeviceSpec>), SetupFault> {
     let read = read_setup(alloc, text);
     if let Err(SetupFault::Memory) = &read {

@@ -1,5 +1,5 @@
-//! Worlds of two replicas, made, stepped and run. What was refused is compared with a world that was never refused: one allocation
-//! alone is refused, so that a world that is made after it is one.
+//! Worlds of two replicas, made, stepped and run. A world with a refusal is compared with a world
+//! without one: only one allocation fails, so a world that is made after it has none.
 ghost use Rattle.std.specs.Prelude.{◌≡◌, IfOk, length};
 ghost use Rattle.warm_world.specs.Opening.{AreFew};
 ghost use Rattle.warm_world.specs.Views.{listed};
@@ -37,7 +37,8 @@ fn lists_of<D: PageDevice>(alloc: Global, first: D, second: D) -> Result<Vec<Vec
     Ok(lists)
 }
 
-// A world of two replicas with a buffer of two and two frames each, or none where it is refused for memory.
+// A world of two replicas with a buffer of two and two frames each, or none where an allocation
+// fails.
 fn over(
     met: &mut Met,
     alloc: Global,
@@ -56,12 +57,13 @@ fn over(
     }
 }
 
-// How a world answers an event. What is known of its answers is left here, so that it is read once and not by each caller.
+// The answer of a world to an event. The contract of an answer is used only here, so that it is not
+// unfolded in each caller.
 fn asked(world: &mut World<MemDevice>, event: Event) -> Answer {
     world.step(event)
 }
 
-// What a world shows without a change.
+// The events that show a world without changing it.
 fn look_at(place: usize) -> Event {
     match place {
         0 => Event::Show(1),
@@ -101,7 +103,7 @@ fn step_up_to(
     Ok(None)
 }
 
-// Both worlds answer an event, and alike.
+// Both worlds answer an event, with equal answers.
 fn step_both(
     met: &mut Met,
     alloc: Global,
@@ -164,7 +166,8 @@ fn step_along(
     Ok(refused)
 }
 
-// A world that was run, and one that is stepped along. What the run refused, both are asked for at the end.
+// A world that was run, and one that is stepped alongside. The event that the run refused is given
+// to both at the end.
 fn go_along(
     met: &mut Met,
     alloc: Global,
@@ -180,14 +183,14 @@ fn go_along(
     }
 }
 
-// What a world was refused.
+// The refusal of a world.
 #[derive(Drop)]
 enum Refusal {
     // The event of a place.
     Event(usize),
-    // A run: its events came back.
+    // A run: its events were given back.
     Run(Vec<Event>),
-    // An event of a run, which answered so.
+    // An event of a run, with the run's answers.
     EventOfRun(Vec<Answer>),
 }
 
@@ -220,7 +223,8 @@ fn run_all(
     Ok(None)
 }
 
-// A world whose run was refused shows what one shows in which nothing has happened, and runs the events that came back.
+// A world whose run was refused shows the same as a fresh one, and runs the events that were given
+// back.
 fn run_again(
     met: &mut Met,
     alloc: Global,
@@ -252,7 +256,7 @@ fn compare(
     }
 }
 
-// How a world comes to its events.
+// How a world executes its events.
 #[derive(Clone, Copy)]
 enum Life {
     Steps,
@@ -271,13 +275,13 @@ fn play(
     }
 }
 
-// Finishes a world, which takes no memory.
+// Finishes a world, which is allocation-free.
 fn finish(met: &mut Met, world: &mut World<MemDevice>) -> Result<bool, Ended> {
     met.holds(world.finish().is_ok(), "a finish is refused")?;
     Ok(true)
 }
 
-// A world that comes to all events, and is finished; or none, where the world is refused.
+// A world that executes all events, and is finished; or none, where making the world is refused.
 fn live(met: &mut Met, alloc: Global, life: Life) -> Result<bool, Ended> {
     let Some(mut world) = over(met, alloc, device(alloc)?, device(alloc)?)? else {
         return Ok(false);
@@ -292,7 +296,7 @@ fn live(met: &mut Met, alloc: Global, life: Life) -> Result<bool, Ended> {
     finish(met, &mut world)
 }
 
-// A world that is refused is asked for once more, over other devices.
+// A world whose making is refused is made again, over other devices.
 fn row(met: &mut Met, alloc: Global, life: Life) -> Result<(), Ended> {
     if live(met, alloc, life)? {
         return Ok(());

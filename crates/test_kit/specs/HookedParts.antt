@@ -1,4 +1,4 @@
--- What a `Hooked` shows: the device in memory to which calls are passed on.
+-- The state of a `Hooked`: that of the device in memory to which calls are forwarded.
 use Rattle.warm_devices.specs.Device.{DeviceState}
 use Rattle.test_kit.specs.declared.hooked.Hooked.{Hooked}
 

@@ -8,17 +8,18 @@ use warm_devices::{Flaky, MemDevice, PageDevice};
 /// A device in memory of this many pages of 16 bytes.
 ///
 /// # Errors
-/// Where the memory for it is refused.
+/// Where its allocation fails.
 pub fn memory(alloc: Global, pages: u64) -> Result<MemDevice, AllocError>
     ensures { IfOk result (λ device. device ≡ zeroed pages 16) }
 {
     MemDevice::new(alloc, pages, 16)
 }
 
-/// Such a device, of whose reads, writes and flushes the `n`-th fails, or none where `n` is 0.
+/// Such a device whose `n`-th call, of reads, writes and flushes, fails; no call fails where `n` is
+/// 0.
 ///
 /// # Errors
-/// Where the memory for it is refused.
+/// Where its allocation fails.
 pub fn flaky(alloc: Global, pages: u64, n: u64) -> Result<Flaky<MemDevice>, AllocError> {
     let device = memory(alloc, pages)?;
     Ok(Flaky::new(device, n))
@@ -27,7 +28,7 @@ pub fn flaky(alloc: Global, pages: u64, n: u64) -> Result<Flaky<MemDevice>, Allo
 /// A list of one device.
 ///
 /// # Errors
-/// Where the memory for it is refused. The device is then dropped.
+/// Where its allocation fails. The device is then dropped.
 pub fn alone<D: PageDevice>(alloc: Global, device: D) -> Result<Vec<D>, AllocError>
     ensures { IfOk result (λ devices. length devices.items ≡ 1) }
 {
@@ -39,7 +40,7 @@ pub fn alone<D: PageDevice>(alloc: Global, device: D) -> Result<Vec<D>, AllocErr
 /// A list of two devices.
 ///
 /// # Errors
-/// Where the memory for it is refused. The devices are then dropped.
+/// Where its allocation fails. The devices are then dropped.
 pub fn both<D: PageDevice>(alloc: Global, first: D, second: D) -> Result<Vec<D>, AllocError>
     ensures { IfOk result (λ devices. length devices.items ≡ 2) }
 {

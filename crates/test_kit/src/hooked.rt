@@ -1,25 +1,28 @@
-//! A device in memory that calls a test back.
+//! A device in memory that calls back a test.
 ghost use Rattle.std.specs.Prelude.{◌≡◌, IfOk, length};
 
 use std::alloc::{AllocError, Global};
 use warm_devices::{DeviceFault, MemDevice, PageDevice};
 
-/// What a test sees of a [`Hooked`] device, and where it may keep a call waiting. No contract says what a hook does.
+/// What a test observes of a [`Hooked`] device; a hook may also delay a call. No contract says what
+/// a hook does.
 pub trait Hooks: Drop {
-    /// A page is about to be read. The device passes the call on when this returns.
+    /// A page is about to be read. The device forwards the call when this returns.
     fn before_read(&self);
 
-    /// A page is about to be written, whether that will be refused or not.
+    /// A page is about to be written, whether the write will fail or not.
     fn before_write(&self) {}
 
-    /// The drop of the device has begun: whether something waits for a flush. Nothing was settled yet.
+    /// The drop of the device has begun. `waiting` says whether something is unflushed; nothing was
+    /// settled yet.
     fn at_drop(&self, waiting: bool);
 
-    /// After [`Hooks::at_drop`], for each page from 0 on: the bytes that it has.
+    /// Called after [`Hooks::at_drop`], for each page from 0 on, with its bytes.
     fn page_at_drop(&self, no: u64, bytes: &[u8]);
 }
 
-/// A device in memory that passes each call on, and calls its hooks before a read or a write and as its drop begins.
+/// A device in memory that forwards each call, and calls its hooks before a read or a write and
+/// when its drop begins.
 pub struct Hooked<H: Hooks> {
     inner: MemDevice,
     hooks: H,
@@ -30,10 +33,10 @@ pub struct Hooked<H: Hooks> {
 impl<H: Hooks> Hooked<H> {
     ghost use Rattle.test_kit.specs.HookedParts.{hooked_state};
 
-    /// Passes calls on to `inner`.
+    /// Forwards calls to `inner`.
     ///
     /// # Errors
-    /// Where the memory for a page is refused. Device and hooks are then dropped.
+    /// Where the allocation of a page buffer fails. Device and hooks are then dropped.
     pub fn new(alloc: Global, inner: MemDevice, hooks: H) -> Result<Hooked<H>, AllocError>
         ensures { IfOk result (λ device. hooked_state device ≡ inner) }
     {
@@ -82,7 +85,7 @@ impl<H: Hooks> PageDevice for Hooked<H> {
     }
 }
 
-// Shows the hooks whether something waits, and what each page holds.
+// Passes to the hooks whether something is unflushed, and the bytes of each page.
 fn show_all<H: Hooks>(inner: &mut MemDevice, hooks: &H, page: &mut Vec<u8>)
     requires { length page.old.items ≡ inner.old.page_size }
     ensures { length page.new.items ≡ inner.new.page_size }

@@ -1,7 +1,8 @@
-//! What the tests of several crates share: values and lists made from plain numbers, bytes of frames, devices, and one device that
-//! calls a test back.
+//! What the tests of several crates share: values and lists made from plain numbers, bytes of
+//! frames, devices, and a device that calls back a test.
 //!
-//! Nothing here may end a process, since only tests may: what can be refused for memory says so, and the test decides.
+//! Nothing here may end a process, since only tests may: a function whose allocation can fail
+//! returns an error, and the test decides.
 #![tactic(auto)]
 
 mod bytes;

@@ -11,7 +11,7 @@ pub type SeenAt = (u16, u64, u64, u16);
 /// The references of a list, in its order.
 ///
 /// # Errors
-/// Where the memory for them is refused.
+/// Where their allocation fails.
 pub fn references(alloc: Global, given: &[SeenAt]) -> Result<Vec<Reference>, AllocError> {
     let mut batch = Vec::with_capacity(alloc, given.len())?;
     for (dev, no, time, number) in given {
@@ -20,10 +20,10 @@ pub fn references(alloc: Global, given: &[SeenAt]) -> Result<Vec<Reference>, All
     Ok(batch)
 }
 
-/// The history of the references of a list, which are taken in at once.
+/// The history of the references of a list, which are absorbed as one batch.
 ///
 /// # Errors
-/// Where the memory for it is refused.
+/// Where its allocation fails.
 pub fn history_of(alloc: Global, given: &[SeenAt]) -> Result<History, AllocError> {
     let batch = references(alloc, given)?;
     let mut history = History::new(alloc);

@@ -1,6 +1,7 @@
-//! Hooks that note what the drop of a device finds, and how often a device is written to and dropped.
+//! Hooks that record what the drop of a device finds, and how often a device is written to and
+//! dropped.
 //!
-//! No contract can say what becomes of a box that leaves: a test reads the [`Note`].
+//! No contract can say what happens to a device that was dropped: a test reads the [`Note`].
 ghost use Rattle.std.specs.Prelude.{◌≡◌, IfOk};
 ghost use Rattle.test_kit.specs.HookedParts.{hooked_state};
 ghost use Rattle.warm_devices.specs.Device.{zeroed};
@@ -11,18 +12,19 @@ use std::sync::Arc;
 use std::sync::atomic::{AtomicU8, AtomicU64, Ordering};
 use warm_devices::MemDevice;
 
-/// What a drop found waiting.
+/// What a drop found unflushed.
 #[derive(Clone, Copy, PartialEq, Eq, Debug)]
 pub enum Found {
     /// No drop has begun.
     NoDrop,
-    /// Nothing waited.
+    /// Nothing was unflushed.
     Settled,
-    /// A page that was written waited for a flush.
+    /// A page that was written was unflushed.
     Waiting,
 }
 
-/// What a device held as its drop began, and how often it was written to and dropped. It outlives the device.
+/// The contents of a device when its drop began, and how often it was written to and dropped. It
+/// outlives the device.
 #[derive(Drop)]
 pub struct Note {
     found: AtomicU8,
@@ -35,7 +37,7 @@ impl Note {
     /// A note without entries, for a device of `pages` pages of `page_size` bytes.
     ///
     /// # Errors
-    /// Where memory for it is refused.
+    /// Where its allocation fails.
     pub fn blank(
         alloc: Global,
         pages: u64,
@@ -58,7 +60,7 @@ impl Note {
         Ok(Arc::new(alloc, note)?)
     }
 
-    /// What the drop found waiting.
+    /// What the drop found unflushed.
     pub fn found(&self) -> Found {
         match self.found.load(Ordering::SeqCst) {
             0 => Found::NoDrop,
@@ -67,13 +69,13 @@ impl Note {
         }
     }
 
-    /// How many pages were written, and how many drops have begun.
+    /// The number of writes, and the number of drops that have begun.
     pub fn counts(&self) -> (u64, u64) {
         let writes = self.writes.load(Ordering::SeqCst);
         (writes, self.drops.load(Ordering::SeqCst))
     }
 
-    /// Whether the drop found just these bytes in page `no`.
+    /// Whether the drop found exactly these bytes in page `no`.
     pub fn has(&self, no: u64, bytes: &[u8]) -> bool {
         let Some(page) = self.pages.get(no as usize) else {
             return false;
@@ -109,13 +111,13 @@ impl Hooks for Arc<Note, Global> {
     }
 }
 
-/// A device in memory that notes its drop.
+/// A device in memory that records its drop.
 pub type Noting = Hooked<Arc<Note, Global>>;
 
-/// A device of `pages` pages of `page_size` zeros that notes its drop, and the note.
+/// A device of `pages` pages of `page_size` zeros that records its drop, and the note.
 ///
 /// # Errors
-/// Where memory for them is refused.
+/// Where their allocation fails.
 pub fn noting(
     alloc: Global,
     pages: u64,

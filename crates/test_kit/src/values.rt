@@ -1,4 +1,4 @@
-//! Pages, stamps and what is known of a page, made from plain numbers.
+//! Pages, stamps and page histories, made from plain numbers.
 ghost use Rattle.std.specs.Prelude.{◌≡◌};
 ghost use Rattle.warm_stamps.specs.Replicas.{IsReplica};
 
@@ -15,7 +15,7 @@ pub const fn page_on(dev: u16, no: u64) -> PageId {
     PageId { dev, no }
 }
 
-/// The replica of this number, from 1 to 64. For a number of none it is replica 1.
+/// The replica of this number, from 1 to 64. For an invalid number it is replica 1.
 pub fn replica(number: u16) -> ReplicaId
     ensures { IsReplica number → result ≡ number }
 {
@@ -49,13 +49,13 @@ pub fn seen(page: PageId, time: u64, number: u16) -> Reference {
     }
 }
 
-/// What is kept of a page that was referenced once, at a time and at the replica of a number.
+/// The history of a page that was referenced once, at a time and at the replica of a number.
 pub fn once(time: u64, number: u16) -> PageHist {
     PageHist::Once(stamp(time, number))
 }
 
-/// What is kept of a page whose last stamp and whose last but one are given by time and replica. The second has to be older; where it
-/// is not, the last alone is kept.
+/// The history of a page whose last and second last stamps are given by time and replica. The
+/// second must be older; where it is not, only the last is kept.
 pub fn twice(last: (u64, u16), prev: (u64, u16)) -> PageHist {
     let last = stamp(last.0, last.1);
     let prev = stamp(prev.0, prev.1);
@@ -65,7 +65,7 @@ pub fn twice(last: (u64, u16), prev: (u64, u16)) -> PageHist {
     PageHist::Once(last)
 }
 
-/// A page with what is kept of it.
+/// An entry: a page with its history.
 pub const fn entry(page: PageId, hist: PageHist) -> Entry {
     Entry { page, hist }
 }

@@ -17,7 +17,7 @@ fn known(rt: &impl Abort, alloc: Global) -> History {
     history
 }
 
-// The set of the buckets that a batch changes, and that it changes none when it comes again.
+// The set of the buckets that a batch changes; the same batch given again changes none.
 fn changed_by(rt: &impl Abort, alloc: Global, history: &mut History, given: &[SeenAt]) -> u64 {
     let batch = references(alloc, given).expect(rt, "memory for references");
     let changed = history.absorb(&batch).expect(rt, "memory for a batch");
@@ -25,7 +25,7 @@ fn changed_by(rt: &impl Abort, alloc: Global, history: &mut History, given: &[Se
     changed
 }
 
-// What a batch holds, and the buckets that it changes after those before it.
+// A batch, and the buckets that it changes after the batches before it.
 type Row<'a> = (&'a [SeenAt], u64);
 
 const BATCHES: [Row<'static>; 8] = [

@@ -1,4 +1,4 @@
-//! Digests of buckets, made from a history and kept.
+//! Digests of buckets, computed from a history and cached.
 
 use std::alloc::Global;
 use std::process::Abort;
@@ -7,7 +7,7 @@ use warm_digest::{DigestedHistory, Digests, differing, digests};
 use warm_frames::DigestTable;
 use warm_history::History;
 
-// SHA-256 of no bytes.
+// SHA-256 of the empty byte string.
 const OF_NOTHING: [u8; 32] = [
     0xe3, 0xb0, 0xc4, 0x42, 0x98, 0xfc, 0x1c, 0x14, 0x9a, 0xfb, 0xf4, 0xc8, 0x99, 0x6f, 0xb9, 0x24,
     0x27, 0xae, 0x41, 0xe4, 0x64, 0x9b, 0x93, 0x4c, 0xa4, 0x95, 0x99, 0x1b, 0x78, 0x52, 0xb8, 0x55,
@@ -55,8 +55,9 @@ fn digests_of(rt: &impl Abort, alloc: Global, given: &[SeenAt]) -> DigestTable {
     digests(alloc, &history).expect(rt, "memory for the digests")
 }
 
-// Which of the four pages a table has digests of: none, those of bucket 1, all, or all by what is kept of them since 20.
-// Each is named by a word, since a digest of 32 bytes is dear to prove wherever it stands.
+// Of which of the four pages a table has digests: none, those of bucket 1, all, or all as cut at
+// the horizon 20. Each case has a name, since a digest of 32 bytes is expensive to prove wherever
+// it occurs.
 #[derive(Clone, Copy)]
 enum Pages {
     None,
@@ -75,7 +76,7 @@ fn digest_of(index: u8, pages: Pages) -> [u8; 32] {
     }
 }
 
-// Whether each bucket has the digest of those of the pages that it has.
+// Whether each bucket has the digest of its own pages of these.
 fn has_digests(table: &DigestTable, pages: Pages) -> bool {
     for index in 0..64 {
         if table.digest(bucket(index)) != digest_of(index, pages) {
@@ -92,7 +93,7 @@ fn a_bucket_has_the_digest_of_its_entries(rt: HostRuntime) {
     assert!(rt; has_digests(&Digests::new(rt.alloc()).table(), Pages::None));
 }
 
-// Whether the digests that are kept are of those of the four pages.
+// Whether the cached digests are those of the given ones of the four pages.
 fn keeps(rt: &impl Abort, digested: &mut DigestedHistory, pages: Pages) -> bool {
     has_digests(
         &digested.digests().expect(rt, "memory for the digests"),
@@ -100,7 +101,7 @@ fn keeps(rt: &impl Abort, digested: &mut DigestedHistory, pages: Pages) -> bool 
     )
 }
 
-// The digests of the four pages are kept, however often they are asked for.
+// The digests of the four pages stay cached, however often they are requested.
 fn takes_in_four(rt: &impl Abort, alloc: Global, digested: &mut DigestedHistory) {
     let batch = references(alloc, &FOUR_PAGES).expect(rt, "memory for references");
     digested.absorb(&batch).expect(rt, "memory for a batch");
@@ -108,7 +109,8 @@ fn takes_in_four(rt: &impl Abort, alloc: Global, digested: &mut DigestedHistory)
     assert!(rt; keeps(rt, digested, Pages::All));
 }
 
-// The digests that are kept follow the horizon as it rises, by itself or with a frame of no entries, and stay as an earlier time comes.
+// The cached digests follow the horizon as it rises, by a raise or by a frame without entries, and
+// don't change for an earlier time.
 fn follow_the_horizon(rt: &impl Abort, digested: &mut DigestedHistory) {
     digested.raise(20);
     assert!(rt; keeps(rt, digested, Pages::Since20));

@@ -1,5 +1,5 @@
-//! Histories and their horizons: joins and copies, and pages of all devices and buckets. What a refusal for memory leaves is looked at
-//! by the program `refused_memory`.
+//! Histories and their horizons: joins and copies, and pages of all devices and buckets. The state
+//! after an allocation failure is tested by the program `refused_memory`.
 use std::alloc::Global;
 use std::process::Abort;
 use test_kit::{SeenAt, bucket, entry, history_of, once, page, page_on, seen, twice};
@@ -13,8 +13,8 @@ fn history_since(rt: &impl Abort, alloc: Global, horizon: u64, given: &[SeenAt])
     history
 }
 
-// Whether two histories have one horizon and the same entries: bucket by bucket, since what goes over one bucket is
-// cheaper to prove than what goes over all in page order.
+// Whether two histories have one horizon and the same entries: bucket by bucket, since an iterator
+// over one bucket is cheaper to prove than one over all in page order.
 fn are_equal(a: &History, b: &History) -> bool {
     if a.horizon() != b.horizon() {
         return false;
@@ -42,7 +42,8 @@ fn every_page_twice(rt: &impl Abort, alloc: Global) -> Vec<Reference> {
     batch
 }
 
-// A history takes in a history of nothing and no entries, and one of nothing is copied and takes in the history.
+// A history takes in an empty history and no entries; an empty history is copied and takes in the
+// history.
 fn joins_nothing(rt: &impl Abort, alloc: Global, here: &mut History) {
     let nothing = History::new(alloc);
     here.join(&nothing).expect(rt, "nothing to take in");
@@ -102,7 +103,8 @@ fn entries_come_with_a_horizon(rt: HostRuntime) {
         .expect(&rt, "memory for entries");
     assert!(rt; here.horizon() == 9);
     assert!(rt; is_known(&here, page(1), twice((20, 1), (9, 2))));
-    // A lesser horizon changes nothing but by its entries, of which the older stamps are dropped. They may fall by page.
+    // With a lesser horizon only the entries are taken in, without their stamps older than the
+    // history's own horizon. They may be in falling page order.
     let more = [
         entry(page(2), once(8, 1)),
         entry(page(1), twice((19, 1), (8, 2))),
@@ -149,7 +151,8 @@ fn goes_over_devices_and_buckets_in_page_order(rt: HostRuntime) {
     assert!(rt; here.get(page_on(65_535, 0)) == None);
 }
 
-// The number of a bucket, a page, how many entries after it are asked for, the number of the first, and how many come.
+// A test case: the number of a bucket, a page, the number of entries requested after it, the number
+// of the first, and how many are returned.
 type Row = (u8, (u16, u64), usize, Option<u64>, usize);
 
 const LATER: [Row; 7] = [

@@ -1,8 +1,9 @@
-//! Tests of warm_history, warm_rank and warm_digest: histories and their horizons, which buckets a call changes, which pages leave first by them and which a warm-up
-//! loads, and what the digests of their buckets are.
+//! Tests of warm_history, warm_rank and warm_digest: histories and their horizons, which buckets a
+//! call changes, which pages are evicted first and which a warm-up loads, and the digests of their
+//! buckets.
 //!
-//! They use public calls alone, and have a crate of their own so that the gate proves those libraries once and not again beside
-//! their tests.
+//! They use only public calls, and have a crate of their own so that the gate proves those
+//! libraries once, and not again with their tests.
 #![tactic(auto)]
 
 #[cfg(test)]

@@ -70,7 +70,7 @@ fn rises(rt: &impl Abort, alloc: Global, slots: u32) -> bool
     first == Some(0) && contest.least() == next
 }
 
-// A contest of one slot more is no call, since `new` requires that there are at most 65,536.
+// A contest of one slot more cannot be called for, since `new` requires at most 65,536.
 #[test]
 fn contest_has_any_number_of_slots(rt: HostRuntime) {
     for slots in [1, 2, 3, 65_535, 65_536u32] {

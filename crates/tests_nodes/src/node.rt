@@ -1,7 +1,8 @@
-//! One node: lists of calls, each with its answer.
+//! One node: lists of calls, each with its expected reply.
 //!
-//! Each call stands in a function of its own, so that what is proved of a test does not grow with its rows. What must not fail ends
-//! the process where it does: a `?` would be one more way out, on which the drop of all that is owned is proved.
+//! Each call is in a function of its own, so that the proof of a test does not grow with its test
+//! cases (`Row`). What must not fail ends the process where it does: a `?` would be one more exit
+//! path, on which the drops of all owned values are proved.
 
 mod dropped;
 mod formats;
@@ -48,20 +49,20 @@ fn fresh(rt: &impl Abort, alloc: Global, number: u16) -> Node<MemDevice> {
     over(rt, alloc, number, 4, device)
 }
 
-// What a node answers, where it is short. Pages are those of device 0.
+// The short replies of a node. Pages are those of device 0.
 #[derive(Clone, Copy, PartialEq)]
 enum Said {
     Done,
     Refused(NodeFault),
-    // The index and the generation of the slot of a page with a fix.
+    // The index and the generation of the slot of a pinned page.
     Pinned(u32, u64),
-    // The page that leaves next.
+    // The next victim.
     Leaves(Option<u64>),
     // The page that a step of the warm-up loads.
     Loaded(Option<u64>),
     // The time before which stamps are forgotten.
     Kept(u64),
-    // Frames, pages or bytes.
+    // A long reply: frames, pages or bytes.
     Long,
 }
 
@@ -90,7 +91,7 @@ fn said_in(reply: Reply) -> Said {
     }
 }
 
-// The one place where a node is called: what else is asked of it need not know what a call promises.
+// The only place where a node is called: other functions need not unfold the contract of a call.
 fn answer<D: PageDevice>(node: &mut Node<D>, call: Call) -> Reply {
     node.call(call)
 }
@@ -99,7 +100,7 @@ fn says<D: PageDevice>(node: &mut Node<D>, call: Call) -> Said {
     said_in(answer(node, call))
 }
 
-// A message of replica 1, by its horizon and what it holds.
+// A message of replica 1, by its horizon and its contents.
 #[derive(Clone, Copy)]
 enum Sent {
     // All entries of the history of these references.
@@ -110,23 +111,24 @@ enum Sent {
     Request(u64, u64),
 }
 
-// What a call asks of a node, and what it answers. Pages are given by their number on device 0, and slots by their index and their
-// generation: rows are constants, so that no call among them is proved.
+// A test case: a call of a node and its expected reply. Pages are given by their number on device
+// 0, and slots by their index and their generation: test cases are constants, so that no function
+// call in them is proved.
 #[derive(Clone, Copy)]
 enum Row {
     // References are absorbed.
     Absorbs(&'static [SeenAt]),
-    // A page is given a fix.
+    // A page is pinned.
     Pins(u64, Said),
-    // A fix is taken away.
+    // A slot is unpinned.
     Unpins(u32, u64),
-    // Bytes are written into the slot's page, from its beginning.
+    // Bytes are written into the slot's page, from its start.
     Writes(u32, u64, &'static [u8]),
-    // The slot's page begins with these bytes.
+    // The slot's page starts with these bytes.
     Reads(u32, u64, &'static [u8]),
-    // The page that leaves next.
+    // The next victim.
     Victim(Option<u64>),
-    // The hottest pages, as many as are given.
+    // The hottest pages, as many as are listed here.
     Hottest(&'static [u64]),
     // A step of the warm-up.
     Loads(Said),
@@ -180,7 +182,7 @@ fn message_of(rt: &impl Abort, alloc: Global, sent: Sent) -> Message {
     }
 }
 
-// The call that a row makes, and what is to be said to it.
+// The call of a test case, and the expected reply.
 fn asked(rt: &impl Abort, alloc: Global, row: Row) -> (Call, Said) {
     match row {
         Row::Absorbs(given) => {
@@ -202,7 +204,7 @@ fn asked(rt: &impl Abort, alloc: Global, row: Row) -> (Call, Said) {
     }
 }
 
-// Whether the call that a row makes is answered as it says.
+// Whether the call of a test case gets its expected reply.
 fn is_said<D: PageDevice>(rt: &impl Abort, alloc: Global, node: &mut Node<D>, row: Row) -> bool {
     let (call, wanted) = asked(rt, alloc, row);
     says(node, call) == wanted
@@ -215,7 +217,7 @@ fn has_bytes(reply: Reply, wanted: &[u8]) -> bool {
     }
 }
 
-// Whether a reply lists just the pages of these numbers.
+// Whether a reply lists exactly the pages of these numbers.
 fn has_pages(reply: Reply, wanted: &[u64]) -> bool {
     let Reply::Pages(pages) = reply else {
         return false;
@@ -228,7 +230,8 @@ fn has_pages(reply: Reply, wanted: &[u64]) -> bool {
     pages.as_slice().len() == wanted.len()
 }
 
-// What is known of a page that replica 1 referenced last at a time, and before at another, or at 0 not at all.
+// The history of a page that replica 1 referenced last at a time, and before that at another; 0
+// means no earlier reference.
 fn hist_of(last: u64, prev: u64) -> PageHist {
     if prev == 0 {
         return once(last, 1);
@@ -236,7 +239,7 @@ fn hist_of(last: u64, prev: u64) -> PageHist {
     twice((last, 1), (prev, 1))
 }
 
-// Whether a history has this horizon, and just these pages with stamps of these times.
+// Whether a history has this horizon, and exactly these pages with stamps of these times.
 fn knows(history: &History, horizon: u64, wanted: &[(u64, u64, u64)]) -> bool {
     for (place, (no, last, prev)) in wanted.iter().enumerate() {
         if history.at(place) != Some(entry(page(*no), hist_of(*last, *prev))) {
@@ -250,7 +253,7 @@ fn bytes_of(rt: &impl Abort, alloc: Global, message: &Message) -> Vec<u8> {
     encode(alloc, message).expect(rt, "memory for the bytes")
 }
 
-// Whether these are just the messages of replica 1 that are wanted, by their bytes.
+// Whether these are exactly the wanted messages of replica 1, by their bytes.
 fn are_messages(rt: &impl Abort, alloc: Global, messages: &[Message], wanted: &[Sent]) -> bool {
     for (place, sent) in wanted.iter().enumerate() {
         let Some(message) = messages.get(place) else {
@@ -264,7 +267,7 @@ fn are_messages(rt: &impl Abort, alloc: Global, messages: &[Message], wanted: &[
     messages.len() == wanted.len()
 }
 
-// The messages that a node answers to one.
+// The messages with which a node answers one.
 fn answers<D: PageDevice>(rt: &impl Abort, node: &mut Node<D>, message: Message) -> MessageList {
     match answer(node, Call::Receive(message)) {
         Reply::Answers(messages) => messages,
@@ -280,7 +283,7 @@ fn would_answer<D: PageDevice>(
     node.answers(message).ok().expect(rt, "memory is ample")
 }
 
-// Makes the call of a row, and whether it is answered so.
+// Makes the call of a test case; returns whether it gets its expected reply.
 fn meets<D: PageDevice>(rt: &impl Abort, alloc: Global, node: &mut Node<D>, row: Row) -> bool {
     match row {
         Row::Knows(horizon, wanted) => knows(node.history(), horizon, wanted),
@@ -302,20 +305,21 @@ fn meets<D: PageDevice>(rt: &impl Abort, alloc: Global, node: &mut Node<D>, row:
     }
 }
 
-// Makes the calls of the rows, in turn.
+// Makes the calls of the test cases, in turn.
 fn runs<D: PageDevice>(rt: &impl Abort, alloc: Global, node: &mut Node<D>, rows: &[Row]) {
     for (at, row) in rows.iter().enumerate() {
         assert!(rt; meets(rt, alloc, node, *row), "row {at}");
     }
 }
 
-// The same of a fresh node.
+// The same, for a fresh node.
 fn lives(rt: &impl Abort, alloc: Global, rows: &[Row]) {
     let mut node = fresh(rt, alloc, 1);
     runs(rt, alloc, &mut node, rows)
 }
 
-// A node over a box can be named by no type, so that it lives in a function that is generic in the device.
+// The type of a node over a box cannot be named, so the node lives in a function that is generic in
+// the device.
 fn lives_over<D: PageDevice>(rt: &impl Abort, alloc: Global, device: D, rows: &[Row]) {
     let mut node = over(rt, alloc, 1, 1, device);
     runs(rt, alloc, &mut node, rows)
@@ -331,7 +335,7 @@ const OVER_A_BOX: &[Row] = &[
     Row::Pins(1, Said::Pinned(0, 1)),
     Row::Writes(0, 1, &[0xCA, 0xFE]),
     Row::Victim(None),
-    // Page 2 is now the hottest, and has no frame to come into.
+    // Page 2 is now the hottest, and there is no frame for it.
     Row::Absorbs(&[(0, 2, 3, 1), (0, 2, 4, 1)]),
     Row::Hottest(&[2, 1]),
     Row::Loads(ALL_FIXED),

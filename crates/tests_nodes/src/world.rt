@@ -1,4 +1,4 @@
-//! A world of nodes: a long list of events, run at once, and none.
+//! A world of nodes: a long list of events in one run, and an empty list.
 ghost use Rattle.std.specs.Prelude.{◌≡◌, length};
 ghost use Rattle.warm_world.specs.Opening.{AreFew};
 ghost use Rattle.warm_world.specs.Views.{listed};
@@ -34,7 +34,7 @@ fn fresh(rt: &impl Abort, alloc: Global) -> World<MemDevice> {
     }
 }
 
-// The one place where a world is run: what else is asked of the answers need not know what a run promises.
+// The only place where a world is run: other functions need not unfold the contract of a run.
 fn answers<D: PageDevice>(
     rt: &impl Abort,
     world: &mut World<D>,
@@ -43,7 +43,7 @@ fn answers<D: PageDevice>(
     world.run(events).ok().expect(rt, "memory is ample")
 }
 
-// How many answers are Done.
+// The number of answers that are Done.
 fn done_in(answers: &[Answer]) -> u64 {
     let mut done = 0u64;
     for answer in answers {
@@ -81,8 +81,8 @@ fn are_of_all(answers: &[Answer]) -> bool {
         && pages.first().copied() == Some(page(9_999))
 }
 
-// No clause forbids that memory is said to be wanting while there is plenty, so a long list is run. Each page is referenced seven
-// times, in turn.
+// No clause forbids a refusal for memory while there is plenty, so a long list is run. Each page is
+// referenced seven times, in turn.
 #[test]
 fn seventy_thousand_events_run_at_once(rt: HostRuntime) {
     let mut world = fresh(&rt, rt.alloc());

@@ -7,7 +7,7 @@ use warm_devices::MemDevice;
 use warm_schedule::{PlayFault, play};
 use warm_world::Setup;
 
-// Each line asks for the bytes whose digits stand between these places of what was put.
+// Each line requests the bytes whose digits are between these positions of the bytes that were put.
 const GETS: [(&str, usize, usize); 9] = [
     ("get 1 0.1 0 0\n", 0, 0),
     ("get 1 0.1 0 1\n", 0, 2),
@@ -55,7 +55,7 @@ fn ended_over_long_pages(
     play(alloc, &mut schedule, answers, setup, lists)
 }
 
-// What was put is got again, in the same digits.
+// `get` prints the bytes that were put, in the same digits.
 #[test]
 fn bytes_are_printed_as_they_were_put(rt: HostRuntime) {
     let alloc = rt.alloc();

@@ -1,11 +1,11 @@
-//! Words of the command line: what they ask for, and how they are refused.
+//! Words of the command line: their meanings, and how they are refused.
 use crate::setup::is_path;
 use clap::error::ErrorKind;
 use std::alloc::Global;
 use std::process::Abort;
 use warm_setup::{Cmd, CmdFault, command_of};
 
-// What words ask for.
+// The meaning of words.
 #[derive(Clone, Copy)]
 enum Asked {
     // A play of this file with this setup.
@@ -16,7 +16,7 @@ enum Asked {
     Threads(&'static str, Option<&'static str>),
 }
 
-// The command of a line's words, which one space parts.
+// The command of a line's words, which are separated by single spaces.
 fn read(rt: &impl Abort, alloc: Global, line: &str) -> Result<Cmd, CmdFault> {
     let mut words = Vec::new(alloc);
     for word in line.split(' ') {
@@ -111,7 +111,7 @@ const REFUSED: [(&str, ErrorKind); 16] = [
         "warmplay random --seed 1 --events x",
         ErrorKind::ValueValidation,
     ),
-    // Help is asked for in each form.
+    // Help is requested in each form.
     ("warmplay --help", ErrorKind::DisplayHelp),
     ("warmplay -h", ErrorKind::DisplayHelp),
     ("warmplay help", ErrorKind::DisplayHelp),

@@ -1,5 +1,6 @@
-//! Tests of warm_schedule and warm_setup, over public calls alone: what schedules print and how a play ends, what words and setup
-//! files mean, and how a run ends. The expected texts were worked out by hand from docs/FORMATS.md.
+//! Tests of warm_schedule and warm_setup, over only public calls: the output of schedules and how a
+//! play ends, the meanings of words and setup files, and how a run ends. The expected texts were
+//! derived by hand from docs/FORMATS.md.
 #![tactic(auto)]
 
 #[cfg(test)]

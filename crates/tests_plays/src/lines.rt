@@ -1,4 +1,5 @@
-//! Lines of schedules: how they are counted and parted, the ranges of their numbers, and how long they may be.
+//! Lines of schedules: how they are counted and split into words, the ranges of their numbers, and
+//! their maximum length.
 use crate::player::{add, answers_of, default_setup, each_prints};
 use std::alloc::Global;
 use std::process::Abort;
@@ -7,7 +8,7 @@ use warm_world::Setup;
 const READ: [(&str, &str); 7] = [
     // blank lines and comments are counted and print nothing
     ("\n   \n# x\n  #show 1\nbad", "bad line 5\n"),
-    // spaces at either end and between words, and leading zeros, count for nothing
+    // spaces at either end and between words, and leading zeros, have no effect
     (
         "  show   001  \nref 1 1 00:0007 0\nflush 1 1\nshow 1\n  horizon  001  007  ",
         "end 0\nok\nok\n0:7 last 0@1\nend 1\nhorizon 7\n",
@@ -31,7 +32,7 @@ const READ: [(&str, &str); 7] = [
         "pin 1 0:1\nput 1 0.1 0 000102030405060708090a0B0c0D0eFf\nget 1 0.1 0 16\nput 1 0.1 1 000102030405060708090a0B0c0D0eFf\n",
         "slot 0.1\nok\nbytes 000102030405060708090a0b0c0d0eff\nrefused 10 OutOfPage\n",
     ),
-    // words, numbers, pages and slots that are none, beside those that are computed with the grammar
+    // invalid words, numbers, pages and slots, in addition to those computed with the grammar
     (
         "Show 1\nshow\nshow 1 1\nshow +1\nshow -1\nshow 1.0\nshow 0x1\nwarm 1 4294967296\nref 1 1 0 1\nref 1 1 :1 1\nref 1 1 0: 1\n\
          send 1 1 0:1 0:2\nunpin 1 .1\nunpin 1 0.18446744073709551616\nget 1 0.1 0\nhorizons 1 5\n",

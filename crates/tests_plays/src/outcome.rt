@@ -4,7 +4,7 @@ use std::process::Abort;
 use warm_play_fault::PlayFault;
 use warm_setup::{CmdFault, PathText, ProgramFault, SetupFault, command_of, not_text, outcome_of};
 
-// Whether a run that ended so has this status and says this line.
+// Whether a run with this end has this status and this line.
 fn says(
     rt: &impl Abort,
     alloc: Global,
@@ -21,7 +21,7 @@ fn says(
     outcome.status == status && line.as_slice() == want.as_bytes()
 }
 
-// The same of a run that this fault ends.
+// The same, for a run that this fault ends.
 fn ends(rt: &impl Abort, alloc: Global, fault: ProgramFault, status: u8, want: &str) -> bool {
     says(rt, alloc, &Err(fault), status, want)
 }

@@ -74,7 +74,7 @@ pub(crate) fn ended<R: Read, W: Write>(
     ended_over(alloc, reader, writer, default_setup(), 3)
 }
 
-// What is printed for a schedule.
+// The output of a schedule.
 pub(crate) fn answers_of(rt: &impl Abort, alloc: Global, setup: Setup, schedule: &[u8]) -> Vec<u8> {
     let mut reader = schedule;
     let mut answers = Vec::new(alloc);

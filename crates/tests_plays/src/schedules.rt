@@ -33,7 +33,8 @@ const HISTORIES: [(&str, &str); 8] = [
         "ref 1 1 0:1 10\nshow 1\nflush 1 1\nshow 1\n",
         "ok\nend 0\nok\n0:1 last 10@1\nend 1\n",
     ),
-    // a restart forgets the history and what waits; a kept frame brings back what it carries
+    // a restart forgets the history and the buffered references; a stored frame brings back what it
+    // carries
     (
         "ref 1 1 0:1 10\nflush 1 1\nsend 1 1\nref 1 1 0:2 11\nrestart 1\nflush 1 1\nshow 1\ndeliver 1 1\nshow 1\n",
         "ok\nok\nframe 1\nok\nok\nok\nend 0\ntook 0\n0:1 last 10@1\nend 1\n",
@@ -65,7 +66,7 @@ pub(crate) const GOSSIP: [(&str, &str); 7] = [
         "ok\nok\nframe 1\nok\nok\nframe 2\n\
          took 0\ntook 0\ntook 0\ntook 0\n0:1 last 20@1 prev 10@1\nend 1\ntook 0\ntook 0\n0:1 last 10@1\nend 1\n",
     ),
-    // through a third replica, of a page whose device nobody has
+    // through a third replica, of a page whose device no replica has
     (
         "ref 1 1 9:1 7\nflush 1 1\nsend 1 10\ndeliver 2 1\nsend 2 10\ndeliver 3 2\nshow 3\n",
         "ok\nok\nframe 1\ntook 0\nframe 2\ntook 0\n9:1 last 7@1\nend 1\n",
@@ -99,7 +100,7 @@ const ONE_FRAME: [(&str, &str); 2] = [
          get 1 0.3 0 2\nget 1 0.3 15 2\nget 1 0.3 16 0\n",
         "slot 0.1\nok\nok\nslot 0.2\nok\nrefused 13 StaleSlot\nslot 0.3\nbytes cafe\nrefused 10 OutOfPage\nbytes\n",
     ),
-    // slots of no frame, of another generation, and without a fix
+    // slots of no frame, of another generation, and of an unpinned page
     (
         "pin 1 0:1\nunpin 1 0.1\nunpin 1 0.1\nget 1 0.2 0 1\nunpin 1 5.1\n",
         "slot 0.1\nok\nrefused 13 StaleSlot\nrefused 13 StaleSlot\nrefused 13 StaleSlot\n",
@@ -108,7 +109,7 @@ const ONE_FRAME: [(&str, &str); 2] = [
 
 // Pools of two frames.
 const TWO_FRAMES: [(&str, &str); 2] = [
-    // pages with a fix do not leave
+    // pinned pages are not evicted
     (
         "pin 1 0:3\npin 1 0:4\nunpin 1 1.1\nvictim 1\nunpin 1 0.1\nvictim 1\npin 1 0:3\npin 1 0:4\npin 1 0:5\nvictim 1\n",
         "slot 0.1\nslot 1.1\nok\npage 0:4\nok\npage 0:3\nslot 0.1\nslot 1.1\nrefused 6 AllFixed\nnone\n",
@@ -124,24 +125,24 @@ const TWO_FRAMES: [(&str, &str); 2] = [
 ];
 
 const FOUR_FRAMES: [(&str, &str); 4] = [
-    // a scan leaves before pages that were referenced twice
+    // the pages of a scan are evicted before pages that were referenced twice
     (
         "ref 1 1 0:1 1\nref 1 1 0:1 2\nref 1 1 0:5 10\nref 1 1 0:6 11\nflush 1 1\npin 1 0:1\npin 1 0:5\npin 1 0:6\n\
          unpin 1 0.1\nunpin 1 1.1\nunpin 1 2.1\nvictim 1\n",
         "ok\nok\nok\nok\nok\nslot 0.1\nslot 1.1\nslot 2.1\nok\nok\nok\npage 0:5\n",
     ),
-    // the distances are 3 and 2; the page referenced last leaves
+    // the distances are 3 and 2; the page referenced last is evicted
     (
         "ref 1 1 0:1 1\nref 1 1 0:1 100\nref 1 1 0:2 50\nref 1 1 0:2 60\nflush 1 1\npin 1 0:1\npin 1 0:2\n\
          unpin 1 0.1\nunpin 1 1.1\nvictim 1\n",
         "ok\nok\nok\nok\nok\nslot 0.1\nslot 1.1\nok\nok\npage 0:1\n",
     ),
-    // a restart writes pages back, and is refused while one has a fix
+    // a restart writes back pages, and is refused while one is pinned
     (
         "pin 1 0:1\nput 1 0.1 15 AB\nrestart 1\nunpin 1 0.1\nrestart 1\npin 1 0:1\nget 1 0.2 15 1\n",
         "slot 0.1\nok\nrefused 11 Fixed\nok\nok\nslot 0.2\nbytes ab\n",
     ),
-    // what is not there, in the order in which it is looked for
+    // missing replicas, workers, messages and pages, in the order in which they are checked
     (
         "ref 4 1 0:1 1\nref 1 3 0:1 1\nref 9 9 0:1 1\ndeliver 1 1\npin 1 1:0\npin 1 0:256\nsend 1 64\nfoo\n",
         "refused 14 NoSuchReplica\nrefused 15 NoSuchWorker\nrefused 14 NoSuchReplica\nrefused 16 NoSuchFrame\n\
@@ -163,7 +164,8 @@ const HORIZONS: [(&str, &str); 7] = [
          horizon 1 3\nrestart 1\nhorizon 1 0\n",
         "ok\nok\nok\nok\nhorizon 15\n0:1 last 20@1\nend 1\nok\nok\n0:1 last 20@1\nend 1\nhorizon 15\nok\nhorizon 0\n",
     ),
-    // a frame brings its sender's horizon: the stamp at the horizon stays, the one before goes
+    // a frame brings its sender's horizon: the stamp at the horizon stays, the one before it is
+    // dropped
     (
         "ref 2 1 0:1 8\nref 2 1 0:1 9\nflush 2 1\nref 1 1 0:1 20\nflush 1 1\nhorizon 1 9\nsend 1 1\ndeliver 2 1\nshow 2\nhorizon 2 0\n",
         "ok\nok\nok\nok\nok\nhorizon 9\nframe 1\ntook 0\n0:1 last 20@1 prev 9@2\nend 1\nhorizon 9\n",
@@ -173,7 +175,8 @@ const HORIZONS: [(&str, &str); 7] = [
         "ref 1 1 0:1 10\nflush 1 1\nsend 1 1\ndeliver 2 1\nhorizon 2 50\noffer 1\ndeliver 2 2\ndeliver 1 3\nshow 1\nhorizon 1 0\n",
         "ok\nok\nframe 1\ntook 0\nhorizon 50\nframe 2\ntook 1 from 3\ntook 0\nend 0\nhorizon 50\n",
     ),
-    // what waits in a buffer is cut when it is flushed; at the greatest horizon a stamp of the greatest time stays
+    // buffered references are cut at the horizon when they are flushed; at the greatest horizon a
+    // stamp of the greatest time stays
     (
         "ref 1 1 0:1 18446744073709551614\nref 1 1 0:2 18446744073709551615\nhorizon 1 18446744073709551615\nflush 1 1\nshow 1\n\
          horizon 1 0\n",
@@ -187,7 +190,8 @@ const HORIZONS: [(&str, &str); 7] = [
          frame 1\ntook 2 from 2\ntook 0\nhorizon 11\ntook 2 from 4\ntook 0\ntook 0\n\
          0:2 last 11@2\n0:65 last 30@1\nend 2\n0:2 last 11@2\n0:65 last 30@1\nend 2\nhorizon 11\n",
     ),
-    // a horizon goes with frames alone: where no bucket differs there is no answer, and who offered keeps its own
+    // a horizon is sent only in frames: where no bucket differs there is no answer, and the
+    // offering replica keeps its own horizon
     (
         "horizon 1 7\nhorizon 2 50\noffer 1\ndeliver 2 1\nhorizon 1 0\nhorizon 2 0\noffer 2\ndeliver 1 2\nhorizon 1 0\nhorizon 4 1\n",
         "horizon 7\nhorizon 50\nframe 1\ntook 0\nhorizon 7\nhorizon 50\nframe 2\ntook 0\nhorizon 50\nrefused 14 NoSuchReplica\n",
@@ -339,8 +343,8 @@ fn show_pages(rt: &impl Abort, want: &mut Vec<u8>, count: u32, lines: &str) {
     add(rt, want, 1, lines.as_bytes());
 }
 
-// A frame carries 1000 pages of its bucket, and the next one goes on after the last of them. Digests that differ are answered by
-// both, and by a request.
+// A frame carries 1000 pages of its bucket, and the next frame continues after the last of them.
+// Digests that differ are answered by both, and by a request.
 #[test]
 fn a_long_bucket_takes_two_frames(rt: HostRuntime) {
     let lines = "flush 1 1\nsend 1 0\nsend 1 0 0:63936\ndeliver 2 1\nshow 2\ndeliver 2 2\nshow 2\n\
@@ -359,7 +363,8 @@ fn drawn(rt: &impl Abort, alloc: Global, seed: u64, events: u32) -> Vec<u8> {
     text
 }
 
-// Whether a line may not answer such a schedule: the only event that may be refused is the delivery of the frame after the last.
+// Whether a line must not occur in the answers to such a schedule: the only event that may be
+// refused is the delivery of the frame after the last.
 fn is_other(line: &str) -> bool {
     line.starts_with("bad line") || line.starts_with("refused") && line != "refused 16 NoSuchFrame"
 }

@@ -1,4 +1,4 @@
-//! Texts of setup files: what they mean, and which fault of a text is answered.
+//! Texts of setup files: their meanings, and which fault of a text is reported.
 use std::alloc::Global;
 use std::process::Abort;
 use warm_setup::{DeviceSpec, PathText, SetupFault, read_setup, read_setup_file};
@@ -85,7 +85,7 @@ const REFUSED: [(&str, SetupFault); 23] = [
     (SEVENTEEN, SetupFault::BadValue),
     ("[[device]]\npages = 0", SetupFault::BadValue),
     ("[[device]]\npages = 1048577", SetupFault::BadValue),
-    // what a device needs, and what it has not
+    // a missing key of a device, and unknown keys
     ("[device]\npages = 1", SetupFault::BadKey),
     ("[[device]]\npages = 1\npath = 1", SetupFault::BadKey),
     // of two faults the first by the keys' order, the types of all devices before their numbers

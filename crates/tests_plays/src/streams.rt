@@ -1,5 +1,5 @@
-//! Readers and writers of `play` that give bytes one by one, are interrupted, or fail, and writers of `random_schedule` that note or
-//! refuse a flush: what no contract says of their text.
+//! Readers and writers of `play` that give bytes one by one, are interrupted, or fail, and writers
+//! of `random_schedule` that record or fail a flush: behaviour that no contract covers.
 use crate::player::{add, ended};
 use crate::schedules::GOSSIP;
 use std::alloc::Global;
@@ -9,7 +9,7 @@ use std::process::Abort;
 use warm_schedule::{PlayFault, random_schedule};
 use warm_world::Setup;
 
-// Gives one byte at a time, each after a read that was interrupted.
+// Gives one byte at a time, each after an interrupted read.
 #[derive(Drop)]
 struct Trickle<'a> {
     rest: &'a [u8],
@@ -34,7 +34,7 @@ impl Read for Trickle<'_> {
     }
 }
 
-// A schedule that comes so prints this.
+// A schedule that is read in this way prints this.
 fn trickles(rt: &impl Abort, alloc: Global, schedule: &[u8], want: &[u8]) {
     let mut reader = Trickle {
         rest: schedule,
@@ -45,8 +45,8 @@ fn trickles(rt: &impl Abort, alloc: Global, schedule: &[u8], want: &[u8]) {
     assert!(rt; played == Ok(()) && answers.as_slice() == want);
 }
 
-// A hundred thousand reads of one byte each at last, with as many that were interrupted: 9,090 lines of 11 bytes, and of the last
-// line 10.
+// A hundred thousand reads of one byte each, with as many interrupted ones: 9,090 lines of 11
+// bytes, and 10 bytes of the last line.
 #[test]
 fn a_schedule_may_come_in_bytes(rt: HostRuntime) {
     for (schedule, want) in GOSSIP {
@@ -76,7 +76,8 @@ impl Write for Marked {
     }
 }
 
-// Where lines come in pieces, the answer of each is flushed by itself, and nothing is flushed while a line goes on.
+// Where lines are read in pieces, the answer to each is flushed separately, and nothing is flushed
+// in the middle of a line.
 #[test]
 fn answers_are_flushed_before_the_next_read(rt: HostRuntime) {
     let mut reader = Trickle {
@@ -106,7 +107,7 @@ impl Read for Breaks<'_> {
     }
 }
 
-// The line that had come whole was answered, and what had come of the next one was not.
+// The complete line was answered, and the incomplete next one was not.
 #[test]
 fn a_failed_read_ends_the_play(rt: HostRuntime) {
     let mut reader = Breaks {
@@ -158,7 +159,7 @@ fn a_failed_write_ends_the_play(rt: HostRuntime) {
     assert!(rt; ended_in(rt.alloc(), 13) == Ok(()));
 }
 
-// Notes the most bytes that were asked for at once.
+// Records the greatest number of bytes requested by one read.
 #[derive(Drop)]
 struct Counted<'a> {
     rest: &'a [u8],
@@ -194,7 +195,8 @@ fn draw<W: Write>(writer: &mut W, events: u32) -> Result<(), PlayFault> {
     random_schedule(writer, 7, events, &setup)
 }
 
-// The writer is flushed after the last line, also where there is none, and a flush that fails is no Ok.
+// The writer is flushed after the last line, also where there is none, and a failed flush is not
+// Ok.
 #[test]
 fn a_drawn_schedule_is_flushed(rt: HostRuntime) {
     for (events, len) in [(3, 32), (1, 15), (0, 0usize)] {

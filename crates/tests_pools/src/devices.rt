@@ -1,4 +1,4 @@
-//! Devices in memory, in files, and of which a chosen call fails.
+//! Devices in memory, devices in files, and devices of which a chosen call fails.
 
 use std::fs::{self, File, Files};
 use std::process::Abort;
@@ -73,8 +73,8 @@ fn a_file_that_cannot_be_opened(rt: HostRuntime) {
     assert!(rt; missing.err() == Some(OpenFault::Open));
 }
 
-// Pages that don't fit into 2^63 - 1 bytes are refused before the system is asked, also where their number of bytes has more
-// than 64 bits.
+// Pages that don't fit into 2^63 - 1 bytes are refused before any system call, also where their
+// number of bytes has more than 64 bits.
 #[test]
 fn a_file_that_would_be_too_large(rt: HostRuntime) {
     let path = "never-made.pages";
@@ -102,7 +102,7 @@ fn memory_for_more_pages_than_any_is_refused(rt: HostRuntime) {
     }
 }
 
-// Whether a device has this shape, and nothing waits on it.
+// Whether a device has this shape, and is flushed.
 fn is_shaped<D: PageDevice>(device: &D, pages: u64, page_size: usize) -> bool {
     device.pages() == pages && device.page_size() == page_size && !device.waiting()
 }

@@ -1,8 +1,9 @@
-//! Tests of warm_devices, test_kit and warm_pool: what devices keep and note, where pages go in a pool, which leave, what is refused,
-//! and what a device holds as its pool is let go.
+//! Tests of warm_devices, test_kit and warm_pool: what devices store and record, where pages go in
+//! a pool, which are evicted, what is refused, and the contents of a device when its pool is
+//! dropped.
 //!
-//! They use public calls alone, and have a crate of their own so that the gate proves those libraries once and not again beside
-//! their tests.
+//! They use only public calls, and have a crate of their own so that the gate proves those
+//! libraries once, and not again with their tests.
 #![tactic(auto)]
 
 #[cfg(test)]

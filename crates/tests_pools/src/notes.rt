@@ -1,4 +1,4 @@
-//! What a device in memory notes as its drop begins.
+//! What a device in memory records when its drop begins.
 
 ghost use Rattle.std.specs.Prelude.{◌≡◌};
 ghost use Rattle.test_kit.specs.HookedParts.{hooked_state};
@@ -10,7 +10,7 @@ use std::sync::Arc;
 use test_kit::{Found, Note, Noting};
 use warm_devices::{Flaky, PageDevice};
 
-// A device that notes its drop, and the note.
+// A device that records its drop, and the note.
 fn noting(
     rt: &impl Abort,
     alloc: Global,
@@ -22,7 +22,7 @@ fn noting(
     test_kit::noting(alloc, pages, page_size).expect(rt, "memory for a device")
 }
 
-// Whether what is noted of three pages of two bytes is 7 and 8 on page 2, and zeros.
+// Whether the note of three pages of two bytes has 7 and 8 on page 2, and zeros elsewhere.
 fn has_just(note: &Note) -> bool {
     note.has(2, &[7, 8])
         && note.has(0, &[0, 0])
@@ -41,7 +41,7 @@ fn a_drop_is_noted_before_it_settles(rt: HostRuntime) {
     assert!(rt; note.counts() == (1, 1));
 }
 
-// What is noted of a device whose call of this number fails, where a page was written and not flushed.
+// The record of a device whose call of this number fails, where a page was written and not flushed.
 fn found_as_call_fails(rt: &impl Abort, alloc: Global, number: u64) -> Found {
     let (device, note) = noting(rt, alloc, 1, 1);
     let mut device = Flaky::new(device, number);

@@ -1,9 +1,10 @@
-//! Pools: where pages go, what is refused, and what is kept where a device fails. A test is a list of rows, each a call and what comes
-//! of it. Each call stands in a function of its own, which keeps by which history the pool is ranked: so what is proved of a test does
-//! not grow with its rows.
+//! Pools: where pages go, what is refused, and what is unchanged where a device fails. A test is a
+//! list of test cases (`Row`), each a call and its expected result. Each call is in a function of
+//! its own, whose contract keeps the history by which the pool is ranked: so the proof of a test
+//! does not grow with its cases.
 //!
-//! What must not fail ends the process where it does: a `?` would be one more way out, on which the drop of all that is owned
-//! is proved.
+//! What must not fail ends the process where it does: a `?` would be one more exit path, on which
+//! the drops of all owned values are proved.
 ghost use Rattle.std.specs.Prelude.{◌≤◌, length};
 ghost use Rattle.warm_pool.specs.State.{IsRankedByAll, RankedBy};
 
@@ -49,13 +50,13 @@ fn pool_over<D: PageDevice>(rt: &impl Abort, alloc: Global, frames: usize, devic
     pool_of(rt, alloc, frames, 16, devices)
 }
 
-// What a pool answers: that it is done, the index and the generation of a slot, or why it is refused.
+// The result of a call of a pool: success, the index and the generation of a slot, or the fault.
 #[derive(Clone, Copy, PartialEq)]
 enum Said {
     Done,
     At(u32, u64),
     Refused(PoolFault),
-    // The slot does not hold its page, so the pool was not asked.
+    // The slot does not hold its page, so the pool was not called.
     Unheld,
 }
 
@@ -87,7 +88,7 @@ fn loaded<D: PageDevice>(pool: &mut Pool<D>, history: &History, page: PageId) ->
     given(pool.load(page, history))
 }
 
-// Takes a fix from a slot, whether it holds its page.
+// Unpins a slot; returns whether it holds its page.
 fn unpin<D: PageDevice>(pool: &mut Pool<D>, history: &History, slot: Slot) -> bool
     requires { RankedBy pool.old history.now }
     ensures { RankedBy pool.new history.now }
@@ -150,7 +151,7 @@ fn written_back<D: PageDevice>(pool: &mut Pool<D>, history: &History) -> Said
     done(pool.write_back_all())
 }
 
-// The pool, which a fixed page keeps from being closed.
+// The pool, which cannot be closed because of a pinned page.
 fn not_closed<D: PageDevice>(rt: &impl Abort, pool: Pool<D>, history: &History) -> Pool<D>
     requires { RankedBy pool history.now }
     ensures { RankedBy result history.now }
@@ -164,12 +165,12 @@ fn not_closed<D: PageDevice>(rt: &impl Abort, pool: Pool<D>, history: &History) 
     }
 }
 
-// The pool is closed, which nothing hinders.
+// Closes the pool, which succeeds.
 fn closes<D: PageDevice>(rt: &impl Abort, pool: Pool<D>) {
     assert!(rt; pool.close().is_ok());
 }
 
-// The device takes the place of one, which nothing hinders.
+// Replaces a device with this one, which succeeds.
 fn exchange<D: PageDevice>(
     rt: &impl Abort,
     pool: &mut Pool<D>,
@@ -183,7 +184,7 @@ fn exchange<D: PageDevice>(
     assert!(rt; retire(pool, history, dev, device).is_ok());
 }
 
-// The slot of a page that is given a fix.
+// The slot of a page that is pinned here.
 fn held<D: PageDevice>(pool: &mut Pool<D>, history: &History, no: u64) -> Option<Slot>
     requires { RankedBy pool.old history.now }
     ensures { RankedBy pool.new history.now }
@@ -194,7 +195,7 @@ fn held<D: PageDevice>(pool: &mut Pool<D>, history: &History, no: u64) -> Option
     }
 }
 
-// Pins a page, and takes the fix away again, whether both are done.
+// Pins and unpins a page; returns whether both succeeded.
 fn visits<D: PageDevice>(pool: &mut Pool<D>, history: &History, no: u64) -> bool
     requires { RankedBy pool.old history.now }
     ensures { RankedBy pool.new history.now }
@@ -205,7 +206,7 @@ fn visits<D: PageDevice>(pool: &mut Pool<D>, history: &History, no: u64) -> bool
     }
 }
 
-// Fills a page with AA, which goes to no device yet, whether that is done.
+// Fills a page with AA, which is not written back yet; returns whether that succeeded.
 fn fills<D: PageDevice>(pool: &mut Pool<D>, history: &History, no: u64) -> bool
     requires { RankedBy pool.old history.now }
     ensures { RankedBy pool.new history.now }
@@ -219,7 +220,7 @@ fn fills<D: PageDevice>(pool: &mut Pool<D>, history: &History, no: u64) -> bool
     }
 }
 
-// Pins a page, and takes the fix away again, whether both are done and it has these bytes.
+// Pins and unpins a page; returns whether both succeeded and it has these bytes.
 fn finds<D: PageDevice>(pool: &mut Pool<D>, history: &History, no: u64, wanted: &[u8; 16]) -> bool
     requires { RankedBy pool.old history.now }
     ensures { RankedBy pool.new history.now }
@@ -230,26 +231,26 @@ fn finds<D: PageDevice>(pool: &mut Pool<D>, history: &History, no: u64, wanted: 
     }
 }
 
-// What is asked of a pool, and what is to come of it. Slots are given by their index and their generation, and pages by their
-// number on device 0, or by the number of the device and their number on it: plain numbers, since each call in a test's rows is
-// proved there.
+// A test case: a call of a pool, and its expected result. Slots are given by their index and their
+// generation, and pages by their number on device 0, or by the number of the device and their
+// number on it: plain numbers, since each function call in a test's cases is proved there.
 #[derive(Clone, Copy)]
 enum Row<'a> {
-    // A page is given a fix.
+    // A page is pinned.
     Pins(u64, Said),
-    // A page of a device is brought in, without a fix.
+    // A page of a device is loaded, without a pin.
     Loads(u16, u64, Said),
-    // A fix is taken away.
+    // A slot is unpinned.
     Unpins(u32, u64),
-    // A page is given a fix, which is taken away again.
+    // A page is pinned and unpinned.
     Visits(u64),
-    // A page is filled with AA, which goes to no device yet.
+    // A page is filled with AA, which is not written back yet.
     Fills(u64),
     // A page has these bytes.
     Finds(u64, &'a [u8; 16]),
-    // Bytes are written into the slot's page, from a place on.
+    // Bytes are written into the slot's page, from an offset on.
     Writes(u32, u64, usize, &'a [u8], Said),
-    // The page that leaves next, or that there is none.
+    // The next victim, or that there is none.
     Leaves(u64),
     NoneLeaves,
     // Whether the slot holds its page.
@@ -258,15 +259,15 @@ enum Row<'a> {
     Resident(u16, u64, bool),
     // Whether the page is on a device.
     Has(u64, bool),
-    // How many frames there are.
+    // The number of frames.
     Frames(usize),
-    // What is dirty is written to its device.
+    // Dirty pages are written back.
     WritesBack(Said),
     // The frames are emptied.
     Empties(Said),
 }
 
-// Whether what the row asks, and changes nothing for, is as it says.
+// Whether a test case that changes nothing gives its expected result.
 fn shows<D: PageDevice>(rt: &impl Abort, pool: &Pool<D>, row: Row<'_>) -> bool {
     match row {
         Row::Leaves(no) => pool.victim() == Some(page(no)),
@@ -279,7 +280,7 @@ fn shows<D: PageDevice>(rt: &impl Abort, pool: &Pool<D>, row: Row<'_>) -> bool {
     }
 }
 
-// Asks what the row says, and whether that comes of it.
+// Runs a test case; returns whether it gives its expected result.
 fn meets<D: PageDevice>(
     rt: &impl Abort,
     pool: &mut Pool<D>,
@@ -305,7 +306,7 @@ fn meets<D: PageDevice>(
     }
 }
 
-// Asks a pool what the rows say, in turn.
+// Runs the test cases on a pool, in turn.
 fn runs<D: PageDevice>(rt: &impl Abort, pool: &mut Pool<D>, history: &History, rows: &[Row<'_>])
     requires { RankedBy pool.old history.now }
     ensures { RankedBy pool.new history.now }
@@ -315,7 +316,8 @@ fn runs<D: PageDevice>(rt: &impl Abort, pool: &mut Pool<D>, history: &History, r
     }
 }
 
-// A fresh pool of this number of frames over the device goes through the rows, by an empty history, and is closed.
+// A fresh pool of this number of frames over the device runs the test cases, with an empty history,
+// and is closed.
 fn lives<D: PageDevice>(
     rt: &impl Abort,
     alloc: Global,
@@ -329,7 +331,7 @@ fn lives<D: PageDevice>(
     closes(rt, pool);
 }
 
-// The device, which the pool refuses to exchange by this fault.
+// The device, which the pool refuses to take with this fault.
 fn unretired<D: PageDevice>(
     rt: &impl Abort,
     pool: &mut Pool<D>,
@@ -350,7 +352,7 @@ fn unretired<D: PageDevice>(
     }
 }
 
-// One number on two devices names two pages, and the frames of a device that is exchanged are free.
+// One page number on two devices names two pages, and the frames of a replaced device are free.
 #[test]
 fn pages_of_two_devices_are_apart(rt: HostRuntime) {
     let alloc = rt.alloc();
@@ -377,7 +379,7 @@ fn pages_of_two_devices_are_apart(rt: HostRuntime) {
     closes(&rt, pool);
 }
 
-// Pages with a fix keep their device from being exchanged for another, which is given back.
+// Pinned pages prevent the replacement of their device by another, which is given back.
 fn kept_by_fixes<D: PageDevice>(
     rt: &impl Abort,
     pool: &mut Pool<D>,
@@ -403,7 +405,7 @@ fn kept_by_fixes<D: PageDevice>(
     unretired(rt, pool, history, 0, device, PoolFault::Fixed)
 }
 
-// Without a fix the device is exchanged for one of four pages.
+// Without pins the device is replaced by one of four pages.
 fn let_go_unfixed<D: PageDevice>(rt: &impl Abort, pool: &mut Pool<D>, history: &History, device: D)
     requires { RankedBy pool.old history.now }
     ensures { RankedBy pool.new history.now }
@@ -436,7 +438,7 @@ fn two_frames_over_eight_pages(rt: HostRuntime) {
     closes(&rt, pool);
 }
 
-// Why no pool is made over the device, and how many devices come back.
+// Why a pool over the device is not made, and how many devices are given back.
 fn unmade<D: PageDevice>(
     rt: &impl Abort,
     alloc: Global,

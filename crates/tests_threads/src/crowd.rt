@@ -1,5 +1,5 @@
-//! Eight jobs at once, mostly more than there are processors. Each reply says where in the one legal history it stands, so all
-//! replies of all jobs are compared with one order.
+//! Eight jobs at once, usually more than there are processors. Each reply shows its position in the
+//! one legal history, so all replies of all jobs are compared with one order.
 ghost use Rattle.std.specs.Prelude.{◌≡◌};
 
 use crate::jobs::{Open, run};
@@ -16,13 +16,13 @@ use warm_replica::{Absorbing, BoxedCall, Job, Step, StepReply};
 
 const JOBS: usize = 8;
 
-// How many rounds each job makes of a run, and how many runs there are.
+// The number of rounds of each job in a run, and the number of runs.
 const ROUNDS: u64 = 4_000;
 
 const RUNS: u32 = 6;
 
-// In each round a job touches a page of its own, flushes, and asks for what the node has heard of the pages of all jobs, which are
-// in bucket 0. The stamp of a touch gives the round, counted from 1.
+// In each round a job touches a page of its own, flushes, and requests the node's entries of the
+// pages of all jobs, which are in bucket 0. The stamp of a touch gives the round, counted from 1.
 fn job_of(rt: &impl Abort, alloc: Global, job: u64) -> Job {
     let mut steps = Vec::new(alloc);
     for round in 1..=ROUNDS {
@@ -61,10 +61,10 @@ fn answered<M: Absorbing + Drop + Send, R: Threads + Wait + Abort + Sync>(
     listed(rt, alloc, ran.expect(rt, "the jobs run"))
 }
 
-// How many rounds of each job.
+// The number of rounds of each job.
 type Rounds = [u64; JOBS];
 
-// How many rounds of each job these entries show.
+// The number of rounds of each job that these entries show.
 fn rounds_of(entries: &[Entry]) -> Option<Rounds> {
     let mut rounds = [0; JOBS];
     for entry in entries {
@@ -78,7 +78,7 @@ fn rounds_of(entries: &[Entry]) -> Option<Rounds> {
     Some(rounds)
 }
 
-// What the reply to a job's call shows, where the job touched and flushed before.
+// The rounds that the reply to a job's call shows, where the job touched and flushed before.
 fn shown_after(step: &[StepReply]) -> Option<Rounds> {
     let [
         StepReply::Touched,
@@ -102,8 +102,8 @@ fn total_of(rounds: &Rounds) -> u64 {
     total
 }
 
-// Whether a job that has made `own` rounds is shown just these rounds of its own, and what others are shown after as many rounds in
-// all. It is noted.
+// Whether a job that has made `own` rounds is shown exactly these of its own, and the same as
+// others are shown after as many rounds in all. It is recorded.
 fn is_noted(seen: &mut Vec<Option<Rounds>>, job: usize, own: u64, rounds: Rounds) -> bool {
     let Some(place) = seen.get_mut(total_of(&rounds) as usize) else {
         return false;
@@ -153,7 +153,7 @@ fn are_in_one_order(seen: &[Option<Rounds>]) -> bool {
     true
 }
 
-// Whether what the jobs of one run were shown are states of one history.
+// Whether the states that the jobs of one run were shown are of one history.
 fn are_of_one_history(rt: &impl Abort, alloc: Global, all: &[Vec<StepReply>]) -> bool {
     let mut seen = vec![in alloc; None; JOBS * ROUNDS as usize + 1].expect(rt, "memory for notes");
     for (job, replies) in all.iter().enumerate() {
@@ -164,7 +164,8 @@ fn are_of_one_history(rt: &impl Abort, alloc: Global, all: &[Vec<StepReply>]) ->
     all.len() == JOBS && are_in_one_order(&seen)
 }
 
-// What the jobs were shown are states of one history: ordered by their rounds, each has all rounds of those before it.
+// The states that the jobs were shown are of one history: ordered by their rounds, each has all
+// rounds of those before it.
 #[test]
 fn flushes_of_eight_jobs_are_in_one_order(rt: HostRuntime) {
     for _ in 0..RUNS {

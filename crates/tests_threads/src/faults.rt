@@ -1,4 +1,4 @@
-//! How what refuses a turn, a flush or a run of jobs is shown.
+//! How the refusals of a turn, a flush or a run of jobs are displayed.
 use std::alloc::Global;
 use std::fmt;
 use std::process::Abort;

@@ -1,5 +1,5 @@
-//! Jobs in threads of their own: four that meet, the limits of a buffer, as many jobs as a run takes, and what a node holds after jobs
-//! and after a flush.
+//! Jobs in threads of their own: four that meet, the limits of a buffer, the greatest number of
+//! jobs of a run, and the contents of a node after jobs and after a flush.
 ghost use Rattle.std.specs.Prelude.{◌≡◌};
 
 use crate::setup::{comes, fresh, listed, opened, pages_of, turn_over};
@@ -19,7 +19,7 @@ use warm_replica::{
 use warm_stamps::PageId;
 use warm_turn::{Pass, Turn};
 
-// A gate that holds nobody back.
+// A gate that holds nothing back.
 #[derive(Clone, Copy)]
 pub(crate) struct Open;
 
@@ -29,8 +29,9 @@ impl Gate for Open {
     fn after(&self, _job: usize, _step: usize) {}
 }
 
-// A gate at which four jobs wait for one another before their first step: how many came, and how many saw that all came. A call round a
-// step counts in an octal digit of the step's own, of five for each job.
+// A gate at which four jobs wait for one another before their first step: the number that arrived,
+// and the number that saw all arrive. Each call before or after a step is counted in the step's own
+// octal digit, of five for each job.
 #[derive(Drop)]
 struct Meeting<'a, C: Clock> {
     clock: &'a C,
@@ -63,7 +64,7 @@ impl<'a, C: Clock> Gate for Meeting<'a, C> {
     }
 }
 
-// Runs jobs, which are not too many.
+// Runs jobs, of which there are at most MAX_JOBS.
 pub(crate) fn run<M: Absorbing + Send, R: Threads + Wait + Abort + Sync, G: Gate + Sync>(
     rt: &R,
     alloc: Global,
@@ -100,7 +101,8 @@ fn make(rt: &impl Abort, alloc: Global, call: Call) -> Step {
     Step::Make(BoxedCall::new(alloc, call).expect(rt, "memory for a call"))
 }
 
-// A job that asks for the victim, after three touches of its page and a flush where it takes five steps. Its buffer holds two.
+// A job that requests the victim; where it has five steps, after three touches of its page and a
+// flush. Its buffer holds two.
 fn job_of(rt: &impl Abort, alloc: Global, no: u64, five: bool) -> Job {
     let victim = make(rt, alloc, Call::Victim);
     let steps = if five {
@@ -118,7 +120,7 @@ fn job_of(rt: &impl Abort, alloc: Global, no: u64, five: bool) -> Job {
     Job { capacity: 2, steps }
 }
 
-// No page is resident. Two references fit, and the third comes back.
+// No page is resident. Two references fit, and the third is given back.
 fn is_answered(replies: &[StepReply], no: u64) -> bool {
     let (reply, back) = match replies {
         [StepReply::Answered(reply)] => (reply, None),
@@ -245,13 +247,14 @@ fn sixty_four_jobs_flush(rt: HostRuntime) {
     assert!(rt; are_flushed(&rt, rt.alloc()));
 }
 
-// The slot of the first page that comes into a pool.
+// The slot of the first page that is loaded into a pool.
 pub(crate) const FIRST: Slot = Slot {
     index: 0,
     generation: 1,
 };
 
-// Whether a node knows just 0:1, of one reference, and has just 0:5 in its pool, as it was read, with one fix.
+// Whether a node's history has only 0:1, with one reference, and its pool only 0:5, clean, with one
+// pin.
 fn has_one_page(node: Node<MemDevice>) -> bool {
     let history = node.history();
     let known = history.at(0) == Some(entry(page(1), once(10, 1)));

@@ -1,5 +1,6 @@
-//! Tests of warm_turn, warm_replica and warm_threads, over public calls alone: a counter that threads share; workers, jobs in threads
-//! of their own, and mail; and schedules played by threads. Allocations that fail are in refused_memory.
+//! Tests of warm_turn, warm_replica and warm_threads, over only public calls: a counter that
+//! threads share; workers, jobs in threads of their own, and mail; and schedules played by threads.
+//! Allocations that fail are in refused_memory.
 #![tactic(auto)]
 
 #[cfg(test)]

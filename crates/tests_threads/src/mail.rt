@@ -1,5 +1,5 @@
-//! Loops over mail: how long they go on, what they count, which answers a post gets, and what they leave alone. Loops in threads of
-//! their own are in stations.
+//! Loops over mail: when they end, what they count, which answers a post gets, and what they leave
+//! unchanged. Loops in threads of their own are in stations.
 ghost use Rattle.std.specs.Prelude.{◌≡◌};
 
 use crate::setup::{fresh, opened, over};
@@ -19,7 +19,7 @@ use warm_replica::{
 };
 use warm_stamps::{ByteList, ReplicaId};
 
-// Puts an item last into a channel.
+// Sends an item to a channel.
 pub(crate) fn send<R: Wait + Abort>(rt: &R, sender: &Sender<Mail>, item: Mail) {
     sender.send(rt, item).ok().expect(rt, "the mail is sent");
 }
@@ -56,7 +56,7 @@ pub(crate) const fn entry_at(horizon: u8, no: u8, time: u8) -> [u8; 44] {
     ]
 }
 
-// A replica at this horizon asks for buckets of the first eight.
+// A request of a replica at this horizon for some of the first eight buckets.
 const fn request_of(number: u8, horizon: u8, request: u8) -> [u8; 27] {
     [
         0x4C, 0x32, 0x47, 0x32, 3, 0, number, 0, 0, 0, 0, 0, 0, 0, horizon, 0, 0, 0, 8, 0, 0, 0, 0,
@@ -75,12 +75,12 @@ pub(crate) fn digest_of(rt: &impl Abort, alloc: Global, number: u16, horizon: u6
     encode(alloc, &message).expect(rt, "memory for the bytes")
 }
 
-// After how many Stops and turns a loop ends, and how many items its channel gives.
+// The numbers of Stops and turns after which a loop ends, and the number of items of its channel.
 type Bounds = (u64, u64, u64);
 
 const ONE_STOP: Bounds = (1, 10, 10);
 
-// What an empty machine counts of the mail.
+// The counts of the mail by an empty machine.
 fn heard<M: Absorbing + Drop, P: Post, R: Wait + Abort>(
     rt: &R,
     alloc: Global,
@@ -103,7 +103,7 @@ pub(crate) const fn report(joined: u64, refused: u64, lost: u128) -> MailReport 
     }
 }
 
-// What a node counts that has nothing to answer.
+// The counts of a node that has nothing to answer.
 fn heard_alone<R: Wait + Abort>(
     rt: &R,
     alloc: Global,
@@ -116,7 +116,8 @@ fn heard_alone<R: Wait + Abort>(
     heard
 }
 
-// Entries, a byte that is no message, and a Stop come. Where a second Stop is waited for the channel is closed.
+// The mail is entries, a byte that is not a message, and a Stop. Where the loop waits for a second
+// Stop, the channel is closed.
 #[test]
 fn a_loop_ends_at_its_bounds(rt: HostRuntime) {
     let rows = [
@@ -133,12 +134,12 @@ fn a_loop_ends_at_its_bounds(rt: HostRuntime) {
     }
 }
 
-// Whether something comes out of a channel.
+// Whether a channel has an item.
 pub(crate) fn brings<R: Wait>(rt: &R, receiver: &Receiver<Mail>) -> bool {
     receiver.try_recv(rt).is_ok()
 }
 
-// The message that comes next out of a channel.
+// The next message of a channel.
 fn message_in<R: Wait + Abort>(rt: &R, alloc: Global, receiver: &Receiver<Mail>) -> Message {
     match receiver.try_recv(rt) {
         Ok(Mail::Bytes(bytes)) => decode(alloc, bytes.as_slice()).ok().expect(rt, "a message"),
@@ -146,7 +147,7 @@ fn message_in<R: Wait + Abort>(rt: &R, alloc: Global, receiver: &Receiver<Mail>)
     }
 }
 
-// Whether these entries come next out of a channel, from replica 1 at horizon 0.
+// Whether the next message of a channel has these entries, from replica 1 at horizon 0.
 pub(crate) fn brings_entries<R: Wait + Abort>(
     rt: &R,
     alloc: Global,
@@ -164,7 +165,8 @@ pub(crate) fn brings_entries<R: Wait + Abort>(
     sender.get() == 1 && horizon == 0 && entries.as_slice() == wanted
 }
 
-// Whether a request for just these buckets comes next out of a channel, from replica 1 at horizon 0.
+// Whether the next message of a channel is a request for exactly these buckets, from replica 1 at
+// horizon 0.
 pub(crate) fn brings_request<R: Wait + Abort>(
     rt: &R,
     alloc: Global,
@@ -190,7 +192,7 @@ fn are_for_nine(given: &[(ReplicaId, ByteList)], entries: &[u8], request: &[u8])
     first.get() == 9 && second.get() == 9 && one.as_slice() == entries && two.as_slice() == request
 }
 
-// What a node counts that hears of 0:1 at 10 and then a digest at a horizon.
+// The counts of a node that receives 0:1 at 10 and then digests at a horizon.
 fn heard_digest<P: Post, R: Wait + Abort>(
     rt: &R,
     alloc: Global,
@@ -202,7 +204,7 @@ fn heard_digest<P: Post, R: Wait + Abort>(
     heard(rt, alloc, fresh(rt, alloc), mail, post, ONE_STOP)
 }
 
-// The stamp at 10 is older than 11: nothing is left to answer with.
+// The stamp at 10 is older than 11, so there is nothing to answer.
 #[test]
 fn answers_are_kept_for_their_sender(rt: HostRuntime) {
     for horizon in [0u8, 10, 11] {
@@ -221,7 +223,7 @@ fn answers_are_kept_for_their_sender(rt: HostRuntime) {
     }
 }
 
-// Entries come in both formats, and the later ones bring their horizon.
+// Entries are received in both formats, and the later ones bring their horizon.
 #[test]
 fn both_formats_come_in_one_stream(rt: HostRuntime) {
     let alloc = rt.alloc();
@@ -254,13 +256,13 @@ pub(crate) fn outbox_of(
     (boxed(rt, alloc, number, sender), receiver)
 }
 
-// What a node counts of a digest from replica 9, over these outboxes.
+// The counts of a node for digests from replica 9, over these outboxes.
 fn heard_over<R: Wait + Abort>(rt: &R, alloc: Global, boxes: Vec<Outbox>) -> MailReport {
     let mut post = Outboxes::new(rt, boxes);
     heard_digest(rt, alloc, 0, &mut post)
 }
 
-// There is no outbox, or nobody receives what is sent.
+// There is no outbox, or its channel has no receiver.
 #[test]
 fn answers_may_be_lost(rt: HostRuntime) {
     let alloc = rt.alloc();
@@ -270,7 +272,7 @@ fn answers_may_be_lost(rt: HostRuntime) {
     assert!(rt; heard_over(&rt, alloc, boxes) == report(2, 0, 2));
 }
 
-// What is known of a page that replica 1 referenced once.
+// The entry of a page that replica 1 referenced once.
 fn known(no: u64, time: u64) -> [Entry; 1] {
     [entry(page(no), once(time, 1))]
 }
@@ -290,7 +292,7 @@ fn answers_reach_the_first_outbox_of_a_number(rt: HostRuntime) {
     assert!(rt; !brings(&rt, &first) && !brings(&rt, &second));
 }
 
-// A post that gives back what it is given at one place, from 0, and passes on all else.
+// A post that gives back the item of one index, from 0, and forwards all others.
 #[derive(Drop)]
 struct AllBut<P: Post + Drop> {
     place: u64,
@@ -315,8 +317,9 @@ impl<P: Post + Drop> Post for AllBut<P> {
     }
 }
 
-// A node hears of 0:1 and 0:2, then the digests of a replica without a history, and its request for bucket 2. Whether all answers reach
-// that replica but the one at this place, and so many are lost.
+// A node receives 0:1 and 0:2, then the digests of a replica without a history, and its request for
+// bucket 2. Returns whether all answers reach that replica but the one of this index, and whether
+// this many are lost.
 fn are_answered<R: Wait + Abort>(
     rt: &R,
     alloc: Global,
@@ -372,7 +375,8 @@ fn thousand(rt: &impl Abort, alloc: Global) -> EntryList {
     EntryList::of(entries).ok().expect(rt, "the pages rise")
 }
 
-// The longest message comes in and goes out: a header of 19 bytes, a count of 4, and a thousand entries of 31.
+// The longest message is received and sent: a header of 19 bytes, a count of 4, and a thousand
+// entries of 31.
 #[test]
 fn a_thousand_entries_go_through_an_outbox(rt: HostRuntime) {
     let alloc = rt.alloc();
@@ -414,13 +418,14 @@ fn a_thousand_items_come_in_order(rt: HostRuntime) {
     assert!(rt; next == 1000);
 }
 
-// The slot of the first page that comes into a pool.
+// The slot of the first page that is loaded into a pool.
 const FIRST: Slot = Slot {
     index: 0,
     generation: 1,
 };
 
-// A node whose only frame has page 3, of which three bytes are written. It keeps its fix where it `stays`.
+// A node whose only frame has page 3, of which three bytes are written. It stays pinned where
+// `stays` is true.
 fn filled(rt: &impl Abort, alloc: Global, stays: bool) -> Node<MemDevice> {
     let device = memory(alloc, 8).expect(rt, "memory for a device");
     let mut node = over(rt, alloc, 1, device);
@@ -447,7 +452,8 @@ fn left_by_a_loop<R: Wait + Abort>(rt: &R, alloc: Global, stays: bool) -> Node<M
     turn.close(pass).expect(rt, "each ticket was passed on")
 }
 
-// Whether the frame still has that page, which never left it, with its bytes, and a fix where it `stays`.
+// Whether the frame still has that page, which was never evicted, with its bytes, and pinned where
+// `stays` is true.
 fn is_as_filled(mut node: Node<MemDevice>, stays: bool) -> bool {
     let had_fix = node.unpin(FIRST).is_ok();
     let has_more = node.unpin(FIRST).is_ok();
@@ -461,7 +467,8 @@ fn is_as_filled(mut node: Node<MemDevice>, stays: bool) -> bool {
         && bytes.as_slice() == [7, 8, 9, 0, 0].as_slice()
 }
 
-// A call that the loop makes through another pass, which it drops, is in no report. It shows in the history or in the pool.
+// A call that the loop would make through another pass, which it drops, is in no report, but would
+// be visible in the history or in the pool.
 #[test]
 fn a_loop_makes_no_other_call(rt: HostRuntime) {
     for stays in [false, true] {

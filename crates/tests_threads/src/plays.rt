@@ -1,4 +1,5 @@
-//! Schedules played by threads: what each replica then shows, which lines are named as bad, and devices that do not fit.
+//! Schedules played by threads: the histories that each replica then prints, which lines are
+//! reported as bad, and devices that do not fit.
 use std::alloc::Global;
 use std::io::Write;
 use std::process::Abort;
@@ -20,7 +21,7 @@ fn setup_of(rt: &impl Abort, size: Size) -> Setup {
     Setup::new(replicas, workers, buffer, 4, 16).expect(rt, "a setup")
 }
 
-// How a play ends over this many lists of a device with pages of this size, and what is printed.
+// The end and the output of a play over this many lists of one device with pages of this size.
 fn played<R: Threads + Wait + Abort + Sync>(
     rt: &R,
     alloc: Global,
@@ -42,7 +43,7 @@ fn played<R: Threads + Wait + Abort + Sync>(
     (ended, String::from_utf8(out).expect(rt, "text"))
 }
 
-// The same over the devices that the size wants.
+// The same, over devices that fit the size.
 fn played_by<R: Threads + Wait + Abort + Sync>(
     rt: &R,
     alloc: Global,
@@ -56,12 +57,12 @@ fn is_printed(got: &(Result<(), PlayFault>, String), want: &str) -> bool {
     got.0 == Ok(()) && got.1.as_str() == want
 }
 
-// Whether this fault comes, and nothing is printed.
+// Whether this fault is returned, and nothing is printed.
 fn is_refused(got: &(Result<(), PlayFault>, String), fault: PlayFault) -> bool {
     got.0 == Err(fault) && got.1.as_str() == ""
 }
 
-// How large a world is, its schedule, and what is shown.
+// A test case: the sizes of a world, its schedule, and the expected output.
 const PLAYED: [(Size, &str, &str); 8] = [
     (
         DEFAULT,
@@ -101,7 +102,7 @@ fn each_replica_shows_all_references(rt: HostRuntime) {
     }
 }
 
-// A line for each of so many pages of a bucket.
+// A line for each of this many pages of a bucket.
 fn lines_of(rt: &impl Abort, alloc: Global, pages: u32, before: &str, after: &str) -> String {
     let mut text = String::new(alloc);
     for place in 0..pages {
@@ -111,7 +112,7 @@ fn lines_of(rt: &impl Abort, alloc: Global, pages: u32, before: &str, after: &st
     text
 }
 
-// What replicas print of which each knows these entries.
+// The output of replicas, each of which has these entries.
 fn shown_by(rt: &impl Abort, alloc: Global, replicas: u16, entries: &str, count: u32) -> String {
     let mut text = String::new(alloc);
     for number in 1..=replicas {
@@ -151,7 +152,8 @@ fn sixty_four_replicas_show_all(rt: HostRuntime) {
     assert!(rt; is_printed(&got, want.as_str()));
 }
 
-// Lines that no play by threads takes: other events, and replicas and workers that the setup has not.
+// Lines that a play by threads refuses: other events, and replicas and workers that the setup does
+// not have.
 const BAD_LINES: [&str; 10] = [
     "show 1",
     "horizon 1 0",
@@ -165,7 +167,7 @@ const BAD_LINES: [&str; 10] = [
     "word",
 ];
 
-// Each is named as the third line, after two good ones.
+// Each is reported as the third line, after two good ones.
 #[test]
 fn bad_lines_are_named(rt: HostRuntime) {
     for line in BAD_LINES {
@@ -177,7 +179,7 @@ fn bad_lines_are_named(rt: HostRuntime) {
     }
 }
 
-// A comment that no byte ends.
+// A comment without a line end.
 #[test]
 fn a_line_too_long_is_named(rt: HostRuntime) {
     for (bytes, want) in [(262144, Ok(())), (262145, Err(PlayFault::BadLine(1)))] {

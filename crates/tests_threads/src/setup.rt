@@ -1,4 +1,4 @@
-//! Nodes, turns and workers that the tests begin with, a bounded wait, and lists of replies.
+//! Nodes, turns and workers that the tests start with, a bounded wait, and lists of replies.
 ghost use Rattle.std.specs.Prelude.{◌≡◌};
 
 use std::alloc::Global;
@@ -61,7 +61,7 @@ pub(crate) fn opened<M: Absorbing + Drop>(
     (turn, Worker::new(pass, buffer))
 }
 
-// Whether a word comes to this value: it is looked at 10,000 times at most, a millisecond apart.
+// Whether a word reaches this value: it is polled at most 10,000 times, a millisecond apart.
 pub(crate) fn comes<C: Clock>(clock: &C, word: &AtomicU64, wanted: u64) -> bool {
     for _ in 0..10_000 {
         if word.load(Ordering::SeqCst) == wanted {

@@ -17,8 +17,8 @@ use warm_gossip::Node;
 use warm_pool::Pool;
 use warm_replica::{Absorbing, Mail, MailReport, Outbox, Station, run_stations};
 
-// What two machines count of their mail, each in a thread of its own, until a Stop or so many items came to each. Each has its mail
-// and its outboxes with it.
+// The counts of two machines of their mail, each in a thread of its own, until each has received a
+// Stop or this many items. Each is given with its mail and its outboxes.
 fn heard_by_both<M: Absorbing + Drop + Send, R: Threads + Wait + Abort + Sync>(
     rt: &R,
     alloc: Global,
@@ -34,7 +34,7 @@ fn heard_by_both<M: Absorbing + Drop + Send, R: Threads + Wait + Abort + Sync>(
     ended(rt, alloc, stations, turns)
 }
 
-// What two stations count.
+// The counts of two stations.
 fn ended<M: Absorbing + Drop + Send, R: Threads + Wait + Abort + Sync>(
     rt: &R,
     alloc: Global,
@@ -48,8 +48,8 @@ fn ended<M: Absorbing + Drop + Send, R: Threads + Wait + Abort + Sync>(
     }
 }
 
-// What two nodes count: one hears of entries and a byte that is no message, the other of entries and a digest, whose two answers
-// reach these outboxes.
+// The counts of two nodes: one receives entries and a byte that is not a message, the other entries
+// and digests, whose two answers reach these outboxes.
 fn heard_by_nodes<R: Threads + Wait + Abort + Sync>(
     rt: &R,
     alloc: Global,
@@ -97,7 +97,8 @@ fn asked<R: Wait + Abort>(rt: &R, alloc: Global, no: u8, number: u16) -> Ends {
     channel_of(rt, alloc, &[&entry_at(0, no, 10), text.as_slice()])
 }
 
-// Sends a Stop to both where the flag does not come: then a loop ends too whose mail never comes.
+// Sends a Stop to both where the flag is not set in time, so that a loop also ends whose mail is
+// never sent.
 fn stop_late<R: Wait + Clock>(
     rt: &R,
     flag: &AtomicU64,
@@ -110,7 +111,8 @@ fn stop_late<R: Wait + Clock>(
     }
 }
 
-// What replicas 1 and 2 count that answer each other, until five items or a Stop came to each.
+// The counts of replicas 1 and 2, which answer each other until each has received five items or a
+// Stop.
 fn heard_in_turn<R: Threads + Wait + Abort + Sync>(
     rt: &R,
     alloc: Global,
@@ -126,8 +128,9 @@ fn heard_in_turn<R: Threads + Wait + Abort + Sync>(
     )
 }
 
-// Each takes an entry and digests, and then what the other answers: entries, a request, and entries to its own request. If one ran
-// to its end before the other began, a late Stop would end it, and its counts would be less.
+// Each receives an entry and digests, and then the answers of the other: entries, a request, and
+// entries for its own request. If one ran to its end before the other started, a late Stop would
+// end it, and its counts would be lower.
 #[test]
 fn two_stations_answer_each_other(rt: HostRuntime) {
     let alloc = rt.alloc();

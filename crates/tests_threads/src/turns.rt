@@ -19,7 +19,7 @@ fn counter_at(rt: &impl Abort, alloc: Global, total: u64) -> (Turn<Counter>, Pas
         .expect(rt, "memory for a turn")
 }
 
-// What code can know that is given a turn and a pass of it, and nothing else.
+// What code can prove that is given only a turn and a pass of it.
 fn learn_opening<M: Machine>(turn: &Turn<M>, pass: &mut Pass<M>)
     requires { pass.old.table ≡ turn.now.table }
     ensures table { pass.new.table ≡ turn.now.table }
@@ -51,7 +51,7 @@ fn closed(rt: &impl Abort, turn: Turn<Counter>, pass: Pass<Counter>) -> u64
     counter.total
 }
 
-// Adds five through the first pass, and two through another that has learned of the five.
+// Adds five through the first pass, and two through another that has learned the first call.
 fn add_by_two<R: Wait + Abort>(
     rt: &R,
     turn: &Turn<Counter>,
@@ -92,14 +92,14 @@ fn a_full_counter_stays(rt: HostRuntime) {
     );
 }
 
-// What holds two threads back until two others are done.
+// A gate that holds two threads back until two others are done.
 #[derive(Drop)]
 struct Gate {
     open: AtomicU64,
     late: AtomicU64,
 }
 
-// Adds one, and looks at no reply.
+// Adds one, and ignores the reply.
 fn add_one<M: Machine<Call = Add, Reply = Added>, R: Wait>(
     rt: &R,
     turn: &Turn<M>,
@@ -132,7 +132,7 @@ fn add_thrice<M: Machine<Call = Add, Reply = Added>, R: Wait + Clock>(
     pass
 }
 
-// Two passes in two threads at once, over any machine that may go to another thread.
+// Two passes in two threads at once, over any machine that may be sent to another thread.
 fn add_in_two_threads<
     M: Machine<Call = Add, Reply = Added> + Send,
     R: Threads + Wait + Clock + Sync,

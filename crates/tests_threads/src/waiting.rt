@@ -1,4 +1,4 @@
-//! A page is read while another thread touches what it has referenced: a touch waits for nobody.
+//! A page is read while another thread touches what it has referenced: a touch never waits.
 use crate::jobs::{FIRST, ran};
 use crate::setup::{comes, list_of, over};
 use std::alloc::Global;
@@ -11,7 +11,7 @@ use test_kit::{Hooked, Hooks, memory, page, seen};
 use warm_gossip::{Call, Reply};
 use warm_replica::{Absorbing, BoxedCall, Gate, Job, Replies, Step, StepReply};
 
-// What two threads show each other.
+// The flags that two threads set for each other.
 #[derive(Drop)]
 struct Flags {
     // The device is being read.
@@ -60,7 +60,7 @@ impl Hooks for SlowReads {
 // The job that touches, after the one that pins.
 const TOUCHES: usize = 1;
 
-// The job that touches does so while the device is being read.
+// The touching job does so while the device is being read.
 #[derive(Drop)]
 struct WhileRead<'a, C: Clock> {
     clock: &'a C,
@@ -121,7 +121,7 @@ fn pins_and_touches<M: Absorbing + Drop + Send, R: Threads + Wait + Abort + Sync
     (pinned, touched)
 }
 
-// Whether a pin alone was made, and answered with the first slot.
+// Whether the only step was a pin, answered with the first slot.
 fn is_pinned(replies: &[StepReply]) -> bool {
     let [StepReply::Answered(reply)] = replies else {
         return false;

@@ -1,4 +1,4 @@
-//! Buffers of references: what they hold, and which capacities are refused.
+//! Buffers of references: their contents, and which capacities are refused.
 
 use std::alloc::Global;
 use test_kit::{page, seen};
@@ -21,7 +21,7 @@ fn a_buffer_takes_as_many_as_it_holds(rt: HostRuntime) {
     assert!(rt; buffer.len() == 0 && buffer.capacity() == 64);
 }
 
-// The capacity of a new buffer that is asked for with this one.
+// The capacity of a new buffer that is requested with this one.
 fn capacity(alloc: Global, capacity: usize) -> Result<usize, BufferFault> {
     let buffer = RefBuffer::new(alloc, capacity)?;
     Ok(buffer.capacity())

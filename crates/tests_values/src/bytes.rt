@@ -1,6 +1,6 @@
-//! Frames of both formats, their bytes written out by hand from the formats: `L2G1`, the narrow one, which has no horizon and page
-//! numbers of 32 bits and is read alone, and `L2G2`, the wide one, which is written too. And the calls by which the tests read and
-//! write them.
+//! Frames of both formats, their bytes written by hand from the formats: `L2G1`, the narrow one,
+//! which has no horizon and page numbers of 32 bits and is only read, and `L2G2`, the wide one,
+//! which is also written. And the calls by which the tests read and write them.
 use std::alloc::Global;
 use std::process::Abort;
 use test_kit::{NARROW, WIDE};
@@ -12,7 +12,7 @@ pub(crate) const WIDENED: [u8; 54] = [
     0, 0, 0, 0, 0, 7, 2, 0, 0, 0, 0, 0, 0, 0, 0x14, 0, 1, 0, 0, 0, 0, 0, 0, 0, 0x0A, 0, 1,
 ];
 
-// Sender 3 says nothing.
+// A frame of no entries by sender 3.
 pub(crate) const NOTHING: [u8; 23] = [
     0x4C, 0x32, 0x47, 0x32, 1, 0, 3, 0, 0, 0, 0, 0, 0, 0, 0, 0, 0, 0, 4, 0, 0, 0, 0,
 ];
@@ -22,7 +22,7 @@ pub(crate) const NARROW_NOTHING: [u8; 15] = [
     0x4C, 0x32, 0x47, 0x31, 1, 0, 3, 0, 0, 0, 4, 0, 0, 0, 0,
 ];
 
-// Sender 2 asks for buckets 1 and 2.
+// A request of sender 2 for buckets 1 and 2.
 pub(crate) const REQUEST: [u8; 27] = [
     0x4C, 0x32, 0x47, 0x32, 3, 0, 2, 0, 0, 0, 0, 0, 0, 0, 0, 0, 0, 0, 8, 0, 0, 0, 0, 0, 0, 0, 6,
 ];
@@ -46,7 +46,8 @@ pub(crate) fn narrow_changed(place: usize, value: u8) -> [u8; 42] {
     bytes
 }
 
-// Ends the test where its row of a number does not hold: the one place where a message is put together, which is dear to prove.
+// Ends the test where its test case of this number does not hold: the only place where a message is
+// formatted, which is expensive to prove.
 pub(crate) fn row_holds(rt: &impl Abort, at: usize, is_so: bool) {
     assert!(rt; is_so, "row {at}");
 }
@@ -59,7 +60,7 @@ pub(crate) fn fault(alloc: Global, bytes: &[u8]) -> Option<FrameFault> {
     decode(alloc, bytes).err()
 }
 
-// Puts bytes behind a text.
+// Appends bytes to a text.
 pub(crate) fn put(rt: &impl Abort, text: &mut Vec<u8>, bytes: &[u8]) {
     text.extend_from_slice(bytes).expect(rt, "memory for bytes");
 }

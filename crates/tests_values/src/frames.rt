@@ -1,4 +1,4 @@
-//! Frames and their bytes: what is read of them and written, their sizes, and lists of entries.
+//! Frames and their bytes: reading and writing, sizes, and lists of entries.
 use crate::bytes::{WIDENED, encoded, fault, put};
 use std::alloc::Global;
 use std::process::Abort;
@@ -25,7 +25,8 @@ fn said_in(rt: &impl Abort, frame: Message) -> (u16, u64, EntryList) {
     }
 }
 
-// Whether a frame of this horizon is of sender 1 and says of 0:7 alone that it has 20@1 and 10@1.
+// Whether a frame has this horizon, is of sender 1, and has only the entry 0:7 with stamps 20@1 and
+// 10@1.
 fn says_twice(rt: &impl Abort, frame: Message, since: u64) -> bool {
     let (sender, horizon, entries) = said_in(rt, frame);
     let entries = entries.into_entries();

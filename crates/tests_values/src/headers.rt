@@ -1,4 +1,5 @@
-//! Limits of the fields of a header, in both formats: what is refused, by `decode` and by a decoder, before the body is looked at.
+//! Limits of the fields of a header, in both formats: what is refused, by `decode` and by a
+//! decoder, before the body is read.
 use crate::bytes::{fault, row_holds};
 use std::alloc::Global;
 use warm_frames::{Decoder, FrameFault};
@@ -22,7 +23,8 @@ fn wide_header(kind: u8, sender: u16, horizon: u64, len: u32) -> [u8; 19] {
     bytes
 }
 
-// Whether a header without a body is refused so. A decoder refuses it too, but where it only lacks the body.
+// Whether a header without a body is refused with this fault. A decoder refuses it too, unless only
+// the body is missing.
 fn is_refused(alloc: Global, header: &[u8], want: FrameFault) -> bool {
     let fed = Decoder::new(alloc).feed(header);
     let is_fed_so = match want {
@@ -32,14 +34,15 @@ fn is_refused(alloc: Global, header: &[u8], want: FrameFault) -> bool {
     is_fed_so && fault(alloc, header) == Some(want)
 }
 
-// Whether a header with these fields is refused so in the wide format, with the least and with the greatest horizon.
+// Whether a header with these fields is refused with this fault in the wide format, with the least
+// and with the greatest horizon.
 fn is_refused_wide(alloc: Global, kind: u8, sender: u16, len: u32, want: FrameFault) -> bool {
     is_refused(alloc, &wide_header(kind, sender, 0, len), want)
         && is_refused(alloc, &wide_header(kind, sender, u64::MAX, len), want)
 }
 
-// The fields of a header, and why it is refused in either format. Kinds and senders just past their limits stand with the frames that
-// are cut in pieces.
+// The fields of a header, and why it is refused in either format. Kinds and senders just past their
+// limits are tested with the frames that are cut in pieces.
 const HEADERS: [(u8, u16, u32, FrameFault); 14] = [
     (4, 0, 0, FrameFault::BadKind),
     (1, 65535, 4, FrameFault::BadSender),

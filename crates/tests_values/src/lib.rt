@@ -1,8 +1,8 @@
 //! Tests of warm_stamps, warm_refbuffer, warm_random, warm_play_fault and warm_frames: limits of small values and their bytes, the
 //! schedules that seeds give, and the bytes of frames in both formats, whole and in pieces.
 //!
-//! They use public calls alone, and have a crate of their own so that the gate proves those libraries once and not again beside
-//! their tests.
+//! They use only public calls, and have a crate of their own so that the gate proves those
+//! libraries once, and not again with their tests.
 #![tactic(auto)]
 
 #[cfg(test)]

@@ -1,4 +1,4 @@
-//! Frames that come in pieces, cut at each byte, and the byte with which a fault is known.
+//! Frames that are given in pieces, cut at each byte, and the byte at which a fault is detected.
 use crate::bytes::{
     NARROW_NOTHING, NARROW_REQUEST, NOTHING, REQUEST, WIDENED, changed, encoded, fault, joined,
     narrow_changed, put, row_holds,
@@ -9,7 +9,8 @@ use std::process::Abort;
 use test_kit::{NARROW, WIDE};
 use warm_frames::{Decoder, FrameFault};
 
-// Feeds the beginning of a piece, and puts the spelling of a frame that it gives behind the text. How many bytes were taken.
+// Feeds the start of a piece, and appends the spelling of a returned frame to the text. Returns the
+// number of consumed bytes.
 fn feed_some(
     rt: &impl Abort,
     alloc: Global,
@@ -26,7 +27,7 @@ fn feed_some(
     taken
 }
 
-// Feeds all of a piece, and puts the spellings of the frames that it gives behind the text.
+// Feeds a whole piece, and appends the spellings of the returned frames to the text.
 fn feed_all(
     rt: &impl Abort,
     alloc: Global,
@@ -44,7 +45,7 @@ fn feed_all(
     }
 }
 
-// Whether these pieces, which have to end between two frames, give the frames that are spelled so.
+// Whether these pieces, which must end between two frames, give the frames with these spellings.
 fn give(rt: &impl Abort, alloc: Global, pieces: &[&[u8]], want: &[u8]) -> bool {
     let mut decoder = Decoder::new(alloc);
     let mut text = Vec::new(alloc);
@@ -55,7 +56,7 @@ fn give(rt: &impl Abort, alloc: Global, pieces: &[&[u8]], want: &[u8]) -> bool {
     text.as_slice() == want
 }
 
-// Whether the frames come of bytes that are cut in two; `first` is the size of the first piece.
+// Whether bytes that are cut in two give the frames; `first` is the size of the first piece.
 fn come_in_two(rt: &impl Abort, alloc: Global, bytes: &[u8], want: &[u8], first: usize) -> bool {
     let (begin, end) = bytes.split_at(first.min(bytes.len()));
     give(rt, alloc, &[begin, end], want)
@@ -86,7 +87,8 @@ fn fault_of(decoder: &mut Decoder, piece: &[u8]) -> Option<FrameFault> {
     decoder.feed(piece).err()
 }
 
-// A frame comes twice of its bytes, twice over and in pieces of a size; then bytes that begin no frame fail the decoder.
+// The bytes of a frame, given twice and in pieces of a size, give the frame twice; then bytes that
+// are not the start of a frame fail the decoder.
 fn comes_twice(rt: &impl Abort, alloc: Global, bytes: &[u8], want: &[u8], size: usize) {
     let twice = joined(rt, alloc, &[bytes, bytes]);
     let mut decoder = Decoder::new(alloc);
@@ -111,7 +113,7 @@ fn a_frame_twice_over(rt: HostRuntime) {
     }
 }
 
-// Whether an empty piece is taken, and gives no frame.
+// Whether an empty piece is consumed and gives no frame.
 fn takes_nothing(decoder: &mut Decoder) -> bool {
     match decoder.feed(&[]) {
         Ok(fed) => fed.taken == 0 && fed.frame.is_none(),
@@ -142,7 +144,7 @@ fn a_piece_may_have_more_than_65_536_bytes(rt: HostRuntime) {
     assert!(rt; give(&rt, rt.alloc(), &[stream.as_slice()], stream.as_slice()));
 }
 
-// Bytes of a frame without its last byte are taken whole, and are no end of a stream.
+// A frame's bytes without the last one are all consumed, and a stream cannot end there.
 fn is_not_the_end(rt: &impl Abort, alloc: Global, part: &[u8]) {
     let mut decoder = Decoder::new(alloc);
     assert!(rt; decoder.finish() == Ok(()));
@@ -157,7 +159,7 @@ fn a_part_is_not_the_end(rt: HostRuntime) {
     is_not_the_end(&rt, rt.alloc(), &NARROW[..41]);
 }
 
-// How many bytes were taken, fed byte by byte, before the fault.
+// The number of bytes consumed before the fault, fed byte by byte.
 fn place_of_fault(alloc: Global, bytes: &[u8]) -> Option<(usize, FrameFault)> {
     let mut decoder = Decoder::new(alloc);
     for (place, byte) in bytes.iter().enumerate() {
@@ -168,14 +170,16 @@ fn place_of_fault(alloc: Global, bytes: &[u8]) -> Option<(usize, FrameFault)> {
     None
 }
 
-// Whether the bytes are refused so by `decode`, at a place where they are fed byte by byte, and where they are fed as one piece.
+// Whether the bytes are refused with this fault by `decode`, at this place where they are fed byte
+// by byte, and where they are fed as one piece.
 fn faults_at(alloc: Global, bytes: &[u8], at: usize, want: FrameFault) -> bool {
     fault(alloc, bytes) == Some(want)
         && place_of_fault(alloc, bytes) == Some((at, want))
         && fault_of(&mut Decoder::new(alloc), bytes) == Some(want)
 }
 
-// A place in WIDE, the byte that is put there, the place at which the fault is known, and the fault.
+// A place in WIDE, the byte that is stored there, the place at which the fault is detected, and the
+// fault.
 const WIDE_FAULTS: [(usize, u8, usize, FrameFault); 13] = [
     (0, 0x4D, 3, FrameFault::BadMagic),
     (4, 0, 4, FrameFault::BadKind),
@@ -192,7 +196,8 @@ const WIDE_FAULTS: [(usize, u8, usize, FrameFault); 13] = [
     (53, 65, 53, FrameFault::BadStamp),
 ];
 
-// The same for NARROW. With the letters of the wide format zeros of the page stand in the place of the length.
+// The same for NARROW. With the magic number of the wide format, zeros of the page are in the place
+// of the length.
 const NARROW_FAULTS: [(usize, u8, usize, FrameFault); 16] = [
     (0, 0x4D, 3, FrameFault::BadMagic),
     (3, 0x30, 3, FrameFault::BadMagic),

@@ -1,4 +1,4 @@
-//! How what ends a play is shown.
+//! How the faults of a play are displayed.
 use warm_play_fault::PlayFault;
 
 const SHOWN: [(PlayFault, &str); 6] = [

@@ -1,5 +1,5 @@
-//! Schedules as an independent program gives them: PCG-XSH-RR 64/32 written from its published description, which
-//! gives the published first words of the state 42 and the stream 54.
+//! Schedules as computed by an independent program: PCG-XSH-RR 64/32 written from its published
+//! description, which gives the published first words of the state 42 and the stream 54.
 ghost use Rattle.std.specs.Prelude.{◌<◌};
 
 use std::alloc::Global;

@@ -28,7 +28,7 @@ fn buckets_are_numbered_from_0_to_63(rt: HostRuntime) {
     assert!(rt; bucket_number(64) == None);
 }
 
-// A page is spelled by these bytes, and read from them.
+// A page is encoded as these bytes, and decoded from them.
 fn is_page(bytes: [u8; 10], dev: u16, no: u64) -> bool {
     let page = page_on(dev, no);
     (page_bytes(page), page_from(&bytes)) == (bytes, page)

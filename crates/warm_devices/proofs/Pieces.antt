@@ -1,4 +1,4 @@
--- Pages that stand one after the other: one is read and written where it stands.
+-- Pages stored one after the other: each is read and written in its place.
 use Rattle.std.proofs.Common.{◌≡◌, ℕ, zero, suc, ◌+◌, ◌*◌, ◌<◌, ◌≤◌, List, [], ◌∷◌, ◌++◌, length, take, drop, replicate, arith, refl, sym, ◌∙◌, ap}
 use Rattle.std.proofs.Math.ListN.{get_or, set}
 use Rattle.std.proofs.Math.Seq.{take-append_seam, drop-append_seam, drop-nil, take-nil}
@@ -16,7 +16,7 @@ none : {A : Type 0} (size : ℕ) (xs : List A) → length xs ≡ 0 * size → xs
 none size [] short = refl
 none size (x ∷ xs) short = absurd (omega (arith, short))
 
--- the piece behind so many others
+-- the piece after this many others
 pub piece-at : (n size k : ℕ) (front one back : List ℕ) → k < n → length front ≡ k * size → length one ≡ size → get_or (pieces n size (front ++ (one ++ back))) k [] ≡ one
 unfolding pieces
 piece-at zero size k front one back lt before long = absurd (omega arith)

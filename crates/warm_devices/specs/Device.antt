@@ -1,9 +1,10 @@
--- What a page device is to a proof, and what its calls do to it.
+-- The state of a page device as proofs see it, and the effect of its calls.
 use Rattle.std.specs.Prelude.{◌≡◌, ◌≢◌, ◌⊎◌, ℕ, ◌+◌, ◌-◌, ◌^◌, min, Bool, true, false, IsTrue, List, [], length, slice_index_or, replicate, Result, MatchResult}
 use Rattle.warm_devices.specs.declared.fault.DeviceFault.{DeviceFault}
 
--- A device as plain data: what its pages hold, whether a page was written since the last flush, how many calls failed, and what it
--- says of itself. An honest device gives back the bytes last written; an unfailing one refuses nothing.
+-- A device as plain data: the contents of its pages, whether a page was written since the last
+-- flush, how many calls failed, and whether it is honest and unfailing. An honest device returns
+-- the bytes last written; the calls of an unfailing one never fail.
 pub record DeviceState : Type 0 where
   pub pages : ℕ
   pub page_size : ℕ
@@ -17,23 +18,24 @@ pub record DeviceState : Type 0 where
 abbrev pub page_at : List (List ℕ) → ℕ → List ℕ
 page_at contents k = slice_index_or contents k []
 
--- a count of failures that has grown by one, or stays at the greatest `u64`
+-- a count of failures increased by one, saturating at the greatest `u64`
 abbrev pub one_more : ℕ → ℕ
 one_more n = min (n + 1) (2 ^ 64 - 1)
 
--- the number and the size of the pages and what the device claims of itself
+-- the number and the size of the pages, and whether the device is honest and unfailing, have not
+-- changed
 pub record SameShape (old new : DeviceState) : Type 0 where
   pub pages : new.pages ≡ old.pages
   pub page_size : new.page_size ≡ old.page_size
   pub honest : new.honest ≡ old.honest
   pub unfailing : new.unfailing ≡ old.unfailing
 
--- a fault is of this kind alone, and comes exactly where the count of failures grew
+-- a fault can only be of this kind, and occurs exactly where the count of failures increased
 abbrev pub CountsFault : {T : Type 0} → DeviceFault → Result T DeviceFault → DeviceState → DeviceState → Type 0
 CountsFault kind result old new =
     MatchResult result (λ _. new.failures ≡ old.failures) (λ fault. (fault ≡ kind) × (new.failures ≡ one_more old.failures))
 
--- nothing waits, or something waited and the flush of it failed
+-- nothing is unflushed, or something was unflushed and its flush failed
 abbrev pub Settles : DeviceState → DeviceState → Type 0
 Settles old new =
     ((new.waiting ≡ false) × (new.failures ≡ old.failures))
@@ -47,23 +49,23 @@ pub record ChangesPage (page : ℕ) (old new : List (List ℕ)) : Type 0 where
 abbrev pub ChangesOnly : ℕ → DeviceState → DeviceState → Type 0
 ChangesOnly page old new = ChangesPage page old.contents new.contents
 
--- these are the bytes of the page, where the device is honest
+-- a read returns the bytes of the page, where the device is honest
 abbrev pub GivesPage : DeviceState → ℕ → List ℕ → Type 0
 GivesPage device page bytes = IsTrue device.honest → bytes ≡ page_at device.contents page
 
--- the page then has these bytes, where the device is honest
+-- the page has the written bytes afterwards, where the device is honest
 abbrev pub TakesPage : DeviceState → ℕ → List ℕ → DeviceState → Type 0
 TakesPage old page bytes new = IsTrue old.honest → page_at new.contents page ≡ bytes
 
--- what waited still waits, and nothing else does
+-- whether something is unflushed has not changed
 abbrev pub SameWaiting : DeviceState → DeviceState → Type 0
 SameWaiting old new = new.waiting ≡ old.waiting
 
--- an unfailing device has nothing left to put down
+-- an unfailing device has nothing unflushed afterwards
 abbrev pub SettlesSurely : DeviceState → DeviceState → Type 0
 SettlesSurely old new = IsTrue old.unfailing → new.waiting ≡ false
 
--- a device of zero pages in memory: it never fails and gives back what was written
+-- a device in memory whose pages are filled with zeros: it never fails and returns what was written
 abbrev pub zeroed : ℕ → ℕ → DeviceState
 zeroed pages page_size = record {
   pages = pages;

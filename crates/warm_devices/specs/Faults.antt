@@ -25,7 +25,7 @@ abbrev pub open_fault_name : OpenFault → List ℕ
 open_fault_name Memory = codes "Memory"
 open_fault_name Open = codes "Open"
 
--- why a file was not opened, by the kind of the system's error
+-- the fault for a file that was not opened, by the kind of the system's error
 abbrev pub open_fault_of : ErrorKind → OpenFault
 open_fault_of OutOfMemory = Memory
 open_fault_of kind = Open

@@ -1,4 +1,5 @@
--- What a `FileDevice` shows: its contents are unknown, and it claims nothing of them.
+-- The state of a `FileDevice`: its contents are unknown, and it claims neither to be honest nor
+-- unfailing.
 use Rattle.std.specs.Prelude.{false, []}
 use Rattle.warm_devices.specs.Device.{DeviceState}
 use Rattle.warm_devices.specs.declared.file.FileDevice.{FileDevice}

@@ -1,32 +1,33 @@
--- What a `Flaky` shows.
+-- The state of a `Flaky`.
 use Rattle.std.specs.Prelude.{◌≡◌, ◌≢◌, ℕ, ◌+◌, ◌-◌, ◌^◌, min, replicate, false, IsTrue, IsOk, Result, Err, if◌then◌else◌}
 use Rattle.warm_devices.specs.Device.{DeviceState, SameWaiting, page_at}
 use Rattle.warm_devices.specs.declared.fault.DeviceFault.{DeviceFault}
 use Rattle.warm_devices.specs.declared.device.PageDevice.{Ghosts}
 use Rattle.warm_devices.specs.declared.flaky.Flaky.{Flaky}
 
--- the device that calls are passed on to
+-- the device to which calls are forwarded
 abbrev pub inner_of : {D : Type 0} {g : Ghosts D} → Flaky D g → D
 inner_of f = f.inner
 
--- how many calls there are up to the one that fails, or 0 where none is to fail
+-- the number of calls up to and including the one that fails, or 0 where none is to fail
 abbrev pub calls_left : {D : Type 0} {g : Ghosts D} → Flaky D g → ℕ
 calls_left f = f.calls_left
 
--- the inner device, with the failures that were made here counted too
+-- the state of the inner device, with the injected failures counted too
 abbrev pub flaky_state : {D : Type 0} {g : Ghosts D} → Flaky D g → DeviceState
 flaky_state {D} {g} f = record (g.state f.inner) {
   failures = min ((g.state f.inner).failures + f.failed) (2 ^ 64 - 1);
   unfailing = false;
 }
 
--- The call with number 1 of those left fails; over an unfailing device no other does. Each call counts.
+-- The call fails when calls_left is 1; over an unfailing device no other call fails. Each call is
+-- counted.
 pub record FailsWhenDue {D : Type 0} {g : Ghosts D} (kind : DeviceFault) (result : Result (Unit {0}) DeviceFault) (old new : Flaky D g) : Type 0 where
   pub counted : calls_left new ≡ calls_left old - 1
   pub due : calls_left old ≡ 1 → result ≡ Err kind
   pub passed_on : calls_left old ≢ 1 → IsTrue (g.state old.inner).unfailing → IsOk result
 
--- a device of which a call may fail, and whose count of failures fits 64 bits
+-- the device, but not unfailing, and with a count of failures that fits in 64 bits
 abbrev pub may_fail : DeviceState → DeviceState
 may_fail d = record d { failures = min d.failures (2 ^ 64 - 1); unfailing = false }
 
@@ -36,7 +37,8 @@ TearsWhenDue {D} {g} page old new =
     calls_left old ≡ 1 → IsTrue (g.state old.inner).unfailing → IsTrue (g.state old.inner).honest
     → page_at (flaky_state new).contents page ≡ replicate (g.state old.inner).page_size 0xEE
 
--- A flush where something waits counts as a call; where it is the one that is to fail, what waited still waits.
+-- A flush counts as a call where something is unflushed; where it is the call that is to fail, it
+-- stays unflushed.
 pub record SettlesUnlessDue {D : Type 0} {g : Ghosts D} (old new : Flaky D g) : Type 0 where
   pub counted : calls_left new ≡ (if (flaky_state old).waiting then calls_left old - 1 else calls_left old)
   pub due : calls_left old ≡ 1 → SameWaiting (flaky_state old) (flaky_state new)

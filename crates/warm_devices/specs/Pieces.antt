@@ -1,11 +1,11 @@
--- Pages that stand one after the other.
+-- Pages stored one after the other.
 use Rattle.std.specs.Prelude.{ℕ, zero, suc, List, [], ◌∷◌, ◌++◌, take, drop}
 
--- this many pieces of one size
+-- the bytes cut into this many pieces of one size
 unfoldable pub pieces : ℕ → ℕ → List ℕ → List (List ℕ)
 pieces zero size bytes = []
 pieces (suc n) size bytes = take size bytes ∷ pieces n size (drop size bytes)
 
--- the list with these items in the place of those from start to end
+-- the list with the items from start to end replaced by these
 abbrev pub with_part : {A : Type 0} → ℕ → ℕ → List A → List A → List A
 with_part start end part xs = take start xs ++ (part ++ drop end xs)

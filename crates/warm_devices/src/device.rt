@@ -1,4 +1,4 @@
-//! What every page device promises.
+//! The contract of page devices.
 ghost use Rattle.std.specs.Prelude.{◌≡◌, ◌<◌, IsTrue, IsOk, OnOk, OnErr, length, true, false};
 ghost use Rattle.warm_devices.specs.Device.{DeviceState, SameShape, CountsFault, ChangesPage, GivesPage, TakesPage, Settles};
 ghost use Rattle.warm_devices.specs.declared.fault.DeviceFault.TheVariants.{Read, Write, Flush};
@@ -7,13 +7,13 @@ use crate::DeviceFault;
 
 /// A device of numbered pages of one size.
 ///
-/// No call changes how many pages there are, their size, or what the device says of itself. No call lowers `failures`. A device
-/// takes no memory in these calls. Its drop settles first.
+/// No call changes the number of pages, their size, or whether the device is honest and unfailing.
+/// No call lowers `failures`. All calls are allocation-free. The drop of a device settles it first.
 pub trait PageDevice: Drop {
-    /// What the device is, as plain data.
+    /// The state of the device, as plain data.
     ghost state: { Self → DeviceState };
 
-    /// How many pages there are. They are numbered from 0.
+    /// The number of pages. They are numbered from 0.
     fn pages(&self) -> u64
         ensures { result ≡ (state self.now).pages };
 
@@ -21,18 +21,18 @@ pub trait PageDevice: Drop {
     fn page_size(&self) -> usize
         ensures { result ≡ (state self.now).page_size };
 
-    /// Whether a page was written since the last flush.
+    /// Whether the device has unflushed writes: a page was written since the last flush.
     fn waiting(&self) -> bool
         ensures { result ≡ (state self.now).waiting };
 
-    /// How many calls have failed; it stays at `u64::MAX`.
+    /// The number of calls that have failed; it saturates at `u64::MAX`.
     fn failures(&self) -> u64
         ensures { result ≡ (state self.now).failures };
 
     /// Reads page `no` into the whole of `into`, which has the size of a page.
     ///
     /// # Errors
-    /// `Read` alone. Contents and what waits are then as before; `into` may hold any bytes.
+    /// Only `Read`. Contents and unflushed writes are unchanged; `into` may hold any bytes.
     fn read(&mut self, no: u64, into: &mut [u8]) -> Result<(), DeviceFault>
         requires known { no < (state self.old).pages }
         requires sized { length into.old ≡ (state self.old).page_size }
@@ -43,10 +43,12 @@ pub trait PageDevice: Drop {
         ensures contents { (state self.new).contents ≡ (state self.old).contents }
         ensures bytes { OnOk result (GivesPage (state self.old) no into.new) };
 
-    /// Writes the bytes of page `no`, which have the size of a page. They wait until the next flush.
+    /// Writes the bytes of page `no`, which have the size of a page. They are durable only after
+    /// the next flush.
     ///
     /// # Errors
-    /// `Write` alone. The page may then hold any bytes; all others are as before, and something waits.
+    /// Only `Write`. The page may then hold any bytes; all others are unchanged, and the device
+    /// counts as unflushed.
     fn write(&mut self, no: u64, bytes: &[u8]) -> Result<(), DeviceFault>
         requires known { no < (state self.old).pages }
         requires sized { length bytes.now ≡ (state self.old).page_size }
@@ -57,10 +59,11 @@ pub trait PageDevice: Drop {
         ensures others { ChangesPage no (state self.old).contents (state self.new).contents }
         ensures bytes { OnOk result (TakesPage (state self.old) no bytes.now (state self.new)) };
 
-    /// Puts down what waits.
+    /// Flushes: makes all written pages durable.
     ///
     /// # Errors
-    /// `Flush` alone. What waited still waits. Contents are as read before, refused or not.
+    /// Only `Flush`. What was unflushed is still unflushed. The contents that reads return are
+    /// unchanged, whether it fails or not.
     fn flush(&mut self) -> Result<(), DeviceFault>
         ensures shape { SameShape (state self.old) (state self.new) }
         ensures faults { CountsFault Flush result (state self.old) (state self.new) }
@@ -69,7 +72,8 @@ pub trait PageDevice: Drop {
         ensures failed { OnErr result ((state self.new).waiting ≡ (state self.old).waiting) }
         ensures contents { (state self.new).contents ≡ (state self.old).contents };
 
-    /// Flushes where something waits. Then nothing waits, or the flush failed and `failures` grew by one.
+    /// Flushes where something is unflushed. Afterwards nothing is unflushed, or the flush failed
+    /// and `failures` increased by one.
     fn settle(&mut self)
         ensures shape { SameShape (state self.old) (state self.new) }
         ensures settled { Settles (state self.old) (state self.new) }
@@ -82,7 +86,8 @@ pub trait PageDevice: Drop {
     }
 }
 
-/// Drops a device on which nothing waits. The condition keeps a page that was written and not flushed from being lost unseen.
+/// Drops a device that has nothing unflushed. The precondition prevents the silent loss of a page
+/// that was written but not flushed.
 pub fn let_go<D: PageDevice>(device: D)
     requires { (D.state device).waiting ≡ false }
 {

@@ -5,19 +5,21 @@ ghost use Rattle.warm_devices.specs.Faults.{device_fault_code, device_fault_name
 use std::io;
 use thiserror::Error;
 
-/// Why a call of a device failed: a read answers `Read` alone, a write `Write`, and a flush `Flush`.
+/// Why a call of a device failed: a read fails only with `Read`, a write with `Write`, and a flush
+/// with `Flush`.
 ///
-/// Each comes only where the device's count of failures grew by one in that call. Want of memory is none of them, since a device
-/// takes no memory in these calls.
+/// Each occurs only where the device's count of failures increased by one in that call. An
+/// allocation failure is not among them, since these calls are allocation-free.
 #[derive(Clone, Copy, PartialEq, Eq, Debug, Error)]
 pub enum DeviceFault {
-    /// 1: the page could not be read; contents are as before.
+    /// 1: the page could not be read; contents are unchanged.
     #[error("Read")]
     Read,
-    /// 2: the page could not be written, and may hold any bytes; all other pages are as before.
+    /// 2: the page could not be written, and may hold any bytes; all other pages are unchanged.
     #[error("Write")]
     Write,
-    /// 3: what waits could not be put down; it still waits, and contents are as read before.
+    /// 3: the flush failed; what was unflushed still is, and the contents that reads return are
+    /// unchanged.
     #[error("Flush")]
     Flush,
 }
@@ -49,10 +51,11 @@ impl DeviceFault {
 /// Why a file was not opened as a device.
 #[derive(Clone, Copy, PartialEq, Eq, Debug, Error)]
 pub enum OpenFault {
-    /// 1: the system or the allocator had no memory.
+    /// 1: the system or the allocator had no memory (an allocation failure).
     #[error("Memory")]
     Memory,
-    /// 2: the file could not be opened, made or extended, or its bytes would exceed what a file's offsets can name.
+    /// 2: the file could not be opened, created or extended, or it would be larger than the
+    /// greatest file offset.
     #[error("Open")]
     Open,
 }
@@ -79,7 +82,7 @@ impl OpenFault {
     }
 }
 
-/// Why the system did not open a file: for want of memory, or for anything else.
+/// Converts the system's error on opening a file: `Memory` where memory ran out, otherwise `Open`.
 impl From<io::Error> for OpenFault {
     ghost use Rattle.std.specs.Prelude.{◌≡◌};
     ghost use Rattle.std.specs.IoError.{error_kind};

@@ -1,4 +1,4 @@
-//! A device over a file of the operating system. What the file holds is nothing that a contract can say.
+//! A device over a file of the operating system. No contract can say what the file holds.
 ghost use Rattle.std.specs.Prelude.{◌≡◌, ◌*◌, ◌^◌, ◌<◌, ◌≤◌, Err, IfOk, false, []};
 ghost use Rattle.warm_devices.specs.declared.fault.OpenFault.TheVariants.{Open};
 ghost use Rattle.warm_devices.specs.Device.{DeviceState};
@@ -10,7 +10,8 @@ use std::os::unix::fs::FileExt;
 
 /// Pages in a file, one after another from its start. A flush syncs the file.
 ///
-/// The device is safe whatever the file gives, and it counts its failures. Of the bytes it claims nothing.
+/// The device is safe whatever the file returns, and it counts its failures. It claims nothing
+/// about the bytes.
 pub struct FileDevice {
     file: File,
     pages: u64,
@@ -35,12 +36,13 @@ fn open_sized<R: Files<File = File>>(files: &R, path: &str, len: u64) -> io::Res
 impl FileDevice {
     ghost use Rattle.warm_devices.specs.FileParts.{file_state};
 
-    /// Opens the file at `path` as a device of `pages` pages of `page_size` bytes, makes it where it isn't there, and extends a short
-    /// one with zeros. A longer one keeps its length.
+    /// Opens the file at `path` as a device of `pages` pages of `page_size` bytes, creates it where
+    /// it does not exist, and extends a shorter one with zeros. A longer one keeps its length.
     ///
     /// # Errors
-    /// `Open` where the system refuses to open, make or extend the file, or where the pages do not fit into 2^63 - 1 bytes, which is
-    /// found before the system is asked; `Memory` where the system or the allocator had none.
+    /// `Open` where the system fails to open, create or extend the file, or where the pages exceed
+    /// 2^63 - 1 bytes, which is checked before any system call; `Memory` where the system or the
+    /// allocator had no memory.
     pub fn open<R: Files<File = File>>(
         files: &R,
         path: &str,

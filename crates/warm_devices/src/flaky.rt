@@ -1,4 +1,4 @@
-//! A device that fails one chosen call, to show what stands above it what a failing device does.
+//! A device that fails one chosen call, to test the layers above it.
 ghost use Rattle.std.specs.Prelude.{◌≡◌, ◌-◌, ◌≤◌, ◌==◌, replicate};
 ghost use Rattle.warm_devices.specs.declared.TheConstants.{MAX_PAGE_SIZE};
 
@@ -7,13 +7,15 @@ use crate::{DeviceFault, MAX_PAGE_SIZE, PageDevice};
 /// The bytes of torn pages.
 static TORN: [u8; MAX_PAGE_SIZE] = [0xEE; MAX_PAGE_SIZE];
 
-/// A device held by value, of whose reads, writes and flushes one is made to fail.
+/// A wrapper of a device that makes one of its reads, writes and flushes fail.
 ///
-/// The calls made through it are counted from 1, and the n-th fails once; after it nothing is counted, and with an n of 0 none fails.
-/// A failed read or flush does not reach the inner device. A failed write fills the page with bytes EE (hexadecimal).
+/// Its calls are counted from 1, and the n-th fails once; after that nothing is counted, and with
+/// an n of 0 no call fails. A failed read or flush does not reach the inner device. A failed write
+/// fills the page with bytes EE (hexadecimal).
 pub struct Flaky<D: PageDevice> {
     inner: D,
-    /// How many calls there are up to the one that fails; 0 once it has failed, or where none is to fail.
+    /// The number of calls up to and including the one that fails; 0 once it has failed, or where
+    /// none is to fail.
     calls_left: u64,
     failed: u64,
     ghost fits: { (D.PageDevice.state inner).page_size ≤ MAX_PAGE_SIZE },
@@ -22,7 +24,8 @@ pub struct Flaky<D: PageDevice> {
 impl<D: PageDevice> Flaky<D> {
     ghost use Rattle.warm_devices.specs.FlakyParts.{inner_of, calls_left, flaky_state, may_fail};
 
-    /// Passes calls on to `inner` and fails the `n`-th, or none where `n` is 0. The pages have at most `MAX_PAGE_SIZE` bytes.
+    /// Forwards calls to `inner` and fails the `n`-th, or none where `n` is 0. The pages have at
+    /// most `MAX_PAGE_SIZE` bytes.
     pub fn new(inner: D, n: u64) -> Flaky<D>
         requires { (D.PageDevice.state inner).page_size ≤ MAX_PAGE_SIZE }
         ensures inner { inner_of result ≡ inner }
@@ -47,7 +50,7 @@ fn is_due(calls_left: &mut u64) -> bool
     due
 }
 
-/// What a failed write leaves in a page of `len` bytes.
+/// The bytes that a failed write leaves in a page of `len` bytes.
 fn torn_page(len: usize) -> &'static [u8]
     requires { len ≤ MAX_PAGE_SIZE }
     ensures { result.now ≡ replicate len 0xEE }
@@ -112,7 +115,7 @@ impl<D: PageDevice> PageDevice for Flaky<D> {
         ensures torn { TearsWhenDue no self.old self.new }
     {
         if is_due(&mut self.calls_left) {
-            // A failure of the inner write has been counted by it.
+            // The inner device has counted a failure of its own write.
             if self.inner.write(no, torn_page(bytes.len())).is_ok() {
                 self.failed = self.failed.saturating_add(1);
             }
@@ -137,7 +140,7 @@ impl<D: PageDevice> PageDevice for Flaky<D> {
         self.inner.flush()
     }
 
-    /// A flush that this makes counts as one of the calls.
+    /// A flush made here counts as one of the calls.
     fn settle(&mut self)
         ensures shape { SameShape (flaky_state self.old) (flaky_state self.new) }
         ensures settled { Settles (flaky_state self.old) (flaky_state self.new) }

@@ -1,11 +1,14 @@
-//! Page devices: numbered pages of one size, that flush what waits when they are dropped.
+//! Page devices: numbered pages of one size. A device flushes its unflushed writes when it is
+//! dropped.
 //!
-//! [`PageDevice`] is the contract that a buffer pool relies on. A device is seen as plain data, its `state`: how many pages it has
-//! and of what size, what they hold, whether a written page still waits for a flush, and how many of its calls have failed. A call
-//! refuses only where the count of failures grew by one in that call, where a count of `u64::MAX` stays and counts as grown.
+//! [`PageDevice`] is the contract that a buffer pool relies on. Contracts see a device as plain
+//! data, its `state`: the number and the size of its pages, their contents, whether a written page
+//! is still unflushed, and how many of its calls have failed. A call fails only where the count of
+//! failures increased by one in that call; a count of `u64::MAX` stays and counts as increased.
 //!
-//! A device says of itself whether it is *honest* (its reads give the bytes last written) and whether it is *unfailing*. [`MemDevice`]
-//! is both, [`Flaky`] is honest where its inner device is, and [`FileDevice`] claims neither, since no proof can say what a file holds.
+//! A device declares whether it is *honest* (its reads return the bytes last written) and whether
+//! it is *unfailing* (its calls never fail). [`MemDevice`] is both, [`Flaky`] is honest where its
+//! inner device is, and [`FileDevice`] claims neither, since no proof can say what a file holds.
 #![tactic(auto)]
 
 mod boxed;
@@ -21,5 +24,5 @@ pub use file::FileDevice;
 pub use flaky::Flaky;
 pub use memory::MemDevice;
 
-/// The most bytes of a page that a pool takes, or that a failed write fills.
+/// The maximum size of a page of a pool, and of a page that a failed write fills, in bytes.
 pub const MAX_PAGE_SIZE: usize = 65_536;

@@ -8,9 +8,9 @@ use std::alloc::{AllocError, Global};
 use std::marker::Model;
 use std::ops::Range;
 
-/// Pages in memory. It never fails, and gives back what was written.
+/// Pages in memory. It never fails, and returns what was written.
 ///
-/// It takes the bytes of its pages in one piece, and nothing else.
+/// It allocates the bytes of all pages in one block, and nothing else.
 pub struct MemDevice {
     // One page after the other.
     bytes: Vec<u8>,
@@ -43,7 +43,7 @@ impl MemDevice {
     /// A device of zero pages: `pages` of them, of `page_size` bytes each.
     ///
     /// # Errors
-    /// Where memory for the pages is refused, or is more than any memory.
+    /// Where the allocation of the pages fails, or their size exceeds any memory.
     pub fn new(alloc: Global, pages: u64, page_size: usize) -> Result<MemDevice, AllocError>
         ensures { IfOk result (λ device. device ≡ zeroed pages page_size) }
     {
@@ -57,7 +57,7 @@ impl MemDevice {
     }
 }
 
-// So many zeros, in pages of one size.
+// The zeros of this many pages of one size.
 fn zeros(alloc: Global, pages: usize, page_size: usize) -> Result<Vec<u8>, AllocError>
     ensures { IfOk result (λ bytes. bytes.items ≡ replicate (pages * page_size) 0) }
 {
@@ -67,7 +67,7 @@ fn zeros(alloc: Global, pages: usize, page_size: usize) -> Result<Vec<u8>, Alloc
     Vec::from_elem(alloc, 0, size)
 }
 
-// Where a page stands among the bytes of all.
+// The range of a page within the bytes of all pages.
 fn place_of(no: u64, page_size: usize) -> Range<usize>
     requires { (no + 1) * page_size < 2 ^ 64 }
     ensures start { result.start ≡ no * page_size }
@@ -77,7 +77,7 @@ fn place_of(no: u64, page_size: usize) -> Range<usize>
     start..start + page_size
 }
 
-// Writes the bytes over those of a part.
+// Overwrites a range with the bytes.
 fn write_at(all: &mut Vec<u8>, place: Range<usize>, bytes: &[u8])
     requires ordered { place.start ≤ place.end }
     requires inside { place.end ≤ length all.old.items }
@@ -103,7 +103,8 @@ impl PageDevice for MemDevice {
     }
 
     fn failures(&self) -> u64 {
-        // Only once a field is read does the proof know the model, by which nothing has failed.
+        // The proof knows the type's model, by which nothing has failed, only after a field is
+        // read.
         let _waiting = &self.waiting;
         0
     }

@@ -71,7 +71,7 @@ same_entries (e ∷ es) (f ∷ fs) some others same =
 
 -- ---- a bucket says all of its pages
 
--- lists that agree on a bucket say the same of each of its pages
+-- lists that agree on a bucket agree on each of its pages
 same_bucket_same_hist : (S T : ReferenceSet) (p : PageId) → bucket_entries (page_bucket p) (entries_of (history S)) ≡ bucket_entries (page_bucket p) (entries_of (history T)) → hist (references S) p ≡ hist (references T) p
 same_bucket_same_hist S T p same =
     sym (get-history (references S) p)

@@ -19,7 +19,7 @@ bucket_digest h bucket = sha256 (entries_bytes (bucket_entries bucket h))
 abbrev pub digests_of : List Entry → List (List ℕ)
 digests_of h = map (bucket_digest h) (range_with_len 0 BUCKETS)
 
--- the digests that a history would have, were it raised to the horizon
+-- the digests that a history would have if it were raised to the horizon
 abbrev pub digests_since : ℕ → HistoryView → List (List ℕ)
 digests_since horizon h = digests_of (entries_of (raised horizon h))
 

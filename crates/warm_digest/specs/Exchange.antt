@@ -1,4 +1,4 @@
--- What an exchange of differing buckets gives.
+-- The result of an exchange of differing buckets.
 use Rattle.std.specs.Prelude.{◌≡◌, ◌≢◌, ◌⊎◌, ◌↔◌, ℕ, ◌==◌, ◌<◌, List}
 use Rattle.std.specs.List.{AllByRecursion}
 use Rattle.std.specs.Int.{bit_at}
@@ -10,18 +10,18 @@ use Rattle.warm_history.specs.Histories.{HistoryView, entries_of, history}
 use Rattle.warm_history.specs.Carried.{bucket_entries}
 use Rattle.warm_frames.specs.Entries.{IsEntry, entries_bytes}
 
--- the text of a bucket, of which its digest is taken
+-- the text of a bucket: the bytes that are hashed for its digest
 abbrev pub bucket_text : HistoryView → ℕ → List ℕ
 bucket_text h bucket = entries_bytes (bucket_entries bucket (entries_of h))
 
--- two different texts of one bucket, one of each history, have one SHA-256
+-- two different texts of one bucket, one of each history, have the same SHA-256 digest
 pub record IsCollision (h g : HistoryView) : Type 0 where
   pub bucket : ℕ
   pub low : bucket < BUCKETS
   pub differ : bucket_text h bucket ≢ bucket_text g bucket
   pub same_digest : sha256 (bucket_text h bucket) ≡ sha256 (bucket_text g bucket)
 
--- the bits of the buckets of which both have other digests
+-- the set of the buckets whose digests differ
 abbrev pub IsDifferenceOf : HistoryView → HistoryView → ℕ → Type 0
 IsDifferenceOf h g buckets = (bucket : ℕ) → bucket < BUCKETS
     → (bit_at buckets bucket ≡ 1) ↔ (sha256 (bucket_text h bucket) ≢ sha256 (bucket_text g bucket))
@@ -30,11 +30,12 @@ IsDifferenceOf h g buckets = (bucket : ℕ) → bucket < BUCKETS
 abbrev pub in_buckets : ℕ → ReferenceSet → ReferenceSet
 in_buckets buckets S = those (λ r. bit_at buckets (page_bucket r.page) == 1) S
 
--- the entries of a history are ones that there are
+-- the entries of a history are valid
 abbrev pub Fits : HistoryView → Type 0
 Fits h = AllByRecursion IsEntry (entries_of h)
 
--- of S those in the buckets that differ, taken in with T, give the history of both, or there is a collision
+-- T with the references of S in the differing buckets has the history of both, or there is a
+-- collision
 abbrev pub ExchangeJoins : Type 0
 ExchangeJoins = (S T : ReferenceSet) (buckets : ℕ) → Fits (history S) → Fits (history T) → IsDifferenceOf (history S) (history T) buckets
     → (history (T ∪ in_buckets buckets S) ≡ history (T ∪ S)) ⊎ IsCollision (history S) (history T)

@@ -1,8 +1,8 @@
--- What a hasher takes.
+-- The input of a hasher.
 use Rattle.std.specs.Prelude.{ℕ, List, ◌++◌}
 use Rattle.sha2.specs.Hashers.{Holds256}
 use Rattle.sha2.specs.declared.Sha256.{Sha256}
 
--- whatever a hasher had taken, it has taken these bytes after that
+-- the hasher has taken these bytes after all that it had taken before
 abbrev pub TakesBytes : Sha256 → Sha256 → List ℕ → Type 0
 TakesBytes old new bytes = (before : List ℕ) → Holds256 old before → Holds256 new (before ++ bytes)

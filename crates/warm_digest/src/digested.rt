@@ -1,4 +1,4 @@
-//! A history whose bucket digests are kept.
+//! A history whose bucket digests are cached.
 ghost use Rattle.std.specs.Prelude.{◌≡◌, ◌≤◌, [], IfOk, IsOk, OnOk, OnErr};
 ghost use Rattle.warm_history.specs.Changes.{MarksChanged};
 ghost use Rattle.warm_history.specs.ReferenceSets.{these, since, ◌∪◌};
@@ -13,8 +13,9 @@ use warm_frames::DigestTable;
 use warm_history::{Entry, History};
 use warm_stamps::Reference;
 
-/// A history whose bucket digests are kept: a bucket whose entries change is marked, which takes no memory, and
-/// [`DigestedHistory::digests`] computes again only the digests of the marked ones.
+/// A history whose bucket digests are cached: a bucket whose entries change is marked, which is
+/// allocation-free, and [`DigestedHistory::digests`] recomputes only the digests of the marked
+/// buckets.
 ///
 /// Contracts see it as its history and the set of the marked buckets.
 #[derive(Debug)]
@@ -22,11 +23,11 @@ pub struct DigestedHistory {
     alloc: Global,
     history: History,
     digests: Digests,
-    // The buckets of which an entry may have changed since their digest was taken.
+    // The buckets of which an entry may have changed since their digest was computed.
     changed: u64,
 }
 
-// By hand, so that an owner makes one call at each way out (see `History`).
+// Written by hand, so that an owner makes one call on each exit path (see `History`).
 impl Drop for DigestedHistory {
     fn drop(mut self) {
         let Self {
@@ -53,7 +54,7 @@ impl Model for DigestedHistory {
 }
 
 impl DigestedHistory {
-    /// A history that holds nothing, with its digests. Takes no memory.
+    /// An empty history, with its digests. Allocation-free.
     pub fn new(alloc: Global) -> DigestedHistory
         ensures empty { result.history ≡ holding [] }
         ensures marks { result.marked ≡ 0 }
@@ -90,8 +91,9 @@ impl DigestedHistory {
         Ok(changed)
     }
 
-    /// Takes in all that these entries hold, as [`History::join_entries`] does: `AllocError` changes
-    /// nothing. It marks the buckets whose entries changed, also those that lost a stamp to the horizon, and returns the set of them.
+    /// Takes in these entries, as [`History::join_entries`] does: `AllocError` changes nothing. It
+    /// marks the buckets whose entries changed, including those that lost a stamp to the horizon,
+    /// and returns the set of them.
     pub fn join_entries(&mut self, horizon: u64, more: &[Entry]) -> Result<u64, AllocError>
         ensures exact { OnOk result
             (self.new.history ≡ join self.old.history (holding_since horizon more.now)) }
@@ -107,7 +109,7 @@ impl DigestedHistory {
         Ok(changed)
     }
 
-    /// The time before which stamps are forgotten. Takes no memory.
+    /// The time before which stamps are forgotten. Allocation-free.
     pub fn horizon(&self) -> u64
         ensures { result ≡ self.now.history.horizon }
     {
@@ -116,10 +118,12 @@ impl DigestedHistory {
 
     /// Forgets all stamps before this time, as [`History::raise`] does. It marks the buckets that lose a stamp, and returns the set of them.
     ///
-    /// To know them each bucket is gone over once more, up to its first older stamp, where the time is past the horizon.
+    /// Where the time is later than the horizon, finding them costs one more scan of each bucket,
+    /// up to its first older stamp.
     pub fn raise(&mut self, time: u64) -> u64
         ensures exact { self.new.history ≡ history (since time (refs self.old.history)) }
-        ensures changed { MarksChanged (entries_of self.old.history) (entries_of self.new.history) result }
+        ensures changed { MarksChanged (entries_of self.old.history)
+            (entries_of self.new.history) result }
         ensures none { result ≡ 0
             → entries_of self.new.history ≡ entries_of self.old.history }
         ensures marks { MarksChanges self.old self.new }
@@ -130,7 +134,7 @@ impl DigestedHistory {
         lost
     }
 
-    /// Forgets everything. Takes no memory.
+    /// Forgets everything. Allocation-free.
     pub fn clear(&mut self)
         ensures empty { self.new.history ≡ holding [] }
         ensures marks { self.new.marked ≡ 0 }
@@ -140,10 +144,11 @@ impl DigestedHistory {
         self.changed = 0;
     }
 
-    /// The digests of its buckets, of which none is marked from then on.
+    /// The digests of the buckets. Afterwards no bucket is marked.
     ///
-    /// Costs nothing where no bucket is marked, and is then never refused; else it costs what [`Digests::renew`] does for the
-    /// marked buckets. `AllocError` comes only where memory for that was refused; the next call computes the same digests again.
+    /// Costs nothing where no bucket is marked, and then never fails; otherwise it costs what
+    /// [`Digests::renew`] costs for the marked buckets. `AllocError` occurs only where that
+    /// allocation fails; the marks stay, and the next call recomputes the same digests.
     pub fn digests(&mut self) -> Result<DigestTable, AllocError>
         ensures table { IfOk result (λ table. table ≡ digests_of (entries_of self.old.history)) }
         ensures same { self.new.history ≡ self.old.history }
@@ -156,12 +161,15 @@ impl DigestedHistory {
         Ok(self.digests.table())
     }
 
-    /// The digests that its buckets would have, were the history raised to a horizon: what [`DigestedHistory::digests`] would give then.
+    /// The digests that the buckets would have if the history were raised to a horizon: what
+    /// [`DigestedHistory::digests`] would return then.
     ///
-    /// Nothing is forgotten. Where the horizon is not past the own one, it is what [`DigestedHistory::digests`] is. Else each bucket
-    /// is gone over up to its first older stamp. Only the buckets that have one, and those that are marked, are hashed: their entries
-    /// as they are read, without what is older. Of the marked buckets those stay marked that have one. `AllocError` comes only where
-    /// memory for the bytes of one entry was refused.
+    /// Nothing is forgotten. Where the horizon is not greater than the history's own, it is the
+    /// same as [`DigestedHistory::digests`]. Otherwise each bucket is scanned up to its first older
+    /// stamp. Only the buckets that have such a stamp, and the marked ones, are hashed: their
+    /// entries as they are read, without older stamps. A marked bucket stays marked where it has
+    /// such a stamp. `AllocError` occurs only where the allocation for the bytes of one entry
+    /// fails.
     pub fn digests_since(&mut self, horizon: u64) -> Result<DigestTable, AllocError>
         ensures table { IfOk result (λ table. table ≡ digests_since horizon self.old.history) }
         ensures same { self.new.history ≡ self.old.history }

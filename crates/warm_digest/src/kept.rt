@@ -1,5 +1,5 @@
-//! Digests that are kept, and computed again only for the buckets that changed. A set of buckets is a number of 64 bits: bit b, of value
-//! 2^b, is set where bucket b is in the set.
+//! Cached digests, recomputed only for the buckets that changed. A set of buckets is a number of 64
+//! bits: bit b, of value 2^b, is set where bucket b is in the set.
 ghost use Rattle.std.specs.Prelude.{◌≡◌, [], length, IfOk, IsOk, OnOk, OnErr};
 ghost use Rattle.sha2.specs.Sha256.{sha256};
 ghost use Rattle.warm_stamps.specs.declared.TheConstants.{BUCKETS};
@@ -39,7 +39,7 @@ impl Model for Digests {
 }
 
 impl Digests {
-    /// The digests of a history that holds nothing: each is that of no bytes. Takes no memory.
+    /// The digests of an empty history: each is that of the empty byte string. Allocation-free.
     pub fn new(alloc: Global) -> Digests
         ensures { result ≡ digests_of [] }
     {
@@ -49,7 +49,7 @@ impl Digests {
         }
     }
 
-    /// The digests as they stand in a frame. Takes no memory.
+    /// The digests as a frame has them. Allocation-free.
     pub fn table(&self) -> DigestTable
         ensures value { result ≡ self.now }
         ensures count { length self.now ≡ BUCKETS }
@@ -57,12 +57,12 @@ impl Digests {
         DigestTable::of(self.digests)
     }
 
-    /// Computes the digests of these buckets again, from this history; each other digest stays as it is. Bit b of
-    /// `buckets`, of value 2^b, is set for bucket b.
+    /// Recomputes the digests of these buckets from this history; every other digest is unchanged.
+    /// Bit b of `buckets`, of value 2^b, is set for bucket b.
     ///
-    /// Costs what going over the entries of these buckets and hashing their bytes cost; no bucket costs
-    /// nothing, and is never refused. `AllocError` occurs only where memory for the bytes of one entry was
-    /// refused, and changes nothing.
+    /// Costs a scan of the entries of these buckets, and hashing their bytes. For an empty set it
+    /// costs nothing and never fails. `AllocError` occurs only where the allocation for the bytes
+    /// of one entry fails, and changes nothing.
     pub fn renew(&mut self, history: &History, buckets: u64) -> Result<(), AllocError>
         ensures wanted { OnOk result (HasDigestsOf buckets (entries_of history.now) self.new) }
         ensures others { OnOk result (SameDigestsOutside buckets self.old self.new) }
@@ -78,7 +78,8 @@ impl Digests {
         Ok(())
     }
 
-    // These digests, but those of the wanted buckets as they would be of the history raised to the horizon. No bucket costs nothing.
+    // These digests, with those of the wanted buckets replaced by what they would be if the history
+    // were raised to the horizon. An empty set costs nothing.
     pub(crate) fn table_since(
         &self,
         history: &History,
@@ -99,7 +100,7 @@ impl Digests {
     }
 }
 
-// Feeds the bytes of an entry, which are written into the text, to a hasher.
+// Feeds the bytes of an entry to a hasher; the text is the buffer into which they are written.
 fn take_entry(hasher: &mut Sha256, text: &mut Vec<u8>, entry: Entry) -> Result<(), AllocError>
     ensures { OnOk result (TakesBytes hasher.old hasher.new (entry_bytes entry)) }
 {
@@ -109,7 +110,8 @@ fn take_entry(hasher: &mut Sha256, text: &mut Vec<u8>, entry: Entry) -> Result<(
     Ok(())
 }
 
-// The digest of entries. The text has capacity for the bytes of one of them, and is written over.
+// The digest of entries. The text is a buffer with capacity for the bytes of one of them, and is
+// overwritten.
 fn digest_of(entries: EntriesSince<'_>, text: &mut Vec<u8>) -> Result<[u8; DIGEST_SIZE], AllocError>
     ensures { IfOk result (λ digest. digest ≡ sha256 (entries_bytes entries.entry)) }
 {
@@ -120,8 +122,8 @@ fn digest_of(entries: EntriesSince<'_>, text: &mut Vec<u8>) -> Result<[u8; DIGES
     Ok(hasher.finalize())
 }
 
-// The digests, of which those of the wanted buckets are computed again, from the history as it would be at the horizon: what is older is
-// skipped as it is read.
+// The digests, with those of the wanted buckets recomputed from the history as it would be at the
+// horizon: older stamps are skipped as they are read.
 fn renewed(
     alloc: Global,
     mut digests: [[u8; DIGEST_SIZE]; BUCKETS as usize],

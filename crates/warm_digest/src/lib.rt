@@ -1,8 +1,8 @@
 //! Bucket digests: two replicas whose digests of a bucket are equal need not send each other its entries.
 //!
-//! The digest of a bucket is the SHA-256 digest (FIPS 180-4) of its entries as they stand in a gossip
-//! frame, one after the other in page order, without a count. A [`DigestedHistory`] keeps its digests, so that
-//! asking for them often costs only what changed.
+//! The digest of a bucket is the SHA-256 digest (FIPS 180-4) of its entries as they are in a gossip
+//! frame, one after the other in page order, without a count. A [`DigestedHistory`] caches its
+//! digests, so that asking for them again costs only what changed.
 #![tactic(auto)]
 
 ghost use Rattle.std.specs.Prelude.{◌≡◌, IfOk};
@@ -20,9 +20,9 @@ use warm_frames::DigestTable;
 use warm_history::History;
 use warm_stamps::{BUCKETS, Bucket};
 
-/// The digests of a history's buckets, all computed again. It goes over the history once, bucket by bucket.
+/// The digests of a history's buckets, all recomputed. It scans the history once, bucket by bucket.
 ///
-/// `AllocError` comes only where memory for the bytes of one entry was refused.
+/// `AllocError` occurs only where the allocation for the bytes of one entry fails.
 pub fn digests(alloc: Global, history: &History) -> Result<DigestTable, AllocError>
     ensures { IfOk result (λ table. table ≡ digests_of (entries_of history.now)) }
 {
@@ -32,7 +32,7 @@ pub fn digests(alloc: Global, history: &History) -> Result<DigestTable, AllocErr
 }
 
 /// The buckets at which two tables differ, as a set: bit b, of value 2^b, is set exactly where the
-/// digests of bucket b differ. Takes no memory.
+/// digests of bucket b differ. Allocation-free.
 pub fn differing(left: &DigestTable, right: &DigestTable) -> u64
     ensures { MarksDiffering result left.now right.now }
 {

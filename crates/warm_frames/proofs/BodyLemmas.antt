@@ -27,7 +27,7 @@ use Rattle.warm_frames.proofs.FieldLemmas.{bind_ok, want_ok, chosen_ok, ok_is, T
 
 -- ---- entries
 
--- each page comes after the one before, and the first after the one given
+-- each page comes after the one before, and the first after the given one
 abbrev pub RiseFrom : Option PageId → List Entry → Type 0
 RiseFrom before [] = Unit {0}
 RiseFrom before (e ∷ es) = (comes_after before e.page ≡ true) × RiseFrom (Some e.page) es
@@ -196,7 +196,7 @@ length-joined n (s ∷ digests) all =
     let whole : length (flat_map (λ x. x) (s ∷ digests)) ≡ length s + length (flat_map (λ x. x) digests) = ap length (flat_map-cons (λ x. x) s digests) ∙ length-append s (flat_map (λ x. x) digests) in
     omega (arith, e, later, all.0, whole)
 
--- digests of so many bytes each, place by place
+-- digests of this many bytes each, place by place
 pub digests_long : (digests : List (List ℕ)) → ((i : ℕ) → i < length digests → length (get_or digests i []) ≡ DIGEST_SIZE) → AllByRecursion (λ digest. length digest ≡ DIGEST_SIZE) digests
 digests_long [] each = tt
 digests_long (s ∷ digests) each = (each 0 (omega arith), digests_long digests (λ i lt. each (suc i) (omega (arith, lt))))

@@ -8,12 +8,12 @@ use Rattle.warm_frames.specs.Spelling.{Spells}
 use Rattle.warm_frames.specs.Reading.{Gives, read_frame}
 use Rattle.warm_frames.proofs.FrameLemmas.{frame_spelled, frame_read}
 
--- a frame that was answered is spelled so
+-- the bytes spell a frame that was returned
 pub decoded_spelled : (bytes : List ℕ) (result : Result Message FrameFault) (room : Result ℕ FrameFault) → IsBytes bytes → Gives result (read_frame bytes) room → IfOk result (λ f. Spells bytes f)
 decoded_spelled bytes (Ok f) room fits (inl is) = frame_spelled bytes f fits (sym is)
 decoded_spelled bytes (Ok f) room fits (inr none) = absurd (cc none.0)
 decoded_spelled bytes (Err e) room fits given = tt
 
--- a frame that is spelled so was answered, or there was no memory
+-- a frame that the bytes spell was returned, or an allocation failed
 pub spelled_decoded : (bytes : List ℕ) (result : Result Message FrameFault) (room : Result ℕ FrameFault) → Gives result (read_frame bytes) room → (f : Message) → Spells bytes f → Gives result (Ok f) room
 spelled_decoded bytes result room given f spelt = subst (λ (read : Result Message FrameFault). Gives result read room) (frame_read bytes f spelt) given

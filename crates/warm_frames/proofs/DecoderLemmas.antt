@@ -16,7 +16,7 @@ use Rattle.warm_frames.specs.Pieces.{DecoderState, Inside, Broken, state_of, IsP
 use Rattle.warm_frames.specs.Sizes.{frame_size, KnowsSize, SaysSize}
 use Rattle.warm_frames.proofs.SizeLemmas.{size_goes, known_stays, no_ok, err_is, lt_or_le, lt_or_is, size_over, header_enough, header_lasts, size_whole, size_settled, fault_of_body, fault_of_header, ShownIn}
 
--- what is known stays so, whatever follows
+-- what is known stays true, whatever follows
 pub size_again : (begun more : List ℕ) (size : ℕ) → frame_size begun ≡ Ok size → frame_size (begun ++ more) ≡ Ok size
 size_again begun more size is = known_stays (frame_size begun) (frame_size (begun ++ more)) (size_goes begun more) (λ short. no_ok (sym short ∙ is)) ∙ is
 
@@ -31,7 +31,7 @@ still_unknown begun piece held (Some size) knows short is = absurd (no_ok (sym s
 
 -- ---- the answers of feed
 
--- a decoder that knows something of a size isn't behind a fault
+-- a decoder that knows something of a size isn't after a fault
 pub inside : (old : DecoderState) (failed : Bool) (begun piece : List ℕ) (size : Option ℕ) → state_of failed begun ≡ old → KnowsWith old piece size → (failed ≡ false) × SaysSize begun piece (Ok size)
 inside old true begun piece size view knows = absurd (subst (λ (o : DecoderState). KnowsWith o piece size) (sym view) knows)
 inside old false begun piece size view knows = (refl, subst (λ (o : DecoderState). KnowsWith o piece size) (sym view) knows)
@@ -59,7 +59,7 @@ broke old failed begun piece fault view works shown =
     let stands : Inside begun ≡ old = ap (λ (b : Bool). state_of b begun) (sym works) ∙ view in
     subst (λ (o : DecoderState). Feeds o piece (Err fault) Broken) stands (inr (shown.0, shown.1, shown.2, refl))
 
--- want of memory
+-- an allocation failure
 pub no_room : (old : DecoderState) (failed : Bool) (begun held piece : List ℕ) (fault : FrameFault) → state_of failed begun ≡ old → failed ≡ false → fault ≡ Memory → held ≡ begun → Feeds old piece (Err fault) (state_of failed held)
 no_room old failed begun held piece fault view works memory is =
     let stands : Inside begun ≡ old = ap (λ (b : Bool). state_of b begun) (sym works) ∙ view in
@@ -82,7 +82,7 @@ header_is held front zeros piece written more k is_held is_more len =
     take-put_mid (length held) k (front ++ zeros) written (length held + more) (ap (λ (n : ℕ). length held + n) len) inside
     ∙ (λ i. (take_at front zeros (length held) long ∙ is_held) i ++ is_more i)
 
--- so much of the piece says what all of it says
+-- this prefix of the piece says what all of it says
 pub header_said : (held piece : List ℕ) (more : ℕ) → length held < HEADER_SIZE → more ≤ length piece → (more ≡ length piece) ⊎ (more ≡ HEADER_SIZE - length held) → frame_size (held ++ take more piece) ≡ frame_size (held ++ piece)
 header_said held piece more few inside (inl whole) = ap (λ (p : List ℕ). frame_size (held ++ p)) (take_all more piece (omega (arith, whole)))
 header_said held piece more few inside (inr enough) =
@@ -105,7 +105,7 @@ least_is a b m is =
 less_than_one : 3 ≤ 1 → ⊥
 less_than_one le = omega (arith, le)
 
--- want of memory leaves what is held
+-- an allocation failure leaves the bytes held
 pub memory_leaves : (begun end held : List ℕ) (fault : FrameFault) → frame_size (begun ++ end) ≡ Ok (length (begun ++ end)) → DecodesWith begun end (Err fault) held → fault ≡ Memory → held ≡ begun
 memory_leaves begun end held fault size (inl read) memory =
     let lasts : IsLasting Memory = subst IsLasting memory (size_whole (begun ++ end) fault size (sym read)) in
@@ -138,6 +138,6 @@ pub unknown_yet : (begun : List ℕ) (known : Option ℕ) → ((size : ℕ) → 
 unknown_yet begun None none knows = knows
 unknown_yet begun (Some size) none knows = absurd (none size refl)
 
--- what is said of the bytes held
+-- facts about the bytes held
 pub said : (bytes held piece : List ℕ) (r s : Result (Option ℕ) FrameFault) → bytes ≡ held → r ≡ s → SaysSize bytes piece r → SaysSize held piece s
 said bytes held piece r s same is says = subst (λ (h : List ℕ). SaysSize h piece s) same (subst (SaysSize bytes piece) is says)

@@ -23,7 +23,8 @@ twice n last prev = record { page = record { dev = 0; no = n }; hist = Twice (re
 
 -- ---- sizes
 
--- what the limits come to: the most bytes of an entry and of a body of entries, and those of digests
+-- the values of the limits: the greatest sizes of an entry and of a body of entries, and the size
+-- of a body of digests
 longest_entry_is : MAX_ENTRY_SIZE ≡ 31
 longest_entry_is = refl
 

@@ -1,4 +1,4 @@
--- Which faults a reader can meet.
+-- Which faults a reader can find.
 use Rattle.std.proofs.Common.{◌≡◌, ◌⊎◌, inl, inr, ℕ, zero, suc, ◌+◌, ◌<◌, ◌≤◌, Bool, true, false, cond, eqb, leb, ltb, List, [], ◌∷◌, length, take, drop, Option, Some, None, Result, Ok, Err, refl, sym, ap, subst, arith}
 use Rattle.std.specs.Int.{Width, w16, w32, w64, byte_len, from_be_bytes}
 use Rattle.std.specs.Ordering.{is_lt}
@@ -24,7 +24,7 @@ use Rattle.warm_frames.specs.Digests.{table_size}
 use Rattle.warm_frames.specs.Sizes.{header_size}
 use Rattle.warm_frames.proofs.FieldLemmas.{done, guard_ok, ok_is}
 
--- a fault that is met is one of these
+-- a fault that is found is one of these
 abbrev pub Only : {A : Type 0} → (FrameFault → Type 0) → Result A FrameFault → Type 0
 Only P (Ok x) = Unit {0}
 Only P (Err e) = P e
@@ -48,7 +48,7 @@ only_chosen : {A : Type 0} (P : FrameFault → Type 0) (b : Bool) (fault : Frame
 only_chosen P true fault x p = tt
 only_chosen P false fault x p = p
 
--- ---- the body: no byte more mends its faults
+-- ---- the body: no further byte repairs its faults
 
 bad_length : IsLasting BadLength
 bad_length = (omega arith, omega arith)
@@ -148,7 +148,7 @@ kind_short P (suc (suc zero)) bad = tt
 kind_short P (suc (suc (suc zero))) bad = tt
 kind_short P (suc (suc (suc (suc n)))) bad = bad
 
--- so many bytes were read
+-- this many bytes were read
 pub number_long : (w : Width) (short : FrameFault) (bytes : List ℕ) (x : ℕ × List ℕ) → number_at w short bytes ≡ Ok x → length bytes ≡ byte_len w + length x.1
 number_long w short bytes x e =
     let g = guard_ok (ltb (length bytes) (byte_len w)) short (from_be_bytes w (take (byte_len w) bytes), drop (byte_len w) bytes) x e in

@@ -58,7 +58,7 @@ pub record Takes (bytes text rest : List ℕ) : Type 0 where
 pub Takes-then : (a x b y c : List ℕ) → Takes a x b → Takes b y c → Takes a (x ++ y) c
 Takes-then a x b y c p q = record { parts = p.parts ∙ ap (λ (t : List ℕ). x ++ t) q.parts ∙ sym (append_assoc x y c); rest_fits = q.rest_fits }
 
--- ---- so many bytes
+-- ---- this many bytes
 
 pub record TakesSome (n : ℕ) (bytes text rest : List ℕ) : Type 0 where
   pub taken : Takes bytes text rest

@@ -51,7 +51,7 @@ format_takes n format e = cases (eqb n MAGIC) refl (eqb n NARROW_MAGIC) refl e
     cases false is_a true is_b is = eqb-true _ _ is_b ∙ ap magic_of (ok_is Narrow format is)
     cases false is_a false is_b is = absurd cc
 
--- the horizon is one that the format can hold
+-- the format can hold the horizon
 abbrev pub HoldsHorizon : Format → ℕ → Type 0
 HoldsHorizon Narrow horizon = horizon ≡ 0
 HoldsHorizon Wide horizon = Unit {0}
@@ -110,7 +110,7 @@ start_again Wide kind sender horizon rest good few none =
 
 -- ---- the length and the body
 
--- a length that was read is one that the kind can have
+-- a length that was read is valid for the kind
 pub length_ok : (format : Format) (kind : Kind) (bytes : List ℕ) (x : ℕ × List ℕ) → length_at format kind bytes ≡ Ok x → (number_at w32 Truncated bytes ≡ Ok x) × (may_have format kind x.0 ≡ true)
 unfolding length_at
 length_ok format kind bytes x e =
@@ -221,7 +221,7 @@ held_pages : (format : Format) (sender horizon : ℕ) (es : List Entry) → Hold
 held_pages Narrow sender horizon es holds = holds.1
 held_pages Wide sender horizon es holds = wide_all es
 
--- what a reader of bodies gives is a frame of this kind, sender, horizon and body
+-- a reader of bodies returns a frame of this kind, sender, horizon and body
 pub record IsFrameOf (start : Start) (body : List ℕ) (f : Message) : Type 0 where
   pub start_is : start_of start.format f ≡ start
   pub body_is : body ≡ frame_body start.format f
@@ -257,7 +257,7 @@ good_sender (frames.Entries sender horizon entries) fits = (fits.0, fits.1)
 good_sender (frames.Digest sender horizon digests) fits = (fits.0, fits.1)
 good_sender (frames.Want sender horizon request) fits = (fits.0, fits.1)
 
--- the length of a frame's body is one that its kind can have
+-- the length of a frame's body is valid for its kind
 pub record HasLength (format : Format) (f : Message) : Type 0 where
   pub few : length (frame_body format f) < 2 ^ 32
   pub allowed : may_have format (frame_kind f) (length (frame_body format f)) ≡ true

@@ -78,7 +78,7 @@ length_goes format kind bytes more =
     goes_on (behind more) (behind more) _ _ _ _ (number_goes w32 bytes more) (λ len.
     goes_on (λ b. b) (behind more) _ _ _ _ (stays (want (may_have format kind len.0) BadLength)) (λ allowed. refl))
 
--- once the header says a size or a fault, it says so whatever follows
+-- a size or a fault that the header gives doesn't change, whatever follows
 pub size_goes : (bytes more : List ℕ) → Goes (λ n. n) (frame_size bytes) (frame_size (bytes ++ more))
 unfolding frame_size
 size_goes bytes more =
@@ -182,7 +182,7 @@ size_long bytes size e lt =
     let exact : leb (length h.rest) h.len ≡ false = grind (arith, nat_tests, more) in
     h.reads ∙ rw (enough, exact) refl
 
--- so many bytes are a frame, or have a fault for good
+-- this many bytes are a frame, or have a lasting fault
 pub size_whole : (bytes : List ℕ) (e : FrameFault) → frame_size bytes ≡ Ok (length bytes) → read_frame bytes ≡ Err e → IsLasting e
 size_whole bytes e size is =
     let h = headed bytes (length bytes) size in
@@ -299,7 +299,7 @@ size_settled bytes more size is enough = known_stays (frame_size bytes) (frame_s
 
 -- ---- fronts
 
--- what a front says, by what the whole says
+-- what a prefix says, by what the whole says
 size_front : (n : ℕ) (bytes : List ℕ) → Goes (λ k. k) (frame_size (take n bytes)) (frame_size bytes)
 size_front n bytes = subst (λ (whole : List ℕ). Goes (λ k. k) (frame_size (take n bytes)) (frame_size whole)) (take-append-drop n bytes) (size_goes (take n bytes) (drop n bytes))
 

@@ -68,7 +68,7 @@ fed_from (c ∷ calls) new rest ends begun part run =
     subst (λ (fs : List Message). Splits (begun ++ taken_in (c ∷ calls)) fs rest) (sym frames)
     (subst (λ (s : List ℕ). Splits (begun ++ s) (frame_given c.answer ++ frames_given calls) rest) (sym bytes) all)
 
--- what was taken is the frames given and a part of the next
+-- the consumed bytes are the returned frames and a part of the next
 pub in_pieces : (calls : List Feeding) (rest : List ℕ) → Feedings (Inside []) calls (Inside rest) → Splits (taken_in calls) (frames_given calls) rest
 in_pieces calls rest run = fed_from calls (Inside rest) rest refl [] nothing_is_part run
 
@@ -97,7 +97,7 @@ shorter a x b y same le = sym (take-append-le (length a) b y le) ∙ ap (take (l
 longer : (a x b y : List ℕ) → a ++ x ≡ b ++ y → length a ≤ length b → b ≡ a ++ drop (length a) b
 longer a x b y same le = sym (take-append-drop (length a) b) ∙ ap (λ (w : List ℕ). w ++ drop (length a) b) (shorter a x b y same le)
 
--- where one frame's spelling is a front of another's, they are one spelling
+-- where one frame's spelling is a prefix of another's, the two spellings are equal
 front_text : (s t : List ℕ) (f g : Message) (x y : List ℕ) → Spells s f → Spells t g → s ++ x ≡ t ++ y → length s ≤ length t → s ≡ t
 front_text s t f g x y is_f is_g same le =
     let rest = drop (length s) t in

@@ -13,6 +13,6 @@ pub record IsDigestTable (digests : List (List ℕ)) : Type 0 where
 abbrev pub digest_at : List (List ℕ) → ℕ → List ℕ
 digest_at digests bucket = slice_index_or digests bucket []
 
--- how many bytes a table has
+-- the size of a table in bytes
 abbrev pub table_size : ℕ
 table_size = DIGEST_SIZE * BUCKETS

@@ -13,21 +13,21 @@ use Rattle.warm_frames.specs.declared.format.Format.{Format}
 use Rattle.warm_frames.specs.declared.format.Format.TheVariants.{Narrow, Wide}
 use Rattle.warm_frames.specs.declared.layout.TheConstants.{MAX_ENTRIES}
 
--- the stamps of an entry are stamps, and of two the second is older
+-- the stamps of an entry are valid, and of two the second is older
 abbrev pub IsHist : PageHist → Type 0
 IsHist (Once last) = IsStamp last
 IsHist (Twice two) = IsStamp two.last × IsStamp two.prev × (stamp_cmp two.prev two.last ≡ Less)
 
--- the entries that there are
+-- the valid entries
 pub record IsEntry (e : Entry) : Type 0 where
   pub page : IsPage e.page
   pub hist : IsHist e.hist
 
--- entries that one frame carries: their pages rise, and they are not too many
+-- entries that fit in one frame: their pages rise, and there are at most MAX_ENTRIES
 abbrev pub FitsInFrame : List Entry → Type 0
 FitsInFrame es = PagesRise es × (length es ≤ MAX_ENTRIES)
 
--- a list that fits in a frame, of entries that there are
+-- a list of valid entries that fits in a frame
 pub record IsEntryList (es : List Entry) : Type 0 where
   pub pages_rise : PagesRise es
   pub at_most : length es ≤ MAX_ENTRIES
@@ -38,7 +38,7 @@ abbrev pub hist_bytes : PageHist → List ℕ
 hist_bytes (Once last) = 1 ∷ bytes_of_stamp last
 hist_bytes (Twice two) = 2 ∷ (bytes_of_stamp two.last ++ bytes_of_stamp two.prev)
 
--- a page as a format has it
+-- the bytes of a page in a format
 abbrev pub page_bytes_in : Format → PageId → List ℕ
 page_bytes_in Narrow p = narrow_bytes_of_page p
 page_bytes_in Wide p = bytes_of_page p
@@ -51,7 +51,7 @@ entry_bytes_in format e = page_bytes_in format e.page ++ hist_bytes e.hist
 abbrev pub entries_bytes_in : Format → List Entry → List ℕ
 entries_bytes_in format es = flat_map (entry_bytes_in format) es
 
--- as they are written, and digested
+-- an entry's bytes as they are written and digested
 abbrev pub entry_bytes : Entry → List ℕ
 entry_bytes e = entry_bytes_in Wide e
 

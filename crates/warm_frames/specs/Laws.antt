@@ -1,4 +1,4 @@
--- The laws of spellings, and of streams that come in pieces.
+-- The laws of spellings, and of streams that are given in pieces.
 use Rattle.std.specs.Prelude.{◌≡◌, ℕ, ◌<◌, List, [], ◌++◌, length}
 use Rattle.warm_frames.specs.declared.fault.FrameFault.{FrameFault}
 use Rattle.warm_frames.specs.declared.message.Message.{Message}
@@ -9,28 +9,30 @@ use Rattle.warm_frames.specs.Spelling.{Spells}
 abbrev pub OneSpelling : Type 0
 OneSpelling = (bytes : List ℕ) (f g : Message) → Spells bytes f → Spells bytes g → f ≡ g
 
--- what follows a spelling, in another one, is nothing
+-- no spelling is a proper prefix of another
 abbrev pub NoPrefix : Type 0
 NoPrefix = (text rest : List ℕ) (f g : Message) → Spells text f → Spells (text ++ rest) g → rest ≡ []
 
--- The bytes that a decoder took are the spellings of the frames that it gave, and then the part of a frame that it holds.
+-- The bytes that a decoder consumed are the spellings of the frames that it returned, then the part
+-- of a frame that it holds.
 abbrev pub InPieces : Type 0
 InPieces = (calls : List Feeding) (rest : List ℕ) → Feedings (Inside []) calls (Inside rest) → Splits (taken_in calls) (frames_given calls) rest
 
--- Where it then meets a fault in a piece, the stream up to the piece's end is the spellings of the frames given, and then bytes that show the fault.
+-- Where it then finds a fault in a piece, the stream up to the piece's end is the spellings of the
+-- frames returned, then bytes that show the fault.
 abbrev pub FaultInPieces : Type 0
 FaultInPieces = (calls : List Feeding) (begun piece : List ℕ) (fault : FrameFault) → Feedings (Inside []) calls (Inside begun) → Breaks begun piece fault Broken
     → Fails (taken_in calls ++ piece) (frames_given calls) fault
 
--- A stream has one list of frames and one rest: how it was cut doesn't matter.
+-- A stream has one list of frames and one rest, however it is cut into pieces.
 abbrev pub OneReading : Type 0
 OneReading = (stream : List ℕ) (fs gs : List Message) (r q : List ℕ) → Splits stream fs r → Splits stream gs q → (fs ≡ gs) × (r ≡ q)
 
--- nor does it for a fault: there is one, behind the same frames
+-- the same for a fault: there is one, after the same frames
 abbrev pub OneFault : Type 0
 OneFault = (stream : List ℕ) (fs gs : List Message) (e d : FrameFault) → Fails stream fs e → Fails stream gs d → (fs ≡ gs) × (e ≡ d)
 
--- no stream both ends in a part of a frame and has a fault
+-- no stream both ends inside a frame and has a fault
 abbrev pub PartOrFault : Type 0
 PartOrFault = (stream : List ℕ) (fs gs : List Message) (r : List ℕ) (fault : FrameFault) → Splits stream fs r → Fails stream gs fault → ⊥
 

@@ -1,4 +1,4 @@
--- Frames in a stream of bytes that comes in pieces.
+-- Frames in a stream of bytes that is given in pieces.
 use Rattle.std.specs.Prelude.{◌≡◌, ◌⊎◌, ℕ, ◌+◌, ◌*◌, ◌<◌, ◌≤◌, Bool, true, false, List, [], ◌∷◌, ◌++◌, length, take, ⊤, Option, Some, None, option_to_list, Result, Ok, Err}
 use Rattle.std.specs.List.{flat_map}
 use Rattle.warm_frames.specs.declared.layout.TheConstants.{MAX_ENTRY_SIZE, MAX_ENTRIES, HEADER_SIZE}
@@ -11,25 +11,26 @@ use Rattle.warm_frames.specs.Reading.{read_frame}
 use Rattle.warm_frames.specs.Sizes.{SaysSize}
 use Rattle.warm_frames.specs.Spelling.{Spells}
 
--- Where a decoder stands in its stream: inside a frame of which these bytes have come, none between two frames; or behind a fault.
+-- The state of a decoder: inside a frame of which these bytes have come (none between two frames),
+-- or after a fault.
 pub data DecoderState : Type 0 where
   Inside : (begun : List ℕ) → DecoderState
   Broken : DecoderState
 
--- what a decoder that holds these bytes stands for
+-- the state of a decoder that holds these bytes
 abbrev pub state_of : Bool → List ℕ → DecoderState
 state_of true held = Broken
 state_of false held = Inside held
 
--- The bytes are a part of a frame: reading them, or a front of them, says that they end too soon.
+-- The bytes are a part of a frame: reading them, or any prefix of them, gives `Truncated`.
 abbrev pub IsPart : List ℕ → Type 0
 IsPart bytes = (n : ℕ) → read_frame (take n bytes) ≡ Err Truncated
 
--- the bytes of the longest frame: a header, a count, and the longest entries
+-- the size of the longest frame: a header, a count, and MAX_ENTRIES entries of the greatest size
 abbrev pub longest_frame : ℕ
 longest_frame = HEADER_SIZE + 4 + MAX_ENTRY_SIZE * MAX_ENTRIES
 
--- the faults that no byte more mends, BadMagic to BadOrder
+-- the faults that no further byte repairs, BadMagic to BadOrder
 abbrev pub IsLasting : FrameFault → Type 0
 IsLasting fault = (3 ≤ fault_code fault) × (fault_code fault ≤ 10)
 
@@ -39,7 +40,8 @@ pub record ShowsFault (bytes : List ℕ) (fault : FrameFault) : Type 0 where
   pub lasting : IsLasting fault
   pub not_before : (n : ℕ) → n < length bytes → read_frame (take n bytes) ≡ Err Truncated
 
--- All of the piece was taken, and the frame isn't whole yet; or bytes were taken up to the end of a frame, which is given.
+-- The whole piece was consumed, and the frame isn't complete yet; or bytes were consumed up to the
+-- end of a frame, which is returned.
 abbrev pub Takes : List ℕ → List ℕ → ℕ → Option Message → DecoderState → Type 0
 Takes begun piece taken None new = (taken ≡ length piece) × IsPart (begun ++ piece) × (new ≡ Inside (begun ++ piece))
 Takes begun piece taken (Some frame) new = (taken ≤ length piece) × Spells (begun ++ take taken piece) frame × (new ≡ Inside [])
@@ -48,18 +50,20 @@ Takes begun piece taken (Some frame) new = (taken ≤ length piece) × Spells (b
 abbrev pub Breaks : List ℕ → List ℕ → FrameFault → DecoderState → Type 0
 Breaks begun piece fault new = (n : ℕ) × (n ≤ length piece) × ShowsFault (begun ++ take n piece) fault × (new ≡ Broken)
 
--- A piece is fed, by the answer. Want of memory changes nothing, and behind a fault nothing is taken.
+-- Feeding a piece, by the answer. An allocation failure changes nothing, and after a fault nothing
+-- is consumed.
 abbrev pub Feeds : DecoderState → List ℕ → Result Fed FrameFault → DecoderState → Type 0
 Feeds (Inside begun) piece (Ok fed) new = Takes begun piece fed.taken fed.frame new
 Feeds (Inside begun) piece (Err fault) new = ((fault ≡ Memory) × (new ≡ Inside begun)) ⊎ Breaks begun piece fault new
 Feeds Broken piece answer new = (answer ≡ Err Failed) × (new ≡ Broken)
 
--- a decoder inside a frame knows so much of its size with the piece
+-- a decoder inside a frame knows this of the frame's size, given the piece
 abbrev pub KnowsWith : DecoderState → List ℕ → Option ℕ → Type 0
 KnowsWith (Inside begun) piece size = SaysSize begun piece (Ok size)
 KnowsWith Broken piece size = ⊥
 
--- A frame that is the bytes held and those at its end is decoded. Want of memory leaves what is held.
+-- Decoding the frame that consists of the bytes held and those at its end. An allocation failure
+-- leaves the bytes held unchanged.
 abbrev pub DecodesWith : List ℕ → List ℕ → Result Message FrameFault → List ℕ → Type 0
 DecodesWith held end result new = (result ≡ read_frame (held ++ end)) ⊎ ((result ≡ Err Memory) × (new ≡ held))
 
@@ -71,12 +75,12 @@ finish_of Broken = Err Failed
 
 -- ---- pieces one after the other
 
--- a piece, and what was answered to it
+-- a piece, and the answer to it
 pub record Feeding : Type 0 where
   pub piece : List ℕ
   pub answer : Result Fed FrameFault
 
--- the bytes of a piece that were taken
+-- the bytes of a piece that were consumed
 abbrev pub bytes_taken : List ℕ → Result Fed FrameFault → List ℕ
 bytes_taken piece (Ok fed) = take fed.taken piece
 bytes_taken piece (Err fault) = []
@@ -84,7 +88,7 @@ bytes_taken piece (Err fault) = []
 abbrev pub taken_in : List Feeding → List ℕ
 taken_in = flat_map (λ c. bytes_taken c.piece c.answer)
 
--- the frame that was given
+-- the frame that was returned
 abbrev pub frame_given : Result Fed FrameFault → List Message
 frame_given (Ok fed) = option_to_list fed.frame
 frame_given (Err fault) = []
@@ -111,14 +115,14 @@ abbrev pub texts_of : List (List ℕ) → List ℕ
 texts_of [] = []
 texts_of (t ∷ ts) = t ++ texts_of ts
 
--- the stream is spellings of these frames, and then a part of one
+-- the stream is the spellings of these frames, then a part of a frame
 pub record Splits (stream : List ℕ) (frames : List Message) (rest : List ℕ) : Type 0 where
   pub texts : List (List ℕ)
   pub whole : stream ≡ texts_of texts ++ rest
   pub each : SpellAll texts frames
   pub part : IsPart rest
 
--- the stream is spellings of these frames, then bytes that show this fault, and whatever follows
+-- the stream is the spellings of these frames, then bytes that show this fault, then anything
 pub record Fails (stream : List ℕ) (frames : List Message) (fault : FrameFault) : Type 0 where
   pub texts : List (List ℕ)
   pub bad : List ℕ

@@ -1,4 +1,4 @@
--- Reading a frame from left to right, with the first fault that is met.
+-- Reading a frame from left to right, up to the first fault.
 use Rattle.std.specs.Prelude.{◌≡◌, ◌⊎◌, ℕ, zero, suc, ◌+◌, ◌*◌, ◌<◌, Bool, true, false, ◌&&◌, List, [], ◌∷◌, length, take, drop, Option, Some, None, Result, Ok, Err, nat_lt, nat_le, ◌==◌, if◌then◌else◌}
 use Rattle.std.specs.Int.{Width, w16, w32, w64, byte_len, from_be_bytes}
 use Rattle.std.specs.Ordering.{is_lt}
@@ -29,12 +29,13 @@ abbrev pub ◌>>=◌ : {A B : Type 0} → Result A FrameFault → (A → Result 
 (Ok x) >>= f = f x
 (Err e) >>= f = Err e
 
--- What a function returned, seen by view, is what reading gives.
+-- The result of a function, seen through view, is what reading gives.
 abbrev pub Reads : {X Y : Type 0} → (X → Y) → Result X FrameFault → Result Y FrameFault → Type 0
 Reads view (Ok x) read = read ≡ Ok (view x)
 Reads view (Err e) read = read ≡ Err e
 
--- A field is a value and the bytes after it. Where too few bytes are left the fault is the one given.
+-- A field is a value and the bytes after it. Where too few bytes are left, the fault is the given
+-- one.
 abbrev pub front_at : ℕ → FrameFault → List ℕ → Result (List ℕ × List ℕ) FrameFault
 front_at n short bytes = if nat_lt (length bytes) n then Err short else Ok (take n bytes, drop n bytes)
 
@@ -45,7 +46,7 @@ abbrev pub byte_at : FrameFault → List ℕ → Result (ℕ × List ℕ) FrameF
 byte_at short [] = Err short
 byte_at short (b ∷ bytes) = Ok (b, bytes)
 
--- a test that has to come out true
+-- a test that must be true
 abbrev pub want : Bool → FrameFault → Result Bool FrameFault
 want true fault = Ok true
 want false fault = Err fault
@@ -71,7 +72,7 @@ abbrev pub entry_size : Format → ℕ
 entry_size Narrow = NARROW_MAX_ENTRY_SIZE
 entry_size Wide = MAX_ENTRY_SIZE
 
--- the lengths that the body of a frame of this kind can have
+-- the valid body lengths of a frame of this kind
 abbrev pub may_have : Format → Kind → ℕ → Bool
 may_have format kinds.Entries len = nat_le 4 len && nat_le len (4 + entry_size format * MAX_ENTRIES)
 may_have format kinds.Digest len = len == table_size
@@ -84,7 +85,7 @@ pub record Start : Type 0 where
   pub sender : ℕ
   pub horizon : ℕ
 
--- the horizon, and what follows; a format without one has horizon 0
+-- the horizon, and what follows; a format without a horizon field has horizon 0
 abbrev pub horizon_at : Format → List ℕ → Result (ℕ × List ℕ) FrameFault
 horizon_at Narrow bytes = Ok (0, bytes)
 horizon_at Wide bytes = number_at w64 Truncated bytes
@@ -101,7 +102,7 @@ start_at bytes = do
   horizon ← horizon_at format sender.1
   Ok (record { format = format; kind = kind; sender = sender.0; horizon = horizon.0 }, horizon.1)
 
--- the length, where the kind can have it, and what follows
+-- the length, where it is valid for the kind, and what follows
 unfoldable pub length_at : Format → Kind → List ℕ → Result (ℕ × List ℕ) FrameFault
 length_at format kind bytes = do
   len ← number_at w32 Truncated bytes
@@ -135,7 +136,7 @@ two_in later earlier = do
   older ← want (is_lt (stamp_cmp prev last)) BadStamp
   Ok (Twice (record { last = last; prev = prev }))
 
--- What follows a tag. The bytes of both stamps have to be there before either is looked at.
+-- What follows a tag. The bytes of both stamps must be present before either is checked.
 unfoldable pub hist_at : ℕ → List ℕ → Result (PageHist × List ℕ) FrameFault
 hist_at zero bytes = Err BadTag
 hist_at (suc zero) bytes = do
@@ -158,7 +159,7 @@ page_at Wide bytes = do
   ten ← front_at 10 BadLength bytes
   Ok (page_of ten.0, ten.1)
 
--- an entry whose page comes after the one before
+-- an entry whose page is greater than the one before
 unfoldable pub entry_at : Format → Option PageId → List ℕ → Result (Entry × List ℕ) FrameFault
 entry_at format before bytes = do
   page ← page_at format bytes
@@ -185,11 +186,11 @@ entries_at format (suc n) before bytes = do
   later ← entries_at format n (Some first.0.page) first.1
   Ok (first.0 ∷ later.0, later.1)
 
--- this many entries, the first of which comes after none
+-- this many entries; no page comes before the first
 abbrev pub entries_from : Format → ℕ → List ℕ → Result (List Entry × List ℕ) FrameFault
 entries_from format count bytes = entries_at format count None bytes
 
--- how many entries a body has, and what follows the count
+-- the number of entries of a body, and what follows the count
 unfoldable pub count_at : List ℕ → Result (ℕ × List ℕ) FrameFault
 count_at body = do
   count ← number_at w32 BadLength body
@@ -236,7 +237,7 @@ read_frame bytes = do
   body ← body_at start.0.format start.0.kind start.1
   frame_of start.0 body
 
--- for how many entries of a body capacity is reserved
+-- the number of entries of a body for which capacity is reserved
 abbrev pub entries_reserved : List ℕ → Result ℕ FrameFault
 entries_reserved body = do
   count ← count_at body
@@ -247,21 +248,23 @@ reserved_in kinds.Entries body = entries_reserved body
 reserved_in kinds.Digest body = Ok 0
 reserved_in kinds.Want body = Ok 0
 
--- for how many entries capacity is reserved: none, but where a frame of entries was read up to its count
+-- the number of entries for which capacity is reserved: 0, unless a frame of entries was read up to
+-- its count
 unfoldable pub reserved_by : List ℕ → Result ℕ FrameFault
 reserved_by bytes = do
   start ← start_at bytes
   body ← body_at start.0.format start.0.kind start.1
   reserved_in start.0.kind body
 
--- capacity is reserved, for one entry at least
+-- capacity is reserved, for at least one entry
 abbrev pub Reserves : Result ℕ FrameFault → Type 0
 Reserves reserved = (n : ℕ) × (0 < n) × (reserved ≡ Ok n)
 
--- A function answered what reading gives, or, where it reserves capacity, that there was no memory for it.
+-- A function returned what reading gives or, where it reserves capacity, that the allocation
+-- failed.
 abbrev pub Gives : {X : Type 0} → Result X FrameFault → Result X FrameFault → Result ℕ FrameFault → Type 0
 Gives result read reserved = (result ≡ read) ⊎ ((result ≡ Err Memory) × Reserves reserved)
 
--- The frame that the bytes spell, if one does, was answered, unless there was no memory for it.
+-- The frame that the bytes spell, if they spell one, was returned, unless the allocation failed.
 abbrev pub FindsSpelled : List ℕ → Result Message FrameFault → Type 0
 FindsSpelled bytes result = (frame : Message) → Spells bytes frame → Gives result (Ok frame) (reserved_by bytes)

@@ -12,7 +12,7 @@ use Rattle.warm_frames.specs.declared.message.Message.TheVariants.{Entries, Dige
 use Rattle.warm_frames.specs.Entries.{IsEntryList, entries_bytes_in}
 use Rattle.warm_frames.specs.Digests.{IsDigestTable}
 
--- the frames that there are
+-- the valid frames
 abbrev pub IsFrame : Message → Type 0
 IsFrame (Entries sender horizon entries) = IsReplica sender × (horizon < 2 ^ 64) × IsEntryList entries
 IsFrame (Digest sender horizon digests) = IsReplica sender × (horizon < 2 ^ 64) × IsDigestTable digests
@@ -46,11 +46,11 @@ spelling_in format (Want sender horizon request) = framed format 3 sender horizo
 abbrev pub spelling : Message → List ℕ
 spelling f = spelling_in Wide f
 
--- the numbers of all pages have 32 bits
+-- the numbers of all pages fit in 32 bits
 abbrev pub AreNarrow : List Entry → Type 0
 AreNarrow es = AllByRecursion (λ e. e.page.no < 2 ^ 32) es
 
--- the format can hold the frame: the narrow one has no horizon, and page numbers of 32 bits
+-- the format can hold the frame: the narrow one holds no horizon, and only page numbers of 32 bits
 abbrev pub Holds : Format → Message → Type 0
 Holds Wide f = ⊤
 Holds Narrow (Entries sender horizon entries) = (horizon ≡ 0) × AreNarrow entries

@@ -1,4 +1,4 @@
-//! Frames from a stream of bytes that comes in pieces.
+//! Frames from a stream of bytes that is given in pieces.
 ghost use Rattle.std.specs.Prelude.{◌≡◌, ◌⊎◌, ◌<◌, ◌++◌, [], length, None, IfOk, IfErr, OnOk, OnErr};
 ghost use Rattle.warm_frames.specs.declared.layout.TheConstants.{HEADER_SIZE};
 ghost use Rattle.warm_frames.specs.Spelling.{Spells};
@@ -16,23 +16,24 @@ use std::marker::Model;
 /// What [`Decoder::feed`] did with a piece.
 #[derive(Debug, Drop)]
 pub struct Fed {
-    /// How many bytes of the piece were taken: up to the end of the frame, or all of them.
+    /// The number of bytes of the piece that were consumed: up to the end of the frame, or all of
+    /// them.
     pub taken: usize,
-    /// The frame that is whole now, if one is.
+    /// The frame that is now complete, if one is.
     pub frame: Option<BoxedMessage>,
 }
 
-/// Decodes frames that follow one another in a stream, however it is cut into pieces.
+/// Decodes the frames of a stream, however the stream is cut into pieces.
 ///
-/// It holds the bytes of the frame that has begun, never more, and gives a frame as soon as its last
-/// byte is there. Contracts see where it stands: inside a frame of which that many bytes have come, or
-/// behind a fault.
+/// It holds the bytes of the frame that has begun, never more, and returns a frame as soon as its
+/// last byte is there. Contracts see its state: inside a frame of which these bytes have come, or
+/// after a fault.
 #[derive(Debug, Drop)]
 pub struct Decoder {
     alloc: Global,
     // The bytes of the frame that has begun.
     held: Vec<u8>,
-    // How many it has in all, once its header says so.
+    // The size of the whole frame, once its header is complete.
     size: Option<usize>,
     failed: bool,
 }
@@ -49,8 +50,8 @@ impl Model for Decoder {
     ghost invariant = { λ d. KnowsSize d.held.items d.size };
 }
 
-// The size of the frame that begins with the bytes held and goes on with the piece. A header may stand
-// in both: it is put together on the stack.
+// The size of the frame that begins with the bytes held and goes on with the piece. A header may be
+// split between the two: it is assembled on the stack.
 fn size_with(held: &[u8], piece: &[u8]) -> Result<usize, FrameFault>
     requires { length held.now < HEADER_SIZE }
     ensures { result ≡ frame_size (held.now ++ piece.now) }
@@ -63,7 +64,7 @@ fn size_with(held: &[u8], piece: &[u8]) -> Result<usize, FrameFault>
     frame_size(&header[..len + more])
 }
 
-// The size of the frame, where its header is whole with the piece. It may be known already.
+// The size of the frame, where its header is complete with the piece. It may be known already.
 fn size_of(held: &[u8], known: Option<usize>, piece: &[u8]) -> Result<Option<usize>, FrameFault>
     requires { KnowsSize held.now known }
     ensures { SaysSize held.now piece.now result }
@@ -82,7 +83,7 @@ fn size_of(held: &[u8], known: Option<usize>, piece: &[u8]) -> Result<Option<usi
     }
 }
 
-// Holds the bytes of the piece too.
+// Appends the bytes of the piece to those held.
 fn hold(held: &mut Vec<u8>, piece: &[u8]) -> Result<(), FrameFault>
     ensures ok { OnOk result (held.new.items ≡ held.old.items ++ piece.now) }
     ensures err { OnErr result (held.new.items ≡ held.old.items) }
@@ -92,7 +93,7 @@ fn hold(held: &mut Vec<u8>, piece: &[u8]) -> Result<(), FrameFault>
     Ok(())
 }
 
-// The answer to a piece of which all was taken, and with which the frame is not whole yet.
+// The answer to a piece that was consumed whole, where the frame is not complete yet.
 fn all_of(piece: &[u8]) -> Fed
     ensures taken { result.taken ≡ length piece.now }
     ensures none { result.frame ≡ None }
@@ -103,8 +104,8 @@ fn all_of(piece: &[u8]) -> Fed
     }
 }
 
-// The frame that is the bytes held and those at its end. One that stands whole in a piece is decoded
-// there, and nothing is copied.
+// The frame that consists of the bytes held and those at its end. A frame that lies whole in one
+// piece is decoded in place, without a copy.
 fn frame_with(alloc: Global, held: &mut Vec<u8>, end: &[u8]) -> Result<BoxedMessage, FrameFault>
     ensures reads { DecodesWith held.old.items end.now result held.new.items }
     ensures spelled { IfOk result (λ frame. Spells (held.old.items ++ end.now) frame) }
@@ -124,7 +125,7 @@ fn frame_with(alloc: Global, held: &mut Vec<u8>, end: &[u8]) -> Result<BoxedMess
 }
 
 impl Decoder {
-    /// A decoder at the beginning of a stream. Takes no memory.
+    /// A decoder at the beginning of a stream. Allocation-free.
     pub fn new(alloc: Global) -> Decoder
         ensures { result ≡ Inside [] }
     {
@@ -136,16 +137,17 @@ impl Decoder {
         }
     }
 
-    /// Takes bytes of the piece, up to the end of the frame that has begun, and gives that frame; or all
-    /// of them, where it isn't whole yet. What wasn't taken belongs to the next frame: it is fed again.
+    /// Consumes the bytes of the piece up to the end of the frame that has begun, and returns that
+    /// frame; or all bytes, where the frame isn't complete yet. The bytes not consumed belong to
+    /// the next frame: feed them again.
     ///
     /// Refused:
-    /// - `Memory`: memory for the bytes, for the frame or for its entries was refused. Nothing was taken,
-    ///   and the same piece may be fed again;
-    /// - any fault of [`decode`] but `Truncated`, as soon as the byte is there at which it is known: that
-    ///   of a field of the header with the field's last byte, that of the body with the body's last byte.
-    ///   No frame's spelling begins with the bytes up to there;
-    /// - `Failed`: there was a fault before. Nothing is taken any more.
+    /// - `Memory`: an allocation failed, for the bytes, the frame or its entries. Nothing was
+    ///   consumed, and the same piece may be fed again;
+    /// - any fault of [`decode`] but `Truncated`, at the byte that shows it: a fault of a header
+    ///   field at the field's last byte, a fault of the body at the body's last byte. No frame's
+    ///   spelling begins with the bytes up to there;
+    /// - `Failed`: there was a fault before. Nothing more is consumed.
     pub fn feed(&mut self, piece: &[u8]) -> Result<Fed, FrameFault>
         ensures { Feeds self.old piece.now result self.new }
     {
@@ -161,7 +163,7 @@ impl Decoder {
         }
     }
 
-    // Takes bytes of the piece, where so much is known with it of the size of the frame.
+    // Consumes bytes of the piece, given what is known of the frame's size.
     fn take(&mut self, size: Option<usize>, piece: &[u8]) -> Result<Fed, FrameFault>
         requires { KnowsWith self.old piece.now size }
         ensures { Feeds self.old piece.now result self.new }
@@ -197,7 +199,7 @@ impl Decoder {
         }
     }
 
-    /// Whether the stream may end here. `Truncated` inside a frame, `Failed` behind a fault.
+    /// Whether the stream may end here. `Truncated` inside a frame, `Failed` after a fault.
     pub fn finish(&self) -> Result<(), FrameFault>
         ensures { result ≡ finish_of self.now }
     {

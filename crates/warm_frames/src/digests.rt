@@ -8,8 +8,8 @@ use crate::layout::{DIGEST_SIZE, DIGESTS};
 use std::marker::Model;
 use warm_stamps::Bucket;
 
-/// A digest for each bucket. Contracts see the list of the digests, that of bucket 0 first, each as the list
-/// of its bytes. Takes no memory.
+/// A digest for each bucket. Contracts see the list of the digests, that of bucket 0 first, each as
+/// the list of its bytes. Allocation-free.
 #[derive(Debug, Clone, Copy, PartialEq, Eq)]
 pub struct DigestTable {
     digests: [[u8; DIGEST_SIZE]; DIGESTS],
@@ -53,7 +53,7 @@ impl DigestTable {
     }
 }
 
-// What the type of digests says of them. Nothing is done.
+// What the type of digests implies of them. It does nothing at run time.
 fn are_digests(digests: &[[u8; DIGEST_SIZE]])
     ensures { AllByRecursion (λ digest. length digest ≡ DIGEST_SIZE) digests.now }
 {}

@@ -1,4 +1,4 @@
-//! Lists of entries, as frames carry them.
+//! Lists of entries that fit in a frame.
 ghost use Rattle.std.specs.Prelude.{◌≡◌, ◌↔◌, IfOk, IfErr, IsOk};
 ghost use Rattle.std.specs.List.{AllByRecursion};
 ghost use Rattle.warm_frames.specs.Entries.{IsHist, IsEntry, FitsInFrame, IsEntryList};
@@ -8,7 +8,7 @@ use std::marker::Model;
 use warm_history::laws::is_falling;
 use warm_history::{Entry, PageHist, pages_rise};
 
-/// At most [`MAX_ENTRIES`] entries, whose pages rise. Contracts see the list of the entries.
+/// At most [`MAX_ENTRIES`] entries with rising pages. Contracts see the list of the entries.
 #[derive(Debug, Drop)]
 pub struct EntryList {
     entries: Vec<Entry>,
@@ -27,9 +27,9 @@ impl Model for EntryList {
 }
 
 impl EntryList {
-    /// The entries as a list that a frame may carry. Takes no memory.
+    /// The entries as a list that fits in a frame. Allocation-free.
     ///
-    /// They are given back where their pages don't rise, each above the one before it, or where
+    /// They are given back where their pages don't rise, each greater than the one before, or where
     /// there are more than [`MAX_ENTRIES`].
     pub fn of(entries: Vec<Entry>) -> Result<EntryList, Vec<Entry>>
         ensures value { IfOk result (λ list. list ≡ entries.items) }
@@ -42,7 +42,8 @@ impl EntryList {
         Ok(EntryList::holding(entries))
     }
 
-    /// The entries as a list that a frame may carry, as the caller has proved. Takes no memory, and tests nothing.
+    /// The entries as a list that fits in a frame, which the caller has proved. Allocation-free,
+    /// and tests nothing.
     pub fn holding(entries: Vec<Entry>) -> EntryList
         requires { FitsInFrame entries.items }
         ensures { result ≡ entries.items }
@@ -59,7 +60,7 @@ impl EntryList {
         EntryList { entries }
     }
 
-    /// The entries, in rising page order. Takes no memory.
+    /// The entries, in rising page order. Allocation-free.
     pub fn as_slice(&self) -> &[Entry]
         ensures value { result.now ≡ self.now }
         ensures whole { IsEntryList self.now }
@@ -67,7 +68,7 @@ impl EntryList {
         &self.entries
     }
 
-    /// The entries, in rising page order. Takes no memory.
+    /// The entries, in rising page order. Allocation-free.
     pub fn into_entries(self) -> Vec<Entry>
         ensures value { result.items ≡ self }
         ensures whole { IsEntryList self }
@@ -76,7 +77,7 @@ impl EntryList {
     }
 }
 
-// What the types of entries say of them. Nothing is done.
+// What the types of entries imply of them. It does nothing at run time.
 fn are_entries(entries: &[Entry])
     ensures { AllByRecursion IsEntry entries.now }
 {

@@ -1,4 +1,4 @@
-//! Why bytes are no frame.
+//! Why bytes are not a frame.
 ghost use Rattle.std.specs.Prelude.{◌≡◌};
 ghost use Rattle.warm_frames.specs.Faults.{fault_code, fault_name};
 
@@ -8,8 +8,8 @@ use thiserror::Error;
 /// Why bytes were not decoded.
 #[derive(Clone, Copy, Debug, PartialEq, Eq, Error)]
 pub enum FrameFault {
-    /// 1: there was no memory for the entries; of a [`crate::Decoder`] also for the bytes that it
-    /// holds, or for the frame that it gives.
+    /// 1: the allocation of the entries failed; of a [`crate::Decoder`], also that of the bytes
+    /// that it holds or of the frame that it returns.
     #[error("Memory")]
     Memory,
     /// 2: the bytes end inside the header or the body.
@@ -18,14 +18,14 @@ pub enum FrameFault {
     /// 3: the first four bytes are neither `L2G2` nor `L2G1`.
     #[error("BadMagic")]
     BadMagic,
-    /// 4: the kind is none of 1, 2 and 3.
+    /// 4: the kind is not 1, 2 or 3.
     #[error("BadKind")]
     BadKind,
-    /// 5: the sender's number is no replica's.
+    /// 5: the sender's number is not a valid replica number.
     #[error("BadSender")]
     BadSender,
-    /// 6: the kind can't have this length, bytes follow the body, or the body's entries end before
-    /// it or after it.
+    /// 6: the length is not valid for the kind, bytes follow the body, or the body's entries end
+    /// before or after its end.
     #[error("BadLength")]
     BadLength,
     /// 7: the count of entries is above [`crate::MAX_ENTRIES`].
@@ -34,18 +34,19 @@ pub enum FrameFault {
     /// 8: the tag of an entry is neither 1 nor 2.
     #[error("BadTag")]
     BadTag,
-    /// 9: a stamp's number is no replica's, or the second of two stamps isn't older than the first.
+    /// 9: a stamp's replica number is not valid, or the second of two stamps isn't older than the
+    /// first.
     #[error("BadStamp")]
     BadStamp,
     /// 10: the page of an entry isn't greater than that of the entry before.
     #[error("BadOrder")]
     BadOrder,
-    /// 11: a [`crate::Decoder`] met a fault before.
+    /// 11: a [`crate::Decoder`] found a fault before.
     #[error("Failed")]
     Failed,
 }
 
-// Whatever memory is refused for, that is `Memory`.
+// Every allocation failure is `Memory`.
 impl From<AllocError> for FrameFault {
     ghost use Rattle.std.specs.Prelude.{◌≡◌};
     ghost use Rattle.warm_frames.specs.declared.fault.FrameFault.TheVariants.{Memory};
@@ -57,7 +58,7 @@ impl From<AllocError> for FrameFault {
     }
 }
 
-// The same, where what was not stored comes back: it is dropped.
+// The same, where the value that was not stored is returned: it is dropped.
 impl<T: Drop> From<AllocFailed<T>> for FrameFault {
     ghost use Rattle.std.specs.Prelude.{◌≡◌};
     ghost use Rattle.warm_frames.specs.declared.fault.FrameFault.TheVariants.{Memory};

@@ -1,4 +1,5 @@
-//! The two formats of frames: the narrow one, which is only read, and the wide one, which is written too.
+//! The two formats of frames: the narrow one, which is only read, and the wide one, which is also
+//! written.
 ghost use Rattle.std.specs.Prelude.{◌≡◌};
 ghost use Rattle.warm_frames.specs.Reading.{format_of, entry_size};
 ghost use Rattle.warm_frames.specs.Sizes.{header_size};

@@ -1,5 +1,5 @@
-//! The laws of spellings and of streams: a spelling is that of one frame and says where it ends, and a
-//! stream has one reading, however it is cut into pieces.
+//! The laws of spellings and of streams: a spelling is that of exactly one frame and determines its
+//! own end, and a stream has one reading, however it is cut into pieces.
 ghost use Rattle.warm_frames.specs.Laws.{OneSpelling, NoPrefix, InPieces, FaultInPieces, OneReading, OneFault, PartOrFault, FaultForGood, PartIsShort};
 
 /// No two frames share a spelling.
@@ -12,28 +12,28 @@ pub fn no_prefix()
     ensures { NoPrefix }
 {}
 
-/// The bytes that a decoder took, in whatever pieces, are the spellings of the frames that it gave, and
-/// then a part of the next.
+/// The bytes that a decoder consumed, in any pieces, are the spellings of the frames that it
+/// returned, then a part of the next.
 pub fn in_pieces()
     ensures { InPieces }
 {}
 
-/// Where a decoder then meets a fault, the bytes up to it show it.
+/// Where a decoder then finds a fault, the bytes up to it show it.
 pub fn fault_in_pieces()
     ensures { FaultInPieces }
 {}
 
-/// A stream is the spellings of one list of frames and one rest.
+/// A stream is the spellings of exactly one list of frames and one rest.
 pub fn one_reading()
     ensures { OneReading }
 {}
 
-/// A stream shows one fault, behind one list of frames.
+/// A stream shows at most one fault, after one list of frames.
 pub fn one_fault()
     ensures { OneFault }
 {}
 
-/// A stream that ends in a part of a frame shows no fault.
+/// A stream that ends inside a frame shows no fault.
 pub fn part_or_fault()
     ensures { PartOrFault }
 {}
@@ -43,7 +43,7 @@ pub fn fault_for_good()
     ensures { FaultForGood }
 {}
 
-/// A part of a frame, which is what a decoder holds, has fewer bytes than the longest frame.
+/// A part of a frame, such as a decoder holds, has fewer bytes than the longest frame.
 pub fn part_is_short()
     ensures { PartIsShort }
 {}

@@ -40,7 +40,7 @@ pub const KIND_SIZE: usize = 1;
 /// The size of the sender's number.
 pub const SENDER_SIZE: usize = 2;
 
-/// The size of the horizon, which the wide format alone has.
+/// The size of the horizon, which only the wide format has.
 pub const HORIZON_SIZE: usize = 8;
 
 /// The size of the length, which counts the bytes of the body.
@@ -52,16 +52,18 @@ pub const HEADER_SIZE: usize = MAGIC_SIZE + KIND_SIZE + SENDER_SIZE + HORIZON_SI
 /// The size of a header of the narrow format: 11.
 pub const NARROW_HEADER_SIZE: usize = MAGIC_SIZE + KIND_SIZE + SENDER_SIZE + LENGTH_SIZE;
 
-/// The most entries that a frame carries.
+/// The maximum number of entries in a frame.
 pub const MAX_ENTRIES: usize = 1000;
 
 /// The size of the count of entries.
 pub const COUNT_SIZE: usize = 4;
 
-/// The size of a page in the wide format: two bytes of its device's number, and eight of its own.
+/// The size of a page in the wide format: two bytes of its device's number, then eight of its page
+/// number.
 pub const PAGE_ID_SIZE: usize = 10;
 
-/// The size of a page in the narrow format: two bytes of its device's number, and four of its own.
+/// The size of a page in the narrow format: two bytes of its device's number, then four of its page
+/// number.
 pub const NARROW_PAGE_ID_SIZE: usize = 6;
 
 /// The tag of an entry with one stamp.
@@ -73,7 +75,7 @@ pub const TWICE_TAG: u8 = 2;
 /// The size of the tag.
 pub const TAG_SIZE: usize = 1;
 
-/// The size of a stamp: eight bytes of its time, and two of its replica's number.
+/// The size of a stamp: eight bytes of its time, then two of its replica's number.
 pub const STAMP_SIZE: usize = 10;
 
 /// The size of a tag and one stamp: 11.
@@ -82,13 +84,13 @@ pub const ONCE_SIZE: usize = TAG_SIZE + STAMP_SIZE;
 /// The size of a tag and two stamps: 21.
 pub const TWICE_SIZE: usize = TAG_SIZE + 2 * STAMP_SIZE;
 
-/// The most bytes that an entry has, a page, a tag and two stamps: 31.
+/// The maximum size of an entry, which is a page, a tag and two stamps: 31.
 pub const MAX_ENTRY_SIZE: usize = PAGE_ID_SIZE + TWICE_SIZE;
 
-/// The most bytes that an entry of the narrow format has: 27.
+/// The maximum size of an entry in the narrow format: 27.
 pub const NARROW_MAX_ENTRY_SIZE: usize = NARROW_PAGE_ID_SIZE + TWICE_SIZE;
 
-/// How many digests a message of them has: one for each bucket.
+/// The number of digests in a message of digests: one for each bucket.
 pub const DIGESTS: usize = BUCKETS as usize;
 
 /// The size of a digest.

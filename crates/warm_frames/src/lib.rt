@@ -1,9 +1,11 @@
-//! Gossip frames: what replicas send each other, as bytes with an exact grammar.
+//! Gossip frames: what replicas send each other, as bytes with an exact grammar. A frame and a
+//! message are the same thing.
 //!
-//! A [`Message`] carries entries of a history, the digests of all buckets, or the set of buckets that
-//! are asked for. `specs/Spelling.antt` says which bytes spell a frame: each frame has one spelling
-//! in each format that can hold it, and no two frames share one. `specs/Reading.antt` says how bytes are read, and which fault is the
-//! first. A [`Decoder`] takes frames from a stream that comes in pieces: `specs/Pieces.antt`.
+//! A [`Message`] carries entries of a history, the digests of all buckets, or the set of requested
+//! buckets. `specs/Spelling.antt` says which bytes spell a frame: each frame has one spelling in
+//! each format that can hold it, and no two frames share one. `specs/Reading.antt` says how bytes
+//! are read, and which fault is reported. A [`Decoder`] decodes frames from a stream that is given
+//! in pieces: `specs/Pieces.antt`.
 #![tactic(auto)]
 
 mod decoder;

@@ -12,12 +12,12 @@ use std::alloc::{AllocError, Global};
 use std::marker::Model;
 use warm_stamps::{Items, ReplicaId};
 
-/// What one replica sends another.
+/// A frame: what one replica sends another.
 #[derive(Debug, Drop)]
 pub enum Message {
     /// Entries of the sender's history.
     Entries {
-        /// Who sends.
+        /// The sending replica.
         sender: ReplicaId,
         /// The sender's horizon: the time before which it forgot stamps.
         horizon: u64,
@@ -26,7 +26,7 @@ pub enum Message {
     },
     /// The digests of all buckets of the sender's history.
     Digest {
-        /// Who sends.
+        /// The sending replica.
         sender: ReplicaId,
         /// The sender's horizon: the time before which it forgot stamps.
         horizon: u64,
@@ -35,11 +35,11 @@ pub enum Message {
     },
     /// A request for the entries of some buckets.
     Want {
-        /// Who sends.
+        /// The sending replica.
         sender: ReplicaId,
         /// The sender's horizon: the time before which it forgot stamps.
         horizon: u64,
-        /// The buckets: bit b, of value 2^b, asks for bucket b.
+        /// The buckets: bit b, of value 2^b, requests bucket b.
         request: u64,
     },
 }
@@ -47,11 +47,11 @@ pub enum Message {
 /// A list of frames, in the order in which they are sent. Contracts see the list.
 pub type MessageList = Items<Message>;
 
-/// The bytes that spell the frame. `AllocError` comes only where memory for them was refused.
+/// The bytes that spell the frame. `AllocError` occurs only where their allocation fails.
 pub fn encode(alloc: Global, frame: &Message) -> Result<Vec<u8>, AllocError>
-    // What is written spells the frame, so that it is decoded again.
+    // The bytes written spell the frame, so `decode` returns it.
     ensures spells { IfOk result (λ bytes. Spells bytes.items frame.now) }
-    // It is this spelling, whatever others a reader may take.
+    // They are this spelling, whichever others a reader may accept.
     ensures exact { IfOk result (λ bytes. bytes.items ≡ spelling frame.now) }
 {
     match frame {
@@ -77,33 +77,34 @@ pub fn encode(alloc: Global, frame: &Message) -> Result<Vec<u8>, AllocError>
 ///
 /// Refused by the first fault from left to right:
 /// - `Truncated`: fewer than 4 bytes, then `BadMagic`: neither `L2G2` nor `L2G1`;
-/// - `Truncated`: no byte for the kind, then `BadKind`: none of 1, 2 and 3;
-/// - `Truncated`: fewer than 2 bytes for the sender, then `BadSender`: no number of a replica;
+/// - `Truncated`: no byte for the kind, then `BadKind`: not 1, 2 or 3;
+/// - `Truncated`: fewer than 2 bytes for the sender, then `BadSender`: not a valid replica number;
 /// - in `L2G2` `Truncated`: fewer than 8 bytes for the horizon;
-/// - `Truncated`: fewer than 4 bytes for the length, then `BadLength`: not one of the kind. Entries
-///   have 4 to 31,004 bytes (a count, and 31 for each of the most; in `L2G1` 4 to 27,004, and 27), digests
-///   2048 and a request 8;
+/// - `Truncated`: fewer than 4 bytes for the length, then `BadLength`: not valid for the kind.
+///   Entries have 4 to 31,004 bytes (a count, and 31 for each of the most; in `L2G1` 4 to 27,004,
+///   and 27), digests 2048 and a request 8;
 /// - `Truncated`: fewer bytes follow than the length says, then `BadLength`: more;
 /// - `BadCount`: more entries than [`crate::MAX_ENTRIES`];
-/// - `Memory`: memory for the entries was refused. It is allocated here, once, only where there are any;
-/// - for each entry `BadLength`: fewer than 10 bytes for the page (6 in `L2G1`), `BadOrder`: a page not above the
-///   one before, `BadLength`: no byte for the tag, `BadTag`: neither 1 nor 2, `BadLength`: fewer
-///   than 10 or 20 bytes for the stamps, `BadStamp`: no number of a replica, or a second stamp that
-///   isn't older;
+/// - `Memory`: the allocation of the entries failed. There is one allocation, and only where there
+///   are entries;
+/// - for each entry `BadLength`: fewer than 10 bytes for the page (6 in `L2G1`), `BadOrder`: a page
+///   not greater than the one before, `BadLength`: no byte for the tag, `BadTag`: neither 1 nor 2,
+///   `BadLength`: fewer than 10 or 20 bytes for the stamps, `BadStamp`: not a valid replica number,
+///   or a second stamp that isn't older;
 /// - `BadLength`: bytes after the last entry.
 pub fn decode(alloc: Global, bytes: &[u8]) -> Result<Message, FrameFault>
-    // What is decoded is spelled so.
+    // The bytes spell the decoded frame.
     ensures found { IfOk result (λ frame. Spells bytes.now frame) }
-    // What is spelled so is decoded, unless there is no memory.
+    // A frame that the bytes spell is decoded, unless an allocation fails.
     ensures only { FindsSpelled bytes.now result }
-    // Which fault it is.
+    // The result is that of `read_frame`, so a fault is the first one; or an allocation failed.
     ensures first { Gives result (read_frame bytes.now) (reserved_by bytes.now) }
 {
     frame_in(alloc, bytes)
 }
 
-/// A frame in memory of its own: a pointer, where a [`Message`] has space for a table of digests, which is
-/// some 2,080 bytes. Contracts see the frame.
+/// A frame in a heap box: it is one pointer, whereas a [`Message`] has space for a table of
+/// digests, some 2,080 bytes. Contracts see the frame.
 #[derive(Debug, Drop)]
 pub struct BoxedMessage {
     frame: Box<Message>,
@@ -118,14 +119,14 @@ impl Model for BoxedMessage {
 }
 
 impl BoxedMessage {
-    /// The frame. Takes no memory.
+    /// The frame. Allocation-free.
     pub fn as_frame(&self) -> &Message
         ensures { result.now ≡ self.now }
     {
         &self.frame
     }
 
-    /// The frame. Takes no memory, and gives back that of the box.
+    /// The frame. Allocation-free; the box is freed.
     pub fn into_frame(self) -> Message
         ensures { result ≡ self }
     {
@@ -133,7 +134,7 @@ impl BoxedMessage {
     }
 }
 
-/// As [`decode`], but that want of memory for the box is `Memory` too.
+/// As [`decode`]; a failed allocation of the box is `Memory` too.
 pub(crate) fn decode_boxed(alloc: Global, bytes: &[u8]) -> Result<BoxedMessage, FrameFault>
     ensures found { IfOk result (λ frame. Spells bytes.now frame) }
     ensures reads { (result ≡ read_frame bytes.now) ⊎ (result ≡ Err FrameFault.Memory) }

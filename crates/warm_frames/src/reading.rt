@@ -124,7 +124,7 @@ fn start_at(bytes: &[u8]) -> Result<(Format, Kind, ReplicaId, u64, &[u8]), Frame
     Ok((format, kind, sender, horizon, rest))
 }
 
-// The length, where the kind can have it, and what follows.
+// The length, where it is valid for the kind, and what follows.
 #[tactic(auto, unfolding(crate::specs::Reading::length_at))]
 fn length_at(format: Format, kind: Kind, bytes: &[u8]) -> Result<(u32, &[u8]), FrameFault>
     ensures { Reads (λ x. (x.0, x.1.now)) result (length_at format kind bytes.now) }
@@ -152,8 +152,8 @@ fn body_at(format: Format, kind: Kind, bytes: &[u8]) -> Result<&[u8], FrameFault
     Ok(body)
 }
 
-/// How many bytes the frame has that begins with these bytes, or `Truncated` where its header isn't
-/// whole, or the first fault of its header.
+/// The size of the frame that begins with these bytes, or `Truncated` where its header is
+/// incomplete, or the first fault of its header.
 #[tactic(auto, unfolding(crate::specs::Sizes::frame_size))]
 pub(crate) fn frame_size(bytes: &[u8]) -> Result<usize, FrameFault>
     ensures { result ≡ frame_size bytes.now }
@@ -234,7 +234,7 @@ fn page_at(format: Format, bytes: &[u8]) -> Result<(PageId, &[u8]), FrameFault>
     }
 }
 
-// The page of an entry and its tag, and what follows: its history.
+// The page and the tag of an entry, and what follows: its stamps.
 #[tactic(auto, unfolding(crate::specs::Reading::entry_at))]
 fn start_of_entry(
     format: Format,
@@ -253,7 +253,7 @@ fn start_of_entry(
     Ok((page, tag, rest))
 }
 
-// The entries one after the other, which are put at the end of those read before.
+// Reads the entries one after the other and appends them to those read before.
 fn entries_at<'a>(
     entries: &mut Vec<Entry>,
     format: Format,
@@ -314,7 +314,7 @@ fn all_entries(
     Ok(entries)
 }
 
-// The entries of a body. Room for them is taken once.
+// The entries of a body. Their capacity is allocated once.
 #[tactic(auto, unfolding(crate::specs::Reading::entries_of))]
 fn entries_of(alloc: Global, format: Format, body: &[u8]) -> Result<EntryList, FrameFault>
     ensures { Gives result (entries_of format body.now) (entries_reserved body.now) }

@@ -37,7 +37,8 @@ fn header(
     Ok(text)
 }
 
-// Sets ten bytes to those of a page. Each number is copied by itself: an array of single bytes would be stored byte by byte.
+// Sets ten bytes to those of a page. Each number is copied separately: an array of single bytes
+// would be stored byte by byte.
 fn set_page(bytes: &mut [u8], page: PageId)
     requires { length bytes.old ≡ PAGE_ID_SIZE }
     ensures { bytes.new ≡ bytes_of_page page }
@@ -55,7 +56,8 @@ fn set_stamp(bytes: &mut [u8], stamp: Stamp)
     bytes[8..].copy_from_slice(&stamp.replica.get().to_be_bytes());
 }
 
-// The bytes of an entry with one stamp. All are the tag at first, and one stays so.
+// The bytes of an entry with one stamp. The array is filled with the tag first, and one byte
+// remains the tag.
 fn once_bytes(page: PageId, last: Stamp) -> [u8; PAGE_ID_SIZE + ONCE_SIZE]
     ensures { result ≡ bytes_of_page page ++ ONCE_TAG ∷ bytes_of_stamp last }
 {
@@ -65,7 +67,7 @@ fn once_bytes(page: PageId, last: Stamp) -> [u8; PAGE_ID_SIZE + ONCE_SIZE]
     bytes
 }
 
-// The bytes of an entry with two stamps, made so too.
+// The bytes of an entry with two stamps, made in the same way.
 fn twice_bytes(page: PageId, last: Stamp, prev: Stamp) -> [u8; MAX_ENTRY_SIZE]
     ensures { result
         ≡ bytes_of_page page ++ TWICE_TAG ∷ bytes_of_stamp last ++ bytes_of_stamp prev }
@@ -80,11 +82,12 @@ fn twice_bytes(page: PageId, last: Stamp, prev: Stamp) -> [u8; MAX_ENTRY_SIZE]
     bytes
 }
 
-/// Puts the bytes of an entry, as they stand in a frame and as they are digested, behind the text: its
+/// Appends to the text the bytes of an entry, as they are in a frame and as they are digested: its
 /// page, a tag, which is the number of its stamps, and the stamps, the later one first.
 ///
-/// `AllocError` occurs only where memory for them was refused, so never where the text has capacity for
-/// them, which are at most [`crate::MAX_ENTRY_SIZE`]. The text is then unchanged. Its capacity never shrinks.
+/// `AllocError` occurs only where their allocation fails, so never where the text has capacity for
+/// them. They are at most [`crate::MAX_ENTRY_SIZE`] bytes. The text is then unchanged. Its capacity
+/// never shrinks.
 pub fn put_entry(text: &mut Vec<u8>, entry: &Entry) -> Result<(), AllocError>
     ensures items { OnOk result (text.new.items ≡ text.old.items ++ entry_bytes entry.now) }
     ensures err { OnErr result (text.new.items ≡ text.old.items) }
@@ -115,7 +118,7 @@ fn hist_len(hist: PageHist) -> u32
     }
 }
 
-// How many bytes the entries take.
+// The size of the entries in bytes.
 fn entries_len(entries: &[Entry]) -> u32
     requires { length entries.now ≤ MAX_ENTRIES }
     ensures value { result ≡ length (entries_bytes entries.now) }

@@ -1,4 +1,4 @@
--- A node takes a batch, or refuses it for want of memory.
+-- A node absorbs a batch, or refuses it because of an allocation failure.
 use Rattle.std.proofs.Common.{inl, inr, refl}
 use Rattle.warm_gossip.specs.declared.call.Reply.TheVariants.{Done, Refused}
 use Rattle.warm_gossip.specs.declared.fault.NodeFault.TheVariants.{Memory}

@@ -1,4 +1,4 @@
--- Worked rows: pieces of lists, wanted buckets, and what a message teaches, computed.
+-- Worked examples: pieces of lists, wanted buckets, and the history after a message, computed.
 use Rattle.std.proofs.Common.{◌≡◌, ℕ, [], ◌∷◌, None, refl}
 use Rattle.warm_stamps.specs.declared.Stamp.{Stamp}
 use Rattle.warm_history.specs.declared.hist.Entry.{Entry}
@@ -35,7 +35,7 @@ two_messages : requested_messages 1 (holding (once 1 (at 10 1) ∷ once 2 (at 11
 unfolding buckets_in
 two_messages = refl
 
--- an empty bucket that is asked for by itself is sent as a message without entries
+-- an empty bucket that is requested alone is sent as a message without entries
 empty_sent : sent 1 (holding (once 1 (at 10 1) ∷ [])) 2 None ≡ Entries 1 0 []
 unfolding history
 empty_sent = refl

@@ -35,7 +35,7 @@ record KeepsPlaces (v w : PoolView) : Type 0 where
   count : length w.frames ≡ length v.frames
   pages : KeepsPages v w
 
--- one frame has another number of fixes
+-- one frame has another pin count
 fixes_differ : (v w : PoolView) (k n : ℕ) → k < length v.frames → w ≡ record v { frames = set v.frames k (record (frame_at v k) { fixes = n }) } → KeepsPlaces v w
 fixes_differ v w k n there becomes = record {
   devices = ap (λ x. x.devices) becomes;
@@ -108,7 +108,7 @@ one_victim S U (Some r) q first second = elim (held_or_not r (Some q)) [
       absurd (order.irreflexive q (order.transitive q r q back (first.1 q second.0 (λ is. other (ap Some is)))))
 ]
 
--- a page that comes in is passed too, where it put out none of those before it
+-- a page that is loaded is passed too, where it evicted none of those before it
 pub loaded : (h : HistoryView) (v w : PoolView) (ps : List PageId) (slot : Slot) (victim : Option PageId) (at n : ℕ) → IsHistory h → at < length ps → IsUnderWay h v ps at
     → PutsIn h v (nth_page ps at) 0 slot w → IsVictim (refs h) (unfixed_pages v) victim → PassedAtLoad h w (nth_page ps at) victim at n → IsUnderWay h w ps n
 loaded h v w ps slot victim at n whole there under puts is_victim moves = record {
@@ -122,7 +122,7 @@ loaded h v w ps slot victim at n whole there under puts is_victim moves = record
     devices : w.devices ≡ v.devices
     devices = ap (λ x. x.devices) puts.becomes
 
-    -- the page that was put out comes first in the list, so it leaves after the one that came in
+    -- the evicted page comes first in the list, so it leaves after the loaded one
     put_out : IsNoneBefore h w (nth_page ps at) victim → (j : ℕ) → j < at → IsLoadable w (nth_page ps j) → (frame_at v slot.index).page ≡ Some (nth_page ps j) → ⊥
     put_out none_before j before loadable held =
         let q = nth_page ps j in

@@ -1,4 +1,4 @@
--- Worked rows: a bucket of three pages in pieces of two, and what is sent of it at a time, computed.
+-- Worked examples: a bucket of three pages in pieces of two, and what Send gives of it, computed.
 use Rattle.std.proofs.Common.{◌≡◌, ℕ, [], ◌∷◌, None, Some, refl}
 use Rattle.warm_stamps.specs.declared.PageId.{PageId}
 use Rattle.warm_stamps.specs.declared.Stamp.{Stamp}

@@ -25,7 +25,7 @@ use Rattle.warm_frames.proofs.FieldLemmas.{less_is}
 use Rattle.warm_gossip.specs.Answers.{pieces_of}
 use Rattle.warm_gossip.specs.Pieces.{last_page, piece_after, AreInTurn, PiecesInTurn}
 
--- the entries whose page comes after the one given
+-- the entries whose page comes after the given one
 abbrev later : Option PageId → List Entry → List Entry
 later after = filter (λ e. comes_after after e.page)
 

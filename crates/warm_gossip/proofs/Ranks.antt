@@ -40,7 +40,7 @@ untold [] p unnamed = refl
 untold (r ∷ T) p unnamed =
     rw (differs r.page p (λ is. unnamed (0, omega arith, is))) (untold T p (λ has. unnamed (suc has.0, omega arith, has.2)))
 
--- nor one that no entry is of
+-- nor a page without an entry
 untold_entries : (es : List Entry) (p : PageId) → (Contains (map (λ e. e.page) es) p → ⊥) → told (list.refs es) p ≡ []
 untold_entries [] p unnamed = refl
 untold_entries (e ∷ es) p unnamed =
@@ -51,7 +51,7 @@ untold_entries (e ∷ es) p unnamed =
 pub no_greater : (a b : ℕ) → b ≤ a → max a b ≡ a
 no_greater a b le = omega (arith, le)
 
--- what has no stamp of a page, and no later horizon, changes nothing that is said of it
+-- references without a stamp of a page, and without a later horizon, change nothing about it
 hist_as_before : (S T : ReferenceSet) (p : PageId) → T.horizon ≤ S.horizon → told T.told p ≡ [] → hist S p ≡ hist (refs (history (S ∪ T))) p
 hist_as_before S T p le none =
     sym (hist_refs-history (S ∪ T) p
@@ -70,13 +70,13 @@ joined_agrees h horizon es le p unnamed = hist_as_before (refs h) (refs (holding
 
 -- ---- the same entries at another horizon
 
--- histories of the same entries say the same of each page, whatever their horizons
+-- histories with the same entries agree on each page, whatever their horizons
 hist_of_entries : (h g : HistoryView) → IsHistory h → IsHistory g → entries_of g ≡ entries_of h → (p : PageId) → hist (refs h) p ≡ hist (refs g) p
 hist_of_entries h g whole later same p =
     let kept : references (refs h) ≡ references (refs g) = references-refs h whole ∙ sym (ap list.refs same) ∙ sym (references-refs g later) in
     ap (λ rs. first_two (distinct (flip_args stamp_cmp) (map (λ r. r.stamp) (filter (λ r. is_eq (page_cmp r.page p)) rs)))) kept
 
--- so they rank a pool alike
+-- so they rank a pool equally
 ranked_by_entries : (s : PoolState) (h g : HistoryView) → ((p : PageId) → hist (refs h) p ≡ hist (refs g) p) → RankedBy s h → RankedBy s g
 ranked_by_entries s h g alike ranked i =
     ranked i ∙ ap (λ (f : PageId → Option PageHist). option_map (λ p. rank_key p (f p)) (nth_frame s.frames i).page) (λ j p. alike p j)

@@ -1,4 +1,5 @@
--- Worked rows: a round between two replicas that know one page each, computed from the request on.
+-- Worked examples: a round between two replicas that know one page each, computed from the request
+-- on.
 use Rattle.std.proofs.Common.{◌≡◌, [], ◌∷◌, ◌++◌, List, refl}
 use Rattle.warm_history.specs.declared.hist.Entry.{Entry}
 use Rattle.warm_history.specs.declared.hist.PageHist.TheVariants.{Once}
@@ -32,7 +33,7 @@ asked_is : requested_messages 2 standby 6 ++ Want 2 0 6 ∷ [] ≡ asked
 unfolding buckets_in
 asked_is = refl
 
--- what replica 1 answers to that: both pages, since it knows both by then
+-- the answer of replica 1 to that: both pages, since it now knows both
 abbrev given : List Message
 given = Entries 1 0 (one ∷ []) ∷ Entries 1 0 (two ∷ []) ∷ []
 
@@ -49,7 +50,8 @@ join_is : join primary standby ≡ both
 unfolding history
 join_is = refl
 
--- The same where replica 2 has the horizon 11: the first page is too old for it, and replica 1 forgets it as it hears from there.
+-- The same where replica 2 has the horizon 11: the first page is too old for it, and replica 1
+-- forgets it when it receives that horizon.
 abbrev later : HistoryView
 later = holding_since 11 (two ∷ [])
 

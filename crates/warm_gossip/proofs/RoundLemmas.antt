@@ -1,4 +1,4 @@
--- What messages teach a replica one after the other, and what a round of gossip comes to.
+-- What a replica learns from messages one after the other, and the result of a round of gossip.
 use Rattle.std.proofs.Common.{◌≡◌, ◌^◌, ◌⊎◌, inl, inr, ℕ, zero, suc, ◌<◌, ◌≤◌, Bool, true, false, ◌&&◌, ◌||◌, cond, List, [], ◌∷◌, ◌++◌, length, take, drop, map, filter, max, None, refl, sym, ap, subst, ◌∙◌, append_assoc, arith, flat_map, if◌then◌else◌}
 use Rattle.std.specs.Prelude.{◌==◌, ◌≢◌}
 use Rattle.std.specs.Cmp.{nat_eq_equiv}
@@ -239,7 +239,7 @@ hist_again S T p =
     ∙ hist-append (T ++ T) S p
     ∙ ap (λ x. joined x (hist S p)) (hist-append T T p ∙ joined_same T p)
 
--- what comes back of the wanted buckets says no more than these said before what was sent for them
+-- the answer for the wanted buckets says no more than they said before the request
 hist_back : (request : ℕ) (S T : List Reference) (p : PageId) → hist (T ++ kept (in_request request) (S ++ kept (in_request request) T)) p ≡ hist (T ++ kept (in_request request) S) p
 hist_back request S T p =
     let test = in_request request in
@@ -254,7 +254,7 @@ hist_back request S T p =
     cases true = hist_again S T p
     cases false = refl
 
--- sets that say the same of each page beside S, up to the same horizon, have one history with it
+-- sets that, united with S, agree on each page and have the same horizon, have one history with it
 told_alike : (S A B : ReferenceSet) → max S.horizon A.horizon ≡ max S.horizon B.horizon → ((p : PageId) → hist (S.told ++ A.told) p ≡ hist (S.told ++ B.told) p) → history (S ∪ A) ≡ history (S ∪ B)
 told_alike S A B horizons alike = same_hists (S ∪ A) (S ∪ B) horizons (λ p.
     ap (λ m. hist (recent m (S.told ++ A.told)) p) horizons
@@ -264,7 +264,7 @@ told_alike S A B horizons alike = same_hists (S ∪ A) (S ∪ B) horizons (λ p.
 second_alike : (S A B : ReferenceSet) → max S.horizon A.horizon ≡ max S.horizon B.horizon → ((p : PageId) → hist A.told p ≡ hist B.told p) → history (S ∪ A) ≡ history (S ∪ B)
 second_alike S A B horizons alike = told_alike S A B horizons (λ p. hist-append S.told A.told p ∙ ap (joined (hist S.told p)) (alike p) ∙ sym (hist-append S.told B.told p))
 
--- what i asks for, and what j then answers, of the buckets of the request
+-- the request of i, and the answer of j, of the buckets of the request
 abbrev Exchanged : ℕ → HistoryView → HistoryView → HistoryView → HistoryView → Type 0
 Exchanged request h g h' g' = (h' ≡ history (refs h ∪ in_buckets request (refs g))) × (g' ≡ history (refs g ∪ in_buckets request (refs h)))
 
@@ -284,7 +284,7 @@ first_taught i j request h g given h' whole heard =
     hears_refs i S (messages ++ last ∷ []) given h' (subst (λ k. Hears i k (messages ++ last ∷ []) given h') (sym (history_of_own_references h whole)) heard)
     ∙ second_alike S A (in_buckets request (refs g)) (ap (max h.horizon) at) (λ p. ap (λ (R : List Reference). hist R p) told ∙ hist-wanted j request g p)
 
--- and j what i has of them then, which for j is no more than what i had before
+-- and j receives what i then has of them, which for j is no more than what i had before
 second_taught : (i j request : ℕ) (h g : HistoryView) (given last : List Message) (h' g' : HistoryView) → IsHistory g → h.horizon ≤ g.horizon → h' ≡ history (refs h ∪ in_buckets request (refs g))
     → given ≡ requested_messages i h' request → Hears j g given last g' → g' ≡ history (refs g ∪ in_buckets request (refs h))
 second_taught i j request h g given last h' g' whole le is answered back =
@@ -348,7 +348,7 @@ if_zero request x y none = ap (λ (t : Bool). if t then x else y) (eq-eqb reques
 
 -- ---- the exchange, of histories
 
--- what l and k exchange of the buckets that differ gives the join of g and h, which they are
+-- exchanging the differing buckets of l and k gives the join of g and h, which they are
 abbrev Gives : HistoryView → HistoryView → HistoryView → HistoryView → Type 0
 Gives h g k l = Fits k → Fits l → (request : ℕ) → IsDifferenceOf k l request → (history (refs g ∪ in_buckets request (refs h)) ≡ join g h) ⊎ IsCollision k l
 
@@ -393,7 +393,7 @@ kept_fits horizon (e ∷ es) all =
     let here : IsEntry (shortened_entry horizon e) = record { page = all.0.page; hist = shortened_fits horizon e.hist all.0.hist } in
     elim (is_recent horizon e.hist) as (λ b. AllByRecursion IsEntry (map (shortened_entry horizon) (cond b (e ∷ rest) rest))) [ true ↦ (here, kept_fits horizon es all.1) | false ↦ kept_fits horizon es all.1 ]
 
--- a history of entries that there are has none but such where it is raised
+-- a history of valid entries has only valid entries after it is raised
 raised_fits : (h : HistoryView) (time : ℕ) → IsHistory h → Fits h → Fits (history (since time (refs h)))
 raised_fits h time whole fits =
     let m : ℕ = max h.horizon time in
@@ -439,7 +439,8 @@ asked i j h g h' g' round =
           inr (subst (λ messages. Hears i h messages round.given h') all round.heard, round.back)
     ]
 
--- both have the entries of one history, which is all that j has, and where messages were asked for all that i has
+-- both have the entries of one history, which is all that j has and, where messages were requested,
+-- all that i has
 abbrev Both : HistoryView → HistoryView → HistoryView → List Message → Type 0
 Both all h' g' messages = (entries_of h' ≡ entries_of all) × (g' ≡ all) × ((messages ≡ [] → ⊥) → h' ≡ all)
 

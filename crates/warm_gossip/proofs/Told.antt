@@ -16,7 +16,7 @@ use Rattle.warm_gossip.proofs.VictimLemmas.{none_changed, refused, step_leads}
 pub same_alone : (old new : NodeView) → new ≡ old → new ≡ record old { pool = new.pool }
 same_alone old new is = (none_changed old new is).0
 
--- a refused call leaves all but the pool as it was
+-- a refused call leaves everything but the pool unchanged
 pub refused_keeps : (old : NodeView) (call : Call) (why : NodeFault) (new : NodeView) → Refuses old call why new → new ≡ record old { pool = new.pool }
 refused_keeps old call why new r = (refused old new call why r).0
 

@@ -47,14 +47,14 @@ same_frames v w same i = ap (λ fs. let f : FrameView = get_or fs i no_frame in 
 same_pool : (v w : PoolView) → w ≡ v → KeepsPages v w
 same_pool v w same i = ap (λ x. (frame_at x i).page) same
 
--- all but the pool is as it was, and every frame has its page
+-- everything but the pool is unchanged, and every frame has its page
 abbrev pub KeepsNode : NodeView → NodeView → Type 0
 KeepsNode old new = (new ≡ record old { pool = new.pool }) × KeepsPages old.pool new.pool
 
 pub none_changed : (old new : NodeView) → new ≡ old → KeepsNode old new
 none_changed old new same = subst (KeepsNode old) (sym same) (refl, λ i. refl)
 
--- where the number of fixes of one frame changes
+-- where the pin count of one frame changes
 pub fixes_change : (v w : PoolView) (k n : ℕ) → k < length v.frames → w.frames ≡ set v.frames k (record (frame_at v k) { fixes = n }) → KeepsPages v w
 fixes_change v w k n there becomes i =
     let changed : FrameView = record (frame_at v k) { fixes = n } in
@@ -80,7 +80,7 @@ pin_refused : (h : HistoryView) (v w : PoolView) (p : PageId) (why : PoolFault) 
 pin_refused h v w p FixesFull refused = elim refused [ inl full ↦ same_pool v w full.2 | inr load ↦ load_refused h v w p FixesFull load ]
 pin_refused h v w p why refused = load_refused h v w p why refused
 
--- a refused call leaves every page where it was, and all but the pool
+-- a refused call leaves every page in its frame, and everything but the pool unchanged
 pub refused : (old new : NodeView) (call : Call) (why : NodeFault) → Refuses old call why new → KeepsNode old new
 refused old new (Absorb batch) Memory same = none_changed old new same
 refused old new (Send bucket after) Memory same = none_changed old new same
@@ -124,7 +124,7 @@ leads_taught : (S T : ReferenceSet) (call : Call) (old new : NodeView) → old.h
 leads_taught S T call old new is step =
     (ap (λ n. n.history) step ∙ ap (λ h. history (refs h ∪ T)) is ∙ history_first S T, λ other. inl (same_pool old.pool new.pool (ap (λ n. n.pool) step)))
 
--- a call leads to the history of what was given before and of what it gives
+-- a call leads to the history of the references given before and of those that it gives
 pub step_leads : (S : ReferenceSet) (call : Call) (reply : Reply) (old new : NodeView) → old.history ≡ history S → Step old call reply new → Leads (told_by S call reply) call old new
 step_leads S (Absorb batch) Done old new is step = leads_taught S (these batch) (Absorb batch) old new is step
 step_leads S (Send bucket after) (Sent message) old new is step = leads_same S (Send bucket after) old new is step.1
@@ -146,7 +146,7 @@ step_leads S call reply old new is step = absurd step
 
 -- ---- the page that leaves
 
--- the frame into which a page was put is one of the frames
+-- the frame into which a page was loaded is one of the frames
 pub frame_is_there : {h : HistoryView} {v w : PoolView} {p : PageId} {fixes : ℕ} {slot : Slot} → PutsIn h v p fixes slot w → slot.index < length v.frames
 frame_is_there puts = elim puts.place [ inl free ↦ free.there | inr victim ↦ victim.there ]
 
@@ -156,7 +156,8 @@ pub frames_after : {h : HistoryView} {v w : PoolView} {p : PageId} {fixes : ℕ}
 frames_after {h} {v} {w} {p} {fixes} {slot} puts P here others i =
     subst (λ x. P i (frame_at x i)) (sym puts.becomes) (at_set no_frame P v.frames slot.index _ (frame_is_there puts) here others i)
 
--- the page of the frame into which another was put was the victim among those without a fix, and every frame had a page
+-- the page of the frame into which another was loaded was the victim among the unpinned pages, and
+-- every frame had a page
 pub victim_left : {h : HistoryView} {v w : PoolView} {p : PageId} {fixes : ℕ} {slot : Slot} → PutsIn h v p fixes slot w → (q : PageId) → (frame_at v slot.index).page ≡ Some q
     → IsFull v × IsVictim (refs h) (unfixed_pages v) (Some q)
 victim_left {h} {v} puts q held = elim puts.place [

@@ -1,4 +1,5 @@
--- Worked rows: a pool of two frames is warmed up in two steps, the second of which takes the frame of the victim.
+-- Worked examples: a pool of two frames is warmed up in two steps, the second of which takes the
+-- frame of the victim.
 use Rattle.std.proofs.Common.{◌≡◌, ◌≢◌, ◌<◌, ℕ, zero, suc, true, false, [], ◌∷◌, length, refl, sym, subst, ◌∙◌, Some, None, inl, inr, arith}
 use Rattle.std.specs.List.{Contains}
 use Rattle.std.proofs.lemmas.Bool.{false≢true}

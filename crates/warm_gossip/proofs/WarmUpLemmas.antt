@@ -56,7 +56,7 @@ resident_or_absent v p = elim (go v.frames) [ inl (k, lt, is) ↦ inl (record { 
       | inr away ↦ elim (go fs) [ inl (k, lt, is) ↦ inl (suc k, omega (arith, lt), is) | inr none ↦ inr (first f fs away none) ]
     ]
 
--- where no page is fixed, the page of each frame is one without a fix
+-- where no page is pinned, the page of each frame is unpinned
 unfixed_has : (fs : List FrameView) → ((i : ℕ) → (get_or fs i no_frame).fixes ≡ 0) → (i : ℕ) (p : PageId) → (get_or fs i no_frame).page ≡ Some p → Has (pages_in (map unfixed_page fs)) p
 unfixed_has [] unfixed i p is = let no : None ≡ Some p = is in absurd (cc)
 unfixed_has (f ∷ fs) unfixed zero p is = rw (unfixed 0, is) (inl refl)
@@ -64,7 +64,7 @@ unfixed_has (f ∷ fs) unfixed (suc i) p is =
     let later : Has (pages_in (map unfixed_page fs)) p = unfixed_has fs (λ j. unfixed (suc j)) i p is in
     rw (unfixed 0) (elim f.page as (λ o. Has (cons_option o (pages_in (map unfixed_page fs))) p) [ None ↦ later | Some q ↦ inr later ])
 
--- over the same devices a page is had, whatever the frames
+-- over the same devices, whether a device has a page doesn't depend on the frames
 pub has_same : (v w : PoolView) (p : PageId) → w.devices ≡ v.devices → HasPage v p → HasPage w p
 has_same v w p same has = record { device = rw same has.device; number = rw same has.number }
 
@@ -123,8 +123,9 @@ victim_last S n U p victim listed r has = elim (held_or_not p (Some r)) [
   | inr other ↦ after_listed S n p r listed (victim.1 r has (λ is. other (ap Some is)))
 ]
 
--- While no page is fixed, a page of the list stays in its frame where another page of the list comes in: if it left, it was the victim,
--- so that all resident pages are in the list, and the other too, which are too many.
+-- While no page is pinned, a page of the list stays in its frame where another page of the list is
+-- loaded: if it left, it was the victim, so that all resident pages are in the list, and the other
+-- too, which are too many.
 stays : (S : ReferenceSet) (n : ℕ) (s : NodeView) {w : PoolView} {q : PageId} {slot : Slot} → IsWarming S n s → PutsIn s.history s.pool q 0 slot w → Contains (warm S n) q
     → (p : PageId) → Contains (warm S n) p → (i : ℕ) → (frame_at s.pool i).page ≡ Some p → (frame_at w i).page ≡ Some p
 stays S n s {w} {q} {slot} warming puts new p listed =
@@ -226,7 +227,7 @@ warm_step_keeps_hottest S old new (Loaded (Some q)) stands differ unfixed step p
     gone was.frame (stays S n old warming step.1.1.1 new_listed p listed was.frame was.holds)
 warm_step_keeps_hottest S old new reply stands differ unfixed step p listed leaves = absurd step
 
--- ---- what a pool gives
+-- ---- facts about a pool
 
 -- no page of a pool is in two frames
 pub pages_differ : (s : PoolState) → IsPool s → PagesDiffer (view_of s)

@@ -17,7 +17,7 @@ use Rattle.warm_gossip.specs.Step.{IsFirstLoadable, IsLoadable}
 pub loaded_in : {h : HistoryView} {v w : PoolView} {p : PageId} {slot : Slot} → IsLoadable v p → Loaded h v p slot w → PutsIn h v p 0 slot w
 loaded_in loadable loaded = elim loaded.1 [ inl stays ↦ absurd (loadable.1 _ stays.resident) | inr puts ↦ puts ]
 
--- or it is refused as a page is that has a device
+-- or it is refused as for a page that a device has
 pub load_refused_in : (h : HistoryView) {v : PoolView} {p : PageId} (w : PoolView) (why : PoolFault) → IsLoadable v p → LoadRefused h v p why w → PutRefused h v p why w
 load_refused_in h w NoDevice loadable refused = let there = loadable.0.device in absurd (omega arith)
 load_refused_in h w NoPage loadable refused = let there = loadable.0.number in absurd (omega arith)

@@ -1,4 +1,4 @@
--- What a node sends, and what it answers to a message.
+-- The messages that a node sends, and its answers to a message.
 use Rattle.std.specs.Prelude.{◌≡◌, ◌^◌, ◌≢◌, ◌↔◌, ℕ, zero, suc, ◌==◌, ◌<◌, List, [], ◌∷◌, ◌++◌, length, take, drop, map, filter, Option, if◌then◌else◌}
 use Rattle.std.specs.List.{flat_map, range_with_len}
 use Rattle.std.specs.Int.{bit_at}
@@ -23,7 +23,7 @@ pieces_of size (suc n) (x ∷ xs) = take size (x ∷ xs) ∷ pieces_of size n (d
 abbrev pub pieces : {A : Type 0} → ℕ → List A → List (List A)
 pieces size xs = pieces_of size (length xs) xs
 
--- the entries, in messages that are as full as can be, each with this horizon
+-- the entries, in messages of MAX_ENTRIES entries each but the last, each with this horizon
 abbrev pub entry_messages : ℕ → ℕ → List Entry → List Message
 entry_messages id horizon es = map (λ part. Entries id horizon part) (pieces MAX_ENTRIES es)
 
@@ -39,7 +39,7 @@ buckets_in request = filter (λ bucket. bit_at request bucket == 1) (range_with_
 abbrev pub requested_messages : ℕ → HistoryView → ℕ → List Message
 requested_messages id h request = flat_map (bucket_messages id h) (buckets_in request)
 
--- the bits of the buckets of which the history has other digests
+-- the set of the buckets whose digests differ from the history's
 abbrev pub IsDiffering : List (List ℕ) → HistoryView → ℕ → Type 0
 IsDiffering digests h request = (bucket : ℕ) → bucket < BUCKETS → (bit_at request bucket ≡ 1) ↔ (digest_at digests bucket ≢ digest_at (digests_of (entries_of h)) bucket)
 
@@ -58,12 +58,14 @@ refs_in (Want sender horizon request) = refs (holding_since horizon [])
 abbrev pub taught : HistoryView → Message → HistoryView
 taught h message = history (refs h ∪ refs_in message)
 
--- What a replica of this id and history answers to a message, at the greater horizon: nothing to entries; to a request its entries of these buckets.
+-- The answer of a replica of this id and history to a message, at the greater horizon: nothing to
+-- entries; to a request, its entries of these buckets.
 abbrev pub IsAnswer : ℕ → HistoryView → Message → List Message → Type 0
 IsAnswer id h (Entries sender horizon entries) messages = messages ≡ []
 IsAnswer id h (Want sender horizon request) messages = messages ≡ requested_messages id (taught h (Want sender horizon request)) request
 IsAnswer id h (Digest sender horizon digests) messages = AnswersDigests id (taught h (Digest sender horizon digests)) digests messages
 
--- the message of the first entries of the bucket whose page comes after the one given, as many as a message carries
+-- the message of the first entries of the bucket whose page comes after the given one, up to
+-- MAX_ENTRIES
 abbrev pub sent : ℕ → HistoryView → ℕ → Option PageId → Message
 sent id h bucket after = Entries id h.horizon (entries_of (history (carried (refs h) bucket after MAX_ENTRIES)))

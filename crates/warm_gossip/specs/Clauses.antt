@@ -1,4 +1,4 @@
--- What clauses say of a node.
+-- Definitions for the contracts of nodes.
 use Rattle.std.specs.Prelude.{◌≡◌, ℕ, List, Result, Ok, Err}
 use Rattle.warm_history.specs.declared.hist.Entry.{Entry}
 use Rattle.warm_history.specs.Histories.{holding_since, join}
@@ -14,15 +14,15 @@ use Rattle.warm_gossip.specs.declared.fault.NodeFault.TheVariants.{Pool}
 use Rattle.warm_gossip.specs.State.{NodeState, node_view}
 use Rattle.warm_gossip.specs.Step.{IsFailed, OnPool, Step}
 
--- by this call, answered so, the old node becomes the new one
+-- the step of this call with this reply leads from the old node to the new one
 abbrev pub Goes : NodeState → Call → Reply → NodeState → Type 0
 Goes old call reply new = Step (node_view old) call reply (node_view new)
 
--- the reply to a call that gives nothing
+-- the reply to a call without a result
 abbrev pub done : {A : Type 0} → A → Reply
 done given = Done
 
--- the result of a call is its reply, made so, or why it is refused
+-- the result of a call corresponds to its reply, made from the result, or to its refusal
 abbrev pub Answered : {T : Type 0} → NodeState → Call → (T → Reply) → Result T NodeFault → NodeState → Type 0
 Answered old call reply (Ok given) new = Goes old call (reply given) new
 Answered old call reply (Err why) new = Goes old call (Refused why) new
@@ -31,15 +31,16 @@ Answered old call reply (Err why) new = Goes old call (Refused why) new
 abbrev pub SameView : NodeState → NodeState → Type 0
 SameView old new = node_view new ≡ node_view old
 
--- it has taken these entries in
+-- the node has taken these entries in
 abbrev pub Learns : NodeState → ℕ → List Entry → NodeState → Type 0
 Learns old horizon entries new = node_view new ≡ record (node_view old) { history = join old.history (holding_since horizon entries) }
 
--- a page could not be written to its device, or a device not flushed
+-- a page could not be written to its device, or a device could not be flushed
 abbrev pub WriteBackFails : NodeState → NodeFault → NodeState → Type 0
 WriteBackFails old why new = (why ≡ Pool Fault) × OnPool IsFailed (node_view old) (node_view new)
 
--- what a refused pin leaves of the pool: frames as they were, and of the devices what a refused pin of the pool leaves
+-- the pool after a refused pin: frames are unchanged, and devices are as after a refused pin of the
+-- pool
 abbrev pub PinLeaves : NodeState → PageId → NodeFault → NodeState → Type 0
 PinLeaves old page (Pool fault) new = KeepsFrames old.pool new.pool × LeavesDevices old.history old.pool page fault new.pool
 PinLeaves old page why new = ⊥

@@ -1,4 +1,4 @@
--- The pieces in which a bucket is answered, against what a replica sends of it at a time.
+-- The pieces in which a bucket is answered, compared with what Send gives of it.
 use Rattle.std.specs.Prelude.{◌≡◌, ℕ, ◌<◌, List, [], ◌∷◌, length, Option, Some, None}
 use Rattle.warm_stamps.specs.declared.PageId.{PageId}
 use Rattle.warm_history.specs.declared.hist.Entry.{Entry}
@@ -13,7 +13,8 @@ last_page [] = None
 last_page (e ∷ []) = Some e.page
 last_page (e ∷ f ∷ es) = last_page (f ∷ es)
 
--- what is sent of the bucket at a time: the history of what S carries of up to limit pages after the one given
+-- what Send gives of the bucket: the history of the references of S to up to limit pages after the
+-- given one
 abbrev pub piece_after : ReferenceSet → ℕ → ℕ → Option PageId → List Entry
 piece_after S bucket limit after = entries_of (history (carried S bucket after limit))
 
@@ -23,7 +24,7 @@ AreInTurn S bucket limit after [] = piece_after S bucket limit after ≡ []
 AreInTurn S bucket limit after (piece ∷ others) =
     (piece ≡ piece_after S bucket limit after) × (0 < length piece) × AreInTurn S bucket limit (last_page piece) others
 
--- the pieces of a bucket are what is sent of it, one after the other, from the first page on
+-- the pieces of a bucket are what Send gives of it, one after the other, from the first page on
 abbrev pub PiecesInTurn : Type 0
 PiecesInTurn = (S : ReferenceSet) (bucket limit : ℕ) → 0 < limit
     → AreInTurn S bucket limit None (pieces limit (bucket_entries bucket (entries_of (history S))))

@@ -13,13 +13,15 @@ use Rattle.warm_gossip.specs.State.{NodeView}
 abbrev pub offer : ℕ → HistoryView → Message
 offer id h = Digest id h.horizon (digests_of (entries_of h))
 
--- Messages come to a replica of this id one after the other: these are all its answers, and new is its history afterwards.
+-- A replica of this id receives messages one after the other: these are all its answers, and new is
+-- its history afterwards.
 abbrev pub Hears : ℕ → HistoryView → List Message → List Message → HistoryView → Type 0
 Hears id h [] answers new = (answers ≡ []) × (new ≡ h)
 Hears id h (message ∷ messages) answers new =
     (first others : List Message) × IsAnswer id h message first × Hears id (taught h message) messages others new × (answers ≡ first ++ others)
 
--- A round: i offers its digests to j; all that j answers comes to i; all that i answers to that comes to j. The offer alone raises j's horizon.
+-- A round: i offers its digests to j; i receives all answers of j; j receives all answers of i to
+-- those. The offer alone raises j's horizon.
 pub record GossipRound (i j : ℕ) (h g h' g' : HistoryView) : Type 0 where
   pub asked : List Message
   pub given : List Message
@@ -28,8 +30,9 @@ pub record GossipRound (i j : ℕ) (h g h' g' : HistoryView) : Type 0 where
   pub heard : Hears i h asked given h'
   pub back : Hears j (taught g (offer i h)) given last g'
 
--- After a round both histories have the entries of the join of the two before; that of j has its horizon too, and that of i where j answered a message.
--- Or two different texts of one bucket have one SHA-256: one of h, and one of g at the greater horizon.
+-- After a round both histories have the entries of the join of the two before; that of j has its
+-- horizon too, and that of i where j answered a message. Or two different texts of one bucket have
+-- the same SHA-256 digest: one of h, and one of g at the greater horizon.
 abbrev pub RoundJoins : (i j : ℕ) (h g h' g' : HistoryView) → Type 0
 RoundJoins i j h g h' g' = (round : GossipRound i j h g h' g')
     → ((entries_of h' ≡ entries_of (join h g)) × (g' ≡ join h g) × ((round.asked ≡ [] → ⊥) → h' ≡ join h g)) ⊎ IsCollision h (taught g (offer i h))
@@ -37,11 +40,11 @@ RoundJoins i j h g h' g' = (round : GossipRound i j h g h' g')
 abbrev pub GossipRoundJoins : Type 0
 GossipRoundJoins = (i j : ℕ) (h g h' g' : HistoryView) → IsHistory h → IsHistory g → Fits h → Fits g → RoundJoins i j h g h' g'
 
--- so does each round in which one node makes the offer to another
+-- the same for each round in which one node makes the offer to another
 abbrev pub NodesJoin : NodeView → NodeView → Type 0
 NodesJoin one other = (h' g' : HistoryView) → RoundJoins one.id other.id one.history other.history h' g'
 
--- a round is over then: to what came last j has nothing to answer
+-- a round ends there: j has no answer to the last messages
 abbrev pub GossipRoundEnds : Type 0
 GossipRoundEnds = (i j : ℕ) (h g h' g' : HistoryView) → IsHistory h → (round : GossipRound i j h g h' g') → round.last ≡ []
 
@@ -49,6 +52,6 @@ GossipRoundEnds = (i j : ℕ) (h g h' g' : HistoryView) → IsHistory h → (rou
 abbrev pub OwnDigestsUnanswered : Type 0
 OwnDigestsUnanswered = (i j : ℕ) (h : HistoryView) (answers : List Message) → IsHistory h → IsAnswer j h (offer i h) answers → answers ≡ []
 
--- the entries of a history teach all references for which it stands
+-- receiving the entries of a history is receiving all references for which it stands
 abbrev pub EntriesTeach : Type 0
 EntriesTeach = (sender : ℕ) (S R : ReferenceSet) → taught (history S) (Entries sender R.horizon (entries_of (history R))) ≡ history (S ∪ R)

@@ -4,7 +4,7 @@ use Rattle.warm_history.specs.Histories.{HistoryView, holding}
 use Rattle.warm_pool.specs.State.{PoolState}
 use Rattle.warm_pool.specs.View.{view_of, PoolView}
 
--- a node: who it is, what its history holds, and its pool
+-- a node: its replica number, its history, and its pool
 pub record NodeState : Type 0 where
   pub id : ℕ
   pub history : HistoryView
@@ -19,10 +19,10 @@ pub record NodeView : Type 0 where
 abbrev pub node_view : NodeState → NodeView
 node_view s = record { id = s.id; history = s.history; pool = view_of s.pool }
 
--- a node that was given nothing
+-- a node without references
 abbrev pub opened : ℕ → PoolState → NodeState
 opened id pool = record { id = id; history = holding []; pool = pool }
 
--- a node that knows nothing and has no pool
+-- a node without references and without a pool
 abbrev pub nobody : NodeView
 nobody = record { id = 0; history = holding []; pool = record { page_size = 0; devices = []; frames = []; contents = []; failures = [] } }

@@ -1,4 +1,4 @@
--- What each call does to a node, and why it is refused, as a caller sees it.
+-- The effect of each call on a node, and its refusals, as a caller sees them.
 use Rattle.std.specs.Prelude.{◌≡◌, ℕ, ◌+◌, ◌<◌, ◌≤◌, List, [], length, Option, Some, None, slice_index_or}
 use Rattle.warm_stamps.specs.declared.PageId.{PageId}
 use Rattle.warm_history.specs.ReferenceSets.{these, since, ◌∪◌}
@@ -22,7 +22,7 @@ use Rattle.warm_gossip.specs.declared.fault.NodeFault.TheVariants.{Memory, Pool,
 use Rattle.warm_gossip.specs.State.{NodeView}
 use Rattle.warm_gossip.specs.Answers.{IsAnswer, taught, sent}
 
--- the pool alone may have changed, and has in this way
+-- only the pool may have changed, in this way
 abbrev pub OnPool : (PoolView → PoolView → Type 0) → NodeView → NodeView → Type 0
 OnPool change old new = (new ≡ record old { pool = new.pool }) × change old.pool new.pool
 
@@ -32,7 +32,7 @@ IsFailed v w = (k : ℕ) × FailsAt v k w
 
 -- Warming up
 
--- the page could be loaded: a device has it, and no frame
+-- the page could be loaded: a device has it, and it is in no frame
 abbrev pub IsLoadable : PoolView → PageId → Type 0
 IsLoadable v p = HasPage v p × IsAbsent v p
 
@@ -45,7 +45,7 @@ abbrev pub IsFirstLoadable : PoolView → List PageId → Option PageId → Type
 IsFirstLoadable v pages None = (j : ℕ) → j < length pages → IsLoadable v (nth_page pages j) → ⊥
 IsFirstLoadable v pages (Some p) = (i : ℕ) × (i < length pages) × (nth_page pages i ≡ p) × IsLoadable v p × ((j : ℕ) → j < i → IsLoadable v (nth_page pages j) → ⊥)
 
--- the page to load next: of as many of the hottest pages as the pool has frames
+-- the page to load next, among the hottest pages, as many as the pool has frames
 abbrev pub IsNextWarm : NodeView → Option PageId → Type 0
 IsNextWarm s = IsFirstLoadable s.pool (warm (refs s.history) (length s.pool.frames))
 
@@ -55,14 +55,16 @@ IsNextWarm s = IsFirstLoadable s.pool (warm (refs s.history) (length s.pool.fram
 abbrev pub IsWithin : NodeView → ℕ → ℕ → Type 0
 IsWithin s at len = at + len ≤ s.pool.page_size
 
--- nothing has changed, and the slot doesn't hold its page; it does, and the bytes reach beyond the page
+-- nothing has changed, and the slot doesn't hold its page; or it does, and the bytes reach beyond
+-- the page
 abbrev pub IsStale : NodeView → Slot → NodeView → Type 0
 IsStale old slot new = (Holds old.pool slot → ⊥) × (new ≡ old)
 
 abbrev pub IsBeyond : NodeView → Slot → ℕ → ℕ → NodeView → Type 0
 IsBeyond old slot at len new = Holds old.pool slot × (IsWithin old at len → ⊥) × (new ≡ old)
 
--- Why a call is refused, and what has then changed. A call takes memory where this names Memory for it, and nowhere else.
+-- Why a call is refused, and what has then changed. A call allocates only where this names Memory
+-- for it.
 abbrev pub Refuses : NodeView → Call → NodeFault → NodeView → Type 0
 Refuses old (Absorb batch) Memory new = new ≡ old
 Refuses old (Send bucket after) Memory new = new ≡ old
@@ -84,7 +86,7 @@ Refuses old call said new = ⊥
 
 -- Steps
 
--- From old the call may be answered so, and lead to new.
+-- The transition relation: from old, the call may get this reply and lead to new.
 abbrev pub Step : NodeView → Call → Reply → NodeView → Type 0
 Step old call (Refused said) new = Refuses old call said new
 Step old (Absorb batch) Done new = new ≡ record old { history = history (refs old.history ∪ these batch) }

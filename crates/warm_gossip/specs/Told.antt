@@ -1,4 +1,4 @@
--- What a list of calls gave a node.
+-- The references that a list of calls gave a node.
 use Rattle.std.specs.Prelude.{◌≡◌, List, [], ◌∷◌}
 use Rattle.warm_history.specs.ReferenceSets.{ReferenceSet, these, since, ◌∪◌}
 use Rattle.warm_history.specs.Histories.{history}
@@ -12,7 +12,7 @@ use Rattle.warm_gossip.specs.declared.call.Reply.TheVariants.{Done, Answers, Kep
 use Rattle.warm_gossip.specs.State.{NodeView}
 use Rattle.warm_gossip.specs.Step.{Step}
 
--- what one call, answered so, leaves of the references that a node was given
+-- the references that a node was given, after one call with this reply
 abbrev pub told_by : ReferenceSet → Call → Reply → ReferenceSet
 told_by S (Absorb batch) Done = S ∪ these batch
 told_by S (Receive message) (Answers messages) = S ∪ refs_in message
@@ -25,7 +25,8 @@ abbrev pub told : ReferenceSet → List (Entry Call Reply) → ReferenceSet
 told S [] = S
 told S (e ∷ es) = told (told_by S e.call e.reply) es
 
--- each state that a legal list of calls reaches has the history of what the node was given
+-- each state that a legal list of calls reaches has the history of the references that the node was
+-- given
 abbrev pub ToldIsHistory : Type 0
 ToldIsHistory = (S : ReferenceSet) (opening last : NodeView) (calls : List (Entry Call Reply))
     → opening.history ≡ history S → Runs Step opening calls last → last.history ≡ history (told S calls)

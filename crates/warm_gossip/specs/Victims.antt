@@ -1,4 +1,5 @@
--- Which pages a node names as victims, lists as the hottest and lets leave, over all references for which its history stands.
+-- Which pages a node names as victims, lists as the hottest and evicts, over all references for
+-- which its history stands.
 use Rattle.std.specs.Prelude.{◌≡◌, ◌≢◌, ℕ, List, Option, Some}
 use Rattle.warm_stamps.specs.declared.PageId.{PageId}
 use Rattle.warm_history.specs.ReferenceSets.{ReferenceSet}
@@ -13,11 +14,12 @@ use Rattle.warm_gossip.specs.declared.call.Reply.TheVariants.{Page, Pages}
 use Rattle.warm_gossip.specs.State.{NodeView}
 use Rattle.warm_gossip.specs.Step.{Step}
 
--- the page was resident, and is no more
+-- the page was resident, and is no longer
 abbrev pub Leaves : PoolView → PoolView → PageId → Type 0
 Leaves v w p = IsResident v p × IsAbsent w p
 
--- The page that is named, and one that leaves at any call but a restart, is farthest back over S of the resident pages without a fix.
+-- The named page, and each page that is evicted by any call but a restart, is farthest back over S
+-- among the unpinned resident pages.
 pub record AreFarthest (S : ReferenceSet) (old : NodeView) (call : Call) (reply : Reply) (new : NodeView) : Type 0 where
   pub named : (v : PageId) → call ≡ Victim → reply ≡ Page (Some v) → IsFarthest S (unfixed_pages old.pool) v
   pub leaves : (v : PageId) → call ≢ Restart → Leaves old.pool new.pool v → IsFarthest S (unfixed_pages old.pool) v

@@ -1,4 +1,4 @@
--- Warming up: what as many steps as the pool has frames bring in.
+-- Warming up: the pages that as many steps as the pool has frames load.
 use Rattle.std.specs.Prelude.{◌≡◌, ℕ, zero, suc, length, Option, Some, Contains}
 use Rattle.warm_stamps.specs.declared.PageId.{PageId}
 use Rattle.warm_history.specs.ReferenceSets.{ReferenceSet}
@@ -21,12 +21,13 @@ abbrev pub WarmSteps : ℕ → NodeView → NodeView → Type 0
 WarmSteps zero old new = new ≡ old
 WarmSteps (suc n) old new = (loaded : Option PageId) × (next : NodeView) × Step old WarmStep (Loaded loaded) next × WarmSteps n next new
 
--- the page is one of the hottest over S, of as many as there are frames, and a device has it
+-- the page is among the hottest over S, as many as there are frames, and a device has it
 pub record IsWarm (S : ReferenceSet) (v : PoolView) (p : PageId) : Type 0 where
   pub listed : Contains (warm S (length v.frames)) p
   pub had : HasPage v p
 
--- while no page is fixed, none of the hottest leaves at a warm-up step, whatever its reply
+-- while no page is pinned, none of the hottest pages is evicted by a warm-up step, whatever its
+-- reply
 abbrev pub WarmStepKeepsHottest : Type 0
 WarmStepKeepsHottest = (S : ReferenceSet) (old new : NodeView) (reply : Reply) → StandsFor old.history S → PagesDiffer old.pool → IsUnfixed old.pool
     → Step old WarmStep reply new → (p : PageId) → Contains (warm S (length old.pool.frames)) p → Leaves old.pool new.pool p → ⊥
@@ -35,7 +36,7 @@ WarmStepKeepsHottest = (S : ReferenceSet) (old new : NodeView) (reply : Reply) �
 abbrev pub StepsLoad : ReferenceSet → NodeView → NodeView → Type 0
 StepsLoad S old new = WarmSteps (length old.pool.frames) old new → (p : PageId) → IsWarm S old.pool p → IsResident new.pool p
 
--- so it is where no page is fixed
+-- this holds where no page is pinned
 abbrev pub WarmUpLoads : Type 0
 WarmUpLoads = (S : ReferenceSet) (old new : NodeView) → StandsFor old.history S → PagesDiffer old.pool → IsUnfixed old.pool → StepsLoad S old new
 

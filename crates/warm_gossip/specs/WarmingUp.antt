@@ -1,4 +1,4 @@
--- How far a node's warm-up has come: what is kept between its steps.
+-- The progress of a node's warm-up, which is kept between its steps.
 use Rattle.std.specs.Prelude.{◌≡◌, ◌⊎◌, ℕ, ◌+◌, ◌<◌, List, length, Option, Some, None, IfSome}
 use Rattle.warm_stamps.specs.declared.PageId.{PageId}
 use Rattle.warm_history.specs.Histories.{HistoryView, refs}
@@ -12,24 +12,26 @@ use Rattle.warm_gossip.specs.Step.{IsLoadable, nth_page}
 abbrev pub IsPast : List PageId → ℕ → PoolView → Type 0
 IsPast pages passed v = (j : ℕ) → j < passed → j < length pages → IsLoadable v (nth_page pages j) → ⊥
 
--- the pages are those that leave last, as many as there are frames, and the first `passed` of them are passed
+-- the pages are the hottest, as many as there are frames, and the first `passed` of them are passed
 pub record IsUnderWay (h : HistoryView) (v : PoolView) (pages : List PageId) (passed : ℕ) : Type 0 where
   pub hottest : IsWarmUp h (length v.frames) pages
   pub past : IsPast pages passed v
 
--- so it is where the pages are kept
+-- this holds where a list of pages is kept
 abbrev pub IsWarming : HistoryView → PoolView → WarmUp → Type 0
 IsWarming h v warm_up = IfSome warm_up.pages (λ pages. IsUnderWay h v pages.items warm_up.passed)
 
--- a page comes in, or is resident: it puts out none, or none is passed any more
+-- after a pin of the page: the count of passed pages is 0, or the page was resident and the count
+-- is unchanged
 abbrev pub PassedAtPin : PoolView → PageId → ℕ → ℕ → Type 0
 PassedAtPin v p old new = (new ≡ 0) ⊎ (IsResident v p × (new ≡ old))
 
--- the page that was the victim is still there, or leaves before this one: so it is none of the pages before this one in the list
+-- there was no victim, or it is still resident, or it leaves before this page: so it is not among
+-- the pages before this one in the list
 abbrev pub IsNoneBefore : HistoryView → PoolView → PageId → Option PageId → Type 0
 IsNoneBefore h v p None = Unit {0}
 IsNoneBefore h v p (Some victim) = IsResident v victim ⊎ IsBefore (refs h) victim p
 
--- the page that came in is passed too, unless the one that it put out may be one of those before it
+-- the loaded page is passed too, unless the page that it evicted may be among those before it
 abbrev pub PassedAtLoad : HistoryView → PoolView → PageId → Option PageId → ℕ → ℕ → Type 0
 PassedAtLoad h v p victim at new = (new ≡ 0) ⊎ ((new ≡ at + 1) × IsNoneBefore h v p victim)

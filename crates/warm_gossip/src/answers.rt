@@ -1,4 +1,4 @@
-//! What a node answers to digests and to a request.
+//! The answers of a node to digests and to a request.
 ghost use Rattle.std.specs.Prelude.{◌≡◌, ◌==◌, ◌≤◌, ◌++◌, length, IfOk, OnOk};
 ghost use Rattle.std.specs.Int.{bit_at};
 ghost use Rattle.warm_history.specs.Histories.{PagesRise};
@@ -31,7 +31,7 @@ fn message_of(
     })
 }
 
-// Adds these entries, in messages that are as full as can be.
+// Adds these entries, in messages of up to 1000 entries, all full but the last.
 fn push_messages(
     alloc: Global,
     messages: &mut Vec<Message>,
@@ -67,7 +67,7 @@ fn greater(history: &History, horizon: u64) -> u64
     history.horizon().max(horizon)
 }
 
-// What is left of the entries of a bucket at a horizon.
+// The entries of a bucket after a cut at a horizon.
 fn listed(
     alloc: Global,
     history: &History,
@@ -79,11 +79,11 @@ fn listed(
     history.bucket_since(bucket, horizon).collect(alloc)
 }
 
-/// The entries of the buckets whose bit is set in the request, at the greater of the horizon and the history's own, bucket by bucket in
-/// rising order and each in page order, in messages of up to 1000. It costs what the wanted buckets cost: what is older is skipped as
-/// it is read.
+/// The entries of the buckets whose bit is set in the request, at the greater of the horizon and
+/// the history's own, bucket by bucket in rising order and each in page order, in messages of up to
+/// 1000. It costs a scan of the wanted buckets: older stamps are skipped as they are read.
 ///
-/// `AllocError` comes only where an allocation fails.
+/// `AllocError` occurs only where an allocation fails.
 pub(crate) fn requested_messages(
     alloc: Global,
     id: ReplicaId,
@@ -109,7 +109,8 @@ pub(crate) fn requested_messages(
     Ok(messages)
 }
 
-// What is answered to the digests of another replica, at the greater horizon, by a history with these digests there.
+// The answer to the digests of another replica, at the greater horizon, of a history with these
+// digests there.
 fn answer_given(
     alloc: Global,
     id: ReplicaId,
@@ -136,10 +137,11 @@ fn answer_given(
     Ok(messages)
 }
 
-/// What a node with this history answers to the digests of another replica, at the greater horizon: its own
-/// entries of the buckets that differ, and then a request for these; nothing where none differs.
+/// The answer of a node with this history to the digests of another replica, at the greater
+/// horizon: its own entries of the buckets that differ, and then a request for these; nothing where
+/// none differs.
 ///
-/// `AllocError` comes only where an allocation fails.
+/// `AllocError` occurs only where an allocation fails.
 pub(crate) fn answer_to_digests(
     alloc: Global,
     id: ReplicaId,

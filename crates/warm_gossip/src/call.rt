@@ -4,12 +4,13 @@ use warm_frames::{Message, MessageList};
 use warm_pool::Slot;
 use warm_stamps::{Bucket, ByteList, PageId, PageList, RefList};
 
-/// What a node may be asked.
+/// A call of a node.
 #[derive(Drop)]
 pub enum Call {
-    /// Take these references into the history.
+    /// Add these references to the history.
     Absorb(RefList),
-    /// Give the first entries of a bucket, of those whose page is greater than `after`: as many as a message carries, up to 1000.
+    /// Give the first entries of a bucket, of those whose page is greater than `after`: up to 1000,
+    /// up to MAX_ENTRIES.
     Send {
         /// The bucket.
         bucket: Bucket,
@@ -18,15 +19,16 @@ pub enum Call {
     },
     /// Give the digests of all buckets.
     Offer,
-    /// Take what a message says, and answer it.
+    /// Receive a message: take its contents into the history, and answer it.
     Receive(Message),
     /// Forget all stamps before this time.
     Horizon(u64),
-    /// Give a page a fix, and put it into a frame of the pool where it is in none. A page with a fix does not leave.
+    /// Pin a page, and load it into a frame of the pool where it isn't resident. A pinned page is
+    /// not evicted.
     ///
-    /// A pin is no reference: it changes no rank. Whoever pins also absorbs a reference.
+    /// A pin is not a reference: it changes no rank. A caller that pins also absorbs a reference.
     Pin(PageId),
-    /// Take a fix from the slot's page.
+    /// Remove a pin from the slot's page.
     Unpin(Slot),
     /// Give bytes of the slot's page.
     Read {
@@ -46,37 +48,38 @@ pub enum Call {
         /// The bytes.
         bytes: ByteList,
     },
-    /// Name the page that would leave the pool next.
+    /// Name the page that would be evicted next.
     Victim,
     /// List this many of the hottest pages, or all where there are fewer.
     WarmList(usize),
-    /// Load the hottest page that is not resident, of as many as the pool has frames.
+    /// Load the hottest page that is not resident, among as many of the hottest as the pool has
+    /// frames.
     WarmStep,
-    /// Forget everything, after an orderly end.
+    /// Write back all pages, and then forget everything.
     Restart,
 }
 
-/// What a node answers.
+/// A reply of a node.
 #[derive(Drop)]
 pub enum Reply {
-    /// It is done.
+    /// The call succeeded.
     Done,
-    /// The message that was asked for.
+    /// The requested message.
     Sent(Message),
     /// The messages that answer the one received, in their order.
     Answers(MessageList),
-    /// The time before which stamps are forgotten from then on.
+    /// The horizon afterwards: the time before which stamps are forgotten.
     Kept(u64),
-    /// Where the page is that was given a fix.
+    /// The slot of the pinned page.
     Pinned(Slot),
-    /// The bytes that were asked for.
+    /// The requested bytes.
     Bytes(ByteList),
-    /// The page that would leave, if there is one.
+    /// The page that would be evicted, if there is one.
     Page(Option<PageId>),
     /// The hottest pages, hottest first.
     Pages(PageList),
-    /// The page that was loaded, if there was one to load.
+    /// The page that was loaded, if any.
     Loaded(Option<PageId>),
-    /// It was refused, and changed nothing but counts of failures.
+    /// The call was refused; nothing has changed but counts of failures.
     Refused(NodeFault),
 }

@@ -12,7 +12,8 @@ pub enum NodeFault {
     /// 1: an allocation failed.
     #[error("Memory")]
     Memory,
-    /// 4 to 12: why its pool refuses. A node retires no device, so `SizeDiffers`, 3, is none of these.
+    /// 4 to 12: why its pool refuses. A node retires no device, so `SizeDiffers`, 3, is not among
+    /// these.
     #[error(transparent)]
     Pool(PoolFault),
     /// 13: the slot does not hold its page.
@@ -32,7 +33,7 @@ impl From<AllocError> for NodeFault {
     }
 }
 
-/// A refusal of the pool is `Pool`, with why.
+/// A refusal of the pool is `Pool`, with the pool's fault.
 impl From<PoolFault> for NodeFault {
     ghost use Rattle.std.specs.Prelude.{◌≡◌};
     ghost use Rattle.warm_gossip.specs.declared.fault.NodeFault.TheVariants.{Pool};
@@ -56,7 +57,7 @@ impl NodeFault {
         }
     }
 
-    /// Its name, as the variant is written, of the pool's where it is one of those.
+    /// Its name, as the variant is written; for `Pool`, the name of the pool's fault.
     pub fn name(self) -> &'static str
         ensures { result.now ≡ name_of self }
     {

@@ -18,9 +18,10 @@ use warm_rank::warm_list;
 use warm_stamps::{Bucket, PageId, PageList, Reference};
 
 impl<D: PageDevice> Node<D> {
-    /// Takes references into the history: the call `Absorb`.
+    /// Adds references to the history: the call `Absorb`.
     ///
-    /// References that bring nothing new change nothing: digests and the list of the warm-up are kept, and no page is ranked again.
+    /// References that are not new change nothing: digests and the warm-up list stay cached, and no
+    /// page is ranked again.
     ///
     /// # Errors
     /// `Memory`: an allocation failed; nothing has changed.
@@ -36,7 +37,8 @@ impl<D: PageDevice> Node<D> {
         Ok(())
     }
 
-    /// Takes entries into the history. Where no entry changes, digests and the list of the warm-up are kept, and no page is ranked again.
+    /// Takes entries into the history. Where no entry changes, digests and the warm-up list stay
+    /// cached, and no page is ranked again.
     pub(crate) fn learn(&mut self, horizon: u64, entries: &[Entry]) -> Result<(), NodeFault>
         ensures learnt { OnOk result (Learns self.old horizon entries.now self.new) }
         ensures refused { IfErr result (λ why. (why ≡ Memory) × SameView self.old self.new) }
@@ -56,10 +58,12 @@ impl<D: PageDevice> Node<D> {
         Ok(())
     }
 
-    /// Forgets all stamps before this time, and returns the horizon from then on: the call `Horizon`. Takes no memory.
+    /// Forgets all stamps before this time, and returns the new horizon: the call `Horizon`.
+    /// Allocation-free.
     ///
-    /// A time that is not past the horizon costs nothing. Else the entries are gone over. Where none loses a stamp, digests and the list of
-    /// the warm-up are kept; else all resident pages are ranked again.
+    /// A time that is not later than the horizon costs nothing. Otherwise the entries are scanned.
+    /// Where none loses a stamp, digests and the warm-up list stay cached; otherwise all resident
+    /// pages are ranked again.
     pub fn raise(&mut self, time: u64) -> u64
         ensures { Goes self.old (Horizon time) (Kept result) self.new }
     {
@@ -77,10 +81,12 @@ impl<D: PageDevice> Node<D> {
         self.history.horizon()
     }
 
-    /// The messages that the node would answer to this one, with nothing changed that a caller sees.
+    /// The messages with which the node would answer this one. Nothing that a caller sees has
+    /// changed.
     ///
-    /// At a greater horizon than the own one the history is not copied: what is older is skipped as it is read. A request costs what
-    /// the wanted buckets cost. Digests cost what [`Node::offer`] does, and at a greater horizon a pass over each bucket up to its first
+    /// At a horizon greater than the node's own, the history is not copied: older stamps are
+    /// skipped as they are read. A request costs a scan of the wanted buckets. Digests cost what
+    /// [`Node::offer`] costs, and at a greater horizon also a scan of each bucket up to its first
     /// older stamp, and the hashing of the buckets that have one.
     ///
     /// # Errors
@@ -113,9 +119,10 @@ impl<D: PageDevice> Node<D> {
         }
     }
 
-    /// Takes what a message says, and gives the messages that answer it, in order: the call `Receive`.
+    /// Receives a message, and returns the messages that answer it, in order: the call `Receive`.
     ///
-    /// Digests are compared with the node's own, which are kept: having them costs what [`Node::offer`] does.
+    /// Digests are compared with the node's own, which are cached: having them costs what
+    /// [`Node::offer`] costs.
     ///
     /// # Errors
     /// `Memory`: an allocation failed; nothing has changed that a caller sees.
@@ -136,8 +143,8 @@ impl<D: PageDevice> Node<D> {
         Ok(answers)
     }
 
-    /// A message of the first entries of a bucket, of those whose page is greater than `after`, as many as a message carries: the call
-    /// `Send`.
+    /// A message of the first entries of a bucket, of those whose page is greater than `after`, up
+    /// to MAX_ENTRIES: the call `Send`.
     ///
     /// # Errors
     /// `Memory`: an allocation failed; nothing has changed.
@@ -155,11 +162,13 @@ impl<D: PageDevice> Node<D> {
 
     /// A message of the digests of all buckets: the call `Offer`.
     ///
-    /// The digests are kept. Having them costs nothing where no entry has changed since the last offer or the last digests received: what
-    /// brings nothing new keeps them. Else it costs a pass over the buckets of the entries that changed, whose entries are hashed.
+    /// The digests are cached. Having them costs nothing where no entry has changed since the last
+    /// offer or the last digests received. Otherwise it costs a scan of the buckets of the changed
+    /// entries, whose entries are hashed.
     ///
     /// # Errors
-    /// `Memory`: an allocation failed; nothing has changed that a caller sees, and the next offer takes the same digests again.
+    /// `Memory`: an allocation failed; nothing has changed that a caller sees, and the next offer
+    /// computes the same digests again.
     pub fn offer(&mut self) -> Result<Message, NodeFault>
         ensures { Answered self.old Offer Sent result self.new }
     {
@@ -179,7 +188,7 @@ impl<D: PageDevice> Node<D> {
         ensures { Answered self.now (WarmList n) Pages result self.now }
     {
         let history = self.history.history();
-        // The list is that of the references that the history holds: they give this very history.
+        // The list is over the references that the history holds: their history is this history.
         is_history(history);
         let pages = warm_list(self.alloc, history, n)?;
         Ok(PageList::of(pages))

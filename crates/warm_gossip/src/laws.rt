@@ -1,9 +1,10 @@
-//! Laws of nodes: the pieces in which a bucket is answered, a round of gossip, victims, warming up, batches of
-//! references, and what a list of calls gave a node.
+//! Laws of nodes: the pieces in which a bucket is answered, a round of gossip, victims, warming up,
+//! batches of references, and the references that a list of calls gave a node.
 //!
-//! Each function changes nothing. What it ensures is a theorem, for the crates above to cite and for a reader to
-//! look up: the files of `specs/` that the clauses name say it in full. Most speak of the definitions alone. Those that
-//! take a node give what the others ask of a state, and what these come to, for the node at hand.
+//! Each function changes nothing. Its contract is a theorem, which the crates above cite and a
+//! reader can look up: the files of `specs/` that the clauses name state it in full. Most are about
+//! the definitions alone. Those that take a node give the premises of the others, and their
+//! conclusions, for that node.
 ghost use Rattle.std.specs.List.{AllByRecursion};
 ghost use Rattle.warm_frames.specs.Entries.{IsEntry, IsHist};
 ghost use Rattle.warm_digest.specs.Exchange.{Fits};
@@ -20,33 +21,35 @@ use warm_devices::PageDevice;
 use warm_history::laws::{is_falling, is_history};
 use warm_history::{Entry, PageHist, Unordered};
 
-/// The pieces in which a bucket of a history is answered to digests or to a request are what `Call::Send` gives of that
-/// bucket, one after the other: the first without a page to come after, each next after the last page of
-/// the one before, until no page is left. So each carries all references to its pages, whatever the
-/// references that the history stands for.
+/// The pieces in which a bucket of a history is answered to digests or to a request are what
+/// `Call::Send` gives of that bucket, one after the other: the first without a page to come after,
+/// each next after the last page of the one before, until no page is left. So each carries all
+/// references to its pages, for all references that the history stands for.
 pub fn pieces_in_turn()
     ensures { PiecesInTurn }
 {}
 
-/// A round of gossip: a replica offers the digests of its history to another, and each hears all that the other
-/// answers, until both have answered. Afterwards both histories are the join of the two that were; or two different
-/// texts of one bucket, one of each replica, have one SHA-256.
+/// A round of gossip: a replica offers the digests of its history to another, and each receives all
+/// answers of the other, until both have answered. Afterwards both histories are the join of the
+/// two before; or two different texts of one bucket, one of each replica, have the same SHA-256
+/// digest.
 pub fn gossip_round_joins()
     ensures { GossipRoundJoins }
 {}
 
-/// A round of gossip is over once both have heard each other: there is nothing to answer to what came last.
+/// A round of gossip ends after both have answered: the last messages get no answer.
 pub fn gossip_round_ends()
     ensures { GossipRoundEnds }
 {}
 
-/// To the digests of the very history that it has a replica answers nothing: a round of a replica with itself is its
-/// offer alone.
+/// A replica answers nothing to the digests of its own history: a round of a replica with itself is
+/// only its offer.
 pub fn own_digests_unanswered()
     ensures { OwnDigestsUnanswered }
 {}
 
-/// A message of a history's entries teaches a replica all references for which that history stands.
+/// A replica that receives a message of a history's entries has then received all references for
+/// which that history stands.
 pub fn entries_teach()
     ensures { EntriesTeach }
 {}
@@ -57,51 +60,57 @@ pub fn replies_are_over_references()
     ensures { RepliesAreOverReferences }
 {}
 
-/// A page that a node names as its victim, and a page that leaves at any call but `Call::Restart`, is a resident page
-/// without a fix of greatest backward 2-distance, over all references for which the node's history stands.
+/// A page that a node names as its victim, and a page that is evicted by any call but
+/// `Call::Restart`, is an unpinned resident page of greatest backward 2-distance, over all
+/// references for which the node's history stands.
 pub fn victims_are_farthest()
     ensures { VictimsAreFarthest }
 {}
 
-/// While no page is fixed, no page of the warm-up list cut to the frames leaves at a warm-up step, whatever its reply.
+/// While no page is pinned, no page of the warm-up list, cut to the number of frames, is evicted by
+/// a warm-up step, whatever its reply.
 pub fn warm_step_keeps_hottest()
     ensures { WarmStepKeepsHottest }
 {}
 
-/// As many warm-up steps as the pool has frames, none refused and no page fixed before, bring in every page of the
-/// warm-up list cut to the frames that a device has: no page of the list leaves for another.
+/// As many warm-up steps as the pool has frames, none refused and no page pinned before, load every
+/// page of the warm-up list, cut to the number of frames, that a device has: no page of the list is
+/// evicted for another.
 pub fn warm_up_loads()
     ensures { WarmUpLoads }
 {}
 
-/// Each state that a legal list of calls reaches has the history of what the node was given: the references of each
-/// `Absorb` and each message of entries that it took, since its last restart. What it opened with counts too.
+/// Each state that a legal list of calls reaches has the history of the references that the node
+/// was given: those of each `Absorb` and of each message of entries that it received, since its
+/// last restart. The references of its opening state count too.
 pub fn told_is_history()
     ensures { ToldIsHistory }
 {}
 
-/// A node takes a batch of references, or refuses it for want of memory, and gives no other reply.
+/// A node absorbs a batch of references, or refuses it because of an allocation failure, and gives
+/// no other reply.
 pub fn batches_are_taken()
     ensures { BatchesAreTaken }
 {}
 
-/// No page of a node's pool is in two frames. It takes no time.
+/// No page of a node's pool is in two frames. It costs nothing at run time.
 pub fn node_pages_differ<D: PageDevice>(node: &Node<D>)
     ensures { PagesDiffer (node_view node.now).pool }
 {
     node.pool().is_pool();
 }
 
-/// The numbers in a node's history are within their widths: so the types of its entries say. It goes over the entries once,
-/// and takes no memory.
+/// The numbers in a node's history are within their widths, as the types of its entries imply. It
+/// scans the entries once, and is allocation-free.
 pub fn node_fits<D: PageDevice>(node: &Node<D>)
     ensures { Fits node.now.history }
 {
     are_entries(node.history().unordered());
 }
 
-/// [`gossip_round_joins`] of two nodes at hand: whatever round they then have makes their histories the join of what both
-/// are now, or there is a collision. It goes over the entries of both once, and takes no memory.
+/// [`gossip_round_joins`] for two given nodes: any round that they then have makes their histories
+/// the join of the two, or there is a collision. It scans the entries of both once, and is
+/// allocation-free.
 pub fn nodes_join<D: PageDevice, E: PageDevice>(one: &Node<D>, other: &Node<E>)
     ensures { NodesJoin (node_view one.now) (node_view other.now) }
 {
@@ -111,14 +120,14 @@ pub fn nodes_join<D: PageDevice, E: PageDevice>(one: &Node<D>, other: &Node<E>)
     node_fits(other);
 }
 
-/// [`warm_up_loads`] of a node at hand. It takes no time.
+/// [`warm_up_loads`] for a given node. It costs nothing at run time.
 pub fn node_warms_up<D: PageDevice>(node: &Node<D>)
     ensures { NodeWarmsUp (node_view node.now) }
 {
     node_pages_differ(node);
 }
 
-// What the types of entries say of them.
+// What the types of entries imply of them.
 fn are_entries(entries: Unordered<'_>)
     ensures { AllByRecursion IsEntry entries.entry }
 {

@@ -19,7 +19,7 @@ impl Model for ViewOfNode {
     ghost view = { λ _. nobody };
 }
 
-/// Every call is a step, so each reply that comes of a turn is that of one legal history of steps.
+/// Every call is a step, so the replies of a turn are those of one legal history of steps.
 impl<D: PageDevice + Send> Machine for Node<D> {
     ghost use Rattle.warm_gossip.specs.State.{node_view};
     ghost use Rattle.warm_gossip.specs.Step.{Step};

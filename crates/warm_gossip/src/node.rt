@@ -17,15 +17,18 @@ use warm_history::History;
 use warm_pool::Pool;
 use warm_stamps::ReplicaId;
 
-/// One replica: the history of the references that reached it, and its buffer pool, which that history ranks.
+/// One replica: the history of the references that it received, and its buffer pool, which that
+/// history ranks.
 ///
-/// It keeps the digests of its history's buckets, and the list of pages by which it warms up, until an entry of its history changes or it
-/// restarts. What brings nothing new, as gossip that repeats itself, keeps both: no offer and no step of the warm-up makes them again.
+/// It caches the digests of its history's buckets, and its warm-up list, until an entry of its
+/// history changes or it restarts. Calls that bring nothing new, as repeated gossip does, keep
+/// both: no offer and no warm-up step then recomputes them.
 ///
-/// A pin is no reference: pages are ranked by the references that the node absorbed. Whoever pins a page also absorbs one.
+/// A pin is not a reference: pages are ranked by the references that the node absorbed. A caller
+/// that pins a page also absorbs one.
 ///
-/// To clauses a node is plain data, of which it always holds that its pool is ranked by its history. What a caller sees of it is its
-/// `node_view`; what it keeps of a warm-up is no part of it.
+/// Contracts see a node as plain data, with the invariant that its pool is ranked by its history.
+/// What a caller sees of it is its `node_view`, which does not include the progress of a warm-up.
 pub struct Node<D: PageDevice> {
     pub(crate) alloc: Global,
     pub(crate) id: ReplicaId,
@@ -34,7 +37,7 @@ pub struct Node<D: PageDevice> {
     pub(crate) warm_up: WarmUp,
 }
 
-// By hand, so that an owner makes one call at each way out (see `History`).
+// Written by hand, so that an owner makes one call on each exit path (see `History`).
 impl<D: PageDevice> Drop for Node<D> {
     fn drop(mut self) {
         let Self {
@@ -65,7 +68,7 @@ impl<D: PageDevice> Model for Node<D> {
 }
 
 impl<D: PageDevice> Node<D> {
-    /// A node that was given nothing, over a pool without a page. Takes no memory.
+    /// A node without references, over a pool without pages. Allocation-free.
     pub fn new(alloc: Global, id: ReplicaId, pool: Pool<D>) -> Node<D>
         requires { IsRankedByAll pool }
         ensures { result ≡ opened id pool }
@@ -79,14 +82,14 @@ impl<D: PageDevice> Node<D> {
         }
     }
 
-    /// Which replica it is.
+    /// Its replica number.
     pub fn id(&self) -> ReplicaId
         ensures { result ≡ self.now.id }
     {
         self.id
     }
 
-    /// The history of what it was given.
+    /// The history of the references that it received.
     pub fn history(&self) -> &History
         ensures { result.now ≡ self.now.history }
     {
@@ -102,13 +105,15 @@ impl<D: PageDevice> Node<D> {
 
     /// Answers a call.
     ///
-    /// What each call does, and each of its refusals with its order, is said by the definition *step*: a refused call changes
-    /// nothing but counts of failures. `Memory` comes only where an allocation fails; pin, unpin, write, victim and restart need none.
+    /// The definition *step* gives the effect of each call, and its refusals in their order: a
+    /// refused call changes nothing but counts of failures. `Memory` occurs only where an
+    /// allocation fails; pin, unpin, write, victim and restart are allocation-free.
     pub fn call(&mut self, call: Call) -> Reply
         ensures step { Goes self.old call result self.new }
         ensures settled { call ≡ Restart → result ≡ Done → IsSettled self.new.pool }
     {
-        // The call that comes most is answered here: `answer` has space for a reply's message, 2 KB, to move.
+        // The most frequent call is answered here: `answer` would move space for a reply's message,
+        // 2 KB.
         if let Call::Absorb(batch) = call {
             return match self.absorb(batch.as_slice()) {
                 Ok(()) => Reply::Done,
@@ -121,7 +126,7 @@ impl<D: PageDevice> Node<D> {
         }
     }
 
-    // Answers a call, or says why not.
+    // Answers a call, or returns why it is refused.
     fn answer(&mut self, call: Call) -> Result<Reply, NodeFault>
         ensures step { Answered self.old call (λ reply. reply) result self.new }
         ensures settled { OnOk result (call ≡ Restart → IsSettled self.new.pool) }
@@ -155,7 +160,7 @@ impl<D: PageDevice> Node<D> {
         }
     }
 
-    /// Its pool, and no node any more.
+    /// Takes the node apart and returns its pool.
     pub fn into_pool(self) -> Pool<D>
         ensures { result ≡ self.pool }
     {

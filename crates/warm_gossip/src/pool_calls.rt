@@ -18,13 +18,14 @@ use warm_pool::{PoolFault, Slot};
 use warm_stamps::{ByteList, PageId};
 
 impl<D: PageDevice> Node<D> {
-    /// Gives a page a fix, and puts it into a frame where it is in none: the call `Pin`. Takes no memory.
+    /// Pins a page, and loads it into a frame where it isn't resident: the call `Pin`.
+    /// Allocation-free.
     ///
-    /// **A pin is no reference**: whoever pins a page also absorbs a reference to it.
+    /// **A pin is not a reference**: a caller that pins a page also absorbs a reference to it.
     ///
     /// # Errors
-    /// `Pool`, with the fault and the order of [`warm_pool::Pool::pin`], and with what that leaves. Pages, fixes and contents are as
-    /// they were.
+    /// `Pool`, with the fault and the order of [`warm_pool::Pool::pin`], and with the same effects.
+    /// Pages, pin counts and contents are unchanged.
     pub fn pin(&mut self, page: PageId) -> Result<Slot, NodeFault>
         ensures step { Answered self.old (Pin page) Pinned result self.new }
         ensures frame { IfOk result (λ slot. TakesFrame self.old.pool page slot self.new.pool) }
@@ -34,7 +35,7 @@ impl<D: PageDevice> Node<D> {
         Ok(self.pool.pin(page, self.history.history())?)
     }
 
-    /// Takes a fix away: the call `Unpin`. Takes no memory.
+    /// Removes a pin: the call `Unpin`. Allocation-free.
     ///
     /// # Errors
     /// `StaleSlot`: the slot doesn't hold its page; nothing has changed.
@@ -76,7 +77,7 @@ impl<D: PageDevice> Node<D> {
         at <= size && len <= size - at
     }
 
-    /// Writes bytes into the slot's page, from `at` on: the call `Write`. Takes no memory.
+    /// Writes bytes into the slot's page, from `at` on: the call `Write`. Allocation-free.
     ///
     /// # Errors
     /// In this order: `StaleSlot`, where the slot doesn't hold its page; `Pool(OutOfPage)`, where the bytes reach beyond its end.
@@ -93,19 +94,20 @@ impl<D: PageDevice> Node<D> {
         Ok(())
     }
 
-    /// The page that would leave next, where there is one: the call `Victim`. Takes no memory.
+    /// The page that would be evicted next, where there is one: the call `Victim`. Allocation-free.
     pub fn victim(&self) -> Option<PageId>
         ensures { Goes self.now Victim (Page result) self.now }
     {
         self.pool.victim()
     }
 
-    /// Writes all pages back, and then forgets the history and takes every page out of its frame: the call `Restart`. Takes no
-    /// memory.
+    /// Writes back all pages, and then forgets the history and evicts every page: the call
+    /// `Restart`. Allocation-free.
     ///
     /// # Errors
-    /// `Pool(Fixed)`: a page is fixed, and nothing has changed. `Pool(Fault)`: a page could not be written to its device, or a
-    /// device not flushed; counts of failures alone have changed.
+    /// `Pool(Fixed)`: a page is pinned, and nothing has changed. `Pool(Fault)`: a page could not be
+    /// written to its device, or a device could not be flushed; only counts of failures have
+    /// changed.
     pub fn restart(&mut self) -> Result<(), NodeFault>
         ensures step { Answered self.old Restart done result self.new }
         ensures settled { OnOk result (IsSettled self.new.pool) }
@@ -116,10 +118,11 @@ impl<D: PageDevice> Node<D> {
         Ok(())
     }
 
-    /// Writes all pages back to their devices, and flushes these. Takes no memory.
+    /// Writes back all pages to their devices, and flushes the devices. Allocation-free.
     ///
     /// # Errors
-    /// `Fault` at the first write or flush that fails. Of what a caller sees, counts of failures alone have changed.
+    /// `Fault` at the first write or flush that fails. Of what a caller sees, only counts of
+    /// failures have changed.
     pub fn write_back(&mut self) -> Result<(), NodeFault>
         ensures same { OnOk result (SameView self.old self.new) }
         ensures settled { OnOk result (IsSettled self.new.pool) }

@@ -18,8 +18,9 @@ use warm_pool::Pool;
 use warm_rank::{leaving_order, warm_list};
 use warm_stamps::PageId;
 
-/// How far a warm-up has come: the hottest pages, hottest first, as many as the pool has frames, where they are kept; and how many of
-/// them are passed. None of these could be loaded: each is resident, or no device has it.
+/// The progress of a warm-up: the hottest pages, hottest first, as many as the pool has frames,
+/// where the list is cached; and how many of them are passed. None of the passed pages could be
+/// loaded: each is resident, or no device has it.
 #[derive(Drop)]
 pub(crate) struct WarmUp {
     pub(crate) pages: Option<Vec<PageId>>,
@@ -27,7 +28,7 @@ pub(crate) struct WarmUp {
 }
 
 impl WarmUp {
-    /// One that has not begun. Takes no memory.
+    /// A warm-up that has not begun. Allocation-free.
     pub(crate) fn new() -> WarmUp
         ensures { result.pages ≡ None }
     {
@@ -39,22 +40,25 @@ impl WarmUp {
 }
 
 impl<D: PageDevice> Node<D> {
-    /// Loads the hottest page that is not resident and that a device has, of as many as the pool has frames, and gives it; `None`
-    /// where there is none: the call `WarmStep`. On a standby it is called until it gives none, before the standby takes over.
+    /// Loads the hottest page that is not resident and that a device has, among as many of the
+    /// hottest as the pool has frames, and returns it; `None` where there is none: the call
+    /// `WarmStep`. A standby calls it until it returns `None`, before the standby takes over.
     ///
-    /// The list of these pages is made at the first step, at the cost of [`Node::warm_list`], and kept until an entry of the history
-    /// changes or the node restarts: what brings nothing new keeps it. A step that finds it kept takes no memory for it, and looks pages
-    /// up from where the last one came to until it finds one to load. So a whole warm-up looks each page up once, where none leaves that
-    /// was passed: after a pin that brings a page in, or a step that puts a page of the list out, the next step begins with the hottest
-    /// again.
+    /// The list of these pages is made at the first step, at the cost of [`Node::warm_list`], and
+    /// cached until an entry of the history changes or the node restarts. A step that finds the
+    /// list cached is allocation-free, and looks up pages from where the last step stopped until it
+    /// finds one to load. So a whole warm-up looks up each page once, provided that no passed page
+    /// is evicted: after a pin that loads a page, or a step that evicts a page of the list, the
+    /// next step begins with the hottest page again.
     ///
     /// # Errors
-    /// `Memory`: there was no memory for the list of the hottest pages; the next step makes it. `Pool`, with the fault and the order of
-    /// [`warm_pool::Pool::load`]. Pages, fixes and contents are as they were.
+    /// `Memory`: the allocation of the list of the hottest pages failed; the next step tries again.
+    /// `Pool`, with the fault and the order of [`warm_pool::Pool::load`]. Pages, pin counts and
+    /// contents are unchanged.
     pub fn warm_step(&mut self) -> Result<Option<PageId>, NodeFault>
         ensures { Answered self.old WarmStep Loaded result self.new }
     {
-        // The list is that of the references that the history holds: they give this very history.
+        // The list is over the references that the history holds: their history is this history.
         is_history(self.history.history());
         let history = self.history.history();
         let pages = take_pages(self.alloc, &mut self.warm_up, history, &self.pool)?;
@@ -78,7 +82,7 @@ impl<D: PageDevice> Node<D> {
     }
 }
 
-// The pages of the warm-up: those kept, or else made, and then none is passed.
+// The pages of the warm-up: the cached list, or else a new one, of which none is passed.
 fn take_pages<D: PageDevice>(
     alloc: Global,
     warm_up: &mut WarmUp,
@@ -98,7 +102,8 @@ fn take_pages<D: PageDevice>(
     Ok(pages)
 }
 
-// The place of the first of the pages that could be loaded, from a place on before which none could; their number where none could.
+// The index of the first page that could be loaded, from an index before which none could; the
+// number of pages where none could.
 fn first_loadable<D: PageDevice>(pool: &Pool<D>, pages: &[PageId], passed: usize) -> usize
     requires { IsPast pages.now passed (view_of pool.now) }
     ensures past { IsPast pages.now result (view_of pool.now) }
@@ -113,15 +118,15 @@ fn first_loadable<D: PageDevice>(pool: &Pool<D>, pages: &[PageId], passed: usize
     pages.len()
 }
 
-// Whether a device has the page, and no frame.
+// Whether a device has the page, and it is in no frame.
 fn is_loadable<D: PageDevice>(pool: &Pool<D>, page: PageId) -> bool
     ensures { IsTrue result ↔ IsLoadable (view_of pool.now) page }
 {
     pool.has(page) && !pool.resident(page)
 }
 
-// How many pages of the list are passed once this one, which stood after so many, has come in: it too, unless it put out one of those
-// before it. These leave after it.
+// The number of passed pages after this page, which has the index `at`, was loaded: it is passed
+// too, unless it evicted one of those before it. Pages before it in the list leave after it.
 fn passed_at_load<D: PageDevice>(
     pool: &Pool<D>,
     history: &History,
@@ -138,7 +143,7 @@ fn passed_at_load<D: PageDevice>(
     if pool.resident(victim) {
         return at + 1;
     }
-    // The order is that of the references that the history holds: they give this very history.
+    // The order is over the references that the history holds: their history is this history.
     is_history(history);
     match leaving_order(history, victim, page) {
         Ordering::Less => at + 1,
@@ -146,7 +151,8 @@ fn passed_at_load<D: PageDevice>(
     }
 }
 
-/// How many pages of the list are still passed where this page is pinned: none, where it comes in, since it may put out one of them.
+/// The number of pages that are still passed after this page is pinned: 0 where the page is loaded,
+/// since it may evict one of them.
 pub(crate) fn passed_at_pin<D: PageDevice>(pool: &Pool<D>, passed: usize, page: PageId) -> usize
     ensures { PassedAtPin (view_of pool.now) page passed result }
 {

@@ -24,7 +24,7 @@ above p k less = sym (nat_cmp_is p k Greater less)
 below : (p k : ℕ) → p < k → nat_cmp p k ≡ Less
 below p k less = sym (nat_cmp_is p k Less less)
 
--- ---- pairs before and after those that are asked for
+-- ---- pairs before and after the requested ones
 
 find_after_lower : (p : ℕ) (low rest : Pairs) → AreBelow p low → found p (low ++ rest) ≡ found p rest
 find_after_lower p [] rest all = refl

@@ -19,7 +19,7 @@ same_set : (d : Bool) (buckets i : ℕ) → i < 64 → bit_at buckets i ≡ 0 �
 same_set true buckets i low clear = bit_at_set_same w64 buckets i low
 same_set false buckets i low clear = nothing_set buckets i i ∙ clear
 
--- what is said of the bits so far, and of the bit that is given, is said of the bits that follow
+-- what holds of the bits so far, and of the given bit, holds of the next bits
 pub seen_more : (Says : ℕ → ℕ → Type 0) (buckets i given : ℕ) (d : Bool) → i < 64 → given ≡ from_bool d → bit_at buckets i ≡ 0 → Says i given
     → ((b : ℕ) → b < i → Says b (bit_at buckets b)) → (b : ℕ) → b < i + 1 → Says b (bit_at (bit_or buckets (given * 2 ^ i % 2 ^ 64)) b)
 seen_more Says buckets i given d low is clear says seen =

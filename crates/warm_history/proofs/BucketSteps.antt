@@ -1,4 +1,5 @@
--- A change of a bucket's map is one of all maps together, and leaves each map to its own bucket.
+-- A change of a bucket's map is a change of all maps together, and each map keeps to its own
+-- bucket.
 use Rattle.std.proofs.Common.{◌≡◌, ℕ, List, [], ◌∷◌, ◌++◌, sym, ap, subst, refl, ◌∙◌, arith, Option, Some, None, length, zero, suc, ◌+◌, ◌/◌, ◌<◌, ◌≤◌, slice_set, get_or, IfOk, OnOk, OnErr}
 use Rattle.std.specs.List.{AllByRecursion}
 use Rattle.std.specs.Map.{remove_entry, set_value}
@@ -157,7 +158,7 @@ records_undo old new p more (Some k) are records =
     ∙ ap (put_back p k.hist) records.2
     ∙ put_back-insert p records.0 old are.places_rise k.hist records.3.1
 
--- a note tells of a change
+-- a note implies a change
 pub records_tell : (old new : Pairs) (p : ℕ) (more : PageHist) (note : Option Known) → Records old p more note new → TellsNote note p old new
 records_tell old new p more None records = records.3
 records_tell old new p more (Some k) records = λ same.

@@ -41,7 +41,7 @@ get-bucket bucket es p is =
     get-filter (λ q. page_bucket q == bucket) es p
     ∙ ap (λ b. cond b (get es p) None) (eq-eqb (page_bucket p) bucket is)
 
--- lists that say the same of each page of a bucket have the same entries in it
+-- lists that agree on each page of a bucket have the same entries in it
 pub same_bucket : (bucket : ℕ) (h g : List Entry) → PagesRise h → PagesRise g → ((p : PageId) → page_bucket p ≡ bucket → get h p ≡ get g p) → bucket_entries bucket h ≡ bucket_entries bucket g
 same_bucket bucket h g rise_h rise_g alike =
     let by_page = on (λ (e : Entry). e.page) page_cmp in
@@ -93,7 +93,7 @@ grows_more h mid new S whole_h whole_mid grows is p =
 between : (x y : Option PageHist) → joined x y ≡ y → joined y x ≡ x → y ≡ x
 between x y up down = sym up ∙ latest_of_swap (held x) (held y) ∙ down
 
--- where a bucket is as it was at last, it was so all the while
+-- where a bucket is unchanged in the end, it was unchanged at each step
 stays_between : (bucket : ℕ) (h mid new : List Entry) → PagesRise h → PagesRise mid → Grows h mid → Grows mid new → StaysIn bucket h new → StaysIn bucket h mid
 stays_between bucket h mid new rise_h rise_mid up down same = same_bucket bucket mid h rise_mid rise_h (λ p there.
     let ends : get new p ≡ get h p = sym (get-bucket bucket new p there) ∙ ap (λ es. get es p) same ∙ get-bucket bucket h p there in
@@ -220,7 +220,7 @@ hist_left m bucket es p whole there left =
     ∙ get-bucket bucket es p there
     ∙ sym (hist-refs es whole p)
 
--- and it leaves it as it is once more is taken in that isn't older
+-- and it leaves it unchanged after more is taken in that isn't older
 left_with_more : (m bucket : ℕ) (es mid : List Entry) (rs : List Reference) → IsHistory es → mid ≡ history (refs es ++ recent m rs) → kept_entries m (bucket_entries bucket es) ≡ bucket_entries bucket es
     → bucket_entries bucket (kept_entries m mid) ≡ bucket_entries bucket mid
 left_with_more m bucket es mid rs whole is left =

@@ -61,7 +61,7 @@ IsHistory-history S =
 pub references-refs : (h : HistoryView) → IsHistory h → references (refs h) ≡ list.refs (entries_of h)
 references-refs h whole = kept_refs h.horizon h.entries whole.none_older
 
--- sets that say the same of each page name the same pages
+-- sets that agree on each page name the same pages
 pub pages_alike : (S T : ReferenceSet) → ((p : PageId) → hist S p ≡ hist T p) → pages S ≡ pages T
 pages_alike S T alike = of_list.pages_alike (references S) (references T) alike
 
@@ -69,7 +69,7 @@ pages_alike S T alike = of_list.pages_alike (references S) (references T) alike
 pub some_named : (S : ReferenceSet) (p : PageId) → Has (map (λ r. r.page) (references S)) p → is_some (hist S p) ≡ true
 some_named S p has = of_list.some_named (references S) p has
 
--- sets of one horizon that say the same of each page have one history
+-- sets of one horizon that agree on each page have one history
 pub same_hists : (S T : ReferenceSet) → S.horizon ≡ T.horizon → ((p : PageId) → hist S p ≡ hist T p) → history S ≡ history T
 same_hists S T horizons alike =
     let entries : list.history (references S) ≡ list.history (references T) = of_list.same_hists (references S) (references T) alike in

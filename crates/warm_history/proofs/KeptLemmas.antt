@@ -134,7 +134,7 @@ hist-kept m S p =
     ∙ ap first_two (distinct-filter falls order (is_kept m) (told S p))
     ∙ first_two_kept m (stamps S p) (distinct_rises falls order (told S p))
 
--- lists that say the same of each page keep the same
+-- lists that agree on each page keep the same
 pub kept_alike : (m : ℕ) (S T : List Reference) → ((p : PageId) → hist S p ≡ hist T p) → (p : PageId) → hist (recent m S) p ≡ hist (recent m T) p
 kept_alike m S T alike p = hist-kept m S p ∙ ap (option_and_then (kept_hist m)) (alike p) ∙ sym (hist-kept m T p)
 

@@ -47,7 +47,7 @@ all_said S = all_of_has (λ p. is_some (hist S p) ≡ true) (pages S) (λ p has.
 
 -- ---- the references to chosen pages
 
--- whether the page is one of the pages, as the definition asks it
+-- whether the pages contain the page, as the definition tests it
 any-named : (ps : List PageId) (p : PageId) → list_any (λ q. is_eq (page_cmp q p)) ps ≡ named ps p
 any-named [] p = refl
 any-named (q ∷ qs) p = rw (any-named qs p) (elim (is_eq (page_cmp q p)) as (λ b. (b || named qs p) ≡ cond b true (named qs p)) [ true ↦ refl | false ↦ refl ])

@@ -27,7 +27,7 @@ abbrev pub get : List Entry → PageId → Option PageHist
 get [] p = None
 get (e ∷ h) p = cond (is_eq (page_cmp e.page p)) (Some e.hist) (get h p)
 
--- whether the page p is one of the pages
+-- whether the pages contain the page p
 abbrev pub named : List PageId → PageId → Bool
 named [] p = false
 named (q ∷ qs) p = cond (is_eq (page_cmp q p)) true (named qs p)
@@ -145,7 +145,7 @@ IsHistory-history S = record {
   stamps_fall = falling_entries (hist S) (λ p. falling_first_two (stamps S p) (distinct_rises (flip_args stamp_cmp) (IsStrictOrder-flip stamp_cmp stamp_order) (told S p))) (pages S);
 }
 
--- ---- two histories that say the same of each page are equal
+-- ---- two histories that agree on each page are equal
 
 abbrev pub AllAbove : PageId → List Entry → Type 0
 AllAbove p h = AllByRecursion (λ e. page_cmp p e.page ≡ Less) h
@@ -161,7 +161,7 @@ above_less p q (e ∷ h) less above = (page_order.total.trans p q e.page less ab
 pub get_first : (e : Entry) (h : List Entry) (p : PageId) → e.page ≡ p → get (e ∷ h) p ≡ Some e.hist
 get_first e h p here = let own : is_eq (page_cmp e.page p) ≡ true = ap (λ q. is_eq (page_cmp e.page q)) (sym here) ∙ ap is_eq (tied_itself page_order.total e.page) in rw own refl
 
--- without the first entry, the later ones say the same of each page
+-- without the first entry, the later ones agree on each page
 get_later : (d e : Entry) (h g : List Entry) → d.page ≡ e.page → AllAbove d.page h → AllAbove e.page g → ((p : PageId) → get (d ∷ h) p ≡ get (e ∷ g) p) → (p : PageId) → get h p ≡ get g p
 get_later d e h g same above_d above_e alike p = cases (is_eq (page_cmp d.page p)) refl
   where
@@ -188,7 +188,7 @@ same_gets (d ∷ h) (e ∷ g) rise_h rise_g alike = by_cases (page_cmp d.page e.
     cc)
     (λ more. let less : page_cmp e.page d.page ≡ Less = flipped page_cmp page_order d.page e.page Greater more in let no : None ≡ Some e.hist = sym (get_above e.page (d ∷ h) (less, above_less e.page d.page h less rise_h.0)) ∙ alike e.page ∙ get_first e g e.page refl in absurd (cc))
 
--- lists that say the same of each page have one history
+-- lists that agree on each page have one history
 pub same_hists : (S T : List Reference) → ((p : PageId) → hist S p ≡ hist T p) → history S ≡ history T
 same_hists S T alike =
     let whole_S = IsHistory-history S in
@@ -309,7 +309,7 @@ named-some (r ∷ S) p = elim (is_eq (page_cmp r.page p)) as (λ b. cond b true 
   | false ↦ named-some S p
 ]
 
--- lists that say the same of each page name the same pages
+-- lists that agree on each page name the same pages
 pub pages_alike : (S T : List Reference) → ((p : PageId) → hist S p ≡ hist T p) → pages S ≡ pages T
 pages_alike S T alike = distinct_same page_cmp page_order _ _ (within S T alike) (within T S (λ p. sym (alike p)))
   where

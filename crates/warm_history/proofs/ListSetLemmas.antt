@@ -37,7 +37,7 @@ told_has (r ∷ S) p s is_in = elim is_in [
     cases rest true here = rw here (inr rest)
     cases rest false other = rw other rest
 
--- lists of the same references say the same of each page
+-- lists of the same references agree on each page
 pub hist_of_set : (S T : List Reference) → ((r : Reference) → IsIn r S → IsIn r T) → ((r : Reference) → IsIn r T → IsIn r S) → (p : PageId) → hist S p ≡ hist T p
 hist_of_set S T there back p = ap first_two (distinct_same (flip_args stamp_cmp) (IsStrictOrder-flip stamp_cmp stamp_order) (told S p) (told T p)
     (λ s has. told_has T p s (there (record { page = p; stamp = s }) (told_is_in S p s has)))

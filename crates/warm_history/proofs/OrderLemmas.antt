@@ -1,4 +1,4 @@
--- Entries put into page order: what they say of each page stays as it was.
+-- Entries put into page order: what they hold of each page is unchanged.
 use Rattle.std.proofs.Common.{◌≡◌, Bool, true, false, cond, List, [], ◌∷◌, filter, subst, sym, ap, refl, ◌∙◌, Some, None, arith}
 use Rattle.std.specs.List.{AllByRecursion}
 use Rattle.std.specs.Ordering.{is_eq}
@@ -15,14 +15,14 @@ use Rattle.warm_history.specs.ListHistories.{IsFalling, PagesRise, IsHistory}
 use Rattle.warm_history.specs.Tree.{put_in, in_page_order}
 use Rattle.warm_history.proofs.ListHistoryLemmas.{get, either_way, AllAbove, above_less}
 
--- two pages of which each is the third are one
+-- two pages that both equal a third are equal
 pub both_same : (p q r : PageId) → is_eq (page_cmp p r) ≡ true → is_eq (page_cmp q r) ≡ true → page_cmp p q ≡ Equal
 both_same p q r first second =
     let here : p ≡ r = page_order.same p r (is_equal (page_cmp p r) first) in
     let there : q ≡ r = page_order.same q r (is_equal (page_cmp q r) second) in
     ap (page_cmp p) (there ∙ sym here) ∙ tied_itself page_order.total p
 
--- what is said of a page by two entries in either order, where they aren't of one page
+-- what two entries, in either order, hold of a page, where they aren't of one page
 pub either_first : {A : Type 0} (a b : Bool) (x y z : A) → (a ≡ true → b ≡ true → x ≡ y) → cond a x (cond b y z) ≡ cond b y (cond a x z)
 either_first true true x y z same = same refl refl
 either_first true false x y z same = refl

@@ -42,7 +42,7 @@ latest_of_first xs ys =
 pub latest_of_swap : (xs ys : List Stamp) → latest_of (xs ++ ys) ≡ latest_of (ys ++ xs)
 latest_of_swap xs ys = ap first_two (distinct_swap (flip_args stamp_cmp) (IsStrictOrder-flip stamp_cmp stamp_order) xs ys)
 
--- what is known of each page once an entry came too
+-- what is known of each page after an entry was added
 pub hist_entry : (S : List Reference) (e : Entry) (q : PageId) → hist (S ++ entry_refs e) q ≡ cond (is_eq (page_cmp e.page q)) (latest_of (stamps_held e.hist ++ held (hist S e.page))) (hist S q)
 hist_entry S e q = ap latest_of (told-append S (entry_refs e) q ∙ ap (λ t. told S q ++ t) (told_entry e.page e.hist q)) ∙ cases (is_eq (page_cmp e.page q)) refl
   where

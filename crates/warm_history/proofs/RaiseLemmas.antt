@@ -81,6 +81,6 @@ joined_to a b m k es mid new rs later latest is cut =
     ∙ ap (λ j. list.history (recent j (list.refs es ++ rs))) same)
     ∙ sym (history-is (refs (holding_since a es) ∪ record { horizon = b; told = rs }))
 
--- a history that is one of references has nothing older than its horizon
+-- the history of a set of references has nothing older than its horizon
 pub none_of : (m : ℕ) (es : List Entry) (S : ReferenceSet) → holding_since m es ≡ history S → NoneOlder m es
 none_of m es S is = let whole : IsHistory (holding_since m es) = subst IsHistory (sym is) (IsHistory-history S) in whole.none_older

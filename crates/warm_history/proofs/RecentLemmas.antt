@@ -12,7 +12,7 @@ use Rattle.warm_history.proofs.KeptLemmas.{recent_entry, kept-append, kept_alike
 use Rattle.warm_history.proofs.ListJoinLemmas.{history_alike, history_of_own_references}
 use Rattle.warm_history.proofs.TreeLemmas.{IsHistory-kept, hist-pairs}
 
--- what is told at a place, as far as it isn't older than the horizon, is told by the stamps that aren't
+-- the references at a place that aren't older than the horizon are those of the stamps that aren't
 told_recent : (m p : ℕ) (more : PageHist) (ss : List Stamp) → ss ≡ filter (is_kept m) (stamps_held more) → recent m (told_at p more) ≡ map (λ s. record { page = page_at p; stamp = s }) ss
 told_recent m p more ss is = recent_entry m (page_at p) (stamps_held more) ∙ ap (map (λ s. record { page = page_at p; stamp = s })) (sym is)
 

@@ -16,7 +16,7 @@ pub put_over : (old new : Pairs) (p : ℕ) (more first before after : PageHist) 
 put_over old new p more first before after latest known is differs =
     (after, latest ∙ ap (λ k. latest_of (stamps_held more ++ held k)) known, is ∙ set_inserted p first after old, (refl, known, λ same. differs (cc)))
 
--- it is put back as it was
+-- the old value is restored
 pub put_back_over : (old new : Pairs) (p : ℕ) (more first before after : PageHist) → PlacesRise old → Some after ≡ latest_of (stamps_held more ++ stamps_held before) → Some before ≡ found p old → new ≡ set_value (is_at (nat_cmp p)) (insert_entry nat_cmp old p first) after → before ≡ after
     → Records old p more None new
 put_back_over old new p more first before after rise latest known is same =

@@ -7,7 +7,7 @@ use Rattle.warm_history.specs.References.{HoldSame, HistoryOfSet}
 use Rattle.warm_history.proofs.HistoryLemmas.{entries-history}
 use Rattle.warm_history.proofs.ListSetLemmas as of_list
 
--- sets of the same references say the same of each page
+-- sets of the same references agree on each page
 pub hist_of_set : (S T : ReferenceSet) → HoldSame S T → (p : PageId) → hist S p ≡ hist T p
 hist_of_set S T same p = of_list.hist_of_set (references S) (references T) same.there same.back p
 

@@ -51,7 +51,7 @@ none_in_bucket m bucket (e ∷ es) all = elim (page_bucket e.page == bucket) as 
   | false ↦ none_in_bucket m bucket es all.1
 ]
 
--- an entry with an older stamp stands in the way
+-- an entry with an older stamp is a counterexample
 pub one_of_all : (m : ℕ) (before after all : List Entry) (e : Entry) → before ++ e ∷ after ≡ all → NoneOlder m all → IsKept m e.hist
 one_of_all m before after all e is none = one before (subst (NoneOlder m) (sym is) none)
   where
@@ -59,7 +59,7 @@ one_of_all m before after all e is none = one before (subst (NoneOlder m) (sym i
     one [] none = none.0
     one (x ∷ before) none = one before none.1
 
--- at a horizon that is not past the own one nothing is lost
+-- at a horizon that is not greater than the history's own nothing is lost
 pub keeps_all : (h : HistoryView) (time bucket : ℕ) → IsHistory h → time ≤ h.horizon → KeepsIn time bucket h
 keeps_all h time bucket whole le =
     let own : max h.horizon time ≡ h.horizon = omega arith in

@@ -1,4 +1,4 @@
--- What is put back after a change gives the pairs from before.
+-- Undoing a change gives the old pairs.
 use Rattle.std.proofs.Common.{◌≡◌, ℕ, Bool, true, false, cond, List, [], ◌∷◌, ◌++◌, sym, ap, refl, ◌∙◌, subst, Option, Some, None, append_assoc, add-one, drop-cons, drop, length, get_or, suc, filter, ◌+◌, ◌<◌, ◌≤◌}
 use Rattle.std.specs.List.{AllByRecursion}
 use Rattle.std.specs.List.Sorted.{IsPermutation}
@@ -350,7 +350,7 @@ module _ (bucket : ℕ) (test : PageId → Bool) (of_bucket : (p : PageId) → t
       cases true passed later = rw passed (chosen_above e.0 pairs all.0 (of_bucket (page_at e.0) passed) rising.0 all.1, later)
       cases false failed later = rw failed later
 
-  -- so they are in the map as they are in the history
+  -- so the map has them as the history does
   pub chosen_kept : (pairs : Pairs) → AreKept pairs → filter (λ x. test x.page) (as_entries pairs) ≡ filter (λ x. test x.page) (kept pairs)
   chosen_kept pairs are =
       same_gets (filter (λ (x : Entry). test x.page) (as_entries pairs)) (filter (λ (x : Entry). test x.page) (kept pairs))

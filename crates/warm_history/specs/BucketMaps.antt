@@ -1,4 +1,4 @@
--- A map from places that is kept as a map for each bucket.
+-- A map from places, stored as one map per bucket.
 use Rattle.std.specs.Prelude.{◌≡◌, ◌≢◌, ℕ, Bool, true, List, [], ◌∷◌, ◌++◌, ◌+◌, ◌≤◌, ◌<◌, length, ⊤, zero, suc, map, filter, Option, Some, None}
 use Rattle.std.specs.List.{AllByRecursion}
 use Rattle.std.specs.Map.{lookup}
@@ -12,35 +12,35 @@ use Rattle.warm_history.specs.ListHistories.{latest_of, stamps_held, held}
 use Rattle.warm_history.specs.Places.{first_place}
 use Rattle.warm_history.specs.Tree.{Pairs}
 
--- what the maps hold together, one after another
+-- the pairs of all maps, one map after another
 abbrev pub joined : List Pairs → Pairs
 joined [] = []
 joined (m ∷ ms) = m ++ joined ms
 
--- what each map holds
+-- the pairs of each map
 abbrev pub pairs_of : List (BTreeMap ℕ PageHist) → List Pairs
 pairs_of ms = map (λ m. m.entries) ms
 
--- the place is one of the bucket of this number
+-- the place lies in the bucket of this number
 abbrev pub LiesIn : ℕ → ℕ → Type 0
 LiesIn bucket place = (first_place bucket ≤ place) × (place < first_place (bucket + 1))
 
--- each map has places of its own bucket alone, the first map those of the bucket of this number
+-- each map has only places of its own bucket; the first map is that of the bucket of this number
 abbrev pub AreBuckets : ℕ → List Pairs → Type 0
 AreBuckets bucket [] = ⊤
 AreBuckets bucket (m ∷ ms) = AllByRecursion (λ e. LiesIn bucket e.0) m × AreBuckets (bucket + 1) ms
 
--- each map has fewer pairs than a count of all 64 can bear
+-- each map has so few pairs that the count of all 64 maps does not overflow
 abbrev pub AreSmall : List Pairs → Type 0
 AreSmall ms = AllByRecursion (λ m. length m < MOST) ms
 
--- the map of number i, or none at all
+-- the map of number i, or no pairs where there is none
 abbrev pub map_at : List Pairs → ℕ → Pairs
 map_at [] i = []
 map_at (m ∷ ms) zero = m
 map_at (m ∷ ms) (suc i) = map_at ms i
 
--- the maps with another in the place of that of number i
+-- the maps, with the map of number i replaced
 abbrev pub with_map : List Pairs → ℕ → Pairs → List Pairs
 with_map [] i n = []
 with_map (m ∷ ms) zero n = n ∷ ms
@@ -50,12 +50,12 @@ with_map (m ∷ ms) (suc i) n = m ∷ with_map ms i n
 abbrev pub PassesIn : ℕ → (ℕ → Bool) → Type 0
 PassesIn bucket test = (place : ℕ) → test place ≡ true → LiesIn bucket place
 
--- the map has what the pairs have at places of this bucket: a test that no other place passes chooses
--- the same of both
+-- the map has what the pairs have at places of this bucket: a test that only such places pass
+-- selects the same pairs of both
 abbrev pub HoldsBucket : ℕ → Pairs → Pairs → Type 0
 HoldsBucket bucket m pairs = (test : ℕ → Bool) → PassesIn bucket test → filter (λ e. test e.0) m ≡ filter (λ e. test e.0) pairs
 
--- what is left where these pairs are left of one map, and these maps are to follow
+-- the pairs left to visit: these of the current map, then those of the maps that follow
 abbrev pub pairs_left : Pairs → List (BTreeMap ℕ PageHist) → Pairs
 pairs_left here rest = here ++ joined (pairs_of rest)
 
@@ -63,11 +63,12 @@ pairs_left here rest = here ++ joined (pairs_of rest)
 abbrev pub PlacesRise : Pairs → Type 0
 PlacesRise pairs = IsRising (on (λ e. e.0) nat_cmp) pairs
 
--- what the pairs have at the place
+-- the value that the pairs have at the place
 abbrev pub found : ℕ → Pairs → Option PageHist
 found place pairs = lookup (is_at (nat_cmp place)) pairs
 
--- the note says what the pairs had at the place, where they have h now, which is something else; without one, they are as they were
+-- the note gives the pairs' old value at the place, where h is the new one and differs; without a
+-- note the pairs are unchanged
 abbrev pub IsNote : Option Known → ℕ → PageHist → Pairs → Pairs → Type 0
 IsNote None place h old new = new ≡ old
 IsNote (Some k) place h old new = (k.place ≡ place) × (k.hist ≡ found place old) × (k.hist ≢ Some h)
@@ -76,7 +77,7 @@ IsNote (Some k) place h old new = (k.place ≡ place) × (k.hist ≡ found place
 abbrev pub Records : Pairs → ℕ → PageHist → Option Known → Pairs → Type 0
 Records old place more note new = (h : PageHist) × (Some h ≡ latest_of (stamps_held more ++ held (found place old))) × (new ≡ insert_entry nat_cmp old place h) × IsNote note place h old new
 
--- what is found at the place is something else now, if there is a note; without one, the pairs are as they were
+-- the value at the place has changed, if there is a note; without a note the pairs are unchanged
 abbrev pub TellsNote : Option Known → ℕ → Pairs → Pairs → Type 0
 TellsNote None place old new = new ≡ old
 TellsNote (Some k) place old new = found place new ≢ found place old

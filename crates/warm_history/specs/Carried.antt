@@ -1,4 +1,4 @@
--- What a replica sends of a bucket at a time.
+-- What a replica sends of a bucket in one frame.
 use Rattle.std.specs.Prelude.{◌≡◌, ℕ, ◌==◌, ◌&&◌, Bool, true, List, filter, take, Option, Some, None}
 use Rattle.std.specs.List.{list_any}
 use Rattle.std.specs.Ordering.{is_eq, is_lt}
@@ -9,16 +9,16 @@ use Rattle.warm_history.specs.ReferenceSets.{ReferenceSet, those}
 use Rattle.warm_history.specs.declared.hist.Entry.{Entry}
 use Rattle.warm_history.specs.Histories.{HistoryView, entries_of, history, pages, StandsFor}
 
--- the page p is greater than the one given, if one is
+-- the page p is greater than the given one, if one is given
 abbrev pub comes_after : Option PageId → PageId → Bool
 comes_after None p = true
 comes_after (Some last) p = is_lt (page_cmp last p)
 
--- the page is in the bucket, and after the one given
+-- the page is in the bucket, and after the given one
 abbrev pub is_chosen : ℕ → Option PageId → PageId → Bool
 is_chosen bucket after p = (page_bucket p == bucket) && comes_after after p
 
--- the first pages of S, at most limit, of those in the bucket that come after the one given
+-- the first pages of S, at most limit, of those in the bucket that come after the given one
 abbrev pub pages_carried : ReferenceSet → ℕ → Option PageId → ℕ → List PageId
 pages_carried S bucket after limit = take limit (filter (is_chosen bucket after) (pages S))
 
@@ -26,10 +26,10 @@ pages_carried S bucket after limit = take limit (filter (is_chosen bucket after)
 abbrev pub carried : ReferenceSet → ℕ → Option PageId → ℕ → ReferenceSet
 carried S bucket after limit = those (λ r. list_any (λ p. is_eq (page_cmp p r.page)) (pages_carried S bucket after limit)) S
 
--- these are the entries of what is carried, whichever references the history stands for
+-- these are the entries of the carried references, whichever references the history stands for
 abbrev pub AreCarried : HistoryView → ℕ → Option PageId → ℕ → List Entry → Type 0
 AreCarried h bucket after limit es = (S : ReferenceSet) → StandsFor h S → es ≡ entries_of (history (carried S bucket after limit))
 
--- the entries of a bucket, in the order in which they are given
+-- the entries of a bucket, in the order of the list
 abbrev pub bucket_entries : ℕ → List Entry → List Entry
 bucket_entries bucket = filter (λ e. page_bucket e.page == bucket)

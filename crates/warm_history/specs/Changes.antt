@@ -10,11 +10,11 @@ use Rattle.warm_history.specs.Carried.{bucket_entries}
 abbrev pub ChangesIn : ℕ → List Entry → List Entry → Type 0
 ChangesIn bucket old new = bucket_entries bucket new ≢ bucket_entries bucket old
 
--- it has the same
+-- the new list has the same entries of the bucket
 abbrev pub StaysIn : ℕ → List Entry → List Entry → Type 0
 StaysIn bucket old new = bucket_entries bucket new ≡ bucket_entries bucket old
 
--- the bit of a bucket tells which
+-- the bit of a bucket says which of the two holds
 abbrev pub TellsChange : List Entry → List Entry → ℕ → ℕ → Type 0
 TellsChange old new bucket bit = (bit ≡ 1 → ChangesIn bucket old new) × (bit ≡ 0 → StaysIn bucket old new)
 

@@ -1,4 +1,4 @@
--- What is left of pairs at a horizon.
+-- Pairs after cutting at a horizon.
 use Rattle.std.specs.Prelude.{ℕ, Option}
 use Rattle.std.specs.List.{filter_map}
 use Rattle.std.specs.Option.{option_map}
@@ -6,10 +6,10 @@ use Rattle.warm_history.specs.declared.hist.PageHist.{PageHist}
 use Rattle.warm_history.specs.KeptEntries.{kept_hist}
 use Rattle.warm_history.specs.Tree.{Pairs}
 
--- what is left of a pair, if anything
+-- the rest of a pair after the cut, if any
 abbrev pub pair_left : ℕ → ℕ × PageHist → Option (ℕ × PageHist)
 pair_left horizon e = option_map (λ h. (e.0, h)) (kept_hist horizon e.1)
 
--- what is left of pairs
+-- the pairs after the cut
 abbrev pub cut_at : ℕ → Pairs → Pairs
 cut_at horizon pairs = filter_map (pair_left horizon) pairs

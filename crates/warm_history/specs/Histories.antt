@@ -1,4 +1,4 @@
--- What a history says of kept references, read as a set of pages with stamps.
+-- The history of kept references, read as a set of pages with stamps.
 use Rattle.std.specs.Prelude.{◌≡◌, ℕ, List, map, filter, Option, true}
 use Rattle.std.specs.List.{AllByRecursion, filter_map}
 use Rattle.std.specs.Option.{option_map}
@@ -23,7 +23,7 @@ pub record HistoryView : Type 0 where
 abbrev pub entries_of : HistoryView → List Entry
 entries_of h = h.entries
 
--- the history of these entries, without a horizon
+-- the history of these entries, with horizon 0
 abbrev pub holding : List Entry → HistoryView
 holding es = record { horizon = 0; entries = es }
 
@@ -71,17 +71,18 @@ IsKept horizon h = AllByRecursion (λ s. is_kept horizon s ≡ true) (stamps_hel
 abbrev pub NoneOlder : ℕ → List Entry → Type 0
 NoneOlder horizon es = AllByRecursion (λ e. IsKept horizon e.hist) es
 
--- what is true of every history: its pages rise, the stamps of each page fall, and none is older than the horizon
+-- the invariant of histories: pages rise, the stamps of each page fall, and no stamp is older than
+-- the horizon
 pub record IsHistory (h : HistoryView) : Type 0 where
   pub pages_rise : PagesRise (entries_of h)
   pub stamps_fall : AllByRecursion (λ e. IsFalling e.hist) (entries_of h)
   pub none_older : NoneOlder h.horizon (entries_of h)
 
--- a history stands for kept references
+-- the history h stands for the kept references S
 abbrev pub StandsFor : HistoryView → ReferenceSet → Type 0
 StandsFor h S = h ≡ history S
 
--- new is old with these references taken in: it stands for all that old stands for together with them
+-- new is old with these references taken in: it stands for what old stands for, united with them
 abbrev pub TakesIn : HistoryView → ReferenceSet → HistoryView → Type 0
 TakesIn old rs new = (S : ReferenceSet) → StandsFor old S → StandsFor new (S ∪ rs)
 

@@ -1,4 +1,4 @@
--- What is left of entries at a horizon.
+-- Entries after cutting at a horizon.
 use Rattle.std.specs.Prelude.{ℕ, Bool, List, cond, Option, Some, None, map, filter}
 use Rattle.warm_history.specs.declared.hist.PageHist.{PageHist}
 use Rattle.warm_history.specs.declared.hist.PageHist.TheVariants.{Once, Twice}
@@ -10,7 +10,7 @@ abbrev pub is_recent : ℕ → PageHist → Bool
 is_recent horizon (Once last) = is_kept horizon last
 is_recent horizon (Twice two) = is_kept horizon two.last
 
--- without the stamp before the latest, where that is older than the horizon
+-- without the second latest stamp, where that is older than the horizon
 abbrev pub shortened : ℕ → PageHist → PageHist
 shortened horizon (Once last) = Once last
 shortened horizon (Twice two) = cond (is_kept horizon two.prev) (Twice two) (Once two.last)
@@ -18,10 +18,10 @@ shortened horizon (Twice two) = cond (is_kept horizon two.prev) (Twice two) (Onc
 abbrev pub shortened_entry : ℕ → Entry → Entry
 shortened_entry horizon e = record { page = e.page; hist = shortened horizon e.hist }
 
--- what a page's history keeps of its stamps, if anything
+-- the stamps of a page's history that are kept, if any
 abbrev pub kept_hist : ℕ → PageHist → Option PageHist
 kept_hist horizon h = cond (is_recent horizon h) (Some (shortened horizon h)) None
 
--- what is left of entries
+-- the entries after the cut
 abbrev pub kept_entries : ℕ → List Entry → List Entry
 kept_entries horizon es = map (shortened_entry horizon) (filter (λ e. is_recent horizon e.hist) es)

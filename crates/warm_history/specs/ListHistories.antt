@@ -1,4 +1,5 @@
--- What is kept of a list of references, all of them: the definitions of `Histories`, before any horizon.
+-- The history of a list of references, without a horizon: the definitions of `Histories` build on
+-- these.
 use Rattle.std.specs.Prelude.{◌≡◌, List, [], ◌∷◌, ◌++◌, map, filter, Option, Some, None}
 use Rattle.std.specs.List.{AllByRecursion, filter_map}
 use Rattle.std.specs.Option.{option_map}
@@ -21,7 +22,7 @@ references_to S p = filter (λ r. is_eq (page_cmp r.page p)) S
 abbrev pub stamps : List Reference → PageId → List Stamp
 stamps S p = distinct (flip_args stamp_cmp) (map (λ r. r.stamp) (references_to S p))
 
--- the first two of stamps that fall, or fewer where there are fewer
+-- the first two of falling stamps, or the only one
 abbrev pub first_two : List Stamp → Option PageHist
 first_two [] = None
 first_two (last ∷ []) = Some (Once last)
@@ -52,7 +53,7 @@ abbrev pub stamps_held : PageHist → List Stamp
 stamps_held (Once last) = last ∷ []
 stamps_held (Twice two) = two.last ∷ two.prev ∷ []
 
--- the stamps held of a page, if there are any
+-- the stamps held of a page, none where it has no history
 abbrev pub held : Option PageHist → List Stamp
 held None = []
 held (Some h) = stamps_held h
@@ -75,12 +76,12 @@ IsFalling (Twice two) = stamp_cmp two.prev two.last ≡ Less
 abbrev pub PagesRise : List Entry → Type 0
 PagesRise h = IsRising (on (λ e. e.page) page_cmp) h
 
--- what is true of the entries of every history: their pages rise, and the stamps of each page fall
+-- the invariant of a history's entries: pages rise, and the stamps of each page fall
 pub record IsHistory (h : List Entry) : Type 0 where
   pub pages_rise : PagesRise h
   pub stamps_fall : AllByRecursion (λ e. IsFalling e.hist) h
 
--- a history stands for a list of references
+-- the history h stands for the list of references S
 abbrev pub StandsFor : List Entry → List Reference → Type 0
 StandsFor h S = h ≡ history S
 

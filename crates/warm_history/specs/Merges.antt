@@ -10,7 +10,7 @@ use Rattle.warm_history.specs.declared.merges.Merged.{Merged}
 use Rattle.warm_history.specs.Carried.{is_chosen}
 use Rattle.warm_history.specs.Tree.{as_entries}
 
--- the entries of a bucket whose page is greater than the one given, if one is
+-- the entries of a bucket whose page is greater than the given one, if one is given
 abbrev pub later_of_bucket : ℕ → Option PageId → List Entry → List Entry
 later_of_bucket bucket after es = filter (λ e. is_chosen bucket after e.page) es
 
@@ -43,7 +43,8 @@ abbrev pub merge_at : Entry → List Entry → (List Entry → List Entry) → L
 merge_at x xs after [] = x ∷ xs
 merge_at x xs after (y ∷ ys) = cond (is_gt (page_cmp x.page y.page)) (y ∷ merge_at x xs after ys) (x ∷ after (y ∷ ys))
 
--- the entries of both lists: of the two first ones that of the second list comes only where its page is smaller
+-- the entries of both lists, merged: the first entry of the second list is taken only where its
+-- page is smaller
 abbrev pub merge : List Entry → List Entry → List Entry
 merge [] = λ ys. ys
 merge (x ∷ xs) = merge_at x xs (merge xs)
@@ -53,20 +54,20 @@ abbrev pub from_first : Option Entry → List Entry → List Entry
 from_first None later = []
 from_first (Some e) later = e ∷ later
 
--- what is left of a part
+-- the entries left in a part
 abbrev pub part_left : Part → List Entry
 part_left p = from_first p.first (as_entries p.later)
 
--- what is left of two together
+-- the entries left in two sources, merged
 abbrev pub both_left : {I : Type 0} → (I → List Entry) → List I → List Entry
 both_left left (one ∷ other ∷ []) = merge (left one) (left other)
 both_left left others = []
 
--- and of two that are merged
+-- the entries left in a merged pair of sources
 abbrev pub merged_left : {I : Type 0} → (I → List Entry) → Merged I → List Entry
 merged_left left m = from_first m.first (both_left left m.both)
 
--- what is left of 2, 4, 8, 16, 32 and all 64 parts
+-- the entries left in 2, 4, 8, 16, 32 and all 64 parts
 abbrev pub two_left : Merged Part → List Entry
 two_left = merged_left part_left
 

@@ -1,4 +1,4 @@
--- A history kept in maps from places.
+-- A history stored in maps from places.
 use Rattle.std.specs.Prelude.{◌≡◌, ℕ, List, [], ◌∷◌, ◌++◌, map}
 use Rattle.std.specs.List.{AllByRecursion}
 use Rattle.std.specs.Ordering.{match_ordering, nat_cmp, on}
@@ -11,15 +11,15 @@ use Rattle.warm_history.specs.ReferenceSets.{recent}
 use Rattle.warm_history.specs.ListHistories.{entry_refs, refs, history, IsFalling}
 use Rattle.warm_history.specs.Places.{page_at, IsPlace}
 
--- what such maps hold, by place
+-- the contents of such maps, by place
 abbrev pub Pairs : Type 0
 Pairs = List (ℕ × PageHist)
 
--- the entries that the pairs are
+-- the pairs as entries
 abbrev pub as_entries : Pairs → List Entry
 as_entries pairs = map (λ e. record { page = page_at e.0; hist = e.1 }) pairs
 
--- an entry among others that rise by page, in the place of one of its page, if there is one
+-- rising entries with one inserted; it replaces the entry of the same page, if there is one
 abbrev pub put_in : Entry → List Entry → List Entry
 put_in e [] = e ∷ []
 put_in e (x ∷ h) = match_ordering (page_cmp e.page x.page) (e ∷ x ∷ h) (e ∷ h) (x ∷ put_in e h)
@@ -29,11 +29,12 @@ abbrev pub in_page_order : List Entry → List Entry
 in_page_order [] = []
 in_page_order (e ∷ es) = put_in e (in_page_order es)
 
--- the entries that the pairs keep, in page order
+-- the entries of the pairs, in page order
 abbrev pub kept : Pairs → List Entry
 kept pairs = in_page_order (as_entries pairs)
 
--- what is true of the pairs of every history: they lie at rising places of pages, and stamps fall
+-- the invariant of the pairs of a history: they lie at rising valid places, and the stamps of each
+-- fall
 pub record AreKept (pairs : Pairs) : Type 0 where
   pub places_rise : IsRising (on (λ e. e.0) nat_cmp) pairs
   pub are_places : AllByRecursion (λ e. IsPlace e.0) pairs
@@ -43,16 +44,16 @@ pub record AreKept (pairs : Pairs) : Type 0 where
 abbrev pub told_at : ℕ → PageHist → List Reference
 told_at place h = entry_refs (record { page = page_at place; hist = h })
 
--- the pairs new keep what old keep, with these references taken in
+-- the pairs new hold the entries of old, with these references taken in
 abbrev pub PairsTakeIn : Pairs → List Reference → Pairs → Type 0
 PairsTakeIn old rs new = kept new ≡ history (refs (kept old) ++ rs)
 
--- the same, where what is taken in are the stamps of the page at a place
+-- the same, for the stamps of the page at a place
 abbrev pub TakesStamps : Pairs → ℕ → PageHist → Pairs → Type 0
 TakesStamps old place h new = PairsTakeIn old (told_at place h) new
 
--- the same, where it is what isn't older than the horizon of the stamps of the page at a place, of the
--- references of a list, of the entries of a list, or of what other pairs keep
+-- the same, for what isn't older than the horizon: of the stamps of the page at a place, of the
+-- references of a list, of the entries of a list, or of the entries of other pairs
 abbrev pub TakesRecent : ℕ → Pairs → ℕ → PageHist → Pairs → Type 0
 TakesRecent horizon old place h new = PairsTakeIn old (recent horizon (told_at place h)) new
 

@@ -1,4 +1,4 @@
--- What undoes changes of maps that keep a history.
+-- Undoing changes of the maps of a history.
 use Rattle.std.specs.Prelude.{◌≡◌, ℕ, List, [], ◌∷◌, Option, Some, None}
 use Rattle.std.specs.Map.{remove_entry, set_value}
 use Rattle.std.specs.BTreeMap.{is_at}
@@ -7,12 +7,12 @@ use Rattle.warm_history.specs.declared.hist.PageHist.{PageHist}
 use Rattle.warm_history.specs.declared.bucket_maps.Known.{Known}
 use Rattle.warm_history.specs.Tree.{Pairs}
 
--- the pairs with what was known at the place put back
+-- the pairs with the old value at the place restored
 abbrev pub put_back : ℕ → Option PageHist → Pairs → Pairs
 put_back place None pairs = remove_entry (is_at (nat_cmp place)) pairs
 put_back place (Some h) pairs = set_value (is_at (nat_cmp place)) pairs h
 
--- and so for a list of notes, the last one first
+-- the pairs with the old values of a list of notes restored, the last note first
 abbrev pub undone : List Known → Pairs → Pairs
 undone [] pairs = pairs
 undone (k ∷ ks) pairs = put_back k.place k.hist (undone ks pairs)
@@ -22,10 +22,11 @@ abbrev pub noted : Option Known → List Known
 noted None = []
 noted (Some k) = k ∷ []
 
--- undoing these notes leads from the pairs as they are now back to those before
+-- undoing these notes turns the current pairs into those before
 abbrev pub Undoes : List Known → Pairs → Pairs → Type 0
 Undoes notes now before = undone notes now ≡ before
 
--- undoing these notes from the pairs as they are now leads where undoing those of before led
+-- undoing these notes from the current pairs gives what undoing the earlier notes gave from the
+-- earlier pairs
 abbrev pub LeadsBack : List Known → Pairs → List Known → Pairs → Type 0
 LeadsBack notes now noted_before before = undone notes now ≡ undone noted_before before

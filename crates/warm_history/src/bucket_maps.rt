@@ -1,4 +1,4 @@
-//! A map from places, kept as a map for each bucket: a look-up goes down a small map.
+//! A map from places, stored as one map per bucket, so that each look-up searches a small map.
 ghost use Rattle.std.specs.Iterator.{YieldsFirst};
 ghost use Rattle.std.specs.Prelude.{◌≡◌, ◌≢◌, ◌+◌, ◌<◌, ◌≤◌, ◌^◌, [], length, map, OnOk, OnErr, IfOk, IfSome, IfNone, None, Some, ◌++◌};
 ghost use Rattle.warm_history.specs.ListHistories.{held, latest_of, stamps_held};
@@ -18,20 +18,21 @@ use std::collections::btree_map::Range;
 use std::marker::Model;
 use warm_stamps::BUCKETS;
 
-// How many maps there are.
+// The number of maps.
 const MAPS: usize = BUCKETS as usize;
 
-// No map has as many pairs as this, so that those of all maps can be counted. No memory holds that many.
+// Each map has fewer pairs than this, so that the count of all pairs does not overflow. No memory
+// holds as many.
 pub(crate) const MOST: usize = 288_230_376_151_711_744;
 
-// What was known of the page at a place before it changed.
+// The value at a place before it changed.
 #[derive(Debug, Clone, Copy)]
 pub(crate) struct Known {
     place: u128,
     pub(crate) hist: Option<PageHist>,
 }
 
-// What is known of places, in the order of their numbers: a map for each bucket.
+// The values at places, in the order of the places: one map per bucket.
 #[derive(Debug, Drop)]
 pub(crate) struct BucketMaps {
     maps: [BTreeMap<u128, PageHist>; MAPS],
@@ -52,7 +53,7 @@ impl Model for BucketMaps {
 }
 
 impl BucketMaps {
-    // Takes no memory.
+    // Allocation-free.
     pub(crate) fn new(alloc: Global) -> BucketMaps
         ensures { result ≡ [] }
     {
@@ -61,7 +62,7 @@ impl BucketMaps {
         }
     }
 
-    // How many places have something known.
+    // The number of places that have a value.
     pub(crate) fn len(&self) -> usize
         ensures { result ≡ length self.now }
     {
@@ -84,7 +85,7 @@ impl BucketMaps {
         &self.maps[number as usize]
     }
 
-    // All pairs, bucket by bucket. Takes no memory.
+    // All pairs, bucket by bucket. Allocation-free.
     pub(crate) fn each_pair(&self) -> EachPair<'_>
         ensures { result ≡ self.now }
     {
@@ -97,7 +98,7 @@ impl BucketMaps {
         }
     }
 
-    // What is known at a place.
+    // The value at a place.
     pub(crate) fn get(&self, place: u128) -> Option<PageHist>
         requires { IsPlace place }
         ensures { result ≡ found place self.now }
@@ -105,9 +106,11 @@ impl BucketMaps {
         self.maps[bucket_at(place)].get(&place).copied()
     }
 
-    // Takes in the stamps given for the page at a place, and returns what was known of it, where that changes.
+    // Takes in the given stamps of the page at a place, and returns its old value where that
+    // changes.
     //
-    // It takes the way that is sooner for a page that is new where this is likely, and else the one for a known page.
+    // Where the page is likely new it inserts first, and otherwise it looks the page up first: each
+    // is the faster way for its case.
     pub(crate) fn record(
         &mut self,
         place: u128,
@@ -125,7 +128,7 @@ impl BucketMaps {
         record_in(&mut self.maps[bucket_at(place)], place, more, likely_new)
     }
 
-    // Puts back what was known of a page. Takes no memory.
+    // Restores the old value of a page. Allocation-free.
     pub(crate) fn put_back(&mut self, known: Known)
         ensures { self.new ≡ put_back known.place known.hist self.old }
     {
@@ -135,7 +138,7 @@ impl BucketMaps {
         }
     }
 
-    // Forgets the stamps older than the horizon. Takes no memory.
+    // Forgets the stamps older than the horizon. Allocation-free.
     pub(crate) fn forget(&mut self, horizon: u64)
         ensures { self.new ≡ cut_at horizon self.old }
     {
@@ -143,7 +146,7 @@ impl BucketMaps {
     }
 }
 
-// Goes over all pairs: those left of the map at hand, then those of the other maps.
+// Iterates over all pairs: those left of the current map, then those of the other maps.
 #[derive(Debug, Drop)]
 pub(crate) struct EachPair<'a> {
     here: Range<'a, u128, PageHist>,
@@ -173,7 +176,7 @@ impl<'a> Iterator for EachPair<'a> {
     }
 }
 
-// The first of the pairs that are left: maps with none are stepped over.
+// The first of the pairs that are left; empty maps are skipped.
 fn next_pair<'a>(
     here: &mut Range<'a, u128, PageHist>,
     rest: &mut &'a [BTreeMap<u128, PageHist>],
@@ -191,7 +194,7 @@ fn next_pair<'a>(
     }
 }
 
-// How many pairs the maps hold, where they can be counted.
+// The number of pairs in the maps, where the count does not overflow.
 fn count_all(maps: &[BTreeMap<u128, PageHist>]) -> usize
     requires { length (joined (pairs_of maps.now)) < 2 ^ 64 }
     ensures { result ≡ length (joined (pairs_of maps.now)) }
@@ -203,7 +206,7 @@ fn count_all(maps: &[BTreeMap<u128, PageHist>]) -> usize
     count
 }
 
-// Takes in the stamps given for the page at a place of the map's own bucket.
+// Takes in the given stamps of the page at a place of the map's own bucket.
 fn record_in(
     map: &mut BTreeMap<u128, PageHist>,
     place: u128,
@@ -221,7 +224,8 @@ fn record_in(
     record_likely_known(map, place, more)
 }
 
-// The same for a page that is likely new: it is put in at once, which costs one way down the map where it is new and two where it is known.
+// The same for a page that is likely new: it is inserted at once, which costs one descent of the
+// map where it is new and two where it is known.
 fn record_likely_new(
     map: &mut BTreeMap<u128, PageHist>,
     place: u128,
@@ -247,7 +251,8 @@ fn record_likely_new(
     Ok(Some(Known { place, hist }))
 }
 
-// The same for a page that is likely known: it is looked up first, which costs one way down the map where it is known and two where it is new.
+// The same for a page that is likely known: it is looked up first, which costs one descent of the
+// map where it is known and two where it is new.
 fn record_likely_known(
     map: &mut BTreeMap<u128, PageHist>,
     place: u128,
@@ -273,14 +278,14 @@ fn record_likely_known(
     Ok(Some(Known { place, hist: None }))
 }
 
-// The two latest of these stamps, of a page of which nothing else is known.
+// The two latest of these stamps, of a page that has no entry yet.
 fn alone(more: &PageHist) -> PageHist
     ensures { Some result ≡ latest_of (stamps_held more.now ++ held None) }
 {
     join_known(None, *more)
 }
 
-// Takes more into what is known of a page, and returns what was known before, where that changes.
+// Merges more stamps into the value of a page, and returns the old value where it changes.
 fn raise(known: &mut PageHist, more: PageHist) -> Option<PageHist>
     ensures now { Some known.new ≡ latest_of (stamps_held more ++ stamps_held known.old) }
     ensures before { IfSome result (λ h. h ≡ known.old) }

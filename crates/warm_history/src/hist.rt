@@ -10,7 +10,7 @@ use std::cmp::Ordering;
 use std::marker::Model;
 use warm_stamps::{PageId, Stamp};
 
-/// The two latest stamps of a page. `prev` is older than `last`: the type keeps it so.
+/// The two latest stamps of a page. `prev` is older than `last`: an invariant of the type.
 #[derive(Debug, Clone, Copy, PartialEq, Eq)]
 pub struct Two {
     last: Stamp,
@@ -33,7 +33,7 @@ impl Model for Two {
 }
 
 impl Two {
-    /// The latest stamp and the one before it, which has to be older.
+    /// The latest stamp and the second latest, which must be older.
     pub fn new(last: Stamp, prev: Stamp) -> Two
         requires { stamp_cmp prev last ≡ Ordering.Less }
         ensures { result ≡ record { last = last; prev = prev } }
@@ -48,7 +48,7 @@ impl Two {
         self.last
     }
 
-    /// The latest stamp but one.
+    /// The second latest stamp.
     pub fn prev(self) -> Stamp
         ensures value { result ≡ self.prev }
         ensures older { stamp_cmp result self.last ≡ Ordering.Less }
@@ -72,11 +72,11 @@ impl Two {
     }
 }
 
-/// What is kept of a page that was referenced: enough for LRU-2 (O'Neil, O'Neil, Weikum, SIGMOD
-/// 1993), which ranks pages by their latest reference but one.
+/// What is kept of a referenced page: enough for LRU-2 (O'Neil, O'Neil, Weikum, SIGMOD 1993), which
+/// ranks pages by their second latest reference.
 #[derive(Debug, Clone, Copy, PartialEq, Eq)]
 pub enum PageHist {
-    /// The page was referenced with one stamp alone, this one.
+    /// The page was referenced with only this stamp.
     Once(Stamp),
     /// The page was referenced with two stamps or more, of which these are the latest.
     Twice(Two),
@@ -114,7 +114,7 @@ impl PageHist {
         self.with(two.prev()).with(two.last())
     }
 
-    // What is left of these stamps, where those older than the horizon are forgotten.
+    // These stamps without those older than the horizon, if any is left.
     pub(crate) fn since(self, horizon: u64) -> Option<PageHist>
         ensures left { result ≡ kept_hist horizon self }
         ensures stamps { held result ≡ filter (is_kept horizon) (stamps_held self) }
@@ -130,7 +130,8 @@ impl PageHist {
         }
     }
 
-    // Whether none of these stamps is older than the horizon: the stamp before the latest is the older one.
+    // Whether none of these stamps is older than the horizon: the second latest stamp is the older
+    // one.
     pub(crate) fn is_since(self, horizon: u64) -> bool
         ensures { IsTrue result ↔ IsKept horizon self }
     {
@@ -141,8 +142,8 @@ impl PageHist {
     }
 }
 
-/// What is kept of a page of which two histories know: the two latest distinct stamps of both
-/// together. Takes no memory.
+/// The history of a page that two histories contain: the two latest distinct stamps of both
+/// together. Allocation-free.
 pub fn join_hist(a: PageHist, b: PageHist) -> PageHist
     ensures { Some result ≡ latest_of (stamps_held a ++ stamps_held b) }
 {
@@ -152,7 +153,7 @@ pub fn join_hist(a: PageHist, b: PageHist) -> PageHist
     }
 }
 
-// What is left of both stamps, where those older than the horizon are forgotten.
+// Both stamps without those older than the horizon, if any is left.
 fn since_both(two: Two, horizon: u64) -> Option<PageHist>
     ensures left { result ≡ kept_hist horizon (PageHist.Twice two) }
     ensures stamps { held result ≡ filter (is_kept horizon) (two.last ∷ two.prev ∷ []) }
@@ -179,7 +180,7 @@ pub(crate) fn keep_since(hist: &mut PageHist, horizon: u64) -> bool
     true
 }
 
-// The two latest stamps of what is known of a page, if anything is, and of more.
+// The two latest stamps of a page's known stamps, if there are any, and more.
 pub(crate) fn join_known(known: Option<PageHist>, more: PageHist) -> PageHist
     ensures { Some result ≡ latest_of (stamps_held more ++ held known) }
 {

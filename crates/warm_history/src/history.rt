@@ -1,4 +1,4 @@
-//! Histories, as maps from places: the entries of a bucket lie together.
+//! Histories, stored as maps from places: the entries of a bucket lie together.
 ghost use Rattle.std.specs.Prelude.{◌≡◌, ◌≤◌, [], false, length, max, OnOk, OnErr, IfOk, IsPermutation, IsTrue, slice_get, take};
 ghost use Rattle.warm_history.specs.ReferenceSets.{ReferenceSet, these, since, ◌∪◌};
 ghost use Rattle.warm_history.specs.Histories.{entries_of, holding, holding_since, hist, refs, history, join, StandsFor, TakesIn, IsHistory};
@@ -23,13 +23,13 @@ use warm_stamps::{Bucket, PageId, Reference};
 
 /// The two latest stamps of every page that was referenced.
 ///
-/// Contracts see a history as its horizon and the list of its entries, in rising page order. What it is
-/// worth is said over references: it *stands for* each set of references whose history it is. No stamp is
-/// older than the horizon.
+/// Contracts see a history as its horizon and the list of its entries, in rising page order. Its
+/// meaning is defined over references: it *stands for* each set of references whose history it is.
+/// No stamp is older than the horizon.
 ///
-/// The entries of a bucket lie together, so what is asked of a bucket costs that bucket alone.
+/// The entries of a bucket lie together, so an operation on a bucket costs only that bucket's size.
 ///
-/// Growing calls are all or nothing: where memory is refused, the history is as before.
+/// Calls that add are all or nothing: where an allocation fails, the history is unchanged.
 #[derive(Debug)]
 pub struct History {
     alloc: Global,
@@ -37,8 +37,8 @@ pub struct History {
     maps: BucketMaps,
 }
 
-// By hand, so that one who owns a history makes this one call at each way out: a derived drop is read field by
-// field, and here down to each of 64 maps.
+// Written by hand, so that the owner of a history makes this one call on each exit path: a derived
+// drop is checked field by field, here down to each of 64 maps.
 impl Drop for History {
     fn drop(mut self) {
         let Self {
@@ -62,7 +62,7 @@ impl Model for History {
 }
 
 impl History {
-    /// The history of no references. Takes no memory.
+    /// The history of no references. Allocation-free.
     pub fn new(alloc: Global) -> History
         ensures empty { result ≡ holding [] }
         ensures stands { StandsFor result (these []) }
@@ -74,7 +74,7 @@ impl History {
         }
     }
 
-    /// The time before which stamps are forgotten. Takes no memory.
+    /// The time before which stamps are forgotten. Allocation-free.
     pub fn horizon(&self) -> u64
         ensures value { result ≡ self.now.horizon }
         ensures stands { (S : ReferenceSet) → StandsFor self.now S → result ≡ S.horizon }
@@ -83,9 +83,9 @@ impl History {
         self.horizon
     }
 
-    /// Forgets all stamps before this time, unless the horizon is later already. Takes no memory.
+    /// Forgets all stamps before this time, unless the horizon is already later. Allocation-free.
     ///
-    /// Where the time is past the horizon, all entries are gone over once.
+    /// Where the time is later than the horizon, all entries are scanned once.
     pub fn raise(&mut self, time: u64)
         ensures raised { (S : ReferenceSet) → StandsFor self.old S
             → StandsFor self.new (since time S) }
@@ -94,7 +94,7 @@ impl History {
         self.horizon = raise(&mut self.maps, self.horizon, time);
     }
 
-    /// How many pages have an entry. Takes no memory.
+    /// The number of pages that have an entry. Allocation-free.
     pub fn len(&self) -> usize
         ensures count { result ≡ length (entries_of self.now) }
         ensures whole { IsHistory self.now }
@@ -102,19 +102,21 @@ impl History {
         self.maps.len()
     }
 
-    /// The entry of number `i` in page order, counted from 0, where there is one. Takes no memory.
+    /// The entry of index `i` in page order, counted from 0, where there is one. Allocation-free.
     ///
-    /// It goes over the `i` entries before it, as [`History::iter`] does: to go over all use that.
+    /// It steps over the `i` entries before it, as [`History::iter`] does: to visit all entries,
+    /// use that.
     pub fn at(&self, i: usize) -> Option<Entry>
         ensures { result ≡ slice_get (entries_of self.now) i }
     {
         self.iter().nth(i)
     }
 
-    /// The entries, in rising page order. Takes no memory.
+    /// The entries, in rising page order. Allocation-free.
     ///
-    /// To begin costs a look-up for each of the 64 buckets, and each entry then six compares of pages
-    /// and a step within its bucket: where the order doesn't matter, [`History::unordered`] is sooner.
+    /// Starting costs a look-up in each of the 64 buckets, and each entry then costs six page
+    /// compares and a step within its bucket: where the order doesn't matter,
+    /// [`History::unordered`] is faster.
     pub fn iter(&self) -> Entries<'_>
         ensures { result ≡ entries_of self.now }
     {
@@ -123,28 +125,32 @@ impl History {
         }
     }
 
-    /// The entries of a bucket, in rising page order. Takes no memory.
+    /// The entries of a bucket, in rising page order. Allocation-free.
     ///
-    /// To begin costs a look-up, and each entry a step: entries of other buckets cost nothing.
+    /// Starting costs a look-up, and each entry a step: entries of other buckets cost nothing.
     pub fn bucket(&self, bucket: Bucket) -> BucketEntries<'_>
         ensures { result ≡ bucket_entries bucket (entries_of self.now) }
     {
         self.later(bucket, None)
     }
 
-    /// What is left of the entries of a bucket at a horizon, in rising page order: the entries that [`History::bucket`] would give
-    /// of the history raised to it. At a horizon that is not greater than the own one these are all of them. Takes no memory.
+    /// The entries of a bucket after a cut at a horizon, in rising page order: the entries that
+    /// [`History::bucket`] would give of the history raised to it. At a horizon that is not greater
+    /// than the history's own, these are all entries of the bucket. Allocation-free.
     ///
-    /// To begin costs a look-up, and each entry of the bucket a step: what is older is skipped as it is read.
+    /// Starting costs a look-up, and each entry of the bucket a step: older stamps are skipped as
+    /// they are read.
     pub fn bucket_since(&self, bucket: Bucket, horizon: u64) -> EntriesSince<'_>
         ensures { result ≡ bucket_since horizon bucket self.now }
     {
         EntriesSince::new(self.bucket(bucket), later(self.horizon, horizon))
     }
 
-    /// Whether a bucket would have other entries at a horizon: one of them has a stamp that is older. Takes no memory.
+    /// Whether the entries of a bucket would change at a horizon: one of them has an older stamp.
+    /// Allocation-free.
     ///
-    /// It costs nothing where the horizon is not greater than the own one, and else reads the bucket up to its first older stamp.
+    /// It costs nothing where the horizon is not greater than the history's own; otherwise it reads
+    /// the bucket up to its first older stamp.
     pub fn loses(&self, bucket: Bucket, horizon: u64) -> bool
         ensures loses { IsTrue result → LosesIn horizon bucket self.now }
         ensures keeps { result ≡ false → KeepsIn horizon bucket self.now }
@@ -155,7 +161,8 @@ impl History {
         !none_older(self.bucket(bucket), horizon)
     }
 
-    /// The buckets that would have other entries at a horizon, as a set: bit b, of value 2^b, is set for bucket b. Takes no memory.
+    /// The buckets whose entries would change at a horizon, as a set: bit b, of value 2^b, is set
+    /// for bucket b. Allocation-free.
     ///
     /// It costs what [`History::loses`] costs for each bucket.
     pub fn losing(&self, horizon: u64) -> u64
@@ -165,9 +172,9 @@ impl History {
         losing(self, horizon)
     }
 
-    /// The entries, in no order that is promised: sooner than [`History::iter`]. Takes no memory.
+    /// The entries, in unspecified order: faster than [`History::iter`]. Allocation-free.
     ///
-    /// Each of the 64 buckets costs a look-up on the way, and each entry a step.
+    /// Each of the 64 buckets costs a look-up, and each entry a step.
     pub fn unordered(&self) -> Unordered<'_>
         ensures { IsPermutation (entries_of self.now) result }
     {
@@ -176,19 +183,19 @@ impl History {
         }
     }
 
-    /// The two latest stamps of a page, where it was referenced. Takes no memory.
+    /// The two latest stamps of a page, where it was referenced. Allocation-free.
     pub fn get(&self, page: PageId) -> Option<PageHist>
         ensures { (S : ReferenceSet) → StandsFor self.now S → result ≡ hist S page }
     {
         known_of(&self.maps, page)
     }
 
-    /// Takes in references, in any order, of which any may be known already, and returns the set of the buckets whose entries changed:
-    /// bit b, of value 2^b, is set for bucket b.
+    /// Takes in references, in any order; any of them may be known already. Returns the set of the
+    /// buckets whose entries changed: bit b, of value 2^b, is set for bucket b.
     ///
-    /// Time grows with the batch, and with the logarithm of the number of pages. `AllocError` comes
-    /// only where memory for what was known of the batch's pages, or for a new page, was refused, and
-    /// changes nothing.
+    /// Time grows with the batch, and with the logarithm of the number of pages. `AllocError`
+    /// occurs only where the allocation of the undo list (the old values of the batch's pages) or
+    /// of a new page fails, and changes nothing.
     pub fn absorb(&mut self, batch: &[Reference]) -> Result<u64, AllocError>
         ensures ok { OnOk result (TakesIn self.old (these batch.now) self.new) }
         ensures exact { OnOk result (self.new ≡ history (refs self.old ∪ these batch.now)) }
@@ -200,11 +207,12 @@ impl History {
         Ok(changed)
     }
 
-    /// Takes in all that the other history holds, and returns the set of the buckets whose entries changed, as [`History::absorb`] does.
+    /// Takes in all entries of the other history, and returns the set of the buckets whose entries
+    /// changed, as [`History::absorb`] does.
     ///
-    /// The other is gone over once, and each of its pages is looked up here. `AllocError` comes only
-    /// where memory for what was known of these pages, or for a new page, was refused, and changes
-    /// nothing.
+    /// The other history is scanned once, and each of its pages is looked up in this one.
+    /// `AllocError` occurs only where the allocation of the undo list (the old values of these
+    /// pages) or of a new page fails, and changes nothing.
     pub fn join(&mut self, other: &History) -> Result<u64, AllocError>
         ensures ok { OnOk result (TakesIn self.old (refs other.now) self.new) }
         ensures exact { OnOk result (self.new ≡ join self.old other.now) }
@@ -218,11 +226,13 @@ impl History {
         Ok(changed | lost)
     }
 
-    /// Takes in all that these entries hold, which may come in any order and name a page often, and returns the set of the buckets whose
-    /// entries changed, as [`History::absorb`] does: also those that lost a stamp to the horizon.
+    /// Takes in these entries, which may be in any order and may repeat a page, and returns the set
+    /// of the buckets whose entries changed, as [`History::absorb`] does: buckets that lost a stamp
+    /// to the horizon are included.
     ///
-    /// The entries are gone over once, and each page is looked up here. `AllocError` comes only where
-    /// memory for what was known of these pages, or for a new page, was refused, and changes nothing.
+    /// The entries are scanned once, and each page is looked up in this history. `AllocError`
+    /// occurs only where the allocation of the undo list (the old values of these pages) or of a
+    /// new page fails, and changes nothing.
     pub fn join_entries(&mut self, horizon: u64, more: &[Entry]) -> Result<u64, AllocError>
         ensures ok { OnOk result
             (TakesIn self.old (refs (holding_since horizon more.now)) self.new) }
@@ -239,7 +249,7 @@ impl History {
         Ok(changed | lost)
     }
 
-    /// A second history, equal to this one. `AllocError` comes only where its memory was refused.
+    /// A second history, equal to this one. `AllocError` occurs only where its allocation fails.
     pub fn copy(&self) -> Result<History, AllocError>
         ensures { IfOk result (λ copied. copied ≡ self.now) }
     {
@@ -255,8 +265,8 @@ impl History {
     /// than `after`; of all in the bucket, where `after` is `None`. They are a history themselves: their
     /// pages rise, and the stamps of each page fall. The page `after` may be of any bucket.
     ///
-    /// It costs a look-up, and a step for each entry that is given: no other is read. `AllocError`
-    /// comes only where memory for them was refused.
+    /// It costs a look-up, and a step for each entry that is returned: no other entry is read.
+    /// `AllocError` occurs only where their allocation fails.
     pub fn entries(
         &self,
         bucket: Bucket,
@@ -270,7 +280,7 @@ impl History {
         first_entries(self.alloc, self.later(bucket, after), limit)
     }
 
-    // The entries of a bucket whose page is greater than the one given, where one is given.
+    // The entries of a bucket whose page is greater than the given one, where one is given.
     fn later(&self, bucket: Bucket, after: Option<PageId>) -> BucketEntries<'_>
         ensures { result ≡ later_of_bucket bucket after (entries_of self.now) }
     {
@@ -280,7 +290,7 @@ impl History {
     }
 }
 
-/// Goes over the entries of a history in rising page order: its buckets are merged.
+/// Iterates over the entries of a history in rising page order: its buckets are merged.
 ///
 /// Contracts see it as the list of the entries that are left.
 #[derive(Drop)]
@@ -288,7 +298,7 @@ pub struct Entries<'a> {
     left: AllParts<'a>,
 }
 
-// It shows the name alone: the parts of all buckets would say little to a reader.
+// It shows only the name: the parts of all buckets would say little to a reader.
 impl fmt::Debug for Entries<'_> {
     fn fmt<W: fmt::Write>(&self, f: &mut fmt::Formatter<W>) -> fmt::Result {
         f.write_str("Entries")
@@ -319,7 +329,7 @@ impl<'a> Iterator for Entries<'a> {
     }
 }
 
-/// Goes over the entries of a bucket in rising page order.
+/// Iterates over the entries of a bucket in rising page order.
 ///
 /// Contracts see it as the list of the entries that are left.
 #[derive(Debug, Drop)]
@@ -351,7 +361,7 @@ impl<'a> Iterator for BucketEntries<'a> {
     }
 }
 
-/// Goes over the entries of a history in no order that is promised.
+/// Iterates over the entries of a history in unspecified order.
 ///
 /// Contracts see it as the list of the entries that are left.
 #[derive(Debug, Drop)]

@@ -7,7 +7,7 @@
 //! their `history`.
 //!
 //! Histories of several replicas join to the history of all their references, whatever was lost,
-//! repeated or came out of order on the way: [`laws`] says so.
+//! repeated or reordered on the way: see [`laws`].
 #![tactic(auto)]
 
 mod bucket_maps;

@@ -6,7 +6,8 @@ ghost use Rattle.warm_history.specs.Losses.{MarksLosing, raised};
 use crate::history::History;
 use warm_stamps::{BUCKETS, Bucket};
 
-// The buckets that would have other entries at the horizon, as a set: bit b, of value 2^b, is set for bucket b.
+// The buckets whose entries would change at the horizon, as a set: bit b, of value 2^b, is set for
+// bucket b.
 pub(crate) fn losing(history: &History, horizon: u64) -> u64
     ensures lost { MarksLosing horizon history.now result }
     ensures none { result ≡ 0

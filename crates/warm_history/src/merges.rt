@@ -11,7 +11,7 @@ use crate::hist::{Entry, PageHist};
 use crate::parts::{later_pairs, next_entry};
 use std::collections::btree_map::Range;
 
-// Entries that come one by one, of which the first can be looked at.
+// A source of entries that are taken one by one, and whose first can be looked at.
 pub(crate) trait Source: Drop {
     ghost use Rattle.std.specs.Prelude.{List};
     ghost use Rattle.warm_history.specs.declared.hist.Entry.{Entry};
@@ -51,11 +51,11 @@ impl<'a> Source for Part<'a> {
     }
 }
 
-// The entries of both, in page order, where each of them gives its own in page order.
+// The entries of two sources, merged in page order, where each source gives its own in page order.
 #[derive(Drop)]
 pub(crate) struct Merged<I> {
     first: Option<Entry>,
-    // An array, since what is proved of a value's fields would double with each level of two.
+    // An array, since with two fields the proof obligations would double at each level.
     both: [I; 2],
 }
 
@@ -75,7 +75,7 @@ impl<I: Source> Source for Merged<I> {
     }
 }
 
-// Takes the first entry of one, or that of the other where its page is smaller.
+// Takes the first entry of the one source, or that of the other where its page is smaller.
 #[tactic(auto, using(crate::proofs::MergedParts::takes_other, crate::proofs::MergedParts::takes_one))]
 fn take_lesser<I: Source>(both: &mut [I; 2]) -> Option<Entry>
     ensures first { result ≡ first_of (both_left I.left both.old) }

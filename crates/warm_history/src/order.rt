@@ -1,11 +1,11 @@
-//! Whether entries stand in page order.
+//! Whether entries are in page order.
 ghost use Rattle.std.specs.Prelude.{◌↔◌, IsTrue};
 ghost use Rattle.warm_history.specs.Histories.{PagesRise};
 
 use crate::hist::Entry;
 use std::cmp::Ordering;
 
-/// Whether the pages of the entries rise, each above the one before it. Takes no memory.
+/// Whether the pages of the entries rise, each above the one before it. Allocation-free.
 pub fn pages_rise(entries: &[Entry]) -> bool
     ensures { IsTrue result ↔ PagesRise entries.now }
 {

@@ -1,4 +1,4 @@
-//! The entries of a bucket, which lie in a map of their own.
+//! The entries of a bucket, which are in a map of their own.
 ghost use Rattle.std.specs.Prelude.{◌≡◌, ◌<◌};
 ghost use Rattle.std.specs.Iterator.{YieldsFirst};
 ghost use Rattle.warm_stamps.specs.declared.TheConstants.{BUCKETS};
@@ -12,7 +12,7 @@ use std::collections::btree_map::Range;
 use std::ops::Bound;
 use warm_stamps::PageId;
 
-// The pairs of the bucket of this number whose page is greater than the one given, if one is.
+// The pairs of the bucket of this number whose page is greater than the given one, if one is given.
 pub(crate) fn later_pairs(
     maps: &BucketMaps,
     number: u8,

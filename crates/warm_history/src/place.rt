@@ -4,10 +4,10 @@ ghost use Rattle.warm_history.specs.Places.{first_place, bucket_at, place_in, pl
 
 use warm_stamps::{PageId, bucket_of};
 
-// How many places each bucket has: 2^80, one for each page.
+// The number of places of each bucket: 2^80, one for each page.
 pub(crate) const PLACES: u128 = 1_208_925_819_614_629_174_706_176;
 
-// The place where a bucket begins; at 64, where the last one ends.
+// The first place of a bucket; for number 64, the end of the last bucket.
 pub(crate) fn first_place(number: u8) -> u128
     ensures { result ≡ first_place number }
 {
@@ -37,7 +37,7 @@ pub(crate) fn place_of(page: PageId) -> u128
     place_in(bucket_of(page).get(), page)
 }
 
-// The page whose place it is.
+// The page of a place.
 pub(crate) fn page_at(place: u128) -> PageId
     ensures { result ≡ page_at place }
 {

@@ -1,4 +1,5 @@
-//! What is left of a bucket's entries at a horizon: what is older is skipped as it is read, and the history stays as it is.
+//! The entries of a bucket after a cut at a horizon: older stamps are skipped as they are read, and
+//! the history is unchanged.
 ghost use Rattle.std.specs.Prelude.{◌≡◌, ◌↔◌, IsTrue};
 ghost use Rattle.std.specs.Iterator.{YieldsFirst};
 ghost use Rattle.warm_history.specs.Histories.{NoneOlder};
@@ -8,10 +9,11 @@ use crate::hist::Entry;
 use crate::history::BucketEntries;
 use std::marker::Model;
 
-/// Goes over what a horizon leaves of the entries of a bucket, in rising page order: of each entry the stamps that are not
-/// older than the horizon, and no entry that has none of these.
+/// Iterates over the entries of a bucket after a cut at a horizon, in rising page order: each entry
+/// has only its stamps that are not older than the horizon, and entries without such a stamp are
+/// skipped.
 ///
-/// Contracts see it as the list of what is left of the entries ahead.
+/// Contracts see it as the list of the entries ahead, after the cut.
 #[derive(Debug, Drop)]
 pub struct EntriesSince<'a> {
     ahead: BucketEntries<'a>,
@@ -29,7 +31,7 @@ impl<'a> Model for EntriesSince<'a> {
 }
 
 impl<'a> EntriesSince<'a> {
-    // What the horizon leaves of these entries.
+    // These entries, cut at the horizon.
     pub(crate) fn new(entries: BucketEntries<'a>, horizon: u64) -> EntriesSince<'a>
         ensures { result ≡ kept_entries horizon entries.entry }
     {
@@ -54,7 +56,8 @@ impl<'a> Iterator for EntriesSince<'a> {
     }
 }
 
-// What is left of the first entry that has a stamp not older than the horizon: those before it are stepped over.
+// The first entry that has a stamp not older than the horizon, after the cut; those before it are
+// skipped.
 fn next_since(ahead: &mut BucketEntries<'_>, horizon: u64) -> Option<Entry>
     ensures { YieldsFirst (λ (ahead : _). kept_entries horizon ahead) ahead.old result ahead.new }
 {
@@ -69,7 +72,7 @@ fn next_since(ahead: &mut BucketEntries<'_>, horizon: u64) -> Option<Entry>
     }
 }
 
-// Whether no stamp of these entries is older than the horizon. It reads on to the first that is.
+// Whether no stamp of these entries is older than the horizon. It reads up to the first that is.
 pub(crate) fn none_older(entries: BucketEntries<'_>, horizon: u64) -> bool
     ensures { IsTrue result ↔ NoneOlder horizon entries.entry }
 {

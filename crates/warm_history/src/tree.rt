@@ -1,7 +1,8 @@
-//! A history in maps from places: how more is taken in, and taken back where memory is refused.
+//! A history in maps from places: how references are taken in, and rolled back where an allocation
+//! fails.
 //!
-//! What a change took away is noted. Where no memory is left the notes are put back, the last one
-//! first, which takes none.
+//! Each change notes the old value in an undo list. Where an allocation fails the notes are
+//! restored, the last one first, which is allocation-free.
 ghost use Rattle.std.specs.Prelude.{◌≡◌, IfOk, OnOk, OnErr, max};
 ghost use Rattle.warm_history.specs.Changes.{MarksChanged};
 ghost use Rattle.warm_history.specs.Places.{place_of, page_at, IsPlace};
@@ -25,16 +26,17 @@ use crate::place::{bucket_at, place_of};
 use std::alloc::{AllocError, Global};
 use warm_stamps::{PageId, Reference};
 
-// What became of the stamps that were taken in for a page.
+// The outcome of taking in the stamps of a page.
 #[derive(Debug, Clone, Copy)]
 struct Taken {
     // The set of the buckets that changed: bit b, of value 2^b, is set for bucket b.
     changed: u64,
-    // Whether the page was new. Pages often come in runs that are all new or all known, so the next one is likely to be what this one was.
+    // Whether the page was new. Pages often come in runs that are all new or all known, so the next
+    // page is likely to be as this one was.
     is_new: bool,
 }
 
-// What is known of a page.
+// The value of a page, if it has one.
 pub(crate) fn known_of(maps: &BucketMaps, page: PageId) -> Option<PageHist>
     ensures known { result ≡ found (place_of page) maps.now }
     ensures back { page_at (place_of page) ≡ page }
@@ -43,7 +45,7 @@ pub(crate) fn known_of(maps: &BucketMaps, page: PageId) -> Option<PageHist>
     maps.get(place)
 }
 
-// Takes in all references that are not older than the horizon or, where memory is refused, none.
+// Takes in all references that are not older than the horizon or, where an allocation fails, none.
 pub(crate) fn take_references(
     alloc: Global,
     maps: &mut BucketMaps,
@@ -66,7 +68,8 @@ pub(crate) fn take_references(
     }
 }
 
-// Takes in all stamps of entries, which may come in any order, that are not older than the horizon, or none.
+// Takes in all stamps of entries that are not older than the horizon or, where an allocation fails,
+// none. The entries may be in any order.
 pub(crate) fn take_entries(
     alloc: Global,
     maps: &mut BucketMaps,
@@ -89,7 +92,8 @@ pub(crate) fn take_entries(
     }
 }
 
-// Takes in all that another map has and that isn't older than the horizon, or nothing.
+// Takes in all stamps of another map that are not older than the horizon or, where an allocation
+// fails, none.
 pub(crate) fn take_pairs(
     alloc: Global,
     maps: &mut BucketMaps,
@@ -113,7 +117,7 @@ pub(crate) fn take_pairs(
     }
 }
 
-// Takes in the stamps given for the page at a place, and notes what was known of it.
+// Takes in the given stamps of the page at a place, and notes its old value.
 fn take(
     maps: &mut BucketMaps,
     undo: &mut Vec<Known>,
@@ -144,7 +148,7 @@ fn take(
     })
 }
 
-// Takes in the stamps given for the page at a place that are not older than the horizon.
+// Takes in those of the given stamps of the page at a place that are not older than the horizon.
 fn take_recent(
     maps: &mut BucketMaps,
     undo: &mut Vec<Known>,
@@ -241,7 +245,8 @@ fn take_each_pair(
     Ok(changed)
 }
 
-// Forgets what is older than a time that is past the horizon, and returns the horizon from then on.
+// Forgets what is older than a time, where that is later than the horizon, and returns the new
+// horizon.
 pub(crate) fn raise(maps: &mut BucketMaps, horizon: u64, time: u64) -> u64
     requires kept { AreKept maps.old }
     requires recent { NoneOlder horizon (kept maps.old) }
@@ -256,7 +261,7 @@ pub(crate) fn raise(maps: &mut BucketMaps, horizon: u64, time: u64) -> u64
     horizon
 }
 
-// Puts back what was known, the last change first.
+// Restores the old values, the last change first.
 fn put_all_back(maps: &mut BucketMaps, undo: &mut Vec<Known>)
     ensures { maps.new ≡ undone undo.old.items maps.old }
 {

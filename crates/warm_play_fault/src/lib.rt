@@ -10,12 +10,13 @@ ghost use Rattle.warm_play_fault.specs.Faults.{play_fault_code, play_fault_name}
 use std::alloc::AllocError;
 use thiserror::Error;
 
-/// Why a play did not reach its end. Nothing is said of what was written by then.
+/// Why a play did not reach its end. How much was written before it is unspecified.
 #[derive(Clone, Copy, Debug, PartialEq, Eq, Error)]
 pub enum PlayFault {
-    /// Memory for the read buffer, for the world or for a line was refused: 1. An allocation failure inside an event is no fault
-    /// of the play: it is printed, and the schedule goes on. A play by threads answers it for each of its allocation failures,
-    /// but for those that keep a thread from starting.
+    /// The allocation of the read buffer, of the world or of a line failed: 1. An allocation
+    /// failure inside an event is not a fault of the play: it is printed, and the schedule
+    /// continues. A play by threads returns it for each of its allocation failures, except those
+    /// that prevent a thread from starting.
     #[error("Memory")]
     Memory,
     /// The reader failed, or 2^40 reads did not reach the end of the input: 2.
@@ -24,15 +25,17 @@ pub enum PlayFault {
     /// The writer failed: 3.
     #[error("WriteFault")]
     WriteFault,
-    /// The line of this number, counted from 1, is not one that threads can play: 4. Only a play by threads answers it, and
-    /// nothing was written.
+    /// The line of this number, counted from 1, cannot be played by threads: 4. Only a play by
+    /// threads returns it, and nothing was written.
     #[error("BadLine")]
     BadLine(u64),
-    /// A thread could not be started, for want of memory or otherwise, or left a call behind; or a replica ended before all was sent to
-    /// it, and no replica has another fault: 5. Only a play by threads answers it. The threads that were started have run to their end.
+    /// A thread could not be started, for an allocation failure or another reason, or left a call
+    /// unfinished; or a replica ended before all was sent to it, and no replica has another fault:
+    /// 5. Only a play by threads returns it. The threads that were started have run to their end.
     #[error("NoThread")]
     NoThread,
-    /// The world refused the devices, for the number of their lists or the size of their pages: 6.
+    /// The world refused the devices, because of the number of their lists or the size of their
+    /// pages: 6.
     #[error("BadDevices")]
     BadDevices,
 }

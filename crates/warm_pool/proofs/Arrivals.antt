@@ -1,4 +1,4 @@
--- A page that was read comes into a frame whose page was written back.
+-- A page that was read is loaded into a frame whose page was written back.
 use Rattle.std.proofs.Common.{◌≡◌, ◌≢◌, ℕ, ◌+◌, ◌<◌, false, IsTrue, List, [], length, set, Some, None, Result, Ok, refl, sym, ◌∙◌, ap, subst}
 use Rattle.std.proofs.lemmas.Option.{same_Some}
 use Rattle.std.proofs.lemmas.List.{length-set, set-set, get_or-set_same}
@@ -48,7 +48,7 @@ fetched_in {p = p} i seen w there len device number nowhere call = record {
 pub spare_keeps : (s : PoolState) (n : ℕ) → n ≡ s.page_size → IsPool s → IsPool (record s { spare = n })
 spare_keeps s n e w = subst (λ m. IsPool (record s { spare = m })) (w.spare_size ∙ sym e) w
 
--- the frame after the page came into it
+-- the frame after the page was loaded into it
 abbrev pub arrival : List FrameState → ℕ → PageId → RankKey → ℕ → List ℕ → FrameState
 arrival frames i p key fixes bytes = record { page = Some p; key = Some key; generation = (nth_frame frames i).generation + 1; fixes = fixes; dirty = false; bytes = bytes }
 

@@ -55,7 +55,7 @@ module _ (frames : List ℕ) (f v : ℕ) where
         other_than at ne ∙ here;
   }
 
-  -- once a frame has left the chain, what came after it comes after the frames before it
+  -- after a frame has left the chain, the next one follows the frames before it
   pub passed_over : (b from to : ℕ) → f < length frames → v ≢ b → from ≤ f → ((y : ℕ) → from ≤ y → y < f → get_or frames y 0 ≢ b) → IsFirstFrom frames b (suc f) to → IsFirstFrom changed b from to
   passed_over b from to lt is low between first =
       let later : suc f ≤ to = first.low in
@@ -72,7 +72,7 @@ module _ (frames : List ℕ) (f v : ℕ) where
         there = λ under. other_than to (omega arith) ∙ first.there (subst (λ n. to < n) same_count under);
       }
 
-  -- a frame that comes into the chain is the first after the frames before it
+  -- a frame that is linked into the chain is the first after the frames before it
   pub comes_first : (b from : ℕ) → f < length frames → v ≡ b → from ≤ f → ((y : ℕ) → from ≤ y → y < f → get_or frames y 0 ≢ b) → IsFirstFrom changed b from f
   comes_first b from lt is low between = record {
     low = low;
@@ -81,7 +81,7 @@ module _ (frames : List ℕ) (f v : ℕ) where
     there = λ _. get_or-set_same frames f v 0 lt ∙ is;
   }
 
-  -- and what came after those comes after it
+  -- and what followed those follows it
   pub comes_before : (b from to : ℕ) → get_or frames f 0 ≢ b → f < length frames → ((y : ℕ) → from ≤ y → y < f → get_or frames y 0 ≢ b) → from ≤ f → IsFirstFrom frames b from to → IsFirstFrom changed b (suc f) to
   comes_before b from to was lt between low first =
       let after_f : f ≤ to = elim (cases_lt to f) [

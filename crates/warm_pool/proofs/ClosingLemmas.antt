@@ -13,7 +13,7 @@ clean_more which n [] lt = absurd (omega arith)
 clean_more which zero (f ∷ frames) lt = refl
 clean_more which (suc n) (f ∷ frames) lt = ap (λ rest. clean_if which f ∷ rest) (clean_more which n frames (omega arith))
 
--- what holds of a frame as it was, and of it clean, holds of it where it may have been cleaned
+-- what holds of the old frame, and of the clean one, holds of a frame that may have been cleaned
 pub clean_each : (P : FrameState → Type 0) (which : Option ℕ) (n : ℕ) (frames : List FrameState) (i : ℕ) → P (nth_frame frames i) → P (cleaned (nth_frame frames i)) → P (nth_frame (cleaned_chosen which n frames) i)
 clean_each P which zero frames i was is = was
 clean_each P which (suc n) [] i was is = was
@@ -24,14 +24,14 @@ clean_each P which (suc n) (f ∷ frames) (suc i) was is = clean_each P which n 
 pub nth_page : (which : Option ℕ) (n : ℕ) (frames : List FrameState) (i : ℕ) → (nth_frame (cleaned_chosen which n frames) i).page ≡ (nth_frame frames i).page
 nth_page which n frames i = clean_each (λ f. f.page ≡ (nth_frame frames i).page) which n frames i refl refl
 
--- those not yet reached are as they were
+-- those not yet reached are unchanged
 pub nth_rest : (which : Option ℕ) (n : ℕ) (frames : List FrameState) (i : ℕ) → n ≤ i → nth_frame (cleaned_chosen which n frames) i ≡ nth_frame frames i
 nth_rest which zero frames i le = refl
 nth_rest which (suc n) [] i le = refl
 nth_rest which (suc n) (f ∷ frames) zero le = absurd (omega arith)
 nth_rest which (suc n) (f ∷ frames) (suc i) le = nth_rest which n frames i (omega arith)
 
--- a frame that is not concerned is as it was
+-- a frame that is not selected is unchanged
 pub nth_other : (which : Option ℕ) (n : ℕ) (frames : List FrameState) (i : ℕ) → is_chosen which (nth_frame frames i).page ≡ false → nth_frame (cleaned_chosen which n frames) i ≡ nth_frame frames i
 nth_other which zero frames i not = refl
 nth_other which (suc n) [] i not = refl
@@ -59,7 +59,7 @@ down_more which n s t u lt first next = let one : suc n ≡ n + 1 = omega arith 
   same = (next.same.0 ∙ first.same.0, next.same.1 ∙ first.same.1);
 }
 
--- a frame that is concerned whose page was not written
+-- a selected frame whose page was not written
 pub one_stops : (which : Option ℕ) (n : ℕ) (s t u : PoolState) → n < length s.frames → PutsDown (cleaned_chosen which n s.frames) s t → view_of t ≡ view_of s → IsTrue (is_chosen which (nth_frame t.frames n).page) → CleanFails t n u → StopsAt which s u
 one_stops which n s t u lt down same chosen fails =
     let here : nth_frame t.frames n ≡ nth_frame s.frames n = ap (λ frames. nth_frame frames n) down.becomes ∙ nth_rest which n s.frames n (omega arith) in

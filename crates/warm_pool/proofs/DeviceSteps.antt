@@ -26,7 +26,7 @@ pub device_is : {B : Type 0} (shown : B → DeviceState) (bs : List B) (k : ℕ)
 device_is shown bs k b h e =
     get_or_read (map shown bs) k (shown b) (subst (λ n. k < n) (sym (length-map bs shown)) h) (ap shown e ∙ sym (mapped shown bs k b)) no_device
 
--- a slice of a whole `Vec` that was lent, when it comes back
+-- a slice of a whole `Vec` that was borrowed, when the borrow ends
 pub lent_whole : {A : Type 0} (n : ℕ) (new old : List A) → n ≡ length old → length new ≡ length old → take n (new ++ drop (length new) old) ≡ new
 lent_whole n new old e h = grind (arith, common_steps)
 
@@ -114,7 +114,7 @@ same_view s new k e is kept same =
     view_of_kept s new kept
     ∙ ap (λ (failures : List ℕ). let v : PoolView = record (view_of s) { failures = failures } in v) (failures_kept s.devices new k e is same)
 
--- a device of which a page was read is as it was, but for its failures
+-- a device of which a page was read is unchanged, except for its failures
 read_after : {old new : List DeviceState} {k n : ℕ} {bytes : List ℕ} {result : Result (Unit {0}) DeviceFault} (r : PageRead old new k n bytes result) (failures : ℕ)
     → r.after.failures ≡ failures → r.after ≡ record (nth_device old k) { failures = failures }
 read_after r failures is i = record {

@@ -1,4 +1,5 @@
--- Worked rows: what a caller sees of small pools, and where a page goes that comes in, computed.
+-- Worked examples, computed: what a caller sees of small pools, and the frame into which a page is
+-- loaded.
 use Rattle.std.proofs.Common.{◌≡◌, ◌≢◌, ◌<◌, ℕ, zero, suc, Bool, true, false, List, [], ◌∷◌, refl, sym, Some, None, inl, inr, arith}
 use Rattle.std.specs.List.{Contains}
 use Rattle.warm_stamps.specs.declared.PageId.{PageId}
@@ -29,7 +30,7 @@ device honest = record {
   unfailing = true;
 }
 
--- a frame into which one page was put, the page 0:n, which was written to since and has this many fixes
+-- a frame into which one page was loaded, the page 0:n, which is dirty and has this pin count
 abbrev holding : ℕ → ℕ → List ℕ → FrameState
 holding n fixes bytes = record { page = Some (page n); key = None; generation = 1; fixes = fixes; dirty = true; bytes = bytes }
 
@@ -37,7 +38,7 @@ holding n fixes bytes = record { page = Some (page n); key = None; generation = 
 abbrev two_frames : Bool → FrameState → FrameState → PoolState
 two_frames honest first second = record { page_size = 2; spare = 2; frames = first ∷ second ∷ []; devices = device honest ∷ [] }
 
--- 0:1 is fixed, and was filled with 7 and 8; 0:2 has no fix, and was filled with 9
+-- 0:1 is pinned, and was filled with 7 and 8; 0:2 is not pinned, and was filled with 9
 abbrev seen : Bool → PoolView
 seen honest = view_of (two_frames honest (holding 1 1 (7 ∷ 8 ∷ [])) (holding 2 0 (9 ∷ 9 ∷ [])))
 
@@ -65,9 +66,9 @@ no_page = refl
 one_byte : patched (0 ∷ 0 ∷ 0 ∷ 0 ∷ []) 2 (5 ∷ []) ≡ 0 ∷ 0 ∷ 5 ∷ 0 ∷ []
 one_byte = refl
 
--- ---- fixes and frames
+-- ---- pins and frames
 
--- a fixed page is no candidate, until it is unpinned
+-- a pinned page is no candidate, until it is unpinned
 fixed_stays : unfixed_pages (seen true) ≡ page 2 ∷ []
 fixed_stays = refl
 
@@ -82,7 +83,7 @@ generation_stays = refl
 first_is_clean : cleaned_to 1 (holding 1 0 [] ∷ holding 2 0 [] ∷ []) ≡ (let f : FrameState = record (holding 1 0 []) { dirty = false } in f) ∷ holding 2 0 [] ∷ []
 first_is_clean = refl
 
--- ---- where a page goes that comes in
+-- ---- the frame into which a page is loaded
 
 -- into the first frame without a page, also where another page could leave
 first_free_place : IsPlace (alone []) (view_of (two_frames true (holding 1 0 []) (fresh_frame []))) (Some 1)
@@ -98,11 +99,11 @@ both_held honest m n a b zero lt is = let no : Some (page 1) ≡ None = is in ab
 both_held honest m n a b (suc zero) lt is = let no : Some (page 2) ≡ None = is in absurd (cc)
 both_held honest m n a b (suc (suc i)) lt is = absurd (omega arith)
 
--- nowhere where both pages are fixed
+-- nowhere where both pages are pinned
 no_place : IsPlace (alone []) (view_of (two_frames true (holding 1 1 []) (holding 2 3 []))) None
 no_place = (both_held true 1 3 [] [], refl)
 
--- else into the frame of the victim, here the only page without a fix
+-- else into the frame of the victim, here the only unpinned page
 victims_place : IsPlace (alone []) (seen true) (Some 1)
 victims_place = inr (record {
   there = omega arith;

@@ -54,7 +54,7 @@ module _ (n : ℕ) (old mid new : List DeviceState) (after : DeviceState) (to : 
 pub nth_read : {A : Type 0} (f : A → DeviceState) (xs : List A) (i : ℕ) (x : A) → i < length xs → x ≡ get_or xs i x → nth_device (map f xs) i ≡ f x
 nth_read f xs i x lt is = get_or-map f xs i x no_device lt ∙ ap f (sym is)
 
--- a device on which nothing waits needs no flush
+-- a flushed device needs no flush
 pub needs_none : {A : Type 0} (f : A → DeviceState) (xs : List A) (i : ℕ) (x : A) → i < length xs → x ≡ get_or xs i x → (f x).waiting ≡ false → DeviceFlush (map f xs) (map f xs) i (Ok tt)
 needs_none f xs i x lt is quiet =
     let nth : nth_device (map f xs) i ≡ f x = nth_read f xs i x lt is in
@@ -95,7 +95,7 @@ flushes f xs i x y z (Err fault) lt is_x is_y waits shape counts never flushed k
       failed = subst (λ d. FlushFails d (f z)) (sym nth) (record { may = may_fail (f y).unfailing fault (Err fault) refl never; shape = shape; contents = contents; failures = counts.1; waiting = kept ∙ waited });
     }
 
--- the last of devices on which nothing waits, and those before it
+-- the last of flushed devices, and those before it
 last_of : {A : Type 0} (f : A → DeviceState) (front : List A) (x : A) → NoneWaits (map f (front ++ x ∷ [])) → (f x).waiting ≡ false
 last_of f [] x none = none 0
 last_of f (y ∷ front) x none = last_of f front x (λ k. none (suc k))

@@ -88,9 +88,9 @@ pub rank_of_page : (page : Option PageId) (key : Option RankKey) → page ≢ No
 rank_of_page None key some = absurd (some refl)
 rank_of_page (Some page) key some = refl
 
--- What becomes of them as one of them changes
+-- The frames after one of them changes
 
--- frame i has this page, this status and this body, and the others are as they were
+-- frame i has this page, this status and this body, and the others are unchanged
 pub record Changes (ps : List (Option PageId)) (ss : List Status) (bs : List FrameBody) (i : ℕ) (p : Option PageId) (s : Status) (b : FrameBody)
     (ps' : List (Option PageId)) (ss' : List Status) (bs' : List FrameBody) : Type 0 where
   pub pages : ps' ≡ set ps i p
@@ -122,7 +122,8 @@ becomes {ps} {ps'} {ss} {ss'} {bs} {bs'} {size = size} t e i h c change is =
     ap (λ fs. record { page_size = size; frames = fs }) (become c ∙ ap (set (frames_of ps ss bs) i) (is ∙ ap change (sym here)))
     ∙ ap (λ w. changed_at w i change) e
 
--- they stay tied, where the contest was given the rank by which the page of the one that changed may leave
+-- they stay tied, where the contest was given the rank with which the page of the changed frame
+-- competes
 pub stay_tied : {ps ps' : List (Option PageId)} {ss ss' : List Status} {bs bs' : List FrameBody} {contest contest' : _} {i : ℕ} {p : Option PageId} {s : Status} {b : FrameBody}
     → AreTied ps ss bs contest → Changes ps ss bs i p s b ps' ss' bs' → contest' ≡ set contest i (leaving_key (frame_of p s b)) → AreTied ps' ss' bs' contest'
 stay_tied {ps} {ps'} {ss} {ss'} {bs} {bs'} {contest} {contest'} {i} {p} {s} {b} t c told =

@@ -1,4 +1,4 @@
--- What a call leaves as it was, from its steps.
+-- What a call leaves unchanged, from its steps.
 use Rattle.std.proofs.Common.{◌≡◌, ℕ, ◌+◌, ◌<◌, false, [], length, Some, Result, IfErr, refl, sym, ◌∙◌, ap, subst}
 use Rattle.std.proofs.lemmas.List.{get_or-set_same, get_or-set_other}
 use Rattle.warm_stamps.specs.declared.PageId.{PageId}
@@ -32,7 +32,7 @@ stays_in_frame s t i p slot holds others kept = record {
   waits = λ away. absurd (away i (ap (λ f. f.page) (frame_seen s i) ∙ holds));
 }
 
--- a page came into a frame
+-- a page was loaded into a frame
 pub loaded_takes : (s t : PoolState) (i : ℕ) (p : PageId) (key : RankKey) (n : ℕ) → LoadsInto s i p key n t → i < length s.frames → IsNowhere s.frames p
     → (slot : Slot) → slot.index ≡ i → TakesFrame s p slot t
 loaded_takes s t i p key n l there away slot at =
@@ -44,7 +44,7 @@ loaded_takes s t i p key n l there away slot at =
       waits = λ _. subst (λ k. WaitsFor s k t.devices) (sym at) l.waits;
     }
 
--- a refusal of a page that no device has, and one for its fixes, leave the devices as they were
+-- a refusal of a page that no device has, and one for its pin count, leave the devices unchanged
 pub unknown_leaves : (h : HistoryView) (s : PoolState) (p : PageId) → (HasPage (view_of s) p → ⊥) → (why : PoolFault) → LoadRefused h (view_of s) p why (view_of s) → LeavesDevices h s p why s
 unknown_leaves h s p hasnt ReadFault refused = absurd (hasnt refused.0)
 unknown_leaves h s p hasnt WriteBack refused = absurd (hasnt refused.0)

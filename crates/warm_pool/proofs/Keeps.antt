@@ -17,7 +17,7 @@ use Rattle.warm_pool.specs.Pinning.{unpinned}
 use Rattle.warm_pool.proofs.Slots.{at_set, same_maps}
 use Rattle.warm_pool.proofs.Bytes.{bytes_alike, bytes_kept, contents_same, frame_seen}
 
--- a frame that may stand at place i of a pool
+-- a frame that may be at index i of a pool
 pub record Fits (s : PoolState) (i : ℕ) (g : FrameState) : Type 0 where
   pub there : i < length s.frames
   pub size : length g.bytes ≡ s.page_size
@@ -152,7 +152,7 @@ module _ (old new : FramesState) {spare : ℕ} {devices : List DeviceState} (w :
         fixed = subst (λ f. 0 < f.fixes) (sym seen) fixed;
       }
 
--- the page of a held slot, less or more fixes on it
+-- the page of a held slot, with fewer or more pins
 pub seen_holds : {s v : PoolState} {slot : Slot} → s ≡ v → Holds (view_of v) slot → Holds (view_of s) slot
 seen_holds {slot = slot} seen held = subst (λ x. Holds (view_of x) slot) (sym seen) held
 
@@ -162,7 +162,7 @@ held_there {s} w slot h = subst (λ n. slot.index < n) (length-map s.frames fram
 pub held_fixed : {s : PoolState} → IsPool s → (slot : Slot) → Holds (view_of s) slot → 0 < (nth_frame s.frames slot.index).fixes
 held_fixed {s} w slot h = subst (λ f. 0 < f.fixes) (frame_seen s slot.index) h.fixed
 
--- what a frame without a fix less or more is
+-- a frame with one pin fewer or more
 pub alike_fixes : {s : PoolState} → IsPool s → (i n : ℕ) → (nth_frame s.frames i).page ≢ None → IsAlike (nth_frame s.frames i) (record (nth_frame s.frames i) { fixes = n })
 alike_fixes {s} w i n some = record { page = refl; bytes = refl; dirty = refl; bare = λ e. absurd (some e) }
 

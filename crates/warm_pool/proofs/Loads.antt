@@ -1,4 +1,5 @@
--- A page comes into a frame: it was read, the page in the frame was written back, and then the two changed places.
+-- A page is loaded into a frame: it was read, the page in the frame was written back, and then the
+-- two were swapped.
 use Rattle.std.proofs.Common.{◌≡◌, ◌≢◌, ℕ, ◌<◌, cond, true, false, IsTrue, [], length, set, Some, Result, Ok, Err, OnOk, OnErr, is_err, refl, sym, ◌∙◌, ap, subst, inl, inr}
 use Rattle.std.proofs.lemmas.Bool.{cases_eq, cases_lt}
 use Rattle.std.proofs.lemmas.Option.{same_Some}
@@ -48,7 +49,7 @@ held_size s w q is =
     ap length (contents_seen s q (w.has_device is.frame q holds) (w.has_page is.frame q holds) ∙ bytes_held s is.frame q (stored s.devices q) w holds)
     ∙ w.frame_size is.frame there
 
--- a page that is in no frame comes into one whose page is on its device
+-- a page that is in no frame is loaded into one whose page is clean
 pub record PutsPage (s : PoolState) (i : ℕ) (g : FrameState) (p : PageId) : Type 0 where
   pub fits : Fits s i g
   pub page : g.page ≡ Some p

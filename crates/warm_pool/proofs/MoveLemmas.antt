@@ -1,4 +1,4 @@
--- A frame leaves its chain, and comes into another.
+-- A frame is unlinked from its chain, and linked into another.
 use Rattle.std.proofs.Common.{◌≡◌, ◌≢◌, ℕ, suc, ◌<◌, ◌≤◌, List, length, get_or, set, sym, ap, refl, ◌∙◌, subst, Option, Some, None, inl, inr, ◌⊎◌, arith, get_or-set_same, get_or-set_other}
 use Rattle.std.proofs.lemmas.List.{get_or_read, length-set}
 use Rattle.std.proofs.lemmas.Bool.{cases_eq, cases_lt}
@@ -85,7 +85,7 @@ module _ (frames heads next : List ℕ) (b f v to : ℕ) (last : Option ℕ) (lt
         ]
       ]
 
--- a frame that left its chain stands in none
+-- a frame that left its chain is in none
 pub unlinked : (frames heads next : List ℕ) (b f : ℕ) (last : Option ℕ) → f < length frames → b < length heads → get_or frames f 0 ≡ b → AreChains frames heads next → IsLastBelow frames b f last → AreChains (loose frames f heads) (heads_led heads b last (get_or next f 0)) (next_led next last (get_or next f 0))
 unlinked frames heads next b f last lt in_heads is chains is_last =
     let n : ℕ = length heads in
@@ -125,7 +125,7 @@ linked_here : (next : List ℕ) (f link : ℕ) (last : Option ℕ) → f < lengt
 linked_here next f link None lt low = get_or-set_same next f link 0 lt
 linked_here next f link (Some x) lt low = let ne : f ≢ x = omega arith in get_or-set_other (set next f link) x f f 0 ne ∙ get_or-set_same next f link 0 lt
 
--- a frame that stood in no chain stands in that of its chain
+-- a frame that was in no chain is now in its own
 pub linked : (frames heads next : List ℕ) (b f : ℕ) (last : Option ℕ) → f < length frames → b < length heads → get_or frames f 0 ≡ length heads → AreChains frames heads next → IsLastBelow frames b f last → AreChains (set frames f b) (heads_led heads b last f) (next_led (set next f (link_after heads next b last)) last f)
 linked frames heads next b f last lt in_heads is chains is_last =
     let now : List ℕ = set frames f b in

@@ -1,4 +1,4 @@
--- What a pin and a load come to, from their steps.
+-- The effect of a pin and a load, from their steps.
 use Rattle.std.proofs.Common.{◌≡◌, ℕ, ◌+◌, ◌-◌, ◌^◌, ◌<◌, false, List, length, map, set, Some, Result, OnErr, IfErr, sym, ◌∙◌, ap, subst, inl, inr, arith}
 use Rattle.std.specs.Option.{option_map}
 use Rattle.std.proofs.lemmas.List.{map-set, get_or-set_same, length-set, length-map}
@@ -62,7 +62,7 @@ loaded_puts s t i p key n l h away place gen is room = record {
   contents = l.contents;
 }
 
--- a page that came in with a fix is held
+-- a page that was loaded with a pin is held
 placed_there : (h : HistoryView) (v : PoolView) (i : ℕ) → IsPlace h v (Some i) → i < length v.frames
 placed_there h v i (inl free) = free.there
 placed_there h v i (inr left) = left.there
@@ -106,7 +106,7 @@ module _ (s t : PoolState) (h : HistoryView) (p : PageId) (has : HasPage (view_o
   pub stays_put : (r : Result Slot PoolFault) → IfErr r (λ why. PutRefused h (view_of s) p why (view_of t)) → OnErr r (SameButFailures (view_of s) (view_of t))
   stays_put r x = if_err _ _ r x (put_stays h (view_of s) p (view_of t))
 
--- a page with as many fixes as can be
+-- a page with the greatest pin count
 pub pin_full : (s t : PoolState) (h : HistoryView) (p : PageId) (i : ℕ) → HasPage (view_of s) p → i < length s.frames → (nth_frame s.frames i).page ≡ Some p
     → (r : Result Slot PoolFault) → IfErr r (λ why. (why ≡ FixesFull) × ((nth_frame s.frames i).fixes ≡ 2 ^ 32 - 1) × (t ≡ s)) → IfErr r (λ why. PinRefused h (view_of s) p why (view_of t))
 pin_full s t h p i has there holds r x = if_err _ _ r x (λ why full. subst (λ y. PinRefused h (view_of s) p y (view_of t)) (sym full.0)

@@ -93,7 +93,7 @@ free_found pages heads next frames at linked count is lt = first_is_free pages a
 pub free_full : (pages : List (Option PageId)) (heads next : List ℕ) (frames at : ℕ) → AreLinked pages heads next → frames ≡ length pages → at ≡ get_or heads frames at → frames ≤ at → IsFirstFree pages None
 free_full pages heads next frames at linked count is le frame lt = none_below pages at (head_read pages heads next frames at linked count is) frame (omega arith) lt
 
--- a frame left its chain and came into that of what it now holds
+-- a frame left its chain and was linked into that of its new content
 pub moved_linked : (frames : List ℕ) (pages : List (Option PageId)) (heads next new_heads new_next : List ℕ) (frame out to : ℕ) (held : Option PageId)
     → frames ≡ chains_of pages → AreLinked pages heads next → frame < length pages → length new_heads ≡ length heads → to ≡ chain_of (length pages) held
     → AreChains (set (set frames frame out) frame to) new_heads new_next → AreLinked (set pages frame held) new_heads new_next

@@ -1,4 +1,4 @@
--- Where a page is, where one that comes in goes, and which page leaves for it.
+-- The frame of a page, the frame into which a page is loaded, and the page that is evicted for it.
 use Rattle.std.proofs.Common.{◌≡◌, ◌≢◌, ℕ, ◌<◌, ◌≤◌, ◌==◌, cond, true, false, List, [], length, map, get_or, Option, Some, None, IsSome, IfSome, refl, sym, ◌∙◌, ap, subst, inl, inr}
 use Rattle.std.specs.Option.{option_map}
 use Rattle.std.proofs.Math.ListN.{get_or-map as mapped}
@@ -96,7 +96,7 @@ ranked_keys {s} w h r =
 none_set : IsSome {T = RankKey} None → ⊥
 none_set h = absurd (cc)
 
--- the frame of the least rank has no fix
+-- the frame of the least rank is unpinned
 pub least_there : {s : PoolState} → IsPool s → (i : ℕ) → IsLeast key_cmp (map leaving_key s.frames) (Some i) → i < length s.frames
 least_there {s} w i l = subst (λ m. i < m) (length-map s.frames leaving_key) l.in_range
 
@@ -108,7 +108,7 @@ least_unfixed {s} w i l = elim (cases_eq (nth_frame s.frames i).fixes 0) [
       l.is_set))
 ]
 
--- the page that leaves is the victim over what the history holds
+-- the evicted page is the victim over what the history holds
 pub none_leaves : {s : PoolState} → IsPool s → (h : HistoryView) → RankedBy s h → IsLeast key_cmp (map leaving_key s.frames) None
     → IsVictim (refs h) (unfixed_pages (view_of s)) None
 none_leaves {s} w h r l = least_key_is_victim (refs h) (competing s.frames) None (subst (λ keys. IsLeast key_cmp keys None) (ranked_keys w h r) l)
@@ -120,7 +120,7 @@ one_leaves {s} w h r i l =
     (competing_nth s.frames i ∙ ap (λ t. cond t (nth_frame s.frames i).page None) (eq-eqb (nth_frame s.frames i).fixes 0 (least_unfixed w i l)))
     (least_key_is_victim (refs h) (competing s.frames) (Some i) (subst (λ keys. IsLeast key_cmp keys (Some i)) (ranked_keys w h r) l))
 
--- where a page that comes in goes
+-- the frame into which a page is loaded
 pub seen_free : {s : PoolState} → IsPool s → (i : ℕ) → IsFirstFree (map (λ f. f.page) s.frames) (Some i) → IsLeastFree (view_of s) i
 seen_free {s} w i h = record {
   there = subst (λ m. i < m) (length-map s.frames (λ (f : FrameState). f.page) ∙ sym (length-map s.frames frame_view)) h.0;

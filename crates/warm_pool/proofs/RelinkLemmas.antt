@@ -1,11 +1,12 @@
--- Chains built again, whatever the links were: frames come into their chains from the last one down.
+-- Chains rebuilt, whatever the links were: frames are linked into their chains from the last one
+-- down.
 use Rattle.std.proofs.Common.{◌≡◌, ℕ, zero, suc, ◌<◌, List, [], ◌∷◌, length, get_or, set, replicate, sym, ap, refl, ◌∙◌, subst, Option, None, arith}
 use Rattle.std.proofs.lemmas.List.{length-replicate, get_or-replicate}
 use Rattle.warm_stamps.specs.declared.PageId.{PageId}
 use Rattle.warm_pool.specs.Chains.{IsFirstFrom, AreChains, IsLastBelow, chain_of, chains_of, page_in}
 use Rattle.warm_pool.proofs.PlaceLemmas.{chain_at, count_chains}
 
--- the chain of each frame while those before frame n stand in none
+-- the chain of each frame while those before frame n are in none
 abbrev pub linked_from : ℕ → ℕ → List ℕ → List ℕ
 linked_from zero out frames = frames
 linked_from (suc n) out [] = []
@@ -51,7 +52,7 @@ none_yet frames heads next room none same =
           absurd (omega arith);
     }
 
--- a frame comes first in its chain while no frame below it stands in one
+-- a frame comes first in its chain while no frame below it is in one
 pub comes_before_all : (frames : List ℕ) (frame out chain : ℕ) → frame < length frames → chain < out → IsLastBelow (linked_from (suc frame) out frames) chain frame None
 comes_before_all frames frame out chain lt in_heads = record {
   below = omega arith;

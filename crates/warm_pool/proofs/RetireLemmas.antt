@@ -40,7 +40,7 @@ one_kept frames old new k after lt is shape contents = alike_kept frames old new
 pub down_there : {frames : List FrameState} {s t : PoolState} {k : ℕ} → PutsDown frames s t → k < length s.devices → k < length t.devices
 down_there {k = k} down there = subst (λ n. k < n) (sym down.devices.count) there
 
--- the flush of the device after its pages were put down
+-- the flush of the device after its pages were written back
 pub flush_one_down : (which : Option ℕ) (n : ℕ) (s t u : PoolState) (k : ℕ) (after : DeviceState) → PutsDown (cleaned_chosen which n s.frames) s t → k < length s.devices → u.frames ≡ t.frames → (u.page_size ≡ t.page_size) × (u.spare ≡ t.spare) → u.devices ≡ set t.devices k after → IsFlushed (nth_device t.devices k) after → PutsDown (cleaned_chosen which n s.frames) s u
 flush_one_down which n s t u k after down there frames same is flushed =
     let lt = down_there down there in
@@ -210,7 +210,7 @@ retire_view s t u dev size device way same is =
 pub retire_ranked : (t u : PoolState) (dev : ℕ) (device : DeviceState) (h : HistoryView) → u ≡ retired t dev device → RankedBy t h → RankedBy u h
 retire_ranked t u dev device h is ranked = subst (λ x. RankedBy x h) (sym is) (vacated_ranked (Some dev) t.frames h ranked)
 
--- frames of other devices, once the pages of one went to it, and once these have left
+-- frames of other devices, after the pages of one were written back, and after these were evicted
 pub elsewhere_cleaned : (dev n : ℕ) (old new : List FrameState) → new ≡ cleaned_chosen (Some dev) n old
     → (i : ℕ) → is_on dev (nth_frame old i).page ≡ false → nth_frame new i ≡ nth_frame old i
 elsewhere_cleaned dev n old new is i not = ap (λ frames. nth_frame frames i) is ∙ nth_other (Some dev) n old i not

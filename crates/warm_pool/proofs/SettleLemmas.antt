@@ -1,4 +1,4 @@
--- A pool whose pages were put down, and whose devices were flushed, is to a caller what it was.
+-- A pool whose pages were written back, and whose devices were flushed, is unchanged for a caller.
 use Rattle.std.proofs.Common.{◌≡◌, ◌≢◌, ℕ, zero, suc, ◌<◌, ◌≤◌, cond, Bool, true, false, List, [], ◌∷◌, length, map, set, get_or, Option, None, refl, sym, ap, ◌∙◌, subst, inl, inr, arith}
 use Rattle.std.proofs.Math.Path.{ap₂}
 use Rattle.std.specs.Option.{option_map}
@@ -44,7 +44,7 @@ all_clean [] i = refl
 all_clean (f ∷ frames) zero = refl
 all_clean (f ∷ frames) (suc i) = all_clean frames i
 
--- Pages that were put down
+-- Pages that were written back
 
 abbrev made : ℕ → ℕ → List FrameState → List DeviceState → PoolState
 made size spare frames devices = record { page_size = size; spare = spare; frames = frames; devices = devices }
@@ -79,7 +79,7 @@ alike_kept frames old new alike =
     let stays : (p : PageId) → stored new p ≡ stored old p = λ p. ap₂ (λ (honest : Bool) (contents : List (List ℕ)). cond honest (page_at contents p.no) []) (alike.each p.dev).0.honest (alike.each p.dev).1 in
     record { count = alike.count; shape = λ k. (alike.each k).0; absent = λ p away. stays p; clean = λ i p holds is. stays p }
 
--- a device that is as it was
+-- a device that is unchanged
 untouched : (d e : DeviceState) → e ≡ d → SameShape d e × (e.contents ≡ d.contents)
 untouched d e is = (subst (λ x. SameShape d x) (sym is) (same_shape d), ap (λ x. x.contents) is)
 
@@ -149,7 +149,7 @@ flush_down which n s t u down frames same alike failures = record {
   same = (same.0 ∙ down.same.0, same.1 ∙ down.same.1);
 }
 
--- the flush of one device that failed, once the pages that are concerned were put down
+-- the flush of one device that failed, after the selected pages were written back
 pub flush_fails_at : (which : Option ℕ) (n : ℕ) (s t u : PoolState) (k : ℕ) → PutsDown (cleaned_chosen which n s.frames) s t → view_of u ≡ record (view_of t) { failures = set (view_of t).failures k (one_more (get_or (view_of t).failures k 0)) } → k < length t.devices → (nth_device t.devices k).unfailing ≡ false → FailsAt (view_of s) k (view_of u)
 flush_fails_at which n s t u k down becomes there may = record {
   there = subst (λ n. k < n) (sym (length-map s.devices _)) (subst (λ n. k < n) down.devices.count there);
@@ -170,7 +170,7 @@ flush_stops_at s t u stops down frames same =
       fails = flush_fails_at None (length s.frames) s t u stops.device down becomes stops.there stops.fails.may;
     }
 
--- after all of it nothing is left to put down
+-- after all of it nothing is left to write back or flush
 pub settled : (s t : PoolState) → PutsDown (cleaned_chosen None (length s.frames) s.frames) s t → NoneWaits t.devices → IsSettled t
 settled s t down none = record {
   clean = λ i. ap (λ frames. (nth_frame frames i).dirty) down.becomes ∙ all_clean s.frames i;

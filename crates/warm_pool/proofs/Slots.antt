@@ -20,7 +20,7 @@ same_maps f d xs ys count same =
     ext_get_or (f d) (map f xs) (map f ys) (length-map xs f ∙ count ∙ sym (length-map ys f))
     (λ i _. mapped f xs i d ∙ same i ∙ sym (mapped f ys i d))
 
--- a fixed page doesn't compete, and neither does a frame without a rank
+-- a pinned page doesn't compete, and neither does a frame without a rank
 pub fixed_key : (n : ℕ) (key : Option RankKey) → cond ((n + 1) == 0) key None ≡ None
 fixed_key n key = ap (λ t. cond t key None) (ne_eqb (n + 1) 0 (λ e. absurd (omega arith)))
 

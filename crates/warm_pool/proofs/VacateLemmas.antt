@@ -16,7 +16,7 @@ use Rattle.warm_pool.proofs.ClosingLemmas.{nth_page}
 
 -- One frame more
 
--- what the frames hold once those of the first n that are concerned were cleared
+-- the pages of the frames after the selected ones of the first n were cleared
 abbrev pub cleared_to : Option ℕ → ℕ → List (Option PageId) → List (Option PageId)
 cleared_to which n pages = map (clear_if which) (take n pages) ++ drop n pages
 
@@ -25,7 +25,7 @@ length-cleared_to which zero pages = refl
 length-cleared_to which (suc n) [] = refl
 length-cleared_to which (suc n) (page ∷ pages) = ap suc (length-cleared_to which n pages)
 
--- the frame at hand, as its page is concerned or not
+-- the current frame, as its page is selected or not
 pub one_gone : (which : Option ℕ) (at : ℕ) (pages : List (Option PageId)) → at < length pages → is_chosen which (page_in (cleared_to which at pages) at) ≡ true → set (cleared_to which at pages) at None ≡ cleared_to which (suc at) pages
 one_gone which at [] lt is = absurd (omega arith)
 one_gone which zero (page ∷ pages) lt is = ap (λ t. cond t None page ∷ pages) (sym is)
@@ -88,7 +88,7 @@ module _ {ps ps' : List (Option PageId)} {ss : List Status} {bs : List FrameBody
             ∙ all_compete which ps ss bs tied.status_each tied.body_each ∙ ap (λ pages. map leaving_key (frames_of pages ss bs)) (sym clear);
       }
 
--- Frames whose pages went to their devices
+-- Frames whose pages were written back
 
 nth_clean : (which : Option ℕ) (frames : List FrameState) (i : ℕ) → IsTrue (is_chosen which (nth_frame frames i).page) → (nth_frame (cleaned_chosen which (length frames) frames) i).dirty ≡ false
 nth_clean which [] i is = refl

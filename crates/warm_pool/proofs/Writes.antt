@@ -107,7 +107,7 @@ module _ (old new : FramesState) {spare : ℕ} {devices : List DeviceState} (w :
           ∙ bytes_held (pool_from (after old i at put) spare devices) i p (stored devices p) written_pool (ap (λ f. f.page) after_frame ∙ e)
           ∙ ap (λ f. f.bytes) after_frame
 
--- bytes that were read of a fixed page
+-- bytes that were read of a pinned page
 pub read_seen : {s : PoolState} → IsPool s → (slot : Slot) → Holds (view_of s) slot → (at : ℕ) (got src : List ℕ) (n m : ℕ)
     → src ≡ (nth_frame s.frames slot.index).bytes → got ≡ take m (drop at src) → m ≡ n → length got ≡ n → at + n ≤ s.page_size → IsRead (view_of s) slot at got
 read_seen {s} w slot h at got src n m src_is got_is m_is len within =

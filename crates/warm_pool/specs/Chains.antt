@@ -1,26 +1,27 @@
--- Frames in chains: each frame is followed by the next one of its chain, in rising order. The number of frames ends a chain.
+-- Hash chains of frames: each frame links to the next one of its chain, in rising order. A link
+-- equal to the number of frames ends a chain.
 use Rattle.std.specs.Prelude.{◌≡◌, ◌≢◌, ℕ, suc, ◌+◌, ◌*◌, ◌/◌, ◌%◌, ◌<◌, ◌≤◌, List, length, map, set, Option, Some, None, slice_index, slice_index_or}
 use Rattle.warm_stamps.specs.declared.PageId.{PageId}
 use Rattle.warm_rank.specs.declared.TheConstants.{MAX_SLOTS}
 
--- what a frame holds
+-- the page in a frame, if any
 abbrev pub page_in : List (Option PageId) → ℕ → Option PageId
 page_in pages frame = slice_index_or pages frame None
 
 -- The hash of a page
 
--- 32 bits mixed: the upper half is added to the lower one, and then each bit is carried up by an odd factor
+-- mixes 32 bits: the upper half is added to the lower one, then an odd factor carries each bit up
 unfoldable pub mixed : ℕ → ℕ
 mixed x = ((x + x / 65536) % 4294967296 * 2246822507) % 4294967296
 
--- the page's number and that of its device in 32 bits, of which each depends on every bit of both
+-- the page's number and that of its device hashed to 32 bits
 unfoldable pub hash_of : PageId → ℕ
 hash_of page = mixed (mixed ((page.no % 4294967296 * 2654435769 + page.no / 4294967296 * 1000000007 + page.dev * 2246822519) % 4294967296))
 
 -- Chains
 
--- the chain of a frame that holds this, of n and one: pages are spread over the first n by their hash, and the frames without a page
--- have the last
+-- the chain of a frame with this content, of n + 1 chains: pages are spread over the first n by
+-- their hash, and the frames without a page are in the last
 unfoldable pub chain_of : ℕ → Option PageId → ℕ
 chain_of n None = n
 chain_of n (Some page) = hash_of page * n / 4294967296
@@ -36,36 +37,36 @@ pub record IsFirstFrom (frames : List ℕ) (chain from at : ℕ) : Type 0 where
   pub apart : (frame : ℕ) → from ≤ frame → frame < at → slice_index frames frame ≢ chain
   pub there : at < length frames → slice_index frames at ≡ chain
 
--- each chain begins at its first frame, and each frame is followed by the first one after it in its chain. A frame whose number is no
--- chain's stands in none
+-- each chain begins at its first frame, and each frame links to the next one of its chain. A frame
+-- whose chain number is out of range is in no chain
 pub record AreChains (frames heads next : List ℕ) : Type 0 where
   pub next_size : length next ≡ length frames
   pub heads_are : (chain : ℕ) → chain < length heads → IsFirstFrom frames chain 0 (slice_index heads chain)
   pub next_are : (frame : ℕ) → frame < length frames → slice_index frames frame < length heads
       → IsFirstFrom frames (slice_index frames frame) (suc frame) (slice_index next frame)
 
--- where the frames after a frame begin, or all frames where there is none
+-- the number of the frame after the given one, or 0 where none is given
 abbrev pub after : Option ℕ → ℕ
 after None = 0
 after (Some frame) = suc frame
 
--- the frame stands in the chain, where there is one
+-- the frame, if there is one, is in the chain
 abbrev pub IsOf : List ℕ → ℕ → Option ℕ → Type 0
 IsOf frames chain None = Unit {0}
 IsOf frames chain (Some frame) = (frame < length frames) × (slice_index frames frame ≡ chain)
 
--- the last frame of a chain below a frame, none where there is none
+-- the last frame of a chain before a frame; none where there is none
 pub record IsLastBelow (frames : List ℕ) (chain frame : ℕ) (last : Option ℕ) : Type 0 where
   pub below : after last ≤ frame
   pub is_of : IsOf frames chain last
   pub between : (other : ℕ) → after last ≤ other → other < frame → slice_index frames other ≢ chain
 
--- the link that follows a frame of a chain, or that begins the chain
+-- the link of a frame of a chain, or the head of the chain
 abbrev pub link_after : List ℕ → List ℕ → ℕ → Option ℕ → ℕ
 link_after heads next chain None = slice_index heads chain
 link_after heads next chain (Some frame) = slice_index next frame
 
--- the links once the one after `last` leads to a frame
+-- the links after the one after `last` is set to a frame
 abbrev pub heads_led : List ℕ → ℕ → Option ℕ → ℕ → List ℕ
 heads_led heads chain None to = set heads chain to
 heads_led heads chain (Some frame) to = heads
@@ -74,7 +75,7 @@ abbrev pub next_led : List ℕ → Option ℕ → ℕ → List ℕ
 next_led next None to = next
 next_led next (Some frame) to = set next frame to
 
--- the frames once one of them is loose, and stands in no chain
+-- the frames' chains after one frame is removed from its chain
 abbrev pub loose : List ℕ → ℕ → List ℕ → List ℕ
 loose frames frame heads = set frames frame (length heads)
 
@@ -84,7 +85,7 @@ pub record AreLinked (pages : List (Option PageId)) (heads next : List ℕ) : Ty
   pub size : length heads ≡ length pages + 1
   pub chains : AreChains (chains_of pages) heads next
 
--- links that lead from each frame to the next
+-- links from each frame to the next
 pub record AreInTurn (frames : ℕ) (next : List ℕ) : Type 0 where
   pub count : length next ≡ frames
   pub links : (frame : ℕ) → frame < frames → slice_index next frame ≡ frame + 1

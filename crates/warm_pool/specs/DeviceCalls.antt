@@ -1,4 +1,4 @@
--- What a call of one device of a list does to the list.
+-- The effect on the device list of a call of one device.
 use Rattle.std.specs.Prelude.{◌≡◌, ◌<◌, ℕ, IsTrue, IsOk, List, set, Result, OnOk, true}
 use Rattle.warm_devices.specs.Device.{DeviceState, SameShape, CountsFault, ChangesPage, page_at, one_more}
 use Rattle.warm_devices.specs.declared.fault.DeviceFault.{DeviceFault}
@@ -27,7 +27,7 @@ pub record WritesPage (d after : DeviceState) (n : ℕ) (bytes : List ℕ) (resu
   pub others : ChangesPage n d.contents after.contents
   pub written : OnOk result (IsTrue d.honest → page_at after.contents n ≡ bytes)
 
--- the same, of device k of a list
+-- the same, for device k of a list
 pub record PageRead (old new : List DeviceState) (k n : ℕ) (bytes : List ℕ) (result : Result (Unit {0}) DeviceFault) : Type 0 where
   pub after : DeviceState
   pub becomes : new ≡ set old k after
@@ -38,6 +38,6 @@ pub record PageWrite (old new : List DeviceState) (k n : ℕ) (bytes : List ℕ)
   pub becomes : new ≡ set old k after
   pub call : WritesPage (nth_device old k) after n bytes result
 
--- the devices, with one failure more counted at device k, and nothing else changed
+-- the devices, with one more failure counted at device k and nothing else changed
 abbrev pub failed_at : ℕ → List DeviceState → List DeviceState
 failed_at k devices = set devices k (record (nth_device devices k) { failures = one_more (nth_device devices k).failures })

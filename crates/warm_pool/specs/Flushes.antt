@@ -1,17 +1,17 @@
--- What flushing the devices of a list does to them.
+-- The effect of flushing the devices of a list.
 use Rattle.std.specs.Prelude.{◌≡◌, ℕ, ◌<◌, ◌≤◌, true, false, List, length, set, Result, OnOk, OnErr}
 use Rattle.warm_devices.specs.Device.{DeviceState, SameShape, one_more}
 use Rattle.warm_devices.specs.declared.fault.DeviceFault.{DeviceFault}
 use Rattle.warm_pool.specs.State.{nth_device}
 
--- nothing waits on the device, and nothing else has changed
+-- the device has nothing unflushed, and nothing else has changed
 pub record IsFlushed (old new : DeviceState) : Type 0 where
   pub shape : SameShape old new
   pub contents : new.contents ≡ old.contents
   pub failures : new.failures ≡ old.failures
   pub waiting : new.waiting ≡ false
 
--- what waited on the device still does, and its count of failures has grown
+-- the flush failed: the device is still unflushed, and its count of failures has increased
 pub record FlushFails (old new : DeviceState) : Type 0 where
   pub may : old.unfailing ≡ false
   pub shape : SameShape old new
@@ -19,20 +19,20 @@ pub record FlushFails (old new : DeviceState) : Type 0 where
   pub failures : new.failures ≡ one_more old.failures
   pub waiting : new.waiting ≡ true
 
--- device k was flushed where something waited
+-- device k was flushed, where it was unflushed
 pub record DeviceFlush (old new : List DeviceState) (k : ℕ) (result : Result (Unit {0}) DeviceFault) : Type 0 where
   pub after : DeviceState
   pub becomes : new ≡ set old k after
   pub done : OnOk result (IsFlushed (nth_device old k) after)
   pub failed : OnErr result (FlushFails (nth_device old k) after)
 
--- the first n devices were flushed, and the others are as they were
+-- the first n devices were flushed, and the others are unchanged
 pub record FlushedTo (n : ℕ) (old new : List DeviceState) : Type 0 where
   pub count : length new ≡ length old
   pub done : (k : ℕ) → k < n → IsFlushed (nth_device old k) (nth_device new k)
   pub rest : (k : ℕ) → n ≤ k → nth_device new k ≡ nth_device old k
 
--- the devices before one were flushed, its own flush failed, and those after it are as they were
+-- the devices before one were flushed, its own flush failed, and those after it are unchanged
 pub record FlushStops (old new : List DeviceState) : Type 0 where
   pub device : ℕ
   pub there : device < length old
@@ -41,6 +41,6 @@ pub record FlushStops (old new : List DeviceState) : Type 0 where
   pub fails : FlushFails (nth_device old device) (nth_device new device)
   pub rest : (k : ℕ) → device < k → nth_device new k ≡ nth_device old k
 
--- nothing waits on any device
+-- no device is unflushed
 abbrev pub NoneWaits : List DeviceState → Type 0
 NoneWaits devices = (k : ℕ) → (nth_device devices k).waiting ≡ false

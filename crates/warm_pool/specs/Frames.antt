@@ -4,8 +4,9 @@ use Rattle.warm_stamps.specs.declared.PageId.{PageId}
 use Rattle.warm_rank.specs.declared.RankKey.{RankKey}
 use Rattle.warm_pool.specs.declared.frame.Status.{Status}
 
--- A frame: the page in it and its rank, how many pages have been put into it, how many hold on to the page, whether the page was
--- written to since it was last on its device as it is here, and its bytes.
+-- A frame: its page and the page's rank, its generation (how many pages have been loaded into it),
+-- the pin count (`fixes`), whether the page is dirty (differs or may differ from its device's
+-- copy), and its bytes.
 pub record FrameState : Type 0 where
   pub page : Option PageId
   pub key : Option RankKey
@@ -14,27 +15,27 @@ pub record FrameState : Type 0 where
   pub dirty : Bool
   pub bytes : List ℕ
 
--- a frame without a page, into which none was put
+-- a frame without a page, into which none was ever loaded
 abbrev pub fresh_frame : List ℕ → FrameState
 fresh_frame bytes = record { page = None; key = None; generation = 0; fixes = 0; dirty = false; bytes = bytes }
 
--- the frame with this number, of those counted from 0
+-- the frame of this index, from 0
 abbrev pub nth_frame : List FrameState → ℕ → FrameState
 nth_frame frames i = slice_index_or frames i (fresh_frame [])
 
--- the rank by which a page with this many fixes may leave: a fixed page may not
+-- the rank with which a page of this pin count competes for eviction: a pinned page has none
 abbrev pub key_unless_fixed : ℕ → Option RankKey → Option RankKey
 key_unless_fixed fixes key = if fixes == 0 then key else None
 
--- the rank by which the frame's page may leave
+-- the rank with which the frame's page competes for eviction
 abbrev pub leaving_key : FrameState → Option RankKey
 leaving_key f = key_unless_fixed f.fixes f.key
 
--- the frame after its page went to its device
+-- the frame after its page was written back
 abbrev pub cleaned : FrameState → FrameState
 cleaned f = record f { dirty = false }
 
--- the frame after its page left
+-- the frame after its page was evicted
 abbrev pub vacated : FrameState → FrameState
 vacated f = record f { page = None; key = None; dirty = false }
 
@@ -43,27 +44,28 @@ pub record FramesState : Type 0 where
   pub page_size : ℕ
   pub frames : List FrameState
 
--- How frames are kept: their pages, their statuses, and the rest of each.
+-- How frames are stored: their pages, their statuses, and the rest of each.
 
--- a frame but for its page and its status: a rank, which means nothing without a page, how many pages were put into it, and its bytes
+-- the rest of a frame, without its page and its status: a rank, which means nothing without a page,
+-- the generation, and the bytes
 pub record FrameBody : Type 0 where
   pub key : Option RankKey
   pub generation : ℕ
   pub bytes : List ℕ
 
--- of a frame without a page, into which none was put
+-- the status and the body of a frame without a page, into which none was ever loaded
 abbrev pub unused_status : Status
 unused_status = record { fixes = 0; dirty = false }
 
 abbrev pub fresh_body : List ℕ → FrameBody
 fresh_body bytes = record { key = None; generation = 0; bytes = bytes }
 
--- the rank of what is in a frame
+-- the rank of the page in a frame
 abbrev pub rank_in : Option PageId → Option RankKey → Option RankKey
 rank_in None key = None
 rank_in (Some page) key = key
 
--- the frame of this page, this status and this rest
+-- the frame with this page, this status and this body
 abbrev pub frame_of : Option PageId → Status → FrameBody → FrameState
 frame_of page status body = record {
   page = page;
@@ -78,7 +80,7 @@ abbrev pub frames_of : List (Option PageId) → List Status → List FrameBody �
 frames_of (page ∷ pages) (status ∷ statuses) (body ∷ bodies) = frame_of page status body ∷ frames_of pages statuses bodies
 frames_of pages statuses bodies = []
 
--- each frame has a status and a body, and the ranks that compete are as the frames have them
+-- each frame has a status and a body, and the ranks in the contest are those of the frames
 pub record AreTied (pages : List (Option PageId)) (statuses : List Status) (bodies : List FrameBody) (contest : List (Option RankKey)) : Type 0 where
   pub status_each : length statuses ≡ length pages
   pub body_each : length bodies ≡ length pages

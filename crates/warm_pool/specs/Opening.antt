@@ -7,16 +7,17 @@ use Rattle.warm_pool.specs.declared.fault.NewPoolFault.{NewPoolFault}
 use Rattle.warm_pool.specs.declared.fault.NewPoolFault.TheVariants.{Memory, BadFrames, SizeDiffers}
 use Rattle.warm_pool.specs.State.{nth_device}
 
--- from 1 up to this number
+-- a number from 1 to the given one
 abbrev pub IsUpTo : ℕ → ℕ → Type 0
 IsUpTo most n = (0 < n) × (n ≤ most)
 
--- pages of this size may be those of a pool over these devices
+-- a valid page size of a pool over these devices
 pub record IsSize (size : ℕ) (devices : List DeviceState) : Type 0 where
   pub range : IsUpTo MAX_PAGE_SIZE size
   pub each : (k : ℕ) → k < length devices → (nth_device devices k).page_size ≡ size
 
--- Why no pool of this many frames, with pages of this size, is made over these devices. Memory comes of an allocation failure alone.
+-- Why a pool of this many frames, with pages of this size, over these devices is refused. Memory
+-- occurs only on an allocation failure.
 abbrev pub NewRefused : ℕ → ℕ → List DeviceState → NewPoolFault → Type 0
 NewRefused frames size devices BadFrames = IsUpTo MAX_SLOTS frames → ⊥
 NewRefused frames size devices SizeDiffers = IsUpTo MAX_SLOTS frames × (IsSize size devices → ⊥)

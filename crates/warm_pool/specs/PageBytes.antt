@@ -9,14 +9,14 @@ use Rattle.warm_pool.specs.State.{PoolState}
 use Rattle.warm_pool.specs.View.{PoolView, frame_at, contents_at, HasPage}
 use Rattle.warm_pool.specs.Keeping.{KeepsOthers}
 
--- this many bytes of the slot's page from `at` on
+-- the bytes read are those of the slot's page from `at` on
 pub record IsRead (v : PoolView) (slot : Slot) (at : ℕ) (got : List ℕ) : Type 0 where
   pub page : PageId
   pub holds : (frame_at v slot.index).page ≡ Some page
   pub within : at + length got ≤ v.page_size
   pub bytes : got ≡ take (length got) (drop at (contents_at v page))
 
--- this many bytes from `at` on are not within a page, and those that were to be filled are as they were
+-- this many bytes from `at` on are not within a page, and the output buffer is unchanged
 abbrev pub ReadRefused : PoolState → ℕ → List ℕ → PoolFault → List ℕ → Type 0
 ReadRefused s at old fault new = (fault ≡ OutOfPage) × (s.page_size < at + length old) × (new ≡ old)
 

@@ -1,4 +1,5 @@
--- Pinning and loading: where a page goes, what an answered call does, why one is refused, and the steps of both.
+-- Pinning and loading: the frame for a page, the effect of a successful call, why a call is
+-- refused, and the steps of both.
 use Rattle.std.specs.Prelude.{ℕ, ◌≡◌, ◌≢◌, ◌<◌, ◌≤◌, false, List, [], length, Option, Some, None, ◌⊎◌, ◌+◌, ◌-◌, ◌^◌, true, set, Result, IfOk}
 use Rattle.warm_stamps.specs.declared.PageId.{PageId}
 use Rattle.warm_history.specs.Histories.{HistoryView, refs}
@@ -14,7 +15,7 @@ use Rattle.warm_pool.specs.Keeping.{FailsAt, KeepsContents, KeepsOthers, KeepsBy
 use Rattle.warm_pool.specs.DeviceCalls.{failed_at}
 use Rattle.warm_pool.specs.WritingBack.{CleanFails, WaitsFor}
 
--- Where a page goes
+-- The frame for a page
 
 -- the first frame without a page
 pub record IsLeastFree (v : PoolView) (i : ℕ) : Type 0 where
@@ -25,7 +26,8 @@ pub record IsLeastFree (v : PoolView) (i : ℕ) : Type 0 where
 abbrev pub IsFull : PoolView → Type 0
 IsFull v = (i : ℕ) → i < length v.frames → (frame_at v i).page ≢ None
 
--- every frame has a page, and that of this one is the victim, over what the history holds, among those without a fix
+-- every frame has a page, and that of this one is the victim, over what the history holds, among
+-- the unpinned pages
 pub record IsVictimFrame (h : HistoryView) (v : PoolView) (i : ℕ) : Type 0 where
   pub there : i < length v.frames
   pub full : IsFull v
@@ -34,18 +36,19 @@ pub record IsVictimFrame (h : HistoryView) (v : PoolView) (i : ℕ) : Type 0 whe
   pub unfixed : (frame_at v i).fixes ≡ 0
   pub victim : IsVictim (refs h) (unfixed_pages v) (Some page)
 
--- where a page that comes in goes: into the first free frame, else into that of the victim; nowhere where all pages are fixed
+-- the frame into which a page is loaded: the first free frame, else that of the victim; none where
+-- all pages are pinned
 abbrev pub IsPlace : HistoryView → PoolView → Option ℕ → Type 0
 IsPlace h v None = IsFull v × (unfixed_pages v ≡ [])
 IsPlace h v (Some i) = IsLeastFree v i ⊎ IsVictimFrame h v i
 
--- the page that leaves next, as every history says that ranks the pool
+-- the next victim, according to every history that ranks the pool
 abbrev pub IsNextVictim : PoolState → Option PageId → Type 0
 IsNextVictim s page = (h : HistoryView) → RankedBy s h → IsVictim (refs h) (unfixed_pages (view_of s)) page
 
--- What an answered call does
+-- The effect of a successful call
 
--- the page is in the slot's frame, and has one fix more
+-- the page is in the slot's frame, and has one more pin
 pub record AddsFix (old : PoolView) (p : PageId) (slot : Slot) (new : PoolView) : Type 0 where
   pub there : slot.index < length old.frames
   pub resident : (frame_at old slot.index).page ≡ Some p
@@ -60,7 +63,7 @@ pub record StaysIn (old : PoolView) (p : PageId) (slot : Slot) (new : PoolView) 
   pub current : slot.generation ≡ (frame_at old slot.index).generation
   pub same : new ≡ old
 
--- the page was in no frame, and was put into the slot's frame with this many fixes
+-- the page was in no frame, and was loaded into the slot's frame with this pin count
 pub record PutsIn (h : HistoryView) (old : PoolView) (p : PageId) (fixes : ℕ) (slot : Slot) (new : PoolView) : Type 0 where
   pub absent : IsAbsent old p
   pub place : IsPlace h old (Some slot.index)
@@ -75,12 +78,13 @@ Pinned h old p slot new = HasPage old p × (AddsFix old p slot new ⊎ PutsIn h 
 abbrev pub Loaded : HistoryView → PoolView → PageId → Slot → PoolView → Type 0
 Loaded h old p slot new = HasPage old p × (StaysIn old p slot new ⊎ PutsIn h old p 0 slot new)
 
--- the slot's page has one fix less
+-- the pool after the slot's page lost one pin
 abbrev pub unpinned : PoolView → Slot → PoolView
 unpinned old slot = record old { frames = set old.frames slot.index (record (frame_at old slot.index) { fixes = (frame_at old slot.index).fixes - 1 }) }
 
--- A page that was resident leaves all bytes as they were. One that comes in changes the slot's frame alone, which is then clean,
--- and leaves the devices as they were unless that frame was dirty: then its page was written, and waits on its device for a flush.
+-- A page that was resident leaves all bytes unchanged. A page that is loaded changes only the
+-- slot's frame, which is then clean, and leaves the devices unchanged unless that frame was dirty:
+-- then its page was written back, and its device is unflushed.
 pub record TakesFrame (old : PoolState) (p : PageId) (slot : Slot) (new : PoolState) : Type 0 where
   pub others : KeepsOthers slot.index old new
   pub resident : IsResident (view_of old) p → KeepsBytes old new
@@ -88,15 +92,15 @@ pub record TakesFrame (old : PoolState) (p : PageId) (slot : Slot) (new : PoolSt
   pub devices : (nth_frame old.frames slot.index).dirty ≡ false → new.devices ≡ old.devices
   pub waits : IsAbsent (view_of old) p → WaitsFor old slot.index new.devices
 
--- Why it is refused
+-- Why a call is refused
 
--- there is a frame for a page that comes in, whose generation can rise by one
+-- there is a frame into which a page can be loaded, whose generation can increase by one
 pub record CanComeIn (h : HistoryView) (old : PoolView) (i : ℕ) : Type 0 where
   pub place : IsPlace h old (Some i)
   pub below : (frame_at old i).generation < 2 ^ 64 - 1
 
--- a page that is in no frame isn't put into one: all pages are fixed, the frame's generation is the last, the page wasn't read, or
--- the page that would leave wasn't written
+-- a page that is in no frame isn't loaded: all pages are pinned, the frame's generation is the
+-- greatest, the read failed, or the write-back of the victim failed
 abbrev pub PutRefused : HistoryView → PoolView → PageId → PoolFault → PoolView → Type 0
 PutRefused h old p AllFixed new = IsPlace h old None × (new ≡ old)
 PutRefused h old p FixesFull new = ((i : ℕ) × IsPlace h old (Some i) × ((frame_at old i).generation ≡ 2 ^ 64 - 1)) × (new ≡ old)
@@ -104,7 +108,7 @@ PutRefused h old p ReadFault new = ((i : ℕ) × CanComeIn h old i) × FailsAt o
 PutRefused h old p WriteBack new = (i : ℕ) × (q : PageId) × CanComeIn h old i × ((frame_at old i).page ≡ Some q) × FailsAt old q.dev new
 PutRefused h old p why new = ⊥
 
--- the page is in a frame that can take no fix more
+-- the page is in a frame with the greatest pin count
 pub record IsFixesFull (old : PoolView) (p : PageId) : Type 0 where
   pub frame : ℕ
   pub there : frame < length old.frames
@@ -120,8 +124,8 @@ abbrev pub PinRefused : HistoryView → PoolView → PageId → PoolFault → Po
 PinRefused h old p FixesFull new = (HasPage old p × IsFixesFull old p × (new ≡ old)) ⊎ LoadRefused h old p FixesFull new
 PinRefused h old p why new = LoadRefused h old p why new
 
--- The page of the frame into which a page would come is dirty. A write of it was tried: something waits on its device, and the other
--- devices are as they were.
+-- The page of the frame into which a page would be loaded is dirty. A write of it was attempted:
+-- its device is unflushed, and the other devices are unchanged.
 pub record IsUnwritten (h : HistoryView) (old new : PoolState) : Type 0 where
   pub frame : ℕ
   pub page : PageId
@@ -131,8 +135,8 @@ pub record IsUnwritten (h : HistoryView) (old new : PoolState) : Type 0 where
   pub waits : (nth_device new.devices page.dev).waiting ≡ true
   pub others : (k : ℕ) → k ≢ page.dev → nth_device new.devices k ≡ nth_device old.devices k
 
--- What a refused pin or load leaves of the devices. A page is read before the victim is written: where the read fails, a failure is
--- counted, and nothing else has changed.
+-- The devices after a refused pin or load. A page is read before the victim is written: where the
+-- read fails, a failure is counted, and nothing else has changed.
 abbrev pub LeavesDevices : HistoryView → PoolState → PageId → PoolFault → PoolState → Type 0
 LeavesDevices h old p ReadFault new = new.devices ≡ failed_at p.dev old.devices
 LeavesDevices h old p WriteBack new = IsUnwritten h old new
@@ -140,7 +144,7 @@ LeavesDevices h old p why new = new.devices ≡ old.devices
 
 -- The steps of both
 
--- the page of the frame has one fix more; or it has as many as it can, and nothing has changed
+-- the page of the frame has one more pin; or its pin count is the greatest, and nothing has changed
 abbrev pub FixesPage : PoolState → ℕ → Result Slot PoolFault → PoolState → Type 0
 FixesPage old i result new =
     (p : PageId) → (nth_frame old.frames i).page ≡ Some p → IfOk result (λ slot. AddsFix (view_of old) p slot (view_of new))
@@ -148,11 +152,11 @@ FixesPage old i result new =
 abbrev pub FixRefused : PoolState → ℕ → PoolFault → PoolState → Type 0
 FixRefused old i fault new = (fault ≡ FixesFull) × ((nth_frame old.frames i).fixes ≡ 2 ^ 32 - 1) × (new ≡ old)
 
--- the frame into which a page goes that comes in, as every history says that ranks the pool
+-- the frame into which a page is loaded, according to every history that ranks the pool
 abbrev pub IsNextPlace : PoolState → Option ℕ → Type 0
 IsNextPlace s place = (h : HistoryView) → RankedBy s h → IsPlace h (view_of s) place
 
--- the page is in the frame, as its device has it, with this rank and this many fixes
+-- the page is in the frame, with its device's bytes, this rank and this pin count
 pub record LoadsInto (old : PoolState) (i : ℕ) (p : PageId) (key : RankKey) (n : ℕ) (new : PoolState) : Type 0 where
   pub bytes : List ℕ
   pub frames : new.frames ≡ set old.frames i (record { page = Some p; key = Some key; generation = (nth_frame old.frames i).generation + 1; fixes = n; dirty = false; bytes = bytes })
@@ -167,7 +171,7 @@ pub record ReadFails (old : PoolState) (p : PageId) (new : PoolState) : Type 0 w
   pub devices : new.devices ≡ failed_at p.dev old.devices
   pub fails : FailsAt (view_of old) p.dev (view_of new)
 
--- the page was not read, or that of the frame not written
+-- the read of the page failed, or the write of the frame's page failed
 abbrev pub LoadFails : PoolState → ℕ → PageId → PoolFault → PoolState → Type 0
 LoadFails old i p ReadFault new = ReadFails old p new
 LoadFails old i p WriteBack new = CleanFails old i new

@@ -1,4 +1,4 @@
--- Renewing ranks.
+-- Updating ranks.
 use Rattle.std.specs.Prelude.{ℕ, ◌≡◌, ◌≢◌, List, Some, Contains}
 use Rattle.std.specs.Option.{option_map}
 use Rattle.warm_stamps.specs.declared.PageId.{PageId}
@@ -8,27 +8,28 @@ use Rattle.warm_rank.specs.declared.RankKey.{RankKey}
 use Rattle.warm_rank.specs.Keys.{rank_key}
 use Rattle.warm_pool.specs.State.{PoolState, RankedBy}
 
--- both histories say the same of each page but these
+-- both histories agree on each page except these
 abbrev pub AgreeOutside : List PageId → HistoryView → HistoryView → Type 0
 AgreeOutside pages g h = (p : PageId) → (Contains pages p → ⊥) → hist (refs g) p ≡ hist (refs h) p
 
--- the frame that holds the page, if one does, has this rank
+-- the frame of the page, if it is resident, has this rank
 pub record Renews (old : PoolState) (p : PageId) (key : RankKey) (new : PoolState) : Type 0 where
   pub pages : (i : ℕ) → (nth_frame new.frames i).page ≡ (nth_frame old.frames i).page
   pub here : (i : ℕ) → (nth_frame old.frames i).page ≡ Some p → (nth_frame new.frames i).key ≡ Some key
   pub others : (i : ℕ) → (nth_frame old.frames i).page ≢ Some p → (nth_frame new.frames i).key ≡ (nth_frame old.frames i).key
 
--- this frame has the rank that the history gives its page, if it has one, and the others have the ranks that they had
+-- this frame has the rank that the history gives its page, if it has one, and the others keep their
+-- ranks
 pub record RenewsFrame (old : PoolState) (at : ℕ) (h : HistoryView) (new : PoolState) : Type 0 where
   pub pages : (i : ℕ) → (nth_frame new.frames i).page ≡ (nth_frame old.frames i).page
   pub here : (nth_frame new.frames at).key ≡ option_map (λ p. rank_key p (hist (refs h) p)) (nth_frame new.frames at).page
   pub others : (i : ℕ) → i ≢ at → (nth_frame new.frames i).key ≡ (nth_frame old.frames i).key
 
--- a history that agrees with one that ranked the old pool, but for these pages, ranks the new one
+-- a history that agrees, except on these pages, with one that ranked the old pool ranks the new one
 abbrev pub RefreshesRanks : List PageId → HistoryView → PoolState → PoolState → Type 0
 RefreshesRanks pages h old new = (g : HistoryView) → RankedBy old g → AgreeOutside pages g h → RankedBy new h
 
--- each frame has the page that it had, and keeps its rank unless its page is one of these
+-- each frame keeps its page, and keeps its rank unless its page is among these
 pub record KeepsOtherRanks (given : List PageId) (old new : PoolState) : Type 0 where
   pub pages : (i : ℕ) → (nth_frame new.frames i).page ≡ (nth_frame old.frames i).page
   pub keys : (i : ℕ) → ((p : PageId) → (nth_frame old.frames i).page ≡ Some p → Contains given p → ⊥) → (nth_frame new.frames i).key ≡ (nth_frame old.frames i).key

@@ -1,4 +1,4 @@
--- Which frame holds a page, and which is the first without one.
+-- The frame of a page, and the first frame without one.
 use Rattle.std.specs.Prelude.{◌≡◌, ◌≢◌, ℕ, ◌<◌, List, length, Option, Some, None, slice_index_or}
 use Rattle.warm_stamps.specs.declared.PageId.{PageId}
 

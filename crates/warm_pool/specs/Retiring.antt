@@ -1,4 +1,5 @@
--- Emptying a pool, closing it, and retiring a device: why a call is refused, what it does, and the steps of its body.
+-- Emptying a pool, closing it, and retiring a device: why a call is refused, its effect, and the
+-- steps of its body.
 use Rattle.std.specs.Prelude.{ℕ, ◌≡◌, ◌≢◌, ◌<◌, ◌≤◌, false, IsTrue, List, [], map, length, Option, Some, None, if◌then◌else◌, set}
 use Rattle.warm_stamps.specs.declared.PageId.{PageId}
 use Rattle.warm_devices.specs.Device.{DeviceState, page_at}
@@ -12,7 +13,7 @@ use Rattle.warm_pool.specs.WritingBack.{WriteBackFails, is_on, is_chosen, PutsAl
 
 -- Emptying and closing
 
--- why a pool isn't emptied or closed, and what is then changed
+-- why a pool isn't emptied or closed, and what has then changed
 abbrev pub EmptyRefused : PoolState → PoolFault → PoolState → Type 0
 EmptyRefused old Fixed new = IsFixed (view_of old) × (new ≡ old)
 EmptyRefused old Fault new = IsUnfixed (view_of old) × WriteBackFails old new
@@ -22,7 +23,7 @@ EmptyRefused old why new = ⊥
 abbrev pub emptied : FrameView → FrameView
 emptied f = record f { page = None }
 
--- no page is in a frame, generations stay, and so do the contents of honest devices
+-- no page is in a frame; generations and the contents of honest devices are unchanged
 pub record Emptied (old new : PoolView) : Type 0 where
   pub unfixed : IsUnfixed old
   pub becomes : new ≡ record old { frames = map emptied old.frames; contents = new.contents }
@@ -30,14 +31,14 @@ pub record Emptied (old new : PoolView) : Type 0 where
 
 -- Retiring
 
--- a page of the device is fixed
+-- a page of the device is pinned
 pub record IsFixedOn (v : PoolView) (dev : ℕ) : Type 0 where
   pub frame : ℕ
   pub there : frame < length v.frames
   pub on : IsTrue (is_on dev (frame_at v frame).page)
   pub fixed : 0 < (frame_at v frame).fixes
 
--- a device of this state takes the place of device dev, of which no page is fixed
+-- a device of this state may replace device dev, of which no page is pinned
 pub record MayRetire (v : PoolView) (dev : ℕ) (device : DeviceState) : Type 0 where
   pub there : dev < length v.devices
   pub size : device.page_size ≡ v.page_size
@@ -50,7 +51,8 @@ RetireRefused old dev device Fixed new = (dev < length old.devices) × (device.p
 RetireRefused old dev device Fault new = MayRetire old dev device × FailsAt old dev new
 RetireRefused old dev device why new = ⊥
 
--- No page of the device is in a frame, and its contents, its number of pages and its count of failures are those of the new one.
+-- No page of the device is in a frame, and its contents, its number of pages and its count of
+-- failures are those of the new device.
 pub record Retired (old : PoolView) (dev : ℕ) (device : DeviceState) (new : PoolView) : Type 0 where
   pub may : MayRetire old dev device
   pub becomes : new ≡ record old {
@@ -62,7 +64,7 @@ pub record Retired (old : PoolView) (dev : ℕ) (device : DeviceState) (new : Po
   pub contents : (n : ℕ) → n < device.pages → contents_at new (record { dev = dev; no = n }) ≡ if device.honest then page_at device.contents n else []
   pub others : (p : PageId) → HasPage old p → p.dev ≢ dev → contents_at new p ≡ contents_at old p
 
--- each frame whose page is not one of device dev is as it was
+-- each frame whose page is not of device dev is unchanged
 abbrev pub KeepsElsewhere : ℕ → PoolState → PoolState → Type 0
 KeepsElsewhere dev old new = (i : ℕ) → is_on dev (nth_frame old.frames i).page ≡ false → nth_frame new.frames i ≡ nth_frame old.frames i
 
@@ -71,15 +73,15 @@ KeepsElsewhere dev old new = (i : ℕ) → is_on dev (nth_frame old.frames i).pa
 abbrev pub vacate_if : Option ℕ → FrameState → FrameState
 vacate_if which f = if is_chosen which f.page then vacated f else f
 
--- the frames, those that are concerned without a page
+-- the frames, with the selected ones vacated
 abbrev pub vacated_chosen : Option ℕ → List FrameState → List FrameState
 vacated_chosen which frames = map (vacate_if which) frames
 
--- what a frame holds once its page has left, where it is concerned
+-- the page of a frame after the selected frames are vacated
 abbrev pub clear_if : Option ℕ → Option PageId → Option PageId
 clear_if which page = if is_chosen which page then None else page
 
--- a frame that is concerned has a fix, or none has
+-- a selected frame has a pinned page; or none has
 pub record IsFixedIn (which : Option ℕ) (frames : List FrameState) : Type 0 where
   pub frame : ℕ
   pub there : frame < length frames
@@ -89,11 +91,12 @@ pub record IsFixedIn (which : Option ℕ) (frames : List FrameState) : Type 0 wh
 abbrev pub AreUnfixed : Option ℕ → List FrameState → Type 0
 AreUnfixed which frames = (i : ℕ) → IsTrue (is_chosen which (nth_frame frames i).page) → (nth_frame frames i).fixes ≡ 0
 
--- the page of each frame that is concerned is on its device as it is there
+-- each selected frame is clean
 abbrev pub AreClean : Option ℕ → List FrameState → Type 0
 AreClean which frames = (i : ℕ) → IsTrue (is_chosen which (nth_frame frames i).page) → (nth_frame frames i).dirty ≡ false
 
--- device dev of a pool may leave for one with pages of this size: none of its pages is fixed, they went to it, and nothing waits on it
+-- device dev may be replaced by one with pages of this size: none of its pages is pinned, they were
+-- written back, and it is flushed
 pub record MakesWay (old : PoolState) (dev page_size : ℕ) (new : PoolState) : Type 0 where
   pub there : dev < length old.devices
   pub size : page_size ≡ old.page_size
@@ -101,6 +104,6 @@ pub record MakesWay (old : PoolState) (dev page_size : ℕ) (new : PoolState) : 
   pub down : PutsAllDown (Some dev) old new
   pub quiet : (nth_device new.devices dev).waiting ≡ false
 
--- the pool once another device has taken the place of device dev
+-- the pool after another device has replaced device dev
 abbrev pub retired : PoolState → ℕ → DeviceState → PoolState
 retired s dev device = record s { frames = vacated_chosen (Some dev) s.frames; devices = set s.devices dev device }

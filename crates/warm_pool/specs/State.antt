@@ -1,4 +1,4 @@
--- What a pool is: its frames and its devices as plain data, and what holds of every pool.
+-- The state of a pool: its frames and its devices as plain data, and the invariant of pools.
 use Rattle.std.specs.Prelude.{ℕ, ◌≡◌, ◌≢◌, ◌<◌, ◌≤◌, false, IsTrue, List, [], map, length, replicate, Some, None, slice_index_or}
 use Rattle.std.specs.Option.{option_map}
 use Rattle.warm_stamps.specs.declared.PageId.{PageId}
@@ -10,14 +10,15 @@ use Rattle.warm_devices.specs.declared.TheConstants.{MAX_PAGE_SIZE}
 use Rattle.warm_devices.specs.Device.{DeviceState, page_at}
 use Rattle.warm_pool.specs.Frames.{FrameState, FramesState, nth_frame, fresh_frame}
 
--- A pool: the size of a page, the length of the buffer into which a page is first read, its frames and its devices.
+-- A pool: the size of a page, the length of the spare buffer into which a page is read first, its
+-- frames and its devices.
 pub record PoolState : Type 0 where
   pub page_size : ℕ
   pub spare : ℕ
   pub frames : List FrameState
   pub devices : List DeviceState
 
--- a pool over devices that show these states
+-- a pool over devices with these states
 abbrev pub pool_of : {B : Type 0} → (B → DeviceState) → FramesState → ℕ → List B → PoolState
 pool_of shown frames spare devices = record { page_size = frames.page_size; spare = spare; frames = frames.frames; devices = map shown devices }
 
@@ -29,7 +30,7 @@ opened frames size devices = record { page_size = size; spare = size; frames = r
 abbrev pub no_device : DeviceState
 no_device = record { pages = 0; page_size = 0; contents = []; waiting = false; failures = 0; honest = false; unfailing = false }
 
--- the device with this number, of those counted from 0
+-- the device of this index, from 0
 abbrev pub nth_device : List DeviceState → ℕ → DeviceState
 nth_device devices k = slice_index_or devices k no_device
 
@@ -37,8 +38,9 @@ nth_device devices k = slice_index_or devices k no_device
 abbrev pub IsNowhere : List FrameState → PageId → Type 0
 IsNowhere frames p = (i : ℕ) → (nth_frame frames i).page ≢ Some p
 
--- What holds of every pool. A page is in one frame at most, and a device has it; a frame that isn't dirty has the bytes that an
--- honest device gives; a frame without a page is neither fixed nor dirty, and has no rank.
+-- The invariant of pools. A page is in at most one frame, and a device has it; a clean frame has
+-- the bytes of an honest device; a frame without a page is neither pinned nor dirty, and has no
+-- rank.
 pub record IsPool (s : PoolState) : Type 0 where
   pub some_frames : 0 < length s.frames
   pub few_frames : length s.frames ≤ MAX_SLOTS
@@ -56,15 +58,16 @@ pub record IsPool (s : PoolState) : Type 0 where
   pub bare : (i : ℕ) → (nth_frame s.frames i).page ≡ None
       → ((nth_frame s.frames i).key ≡ None) × ((nth_frame s.frames i).fixes ≡ 0) × ((nth_frame s.frames i).dirty ≡ false)
 
--- the rank of each resident page is that over what the history holds
+-- the rank of each resident page is the one that the history gives it
 abbrev pub RankedBy : PoolState → HistoryView → Type 0
 RankedBy s h = (i : ℕ) → (nth_frame s.frames i).key ≡ option_map (λ p. rank_key p (hist (refs h) p)) (nth_frame s.frames i).page
 
--- every history ranks it
+-- every history ranks the pool
 abbrev pub IsRankedByAll : PoolState → Type 0
 IsRankedByAll s = (h : HistoryView) → RankedBy s h
 
--- no frame is dirty, and nothing waits on a device for a flush; so an honest device has each page as it is in its frame
+-- no frame is dirty, and no device is unflushed; so an honest device has each page as it is in its
+-- frame
 pub record IsSettled (s : PoolState) : Type 0 where
   pub clean : (i : ℕ) → (nth_frame s.frames i).dirty ≡ false
   pub flushed : (k : ℕ) → (nth_device s.devices k).waiting ≡ false

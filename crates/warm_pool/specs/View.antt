@@ -1,4 +1,4 @@
--- What a caller sees of a pool, and how it is read off the pool.
+-- What a caller sees of a pool, and how it follows from the pool's state.
 use Rattle.std.specs.Prelude.{ℕ, ◌≡◌, ◌≢◌, ◌<◌, ◌==◌, ◌&&◌, Bool, false, List, [], ◌∷◌, map, length, Option, Some, None, slice_index_or, if◌then◌else◌}
 use Rattle.std.specs.List.{range_with_len}
 use Rattle.warm_stamps.specs.declared.PageId.{PageId}
@@ -8,20 +8,22 @@ use Rattle.warm_rank.specs.Laws.{pages_in}
 use Rattle.warm_pool.specs.declared.slot.Slot.{Slot}
 use Rattle.warm_pool.specs.State.{PoolState, nth_device}
 
--- what no call but the retirement of a device changes of it
+-- the facts of a device that only its retirement changes
 pub record DeviceView : Type 0 where
   pub pages : ℕ
   pub honest : Bool
   pub unfailing : Bool
 
--- a frame: its page, how many pages were put into it so far, and how many fixes its page has
+-- a frame: its page, its generation (how many pages were loaded into it so far), and the pin count
+-- of its page
 pub record FrameView : Type 0 where
   pub page : Option PageId
   pub generation : ℕ
   pub fixes : ℕ
 
--- A pool: the size of a page; its devices; its frames; the bytes of each page of each device, by device and number; and how many
--- calls of each device have failed. Of a device that isn't honest only resident pages have bytes here.
+-- A pool: the size of a page; its devices; its frames; the bytes of each page of each device, by
+-- device and number; and the number of failed calls of each device. Of a device that isn't honest,
+-- only resident pages have bytes here.
 pub record PoolView : Type 0 where
   pub page_size : ℕ
   pub devices : List DeviceView
@@ -42,7 +44,7 @@ failures_at v k = slice_index_or v.failures k 0
 abbrev pub contents_at : PoolView → PageId → List ℕ
 contents_at v p = slice_index_or (slice_index_or v.contents p.dev []) p.no []
 
--- How it is read off the pool
+-- How it follows from the pool's state
 
 -- whether this is the page of the frame
 abbrev pub is_page : PageId → Option PageId → Bool
@@ -54,7 +56,7 @@ abbrev pub bytes_in : List FrameState → PageId → List ℕ → List ℕ
 bytes_in [] p others = others
 bytes_in (f ∷ fs) p others = if is_page p f.page then f.bytes else bytes_in fs p others
 
--- the bytes that a device is known to have for a page
+-- the bytes of a page on its device, where the device is honest
 abbrev pub stored : List DeviceState → PageId → List ℕ
 stored devices p = if (nth_device devices p.dev).honest then page_at (nth_device devices p.dev).contents p.no else []
 
@@ -82,7 +84,7 @@ view_of s = record {
   failures = map (λ d. d.failures) s.devices;
 }
 
--- What it says of pages and slots
+-- Facts about pages and slots
 
 -- a device has the page
 pub record HasPage (v : PoolView) (p : PageId) : Type 0 where
@@ -98,20 +100,20 @@ pub record IsResident (v : PoolView) (p : PageId) : Type 0 where
 abbrev pub IsAbsent : PoolView → PageId → Type 0
 IsAbsent v p = (i : ℕ) → (frame_at v i).page ≢ Some p
 
--- the frame has a fix, and no other page was put into it since the slot was given
+-- the slot's frame is pinned, and no other page was loaded into it since the slot was given
 pub record Holds (v : PoolView) (slot : Slot) : Type 0 where
   pub there : slot.index < length v.frames
   pub current : slot.generation ≡ (frame_at v slot.index).generation
   pub fixed : 0 < (frame_at v slot.index).fixes
 
--- the resident pages without a fix
+-- the resident pages that are not pinned
 abbrev pub unfixed_page : FrameView → Option PageId
 unfixed_page f = if f.fixes == 0 then f.page else None
 
 abbrev pub unfixed_pages : PoolView → List PageId
 unfixed_pages v = pages_in (map unfixed_page v.frames)
 
--- a page is fixed
+-- a page is pinned
 pub record IsFixed (v : PoolView) : Type 0 where
   pub frame : ℕ
   pub there : frame < length v.frames

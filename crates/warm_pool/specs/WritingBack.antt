@@ -1,4 +1,4 @@
--- Writing back: the page of one frame, those of the frames that are concerned, and those of all.
+-- Writing back: the page of one frame, those of the selected frames, and those of all frames.
 use Rattle.std.specs.Prelude.{ℕ, ◌≡◌, ◌≢◌, ◌<◌, ◌≤◌, ◌==◌, Bool, false, IsTrue, List, map, length, Option, Some, None, if◌then◌else◌, true, ◌++◌, take, drop, set}
 use Rattle.warm_stamps.specs.declared.PageId.{PageId}
 use Rattle.warm_devices.specs.Device.{DeviceState, SameShape}
@@ -9,12 +9,12 @@ use Rattle.warm_pool.specs.Keeping.{FailsAt}
 
 -- All pages
 
--- the first n frames clean, the others as they are
+-- the first n frames clean, the others unchanged
 abbrev pub cleaned_to : ℕ → List FrameState → List FrameState
 cleaned_to n frames = map cleaned (take n frames) ++ drop n frames
 
--- A call of a device failed, and nothing else has changed to a caller: either the write of the first dirty frame that isn't yet
--- clean, or, after all writes, the flush of the first device on which something waits.
+-- A call of a device failed, and nothing else has changed for a caller: either the write of the
+-- first frame that is still dirty, or, after all writes, the flush of the first unflushed device.
 pub record WriteBackFails (old new : PoolState) : Type 0 where
   pub written : ℕ
   pub device : ℕ
@@ -26,20 +26,21 @@ pub record WriteBackFails (old new : PoolState) : Type 0 where
 
 -- The page of one frame
 
--- The devices are what they were, and have of each page that is in no frame, or in one that isn't dirty, the bytes that they had.
+-- The devices have the same shape as before, and the same bytes of each page that is in no frame,
+-- or in a clean one.
 pub record KeptDevices (frames : List FrameState) (old new : List DeviceState) : Type 0 where
   pub count : length new ≡ length old
   pub shape : (k : ℕ) → SameShape (nth_device old k) (nth_device new k)
   pub absent : (p : PageId) → IsNowhere frames p → stored new p ≡ stored old p
   pub clean : (i : ℕ) (p : PageId) → (nth_frame frames i).page ≡ Some p → (nth_frame frames i).dirty ≡ false → stored new p ≡ stored old p
 
--- where the frame is dirty, something waits on the device of its page
+-- where the frame is dirty, the device of its page is unflushed
 abbrev pub WaitsFor : PoolState → ℕ → List DeviceState → Type 0
 WaitsFor old i devices =
     (nth_frame old.frames i).dirty ≡ true → (p : PageId) → (nth_frame old.frames i).page ≡ Some p → (nth_device devices p.dev).waiting ≡ true
 
--- The page of the frame is on its device as it is in the frame, and nothing has changed to a caller. A page that was written waits on its
--- device for the next flush.
+-- The page of the frame is written back, and nothing has changed for a caller. The device of a page
+-- that was written is unflushed until its next flush.
 pub record Cleans (old : PoolState) (i : ℕ) (new : PoolState) : Type 0 where
   pub frames : new.frames ≡ set old.frames i (cleaned (nth_frame old.frames i))
   pub devices : KeptDevices old.frames old.devices new.devices
@@ -48,7 +49,7 @@ pub record Cleans (old : PoolState) (i : ℕ) (new : PoolState) : Type 0 where
   pub failures : map (λ d. d.failures) new.devices ≡ map (λ d. d.failures) old.devices
   pub same : (new.page_size ≡ old.page_size) × (new.spare ≡ old.spare)
 
--- the page of the frame was not written to its device, which has changed alone, and has something to flush
+-- the write-back of the frame's page failed; only its device has changed, and it is unflushed
 pub record CleanFails (old : PoolState) (i : ℕ) (new : PoolState) : Type 0 where
   pub page : PageId
   pub holds : (nth_frame old.frames i).page ≡ Some page
@@ -58,14 +59,14 @@ pub record CleanFails (old : PoolState) (i : ℕ) (new : PoolState) : Type 0 whe
   pub others : (k : ℕ) → k ≢ page.dev → nth_device new.devices k ≡ nth_device old.devices k
   pub fails : FailsAt (view_of old) page.dev (view_of new)
 
--- The frames that are concerned: those of one device, or all
+-- The selected frames: those of one device, or all
 
--- the page is one of this device
+-- the page is of this device
 abbrev pub is_on : ℕ → Option PageId → Bool
 is_on dev None = false
 is_on dev (Some p) = p.dev == dev
 
--- whether a frame with this page is concerned: where no device is named, each is
+-- whether a frame with this page is selected: all frames are, where no device is named
 abbrev pub is_chosen : Option ℕ → Option PageId → Bool
 is_chosen None page = true
 is_chosen (Some dev) page = is_on dev page
@@ -73,29 +74,30 @@ is_chosen (Some dev) page = is_on dev page
 abbrev pub clean_if : Option ℕ → FrameState → FrameState
 clean_if which f = if is_chosen which f.page then cleaned f else f
 
--- those of the first n frames that are concerned clean, the others as they are
+-- the frames, with the selected ones of the first n clean
 abbrev pub cleaned_chosen : Option ℕ → ℕ → List FrameState → List FrameState
 cleaned_chosen which n frames = map (clean_if which) (take n frames) ++ drop n frames
 
--- the pages of frames went to their devices, and nothing has changed to a caller
+-- the pages of frames were written back, and nothing has changed for a caller
 pub record PutsDown (frames : List FrameState) (old new : PoolState) : Type 0 where
   pub becomes : new.frames ≡ frames
   pub devices : KeptDevices old.frames old.devices new.devices
   pub failures : map (λ d. d.failures) new.devices ≡ map (λ d. d.failures) old.devices
   pub same : (new.page_size ≡ old.page_size) × (new.spare ≡ old.spare)
 
--- the pages of all frames that are concerned went to their devices; that of one frame did, where it is concerned
+-- the pages of all selected frames were written back; that of one frame was, where it is selected
 abbrev pub PutsAllDown : Option ℕ → PoolState → PoolState → Type 0
 PutsAllDown which old new = PutsDown (cleaned_chosen which (length old.frames) old.frames) old new
 
 abbrev pub PutsOneDown : Option ℕ → PoolState → ℕ → PoolState → Type 0
 PutsOneDown which old i new = PutsDown (set old.frames i (clean_if which (nth_frame old.frames i))) old new
 
--- the page of a frame that is concerned was not written
+-- the write of the page of a selected frame failed
 abbrev pub ChosenFails : Option ℕ → PoolState → ℕ → PoolState → Type 0
 ChosenFails which old i new = IsTrue (is_chosen which (nth_frame old.frames i).page) × CleanFails old i new
 
--- the page of one frame that is concerned was not written, those of the frames before it were
+-- the write of the page of one selected frame failed, those of the selected frames before it
+-- succeeded
 pub record StopsAt (which : Option ℕ) (old new : PoolState) : Type 0 where
   pub frame : ℕ
   pub page : PageId

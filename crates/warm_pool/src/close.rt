@@ -1,4 +1,4 @@
-//! Writing a pool's pages back, and emptying it.
+//! Writing back a pool's pages, and emptying the pool.
 ghost use Rattle.std.specs.Prelude.{◌≡◌, ◌<◌, length, true, false, Some, None, Option, OnOk, OnErr, IfErr, MatchBool};
 ghost use Rattle.warm_devices.specs.Device.{DeviceState};
 ghost use Rattle.warm_pool.specs.State.{IsSettled, IsRankedByAll, nth_device};
@@ -18,13 +18,13 @@ use std::fmt;
 use thiserror::Error;
 use warm_devices::{DeviceFault, PageDevice};
 
-/// Why a pool was not closed, and the pool. As an error it shows the fault.
+/// Why a pool was not closed, and the pool. As an error it displays the fault.
 #[derive(Drop, Error)]
 #[error("{fault}")]
 pub struct Unclosed<D: PageDevice> {
-    /// Why: `Fixed` or `Fault`.
+    /// The reason: `Fixed` or `Fault`.
     pub fault: PoolFault,
-    /// The pool, whose pages, fixes and contents are as they were.
+    /// The pool; its pages, pin counts and contents are unchanged.
     pub pool: Pool<D>,
 }
 
@@ -37,11 +37,12 @@ impl<D: PageDevice> fmt::Debug for Unclosed<D> {
 }
 
 impl<D: PageDevice> Pool<D> {
-    /// Writes each page that was written to back to its device, in the order of frames, and then flushes the devices on which
-    /// something waits, in rising order.
+    /// Writes back each dirty page to its device, in the order of frames, and then flushes the
+    /// unflushed devices, in rising order.
     ///
     /// # Errors
-    /// `Fault` at the first write or flush that fails. Pages, fixes and contents stay, and so does what was written by then.
+    /// `Fault` at the first write or flush that fails. Pages, pin counts and contents are
+    /// unchanged, and the write-backs made before it stay.
     pub fn write_back_all(&mut self) -> Result<(), PoolFault>
         ensures ranked { KeepsRanks self.old self.new }
         ensures same { OnOk result (view_of self.new ≡ view_of self.old) }
@@ -55,10 +56,11 @@ impl<D: PageDevice> Pool<D> {
         }
     }
 
-    /// Writes all back as [`Pool::write_back_all`] does, and then takes every page out of its frame.
+    /// Writes back all pages as [`Pool::write_back_all`] does, and then evicts every page.
     ///
     /// # Errors
-    /// `Fixed` where a page is fixed, which changes nothing; else `Fault`, which leaves what it leaves there.
+    /// `Fixed` where a page is pinned, which changes nothing; otherwise `Fault`, as for
+    /// [`Pool::write_back_all`].
     pub fn empty(&mut self) -> Result<(), PoolFault>
         ensures emptied { OnOk result (Emptied (view_of self.old) (view_of self.new)) }
         ensures settled { OnOk result (IsSettled self.new) }
@@ -72,10 +74,11 @@ impl<D: PageDevice> Pool<D> {
         Ok(())
     }
 
-    /// Writes all back as [`Pool::write_back_all`] does, and then drops the devices, on none of which anything waits.
+    /// Writes back all pages as [`Pool::write_back_all`] does, and then drops the devices, all of
+    /// which are flushed.
     ///
     /// # Errors
-    /// As [`Pool::empty`]; the pool comes back.
+    /// As [`Pool::empty`]; the pool is returned.
     pub fn close(mut self) -> Result<(), Unclosed<D>>
         ensures unfixed { OnOk result (IsUnfixed (view_of self)) }
         ensures refused { IfErr result (λ unclosed. EmptyRefused
@@ -93,16 +96,18 @@ impl<D: PageDevice> Pool<D> {
         }
     }
 
-    /// Lets another device take the place of one. What was written to the pages of the old one goes to it, it is flushed, its pages leave
-    /// their frames, and it is dropped, with nothing waiting on it. The new device may have another number of pages. Frames of other
-    /// devices stay as they are, refused or not.
+    /// Replaces a device with another. The dirty pages of the old device are written back, it is
+    /// flushed, its pages are evicted, and it is dropped. The new device may have another number of
+    /// pages. Frames of other devices are unchanged, whether the call is refused or not.
     ///
     /// # Errors
-    /// In this order; each gives the new device back, and leaves pages, fixes and contents as they were.
+    /// In this order; each gives the new device back, and leaves pages, pin counts and contents
+    /// unchanged.
     /// - `NoDevice`: there is no device of this number.
-    /// - `SizeDiffers`: the pages of the new device have another size than those of the pool.
-    /// - `Fixed`: a page of the device is fixed.
-    /// - `Fault`: a write or the flush of the device failed, whose count of failures has grown.
+    /// - `SizeDiffers`: the page size of the new device is not that of the pool.
+    /// - `Fixed`: a page of the device is pinned.
+    /// - `Fault`: a write or the flush of the device failed, and its count of failures has
+    ///   increased.
     pub fn retire(&mut self, dev: u16, device: D) -> Result<(), Unretired<D>>
         ensures retired { OnOk result (Retired (view_of self.old) dev
             (D.state device) (view_of self.new)) }
@@ -122,7 +127,8 @@ impl<D: PageDevice> Pool<D> {
         }
     }
 
-    // Writes the pages of a device back and flushes it, where a device with pages of this size may take its place.
+    // Writes back the pages of a device and flushes it, where a device with pages of this size may
+    // replace it.
     fn make_way(&mut self, dev: u16, page_size: usize) -> Result<(), PoolFault>
         ensures way { OnOk result (MakesWay
             self.old dev page_size self.new) }
@@ -147,7 +153,7 @@ impl<D: PageDevice> Pool<D> {
         }
     }
 
-    // Writes the pages of one device back and flushes it.
+    // Writes back the pages of one device and flushes it.
     fn settle_device(&mut self, dev: u16) -> Result<(), DeviceFault>
         requires there { dev < length self.old.devices }
         ensures down { OnOk result (PutsAllDown (Some dev)
@@ -163,7 +169,7 @@ impl<D: PageDevice> Pool<D> {
         Ok(())
     }
 
-    // Lets a device take the place of one on which nothing waits, and whose pages leave their frames.
+    // Replaces a flushed device, and evicts its pages.
     fn take_in(&mut self, dev: u16, device: D)
         requires there { dev < length self.old.devices }
         requires clean { AreClean (Some dev) self.old.frames }
@@ -177,7 +183,7 @@ impl<D: PageDevice> Pool<D> {
         exchange(&mut self.devices, dev as usize, device);
     }
 
-    // Writes all pages back and flushes all devices, where no page is fixed.
+    // Writes back all pages and flushes all devices, where no page is pinned.
     fn put_down(&mut self) -> Result<(), PoolFault>
         ensures unfixed { OnOk result (AreUnfixed None self.old.frames) }
         ensures down { OnOk result (PutsAllDown None
@@ -196,7 +202,7 @@ impl<D: PageDevice> Pool<D> {
         }
     }
 
-    // Writes all pages back and flushes all devices.
+    // Writes back all pages and flushes all devices.
     fn settle(&mut self) -> Result<(), DeviceFault>
         ensures down { OnOk result (PutsAllDown None
             self.old self.new) }
@@ -210,7 +216,7 @@ impl<D: PageDevice> Pool<D> {
         Ok(())
     }
 
-    // Writes the pages of the frames that are concerned back.
+    // Writes back the pages of the selected frames.
     fn clean_chosen(&mut self, which: Option<u16>) -> Result<(), DeviceFault>
         ensures down { OnOk result (PutsAllDown which
             self.old self.new) }
@@ -223,7 +229,7 @@ impl<D: PageDevice> Pool<D> {
         Ok(())
     }
 
-    // Writes the page of a frame back, where it is concerned.
+    // Writes back the page of a frame, where it is selected.
     fn clean_if(&mut self, at: usize, which: Option<u16>) -> Result<(), DeviceFault>
         requires there { at < length self.old.frames }
         ensures down { OnOk result (PutsOneDown which
@@ -238,7 +244,7 @@ impl<D: PageDevice> Pool<D> {
     }
 }
 
-// Whether a frame that is concerned has a fix.
+// Whether a selected frame has a pinned page.
 fn is_fixed(frames: &Frames, which: Option<u16>) -> bool
     ensures { MatchBool result (IsFixedIn which frames.now.frames)
         (AreUnfixed which frames.now.frames) }

@@ -1,4 +1,4 @@
-//! Calls of one of a pool's devices, and what they do to the list of them.
+//! Calls of one of a pool's devices, and their effect on the device list.
 ghost use Rattle.std.specs.Prelude.{◌≡◌, ◌↔◌, ◌<◌, IsTrue, map, length};
 ghost use Rattle.warm_pool.specs.State.{nth_device};
 ghost use Rattle.warm_pool.specs.DeviceCalls.{AreOfSize, PageRead, PageWrite};
@@ -39,7 +39,7 @@ pub(crate) fn write_page<D: PageDevice>(
     devices[page.dev as usize].write(page.no, bytes)
 }
 
-/// How many pages one of the devices has.
+/// The number of pages of one of the devices.
 pub(crate) fn pages_of<D: PageDevice>(devices: &[D], device: usize) -> u64
     requires { device < length devices.now }
     ensures { result ≡ (nth_device (map D.state devices.now) device).pages }

@@ -1,4 +1,4 @@
-//! Why no pool was made, and why a call of one was refused.
+//! Why a pool was not made, and why a call of a pool was refused.
 ghost use Rattle.std.specs.Prelude.{◌≡◌};
 ghost use Rattle.warm_pool.specs.Faults.{code_of, name_of, new_code_of, new_name_of};
 
@@ -7,16 +7,16 @@ use std::fmt;
 use thiserror::Error;
 use warm_devices::PageDevice;
 
-/// Why no pool was made. The numbers go on in [`PoolFault`].
+/// Why a pool was not made. The numbers continue in [`PoolFault`].
 #[derive(Clone, Copy, PartialEq, Eq, Debug, Error)]
 pub enum NewPoolFault {
-    /// 1: there was no memory for the frames.
+    /// 1: the allocation of the frames failed.
     #[error("Memory")]
     Memory,
-    /// 2: a pool has 1 to 65,536 frames.
+    /// 2: the number of frames is outside 1 to 65,536.
     #[error("BadFrames")]
     BadFrames,
-    /// 3: a page has 1 to 65,536 bytes, on each device of a pool the same number.
+    /// 3: the page size is outside 1 to 65,536 bytes, or is not that of each device.
     #[error("SizeDiffers")]
     SizeDiffers,
 }
@@ -57,11 +57,11 @@ impl From<AllocError> for NewPoolFault {
     }
 }
 
-/// Why a call of a pool was refused. Each call says which of these it may answer, and what it then leaves. No call of a pool takes
-/// memory.
+/// Why a call of a pool was refused. Each call documents which of these it may return, and what it
+/// then leaves. All calls of a pool are allocation-free.
 #[derive(Clone, Copy, PartialEq, Eq, Debug, Error)]
 pub enum PoolFault {
-    /// 3: the pages of a new device have another size than those of the pool: `retire` alone answers it.
+    /// 3: the page size of a new device is not that of the pool. Only `retire` returns it.
     #[error("SizeDiffers")]
     SizeDiffers,
     /// 4: the pool has no such device.
@@ -70,25 +70,25 @@ pub enum PoolFault {
     /// 5: the device has no such page.
     #[error("NoPage")]
     NoPage,
-    /// 6: each frame has a page, and all are fixed.
+    /// 6: each frame has a page, and all pages are pinned.
     #[error("AllFixed")]
     AllFixed,
     /// 7: the page couldn't be read from its device.
     #[error("ReadFault")]
     ReadFault,
-    /// 8: the page that would leave couldn't be written to its device.
+    /// 8: the victim couldn't be written back to its device.
     #[error("WriteBack")]
     WriteBack,
-    /// 9: the page has as many fixes as it can, or as many pages as can were put into the frame.
+    /// 9: the page has the greatest pin count, or the frame has the greatest generation.
     #[error("FixesFull")]
     FixesFull,
     /// 10: the bytes reach beyond the end of the page.
     #[error("OutOfPage")]
     OutOfPage,
-    /// 11: a page is fixed that would leave.
+    /// 11: a page that would be evicted is pinned.
     #[error("Fixed")]
     Fixed,
-    /// 12: a page couldn't be written to its device, or a device not flushed.
+    /// 12: a page couldn't be written to its device, or a device couldn't be flushed.
     #[error("Fault")]
     Fault,
 }
@@ -131,13 +131,14 @@ impl PoolFault {
     }
 }
 
-/// Why no pool was made, and the devices that were given for it. As an error it displays the fault.
+/// Why a pool was not made, and the devices that were given for it. As an error it displays the
+/// fault.
 #[derive(Drop, Error)]
 #[error("{fault}")]
 pub struct Unmade<D: PageDevice> {
-    /// Why.
+    /// The reason.
     pub fault: NewPoolFault,
-    /// The devices, as they were.
+    /// The devices, unchanged.
     pub devices: Vec<D>,
 }
 
@@ -149,13 +150,14 @@ impl<D: PageDevice> fmt::Debug for Unmade<D> {
     }
 }
 
-/// Why a device was not retired, and the device that was to take its place. As an error it shows the fault.
+/// Why a device was not retired, and the device that was to replace it. As an error it displays the
+/// fault.
 #[derive(Drop, Error)]
 #[error("{fault}")]
 pub struct Unretired<D: PageDevice> {
-    /// Why: `NoDevice`, `SizeDiffers`, `Fixed` or `Fault`.
+    /// The reason: `NoDevice`, `SizeDiffers`, `Fixed` or `Fault`.
     pub fault: PoolFault,
-    /// The new device, as it was.
+    /// The new device, unchanged.
     pub device: D,
 }
 

@@ -1,4 +1,4 @@
-//! Flushing a pool's devices, and letting them go.
+//! Flushing a pool's devices, and dropping them.
 ghost use Rattle.std.specs.Prelude.{◌≡◌, ℕ, ◌<◌, length, map, set, false, OnErr, OnOk};
 ghost use Rattle.warm_pool.specs.State.{nth_device};
 ghost use Rattle.warm_pool.specs.Flushes.{DeviceFlush, FlushedTo, FlushStops, NoneWaits};
@@ -6,7 +6,7 @@ ghost use Rattle.warm_pool.specs.Flushes.{DeviceFlush, FlushedTo, FlushStops, No
 use std::mem;
 use warm_devices::{DeviceFault, PageDevice, let_go};
 
-/// Flushes each device on which something waits, in rising order, up to the first that fails.
+/// Flushes each unflushed device, in rising order, up to the first that fails.
 pub(crate) fn flush_all<D: PageDevice>(devices: &mut Vec<D>) -> Result<(), DeviceFault>
     ensures flushed { OnOk result (FlushedTo (length devices.old.items)
         (map D.state devices.old.items) (map D.state devices.new.items)) }
@@ -19,7 +19,7 @@ pub(crate) fn flush_all<D: PageDevice>(devices: &mut Vec<D>) -> Result<(), Devic
     Ok(())
 }
 
-/// Flushes one of the devices, where something waits on it.
+/// Flushes one of the devices, where it is unflushed.
 pub(crate) fn flush_device<D: PageDevice>(
     devices: &mut Vec<D>,
     at: usize,
@@ -34,7 +34,7 @@ pub(crate) fn flush_device<D: PageDevice>(
     devices[at].flush()
 }
 
-/// Drops devices on which nothing waits.
+/// Drops flushed devices.
 pub(crate) fn let_all_go<D: PageDevice>(mut devices: Vec<D>)
     requires { NoneWaits (map D.state devices.items) }
 {
@@ -43,7 +43,7 @@ pub(crate) fn let_all_go<D: PageDevice>(mut devices: Vec<D>)
     }
 }
 
-/// Puts a device in the place of one on which nothing waits, and drops that.
+/// Replaces a flushed device with another, and drops the old one.
 pub(crate) fn exchange<D: PageDevice>(devices: &mut Vec<D>, at: usize, device: D)
     requires there { at < length devices.old.items }
     requires quiet { (nth_device (map D.state devices.old.items) at).waiting ≡ false }

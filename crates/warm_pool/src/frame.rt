@@ -1,18 +1,20 @@
-//! What stands in a frame.
+//! The contents of a frame.
 use std::marker::Model;
 use warm_rank::RankKey;
 
-/// How a frame's page is used: how many fixes it has, and whether it was written to since it was last on its device as it is here.
+/// The status of a frame's page: its pin count (`fixes`), and whether it is dirty (written to since
+/// it was last equal to its device's copy).
 ///
-/// A pool that is emptied asks this of each of its frames, so the statuses of all frames stand together.
+/// Emptying a pool reads the status of each frame, so the statuses of all frames are stored
+/// together.
 #[derive(Clone, Copy)]
 pub(crate) struct Status {
     pub(crate) fixes: u32,
     pub(crate) dirty: bool,
 }
 
-/// What else stands in a frame: the rank of its page, which means nothing once the page has left; how many pages were put into it; and
-/// its bytes.
+/// The rest of a frame: the rank of its page, which means nothing once the page is evicted; the
+/// generation, which counts the pages loaded into it; and its bytes.
 #[derive(Drop)]
 pub(crate) struct Frame {
     pub(crate) key: Option<RankKey>,

@@ -16,10 +16,10 @@ use std::mem;
 use warm_rank::{Contest, MAX_SLOTS, RankKey};
 use warm_stamps::PageId;
 
-/// The frames of a pool, where each page is, and the rank of each page that may leave.
+/// The frames of a pool, the frame of each page, and the rank of each page that may be evicted.
 ///
-/// What is asked of all frames at once, their pages and their statuses, stands apart from ranks and bytes: a pool that is emptied
-/// goes over little memory.
+/// The data that is read of all frames at once, their pages and statuses, is stored apart from
+/// ranks and bytes, so that emptying a pool scans little memory.
 #[derive(Drop)]
 pub(crate) struct Frames {
     page_size: usize,
@@ -43,7 +43,7 @@ impl Model for Frames {
 }
 
 impl Frames {
-    /// Frames without a page, whose memory is allocated here.
+    /// Frames without a page. Their memory is allocated here.
     pub(crate) fn new(alloc: Global, frames: usize, page_size: usize) -> Result<Frames, AllocError>
         requires some { 0 < frames }
         requires few { frames ≤ MAX_SLOTS }
@@ -69,7 +69,7 @@ impl Frames {
         self.page_size
     }
 
-    /// How many frames there are.
+    /// The number of frames.
     pub(crate) fn len(&self) -> usize
         ensures { result ≡ length self.now.frames }
     {
@@ -84,7 +84,7 @@ impl Frames {
         self.residents.page(at)
     }
 
-    /// How many fixes the page in a frame has.
+    /// The pin count of the page in a frame.
     pub(crate) fn fixes(&self, at: usize) -> u32
         requires { at < length self.now.frames }
         ensures { result ≡ (nth_frame self.now.frames at).fixes }
@@ -92,7 +92,8 @@ impl Frames {
         self.statuses[at].fixes
     }
 
-    /// Whether the page in a frame was written to since it was last on its device as it is here.
+    /// Whether the page in a frame is dirty: written to since it was last equal to its device's
+    /// copy.
     pub(crate) fn is_dirty(&self, at: usize) -> bool
         requires { at < length self.now.frames }
         ensures { result ≡ (nth_frame self.now.frames at).dirty }
@@ -100,7 +101,7 @@ impl Frames {
         self.statuses[at].dirty
     }
 
-    /// How many pages were put into a frame.
+    /// The generation of a frame: how many pages were loaded into it.
     pub(crate) fn generation(&self, at: usize) -> u64
         requires { at < length self.now.frames }
         ensures { result ≡ (nth_frame self.now.frames at).generation }
@@ -130,14 +131,14 @@ impl Frames {
         self.residents.first_free()
     }
 
-    /// The frame of the least rank among those of pages without a fix.
+    /// The frame of the least rank among those of unpinned pages.
     pub(crate) fn least(&self) -> Option<usize>
         ensures { IsLeast key_cmp (map leaving_key self.now.frames) result }
     {
         self.contest.least()
     }
 
-    /// Adds a fix.
+    /// Adds a pin.
     pub(crate) fn fix(&mut self, at: usize)
         requires there { at < length self.old.frames }
         requires below { (nth_frame self.old.frames at).fixes < 2 ^ 32 - 1 }
@@ -148,7 +149,7 @@ impl Frames {
         self.contest.set(at, None);
     }
 
-    /// Takes a fix away. A page without a fix may leave.
+    /// Removes a pin. An unpinned page may be evicted.
     pub(crate) fn unfix(&mut self, at: usize)
         requires there { at < length self.old.frames }
         requires held { (nth_frame self.old.frames at).page ≢ None }
@@ -161,7 +162,7 @@ impl Frames {
         self.contest.set(at, key);
     }
 
-    /// Renews the rank of a page.
+    /// Updates the rank of a page.
     pub(crate) fn rank(&mut self, at: usize, key: RankKey)
         requires there { at < length self.old.frames }
         requires held { (nth_frame self.old.frames at).page ≢ None }
@@ -173,7 +174,7 @@ impl Frames {
         self.contest.set(at, key);
     }
 
-    /// Puts a page with this many fixes into a frame, whose bytes change places with these.
+    /// Loads a page with this pin count into a frame, and swaps the frame's bytes with these.
     pub(crate) fn put(
         &mut self,
         at: usize,
@@ -198,7 +199,7 @@ impl Frames {
         self.contest.set(at, key);
     }
 
-    /// Says that a page is on its device as it is here.
+    /// Marks the page of a frame as clean.
     pub(crate) fn clean(&mut self, at: usize)
         requires there { at < length self.old.frames }
         ensures { self.new ≡ changed_at self.old at cleaned }
@@ -218,8 +219,8 @@ impl Frames {
         status.dirty = true;
     }
 
-    /// Takes the pages that are concerned out of their frames, where each is on its device as it is here. Generations and bytes stay.
-    /// The cost is linear in the frames.
+    /// Evicts the pages of the selected frames, each of which is clean. Generations and bytes are
+    /// unchanged. The cost is linear in the number of frames.
     pub(crate) fn vacate_chosen(&mut self, which: Option<u16>)
         requires { AreClean which self.old.frames }
         ensures { self.new ≡ record self.old { frames = vacated_chosen which self.old.frames } }
@@ -244,7 +245,7 @@ fn unused(alloc: Global, frames: usize) -> Result<Vec<Status>, AllocError>
     Ok(statuses)
 }
 
-// Frames into which no page was put.
+// Frames into which no page was ever loaded.
 fn fresh_frames(alloc: Global, frames: usize, page_size: usize) -> Result<Vec<Frame>, AllocError>
     ensures { IfOk result (λ made. made.items ≡ fresh_bodies frames page_size) }
 {
@@ -255,7 +256,7 @@ fn fresh_frames(alloc: Global, frames: usize, page_size: usize) -> Result<Vec<Fr
     Ok(made)
 }
 
-// A frame into which no page was put.
+// A frame into which no page was ever loaded.
 fn fresh(alloc: Global, page_size: usize) -> Result<Frame, AllocError>
     ensures { IfOk result (λ frame. frame ≡ fresh_body (replicate page_size 0)) }
 {
@@ -267,7 +268,7 @@ fn fresh(alloc: Global, page_size: usize) -> Result<Frame, AllocError>
     })
 }
 
-// Says that another page was put into a frame, whose bytes change places with these.
+// Records that another page was loaded into a frame, and swaps the frame's bytes with these.
 fn fill(frame: &mut Frame, key: RankKey, bytes: &mut Vec<u8>)
     requires { frame.old.generation < 2 ^ 64 - 1 }
     ensures frame { frame.new ≡ filled_body key bytes.old.items frame.old }
@@ -278,7 +279,7 @@ fn fill(frame: &mut Frame, key: RankKey, bytes: &mut Vec<u8>)
     frame.generation += 1;
 }
 
-// Writes bytes into those of a frame, from `from` on.
+// Overwrites the bytes of a frame, from `from` on.
 fn overwrite(frame: &mut Frame, from: usize, bytes: &[u8])
     requires { from + length bytes.now ≤ length frame.old.bytes }
     ensures { frame.new ≡ record frame.old { bytes = patched frame.old.bytes from bytes.now } }
@@ -286,7 +287,7 @@ fn overwrite(frame: &mut Frame, from: usize, bytes: &[u8])
     frame.bytes[from..from + bytes.len()].copy_from_slice(bytes);
 }
 
-// The rank by which a frame's page with this many fixes may leave.
+// The rank with which a frame's page of this pin count competes for eviction.
 fn leaving(fixes: u32, frame: &Frame) -> Option<RankKey>
     ensures { result ≡ key_unless_fixed fixes frame.now.key }
 {

@@ -1,15 +1,21 @@
-//! A buffer pool: pages of devices in frames, and which page leaves when another comes in.
+//! A buffer pool: frames that hold pages of devices, and the choice of the page that is evicted
+//! when another is loaded.
 //!
-//! A page comes into a frame by [`Pool::pin`] or [`Pool::load`], and leaves only for another page, or where the pool is emptied or its
-//! device retired. The page that leaves is the victim: of the resident pages without a fix the one of the greatest backward
-//! 2-distance (O'Neil, O'Neil, Weikum, "The LRU-K Page Replacement Algorithm For Database Disk Buffering", SIGMOD 1993), as a history
-//! ranks them. A page that was written to goes to its device before it leaves. No call changes a byte of a page but [`Pool::write`], and
-//! [`Pool::retire`], which exchanges all pages of a device for those of another.
+//! A page is loaded into a frame by [`Pool::pin`] or [`Pool::load`], and is evicted only for
+//! another page, or where the pool is emptied or its device retired. The page that is evicted is
+//! the victim: of the unpinned resident pages, the one of the greatest backward 2-distance (O'Neil,
+//! O'Neil, Weikum, "The LRU-K Page Replacement Algorithm For Database Disk Buffering", SIGMOD
+//! 1993), as a history ranks them. A dirty page is written back to its device before it is evicted.
+//! No call changes a byte of a page but [`Pool::write`], and [`Pool::retire`], which replaces all
+//! pages of a device with those of another. The pin count of a page is called its fixes, and a
+//! pinned page is fixed.
 //!
-//! To clauses a pool is plain data, a `PoolState`, and `view_of` is what of it a caller sees. They stand in `specs/State.antt` and
-//! `specs/View.antt`, and what the calls do to them in `Opening.antt`, `Pinning.antt`, `PageBytes.antt`, `Refreshing.antt`,
-//! `WritingBack.antt` and `Retiring.antt` beside them. That a state is one of a pool (`IsPool`) is the invariant of the type, which each
-//! call keeps. The devices come from the caller, and are of one type; the pool drops one only where nothing waits in it.
+//! Contracts see a pool as plain data, a `PoolState`, and `view_of` gives what a caller sees of it.
+//! They are defined in `specs/State.antt` and `specs/View.antt`, and the effects of the calls in
+//! `Opening.antt`, `Pinning.antt`, `PageBytes.antt`, `Refreshing.antt`, `WritingBack.antt` and
+//! `Retiring.antt` beside them. `IsPool` is the invariant of the type, which each call keeps. The
+//! devices come from the caller, and are of one type; the pool drops a device only where it is
+//! flushed.
 #![tactic(auto)]
 
 mod close;
@@ -31,5 +37,5 @@ pub use named::NamesPage;
 pub use pool::Pool;
 pub use slot::Slot;
 
-/// The most devices of a pool: a page names its device in 16 bits.
+/// The maximum number of devices of a pool: a page names its device in 16 bits.
 pub const MAX_DEVICES: usize = 65_536;

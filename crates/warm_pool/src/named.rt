@@ -1,11 +1,11 @@
-//! What names a page.
+//! Values that name a page.
 ghost use Rattle.std.specs.Prelude.{◌≡◌};
 ghost use Rattle.warm_stamps.specs.declared.PageId.{PageId};
 
 use warm_history::Entry;
 use warm_stamps::{PageId, Reference};
 
-/// What names a page: a reference to it, an entry of a history, or the page itself.
+/// A value that names a page: a reference to it, an entry of a history, or the page itself.
 pub trait NamesPage {
     /// The page that it names.
     ghost named: { Self → PageId };

@@ -29,13 +29,15 @@ use warm_history::laws::is_history;
 use warm_rank::{MAX_SLOTS, RankKey, key_of};
 use warm_stamps::PageId;
 
-/// Pages of devices in frames.
+/// A buffer pool: frames that hold pages of devices.
 ///
-/// To clauses a pool is plain data, of which it always holds that it is a pool (`IsPool`: [`Pool::is_pool`]). What a caller sees of
-/// it is its `view_of`. A pool is *ranked by* a history where the rank of each resident page is the one that the history gives it. A
-/// pool without a page is ranked by every history.
+/// Contracts see a pool as plain data that always satisfies the invariant of pools (`IsPool`:
+/// [`Pool::is_pool`]). What a caller sees is its `view_of`. A pool is *ranked by* a history where
+/// the rank of each resident page is the one that the history gives it. A pool without a page is
+/// ranked by every history.
 ///
-/// A pool that is dropped settles its devices by their own drops, but loses what only its dirty frames hold: close it instead.
+/// A pool that is dropped settles its devices by their own drops, but loses the contents of its
+/// dirty frames: close it instead.
 pub struct Pool<D: PageDevice> {
     pub(crate) frames: Frames,
     pub(crate) devices: Vec<D>,
@@ -43,7 +45,7 @@ pub struct Pool<D: PageDevice> {
     pub(crate) spare: Vec<u8>,
 }
 
-// By hand, so that an owner makes one call at each way out (see `History`).
+// Written by hand, so that an owner makes one call on each exit path (see `History`).
 impl<D: PageDevice> Drop for Pool<D> {
     fn drop(mut self) {
         let Self {
@@ -70,7 +72,8 @@ impl<D: PageDevice> Model for Pool<D> {
 }
 
 impl<D: PageDevice> Pool<D> {
-    // Its devices, and no pool any more: a pool is taken apart beside its drop alone.
+    // Takes the pool apart and returns its devices. Apart from the drop, only this function takes a
+    // pool apart.
     pub(crate) fn into_devices(self) -> Vec<D>
         ensures { map D.state result.items ≡ self.devices }
     {
@@ -84,13 +87,15 @@ impl<D: PageDevice> Pool<D> {
         devices
     }
 
-    /// A pool of this many frames, none with a page, over these devices. All memory that it needs is allocated here.
+    /// A pool of this many frames without pages, over these devices. All memory that it needs is
+    /// allocated here.
     ///
-    /// There may be [`MAX_DEVICES`] devices at most.
+    /// There may be at most [`MAX_DEVICES`] devices.
     ///
     /// # Errors
-    /// `BadFrames` where `frames` is outside 1 to [`warm_rank::MAX_SLOTS`]; else `SizeDiffers` where `page_size` is outside 1 to
-    /// [`MAX_PAGE_SIZE`], or is not that of each device; else `Memory`. Each gives the devices back.
+    /// `BadFrames` where `frames` is outside 1 to [`warm_rank::MAX_SLOTS`]; else `SizeDiffers`
+    /// where `page_size` is outside 1 to [`MAX_PAGE_SIZE`], or is not that of each device; else
+    /// `Memory` where an allocation fails. Each gives the devices back.
     pub fn new(
         alloc: Global,
         frames: usize,
@@ -115,15 +120,15 @@ impl<D: PageDevice> Pool<D> {
         }
     }
 
-    /// A theorem, for a caller that needs it: what holds of every pool. Nothing is done.
+    /// A theorem, for a caller that needs it: the invariant of pools. It does nothing at run time.
     pub fn is_pool(&self)
         ensures { IsPool self.now }
     {
-        // A field that is read brings in what is always true of a pool; it costs nothing.
+        // Reading a field brings the type's invariant into the proof; it costs nothing.
         let _frames = &self.frames;
     }
 
-    /// How many frames there are, with a page or without.
+    /// The number of frames, with a page or without.
     pub fn frames(&self) -> usize
         ensures { result ≡ length (view_of self.now).frames }
     {
@@ -157,7 +162,8 @@ impl<D: PageDevice> Pool<D> {
         }
     }
 
-    /// Whether the slot's frame has a fix, and no other page was put into it since the slot was given.
+    /// Whether the slot's frame is pinned, and no other page was loaded into it since the slot was
+    /// given.
     pub fn holds(&self, slot: Slot) -> bool
         ensures { IsTrue result ↔ Holds (view_of self.now) slot }
     {
@@ -168,19 +174,21 @@ impl<D: PageDevice> Pool<D> {
         self.frames.generation(at) == slot.generation && self.frames.fixes(at) > 0
     }
 
-    /// Gives a page one more fix, and puts it into a frame where it is in none: into the first free frame, else into that of the
-    /// victim. A page with a fix doesn't leave. A page comes in clean; no other frame changes, and no device unless a victim that
-    /// was written to leaves: it goes to its device, where it waits for the next flush.
+    /// Adds a pin to a page, and loads the page where it isn't resident: into the first free frame,
+    /// else into that of the victim. A pinned page isn't evicted. A loaded page is clean. No other
+    /// frame changes, and no device changes unless the victim is dirty: it is written back to its
+    /// device, which is then unflushed.
     ///
     /// # Errors
-    /// In this order; each leaves all frames, and so pages, fixes and contents, as they were.
+    /// In this order; each leaves all frames, and so pages, pin counts and contents, unchanged.
     /// - `NoDevice`, `NoPage`: there is no such device, or it has no such page.
-    /// - `FixesFull`: the page is resident and has 2^32-1 fixes.
-    /// - `AllFixed`: the page isn't resident, each frame has a page, and all are fixed.
-    /// - `FixesFull`: the frame into which the page would go has the generation 2^64-1.
-    /// - `ReadFault`: the page was not read. Its device's count of failures has grown, and nothing else of any device has changed.
-    /// - `WriteBack`: the page that would leave was written to, and could not be written to its device, whose count of failures has
-    ///   grown, and on which something waits for a flush. Other devices are as they were.
+    /// - `FixesFull`: the page is resident and its pin count is 2^32-1.
+    /// - `AllFixed`: the page isn't resident, each frame has a page, and all pages are pinned.
+    /// - `FixesFull`: the frame into which the page would be loaded has the generation 2^64-1.
+    /// - `ReadFault`: the read of the page failed. Its device's count of failures has increased,
+    ///   and nothing else of any device has changed.
+    /// - `WriteBack`: the victim is dirty, and its write-back failed. The count of failures of its
+    ///   device has increased, and that device is unflushed. Other devices are unchanged.
     pub fn pin(&mut self, page: PageId, history: &History) -> Result<Slot, PoolFault>
         requires ranked { RankedBy self.old history.now }
         ensures ranked { RankedBy self.new history.now }
@@ -205,10 +213,12 @@ impl<D: PageDevice> Pool<D> {
         }
     }
 
-    /// Puts a page into a frame as [`Pool::pin`] does, but without a fix. A resident page stays as it is.
+    /// Loads a page into a frame as [`Pool::pin`] does, but without a pin. A resident page is
+    /// unchanged.
     ///
     /// # Errors
-    /// Those of a pin, in its order, and with what it leaves; a resident page is never refused.
+    /// Those of [`Pool::pin`], in the same order and with the same effects; a resident page is
+    /// never refused.
     pub fn load(&mut self, page: PageId, history: &History) -> Result<Slot, PoolFault>
         requires ranked { RankedBy self.old history.now }
         ensures ranked { RankedBy self.new history.now }
@@ -238,8 +248,8 @@ impl<D: PageDevice> Pool<D> {
         }
     }
 
-    /// The page that would leave next: of the resident pages without a fix the one of the greatest backward 2-distance; `None` where
-    /// there is none.
+    /// The page that would be evicted next: of the unpinned resident pages, the one of the greatest
+    /// backward 2-distance; `None` where there is none.
     pub fn victim(&self) -> Option<PageId>
         ensures { IsNextVictim self.now result }
     {
@@ -249,7 +259,8 @@ impl<D: PageDevice> Pool<D> {
         self.frames.page(at)
     }
 
-    /// Takes a fix from the slot's page. Without a fix it may leave. What was written to it stays to be written back.
+    /// Removes a pin from the slot's page. An unpinned page may be evicted. A dirty page stays
+    /// dirty.
     pub fn unpin(&mut self, slot: Slot)
         requires holds { Holds (view_of self.old) slot }
         ensures ranked { KeepsRanks self.old self.new }
@@ -262,7 +273,7 @@ impl<D: PageDevice> Pool<D> {
     /// Reads bytes of the slot's page, from `at` on, into the whole of `into`.
     ///
     /// # Errors
-    /// `OutOfPage` where they reach beyond the end of the page; `into` is as it was.
+    /// `OutOfPage` where they reach beyond the end of the page; `into` is unchanged.
     pub fn read(&self, slot: Slot, at: usize, into: &mut [u8]) -> Result<(), PoolFault>
         requires holds { Holds (view_of self.now) slot }
         ensures read { OnOk result (IsRead (view_of self.now) slot at into.new) }
@@ -278,7 +289,8 @@ impl<D: PageDevice> Pool<D> {
         Ok(())
     }
 
-    /// Writes bytes into the slot's page, from `at` on. The page goes to its device before it leaves its frame, whatever it held.
+    /// Writes bytes into the slot's page, from `at` on. The page becomes dirty, even where no byte
+    /// differs: it is written back before it is evicted.
     ///
     /// # Errors
     /// `OutOfPage` where they reach beyond the end of the page; nothing is changed.
@@ -300,7 +312,8 @@ impl<D: PageDevice> Pool<D> {
         Ok(())
     }
 
-    /// Renews the ranks of those of the pages named that are resident. Other pages keep theirs. Takes no memory.
+    /// Updates the ranks of those of the named pages that are resident. Other pages keep theirs.
+    /// Allocation-free.
     pub fn refresh<T: NamesPage>(&mut self, history: &History, items: &[T])
         ensures ranked { RefreshesRanks (map T.named items.now) history.now
             self.old self.new }
@@ -313,7 +326,7 @@ impl<D: PageDevice> Pool<D> {
         }
     }
 
-    /// Renews the ranks of all resident pages.
+    /// Updates the ranks of all resident pages.
     pub fn refresh_all(&mut self, history: &History)
         ensures ranked { RankedBy self.new history.now }
         ensures same { view_of self.new ≡ view_of self.old }
@@ -324,7 +337,7 @@ impl<D: PageDevice> Pool<D> {
         }
     }
 
-    // Renews the rank of the page in a frame, if there is one.
+    // Updates the rank of the page in a frame, if there is one.
     fn renew_at(&mut self, history: &History, at: usize)
         requires there { at < length self.old.frames }
         ensures same { view_of self.new ≡ view_of self.old }
@@ -337,7 +350,7 @@ impl<D: PageDevice> Pool<D> {
         self.renew(history, page);
     }
 
-    // Renews the rank of a page, where it is resident.
+    // Updates the rank of a page, where it is resident.
     fn renew(&mut self, history: &History, page: PageId)
         ensures same { view_of self.new ≡ view_of self.old }
         ensures kept { KeepsBytes self.old self.new }
@@ -350,7 +363,7 @@ impl<D: PageDevice> Pool<D> {
         }
     }
 
-    // Whether a device has the page, and else why it can't come in.
+    // Checks that a device has the page; otherwise returns why it can't be loaded.
     fn check(&self, page: PageId) -> Result<(), PoolFault>
         ensures known { OnOk result (HasPage (view_of self.now) page) }
         ensures unknown { OnErr result (HasPage (view_of self.now) page → ⊥) }
@@ -377,7 +390,7 @@ impl<D: PageDevice> Pool<D> {
         at <= size && len <= size - at
     }
 
-    // Adds a fix to a resident page.
+    // Adds a pin to a resident page.
     fn add_fix(&mut self, at: usize) -> Result<Slot, PoolFault>
         requires there { at < length self.old.frames }
         requires held { (nth_frame self.old.frames at).page ≢ None }
@@ -402,7 +415,7 @@ impl<D: PageDevice> Pool<D> {
         Err(PoolFault::FixesFull)
     }
 
-    // The frame into which a page goes that comes in.
+    // The frame into which a page is loaded.
     fn place(&self) -> Option<usize>
         ensures place { IsNextPlace self.now result }
         ensures there { IfSome result (λ at. at < length self.now.frames) }
@@ -415,7 +428,7 @@ impl<D: PageDevice> Pool<D> {
         }
     }
 
-    // Puts a page that is in no frame into one, with this many fixes.
+    // Loads a page that is in no frame, with this pin count.
     fn bring(&mut self, page: PageId, history: &History, fixes: u32) -> Result<Slot, PoolFault>
         requires ranked { RankedBy self.old history.now }
         requires known { HasPage (view_of self.old) page }
@@ -448,7 +461,8 @@ impl<D: PageDevice> Pool<D> {
         Err(PoolFault::FixesFull)
     }
 
-    // Reads a page into the spare buffer, writes back the page that is in the frame, and then lets the two buffers change places.
+    // Reads a page into the spare buffer, writes back the page that is in the frame, and then swaps
+    // the two buffers.
     fn load_into(
         &mut self,
         at: usize,
@@ -477,10 +491,11 @@ impl<D: PageDevice> Pool<D> {
     }
 }
 
-// Writes the page of a frame to its device, where it isn't there as it is in the frame.
+// Writes back the page of a frame, where it is dirty.
 //
-// Frames and devices fit each other where they are those of a pool. A page that comes in is in the spare buffer by now, and the value
-// of a pool leaves the bytes of that buffer out: so this is over the fields, of which no type's invariant speaks.
+// Frames and devices are those of a pool. A page being loaded is already in the spare buffer, whose
+// bytes are not part of a pool's value: so this function takes the fields, to which no type
+// invariant applies.
 pub(crate) fn write_back<D: PageDevice>(
     frames: &mut Frames,
     devices: &mut Vec<D>,
@@ -528,7 +543,7 @@ fn parts<D: PageDevice>(
     Ok((frames, spare))
 }
 
-// Whether a pool may have this shape, and else why none is made.
+// Checks that a pool may have this shape; otherwise returns why it is refused.
 fn check_shape<D: PageDevice>(
     frames: usize,
     page_size: usize,
@@ -551,7 +566,7 @@ fn check_shape<D: PageDevice>(
 fn known_key(history: &History, page: PageId) -> RankKey
     ensures { result ≡ rank_key page (hist (refs history.now) page) }
 {
-    // The rank is that of the references that the history holds: they give this very history.
+    // The rank is over the references that the history holds: their history is this history.
     is_history(history);
     key_of(page, history.get(page))
 }

@@ -1,8 +1,9 @@
-//! Which frame holds a page, and which frame is free, both found without a scan.
+//! The page table: finds the frame of a page, and a free frame, without a scan.
 //!
-//! Frames stand in chains, each in rising order of frames: pages are spread over as many chains as there are frames, and the frames
-//! without a page stand in one of their own. A link is the number of the next frame, and the number of frames ends a chain. All memory
-//! is taken when the frames are made.
+//! Frames are linked in hash chains, each in rising order of frames: pages are spread over as many
+//! chains as there are frames, and the frames without a page are in a chain of their own. A link is
+//! the number of the next frame, and the number of frames ends a chain. All memory is allocated
+//! when the frames are made.
 ghost use Rattle.std.specs.Prelude.{◌≡◌, ℕ, List, ◌+◌, ◌<◌, ◌≤◌, length, map, replicate, set, slice_index, IfOk, IsTrue, None, Some, ◌↔◌};
 ghost use Rattle.warm_pool.specs.Chains.{AreChains, AreInTurn, AreLinked, IsLastBelow, after, chain_of, chains_of, hash_of, heads_led, link_after, loose, mixed, next_led, page_in};
 ghost use Rattle.warm_pool.specs.Residents.{IsFirstFree, IsPlaceOf};
@@ -14,7 +15,7 @@ use std::marker::Model;
 use warm_rank::MAX_SLOTS;
 use warm_stamps::PageId;
 
-/// The page of each frame, where it holds one. Contracts see the list of them.
+/// The page of each frame, if any. Contracts see the list of them.
 #[derive(Drop)]
 pub(crate) struct Residents {
     pages: Vec<Option<PageId>>,
@@ -38,7 +39,7 @@ impl Residents {
     /// Frames without a page, up to [`MAX_SLOTS`] of them.
     ///
     /// # Errors
-    /// `AllocError` where there is no memory for them.
+    /// `AllocError` where the allocation fails of them.
     pub(crate) fn new(alloc: Global, frames: usize) -> Result<Residents, AllocError>
         requires few { frames ≤ MAX_SLOTS }
         ensures { IfOk result (λ residents. residents ≡ replicate frames None) }
@@ -49,7 +50,7 @@ impl Residents {
         Ok(Residents { pages, heads, next })
     }
 
-    /// What each frame holds.
+    /// The page of each frame, if any.
     pub(crate) fn pages(&self) -> &[Option<PageId>]
         ensures { result.now ≡ self.now }
     {
@@ -80,7 +81,7 @@ impl Residents {
         if first < frames { Some(first) } else { None }
     }
 
-    /// Puts a page into a frame, or takes out the one that it holds. Takes no memory.
+    /// Sets the page of a frame, or clears it. Allocation-free.
     pub(crate) fn set(&mut self, frame: usize, page: Option<PageId>)
         requires { frame < length self.old }
         ensures { self.new ≡ set self.old frame page }
@@ -89,8 +90,9 @@ impl Residents {
         self.pages[frame] = page;
     }
 
-    /// Takes the pages that are concerned out of their frames. All chains are then built again, in one pass over the frames, however many
-    /// pages leave: to take each frame out of its chain would be to read links all over memory. Takes no memory.
+    /// Removes the pages of the selected frames. All chains are then rebuilt in one pass over the
+    /// frames, however many pages are removed: unlinking each frame would read links scattered over
+    /// memory. Allocation-free.
     pub(crate) fn clear_chosen(&mut self, which: Option<u16>)
         ensures { self.new ≡ map (clear_if which) self.old }
     {
@@ -99,7 +101,7 @@ impl Residents {
     }
 }
 
-/// Whether a frame with this page is concerned, where those of one device are, or all.
+/// Whether a frame with this page is selected: those of one device are, or all.
 pub(crate) fn is_chosen(which: Option<u16>, page: Option<PageId>) -> bool
     ensures { result ≡ is_chosen which page }
 {
@@ -112,7 +114,7 @@ pub(crate) fn is_chosen(which: Option<u16>, page: Option<PageId>) -> bool
     page.dev == dev
 }
 
-// Takes the pages that are concerned out of their frames.
+// Removes the pages of the selected frames.
 fn clear_pages(pages: &mut Vec<Option<PageId>>, which: Option<u16>)
     ensures { pages.new.items ≡ map (clear_if which) pages.old.items }
 {
@@ -142,7 +144,7 @@ fn heads_of_none(alloc: Global, frames: usize) -> Result<Vec<u32>, AllocError>
     Ok(heads)
 }
 
-// Each frame is followed by the next.
+// Links from each frame to the next.
 fn links_in_turn(alloc: Global, frames: usize) -> Result<Vec<u32>, AllocError>
     requires { frames ≤ MAX_SLOTS }
     ensures { IfOk result (λ next. AreInTurn frames next.items) }
@@ -154,7 +156,7 @@ fn links_in_turn(alloc: Global, frames: usize) -> Result<Vec<u32>, AllocError>
     Ok(next)
 }
 
-// The frame that holds a page, sought along the page's chain.
+// The frame that holds a page, searched along the page's chain.
 fn find_in(pages: &[Option<PageId>], heads: &[u32], next: &[u32], page: PageId) -> Option<usize>
     requires { AreLinked pages.now heads.now next.now }
     ensures { IsPlaceOf pages.now page result }
@@ -169,7 +171,7 @@ fn find_in(pages: &[Option<PageId>], heads: &[u32], next: &[u32], page: PageId) 
     None
 }
 
-// Mixes 32 bits: the upper half is added to the lower one, and then each bit is carried up by an odd factor.
+// Mixes 32 bits: the upper half is added to the lower one, then an odd factor carries each bit up.
 #[tactic(auto, unfolding(crate::specs::Chains::mixed))]
 fn mix(bits: u64) -> u64
     requires { bits < 4294967296 }
@@ -179,7 +181,8 @@ fn mix(bits: u64) -> u64
     (bits + bits / 65536) % 4294967296 * 2246822507 % 4294967296
 }
 
-// The page's number and that of its device in 32 bits. One product alone would let pages that are some fixed number apart share a chain.
+// The hash of a page's number and that of its device, in 32 bits. With a single product, pages at
+// some fixed distance would share a chain.
 #[tactic(auto, unfolding(crate::specs::Chains::hash_of))]
 fn hash_of(page: PageId) -> u64
     ensures is { result ≡ hash_of page }
@@ -191,7 +194,7 @@ fn hash_of(page: PageId) -> u64
     mix(mix(folded))
 }
 
-// The chain of a frame that holds this.
+// The chain of a frame with this content.
 #[tactic(auto, unfolding(crate::specs::Chains::chain_of))]
 fn chain_of(frames: usize, page: Option<PageId>) -> usize
     requires { frames ≤ MAX_SLOTS }
@@ -210,7 +213,7 @@ fn holds(held: Option<PageId>, page: PageId) -> bool
     held == Some(page)
 }
 
-// The last frame of a chain below a frame.
+// The last frame of a chain before a frame.
 fn last_below(heads: &[u32], next: &[u32], chain: usize, frame: usize) -> Option<usize>
     ghost frames: { List ℕ }
     requires chains { AreChains frames heads.now next.now }
@@ -227,7 +230,7 @@ fn last_below(heads: &[u32], next: &[u32], chain: usize, frame: usize) -> Option
     last
 }
 
-// Lets the link after a frame, or the head of its chain, lead to a frame.
+// Sets the link of a frame, or the head of its chain, to a frame.
 fn lead(heads: &mut Vec<u32>, next: &mut Vec<u32>, chain: usize, last: Option<usize>, to: u32)
     requires chain { chain < length heads.old.items }
     requires last { after last ≤ length next.old.items }
@@ -240,7 +243,7 @@ fn lead(heads: &mut Vec<u32>, next: &mut Vec<u32>, chain: usize, last: Option<us
     }
 }
 
-// Takes a frame out of its chain.
+// Unlinks a frame from its chain.
 fn unlink(heads: &mut Vec<u32>, next: &mut Vec<u32>, frame: usize, chain: usize)
     ghost frames: { List ℕ }
     requires frame { frame < length frames }
@@ -255,7 +258,7 @@ fn unlink(heads: &mut Vec<u32>, next: &mut Vec<u32>, frame: usize, chain: usize)
     lead(heads, next, chain, last, to);
 }
 
-// The link after a frame, or the head of its chain.
+// The link of a frame, or the head of its chain.
 fn link_after(heads: &[u32], next: &[u32], chain: usize, last: Option<usize>) -> u32
     requires chain { chain < length heads.now }
     requires last { after last ≤ length next.now }
@@ -267,7 +270,7 @@ fn link_after(heads: &[u32], next: &[u32], chain: usize, last: Option<usize>) ->
     }
 }
 
-// Puts a frame that is in no chain into one, after the last frame of the chain below it.
+// Links a frame that is in no chain into one, after the last frame of the chain before it.
 fn link(heads: &mut Vec<u32>, next: &mut Vec<u32>, frame: usize, chain: usize, last: Option<usize>)
     ghost frames: { List ℕ }
     requires frame { frame < length frames }
@@ -282,7 +285,7 @@ fn link(heads: &mut Vec<u32>, next: &mut Vec<u32>, frame: usize, chain: usize, l
     lead(heads, next, chain, last, frame as u32);
 }
 
-// Moves a frame from the chain of what it holds into that of another page, or of none.
+// Moves a frame from the chain of its content into that of another page, or of no page.
 fn move_frame(
     pages: &[Option<PageId>],
     heads: &mut Vec<u32>,
@@ -303,7 +306,7 @@ fn move_frame(
     link(heads, next, frame, to, last);
 }
 
-// Lets no chain have a frame.
+// Empties all chains.
 fn clear_heads(heads: &mut Vec<u32>, frames: usize)
     requires { frames ≤ MAX_SLOTS }
     ensures { heads.new.items ≡ replicate (length heads.old.items) frames }
@@ -311,7 +314,8 @@ fn clear_heads(heads: &mut Vec<u32>, frames: usize)
     heads.fill(frames as u32);
 }
 
-// Puts each frame into the chain of what it holds, whatever the links were: from the last frame on, so each comes first in its chain.
+// Links each frame into the chain of its content, whatever the links were: from the last frame
+// down, so each is inserted at the head of its chain.
 fn link_all(pages: &[Option<PageId>], heads: &mut Vec<u32>, next: &mut Vec<u32>)
     ghost frames: { List ℕ }
     requires frames { frames ≡ chains_of pages.now }

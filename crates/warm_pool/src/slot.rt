@@ -1,9 +1,9 @@
-//! A hold on a page in a frame.
+//! Slots: handles of pages in frames.
 
-/// A frame with the page that was in it when the slot was given.
+/// A handle of a frame with the page that was in it when the slot was given.
 ///
-/// A frame's generation is raised by one whenever a page is put into it, so a slot of an older page differs from one of the page
-/// that is there now.
+/// A frame's generation is increased by one whenever a page is loaded into it, so a slot of an
+/// older page differs from a slot of the current page.
 #[derive(Clone, Copy, PartialEq, Eq, Debug)]
 pub struct Slot {
     /// The frame's number, from 0.

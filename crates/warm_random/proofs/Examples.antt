@@ -1,4 +1,4 @@
--- Worked rows: the published words of the generator, and the first lines of a seed.
+-- Worked examples: the published words of the generator, and the first lines of a seed.
 use Rattle.std.proofs.Common.{◌≡◌, [], ◌∷◌, codes, refl}
 use Rattle.std.specs.Fmt.{digits}
 use Rattle.rand_pcg.specs.Lcg.{started, increment_of}

@@ -1,4 +1,4 @@
--- What was written to a writer, piece by piece. The crates above use it too.
+-- The bytes written to a writer, piece by piece. The crates above use it too.
 use Rattle.std.proofs.Common.{ℕ, List, [], ◌++◌, Option, Some, None, sym, ap, ◌∙◌, append_assoc}
 use Rattle.std.specs.Io.KnownBytes.{Appends}
 use Rattle.std.proofs.lemmas.List.{append-nil}

@@ -1,4 +1,4 @@
--- Schedules drawn at random: which lines a seed gives, and their text.
+-- Schedules drawn at random: the lines of a seed, and their text.
 use Rattle.std.specs.Prelude.{ℕ, zero, suc, ◌+◌, ◌%◌, ◌==◌, List, [], ◌∷◌, ◌++◌, Bool, true, false, nat_le, count_by, flat_map, codes, decimal, if◌then◌else◌}
 use Rattle.rand_pcg.specs.Lcg.{Lcg, started, increment_of}
 use Rattle.rand_pcg.specs.Pcg.{multiplier_64, pcg32}
@@ -12,7 +12,7 @@ use Rattle.warm_random.specs.declared.Line.TheVariants.{Ref, Flush, Send, Delive
 abbrev pub seeded : ℕ → Lcg
 seeded seed = started 64 multiplier_64 seed (increment_of 64 1)
 
--- what is drawn, and the generator after it
+-- a drawn value, and the generator after it
 abbrev pub Draw : Type 0 → Type 0
 Draw A = Lcg → A × Lcg
 
@@ -37,8 +37,8 @@ up_to n = word >>= λ r. always (1 + r % n)
 
 -- ---- lines
 
--- The fields of a line, in the order in which they stand. `replicas` and `workers` are how many there are, `time` the
--- line's number, `sends` how many of the lines before it are sends.
+-- The fields of a line, in their order. `replicas` and `workers` are their numbers, `time` is the
+-- line's number, `sends` is the number of sends among the lines before it.
 abbrev pub fields : ℕ → ℕ → ℕ → ℕ → ℕ → Draw Line
 fields replicas workers time sends kind =
     if nat_le kind 3 then (up_to replicas >>= λ i. up_to workers >>= λ w. below 256 >>= λ p. always (Ref i w p time))
@@ -47,7 +47,7 @@ fields replicas workers time sends kind =
     else (if kind == 6 then (up_to replicas >>= λ i. up_to (sends + 1) >>= λ k. always (Deliver i k))
     else (up_to replicas >>= λ i. always (Show i)))))
 
--- a word picks what line it is
+-- a word chooses the kind of the line
 abbrev pub line : ℕ → ℕ → ℕ → ℕ → Draw Line
 line replicas workers time sends = below 8 >>= fields replicas workers time sends
 

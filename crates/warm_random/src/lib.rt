@@ -13,7 +13,7 @@ use rand_pcg::Lcg64Xsh32;
 use std::io::{self, Write};
 use warm_stamps::BUCKETS;
 
-/// A line of a schedule. Its fields are the numbers that it shows.
+/// A line of a schedule. Its fields are the numbers that it contains.
 #[derive(Clone, Copy, Debug, PartialEq, Eq)]
 pub enum Line {
     /// `ref REPLICA WORKER 0:PAGE TIME`: a page from 0 to 255 of device 0.
@@ -33,7 +33,7 @@ pub enum Line {
         replica: u64,
         bucket: u64,
     },
-    /// `deliver REPLICA FRAME`: the number of a message that was sent by then, or of the next.
+    /// `deliver REPLICA FRAME`: the number of a message that was sent before, or of the next one.
     Deliver {
         replica: u64,
         frame: u64,
@@ -89,7 +89,8 @@ fn up_to(words: &mut Lcg64Xsh32, most: u64) -> u64
     1 + below(words, most)
 }
 
-// The next line. Its number is the time of a reference, and `sends` is how many lines before it are sends.
+// The next line. Its number is the time of a reference, and `sends` is the number of sends among
+// the lines before it.
 fn draw_line(words: &mut Lcg64Xsh32, replicas: u64, workers: u64, time: u64, sends: u64) -> Line
     requires replicas { 0 < replicas }
     requires workers { 0 < workers }
@@ -121,10 +122,11 @@ fn draw_line(words: &mut Lcg64Xsh32, replicas: u64, workers: u64, time: u64, sen
     }
 }
 
-/// Writes the schedule of `events` lines that this seed gives for worlds of this many replicas, with this many workers each.
-/// With no events it writes nothing. It keeps one line at a time, and takes no memory.
+/// Writes the schedule of `events` lines that this seed gives for worlds of this many replicas,
+/// with this many workers each. With no events it writes nothing. It keeps one line at a time, and
+/// is allocation-free.
 ///
-/// An error is the writer's own; after it nothing is said of how much was written.
+/// An error is that of the writer; how much was written before it is unspecified.
 pub fn write_schedule<W: Write>(
     writer: &mut W,
     seed: u64,

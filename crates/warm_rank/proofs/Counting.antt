@@ -90,7 +90,7 @@ counts_rank S s t of_s of_t = by_cases (stamp_cmp s t) _
     nat_greater : (m n : ℕ) → n < m → nat_cmp m n ≡ Greater
     nat_greater m n lt = grind (arith, nat_tests)
 
--- a stamp that references tell of a page is the stamp of one of them
+-- a stamp that references give a page is the stamp of one of them
 told_of : (rs : List Reference) (p : PageId) (s : Stamp) → Has (told rs p) s → (r : Reference) × Has rs r × (r.stamp ≡ s)
 told_of [] p s has = absurd has
 told_of (r ∷ rs) p s has = cases (told_of rs p s) (is_eq (page_cmp r.page p)) refl

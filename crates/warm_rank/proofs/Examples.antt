@@ -44,7 +44,7 @@ scan_no_place = refl
 three_times : places_back (seen 4 1 ∷ seen 4 2 ∷ seen 5 3 ∷ seen 4 4 ∷ seen 6 5 ∷ []) (page 4) ≡ Some 3
 three_times = refl
 
--- a reference that is told twice counts once
+-- a reference that is given twice counts once
 told_twice : dist (these (seen 5 10 ∷ seen 1 2 ∷ []) ∪ scan) (page 1) ≡ Some 3
 told_twice = refl
 

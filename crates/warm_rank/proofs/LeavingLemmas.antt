@@ -36,7 +36,7 @@ leaving_is_order S =
       irreflexive = λ p less. let no_less : Less ≡ Equal = sym less ∙ tied_itself order.total p in absurd (cc);
     }
 
--- ---- lists that say the same of each page rank pages alike
+-- ---- lists that agree on each page rank pages alike
 
 leave_alike : (S T : ReferenceSet) → ((p : PageId) → hist S p ≡ hist T p) → (p q : PageId) → leaving_cmp S p q ≡ leaving_cmp T p q
 leave_alike S T alike p q =

@@ -19,11 +19,11 @@ all_reverse : {A : Type 0} (P : A → Type 0) (xs : List A) → AllByRecursion P
 all_reverse P [] all = tt
 all_reverse P (x ∷ xs) all = subst (AllByRecursion P) (sym (reverse-append (x ∷ []) xs)) (all_append P (reverse xs) (x ∷ []) (all_reverse P xs all.1) (all.0, tt))
 
--- how often an item stands in a list
+-- how often an item occurs in a list
 abbrev pub ties : {A : Type 0} → (A → A → Ordering) → A → List A → ℕ
 ties cmp x xs = count_by (λ y. is_eq (cmp x y)) xs
 
--- no item stands in the list twice
+-- no item occurs in the list twice
 abbrev pub HasNoTies : {A : Type 0} → (A → A → Ordering) → List A → Type 0
 HasNoTies {A} cmp xs = (x : A) → ties cmp x xs ≤ 1
 
@@ -32,7 +32,7 @@ abbrev pub IsAbove : {A : Type 0} → (A → A → Ordering) → List A → List
 IsAbove {A} cmp rest top = (r t : A) → Has rest r → Has top t → is_lt (cmp t r) ≡ false
 
 module _ {A : Type 0} (cmp : A → A → Ordering) (order : IsStrictOrder cmp) where
-  -- ---- how often an item stands in a list
+  -- ---- how often an item occurs in a list
 
   pub ties-here : (x y : A) (ys : List A) → cmp x y ≡ Equal → ties cmp x (y ∷ ys) ≡ 1 + ties cmp x ys
   ties-here x y ys tied = sum_by-cons (λ z. cond (is_eq (cmp x z)) 1 0) y ys ∙ ap (λ o. cond (is_eq o) 1 0 + ties cmp x ys) tied

@@ -50,7 +50,7 @@ above_step : (x j k : ℕ) → halved k (x / 2) ≡ j → (j ≡ x / 2 → ⊥) 
 above_step x j zero is ne = absurd (ne (sym is))
 above_step x j (suc k) is ne = (k, is)
 
--- node c stands on the path from the leaf to the root
+-- node c is on the path from the leaf to the root
 abbrev pub IsOnPath : ℕ → ℕ → Type 0
 IsOnPath leaf c = (k : ℕ) × (halved k leaf ≡ c)
 
@@ -65,7 +65,7 @@ halved_le : (k x : ℕ) → halved k x ≤ x
 halved_le zero x = omega arith
 halved_le (suc k) x = let rest : halved k (x / 2) ≤ x / 2 = halved_le k (x / 2) in omega (arith, rest)
 
--- two nodes of one path under one node are one
+-- two nodes of one path under one node are equal
 one_child : (x c d : ℕ) → 0 < c / 2 → c / 2 ≡ d / 2 → (k m : ℕ) → halved k x ≡ c → halved m x ≡ d → c ≡ d
 one_child x c d some same zero zero is_c is_d = sym is_c ∙ is_d
 one_child x c d some same zero (suc m) is_c is_d = let le : halved m (x / 2) ≤ x / 2 = halved_le m (x / 2) in absurd (omega (arith, le, is_c, is_d, same, some))

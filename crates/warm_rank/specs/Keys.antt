@@ -27,7 +27,8 @@ page_of (Never p) = p
 page_of (Once last p) = p
 page_of (Twice prev last p) = p
 
--- no stamp first, by page; then one, by it and the page; then two, by the older, the later and the page
+-- keys without a stamp first, by page; then with one stamp, by it and the page; then with two, by
+-- the older, the later and the page
 abbrev pub key_cmp : RankKey → RankKey → Ordering
 key_cmp (Never p) (Never q) = page_cmp p q
 key_cmp (Never p) (Once b q) = Less

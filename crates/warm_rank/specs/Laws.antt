@@ -1,4 +1,4 @@
--- The laws of the order in which pages leave.
+-- The laws of the eviction order.
 use Rattle.std.specs.Prelude.{◌≡◌, ◌≢◌, ◌⊎◌, ◌≤◌, ℕ, List, Option, Some, None, map, Contains}
 use Rattle.std.specs.List.{filter_map}
 use Rattle.std.specs.Option.{option_and_then, option_map}
@@ -12,7 +12,8 @@ use Rattle.warm_rank.specs.Backward.{StampsRise, places_back}
 use Rattle.warm_rank.specs.Ranking.{dist, leaving_cmp, IsBefore, IsVictim, warm}
 use Rattle.warm_rank.specs.Slots.{key_at, IsLeast}
 
--- over references in the order of their stamps, no two of which share one, the distance is counted in places
+-- over references in the order of their stamps, all of which differ, the distance is counted in
+-- places
 abbrev pub DistanceIsPlacesBack : Type 0
 DistanceIsPlacesBack = (S : ReferenceSet) (p : PageId) → StampsRise (references S) → dist S p ≡ places_back (references S) p
 
@@ -20,7 +21,8 @@ DistanceIsPlacesBack = (S : ReferenceSet) (p : PageId) → StampsRise (reference
 abbrev pub KeysRank : Type 0
 KeysRank = (S : ReferenceSet) (p q : PageId) → key_cmp (rank_key p (hist S p)) (rank_key q (hist S q)) ≡ leaving_cmp S p q
 
--- of two pages that differ one leaves before the other, and no two pages leave before each other
+-- of two different pages exactly one leaves before the other: the order is total, transitive and
+-- irreflexive
 pub record OrdersPages (S : ReferenceSet) : Type 0 where
   pub total : (p q : PageId) → p ≢ q → IsBefore S p q ⊎ IsBefore S q p
   pub transitive : (p q r : PageId) → IsBefore S p q → IsBefore S q r → IsBefore S p r
@@ -29,12 +31,12 @@ pub record OrdersPages (S : ReferenceSet) : Type 0 where
 abbrev pub LeavingIsOrder : Type 0
 LeavingIsOrder = (S : ReferenceSet) → OrdersPages S
 
--- over both lists any two pages leave in the same order, and the warm-up lists are the same
+-- over both sets any two pages leave in the same order, and the warm-up lists are the same
 pub record RankAlike (S T : ReferenceSet) : Type 0 where
   pub leave_alike : (p q : PageId) → leaving_cmp S p q ≡ leaving_cmp T p q
   pub warm_alike : (n : ℕ) → warm S n ≡ warm T n
 
--- what a history holds ranks pages as the references for which it stands
+-- the references that a history holds rank pages as those for which it stands do
 abbrev pub OrderKept : Type 0
 OrderKept = (h : HistoryView) (S : ReferenceSet) → StandsFor h S → RankAlike (refs h) S
 
@@ -42,7 +44,7 @@ OrderKept = (h : HistoryView) (S : ReferenceSet) → StandsFor h S → RankAlike
 abbrev pub SameReferencesRankAlike : Type 0
 SameReferencesRankAlike = (S T : ReferenceSet) → HoldSame S T → RankAlike S T
 
--- the keys over S of the pages in slots that each may have a page
+-- the keys over S of the pages in slots, each of which may have a page
 abbrev pub keys_over : ReferenceSet → List (Option PageId) → List (Option RankKey)
 keys_over S slots = map (option_map (λ p. rank_key p (hist S p))) slots
 
@@ -50,7 +52,7 @@ keys_over S slots = map (option_map (λ p. rank_key p (hist S p))) slots
 abbrev pub pages_in : List (Option PageId) → List PageId
 pages_in slots = filter_map (λ page. page) slots
 
--- the page of a slot, if there are both
+-- the page of a slot, if there is a slot and it has a page
 abbrev pub page_at : List (Option PageId) → Option ℕ → Option PageId
 page_at slots slot = option_and_then (key_at slots) slot
 
@@ -64,7 +66,7 @@ IsNotFarther x None = Unit {0}
 IsNotFarther None (Some n) = ⊥
 IsNotFarther (Some m) (Some n) = m ≤ n
 
--- the page is one of U, and none of U has a greater backward 2-distance
+-- the page is in U, and no page of U has a greater backward 2-distance
 pub record IsFarthest (S : ReferenceSet) (U : List PageId) (v : PageId) : Type 0 where
   pub one_of : Contains U v
   pub farthest : (p : PageId) → Contains U p → IsNotFarther (dist S p) (dist S v)

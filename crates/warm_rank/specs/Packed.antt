@@ -9,7 +9,8 @@ use Rattle.warm_rank.specs.declared.RankKey.TheVariants.{Never, Once, Twice}
 use Rattle.warm_rank.specs.declared.packed.PackedKey.{PackedKey}
 use Rattle.warm_rank.specs.Keys.{entry_key}
 
--- how many stamps are known, the older one, the later one, and the page; what isn't known is 0
+-- the number of known stamps, the older one, the later one, and the page; a stamp that isn't known
+-- is 0
 abbrev pub packed_key : RankKey → PackedKey
 packed_key (Never p) = record { stamps = 0; older_time = 0; older_replica = 0; later_time = 0; later_replica = 0; dev = p.dev; no = p.no }
 packed_key (Once a p) = record { stamps = 1; older_time = a.time; older_replica = a.replica; later_time = 0; later_replica = 0; dev = p.dev; no = p.no }

@@ -11,11 +11,12 @@ use Rattle.warm_stamps.specs.Distinct.{distinct}
 use Rattle.warm_history.specs.ReferenceSets.{ReferenceSet, references}
 use Rattle.warm_history.specs.Histories.{stamps, pages}
 
--- how many references of S, each counted once, are later than the stamp s
+-- the number of distinct references of S that are later than the stamp s
 abbrev pub count_later : ReferenceSet → Stamp → ℕ
 count_later S s = count_by (λ r. is_lt (stamp_cmp s r.stamp)) (distinct reference_cmp (references S))
 
--- how many references of S are later than the second of these stamps, none where there is no second
+-- the number of references of S that are later than the second of these stamps; none where there is
+-- no second
 abbrev pub distance_from : ReferenceSet → List Stamp → Option ℕ
 distance_from S [] = None
 distance_from S (last ∷ []) = None
@@ -34,11 +35,11 @@ first (last ∷ older) = Some last
 abbrev pub latest : ReferenceSet → PageId → Option Stamp
 latest S p = first (stamps S p)
 
--- the greater distance first, and an infinite one before all others
+-- the greater distance first; an infinite one comes before all others
 abbrev pub farther_cmp : Option ℕ → Option ℕ → Ordering
 farther_cmp = option_cmp (flip_args nat_cmp)
 
--- the older stamp first, and none before all others
+-- the older stamp first; no stamp comes before all others
 abbrev pub older_cmp : Option Stamp → Option Stamp → Ordering
 older_cmp = option_cmp stamp_cmp
 
@@ -50,7 +51,7 @@ leaving_cmp S = then_cmp (on (dist S) farther_cmp) (then_cmp (on (latest S) olde
 abbrev pub IsBefore : ReferenceSet → PageId → PageId → Type 0
 IsBefore S p q = leaving_cmp S p q ≡ Less
 
--- the page of U that leaves before every other page of U, none where U is empty
+-- the page of U that leaves before every other page of U; none where U is empty
 abbrev pub IsVictim : ReferenceSet → List PageId → Option PageId → Type 0
 IsVictim S U victim = MatchOption victim (U ≡ []) (λ p. Contains U p × ((q : PageId) → Contains U q → q ≢ p → IsBefore S p q))
 

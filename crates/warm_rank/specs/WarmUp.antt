@@ -1,4 +1,4 @@
--- Warm-up lists, made from what a history keeps.
+-- Warm-up lists, made from a history.
 use Rattle.std.specs.Prelude.{◌≡◌, ℕ, List, IsPermutation}
 use Rattle.warm_stamps.specs.declared.PageId.{PageId}
 use Rattle.warm_history.specs.ReferenceSets.{ReferenceSet}

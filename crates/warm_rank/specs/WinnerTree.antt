@@ -1,11 +1,12 @@
--- A winner tree: node 1 is the root, node j stands over nodes 2j and 2j + 1, and the last nodes are the slots in order.
+-- A winner tree: node 1 is the root, node j is the parent of nodes 2j and 2j + 1, and the last
+-- nodes are the slots in order.
 use Rattle.std.specs.Prelude.{◌≡◌, ◌⊎◌, ℕ, suc, zero, ◌+◌, ◌*◌, ◌/◌, ◌<◌, ◌≤◌, List, length, Option, set, slice_index, cond}
 use Rattle.std.specs.Ordering.{is_gt}
 use Rattle.std.specs.declared.cmp.Ordering.{Ordering}
 use Rattle.warm_rank.specs.declared.TheConstants.{MAX_SLOTS}
 use Rattle.warm_rank.specs.Slots.{slot_cmp}
 
--- the slot that comes first of a and b
+-- of the slots a and b the one that comes first
 abbrev pub winner : {K : Type 0} → (K → K → Ordering) → List (Option K) → ℕ → ℕ → ℕ
 winner cmp keys a b = cond (is_gt (slot_cmp cmp keys a b)) b a
 
@@ -13,7 +14,7 @@ winner cmp keys a b = cond (is_gt (slot_cmp cmp keys a b)) b a
 abbrev pub IsPlayed : {K : Type 0} → (K → K → Ordering) → List (Option K) → List ℕ → ℕ → Type 0
 IsPlayed cmp keys nodes j = slice_index nodes j ≡ winner cmp keys (slice_index nodes (2 * j)) (slice_index nodes (2 * j + 1))
 
--- two nodes a slot, the slots last
+-- two nodes per slot, with the slots last
 pub record HasLeaves (n : ℕ) (nodes : List ℕ) : Type 0 where
   pub some : 0 < n
   pub few : n ≤ MAX_SLOTS
@@ -31,14 +32,14 @@ abbrev pub halved : ℕ → ℕ → ℕ
 halved zero x = x
 halved (suc k) x = halved k (x / 2)
 
--- node j stands above node x
+-- node j is an ancestor of node x
 abbrev pub IsAbove : ℕ → ℕ → Type 0
 IsAbove x j = (k : ℕ) × (halved k (x / 2) ≡ j)
 
--- every match is played but those above node x
+-- every match is played except those at ancestors of node x
 abbrev pub IsPlayedBut : {K : Type 0} → (K → K → Ordering) → List (Option K) → List ℕ → ℕ → Type 0
 IsPlayedBut cmp keys nodes x = (j : ℕ) → 0 < j → j < length keys → IsPlayed cmp keys nodes j ⊎ IsAbove x j
 
--- the nodes were a tree before the key of this slot changed
+-- the nodes were a valid tree before the key of this slot changed
 abbrev pub HasChanged : {K : Type 0} → (K → K → Ordering) → List (Option K) → List ℕ → ℕ → Type 0
 HasChanged {K} cmp keys nodes slot = (old : List (Option K)) × (key : Option K) × IsTree cmp old nodes × (keys ≡ set old slot key)

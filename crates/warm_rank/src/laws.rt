@@ -1,4 +1,5 @@
-//! The laws of the order in which pages leave. Each is a function without a body, whose contract is the law.
+//! The laws of the eviction order, in which pages leave. Each is a function without a body, whose
+//! contract is the law.
 ghost use Rattle.std.specs.Prelude.{◌≡◌};
 ghost use Rattle.warm_rank.specs.declared.RankKey.{RankKey};
 ghost use Rattle.warm_rank.specs.Keys.{key_cmp};
@@ -6,13 +7,13 @@ ghost use Rattle.warm_rank.specs.Laws.{DistanceIsPlacesBack, KeysRank, LeavingIs
 
 use crate::RankKey;
 
-/// The order of `RankKey` in Rust is the order of keys of which the other laws speak.
+/// The order of `RankKey` in Rust is the order of keys in the other laws.
 pub fn keys_compare()
     ensures { (j k : RankKey) → ⟦<RankKey as Ord>⟧.cmp j k ≡ key_cmp j k }
 {}
 
-/// Over references given in the order of their stamps, no two of which share one, the distance is the backward
-/// 2-distance of LRU-2: the number of places from the end to the last but one reference to the page.
+/// Over references in the order of their stamps, all of which differ, the distance is the backward
+/// 2-distance of LRU-2: the number of places from the end to the second last reference to the page.
 pub fn distance_is_places_back()
     ensures { DistanceIsPlacesBack }
 {}
@@ -42,8 +43,8 @@ pub fn same_references_rank_alike()
     ensures { SameReferencesRankAlike }
 {}
 
-/// The victim over what a history holds is a page of greatest backward 2-distance, among those that may leave, over all
-/// references for which the history stands.
+/// The victim over what a history holds is a page of greatest backward 2-distance, among those that
+/// may be evicted, over all references for which the history stands.
 pub fn victim_is_farthest()
     ensures { VictimIsFarthest }
 {}

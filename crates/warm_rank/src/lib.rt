@@ -1,12 +1,13 @@
-//! Ranks: in which order pages leave a buffer pool, and which pages to load first after a failover.
+//! Ranks: the order in which pages are evicted from a buffer pool, and the pages to load first
+//! after a failover.
 //!
-//! The policy is LRU-2 (O'Neil, O'Neil, Weikum, "The LRU-K Page Replacement Algorithm For Database Disk Buffering",
-//! SIGMOD 1993): the page of the greatest backward 2-distance leaves first. The definitions count that distance over a
-//! list of references; the code compares a [`RankKey`] made of the two stamps that a history keeps, and the laws show
-//! that the two orders are one.
+//! The policy is LRU-2 (O'Neil, O'Neil, Weikum, "The LRU-K Page Replacement Algorithm For Database
+//! Disk Buffering", SIGMOD 1993): the page of the greatest backward 2-distance leaves first. The
+//! definitions count that distance over a list of references; the code compares a [`RankKey`] made
+//! of the two stamps that a history keeps, and the laws show that the two orders are the same.
 //!
 //! - [`key_of`] gives the key of a page, [`leaving_order`] compares two pages.
-//! - [`Contest`] keeps a key for each slot of a pool and finds the slot of the least.
+//! - [`Contest`] keeps a key for each slot of a pool and finds the slot of the least key.
 //! - [`warm_list`] lists the pages that leave last, the hottest first.
 #![tactic(auto)]
 
@@ -29,7 +30,7 @@ use warm_history::{History, PageHist};
 use warm_stamps::{PageId, Stamp};
 pub use warm_up::warm_list;
 
-/// The most slots of a contest, and so the most frames of a pool.
+/// The maximum number of slots of a contest, and so of frames of a pool.
 pub const MAX_SLOTS: usize = 65_536;
 
 /// The rank of a page, by its two latest stamps. Of two pages, the one with the lesser key leaves first.
@@ -48,7 +49,7 @@ pub enum RankKey {
         last: Stamp,
         page: PageId,
     },
-    /// A page with two known references or more: its latest stamp, and the one before it.
+    /// A page with two known references or more: its latest stamp and its second latest.
     Twice {
         prev: Stamp,
         last: Stamp,
@@ -73,7 +74,7 @@ impl RankKey {
     }
 }
 
-/// The key of a page, from what a history says of it. Takes no memory.
+/// The key of a page, from what a history says of it. Allocation-free.
 pub fn key_of(page: PageId, hist: Option<PageHist>) -> RankKey
     ensures { result ≡ rank_key page hist }
 {
@@ -96,8 +97,8 @@ fn key_of_referenced(page: PageId, hist: PageHist) -> RankKey
     }
 }
 
-/// Which of two pages leaves first: `Less` where `page` does, `Greater` where `other` does, `Equal` where they are one
-/// page. Takes no memory.
+/// Which of two pages leaves first: `Less` where `page` does, `Greater` where `other` does, `Equal`
+/// where they are the same page. Allocation-free.
 pub fn leaving_order(history: &History, page: PageId, other: PageId) -> Ordering
     ensures { (S : ReferenceSet) → StandsFor history.now S → result ≡ leaving_cmp S page other }
 {

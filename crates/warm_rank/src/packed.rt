@@ -1,7 +1,7 @@
-//! Ranks with all their fields side by side.
+//! Ranks as flat records.
 //!
-//! A list of many is sorted sooner so than one of [`RankKey`]: each takes 32 bytes in place of 56, and is
-//! compared without a match.
+//! A long list of these is sorted faster than one of [`RankKey`]: each has 48 bytes instead of 56,
+//! and is compared without a match.
 ghost use Rattle.std.specs.Prelude.{◌≡◌};
 ghost use Rattle.warm_rank.specs.Packed.{packed_key, packed_page};
 
@@ -9,7 +9,7 @@ use crate::RankKey;
 use warm_stamps::PageId;
 
 /// The rank of a page. Its order is that of [`RankKey`].
-// Rust compares the fields as they stand here. A stamp that isn't known is 0 in both its fields.
+// Rust compares the fields in this order. A stamp that isn't known is 0 in both its fields.
 #[derive(Clone, Copy, PartialEq, Eq, PartialOrd, Ord)]
 pub struct PackedKey {
     stamps: u8,

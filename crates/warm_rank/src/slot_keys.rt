@@ -8,8 +8,9 @@ use std::marker::Model;
 
 /// Slots that each may have a key, of any type. Contracts see the list of the keys.
 ///
-/// Whether a slot has a key stands apart from the key: where slots are cleared, and in the matches of slots without a key, little memory
-/// is touched. So some key stands in each slot, and means nothing in one that is not set.
+/// Whether a slot has a key is stored apart from the key: clearing slots, and matches of slots
+/// without a key, touch little memory. So each slot stores some key, which means nothing in a slot
+/// that is not set.
 #[derive(Debug, Drop)]
 pub(crate) struct SlotKeys<K> {
     is_set: Vec<bool>,
@@ -28,10 +29,10 @@ impl<K> Model for SlotKeys<K> {
 }
 
 impl<K: Ord + Copy> SlotKeys<K> {
-    /// Slots without a key; `unused`, which may be any key, stands in them.
+    /// Slots without a key; each stores `unused`, which may be any key.
     ///
     /// # Errors
-    /// `AllocError` where there is no memory for them.
+    /// `AllocError` where their allocation fails.
     pub(crate) fn new(alloc: Global, slots: usize, unused: K) -> Result<SlotKeys<K>, AllocError>
         ensures { IfOk result (λ keys. keys ≡ replicate slots None) }
     {
@@ -40,7 +41,7 @@ impl<K: Ord + Copy> SlotKeys<K> {
         Ok(SlotKeys { is_set, keys })
     }
 
-    /// How many slots there are.
+    /// The number of slots.
     pub(crate) fn len(&self) -> usize
         ensures { result ≡ length self.now }
     {
@@ -69,7 +70,7 @@ impl<K: Ord + Copy> SlotKeys<K> {
         }
     }
 
-    /// Clears the key of each slot where nothing stands.
+    /// Clears the key of each vacant slot.
     pub(crate) fn clear_vacant<T>(&mut self, held: &[Option<T>])
         requires { length held.now ≡ length self.old }
         ensures { self.new ≡ keys_while held.now self.old }
@@ -77,7 +78,7 @@ impl<K: Ord + Copy> SlotKeys<K> {
         unset_vacant::<K, T>(&mut self.is_set, held);
     }
 
-    /// The order of the keys of two slots: the lesser key first, and a set key before none.
+    /// The order of the keys of two slots: the lesser key first; a set key comes before none.
     pub(crate) fn compare(&self, a: usize, b: usize) -> Ordering
         requires first { a < length self.now }
         requires second { b < length self.now }
@@ -87,7 +88,7 @@ impl<K: Ord + Copy> SlotKeys<K> {
     }
 }
 
-// Slots of which none is set.
+// Marks of slots, none of which is set.
 fn none_set(alloc: Global, slots: usize) -> Result<Vec<bool>, AllocError>
     ensures { IfOk result (λ is_set. is_set.items ≡ replicate slots false) }
 {
@@ -96,7 +97,7 @@ fn none_set(alloc: Global, slots: usize) -> Result<Vec<bool>, AllocError>
     Ok(is_set)
 }
 
-// Capacity for keys. What stands there means nothing until it is set.
+// Storage for keys. A key there means nothing until it is set.
 fn no_keys<K: Copy>(alloc: Global, slots: usize, unused: K) -> Result<Vec<K>, AllocError>
     ensures { IfOk result (λ keys. length keys.items ≡ slots) }
 {
@@ -105,7 +106,7 @@ fn no_keys<K: Copy>(alloc: Global, slots: usize, unused: K) -> Result<Vec<K>, Al
     Ok(keys)
 }
 
-// Marks the slots where nothing stands as without a key, whatever keys of type K go with the marks.
+// Marks the vacant slots as without a key, for any keys of type K that go with the marks.
 fn unset_vacant<K, T>(is_set: &mut Vec<bool>, held: &[Option<T>])
     requires { length held.now ≡ length is_set.old.items }
     ensures count { length is_set.new.items ≡ length is_set.old.items }

@@ -12,9 +12,10 @@ use warm_stamps::PageId;
 
 /// Slots that each may have a key, and the slot of the least of them. Contracts see the list of the keys.
 ///
-/// A pool sets the key of a slot whose page may leave; the least key is then that of the victim. All memory is allocated when
-/// the contest is made. It is a winner tree (Knuth, The Art of Computer Programming, volume 3, section 5.4.1): a changed
-/// key is compared at most once for each level, and the least is read at the root.
+/// A pool sets the key of a slot whose page may be evicted; the least key is then that of the
+/// victim. All memory is allocated when the contest is made. It is a winner tree (Knuth, The Art of
+/// Computer Programming, volume 3, section 5.4.1): a changed key is compared at most once for each
+/// level, and the least is read at the root.
 #[derive(Debug, Drop)]
 pub struct Contest {
     keys: SlotKeys<RankKey>,
@@ -38,7 +39,7 @@ impl Contest {
     /// A contest of 1 to [`MAX_SLOTS`] slots, none of which has a key.
     ///
     /// # Errors
-    /// `AllocError` where there is no memory for the slots.
+    /// `AllocError` where the allocation of the slots fails.
     pub fn new(alloc: Global, slots: usize) -> Result<Contest, AllocError>
         requires some { 0 < slots }
         requires few { slots ≤ MAX_SLOTS }
@@ -52,7 +53,7 @@ impl Contest {
         Ok(Contest { keys, nodes })
     }
 
-    /// Sets or clears the key of a slot, which counts from 0. Takes no memory.
+    /// Sets or clears the key of a slot, which counts from 0. Allocation-free.
     pub fn set(&mut self, slot: usize, key: Option<RankKey>)
         requires { slot < length self.old }
         ensures { self.new ≡ set self.old slot key }
@@ -61,8 +62,8 @@ impl Contest {
         play_above(&self.keys, &mut self.nodes, slot);
     }
 
-    /// Clears the key of each slot where nothing stands, as this list of what stands in them says, and leaves the others. All
-    /// matches are played once, however many slots are cleared. Takes no memory.
+    /// Clears the key of each slot that is vacant in this list of the slots' contents, and leaves
+    /// the others. All matches are played once, however many slots are cleared. Allocation-free.
     pub fn clear_vacant<T>(&mut self, held: &[Option<T>])
         requires { length held.now ≡ length self.old }
         ensures { self.new ≡ keys_while held.now self.old }
@@ -74,7 +75,8 @@ impl Contest {
         play_all(&self.keys, &mut self.nodes);
     }
 
-    /// The slot of the least key, of equal keys the lesser slot; `None` where no slot has a key. Takes no memory.
+    /// The slot of the least key, of equal keys the lesser slot; `None` where no slot has a key.
+    /// Allocation-free.
     pub fn least(&self) -> Option<usize>
         ensures { IsLeast key_cmp self.now result }
     {
@@ -87,7 +89,7 @@ impl Contest {
     }
 }
 
-// What stands in a slot without a key. It means nothing.
+// The value stored in a slot without a key. It means nothing.
 const fn unused_key() -> RankKey {
     RankKey::Never {
         page: PageId { dev: 0, no: 0 },

@@ -16,7 +16,7 @@ use warm_stamps::PageId;
 /// Time grows with the number of pages, and with `n log n`.
 ///
 /// # Errors
-/// `AllocError` where there is no memory for a key of each page and for the list.
+/// `AllocError` where the allocation of a key for each page, or of the list, fails.
 pub fn warm_list(alloc: Global, history: &History, n: usize) -> Result<Vec<PageId>, AllocError>
     ensures { IfOk result (λ pages. IsWarmUp history.now n pages.items) }
 {
@@ -55,8 +55,8 @@ fn key_of_entry(entry: Entry) -> PackedKey
     PackedKey::of(key_of(entry.page, Some(entry.hist)))
 }
 
-// The warm-up list from the keys of a history's entries, in any order. Where only some are asked for, the rest is set
-// apart first and never sorted.
+// The warm-up list from the keys of a history's entries, in any order. Where fewer than all are
+// requested, the rest is partitioned off first and never sorted.
 fn hottest_pages(alloc: Global, keys: &mut [PackedKey], n: usize) -> Result<Vec<PageId>, AllocError>
     ensures { IfOk result (λ pages. IsWarmUpOfKeys keys.old n pages.items) }
 {
@@ -76,7 +76,7 @@ fn greatest<K: Ord>(items: &mut [K], n: usize) -> &mut [K]
     top
 }
 
-// The pages of keys, that of the greatest first; the keys are sorted.
+// The pages of the keys, that of the greatest key first; the keys are sorted.
 fn falling_pages(alloc: Global, keys: &mut [PackedKey]) -> Result<Vec<PageId>, AllocError>
     ensures same_keys { IsPermutation keys.old keys.new }
     ensures sorted { IsSorted packed_cmp keys.new }

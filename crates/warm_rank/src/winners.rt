@@ -1,7 +1,7 @@
 //! The matches of a winner tree, over any order of keys.
 //!
-//! Node 1 is the root, node j stands over nodes 2j and 2j + 1, and the last nodes are the slots in order. A node holds
-//! the slot that comes first of those below it.
+//! Node 1 is the root, node j is the parent of nodes 2j and 2j + 1, and the last nodes are the
+//! slots in order. A node holds the slot that comes first of those below it.
 ghost use Rattle.std.specs.Prelude.{◌≡◌, ◌≢◌, ◌*◌, ◌<◌, ◌≤◌, length, replicate, IsTrue};
 ghost use Rattle.warm_rank.specs.WinnerTree.{winner, HasLeaves, IsTree, HasChanged};
 
@@ -9,7 +9,7 @@ use crate::MAX_SLOTS;
 use crate::slot_keys::SlotKeys;
 use std::cmp::Ordering;
 
-// Puts the slots into the leaves.
+// Stores the slots in the leaves.
 pub(crate) fn number_leaves(slots: usize, nodes: &mut Vec<u32>)
     requires some { 0 < slots }
     requires few { slots ≤ MAX_SLOTS }
@@ -21,7 +21,7 @@ pub(crate) fn number_leaves(slots: usize, nodes: &mut Vec<u32>)
     }
 }
 
-// Plays all matches, the last first.
+// Plays all matches, from the last node to the first.
 pub(crate) fn play_all<K: Ord + Copy>(keys: &SlotKeys<K>, nodes: &mut Vec<u32>)
     requires { HasLeaves (length keys.now) nodes.old.items }
     ensures { IsTree K.cmp keys.now nodes.new.items }
@@ -35,8 +35,8 @@ pub(crate) fn play_all<K: Ord + Copy>(keys: &SlotKeys<K>, nodes: &mut Vec<u32>)
     }
 }
 
-// Plays the matches above a slot whose key changed. It stops below a match whose winner stays and is
-// not the slot: nothing above it changes.
+// Plays the matches above a slot whose key changed. It stops at a match whose winner stays the same
+// and is not the slot: nothing above it changes.
 pub(crate) fn play_above<K: Ord + Copy>(keys: &SlotKeys<K>, nodes: &mut Vec<u32>, slot: usize)
     requires range { slot < length keys.now }
     requires changed { HasChanged K.cmp keys.now nodes.old.items slot }
@@ -56,7 +56,7 @@ pub(crate) fn play_above<K: Ord + Copy>(keys: &SlotKeys<K>, nodes: &mut Vec<u32>
     }
 }
 
-// Whether a match has the winner that it had, and that isn't the slot.
+// Whether a match has the same winner as before, and that isn't the slot.
 fn is_settled(before: u32, now: u32, slot: usize) -> bool
     ensures { IsTrue result → (now ≡ before) × (before ≢ slot) }
 {

@@ -1,29 +1,30 @@
--- What waits in a buffer, and how its refusals are numbered.
+-- The contents of a buffer, and the numbers of its refusals.
 use Rattle.std.specs.Prelude.{ℕ, ◌≤◌, List, [], ◌∷◌, ◌++◌, codes}
 use Rattle.warm_stamps.specs.declared.Reference.{Reference}
 use Rattle.warm_refbuffer.specs.declared.TheConstants.{MAX_CAPACITY}
 use Rattle.warm_refbuffer.specs.declared.BufferFault.{BufferFault}
 use Rattle.warm_refbuffer.specs.declared.BufferFault.TheVariants.{Memory, BadCapacity}
 
--- the references that wait, the oldest first, and the most that the buffer holds
+-- the buffered references, the oldest first, and the capacity
 pub record Buffered : Type 0 where
   pub refs : List Reference
   pub capacity : ℕ
 
--- the buffer with one reference more, which waits behind the others
+-- the buffer with one reference appended
 abbrev pub with_last : Buffered → Reference → Buffered
 with_last buffer r = record buffer { refs = buffer.refs ++ r ∷ [] }
 
--- the buffer with nothing in it
+-- the empty buffer of the same capacity
 abbrev pub cleared : Buffered → Buffered
 cleared buffer = record buffer { refs = [] }
 
--- a capacity that a buffer can have
+-- a valid capacity
 pub record IsCapacity (capacity : ℕ) : Type 0 where
   pub from_one : 1 ≤ capacity
   pub in_range : capacity ≤ MAX_CAPACITY
 
--- a buffer with this many references waiting has a capacity for them, and has allocated that capacity
+-- the invariant of a buffer with this many references: its capacity is valid and not exceeded, and
+-- is allocated
 pub record IsBuffer (waiting capacity allocated : ℕ) : Type 0 where
   pub is_capacity : IsCapacity capacity
   pub within : waiting ≤ capacity

@@ -1,8 +1,8 @@
 //! A worker's buffer of references.
 //!
-//! A worker that references pages puts each reference into a buffer of its own, and the buffer moves to
-//! the replica's history in one piece. A buffer allocates its whole capacity when it is made, so that putting a
-//! reference into it takes no memory.
+//! A worker appends each reference that it makes to a buffer of its own, and the buffer is absorbed
+//! into the replica's history as one batch. A buffer allocates its whole capacity when it is made,
+//! so that appending a reference is allocation-free.
 #![tactic(auto)]
 
 ghost use Rattle.std.specs.Prelude.{◌≡◌, ◌≤◌, ◌<◌, [], length, IsOk, IfOk, IsTrue, ◌↔◌, codes};
@@ -13,12 +13,12 @@ use std::marker::Model;
 use thiserror::Error;
 use warm_stamps::Reference;
 
-/// The most references that a buffer may be made for.
+/// The maximum capacity of a buffer, in references.
 pub const MAX_CAPACITY: usize = 1024;
 
-/// The references that a worker has made since its buffer was last cleared, oldest first, and how many
-/// the buffer holds (1 to [`MAX_CAPACITY`]). Contracts see `Buffered`: the list `refs` and the number
-/// `capacity`.
+/// The references that a worker has made since its buffer was last cleared, oldest first, and the
+/// buffer's capacity (1 to [`MAX_CAPACITY`]). Contracts see `Buffered`: the list `refs` and the
+/// number `capacity`.
 #[derive(Debug, Drop)]
 pub struct RefBuffer {
     refs: Vec<Reference>,
@@ -39,7 +39,7 @@ impl Model for RefBuffer {
 /// Why no buffer was made.
 #[derive(Clone, Copy, Debug, PartialEq, Eq, Error)]
 pub enum BufferFault {
-    /// 1: there was no memory for the buffer.
+    /// 1: the allocation of the buffer failed.
     #[error("Memory")]
     Memory,
     /// 2: the capacity is outside 1 to [`MAX_CAPACITY`].
@@ -47,7 +47,7 @@ pub enum BufferFault {
     BadCapacity,
 }
 
-// Where the allocation is refused, that is `Memory`.
+// An allocation failure is `Memory`.
 impl From<AllocError> for BufferFault {
     ghost use Rattle.std.specs.Prelude.{◌≡◌};
     ghost use Rattle.warm_refbuffer.specs.declared.BufferFault.TheVariants.{Memory};
@@ -81,7 +81,7 @@ impl BufferFault {
     }
 }
 
-/// 3: the buffer is full. The reference that it could not take comes back.
+/// 3: the buffer is full. The rejected reference is returned in it.
 #[derive(Clone, Copy, Debug, PartialEq, Eq, Error)]
 #[error("Full")]
 pub struct Full(pub Reference);
@@ -103,10 +103,10 @@ impl Full {
 }
 
 impl RefBuffer {
-    /// An empty buffer for `capacity` references, whose memory is allocated here.
+    /// An empty buffer for `capacity` references, which are allocated here.
     ///
-    /// Refused as `BadCapacity` where `capacity` is outside 1 to [`MAX_CAPACITY`], and else as `Memory` where
-    /// the memory is refused.
+    /// Refused as `BadCapacity` where `capacity` is outside 1 to [`MAX_CAPACITY`], and otherwise as
+    /// `Memory` where the allocation fails.
     pub fn new(alloc: Global, capacity: usize) -> Result<RefBuffer, BufferFault>
         ensures value { IfOk result (λ b. b ≡ record { refs = []; capacity = capacity }) }
         ensures capacity { IsOk result → IsCapacity capacity }
@@ -119,14 +119,14 @@ impl RefBuffer {
         Ok(RefBuffer { refs, capacity })
     }
 
-    /// The references that wait, oldest first.
+    /// The buffered references, oldest first.
     pub fn refs(&self) -> &[Reference]
         ensures { result.now ≡ self.now.refs }
     {
         self.refs.as_slice()
     }
 
-    /// How many references wait.
+    /// The number of buffered references.
     pub fn len(&self) -> usize
         ensures value { result ≡ length self.now.refs }
         ensures bound { result ≤ self.now.capacity }
@@ -134,14 +134,14 @@ impl RefBuffer {
         self.refs.len()
     }
 
-    /// Whether nothing waits.
+    /// Whether the buffer is empty.
     pub fn is_empty(&self) -> bool
         ensures { IsTrue result ↔ (self.now.refs ≡ []) }
     {
         self.refs.is_empty()
     }
 
-    /// How many references the buffer holds at most.
+    /// The maximum number of references that the buffer holds.
     pub fn capacity(&self) -> usize
         ensures value { result ≡ self.now.capacity }
         ensures capacity { IsCapacity result }
@@ -149,15 +149,15 @@ impl RefBuffer {
         self.capacity
     }
 
-    /// Whether the next reference would be refused.
+    /// Whether the buffer is full: the next reference would be refused.
     pub fn is_full(&self) -> bool
         ensures { IsTrue result ↔ (self.now.capacity ≤ length self.now.refs) }
     {
         self.capacity <= self.refs.len()
     }
 
-    /// Puts a reference last. It takes no memory. A full buffer gives the reference back and stays as
-    /// it was.
+    /// Appends a reference. It is allocation-free. A full buffer gives the reference back and is
+    /// unchanged.
     pub fn touch(&mut self, reference: Reference) -> Result<(), Full>
         ensures taken { length self.old.refs < self.old.capacity
             → IsOk result × (self.new ≡ with_last self.old reference) }
@@ -178,8 +178,8 @@ impl RefBuffer {
         self.refs.clear();
     }
 
-    /// Empties the buffer, keeps its capacity, and puts this reference in as the first. Any capacity is one at least, so nothing is
-    /// refused. It takes no memory.
+    /// Empties the buffer, keeps its capacity, and adds this reference as the first. Every capacity
+    /// is at least 1, so nothing is refused. It is allocation-free.
     pub fn start_with(&mut self, reference: Reference)
         ensures { self.new ≡ with_last (cleared self.old) reference }
     {

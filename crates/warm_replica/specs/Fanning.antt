@@ -1,4 +1,4 @@
--- The steps of a run of jobs: their memory, and what their threads give.
+-- The steps of a run of jobs: their allocations, and the results of their threads.
 use Rattle.std.specs.Prelude.{◌≡◌, List, Result, OnOk, IfOk}
 use Rattle.std.specs.Global.{Vec}
 use Rattle.warm_turn.specs.declared.board.Ended.{Ended}
@@ -13,19 +13,19 @@ use Rattle.warm_replica.specs.Jobs.{JobWent, WentAs}
 use Rattle.warm_replica.specs.Pairs.{Pairs, Triples}
 use Rattle.warm_replica.specs.Replied.{Replied}
 
--- the job has its buffer, and its steps are the same
+-- the ready job has a buffer of the job's capacity, and the same steps
 abbrev pub IsReady : Job → Ready → Type 0
 IsReady job ready = (job.capacity ≡ ready.buffer.capacity) × (job.steps ≡ ready.steps)
 
 abbrev pub AreReady : List Job → List Ready → Type 0
 AreReady = Pairs IsReady
 
--- the calls of an ended pass are those of this job, answered so
+-- the calls of an ended pass are those of this job, with these replies
 abbrev pub ReadyWentAs : Ready → Replied → Ended Call Reply → Type 0
 ReadyWentAs ready replies e = WentAs ready.buffer.capacity ready.steps.items replies.items e
 
 module _ {X : Type 0} where
-  -- a job that had its buffer went, from an empty buffer on
+  -- a ready job ran, starting from an empty buffer
   abbrev pub ReadyWent : Ready → Replied → View X Call Reply → View X Call Reply → Type 0
   ReadyWent ready replies v w = JobWent ready.buffer.capacity ready.steps.items replies.items v w
 

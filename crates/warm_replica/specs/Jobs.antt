@@ -1,4 +1,4 @@
--- What the steps of a job do.
+-- The effect of the steps of a job.
 use Rattle.std.specs.Prelude.{◌≡◌, ◌⊎◌, ℕ, ◌<◌, ◌≤◌, List, [], ◌∷◌, ◌++◌, length, Bool, true, false}
 use Rattle.std.specs.List.{All}
 use Rattle.warm_stamps.specs.declared.Reference.{Reference}
@@ -25,8 +25,10 @@ use Rattle.warm_replica.specs.Working.{Working}
 abbrev pub Calls : Type 0
 Calls = List (Entry Call Reply)
 
--- What a step answers, where a buffer of this capacity holds these references, and the pass of number n has its mark or not: whether it has it then, what the buffer
--- holds then, and the calls of the pass that the step made. A pass with its mark is never answered again
+-- The reply of a step, where a buffer of this capacity holds these references, and the pass of
+-- number n has its mark or not: whether it has the mark afterwards, the buffer's contents
+-- afterwards, and the calls of the pass that the step made. A pass with its mark is never answered
+-- again
 abbrev pub Gave : (capacity n : ℕ) → Bool → List Reference → Step → StepReply → Bool → List Reference → Calls → Type 0
 Gave capacity n spent held (Touch r) Touched after held' made = (length held < capacity) × (after ≡ spent) × (held' ≡ held ++ r ∷ []) × (made ≡ [])
 Gave capacity n spent held (Touch r) (Full q) after held' made = (capacity ≤ length held) × (q ≡ r) × (after ≡ spent) × (held' ≡ held) × (made ≡ [])
@@ -38,7 +40,7 @@ Gave capacity n spent held (Make call) (Answered reply) after held' made = (spen
 Gave capacity n spent held (Make call) (Failed TurnsSpent) after held' made = (after ≡ true) × (held' ≡ held) × (made ≡ [])
 Gave capacity n spent held step reply after held' made = ⊥
 
--- the same of steps one after another
+-- the same, for steps one after another
 abbrev pub AllGave : (capacity n : ℕ) → Bool → List Reference → List Step → List StepReply → Bool → List Reference → Calls → Type 0
 AllGave capacity n spent held [] [] after held' made = (after ≡ spent) × (held' ≡ held) × (made ≡ [])
 AllGave capacity n spent held (s ∷ ss) (r ∷ rs) after held' made =
@@ -48,41 +50,42 @@ AllGave capacity n spent held [] (r ∷ rs) after held' made = ⊥
 AllGave capacity n spent held (s ∷ ss) [] after held' made = ⊥
 
 module _ {X : Type 0} where
-  -- a worker took these steps, answered so
+  -- a worker took these steps, with these replies
   abbrev pub StepsWent : Working X Call Reply → List Step → List StepReply → Working X Call Reply → Type 0
   StepsWent old steps replies new =
       (made : Calls)
       × AllGave old.buffer.capacity old.pass.view.number old.pass.view.found_last old.buffer.refs steps replies new.pass.view.found_last new.buffer.refs made
       × (new.buffer.capacity ≡ old.buffer.capacity) × Extended old.pass.view made new.pass.view
 
-  -- one of them
+  -- a worker took one step, with this reply
   abbrev pub StepWent : Working X Call Reply → Step → StepReply → Working X Call Reply → Type 0
   StepWent old step reply new =
       (made : Calls)
       × Gave old.buffer.capacity old.pass.view.number old.pass.view.found_last old.buffer.refs step reply new.pass.view.found_last new.buffer.refs made
       × (new.buffer.capacity ≡ old.buffer.capacity) × Extended old.pass.view made new.pass.view
 
-  -- a job went, from an empty buffer of this capacity on
+  -- a job ran, starting from an empty buffer of this capacity
   abbrev pub JobWent : ℕ → List Step → List StepReply → View X Call Reply → View X Call Reply → Type 0
   JobWent capacity steps replies v w =
       (held : List Reference) × (made : Calls) × AllGave capacity v.number v.found_last [] steps replies w.found_last held made × Extended v made w
 
--- the calls of an ended pass, which began without a mark, are those of a job that was answered so
+-- the calls of an ended pass, which began without a mark, are those of a job with these replies
 abbrev pub WentAs : ℕ → List Step → List StepReply → Ended Call Reply → Type 0
 WentAs capacity steps replies e = (after : Bool) × (held : List Reference) × AllGave capacity e.number false [] steps replies after held e.calls
 
 abbrev pub JobWentAs : Job → Replied → Ended Call Reply → Type 0
 JobWentAs job replies e = WentAs job.capacity job.steps.items replies.items e
 
--- every job has a buffer that there can be
+-- every job has a valid buffer capacity
 abbrev pub HaveCapacities : List Job → Type 0
 HaveCapacities jobs = All (λ job. IsCapacity job.capacity) jobs
 
--- The jobs were run and answered so: the pass has seen more, and holds beside one pass that made no calls one for each job, whose calls are that job's
+-- The jobs were run with these replies: the pass has seen more, and holds one pass for each job,
+-- whose calls are that job's, and one pass that made no calls
 abbrev pub JobsWent : {X : Type 0} → View X Call Reply → List Job → List Replied → View X Call Reply → Type 0
 JobsWent v jobs replies w =
     (fan : Ended Call Reply) × (more : List (Ended Call Reply)) × Widened v (fan ∷ more) w × (fan.calls ≡ []) × Triples JobWentAs jobs replies more
 
--- the pass has seen more, and holds passes of jobs of which nothing is said
+-- the pass has seen more, and holds passes of unspecified jobs
 abbrev pub HasSeenMore : {X : Type 0} → View X Call Reply → View X Call Reply → Type 0
 HasSeenMore v w = (more : List (Ended Call Reply)) × Widened v more w

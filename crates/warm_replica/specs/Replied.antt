@@ -1,4 +1,4 @@
--- The replies of a job, of which those to touches that went well are counted.
+-- The replies of a job; those of successful touches are stored as counts.
 use Rattle.std.specs.Prelude.{ℕ, List, [], ◌∷◌, ◌++◌, replicate}
 use Rattle.std.specs.List.{All}
 use Rattle.warm_replica.specs.declared.job.StepReply.{StepReply}
@@ -19,7 +19,7 @@ ended (run ∷ runs) = replicate run.touched Touched ++ run.reply ∷ ended runs
 abbrev pub replies_of : List Run → ℕ → List StepReply
 replies_of runs touched = ended runs ++ replicate touched Touched
 
--- the step put its reference into the buffer, or had the replica absorb what was there
+-- the step put its reference into the buffer, or had the replica absorb the buffer
 abbrev pub IsTaken : StepReply → Type 0
 IsTaken Touched = Unit {0}
 IsTaken Flushed = Unit {0}

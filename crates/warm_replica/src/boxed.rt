@@ -1,12 +1,12 @@
-//! Calls and replies in memory of their own.
+//! Calls and replies in heap boxes.
 ghost use Rattle.std.specs.Prelude.{◌≡◌, IfOk};
 
 use std::alloc::{AllocError, Global};
 use std::marker::Model;
 use warm_gossip::{Call, Reply};
 
-/// A call in memory of its own, beside memory for the reply to it: two pointers, where a [`Call`] and a [`Reply`] each have space for
-/// a message's table of digests, which is some 2,080 bytes. Contracts see the call.
+/// A call in a heap box, with a box for its reply: two pointers, whereas a [`Call`] and a [`Reply`]
+/// each have space for a message's table of digests, some 2,080 bytes. Contracts see the call.
 #[derive(Drop)]
 pub struct BoxedCall {
     call: Box<Call>,
@@ -22,9 +22,11 @@ impl Model for BoxedCall {
 }
 
 impl BoxedCall {
-    /// The call, with memory for its reply: neither making it nor keeping what is replied takes further memory.
+    /// The call, with memory for its reply: making the call, and storing its reply, allocate
+    /// nothing further for the boxes.
     ///
-    /// `AllocError` comes only where memory for the call or for the reply was refused. The call is then dropped.
+    /// `AllocError` occurs only where the allocation for the call or for the reply fails. The call
+    /// is then dropped.
     pub fn new(alloc: Global, call: Call) -> Result<BoxedCall, AllocError>
         ensures { IfOk result (λ boxed. boxed ≡ call) }
     {
@@ -35,7 +37,7 @@ impl BoxedCall {
         Ok(BoxedCall { call, slot })
     }
 
-    /// The call, and the memory for its reply. Takes no memory, and gives back that of the call.
+    /// The call, and the memory for its reply. Allocation-free; the call's box is freed.
     pub(crate) fn into_parts(self) -> (Call, ReplySlot)
         ensures { result.0 ≡ self }
     {
@@ -44,14 +46,14 @@ impl BoxedCall {
     }
 }
 
-// Memory for a reply. What stands there means nothing until a reply is put in.
+// Memory for a reply. Its contents mean nothing until a reply is stored.
 #[derive(Drop)]
 pub(crate) struct ReplySlot {
     reply: Box<Reply>,
 }
 
 impl ReplySlot {
-    // The reply in this memory. Takes no memory.
+    // The reply in this memory. Allocation-free.
     pub(crate) fn with(self, reply: Reply) -> BoxedReply
         ensures { result ≡ reply }
     {
@@ -61,7 +63,8 @@ impl ReplySlot {
     }
 }
 
-/// A reply in memory of its own: a pointer, where a [`Reply`] has space for a message's table of digests. Contracts see the reply.
+/// A reply in a heap box: a pointer, whereas a [`Reply`] has space for a message's table of
+/// digests. Contracts see the reply.
 #[derive(Drop)]
 pub struct BoxedReply {
     reply: Box<Reply>,
@@ -76,14 +79,14 @@ impl Model for BoxedReply {
 }
 
 impl BoxedReply {
-    /// The reply. Takes no memory.
+    /// The reply. Allocation-free.
     pub fn as_reply(&self) -> &Reply
         ensures { result.now ≡ self.now }
     {
         &self.reply
     }
 
-    /// The reply. Takes no memory, and gives back that of the box.
+    /// The reply. Allocation-free; the box is freed.
     pub fn into_reply(self) -> Reply
         ensures { result ≡ self }
     {

@@ -19,10 +19,10 @@ use std::thread::{Promise, PromisedHandle, Scope, Threads};
 use warm_refbuffer::{MAX_CAPACITY, RefBuffer};
 use warm_turn::{Machine, Pass, Turn};
 
-/// The most jobs of one run.
+/// The maximum number of jobs of one run.
 pub const MAX_JOBS: usize = 64;
 
-// What a job began with.
+// What a job begins with.
 #[derive(Drop)]
 struct Began<M: Machine> {
     buffer: Snapshot<RefBuffer>,
@@ -138,7 +138,8 @@ fn fan_out<'s, E, M: Absorbing + Send + 's, R: Threads + Wait + Sync, G: Gate + 
     Ok(())
 }
 
-// A job with its buffer, and with capacity for its replies. The buffer's capacity is one that a buffer can have, so only memory can be refused.
+// A job with its buffer, and with capacity for its replies. The buffer's capacity is valid, so only
+// an allocation can fail.
 fn make_ready(alloc: Global, number: usize, job: Job) -> Result<Ready, AllocError>
     requires { IsCapacity job.capacity }
     ensures { IfOk result (IsReady job) }
@@ -169,7 +170,7 @@ fn make_all_ready(alloc: Global, jobs: Vec<Job>) -> Result<Vec<Ready>, AllocErro
     Ok(all)
 }
 
-// Whether each job has a buffer that there can be.
+// Whether each job has a valid buffer capacity.
 fn have_capacities(jobs: &[Job]) -> bool
     ensures { IsTrue result ↔ HaveCapacities jobs.now }
 {
@@ -212,18 +213,21 @@ fn run_ready<M: Absorbing + Send, R: Threads + Wait + Sync, G: Gate + Sync>(
     )
 }
 
-/// Runs each job in a thread of its own, and ends their passes into this one. At most [`MAX_JOBS`] at a time. The replies come in the
-/// order of the jobs, one for each step. What a job's buffer holds after its last step is given up.
+/// Runs each job in a thread of its own, and ends their passes into this one. There may be at most
+/// [`MAX_JOBS`] jobs. The replies are in the order of the jobs, one for each step. References in a
+/// job's buffer after its last step are dropped.
 ///
-/// Each job's part of the history is just its flushes and calls, in order, with the replies that its steps gave. A step is answered
-/// `TurnsSpent` only where its job found no ticket left, and no later flush or call of the job is served then. The pass makes no call
-/// of its own. The gate is called round each step, by the job's own thread.
+/// Each job's part of the history is exactly its flushes and calls, in order, with the replies of
+/// its steps. A step is answered `TurnsSpent` only where its job found no ticket left, and then no
+/// later flush or call of the job is served. The pass makes no call of its own. The gate is called
+/// before and after each step, by the job's own thread.
 ///
 /// # Errors
-/// - `BadCapacity`: a job wants a buffer of a capacity outside 1 to [`warm_refbuffer::MAX_CAPACITY`]. Nothing has happened.
-/// - `Memory`: memory for a buffer or for replies was refused. Nothing has happened.
-/// - `NoThread`: a thread could not be started, for want of memory too. The jobs that were started have run to their end, and the
-///   pass has seen what they did.
+/// - `BadCapacity`: a job requests a buffer capacity outside 1 to [`warm_refbuffer::MAX_CAPACITY`].
+///   Nothing has happened.
+/// - `Memory`: the allocation of a buffer or of replies failed. Nothing has happened.
+/// - `NoThread`: a thread could not be started; this includes an allocation failure on starting it.
+///   The jobs that were started have run to their end, and the pass has seen their calls.
 pub fn run_workers<M: Absorbing + Send, R: Threads + Wait + Sync, G: Gate + Sync>(
     rt: &R,
     alloc: Global,

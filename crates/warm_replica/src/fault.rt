@@ -7,13 +7,13 @@ use std::thread::SpawnError;
 use thiserror::Error;
 use warm_turn::TurnsSpent;
 
-/// Why a buffer was not flushed. It holds what it held.
+/// Why a buffer was not flushed. The buffer is unchanged.
 #[derive(Clone, Copy, Debug, PartialEq, Eq, Error)]
 pub enum FlushFault {
-    /// 1: there was no memory, for the call or for the machine that answers it.
+    /// 1: an allocation failed, for the call or of the machine that answers it.
     #[error("Memory")]
     Memory,
-    /// 2: no ticket was left for a call; nor is one for any later call of this worker.
+    /// 2: no ticket was left for a call, and none is left for any later call of this worker.
     #[error("TurnsSpent")]
     TurnsSpent,
 }
@@ -62,7 +62,7 @@ impl FlushFault {
     }
 }
 
-/// A thread could not be started, for want of memory too.
+/// A thread could not be started; this includes an allocation failure on starting it.
 #[derive(Clone, Copy, Debug, PartialEq, Eq, Error)]
 #[error("NoThread")]
 pub struct NoThread;
@@ -79,17 +79,17 @@ impl From<AllocError> for NoThread {
     }
 }
 
-/// Why jobs were not all run. The first that applies is answered: `BadCapacity`, then `Memory`, both before a thread is
-/// started, then `NoThread`.
+/// Why not all jobs were run. The first fault that applies is returned: `BadCapacity`, then
+/// `Memory`, both before a thread is started, then `NoThread`.
 #[derive(Clone, Copy, Debug, PartialEq, Eq, Error)]
 pub enum RunFault {
-    /// 1: there was no memory for the buffer or the replies of a job.
+    /// 1: the allocation of the buffer or of the replies of a job failed.
     #[error("Memory")]
     Memory,
     /// 2: a thread could not be started. Those that were started have run to their end.
     #[error("NoThread")]
     NoThread,
-    /// 3: a job wants a buffer of a capacity that none has: outside 1 to [`warm_refbuffer::MAX_CAPACITY`].
+    /// 3: a job requests an invalid buffer capacity: outside 1 to [`warm_refbuffer::MAX_CAPACITY`].
     #[error("BadCapacity")]
     BadCapacity,
 }

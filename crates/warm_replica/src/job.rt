@@ -1,4 +1,4 @@
-//! Jobs: the steps that a thread of its own takes with a worker of its own.
+//! Jobs: lists of steps, each run by its own thread with its own worker.
 ghost use Rattle.std.specs.Prelude.{◌≡◌, ◌≤◌, [], length};
 ghost use Rattle.warm_replica.specs.Jobs.{StepWent, StepsWent};
 
@@ -12,44 +12,46 @@ use warm_refbuffer::Full;
 use warm_stamps::Reference;
 use warm_turn::Turn;
 
-/// A step of a job. A step and its reply take a few words: calls and replies are in memory of their own, which is
-/// allocated before the job begins.
+/// A step of a job. A step and its reply take a few words: calls and replies are in heap boxes,
+/// which are allocated before the job begins.
 #[derive(Drop)]
 pub enum Step {
     /// Put a reference into the buffer.
     Touch(Reference),
-    /// Have the replica absorb what the buffer holds.
+    /// Have the replica absorb the buffer, and empty it.
     Flush,
     /// Make a call.
     Make(BoxedCall),
 }
 
-/// How a step was answered.
+/// The reply to a step.
 #[derive(Drop)]
 pub enum StepReply {
     /// The reference is in the buffer.
     Touched,
-    /// The buffer was full; the reference comes back.
+    /// The buffer was full; the reference is given back.
     Full(Reference),
-    /// The replica has absorbed what the buffer held, which is empty.
+    /// The replica has absorbed the buffer, which is now empty.
     Flushed,
     /// The reply to the call.
     Answered(BoxedReply),
-    /// The flush was refused, or no ticket was left for the call. Where none was left, there is none for a later flush or call of the
-    /// job.
+    /// The flush was refused, or no ticket was left for the call. In the second case none is left
+    /// for a later flush or call of the job.
     Failed(FlushFault),
 }
 
-/// The steps of one thread, and the capacity of its buffer. What the buffer holds after the last step is given up.
+/// The steps of one thread, and the capacity of its buffer. References in the buffer after the last
+/// step are dropped.
 #[derive(Drop)]
 pub struct Job {
-    /// How many references the buffer holds.
+    /// The capacity of the buffer, in references.
     pub capacity: usize,
     /// The steps, in order.
     pub steps: Vec<Step>,
 }
 
-/// What is called round each step of a job, by the thread that takes it. Jobs and their steps are counted from 0.
+/// Callbacks before and after each step of a job, called by the thread that takes the step. Jobs
+/// and their steps are counted from 0.
 pub trait Gate {
     /// Before the step is taken.
     fn before(&self, job: usize, step: usize);

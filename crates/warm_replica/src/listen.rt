@@ -15,7 +15,7 @@ use warm_gossip::{Call, Reply};
 use warm_stamps::{ByteList, ReplicaId};
 use warm_turn::{Machine, Turn};
 
-// Who sent the message.
+// The sender of the message.
 fn sender_of(message: &Message) -> ReplicaId
     ensures { result ≡ sender_of message.now }
 {
@@ -52,7 +52,8 @@ fn post_all<P: Post>(alloc: Global, post: &mut P, to: ReplicaId, messages: &[Mes
     lost
 }
 
-// Takes bytes: a message that they spell is received in a turn of its own, and its answers are posted.
+// Handles bytes: the message that they spell is received in a turn of its own, and its answers are
+// posted.
 fn hear<M: Machine<Call = Call, Reply = Reply>, P: Post, R: Wait>(
     rt: &R,
     alloc: Global,
@@ -86,7 +87,7 @@ fn hear<M: Machine<Call = Call, Reply = Reply>, P: Post, R: Wait>(
     }
 }
 
-// The next item of mail. The mail need not be known to end.
+// The next item of mail. The mail need not be proved to end.
 fn next_item<I: Iterator<Item = Mail>>(mail: &mut I) -> Option<Mail>
     requires { I.can_next mail.old }
     ensures gives { I.next_gives mail.old result mail.new }
@@ -95,13 +96,14 @@ fn next_item<I: Iterator<Item = Mail>>(mail: &mut I) -> Option<Mail>
     mail.next()
 }
 
-/// Takes mail until `stops` Stops or `turns` items were taken, or the mail ends; nothing where `stops` or `turns` is 0. Bytes are
-/// decoded, the message is received by the replica in a turn of its own, and the answers are posted to the message's sender. The
-/// worker's buffer stays as it is.
+/// Takes mail until it has taken `stops` Stops or `turns` items, or the mail ends; nothing where
+/// `stops` or `turns` is 0. Bytes are decoded, the message is received by the replica in a turn of
+/// its own, and the answers are posted to the message's sender. The worker's buffer is unchanged.
 ///
-/// No item ends the loop by its fault. Bytes that spell no message, a message that the replica refuses, one for whose decoding memory was
-/// refused, and one for which no ticket was left are counted as refused; answers that the post does not take, or that could not
-/// be encoded for want of memory, as lost. It may wait for the mail, for turns, and for the post.
+/// A faulty item does not end the loop. Counted as refused are bytes that spell no message, a
+/// message that the replica refuses, a message whose decoding fails on an allocation, and a message
+/// for which no ticket was left. Counted as lost are answers that the post does not take, or whose
+/// encoding fails on an allocation. It may wait for the mail, for turns, and for the post.
 pub fn mail_loop<
     M: Machine<Call = Call, Reply = Reply>,
     I: Iterator<Item = Mail>,

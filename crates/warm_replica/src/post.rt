@@ -1,4 +1,4 @@
-//! Posts: where the messages go that a replica answers.
+//! Posts: the destinations of a replica's answers.
 ghost use Rattle.std.specs.Prelude.{◌≡◌, ◌≢◌, [], ◌∷◌, ◌++◌, true, false};
 ghost use Rattle.std.specs.Prelude.{IfErr, IsErr, OnErr, OnOk, Some, ◌==◌, position};
 ghost use Rattle.std.specs.List.{All};
@@ -11,8 +11,8 @@ use std::marker::Model;
 use std::sync::Wait;
 use warm_stamps::{ByteList, ReplicaId};
 
-/// What takes bytes for a replica. A post says of itself whether it keeps what it takes; contracts of a loop over mail say what a
-/// post that keeps has gained.
+/// A destination of bytes for replicas. A post declares whether it keeps what it takes; the
+/// contracts of a mail loop state what a post that keeps has gained.
 pub trait Post {
     ghost use Rattle.std.specs.Prelude.{List, Bool};
     ghost use Rattle.warm_replica.specs.Parcels.{Parcel};
@@ -23,7 +23,7 @@ pub trait Post {
     // What it has taken and keeps, oldest first.
     ghost given: { Self → List Parcel };
 
-    /// Takes bytes for a replica, or gives them back; then it has gained nothing.
+    /// Takes bytes for a replica, or gives them back and is unchanged.
     fn post(&mut self, to: ReplicaId, bytes: ByteList) -> Result<(), ByteList>
         ensures back { IfErr result (λ same. same ≡ bytes) }
         ensures taken { OnOk result
@@ -47,7 +47,7 @@ impl Model for MemPost {
 }
 
 impl MemPost {
-    /// A post that has nothing. Takes no memory.
+    /// An empty post. Allocation-free.
     pub fn new(alloc: Global) -> MemPost
         ensures { result ≡ [] }
     {
@@ -56,7 +56,7 @@ impl MemPost {
         }
     }
 
-    /// What it was given, oldest first: the replica that the bytes are for, and the bytes.
+    /// The bytes that it has taken, oldest first, each with the replica that they are for.
     pub fn given(&self) -> &[(ReplicaId, ByteList)]
         ensures { result.now ≡ self.now }
     {
@@ -71,7 +71,7 @@ impl Post for MemPost {
 
     ghost given = { λ p. p };
 
-    /// Refuses for want of memory alone, and then keeps what it had.
+    /// Refuses only on an allocation failure, and is then unchanged.
     fn post(&mut self, to: ReplicaId, bytes: ByteList) -> Result<(), ByteList> {
         match self.given.push((to, bytes)) {
             Ok(()) => Ok(()),
@@ -80,12 +80,12 @@ impl Post for MemPost {
     }
 }
 
-/// Where the mail of one replica is sent.
+/// The sending end of one replica's mail.
 #[derive(Drop)]
 pub struct Outbox {
-    /// Whose it is.
+    /// The replica.
     pub replica: ReplicaId,
-    /// Its end of the channel.
+    /// The sending end of its channel.
     pub sender: Sender<Mail>,
 }
 
@@ -96,8 +96,8 @@ fn place_of(boxes: &[Outbox], to: ReplicaId) -> Option<usize>
     boxes.iter().position(|outbox| outbox.replica == to)
 }
 
-// Sends bytes to an outbox, which is the first of the replica's number: the one call that sends. What the other end of a channel
-// gets no clause can say. May wait.
+// Sends bytes to an outbox, the first of the replica's number. It is the only call that sends: no
+// clause can say what the other end of a channel receives. May wait.
 fn send_at<R: Wait>(
     rt: &R,
     boxes: &[Outbox],
@@ -127,7 +127,7 @@ pub struct Outboxes<'a, R: Wait> {
 }
 
 impl<'a, R: Wait> Outboxes<'a, R> {
-    /// A post over these outboxes. Takes no memory.
+    /// A post over these outboxes. Allocation-free.
     pub fn new(rt: &'a R, boxes: Vec<Outbox>) -> Outboxes<'a, R>
         ensures { result.boxes ≡ boxes }
     {
@@ -142,7 +142,8 @@ impl<'a, R: Wait> Post for Outboxes<'a, R> {
 
     ghost given = { λ _. [] };
 
-    /// May wait. The bytes come back where no outbox has that number, and where the channel has no receiver or is full.
+    /// May wait. The bytes are given back where no outbox has that number, and where the channel
+    /// has no receiver or is full.
     fn post(&mut self, to: ReplicaId, bytes: ByteList) -> Result<(), ByteList>
         ensures back { IfErr result (λ same. same ≡ bytes) }
         ensures taken { OnOk result (Gained false [] ((to, bytes) ∷ []) []) }

@@ -1,4 +1,4 @@
-//! A job that has its memory.
+//! A job with its memory allocated.
 ghost use Rattle.std.specs.Prelude.{◌≡◌, ◌≤◌, [], length};
 
 use crate::job::Step;

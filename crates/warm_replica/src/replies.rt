@@ -9,16 +9,16 @@ use crate::job::StepReply;
 use std::alloc::{AllocError, Global};
 use std::marker::Model;
 
-// This many steps answered `Touched`, and then another reply.
+// A number of replies `Touched`, and then another reply.
 #[derive(Drop)]
 pub(crate) struct Run {
     touched: usize,
     reply: StepReply,
 }
 
-/// The replies to the steps of a job, one for each step, in order. Those to references that went into the buffer one after another
-/// are counted, since they are most of them and say nothing more. Contracts see `Replied`: the list `items`, and the
-/// `capacity` for it.
+/// The replies to the steps of a job, one for each step, in order. Consecutive replies `Touched`
+/// are stored as a count, since most replies are `Touched` and carry nothing more. Contracts see
+/// `Replied`: the list `items`, and the `capacity` for it.
 #[derive(Drop)]
 pub struct Replies {
     runs: Vec<Run>,
@@ -54,14 +54,14 @@ impl Replies {
         })
     }
 
-    /// How many replies these are: as many as the job took steps.
+    /// The number of replies, which is the number of the job's steps.
     pub fn len(&self) -> usize
         ensures { result ≡ length self.now.items }
     {
         self.len
     }
 
-    // One reply more, for which there is capacity. Takes no memory.
+    // Adds one reply, for which there is capacity. Allocation-free.
     pub(crate) fn push(&mut self, reply: StepReply)
         requires capacity { length self.old.items < self.old.capacity }
         ensures items { self.new.items ≡ self.old.items ++ reply ∷ [] }
@@ -78,8 +78,8 @@ impl Replies {
         }
     }
 
-    /// Whether each step put its reference into the buffer, or had the replica absorb what was there: none was a call, and none was
-    /// refused.
+    /// Whether each step put its reference into the buffer, or had the replica absorb the buffer:
+    /// none was a call, and none was refused.
     pub fn are_taken(&self) -> bool
         ensures { IsTrue result ↔ AreTaken self.now }
     {
@@ -89,7 +89,7 @@ impl Replies {
     /// The replies, one for each step, in order.
     ///
     /// # Errors
-    /// Where memory for them is refused, the replies come back.
+    /// Where their allocation fails, the replies are given back.
     pub fn into_vec(self, alloc: Global) -> Result<Vec<StepReply>, Replies>
         ensures all { IfOk result (λ all. all.items ≡ self.items) }
         ensures kept { IfErr result (λ back. back ≡ self) }
@@ -121,7 +121,7 @@ fn are_ended_taken(runs: &[Run]) -> bool
     runs.iter().all(|run| is_taken(&run.reply))
 }
 
-// This many touches more. There is capacity for them.
+// Adds this many replies `Touched`, for which there is capacity.
 fn push_touched(all: &mut Vec<StepReply>, count: usize)
     requires capacity { length all.old.items + count ≤ vec_capacity all.old }
     ensures items { all.new.items ≡ all.old.items ++ replicate count Touched }

@@ -18,7 +18,8 @@ use std::thread::{Promise, PromisedHandle, Scope, Threads};
 use warm_gossip::{Call, Reply};
 use warm_turn::{Machine, Turn};
 
-/// A replica, a worker that is to take its mail, the channel of that mail, and where the answers go.
+/// A replica, the worker that takes its mail, the channel of that mail, and the outboxes for the
+/// answers.
 #[derive(Drop)]
 pub struct Station<'a, M: Machine> {
     replica: &'a Turn<M>,
@@ -29,7 +30,7 @@ pub struct Station<'a, M: Machine> {
 }
 
 impl<'a, M: Machine> Station<'a, M> {
-    /// A station of these parts. Takes no memory.
+    /// A station of these parts. Allocation-free.
     pub fn new(
         replica: &'a Turn<M>,
         worker: Worker<M>,
@@ -50,7 +51,7 @@ impl<'a, M: Machine> Station<'a, M> {
     }
 }
 
-// What a thread that listens began with.
+// What a listening thread begins with.
 #[derive(Drop)]
 struct Began<M: Machine> {
     worker: Snapshot<Worker<M>>,
@@ -64,7 +65,7 @@ impl<M: Machine<Call = Call, Reply = Reply>> Promise<(Worker<M>, MailReport)> fo
     ghost kept_by = { λ p r. Listened p.stops p.turns p.worker.value r.1 r.0 };
 }
 
-// Takes the mail of a channel, and sends the answers to outboxes. The worker comes back.
+// Takes the mail of a channel, and sends the answers to outboxes. The worker is returned.
 fn listen_alone<M: Machine<Call = Call, Reply = Reply>, R: Wait>(
     rt: &R,
     alloc: Global,
@@ -206,12 +207,14 @@ fn run_in_scope<'a, M: Machine<Call = Call, Reply = Reply> + Send, R: Threads + 
     ran
 }
 
-/// Each station takes its mail in a thread of its own, as [`crate::mail_loop`] does, until `stops` Stops or `turns` items, and gives its
-/// worker back, with the buffer that it had, and what it counted, in the order of the stations. It ends when all have ended.
+/// Each station takes its mail in a thread of its own, as [`crate::mail_loop`] does, until `stops`
+/// Stops or `turns` items, and returns its worker, with its buffer unchanged, and its counts, in
+/// the order of the stations. It ends when all have ended.
 ///
 /// # Errors
-/// `NoThread`: a thread or memory was refused. The threads that were started have run to their end; the workers are given up, with what
-/// waited in their buffers, and their calls stay in the histories of their replicas.
+/// `NoThread`: a thread could not be started, or an allocation failed. The threads that were
+/// started have run to their end; the workers are dropped with the references in their buffers, and
+/// their calls stay in the histories of their replicas.
 pub fn run_stations<'a, M: Machine<Call = Call, Reply = Reply> + Send, R: Threads + Wait + Sync>(
     rt: &'a R,
     alloc: Global,

@@ -14,12 +14,12 @@ use warm_refbuffer::{Full, RefBuffer};
 use warm_stamps::{RefList, Reference};
 use warm_turn::{Machine, Pass, Turn};
 
-/// A machine that answers the calls of a node, and refuses a batch of references for want of memory alone. A flush and jobs ask
-/// for one, so that a refused flush has one meaning.
+/// A machine that answers the calls of a node, and refuses a batch of references only because of an
+/// allocation failure. Flushes and jobs require it, so that a refused flush has one meaning.
 pub trait Absorbing: Machine<Call = Call, Reply = Reply> {
     ghost use Rattle.warm_gossip.specs.Batches.{TakesBatches};
 
-    // A batch is taken, or refused for memory.
+    // A batch is absorbed, or refused because of an allocation failure.
     ghost absorbs: { TakesBatches Self.Machine.goes };
 }
 
@@ -29,10 +29,11 @@ impl<D: PageDevice + Send> Absorbing for Node<D> {
     ghost absorbs = { batches_are_taken };
 }
 
-/// A worker of a replica: a thread's own right to call, and what it has touched since its last flush.
+/// A worker of a replica: a thread's own pass, and the references that it has made since its last
+/// flush.
 ///
-/// Contracts see its `pass` and its `buffer`. A worker that is dropped loses what waits in its buffer, and leaves its calls in
-/// the history.
+/// Contracts see its `pass` and its `buffer`. A worker that is dropped loses the references in its
+/// buffer, and leaves its calls in the history.
 #[derive(Drop)]
 pub struct Worker<M: Machine> {
     pass: Pass<M>,
@@ -47,7 +48,7 @@ impl<M: Machine> Model for Worker<M> {
     ghost view = { λ w. record { pass = w.pass; buffer = w.buffer } };
 }
 
-// A list of its own of the references.
+// A copy of the references as a list.
 fn batch_of(alloc: Global, refs: &[Reference]) -> Result<RefList, AllocError>
     ensures { IfOk result (λ batch. batch ≡ refs.now) }
 {
@@ -57,14 +58,14 @@ fn batch_of(alloc: Global, refs: &[Reference]) -> Result<RefList, AllocError>
 }
 
 impl<M: Machine<Call = Call, Reply = Reply>> Worker<M> {
-    /// A worker of these parts. Takes no memory.
+    /// A worker of these parts. Allocation-free.
     pub fn new(pass: Pass<M>, buffer: RefBuffer) -> Worker<M>
         ensures { result ≡ record { pass = pass; buffer = buffer } }
     {
         Worker { pass, buffer }
     }
 
-    /// Its parts. Takes no memory.
+    /// Its parts. Allocation-free.
     pub fn into_parts(self) -> (Pass<M>, RefBuffer)
         ensures { result ≡ (self.pass, self.buffer) }
     {
@@ -75,8 +76,8 @@ impl<M: Machine<Call = Call, Reply = Reply>> Worker<M> {
         (pass, waiting)
     }
 
-    /// Puts a reference last in the buffer. It takes no memory and waits for nobody: it meets no other worker. A full
-    /// buffer gives the reference back and stays as it was.
+    /// Puts a reference last in the buffer. It is allocation-free and never waits: it shares
+    /// nothing with other workers. A full buffer gives the reference back and is unchanged.
     pub fn touch(&mut self, reference: Reference) -> Result<(), Full>
         ensures pass { self.new.pass ≡ self.old.pass }
         ensures taken { length self.old.buffer.refs < self.old.buffer.capacity
@@ -89,10 +90,12 @@ impl<M: Machine<Call = Call, Reply = Reply>> Worker<M> {
         self.buffer.touch(reference)
     }
 
-    /// Makes a call in a turn of its own, and may wait for it. The buffer stays as it is, also where the call absorbs references.
+    /// Makes a call in a turn of its own, and may wait for it. The buffer is unchanged, also where
+    /// the call absorbs references.
     ///
     /// # Errors
-    /// The call is given back where no ticket was left for it, as none is for any later call of this worker.
+    /// The call is given back where no ticket was left for it; then none is left for any later call
+    /// of this worker.
     pub fn call<R: Wait>(&mut self, rt: &R, replica: &Turn<M>, call: Call) -> Result<Reply, Call>
         requires { self.old.pass.table ≡ replica.now.table }
         ensures table { self.new.pass.table ≡ self.old.pass.table }
@@ -110,12 +113,12 @@ impl<M: Machine<Call = Call, Reply = Reply>> Worker<M> {
 }
 
 impl<M: Absorbing> Worker<M> {
-    /// Has the replica absorb what the buffer holds, all of it in one turn, and empties the buffer. It may wait for the
-    /// turn.
+    /// Has the replica absorb the whole buffer in one turn, and empties the buffer. It may wait for
+    /// the turn.
     ///
     /// # Errors
-    /// `Memory`: there was none, for the batch or for the machine. `TurnsSpent`: no ticket was left. The buffer holds what
-    /// it held.
+    /// `Memory`: an allocation failed, for the batch or of the machine. `TurnsSpent`: no ticket was
+    /// left. The buffer is unchanged.
     pub fn flush<R: Wait>(
         &mut self,
         rt: &R,

@@ -1,4 +1,4 @@
--- The language and the answers, computed on lines and answers worked out by hand.
+-- The language and the answers, computed on lines and answers derived by hand.
 use Rattle.std.proofs.Common.{◌≡◌, inl, ◌<◌, List, ℕ, [], ◌∷◌, Some, None, refl, arith}
 use Rattle.std.specs.Fmt.{digits}
 use Rattle.std.specs.Prelude.{codes}
@@ -84,7 +84,7 @@ no_horizons : (line_of (codes "horizon 65536 1") ≡ None) × (line_of (codes "h
 unfolding line_of commands words number_up_to number_field horizon_of
 no_horizons = (refl, refl, refl, refl)
 
--- a horizon asks something of no worker
+-- a horizon is not a request to a worker
 horizon_of_no_worker : worker_line_in (line_of (codes "horizon 1 15")) ≡ None
 unfolding line_of commands words number_up_to number_field horizon_of
 horizon_of_no_worker = refl

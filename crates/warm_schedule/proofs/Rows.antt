@@ -239,7 +239,8 @@ sent_then_forgotten = printed (both (has 0 []) (has 0 []) []) (both (has 0 (at 1
 )
 
 -- ---- Digests and a request bring a horizon too. Replica 1 then sends its digests, which differ from those of nothing in bucket 1 alone:
--- replica 2 has nothing to send and requests that bucket, and replica 1, which hears of the horizon with the request, forgets the page.
+-- replica 2 has nothing to send and requests that bucket, and replica 1, which receives the horizon
+-- with the request, forgets the page.
 
 abbrev request_frame : MessageRecord
 request_frame = Request 2 50 2

@@ -115,7 +115,7 @@ meaning_cut line =
       | false ↦ λ e. ap meaning (take_all (MAX_LINE + 1) line (omega (arith, ltb-false _ _ e)))
     ] refl
 
--- what the line that is held says is what the whole line says
+-- the meaning of the held line is that of the whole line
 pub says : (held line : List ℕ) → HoldsLine held line → meaning held ≡ meaning line
 says held line h = ap meaning h.held_is ∙ meaning_cut line
 
@@ -148,7 +148,7 @@ pub written_then : {A E : Type 0} (r : Result A E) (a b c : Option (List ℕ)) (
 written_then (Ok v) a b c x y h k = Appends-then a b c x y h k
 written_then (Err e) a b c x y h k = tt
 
--- what holds after a call that went well
+-- what holds after a successful call
 pub done : {A E P : Type 0} (r : Result A E) → true ≡ is_ok r → OnOk r P → P
 done (Ok v) well h = h
 done (Err e) well h = absurd cc
@@ -318,7 +318,7 @@ ends_after : (m : ModelState) (first answers out : List ℕ) → EndsIn m answer
 ends_after m first answers out (inl same) = inl (ap (λ (xs : List ℕ). first ++ xs) same)
 ends_after m first answers out (inr refused) = inr (refused.0, ap (λ (xs : List ℕ). first ++ xs) refused.1 ∙ sym (append_assoc first answers end_refused))
 
--- a session that was fresh and came to the end of the input
+-- a session that was fresh and reached the end of the input
 pub Goes-whole : (a b : SessionView) (state : ModelState) (bytes out answers closing : List ℕ) → Goes a bytes out b → Ends b answers closing → Holds a state [] → a.number ≡ 1 → Played state bytes (out ++ (answers ++ closing))
 unfolding Goes Ends
 Goes-whole a b state bytes out answers closing goes ends fresh first =
@@ -363,7 +363,7 @@ Consumes-kept (Some xs) (Some ys) k = sym k
 pub Played-text : (state : ModelState) (a b out : List ℕ) → a ≡ b → Played state a out → Played state b out
 Played-text state a b out same played = subst (λ (text : List ℕ). Played state text out) same played
 
--- over devices that fit, what stops a play is why it does not come to its end
+-- over devices that fit, what stops a play is why it does not reach its end
 pub stopped_play : (setup : Sizes) (devices : List (List DeviceState)) (why : PlayFault) → AreFitting setup devices → StopsPlay why → PlayRefused setup devices why
 stopped_play setup devices play_fault.BadDevices fits stops = absurd stops
 stopped_play setup devices why fits stops = (fits, stops)

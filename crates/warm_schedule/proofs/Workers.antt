@@ -6,7 +6,7 @@ use Rattle.warm_world.specs.declared.event.Event.TheVariants.{Put}
 use Rattle.warm_schedule.specs.declared.parse.Line.TheVariants.{Act}
 use Rattle.warm_schedule.specs.Workers.{worker_line_in}
 
--- a put asks something of none, whether its bytes are spelled or not
+-- a put is not a request to a worker, whether its bytes are spelled or not
 pub put_asks_none : (replica : ℕ) (slot : Slot) (at : ℕ) (bytes : Option (List ℕ)) → None ≡ worker_line_in (option_map Act (option_map (Put replica slot at) bytes))
 put_asks_none replica slot at None = refl
 put_asks_none replica slot at (Some bytes) = refl

@@ -1,4 +1,5 @@
--- What is printed for an answer of the world. Numbers are in decimal, and each line ends with byte 0A.
+-- The text printed for an answer of the world. Numbers are in decimal, and each line ends with byte
+-- 0A.
 use Rattle.std.specs.Prelude.{ℕ, zero, suc, ◌+◌, ◌/◌, ◌%◌, nat_lt, if◌then◌else◌, List, [], ◌∷◌, ◌++◌, length, flat_map, codes, decimal, Option, Some, None, Result, OnOk}
 use Rattle.std.specs.Io.KnownBytes.{Appends}
 use Rattle.warm_stamps.specs.declared.PageId.{PageId}
@@ -13,7 +14,7 @@ use Rattle.warm_world.specs.declared.event.Answer.TheVariants.{Done, Shown, Fram
 use Rattle.warm_world.specs.declared.event.WorldFault.{WorldFault}
 use Rattle.warm_world.specs.Faults.{code_of, name_of}
 
--- a call that answers Ok has written this text after what was there, and nothing else
+-- a call that returns Ok has appended exactly this text
 abbrev pub Prints : {E : Type 0} → Result (Unit {0}) E → Option (List ℕ) → Option (List ℕ)
     → List ℕ → Type 0
 Prints result old new text = OnOk result (Appends old new text)
@@ -41,7 +42,7 @@ end_text count = codes "end " ++ decimal count ++ codes "\n"
 abbrev pub shown_text : List Entry → List ℕ
 shown_text entries = flat_map entry_text entries ++ end_text (length entries)
 
--- how many frames were answered, and the first one's number where there is one
+-- the number of answering frames, and the first one's number where there is one
 abbrev pub took_text : ℕ → ℕ → List ℕ
 took_text zero first = codes "took 0\n"
 took_text (suc n) first = codes "took " ++ decimal (suc n) ++ codes " from " ++ decimal first ++ codes "\n"
@@ -96,6 +97,6 @@ answer_text (Refused fault) = refused_text fault
 abbrev pub bad_line : ℕ → List ℕ
 bad_line number = codes "bad line " ++ decimal number ++ codes "\n"
 
--- what is printed last where the devices did not take what waited for them
+-- the last line printed where writing back to the devices failed
 abbrev pub end_refused : List ℕ
 end_refused = codes "end refused 12 Fault\n"

@@ -14,7 +14,7 @@ o >>= f = option_and_then f o
 abbrev pub digit_of : ℕ → Option ℕ
 digit_of c = if nat_le 48 c && nat_le c 57 then Some (c - 48) else None
 
--- the number that begins with the digits of n and goes on with these
+-- the number whose digits are those of n followed by these
 abbrev pub digits_after : ℕ → List ℕ → Option ℕ
 digits_after n [] = Some n
 digits_after n (c ∷ cs) = digit_of c >>= λ d. digits_after (10 * n + d) cs
@@ -122,7 +122,7 @@ worker_field fields = number_field 65535 fields
 abbrev pub bucket_field : List (List ℕ) → Option (ℕ × List (List ℕ))
 bucket_field fields = number_field (BUCKETS - 1) fields
 
--- a number of pages or bytes, or the place of a byte
+-- a number of pages or bytes, or the offset of a byte
 abbrev pub count_field : List (List ℕ) → Option (ℕ × List (List ℕ))
 count_field fields = number_field 4294967295 fields
 

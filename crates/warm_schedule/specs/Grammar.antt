@@ -8,7 +8,7 @@ use Rattle.warm_schedule.specs.declared.parse.Line.{Line}
 use Rattle.warm_schedule.specs.declared.parse.Line.TheVariants.{Nothing, Act}
 use Rattle.warm_schedule.specs.declared.parse.TheConstants.{MAX_LINE}
 
--- an event whose line has no further word
+-- the event, where its line has no further word
 abbrev pub ends_with : List (List ℕ) → Event → Option Event
 ends_with [] event = Some event
 ends_with (word ∷ rest) event = None
@@ -124,11 +124,11 @@ show_of fields = do
 
 -- ---- a whole line
 
--- what the words after the first ask for
+-- a reader of the words after the first
 abbrev pub Reader : Type 0
 Reader = List (List ℕ) → Option Event
 
--- the commands, each by its word and what its fields ask for
+-- the commands, each with its word and the reader of its fields
 unfoldable pub commands : List (List ℕ × Reader)
 commands =
     (codes "ref", refer_of)
@@ -148,7 +148,7 @@ commands =
     ∷ (codes "show", show_of)
     ∷ []
 
--- what a table has for a word, in the first row of that word
+-- the value that a table has for a word, in the first row of that word
 abbrev pub looked_up : {A : Type 0} → List (List ℕ × A) → List ℕ → Option A
 looked_up [] word = None
 looked_up (row ∷ rows) word = if bytes_eq word row.0 then Some row.1 else looked_up rows word
@@ -160,15 +160,15 @@ abbrev pub begins_with : ℕ → List ℕ → Bool
 begins_with c [] = false
 begins_with c (x ∷ xs) = x == c
 
--- a line without words and a comment say nothing
+-- a line without words and a comment mean nothing
 abbrev pub line_of_words : List (List ℕ) → Option Line
 line_of_words [] = Some Nothing
 line_of_words (word ∷ rest) = if begins_with 35 word then Some Nothing else option_map Act (event_of word rest)
 
--- what a line of any length says, or None where it is not of the language
+-- the meaning of a line of any length, or None where it is not of the language
 unfoldable pub line_of : List ℕ → Option Line
 line_of line = line_of_words (words line)
 
--- what a line says, or None where it is bad, for its length or otherwise
+-- the meaning of a line, or None where it is bad: too long, or not of the language
 unfoldable pub meaning : List ℕ → Option Line
 meaning line = if nat_lt MAX_LINE (length line) then None else line_of line

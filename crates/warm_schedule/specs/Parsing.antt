@@ -1,4 +1,4 @@
--- What the readers of a line hold, as the definitions see it.
+-- The values of the readers of a line, in terms of the definitions.
 use Rattle.std.specs.Prelude.{Option, Some, option_map}
 use Rattle.warm_world.specs.declared.event.Event.TheVariants as event
 use Rattle.warm_schedule.specs.Fields.{bytes_of}
@@ -10,7 +10,7 @@ use Rattle.warm_schedule.specs.declared.commands.Parsed.TheVariants as parsed
 use Rattle.warm_schedule.specs.declared.parse.Line.{Line}
 use Rattle.warm_schedule.specs.declared.parse.Line.TheVariants.{Nothing, Act}
 
--- what a command's fields ask for
+-- the reader of a command's fields
 abbrev pub reader_of : Command → Reader
 reader_of command.Refer = refer_of
 reader_of command.Flush = flush_of
@@ -28,7 +28,8 @@ reader_of command.Restart = restart_of
 reader_of command.Horizon = horizon_of
 reader_of command.Show = show_of
 
--- what the line says: nothing where it has no word or is a comment; the bytes of a put are those that its word spells
+-- the meaning of the line: nothing where it has no word or is a comment; the bytes of a put are
+-- those that its word spells
 abbrev pub line_parsed : Parsed → Option Line
 line_parsed parsed.Nothing = Some Nothing
 line_parsed (parsed.Event event) = Some (Act event)

@@ -1,4 +1,5 @@
--- What may be printed for a schedule: each line answered from the state that the lines before it left, and then the end.
+-- The possible output of a schedule: each line is answered from the state that the lines before it
+-- left, and then comes the end.
 use Rattle.std.specs.Prelude.{◌≡◌, ◌<◌, ℕ, ◌+◌, List, [], ◌∷◌, ◌++◌, length, false, Option, Some, None, ◌⊎◌}
 use Rattle.warm_gossip.specs.declared.fault.NodeFault.TheVariants.{Memory}
 use Rattle.warm_pool.specs.View.{device_at}
@@ -15,11 +16,12 @@ use Rattle.warm_schedule.specs.Grammar.{meaning}
 use Rattle.warm_schedule.specs.Reading.{IsPut}
 use Rattle.warm_schedule.specs.Answers.{answer_text, refused_text, bad_line, end_refused}
 
--- An event is answered as the world's relation has it, so that want of memory, where that relation allows it, prints its refusal.
+-- An event is answered as the world's relation allows; where the relation allows an allocation
+-- failure, its refusal is printed.
 abbrev pub Happens : ModelState → Event → List ℕ → ModelState → Type 0
 Happens old event out new = (answer : Answer) × Next old event answer new × (out ≡ answer_text answer)
 
--- Memory for the bytes of a put was refused: the put has not happened.
+-- The allocation for the bytes of a put failed: the put has not happened.
 abbrev pub FindsNoMemory : ModelState → Event → List ℕ → ModelState → Type 0
 FindsNoMemory old event out new = IsPut event × (out ≡ refused_text (Node Memory)) × (new ≡ old)
 
@@ -48,11 +50,13 @@ pub record MayFail (m : ModelState) : Type 0 where
   pub device_there : device < length (pool_of m replica).devices
   pub may : (device_at (pool_of m replica) device).unfailing ≡ false
 
--- After the answers nothing is printed, or else that the devices did not take what waited for them, if one of them may fail.
+-- After the answers nothing is printed or, if a device may fail, that writing back to the devices
+-- failed.
 abbrev pub EndsIn : ModelState → List ℕ → List ℕ → Type 0
 EndsIn last answers out = (out ≡ answers) ⊎ (MayFail last × (out ≡ answers ++ end_refused))
 
--- A schedule that is played from `state` to its end may print `out`. Where no device may fail, that is what the lines print.
+-- A schedule that is played from `state` to its end may print `out`. Where no device may fail, that
+-- is exactly the output of the lines.
 abbrev pub Played : ModelState → List ℕ → List ℕ → Type 0
 Played state text out =
     (answers : List ℕ) × (last : ModelState) × Printed state text answers last × EndsIn last answers out

@@ -1,4 +1,4 @@
--- What reading a line gives. The bytes of a put take memory, and nothing else of a line does.
+-- The result of reading a line. Only the bytes of a put need an allocation.
 use Rattle.std.specs.Prelude.{◌≡◌, ℕ, List, Option, Result, Err, MatchOption, ok_or, codes}
 use Rattle.warm_world.specs.declared.event.Event.{Event}
 use Rattle.warm_world.specs.declared.event.Event.TheVariants.{Put}
@@ -7,7 +7,8 @@ use Rattle.warm_schedule.specs.declared.parse.Line.TheVariants.{Nothing, Act}
 use Rattle.warm_schedule.specs.declared.parse.LineFault.{LineFault}
 use Rattle.warm_schedule.specs.declared.parse.LineFault.TheVariants.{Memory, Bad}
 
--- What is said is given, and Bad where nothing is said. Memory may be given in place of what takes memory.
+-- The meaning is returned, and Bad where there is none. Memory may be returned in place of a value
+-- that needs an allocation.
 abbrev pub Reads : {A : Type 0} → (A → Type 0) → Option A → Result A LineFault → Type 0
 Reads Takes said (Err Memory) = MatchOption said ⊥ Takes
 Reads Takes said read = read ≡ ok_or said Bad
@@ -21,7 +22,7 @@ abbrev pub PutsBytes : Line → Type 0
 PutsBytes Nothing = ⊥
 PutsBytes (Act event) = IsPut event
 
--- bytes take memory
+-- bytes always need an allocation
 abbrev pub TakesMemory : List ℕ → Type 0
 TakesMemory bytes = Unit {0}
 

@@ -6,24 +6,25 @@ use Rattle.warm_play_fault.specs.declared.PlayFault.TheVariants.{Memory, ReadFau
 use Rattle.warm_world.specs.Opening.{AreFitting}
 use Rattle.warm_world.specs.Sizes.{Sizes}
 
--- what stops the answering of lines: want of memory, or the writer
+-- what stops the answering of lines: an allocation failure, or the writer
 abbrev pub StopsAnswers : PlayFault → Type 0
 StopsAnswers Memory = Unit {0}
 StopsAnswers WriteFault = Unit {0}
 StopsAnswers why = ⊥
 
--- what stops a play that has begun: the same, or the reader
+-- what stops a running play: the same, or the reader
 abbrev pub StopsPlay : PlayFault → Type 0
 StopsPlay ReadFault = Unit {0}
 StopsPlay why = StopsAnswers why
 
--- why no play begins: the devices do not fit the setup; or they do, and there is no memory
+-- why a play does not begin: the devices do not fit the setup; or they do, and an allocation failed
 abbrev pub OpenRefused : Sizes → List (List DeviceState) → PlayFault → Type 0
 OpenRefused setup devices BadDevices = AreFitting setup devices → ⊥
 OpenRefused setup devices Memory = AreFitting setup devices
 OpenRefused setup devices why = ⊥
 
--- why a play does not come to its end: the devices do not fit the setup; or they do, and it was stopped
+-- why a play does not reach its end: the devices do not fit the setup; or they do, and it was
+-- stopped
 abbrev pub PlayRefused : Sizes → List (List DeviceState) → PlayFault → Type 0
 PlayRefused setup devices BadDevices = AreFitting setup devices → ⊥
 PlayRefused setup devices why = AreFitting setup devices × StopsPlay why

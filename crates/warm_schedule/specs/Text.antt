@@ -1,8 +1,8 @@
--- Bytes parted by a separator: the lines of a schedule, and the words of a line.
+-- Bytes split at a separator: the lines of a schedule, and the words of a line.
 use Rattle.std.specs.Prelude.{◌≢◌, ℕ, List, [], ◌∷◌, ◌==◌, if◌then◌else◌, Bool, true, false, filter}
 use Rattle.std.specs.List.{AllByRecursion}
 
--- a byte put before the first piece
+-- the pieces with a byte added before the first
 abbrev pub onto_first : ℕ → List (List ℕ) → List (List ℕ)
 onto_first c [] = (c ∷ []) ∷ []
 onto_first c (piece ∷ pieces) = (c ∷ piece) ∷ pieces
@@ -24,6 +24,6 @@ abbrev pub has_bytes : List ℕ → Bool
 has_bytes [] = false
 has_bytes (c ∷ cs) = true
 
--- words are parted by one or more spaces; no other byte is a space
+-- words are separated by one or more spaces; no other byte is a space
 unfoldable pub words : List ℕ → List (List ℕ)
 words line = filter has_bytes (split 32 line)

@@ -34,7 +34,8 @@ pub(crate) enum Command {
     Show,
 }
 
-// The word that each command begins with. A static, since a constant that holds references may be made again at each use.
+// The first word of each command. A static, since a constant that holds references may be
+// constructed again at each use.
 static COMMANDS: [(&str, Command); 15] = [
     ("ref", Command::Refer),
     ("flush", Command::Flush),
@@ -72,10 +73,11 @@ pub(crate) fn command_named(word: &[u8]) -> Option<Command>
     command_in(&COMMANDS, word)
 }
 
-// What a line says, read without taking memory: the bytes of a `put` are left as the word that is to spell them.
+// The meaning of a line, read without allocation: the bytes of a `put` are left as the word that
+// should spell them.
 #[derive(Drop)]
 pub(crate) enum Parsed<'a> {
-    // It has no word, or is a comment.
+    // The line has no word, or is a comment.
     Nothing,
     Event(Event),
     Put {
@@ -86,7 +88,7 @@ pub(crate) enum Parsed<'a> {
     },
 }
 
-// What a command asks for with these fields.
+// The meaning of a command with these fields.
 pub(crate) fn read_fields<'a>(command: Command, fields: &'a [u8]) -> Option<Parsed<'a>>
     ensures { option_and_then line_parsed result
         ≡ option_map Act (reader_of command (words fields.now)) }

@@ -1,4 +1,5 @@
-//! The fields of a line: each reader takes the first word of the text, and gives what it says and what follows it.
+//! The fields of a line: each reader takes the first word of the text, and returns its value and
+//! what follows it.
 ghost use Rattle.std.specs.Prelude.{◌≡◌, ◌<◌, ◌≤◌, ◌+◌, ◌*◌, ◌^◌, ◌∷◌, None, length, IfSome, MatchOption, option_map, is_some};
 ghost use Rattle.warm_stamps.specs.declared.TheConstants.{BUCKETS};
 ghost use Rattle.warm_schedule.specs.Text.{words};
@@ -32,7 +33,7 @@ fn digit(c: u8) -> Option<u8>
     }
 }
 
-// The number with one more digit, where 64 bits hold it.
+// The number with one more digit, where it fits in 64 bits.
 fn with_digit(number: u64, digit: u8) -> Option<u64>
     ensures { MatchOption result (2 ^ 64 ≤ 10 * number + digit)
         (λ n. n ≡ 10 * number + digit) }
@@ -58,7 +59,7 @@ fn number(word: &[u8], limit: u64) -> Option<u64>
     Some(number)
 }
 
-// A second colon is no digit of the number.
+// A second colon is not a digit of the number, so it is refused.
 #[tactic(auto, using(crate::proofs::Parts::page_parts), unfolding(crate::specs::Fields::page_of))]
 fn page(word: &[u8]) -> Option<PageId>
     ensures { result ≡ page_of word.now }
@@ -69,7 +70,7 @@ fn page(word: &[u8]) -> Option<PageId>
     Some(PageId { dev, no })
 }
 
-// A second dot is no digit of the generation.
+// A second dot is not a digit of the generation, so it is refused.
 #[tactic(auto, using(crate::proofs::Parts::slot_parts), unfolding(crate::specs::Fields::slot_of))]
 fn slot(word: &[u8]) -> Option<Slot>
     ensures { result ≡ slot_of word.now }
@@ -121,7 +122,7 @@ fn spells_bytes(word: &[u8]) -> bool
     rest.is_empty()
 }
 
-// The bytes that a word spells. It takes memory only where the word spells some.
+// The bytes that a word spells. It allocates only where the word spells bytes.
 pub(crate) fn bytes(alloc: Global, word: &[u8]) -> Result<ByteList, LineFault>
     ensures { Reads TakesMemory (bytes_of word.now) result }
 {
@@ -175,7 +176,7 @@ pub(crate) fn bucket_at(fields: &[u8]) -> Option<(u8, &[u8])>
     Some((bucket as u8, rest))
 }
 
-// A number of pages or bytes, or the place of a byte.
+// A number of pages or bytes, or the offset of a byte.
 pub(crate) fn count_at(fields: &[u8]) -> Option<(u32, &[u8])>
     ensures { option_map (λ x. (x.0, words x.1.now)) result ≡ count_field (words fields.now) }
 {

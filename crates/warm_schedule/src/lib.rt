@@ -1,8 +1,10 @@
-//! Schedules: lines of text that say what happens in a world of warm-standby replicas, and the player that answers them.
+//! Schedules: lines of text that are the events of a world of warm-standby replicas, and the player
+//! that answers them.
 //!
-//! [`parse_line`] reads one line, and [`parse_worker_line`] one that asks something of a worker. [`play`] reads a whole schedule
-//! from any reader and writes the answers to any writer, each as [`print_answer`] prints it, and [`random_schedule`] writes a
-//! schedule that a seed gives. docs/FORMATS.md has the language, line by line.
+//! [`parse_line`] reads one line, and [`parse_worker_line`] one that is a request to a worker.
+//! [`play`] reads a whole schedule from any reader and writes the answers to any writer, each as
+//! [`print_answer`] prints it, and [`random_schedule`] writes a schedule that a seed gives.
+//! docs/FORMATS.md has the language, line by line.
 #![tactic(auto)]
 
 mod commands;

@@ -11,19 +11,19 @@ use std::alloc::{AllocError, Global};
 use thiserror::Error;
 use warm_world::Event;
 
-/// What a line of a schedule says.
+/// The meaning of a line of a schedule.
 #[derive(Debug, Drop)]
 pub enum Line {
     /// A line without words, or a comment: it prints nothing and nothing happens.
     Nothing,
-    /// Something that happens in the world.
+    /// An event of the world.
     Act(Event),
 }
 
-/// Why a line is not read.
+/// Why a line could not be read.
 #[derive(Clone, Copy, Debug, PartialEq, Eq, Error)]
 pub enum LineFault {
-    /// Memory for the bytes of a `put` was refused: 1. No other line takes any.
+    /// The allocation for the bytes of a `put` failed: 1. Reading other lines is allocation-free.
     #[error("Memory")]
     Memory,
     /// The line is not of the language: 2.
@@ -64,11 +64,12 @@ impl From<AllocError> for LineFault {
     }
 }
 
-/// How many bytes a line may have, its line end not included: a longer one is bad, whatever it begins with.
+/// The maximum length of a line in bytes, without its line end: a longer one is bad, whatever it
+/// begins with.
 pub const MAX_LINE: usize = 262144;
 
-// What a line says, read without taking memory: `None` where it is bad. The word that is to spell the bytes of a `put` is not
-// read.
+// The meaning of a line, read without allocation: `None` where it is bad. The word that should
+// spell the bytes of a `put` is not read.
 #[tactic(auto, unfolding(crate::specs::Grammar::meaning, crate::specs::Grammar::line_of))]
 pub(crate) fn parsed_in(line: &[u8]) -> Option<Parsed<'_>>
     ensures { meaning line.now ≡ option_and_then line_parsed result }
@@ -85,15 +86,16 @@ pub(crate) fn parsed_in(line: &[u8]) -> Option<Parsed<'_>>
     read_fields(command_named(word)?, fields)
 }
 
-/// What a line says, its line end not included.
+/// The meaning of a line, given without its line end.
 ///
-/// Words are parted by one or more spaces (byte 20); every other byte, a tab, a NUL and the CR of a foreign line end among
-/// them, is part of a word. Numbers are decimal, with any number of leading zeros. docs/FORMATS.md has each line.
+/// Words are separated by one or more spaces (byte 20); every other byte, including a tab, a NUL
+/// and the CR of a CRLF line end, is part of a word. Numbers are decimal, with any number of
+/// leading zeros. docs/FORMATS.md has each line.
 ///
-/// - `Bad` comes exactly for a line of more than [`MAX_LINE`] bytes, and for one that has a word, is no comment and is not of
-///   the language.
-/// - `Memory` comes only where memory for the bytes of a `put` was refused, and only for a `put` of the language. No other line
-///   takes memory.
+/// - `Bad` occurs exactly for a line of more than [`MAX_LINE`] bytes, and for one that has a word,
+///   is not a comment and is not of the language.
+/// - `Memory` occurs only where the allocation for the bytes of a `put` fails, and only for a `put`
+///   of the language. Reading other lines is allocation-free.
 pub fn parse_line(alloc: Global, line: &[u8]) -> Result<Line, LineFault>
     ensures { Reads PutsBytes (meaning line.now) result }
 {

@@ -1,4 +1,4 @@
-//! A schedule that comes in pieces, answered line by line.
+//! A schedule that is read in pieces, answered line by line.
 ghost use Rattle.std.specs.Prelude.{◌≡◌, ◌≤◌, ◌<◌, ◌+◌, ◌^◌, ◌∷◌, ◌++◌, [], false, List, ℕ, length, OnOk, IfOk, IfErr, IfSome, Err};
 ghost use Rattle.std.specs.Io.KnownBytes.{Appends, Keeps, Consumes, IsAtEnd};
 ghost use Rattle.warm_world.specs.States.{ModelState, opening};
@@ -22,7 +22,7 @@ use warm_gossip::NodeFault;
 use warm_play_fault::PlayFault;
 use warm_world::{BadWorld, Setup, World, WorldFault};
 
-// A world, and the line that has begun: its bytes, up to one more than a line may have.
+// A world, and the current line: its bytes, up to one more than the maximum length.
 #[derive(Drop)]
 struct Session<D: PageDevice> {
     alloc: Global,
@@ -54,7 +54,7 @@ impl<D: PageDevice> Session<D> {
         })
     }
 
-    // Goes on with the line that has begun, of which at most one byte more is held than a line may have.
+    // Adds a piece to the current line, of which at most one byte more than the maximum is held.
     fn add(&mut self, piece: &[u8]) -> Result<(), PlayFault>
         requires { IsLine piece.now }
         ensures adds { OnOk result
@@ -98,7 +98,7 @@ impl<D: PageDevice> Session<D> {
         }
     }
 
-    // Answers the line that is held, and holds it no longer. Its capacity is kept.
+    // Answers the held line and clears it. The capacity of its buffer is kept.
     fn answer_held<W: Write>(&mut self, writer: &mut W) -> Result<(), PlayFault>
         ensures answered { OnOk result ((out : List ℕ)
             × Appends (W.contents writer.old) (W.contents writer.new) out
@@ -115,7 +115,7 @@ impl<D: PageDevice> Session<D> {
         Ok(())
     }
 
-    // Answers the line whose last bytes these are. One that stands whole in them is read where it stands.
+    // Answers the line that ends with these bytes. A line that lies whole in them is read in place.
     fn end_line<W: Write>(&mut self, piece: &[u8], writer: &mut W) -> Result<(), PlayFault>
         requires fits { self.old.number + 1 < 2 ^ 64 }
         requires line { IsLine piece.now }
@@ -137,7 +137,7 @@ impl<D: PageDevice> Session<D> {
         Ok(())
     }
 
-    // Takes the next bytes of the schedule, and answers each line that ends in them.
+    // Processes the next bytes of the schedule, and answers each line that ends in them.
     fn feed<W: Write>(&mut self, bytes: &[u8], writer: &mut W) -> Result<(), PlayFault>
         requires { self.old.number + length bytes.now < 2 ^ 64 }
         ensures goes { OnOk result ((out : List ℕ)
@@ -155,7 +155,7 @@ impl<D: PageDevice> Session<D> {
         Ok(())
     }
 
-    // Gives the devices what waits for them, and prints where they don't take it.
+    // Writes back all pages and flushes the devices, and prints a line where that fails.
     fn settle<W: Write>(&mut self, writer: &mut W) -> Result<(), PlayFault>
         ensures settled { OnOk result ((out : List ℕ)
             × Appends (W.contents writer.old) (W.contents writer.new) out
@@ -172,8 +172,9 @@ impl<D: PageDevice> Session<D> {
         }
     }
 
-    // Answers the last line, which no byte ended, settles the devices, and flushes the writer. Where nothing is printed for the end,
-    // everything is on its device.
+    // Answers the last line, which has no line end, settles the devices, and flushes the writer.
+    // Where nothing is printed for the end, no frame is dirty and no device is unflushed, so each
+    // honest device has its pages as they were in the frames.
     fn finish<W: Write>(&mut self, writer: &mut W) -> Result<(), PlayFault>
         ensures ended { OnOk result ((answers closing : List ℕ)
             × Appends (W.contents writer.old) (W.contents writer.new) (answers ++ closing)
@@ -187,8 +188,9 @@ impl<D: PageDevice> Session<D> {
         Ok(())
     }
 
-    // Reads once, answers each line that ends in what was read, and passes these answers on: whoever waits for them before
-    // sending more gets them. `false` at the end of the input. A read that was interrupted has read nothing.
+    // Reads once, answers each line that ends in the bytes read, and flushes these answers, so that
+    // a sender that waits for them gets them. `false` at the end of the input. An interrupted read
+    // counts as reading nothing.
     fn read_some<R: Read, W: Write>(
         &mut self,
         reader: &mut R,
@@ -226,7 +228,7 @@ impl<D: PageDevice> Session<D> {
     }
 }
 
-// Passes on what the writer holds back.
+// Flushes the writer.
 fn pass_on<W: Write>(writer: &mut W) -> Result<(), PlayFault>
     ensures kept { OnOk result (Keeps (W.contents writer.old) (W.contents writer.new)) }
     ensures stopped { IfErr result (λ why. why ≡ WriteFault) }
@@ -235,28 +237,33 @@ fn pass_on<W: Write>(writer: &mut W) -> Result<(), PlayFault>
     Ok(())
 }
 
-/// How often the input is read at most. One that does not end by then is a [`PlayFault::ReadFault`].
+/// The maximum number of reads of the input. An input that has not ended after them is a
+/// [`PlayFault::ReadFault`].
 pub const MAX_READS: u64 = 1 << 40;
 
-/// How many bytes are read at a time.
+/// The number of bytes of one read.
 pub const READ_SIZE: usize = 65_536;
 
-/// Reads a schedule to its end, and answers it line by line in a new world of this setup, whose replicas have these devices, a
-/// list for each. All devices have one type, which may be a box of any device. Then the devices get what waits for them
-/// ([`World::finish`]); where that is refused, the last line is `end refused 12 Fault`. The devices are dropped before it
+/// Reads a schedule to its end, and answers it line by line in a new world of this setup, whose
+/// replicas have these devices, a list for each. All devices have one type, which may be a box of
+/// any device. At the end all pages are written back and the devices flushed ([`World::finish`]);
+/// where that fails, the last line is `end refused 12 Fault`. The devices are dropped before it
 /// returns.
 ///
-/// It reads pieces of at most 65,536 bytes and keeps at most one line, so a schedule of any length, or of one line of
-/// any length, takes no more memory than its world. Each line is answered before the bytes after it are looked at. The
-/// writer is flushed before each read that follows answers, and at the end: whoever sends a line and waits, gets its
-/// answer before the next line is sent. A read that is interrupted is made again.
+/// It reads pieces of at most 65,536 bytes and keeps at most one line, so, apart from its world,
+/// the memory use does not grow with the length of the schedule or of a line. Each line is answered
+/// before the bytes after it are processed. The writer is flushed before each read that follows
+/// answers, and at the end: a sender that waits after a line gets its answer before it sends the
+/// next. An interrupted read is repeated.
 ///
-/// - Where it answers `Ok`, the reader was read to its end, and what was written is one of the outputs that the schedule
-///   may print from the opening state, and nothing else: over devices that never fail, the answers of its lines alone.
-/// - Bad lines and refused events are printed, and are no fault.
-/// - Where the devices are not one list for each replica, with pages of the setup's size, it answers
-///   [`PlayFault::BadDevices`], and nothing was read or written.
-/// - Where they are, it answers `Memory`, `ReadFault` or `WriteFault`, if not `Ok`. [`PlayFault`] says when each fault comes.
+/// - Where it returns `Ok`, the reader was read to its end, and the bytes written are exactly one
+///   of the possible outputs of the schedule from the opening state: over devices that never fail,
+///   only the answers to its lines.
+/// - Bad lines and refused events are printed, and are not faults.
+/// - Where the devices are not one list for each replica, with pages of the setup's size, it
+///   returns [`PlayFault::BadDevices`], and nothing was read or written.
+/// - Where they are, it returns `Memory`, `ReadFault` or `WriteFault`, if not `Ok`. [`PlayFault`]
+///   says when each fault occurs.
 pub fn play<R: Read, W: Write, D: PageDevice>(
     alloc: Global,
     reader: &mut R,

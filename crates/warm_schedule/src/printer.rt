@@ -1,4 +1,4 @@
-//! What is printed for the answers of a world. Nothing here takes memory.
+//! Printing the answers of a world. Everything here is allocation-free.
 ghost use Rattle.std.specs.Prelude.{◌≡◌, ◌<◌, ◌≤◌, codes, flat_map, length};
 ghost use Rattle.warm_history.specs.Histories.{entries_of};
 ghost use Rattle.warm_schedule.specs.Answers.{Prints, page_text, stamp_text, hist_text, entry_text, end_text};
@@ -76,8 +76,8 @@ fn print_end<W: Write>(writer: &mut W, count: usize) -> io::Result<()>
     writeln!(writer, "end {count}")
 }
 
-/// Prints a history as `show` does: a line for each page, in page order, and then their number. After an error nothing is said
-/// of how much of it was written.
+/// Prints a history as `show` does: a line for each page, in page order, and then their number.
+/// After an error it is unspecified how much of it was written.
 pub fn print_history<W: Write>(writer: &mut W, history: &History) -> io::Result<()>
     ensures { Prints result (W.contents writer.old) (W.contents writer.new)
         (shown_text (entries_of history.now)) }
@@ -116,10 +116,10 @@ fn hex_digit(digit: u8) -> u8
     b'a' - 10 + digit
 }
 
-// How many bytes are printed by one write.
+// The number of bytes that are printed by one write.
 const AT_ONCE: usize = 64;
 
-// How many digits they have.
+// The number of their digits.
 const DIGITS: usize = 2 * AT_ONCE;
 
 // Bytes as hexadecimal digits, by one write.
@@ -171,7 +171,8 @@ pub(crate) fn print_refusal<W: Write>(writer: &mut W, fault: WorldFault) -> io::
     writeln!(writer, "refused {code} {name}")
 }
 
-/// Prints the text of one answer, whole lines. After an error nothing is said of how much of it was written.
+/// Prints the text of one answer, whole lines. After an error it is unspecified how much of it was
+/// written.
 pub fn print_answer<W: Write>(writer: &mut W, answer: &Answer) -> io::Result<()>
     ensures { Prints result (W.contents writer.old) (W.contents writer.new)
         (answer_text answer.now) }
@@ -208,15 +209,16 @@ pub fn print_answer<W: Write>(writer: &mut W, answer: &Answer) -> io::Result<()>
     }
 }
 
-/// Prints that the line of this number is bad. After an error nothing is said of how much of it was written.
+/// Prints that the line of this number is bad. After an error it is unspecified how much of it was
+/// written.
 pub fn print_bad_line<W: Write>(writer: &mut W, number: u64) -> io::Result<()>
     ensures { Prints result (W.contents writer.old) (W.contents writer.new) (bad_line number) }
 {
     writeln!(writer, "bad line {number}")
 }
 
-/// Prints the last line of a play whose devices did not take what waited for them. After an error nothing is said of how much
-/// of it was written.
+/// Prints the last line of a play where writing back to the devices failed. After an error it is
+/// unspecified how much of it was written.
 pub fn print_end_refused<W: Write>(writer: &mut W) -> io::Result<()>
     ensures { Prints result (W.contents writer.old) (W.contents writer.new) end_refused }
 {

@@ -8,10 +8,12 @@ use warm_play_fault::PlayFault;
 use warm_random::write_schedule;
 use warm_world::Setup;
 
-/// Writes the schedule of `events` lines that the seed gives for worlds of this setup, and flushes the writer. The same
-/// seed, count and setup give the same bytes; no events give none. It takes no memory.
+/// Writes the schedule of `events` lines that the seed gives for worlds of this setup, and flushes
+/// the writer. The same seed, count and setup give the same bytes; no events give none. It is
+/// allocation-free.
 ///
-/// The error is [`PlayFault::WriteFault`] alone, where the writer failed. Nothing is said of how much it took by then.
+/// The only error is [`PlayFault::WriteFault`], where the writer failed. It is unspecified how much
+/// was written before.
 pub fn random_schedule<W: Write>(
     writer: &mut W,
     seed: u64,

@@ -1,11 +1,11 @@
-//! Bytes parted by a separator.
+//! Bytes split at a separator.
 ghost use Rattle.std.specs.Prelude.{◌≡◌, ◌<◌, [], ◌∷◌, ◌++◌, length, MatchOption, IfSome};
 ghost use Rattle.warm_schedule.specs.Text.{IsLine, split, words};
 
 use memchr::memchr;
 
-/// The first line of a text, without its end (byte 0A), and what follows that end. `None` where no line ends: the text is then
-/// the beginning of one line, or the last line. Takes no memory.
+/// The first line of a text, without its end (byte 0A), and what follows that end. `None` where no
+/// line ends: the text is then the start of one line, or the last line. Allocation-free.
 pub fn first_line(text: &[u8]) -> Option<(&[u8], &[u8])>
     ensures line { MatchOption result (IsLine text.now) (λ x. IsLine x.0.now) }
     ensures parts { IfSome result (λ x. text.now ≡ x.0.now ++ 10 ∷ x.1.now) }

@@ -1,4 +1,4 @@
--- Worked rows: texts, and what they mean. They are computed.
+-- Worked examples, computed: texts and their meanings.
 use Rattle.std.proofs.Common.{◌≡◌, ℕ, List, [], ◌∷◌, ◌++◌, Result, Ok, Err, Some, codes, refl}
 use Rattle.toml.proofs.OnLiterals.{toml_on_literals}
 use Rattle.toml.specs.Parse.{parse_document}
@@ -55,7 +55,7 @@ number_among_devices : meaning (codes "device = [{pages = 0}, 1]") ≡ Err BadKe
 unfolding toml_on_literals key_by_key with_key number_to text_in devices_in devices_of each device_in with_device_key
 number_among_devices = refl
 
--- the keys' order decides, and not where they stand in the text
+-- the keys' order decides, and not their position in the text
 first_by_key : meaning (codes "frames = \"2\"" ++ 10 ∷ codes "buffer = 0") ≡ Err BadValue
 unfolding toml_on_literals key_by_key with_key number_to
 first_by_key = refl

@@ -17,13 +17,13 @@ module _ {A : Type 0} (take : A → List ℕ → Data → Result A SetupFault) (
   unfolding key_by_key
   one_key = ap (λ (es : List Entry). key_by_key take so_far (members_view es)) is
 
-  -- a key that is taken: what is meant is what the rest gives from there
+  -- a key that is accepted: the meaning is that of the rest from there
   pub goes_on : (next : A) → take so_far text (view value) ≡ Ok next → key_by_key take next (members_view rest) ≡ meant
   goes_on next taken =
       let found : Ok next ≡ take so_far (string_bytes key) (view value) = sym taken ∙ ap (λ (x : List ℕ). take so_far x (view value)) same in
       ap (λ (r : Result A SetupFault). r >>= λ n. key_by_key take n (members_view rest)) found ∙ sym one_key ∙ ends
 
-  -- a key that is refused: what is meant is that fault
+  -- a key that is refused: the meaning is that fault
   pub stops : (fault : SetupFault) → (fault ≡ Memory) ⊎ (take so_far text (view value) ≡ Err fault) → (fault ≡ Memory) ⊎ (meant ≡ Err fault)
   stops fault (inl memory) = inl memory
   stops fault (inr refused) =
@@ -70,7 +70,7 @@ module _ {A : Type 0} (take : Data → Result A SetupFault) (done : List A) (val
       let split : each take (data_of (drop at values)) ≡ (take (view value) >>= λ first. each take (data_of (drop (at + 1) values)) >>= λ others. Ok (first ∷ others)) = ap (λ (vs : List Value). each take (data_of vs)) left ∙ each_cons take (view value) (data_of (drop (at + 1) values)) in
       sym (ap (λ (r : Result (List A) SetupFault). r >>= λ more. Ok (done ++ more)) split) ∙ ends
 
-  -- an element that is taken: what is meant is what the rest gives after it
+  -- an element that is accepted: the meaning is that of the rest after it
   pub each_goes_on : (first : A) (now : List A) → take (view value) ≡ Ok first → now ≡ done ++ first ∷ [] → each_after take now (data_of (drop (at + 1) values)) ≡ meant
   unfolding meant_by
   each_goes_on first now taken pushed =
@@ -78,7 +78,7 @@ module _ {A : Type 0} (take : Data → Result A SetupFault) (done : List A) (val
       = ap (λ (xs : List A). each_after take xs (data_of (drop (at + 1) values))) (sym pushed) in
       sym to_now ∙ sym (after_one done first (each take (data_of (drop (at + 1) values)))) ∙ ap meant_by (sym taken) ∙ by_first
 
-  -- an element that is refused: what is meant is that fault
+  -- an element that is refused: the meaning is that fault
   pub each_stops : (fault : SetupFault) → (fault ≡ Memory) ⊎ (take (view value) ≡ Err fault) → (fault ≡ Memory) ⊎ (meant ≡ Err fault)
   unfolding meant_by
   each_stops fault (inl memory) = inl memory

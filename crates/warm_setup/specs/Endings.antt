@@ -12,7 +12,7 @@ use Rattle.warm_play_fault.specs.declared.PlayFault.{PlayFault}
 use Rattle.warm_play_fault.specs.declared.PlayFault.TheVariants.{BadLine}
 use Rattle.warm_setup.specs.SetupFaults.{name_of}
 
--- what was asked for is no mistake
+-- displaying requested help is not a failure
 abbrev pub status_of_kind : ErrorKind → ℕ
 status_of_kind DisplayHelp = 0
 status_of_kind DisplayVersion = 0

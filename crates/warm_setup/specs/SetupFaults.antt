@@ -17,11 +17,12 @@ name_of NotToml = codes "NotToml"
 name_of BadKey = codes "BadKey"
 name_of BadValue = codes "BadValue"
 
--- TOML's want of memory is the setup's own
+-- an allocation failure of TOML is the setup's `Memory`
 abbrev pub IsFaultOf : Error → SetupFault → Type 0
 IsFaultOf error fault = ((fault ≡ Memory) × IsMemory error) ⊎ ((fault ≡ NotToml) × ¬ IsMemory error)
 
--- a reader answers what is meant, as `seen` shows its value; want of memory may come in place of any answer
+-- a reader returns the meaning, seen through `seen`; an allocation failure may be returned in place
+-- of any result
 abbrev pub Gives : {A B : Type 0} → (A → B) → Result B SetupFault → Result A SetupFault → Type 0
 Gives seen meant (Ok value) = meant ≡ Ok (seen value)
 Gives seen meant (Err fault) = (fault ≡ Memory) ⊎ (meant ≡ Err fault)

@@ -1,4 +1,4 @@
--- What the readers of a setup hold, as the definitions see it.
+-- The values of the readers of a setup, in terms of the definitions.
 use Rattle.std.specs.Prelude.{Vec}
 use Rattle.std.specs.Global.{Global}
 use Rattle.warm_world.specs.Sizes.{Sizes, IsSetup}
@@ -22,7 +22,7 @@ settings_of keys = record {
   devices = keys.devices.items;
 }
 
--- the numbers make a setup
+-- the numbers make a valid setup
 abbrev pub AreWithin : SetupKeys → Type 0
 AreWithin keys = IsSetup (settings_of keys).sizes
 

@@ -58,7 +58,7 @@ each take (found ∷ rest) = take found >>= λ first. each take rest >>= λ othe
 
 -- ---- a device
 
--- what a device's table has said so far
+-- the fields of a device's table read so far
 pub record DeviceFields : Type 0 where
   pub pages : Option ℕ
   pub path : Option (List ℕ)
@@ -85,7 +85,7 @@ device_in found =
 abbrev pub is_table : Data → Bool
 is_table found = is_some (as_table found)
 
--- the types come first, then how many there are, then each device
+-- the types are checked first, then the number of devices, then each device
 unfoldable pub devices_of : List Data → Result (List DeviceSpec) SetupFault
 devices_of found =
     if list_all is_table found
@@ -103,7 +103,7 @@ pub record Settings : Type 0 where
   pub sizes : Sizes
   pub devices : List DeviceSpec
 
--- the keys, each with what it may be
+-- the settings after one key, each key with its valid values
 unfoldable pub with_key : Settings → List ℕ → Data → Result Settings SetupFault
 with_key s key found =
     if bytes_eq key (codes "buffer")
@@ -120,7 +120,7 @@ with_key s key found =
     then (number_to MAX_WORKERS found >>= λ n. Ok (record s { sizes = record s.sizes { workers = n } }))
     else Err BadKey)))))
 
--- what holds where a key is missing: one memory device of 256 pages
+-- the defaults for missing keys; the default device is one in memory of 256 pages
 abbrev pub defaults : Settings
 defaults = record {
   sizes = record { replicas = 3; workers = 2; buffer = 64; frames = 4; page_size = 16 };
@@ -130,7 +130,7 @@ defaults = record {
 abbrev pub setup_of : Members → Result Settings SetupFault
 setup_of table = key_by_key with_key defaults table
 
--- what a text means, by the table that TOML gives it
+-- the meaning of a text, by its TOML table
 abbrev pub setup_in : Option Members → Result Settings SetupFault
 setup_in None = Err NotToml
 setup_in (Some table) = setup_of table

@@ -1,4 +1,4 @@
--- The program's commands, and what its words ask for.
+-- The program's commands, and the meaning of its words.
 use Rattle.std.specs.Prelude.{◌≡◌, ◌⊎◌, ℕ, ◌-◌, ◌^◌, List, [], true, Option, Some, None, Result, Ok, Err, codes, bytes_eq, option_map, option_and_then, if◌then◌else◌}
 use Rattle.clap.specs.Words.{App, Row, Rule, Shape, Text, IsAmong, first_of, kind_of, one_of, new_app, new_rule, subcommand_of, with_rule, with_subcommand}
 use Rattle.std.specs.Str.Parse.{digits_value, without_leading_plus}
@@ -59,14 +59,14 @@ wants_command top = record top { subcommand_required = true }
 abbrev pub with_play : App
 with_play = with_subcommand (on_top wants_command (new_app (codes "warmplay"))) play.top
 
--- and with the command that writes one at random, which starts no thread either
+-- and with the command that writes a random schedule, which starts no thread either
 abbrev pub line_by_line : App
 line_by_line = with_subcommand with_play random.top
 
 abbrev pub warmplay : App
 warmplay = with_subcommand line_by_line threads.top
 
--- ---- what words ask for
+-- ---- the meaning of words
 
 -- the number that a text spells, where it spells one up to `most`
 unfoldable pub number_in : ℕ → Text → Option ℕ
@@ -105,16 +105,16 @@ abbrev pub AsksFor : Text → List Text → Type 0
 AsksFor name words =
     option_map (λ found. bytes_eq found.0 name) (subcommand_of warmplay words) ≡ Some true
 
--- clap's own definition has no fault in the words, which ask for a schedule drawn at random or for one played by threads, but a number or
--- the file is missing
+-- clap's own definition finds no fault in the words, which request a random schedule or a play by
+-- threads, but a number or the file is missing
 abbrev pub LacksValue : List Text → Type 0
 LacksValue words =
     (fault_of warmplay words ≡ [])
     × (AsksFor (codes "random") words ⊎ AsksFor (codes "threads") words)
     × (command_in words ≡ None)
 
--- A command comes only where clap's own definition has no fault in the words, a refusal only with a fault that it has,
--- or for want of a number or a file.
+-- A command is returned only where clap's own definition finds no fault in the words, a refusal
+-- only for a fault that it finds, or for a missing number or file.
 abbrev pub Answers : List Text → Result Cmd CmdFault → Type 0
 Answers words (Ok command) = (fault_of warmplay words ≡ []) × (Some command ≡ command_in words)
 Answers words (Err Memory) = Unit {0}
@@ -122,7 +122,7 @@ Answers words (Err (Refused error)) =
     IsAmong (kind_of error) (fault_of warmplay words)
     ⊎ (LacksValue words × (kind_of error ≡ ValueValidation))
 
--- a refusal of this kind, or want of memory
+-- a refusal of this kind, or an allocation failure
 abbrev pub IsRefusal : ErrorKind → CmdFault → Type 0
 IsRefusal kind Memory = Unit {0}
 IsRefusal kind (Refused error) = kind_of error ≡ kind

@@ -1,4 +1,4 @@
--- What the readers of the command line hold, as the definitions see it.
+-- The values of the readers of the command line, in terms of the definitions.
 use Rattle.std.specs.Prelude.{◌≡◌, ◌≢◌, option_map}
 use Rattle.clap.specs.Words.{kind_of}
 use Rattle.clap.specs.declared.error.Error.{Error}
@@ -17,7 +17,7 @@ command_for (asked.Random seed events setup) =
     Random seed events (option_map (λ text. text.now) setup)
 command_for (asked.Threads file setup) = Threads file.now (option_map (λ text. text.now) setup)
 
--- clap's want of memory is the program's own
+-- an allocation failure of clap is the program's `Memory`
 abbrev pub IsFaultOf : Error → CmdFault → Type 0
 IsFaultOf error Memory = kind_of error ≡ OutOfMemory
 IsFaultOf error (Refused kept) = (kept ≡ error) × (kind_of error ≢ OutOfMemory)

@@ -17,10 +17,10 @@ use std::alloc::{AllocError, Global};
 use std::convert::AsStr;
 use thiserror::Error;
 
-/// How many lines a schedule drawn at random may have.
+/// The maximum number of lines of a random schedule.
 pub const MAX_EVENTS: u64 = 1_000_000;
 
-/// What the words ask for.
+/// The command that the words request.
 #[derive(Debug, Drop)]
 pub enum Cmd {
     /// To play the schedule in `file`, or standard input where there is none, with the setup in `setup`, or the defaults.
@@ -42,10 +42,10 @@ pub enum Cmd {
     },
 }
 
-/// Why the words give no command.
+/// Why the words do not give a command.
 #[derive(Debug, Drop, Error)]
 pub enum CmdFault {
-    /// Memory was refused. It says nothing of the words.
+    /// An allocation failed. It says nothing about the words.
     #[error("Memory")]
     Memory,
     /// A mistake in the words, or a request for help. The error has the text for the user.
@@ -86,7 +86,7 @@ impl From<AllocError> for CmdFault {
     }
 }
 
-// clap's want of memory is the program's own.
+// An allocation failure of clap is the program's `Memory`.
 impl From<clap::Error> for CmdFault {
     ghost use Rattle.warm_setup.specs.WordsView.{IsFaultOf};
 
@@ -100,7 +100,7 @@ impl From<clap::Error> for CmdFault {
     }
 }
 
-// What the words ask for, in their own text.
+// The command that the words request, as text.
 #[derive(Clone, Copy)]
 enum Asked<'a> {
     Play(Option<&'a str>, Option<&'a str>),
@@ -131,7 +131,7 @@ fn play_command<'a>(alloc: Global) -> Result<Command<'a>, AllocError>
     play.arg(file)?.arg(setup_argument(alloc))
 }
 
-// A number up to `most`, which clap tests, so that a refusal names the argument and its limits.
+// A number up to `most`, which clap checks, so that a refusal names the argument and its limits.
 fn number_argument<'a>(alloc: Global, name: &'a str, help: &'a str, most: u64) -> Arg<'a>
     ensures rule { rule_of result ≡ number name.entry.now most }
     ensures local { result.global ≡ false }
@@ -151,7 +151,7 @@ fn random_command<'a>(alloc: Global) -> Result<Command<'a>, AllocError>
     let random = Command::new(alloc, "random").about(
         "Write a schedule drawn at random, the same for the same seed",
     );
-    // Each argument is made where it goes in: nothing else is dropped where memory is refused.
+    // Each argument is made where it is added: nothing else is dropped where an allocation fails.
     let seed = number_argument(alloc, "seed", "What the schedule is drawn from", u64::MAX);
     let seeded = random.arg(seed)?;
     let events = number_argument(alloc, "events", "How many lines it has", MAX_EVENTS);
@@ -295,8 +295,8 @@ fn copied(alloc: Global, text: Option<&str>) -> Result<Option<PathText>, AllocEr
     }
 }
 
-/// The fault of a command line with a word that is not UTF-8, which no command takes: [`CmdFault::Refused`], or
-/// [`CmdFault::Memory`] where memory for its text was refused.
+/// The fault of a command line with a word that is not UTF-8, which no command takes:
+/// [`CmdFault::Refused`], or [`CmdFault::Memory`] where the allocation of its text fails.
 pub fn not_text(alloc: Global) -> CmdFault
     ensures { IsRefusal ErrorKind.InvalidValue result }
 {
@@ -319,11 +319,12 @@ fn refused(alloc: Global, kind: ErrorKind, why: &str) -> CmdFault
     }
 }
 
-/// The command that the words ask for. The first word is the program's own name.
+/// The command that the words request. The first word is the program's own name.
 ///
-/// The command and its values are those that clap's own definition of the matches gives for the words. The error is
-/// [`CmdFault::Refused`] where clap refuses them or answers a request for help, or where `random` lacks a number or `threads`
-/// a file, and [`CmdFault::Memory`] where memory was refused, to clap too (its kind `OutOfMemory`).
+/// The command and its values are those that clap's own definition of the matches gives for the
+/// words. The error is [`CmdFault::Refused`] where clap refuses them or answers a request for help,
+/// or where `random` lacks a number or `threads` a file, and [`CmdFault::Memory`] where an
+/// allocation failed, including one of clap (its kind `OutOfMemory`).
 pub fn command_of<S: AsStr>(alloc: Global, words: &[S]) -> Result<Cmd, CmdFault>
     ensures { Answers (map S.text words.now) result }
 {

@@ -1,8 +1,8 @@
-//! What a run of the program `warmplay` begins with, and how it ends.
+//! The input of a run of the program `warmplay`, and how the run ends.
 //!
-//! [`command_of`] reads the words of the command line, [`read_setup`] and [`read_setup_file`] the text of a setup file, and
-//! [`outcome_of`] says with what status and line on standard error a run ends. docs/FORMATS.md has the program's words, the setup's
-//! keys, and the endings.
+//! [`command_of`] reads the words of the command line, [`read_setup`] and [`read_setup_file`] the
+//! text of a setup file, and [`outcome_of`] gives the exit status and the line on standard error of
+//! a run. docs/FORMATS.md has the program's words, the setup's keys, and the endings.
 #![tactic(auto)]
 
 mod command;

@@ -13,17 +13,18 @@ use std::marker::Model;
 use thiserror::Error;
 use warm_play_fault::PlayFault;
 
-/// Why a run of the program did not reach its end, by the part of the run that found it. The parts come in this order: the command
-/// line, the setup file, its text, the schedule's file, the devices (by replica, then by device), the play.
+/// Why a run of the program did not reach its end, by the part of the run that found it. The parts
+/// run in this order: the command line, the setup file, its text, the schedule's file, the devices
+/// (by replica, then by device), the play.
 #[derive(Debug, Drop, Error)]
 pub enum ProgramFault {
     /// The words gave no command.
     #[error("{0}")]
     Command(CmdFault),
-    /// The file of this name could not be opened, or, for the setup file, not read.
+    /// The file of this name could not be opened; for the setup file, also: could not be read.
     #[error("cannot open {0}")]
     CannotOpen(PathText),
-    /// The setup file's text is no setup.
+    /// The setup file's text is not a setup.
     #[error("setup: {0}")]
     Setup(SetupFault),
     /// The play stopped.
@@ -64,12 +65,12 @@ impl From<PlayFault> for ProgramFault {
     }
 }
 
-/// What the program does at its end.
+/// The end of the program.
 #[derive(Drop)]
 pub struct Outcome<'a> {
     /// The exit status.
     pub status: u8,
-    /// What goes to standard error, beside clap's own text.
+    /// The text for standard error, besides clap's own text.
     pub line: ErrorLine<'a>,
 }
 
@@ -132,7 +133,7 @@ impl<'a> ErrorLine<'a> {
         }
     }
 
-    /// Writes the line. After an error nothing is said of how much of it was written.
+    /// Writes the line. After an error it is unspecified how much of it was written.
     pub fn write_to<W: Write>(&self, writer: &mut W) -> io::Result<()>
         ensures { OnOk result (Appends (W.contents writer.old) (W.contents writer.new) self.now) }
     {
@@ -180,11 +181,11 @@ fn number_of(fault: PlayFault) -> Option<u64>
 /// | What happened | Status | On standard error |
 /// |---|---|---|
 /// | the schedule was played, bad lines and refused events included | 0 | nothing |
-/// | help was asked for | 0 | nothing: clap's text goes to standard output |
+/// | help was requested | 0 | nothing: clap's text goes to standard output |
 /// | the command line was refused | 2 | clap's text, and no line |
 /// | a file could not be opened, a device's among them | 1 | `warmplay: cannot open NAME` |
 /// | the setup was refused | 2 | `warmplay: setup: ` and the fault's name |
-/// | the play stopped, or memory for the command line was refused | 1 | `warmplay: ` and the fault's name; for a bad line its number follows |
+/// | the play stopped, or an allocation for the arguments failed | 1 | `warmplay: ` and the fault's name; for a bad line its number follows |
 pub fn outcome_of<'a>(ended: &'a Result<(), ProgramFault>) -> Outcome<'a>
     ensures status { result.status ≡ status_of ended.entry.now }
     ensures line { result.line ≡ line_of ended.entry.now }

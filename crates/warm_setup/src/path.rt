@@ -21,7 +21,7 @@ impl Model for PathText {
 impl PathText {
     ghost use Rattle.std.specs.Prelude.{◌≡◌, ◌++◌, IfOk, codes, decimal, string_bytes};
 
-    /// A copy of the text. `AllocError` where memory for it is refused.
+    /// A copy of the text. `AllocError` where its allocation fails.
     pub fn copied_from(alloc: Global, text: &str) -> Result<PathText, AllocError>
         ensures { IfOk result (λ path. path ≡ text.now) }
     {
@@ -29,8 +29,8 @@ impl PathText {
         Ok(PathText { text })
     }
 
-    /// The file of a replica, of those that a device's path names: the path, a dot and the replica's number. `AllocError` where
-    /// memory for it is refused.
+    /// The file of a replica, of those that a device's path names: the path, a dot and the
+    /// replica's number. `AllocError` where its allocation fails.
     pub fn of_replica(&self, alloc: Global, replica: u16) -> Result<PathText, AllocError>
         ensures { IfOk result (λ path. path ≡ self.now ++ codes "." ++ decimal replica) }
     {
@@ -39,14 +39,14 @@ impl PathText {
         Ok(PathText { text })
     }
 
-    /// The path, taking no memory.
+    /// The path. Allocation-free.
     pub fn from_string(string: String) -> PathText
         ensures { result ≡ string_bytes string }
     {
         PathText { text: string }
     }
 
-    /// The text, taking no memory.
+    /// The text. Allocation-free.
     pub fn into_string(self) -> String
         ensures { string_bytes result ≡ self }
     {

@@ -1,4 +1,4 @@
-//! The setup file: how large the world is, and which devices its replicas have.
+//! The setup file: the sizes of the world, and the devices of its replicas.
 //!
 //! A setup is a TOML document. Every key is optional: `buffer` (1 to 1024), `device` (an array of 1 to 16
 //! tables), `frames` (1 to 65536), `page_size` (1 to 65536), `replicas` (1 to 64) and `workers` (1 to 16). A
@@ -32,13 +32,13 @@ pub struct DeviceSpec {
     pub path: Option<PathText>,
 }
 
-/// Why a text is no setup.
+/// Why a text is not a setup.
 #[derive(Clone, Copy, Debug, PartialEq, Eq, Drop, Error)]
 pub enum SetupFault {
-    /// Memory was refused. It says nothing of the text.
+    /// An allocation failed. It says nothing about the text.
     #[error("Memory")]
     Memory,
-    /// The text is no TOML document.
+    /// The text is not a TOML document.
     #[error("NotToml")]
     NotToml,
     /// An unknown key, a value of a wrong type, or a device without `pages`.
@@ -110,10 +110,10 @@ impl From<toml::de::Error> for SetupFault {
     }
 }
 
-/// How many devices a replica may have.
+/// The maximum number of devices of a replica.
 pub const MAX_LISTED_DEVICES: usize = 16;
 
-/// How many pages a device may have.
+/// The maximum number of pages of a device.
 pub const MAX_PAGES: u32 = 1_048_576;
 
 // An integer from 1 to the limit.
@@ -145,7 +145,7 @@ fn path_in(alloc: Global, value: &Value) -> Result<PathText, SetupFault>
     Ok(PathText::copied_from(alloc, text)?)
 }
 
-// What a device's table has said so far.
+// The fields of a device's table read so far.
 #[derive(Drop)]
 struct DeviceKeys {
     pages: Option<u32>,
@@ -233,7 +233,7 @@ fn are_tables(values: &[Value]) -> bool
     values.iter().all(|value| value.is_table())
 }
 
-// The types come first, then how many there are, then each device.
+// The types are checked first, then the number of devices, then each device.
 fn devices_of(alloc: Global, values: &[Value]) -> Result<Vec<DeviceSpec>, SetupFault>
     ensures { Gives (λ devices. devices.items) (devices_of (map view values.now)) result }
 {
@@ -364,11 +364,12 @@ fn made_from(keys: SetupKeys) -> (Setup, Vec<DeviceSpec>)
 
 /// The setup and the devices that a text means: each key's value, or its default where the text lacks the key.
 ///
-/// Keys are looked at in the order of their bytes, the devices of `device` in their order, and a device's keys in the
-/// order of their bytes, its missing `pages` last; the first fault is answered. For one key [`SetupFault::BadKey`] comes
-/// before [`SetupFault::BadValue`]. For `device` the types of the array and its elements come first, then its length,
-/// then its devices. [`SetupFault::NotToml`] is answered exactly where the text is no TOML document (TOML 1.1, nested at
-/// most 80 deep), and [`SetupFault::Memory`] where memory was refused.
+/// Keys are read in the order of their bytes, the devices of `device` in their order, and a
+/// device's keys in the order of their bytes, its missing `pages` last; the first fault is
+/// returned. For one key [`SetupFault::BadKey`] comes before [`SetupFault::BadValue`]. For `device`
+/// the types of the array and its elements come first, then its length, then its devices.
+/// [`SetupFault::NotToml`] is returned exactly where the text is not a TOML document (TOML 1.1,
+/// nested at most 80 deep), and [`SetupFault::Memory`] where an allocation failed.
 pub fn read_setup(alloc: Global, text: &str) -> Result<(Setup, Vec<DeviceSpec>), SetupFault>
     ensures { Gives setup_and_devices (setup_in (parse_document text.now)) result }
 {

@@ -5,31 +5,31 @@ use Rattle.warm_stamps.specs.declared.Stamp.{Stamp}
 use Rattle.warm_stamps.specs.declared.PageId.{PageId}
 pub use Rattle.warm_stamps.specs.Replicas.{IsReplica}
 
--- eight bytes of time, and two of the replica's number
+-- eight bytes of the time, then two of the replica's number
 abbrev pub bytes_of_stamp : Stamp → List ℕ
 bytes_of_stamp s = to_be_bytes w64 s.time ++ to_be_bytes w16 s.replica
 
--- the stamp that ten bytes spell, where its replica's number is one
+-- the stamp that ten bytes encode, where its replica number is valid
 abbrev pub stamp_of : List ℕ → Stamp
 stamp_of bytes = record { time = from_be_bytes w64 (take 8 bytes); replica = from_be_bytes w16 (drop 8 bytes) }
 
--- two bytes of the device's number, and eight of the page's own
+-- two bytes of the device's number, then eight of the page's
 abbrev pub bytes_of_page : PageId → List ℕ
 bytes_of_page p = to_be_bytes w16 p.dev ++ to_be_bytes w64 p.no
 
--- the page that ten bytes spell
+-- the page that ten bytes encode
 abbrev pub page_of : List ℕ → PageId
 page_of bytes = record { dev = from_be_bytes w16 (take 2 bytes); no = from_be_bytes w64 (drop 2 bytes) }
 
--- two bytes of the device's number, and four of the page's own, where that has no more
+-- two bytes of the device's number, then four of the page's, where its number fits in 32 bits
 abbrev pub narrow_bytes_of_page : PageId → List ℕ
 narrow_bytes_of_page p = to_be_bytes w16 p.dev ++ to_be_bytes w32 p.no
 
--- the page that six bytes spell
+-- the page that six bytes encode
 abbrev pub page_of_narrow : List ℕ → PageId
 page_of_narrow bytes = record { dev = from_be_bytes w16 (take 2 bytes); no = from_be_bytes w32 (drop 2 bytes) }
 
--- the stamps and the pages that there are
+-- the valid stamps and pages
 pub record IsStamp (s : Stamp) : Type 0 where
   pub time : s.time < 2 ^ 64
   pub replica : IsReplica s.replica

@@ -5,7 +5,7 @@ use Rattle.std.specs.declared.cmp.Ordering.{Ordering}
 use Rattle.std.specs.declared.cmp.Ordering.TheVariants.{Less, Equal}
 use Rattle.warm_stamps.specs.Stamps.{stamp_cmp, page_cmp, reference_cmp}
 
--- only equal values tie, exchanging two turns the answer, and what is below the lesser of two is below the greater
+-- only equal values tie, exchanging the two values reverses the answer, and the order is transitive
 pub record OrdersTotally {A : Type 0} (cmp : A → A → Ordering) : Type 0 where
   pub ties : (x y : A) → cmp x y ≡ Equal → x ≡ y
   pub turns : (x y : A) → cmp y x ≡ ordering_reverse (cmp x y)

@@ -14,7 +14,8 @@ pub fn stamp_bytes(stamp: Stamp) -> [u8; 10]
     [a, b, c, d, e, f, g, h, high, low]
 }
 
-/// The stamp of these ten bytes. `BadReplica` comes exactly where the last two are no replica's number.
+/// The stamp of these ten bytes. `BadReplica` occurs exactly where the last two are not a valid
+/// replica number.
 pub fn stamp_from(bytes: &[u8; 10]) -> Result<Stamp, BadReplica>
     ensures value { IfOk result (λ stamp. stamp ≡ stamp_of bytes.now) }
     ensures spelled { IfOk result (λ stamp. bytes_of_stamp stamp ≡ bytes.now) }
@@ -28,7 +29,7 @@ pub fn stamp_from(bytes: &[u8; 10]) -> Result<Stamp, BadReplica>
     })
 }
 
-/// The ten bytes of a page: two of its device's number, then eight of its own.
+/// The ten bytes of a page: two of its device's number, then eight of its page number.
 pub fn page_bytes(page: PageId) -> [u8; 10]
     ensures spelled { result ≡ bytes_of_page page }
     ensures back { page_of result ≡ page }
@@ -50,8 +51,8 @@ pub fn page_from(bytes: &[u8; 10]) -> PageId
     }
 }
 
-/// The page of these six bytes, as pages were spelled while their numbers had 32 bits: two of its device's
-/// number, then four of its own.
+/// The page of these six bytes, the encoding used while page numbers had 32 bits: two of its
+/// device's number, then four of its page number.
 pub fn page_from_narrow(bytes: &[u8; 6]) -> PageId
     ensures value { result ≡ page_of_narrow bytes.now }
     ensures spelled { narrow_bytes_of_page result ≡ bytes.now }

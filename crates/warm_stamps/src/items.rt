@@ -1,12 +1,12 @@
-//! Lists inside calls, replies, answers and frames.
+//! Lists that calls, replies, answers and frames contain.
 ghost use Rattle.std.specs.Prelude.{◌≡◌};
 
 use crate::{PageId, Reference};
 use std::marker::Model;
 
-/// A list of items, in any order. Contracts see the list, and nothing else of the vector that holds it.
+/// A list of items, in any order. Contracts see only the list, not the vector that holds it.
 ///
-/// It is made of a vector and gives it back, and neither takes memory.
+/// It is made from a vector and gives the vector back; both are allocation-free.
 #[derive(Debug, Drop)]
 pub struct Items<T> {
     items: Vec<T>,
@@ -30,21 +30,21 @@ impl<T> Model for Items<T> {
 }
 
 impl<T> Items<T> {
-    /// The list of these items. Takes no memory.
+    /// The list of these items. Allocation-free.
     pub fn of(items: Vec<T>) -> Items<T>
         ensures { result ≡ items.items }
     {
         Items { items }
     }
 
-    /// The items. Takes no memory.
+    /// The items. Allocation-free.
     pub fn as_slice(&self) -> &[T]
         ensures { result.now ≡ self.now }
     {
         &self.items
     }
 
-    /// The items. Takes no memory.
+    /// The items. Allocation-free.
     pub fn into_vec(self) -> Vec<T>
         ensures { result.items ≡ self }
     {

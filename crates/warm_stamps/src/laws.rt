@@ -1,7 +1,7 @@
 //! The laws of the orders of stamps, pages and references.
 //!
-//! Each function does nothing. What it ensures is a theorem, for the crates above to cite and for a
-//! reader to look up: `specs/Stamps.antt` has the orders, `specs/Laws.antt` what it is to order totally.
+//! Each function does nothing. Its contract is a theorem, which the crates above cite and a reader
+//! can look up: `specs/Stamps.antt` defines the orders, `specs/Laws.antt` what a total order is.
 ghost use Rattle.std.specs.Prelude.{◌≡◌};
 ghost use Rattle.warm_stamps.specs.declared.Stamp.{Stamp};
 ghost use Rattle.warm_stamps.specs.declared.PageId.{PageId};

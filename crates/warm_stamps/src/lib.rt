@@ -1,12 +1,12 @@
-//! Stamps, pages, references and buckets: the small values that every other crate speaks of.
+//! Stamps, pages, references and buckets: the small values that all other crates use.
 //!
-//! A *page* is a block of a numbered device. A *stamp* says when, by the clock of whoever reports
-//! it, and at which replica a page was referenced. A *reference* is a page with a stamp; the same
-//! page with the same stamp, reported twice, is one reference. A *bucket* is one of [`BUCKETS`]
-//! classes of pages, by which replicas exchange what they know in parts.
+//! A *page* is a block of a numbered device. A *stamp* says when and at which replica a page was
+//! referenced, by the clock of the caller that reports it. A *reference* is a page with a stamp;
+//! the same page with the same stamp, reported twice, is one reference. A *bucket* is one of
+//! [`BUCKETS`] classes of pages; replicas exchange their histories bucket by bucket.
 //!
 //! The order of each type is total, and only equal values tie: `specs/Stamps.antt` defines the
-//! orders, and [`laws`] says so. Nothing here takes memory.
+//! orders, and [`laws`] says so. Everything here is allocation-free.
 #![tactic(auto)]
 
 ghost use Rattle.std.specs.Prelude.{◌≡◌, ℕ, ◌+◌, ◌<◌, ◌≤◌, ◌↔◌, IfOk, IfSome, IsOk, IsSome};
@@ -23,16 +23,16 @@ pub mod laws;
 pub use bytes::{page_bytes, page_from, page_from_narrow, stamp_bytes, stamp_from};
 pub use items::{ByteList, Items, PageList, RefList};
 
-/// The most replicas there are. They are numbered from 1.
+/// The maximum number of replicas. They are numbered from 1.
 pub const MAX_REPLICAS: u16 = 64;
 
-/// How many buckets there are. They are numbered from 0.
+/// The number of buckets. They are numbered from 0.
 pub const BUCKETS: u8 = 64;
 
 /// The number of a replica, from 1 to [`MAX_REPLICAS`].
 #[derive(Debug, Clone, Copy, PartialEq, Eq, PartialOrd, Ord)]
 pub struct ReplicaId {
-    // In 64 bits, so that a stamp has no padding, which a move would copy in pieces.
+    // 64 bits wide, so that a stamp has no padding: a move would copy a padded value in pieces.
     number: u64,
 }
 
@@ -49,13 +49,13 @@ impl Model for ReplicaId {
     ghost inverse = { λ number. record { number = number } };
 }
 
-/// A number that names no replica: 0, or one above [`MAX_REPLICAS`].
+/// An invalid replica number: 0, or greater than [`MAX_REPLICAS`].
 #[derive(Debug, Clone, Copy, PartialEq, Eq, Error)]
 #[error("BadReplica")]
 pub struct BadReplica;
 
 impl ReplicaId {
-    /// The replica of this number. `BadReplica` comes exactly for a number that names none.
+    /// The replica of this number. `BadReplica` occurs exactly for an invalid number.
     pub fn new(number: u16) -> Result<ReplicaId, BadReplica>
         ensures value { IfOk result (λ replica. replica ≡ number) }
         ensures taken { IsOk result ↔ IsReplica number }
@@ -83,7 +83,7 @@ impl ReplicaId {
 pub struct Stamp {
     /// The time of the reference, in units of the caller's own clock.
     pub time: u64,
-    /// The replica that saw it.
+    /// The replica where it was made.
     pub replica: ReplicaId,
 }
 
@@ -101,11 +101,11 @@ pub struct PageId {
 pub struct Reference {
     /// The page that was referenced.
     pub page: PageId,
-    /// When and where.
+    /// When and at which replica.
     pub stamp: Stamp,
 }
 
-/// One of the [`BUCKETS`] classes into which pages fall.
+/// One of the [`BUCKETS`] classes of pages.
 #[derive(Debug, Clone, Copy, PartialEq, Eq, PartialOrd, Ord)]
 pub struct Bucket {
     index: u8,
@@ -125,7 +125,7 @@ impl Model for Bucket {
 }
 
 impl Bucket {
-    /// The bucket of this number. `None` comes exactly for a number of [`BUCKETS`] or more.
+    /// The bucket of this number. `None` is returned exactly for a number of [`BUCKETS`] or more.
     pub fn new(number: u8) -> Option<Bucket>
         ensures value { IfSome result (λ bucket. bucket ≡ number) }
         ensures taken { IsSome result ↔ IsBucket number }
@@ -146,7 +146,8 @@ impl Bucket {
     }
 }
 
-/// The bucket of a page: its device's number plus its own, modulo [`BUCKETS`]. The sum doesn't wrap.
+/// The bucket of a page: its device's number plus its page number, modulo [`BUCKETS`]. The sum
+/// doesn't wrap.
 pub fn bucket_of(page: PageId) -> Bucket
     ensures { result ≡ page_bucket page }
 {

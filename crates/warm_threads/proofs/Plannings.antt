@@ -1,4 +1,4 @@
--- What was planned of what was asked.
+-- The plans for the requests.
 use Rattle.std.proofs.Common.{◌≡◌, ◌≢◌, ℕ, ◌+◌, ◌<◌, ◌≤◌, Bool, true, false, ◌==◌, List, [], ◌∷◌, ◌++◌, length, map, cond, Option, refl, sym, ap, subst, ◌∙◌}
 use Rattle.std.specs.Prelude.{filter, nat_le, replicate, slice_index_or, slice_set}
 use Rattle.std.specs.Global.{Vec}
@@ -24,7 +24,7 @@ has_numbers s i w there =
     let worker = and_parts (nat_le 1 w) (nat_le w s.workers) both.1 in
     (leb-true 1 i replica.0, leb-true i s.replicas replica.1, leb-true 1 w worker.0, leb-true w s.workers worker.1)
 
--- what is asked last is planned last
+-- the last request is planned last
 plan_asks_more : (capacity : ℕ) (p : Planned) (before : List (Option Reference)) (a : Option Reference) → plan_asks capacity p (before ++ a ∷ []) ≡ plan_ask capacity (plan_asks capacity p before) a
 plan_asks_more capacity p [] a = refl
 plan_asks_more capacity p (b ∷ bs) a = plan_asks_more capacity (plan_ask capacity p b) bs a
@@ -44,7 +44,7 @@ plan_other s before a i w is =
     let same : asked_of i w (before ++ a ∷ []) ≡ asked_of i w before = asked_more i w before a ∙ ap (λ (rest : List (Option Reference)). asked_of i w before ++ rest) (one_asked i w a false is) ∙ append-nil (asked_of i w before) in
     ap (λ (asked : List (Option Reference)). plan_asks s.buffer nothing_planned asked) same
 
--- the plan of the worker that is asked goes on
+-- the plan of the requested worker is extended
 plan_here : (s : Sizes) (before : List Ask) (a : Ask) (i w : ℕ) → is_of i w a ≡ true → plan_of s (before ++ a ∷ []) i w ≡ plan_ask s.buffer (plan_of s before i w) a.reference
 plan_here s before a i w is =
     let more : asked_of i w (before ++ a ∷ []) ≡ asked_of i w before ++ a.reference ∷ [] = asked_more i w before a ∙ ap (λ (rest : List (Option Reference)). asked_of i w before ++ rest) (one_asked i w a true is) in
@@ -59,7 +59,8 @@ other_replica i w a other = and_left (a.replica == i) (a.worker == w) (ne_eqb a.
 other_worker : (i w : ℕ) (a : Ask) → w ≢ a.worker → is_of i w a ≡ false
 other_worker i w a other = and_right (a.replica == i) (a.worker == w) (ne_eqb a.worker w (λ e. other (sym e)))
 
--- One ask more: the plan of one worker of one replica goes on. Both stand one place before their numbers.
+-- One more request: the plan of one worker of one replica is extended. The indexes of both are one
+-- less than their numbers.
 pub plans_more : (s : Sizes) (before : List Ask) (a : Ask) (plans : List (Vec Planned)) (r w : ℕ) (old new : Vec Planned) → a.replica ≡ 1 + r → a.worker ≡ 1 + w → r < length plans
     → old ≡ slice_index_or plans r old → w < length old.items → new.items ≡ slice_set old.items w (plan_ask s.buffer (slice_index_or old.items w nothing_planned) a.reference)
     → ArePlansOf s before plans → ArePlansOf s (before ++ a ∷ []) (slice_set plans r new)
@@ -83,7 +84,7 @@ plans_more s before a plans r w old new replica worker low is there goes h =
         (numbered_set 1 w a.worker (λ v plan. plan ≡ plan_of s before a.replica v) (λ v plan. plan ≡ plan_of s (before ++ a ∷ []) a.replica v) old.items _ there worker
         (λ v plan other same. same ∙ sym (plan_other s before a a.replica v (other_worker a.replica v a other))) goes_on list_is)
 
--- jobs that do what is planned of what was asked
+-- jobs that carry out the plans for the requests
 pub jobs_of_plans : (s : Sizes) (asks : List Ask) (plans : List (Vec Planned)) (jobs : List (Vec Job)) → IsShaped s plans → ArePlansOf s asks plans → DoPlans s.buffer plans jobs → AreJobsOf s asks jobs
 jobs_of_plans s asks plans jobs shape are do_them = record {
   replicas = pairs_length _ plans jobs do_them ∙ shape.replicas;

@@ -12,7 +12,7 @@ pub usable_then : {A E : Type 0} (r : Result A E) (Q : Type 0) → Q → OnOk r 
 usable_then (Ok x) Q usable = usable
 usable_then (Err e) Q usable = tt
 
--- devices that can be used are refused for want of memory alone
+-- usable devices are refused only because of an allocation failure
 pub memory_refuses : {A : Type 0} (s : Sizes) (devices : List (List DeviceState)) (r : Result A PlayFault) → AreUsable s devices → IfErr r (λ why. why ≡ Memory) → IfErr r (λ why. OpenRefused s devices why)
 memory_refuses s devices (Ok x) usable h = tt
 memory_refuses s devices (Err why) usable h = subst (λ (w : PlayFault). OpenRefused s devices w) (sym h) usable

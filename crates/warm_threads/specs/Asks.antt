@@ -1,4 +1,4 @@
--- What the lines of a schedule ask of workers.
+-- The requests of the lines of a schedule to workers.
 use Rattle.std.specs.Prelude.{◌≡◌, ℕ, ◌+◌, List, [], ◌∷◌, Bool, ◌&&◌, nat_le, Option, Some, None, option_map, if◌then◌else◌}
 use Rattle.warm_stamps.specs.declared.PageId.{PageId}
 use Rattle.warm_stamps.specs.declared.Reference.{Reference}
@@ -10,7 +10,7 @@ use Rattle.warm_play_fault.specs.declared.PlayFault.{PlayFault}
 use Rattle.warm_play_fault.specs.declared.PlayFault.TheVariants.{BadLine}
 use Rattle.warm_threads.specs.declared.ask.Ask.{Ask}
 
--- a number counted from 1
+-- whether n is one of the numbers from 1 to count
 abbrev pub is_number : ℕ → ℕ → Bool
 is_number n count = nat_le 1 n && nat_le n count
 
@@ -28,13 +28,14 @@ ask line = record { replica = line.replica; worker = line.worker; reference = op
 abbrev pub asked_if : Bool → Ask → Option (Option Ask)
 asked_if there a = if there then Some (Some a) else None
 
--- what is asked of a worker, or nothing; None where it cannot be read so, or the setup has no such worker
+-- a request to a worker, or nothing; None where the line is bad or is not a request to a worker, or
+-- the setup has no such worker
 abbrev pub asked_in : Sizes → Option (Option WorkerLine) → Option (Option Ask)
 asked_in s None = None
 asked_in s (Some None) = Some None
 asked_in s (Some (Some line)) = asked_if (has_worker s line.replica line.worker) (ask line)
 
--- what a line asks, or nothing; None where threads can't play it
+-- the request of a line, or nothing; None where threads can't play it
 abbrev pub asked : Sizes → List ℕ → Option (Option Ask)
 asked s line = asked_in s (worker_line_in (meaning line))
 
@@ -50,7 +51,7 @@ bad_from s number (line ∷ rest) = bad_or (asked s line) number (bad_from s (nu
 abbrev pub first_bad : Sizes → List (List ℕ) → Option ℕ
 first_bad s lines = bad_from s 1 lines
 
--- what the lines ask, in their order, as far as they ask something
+-- the requests of the lines, in their order
 abbrev pub with_ask : Option (Option Ask) → List Ask → List Ask
 with_ask (Some (Some a)) rest = a ∷ rest
 with_ask _ rest = rest

@@ -1,4 +1,4 @@
--- The calls by which a machine sends all that it knows, and receives what others have sent.
+-- The calls by which a machine sends its whole history, and receives what others have sent.
 use Rattle.std.specs.Prelude.{◌≡◌, ℕ, ◌<◌, ◌≤◌, List, [], ◌∷◌, length, Option, None}
 use Rattle.std.specs.List.{flat_map}
 use Rattle.warm_stamps.specs.declared.PageId.{PageId}
@@ -21,11 +21,12 @@ abbrev pub entries_in : Message → List Entry
 entries_in (Entries sender horizon entries) = entries
 entries_in message = []
 
--- the bucket's entries after this page were asked for, and this message was sent
+-- the call requested the bucket's entries after this page, and the reply is this message
 abbrev pub IsSend : ℕ → Option PageId → Message → turn.Entry Call Reply → Type 0
 IsSend bucket after message e = (e.call ≡ Send bucket after) × (e.reply ≡ Sent message)
 
--- The calls send what the bucket has after this page: each asks for what comes after the last page of the message before. All messages but the last are full
+-- The calls send the bucket's entries after this page: each requests those after the last page of
+-- the message before. All messages but the last are full
 abbrev pub SendsBucket : ℕ → Option PageId → Calls → Type 0
 SendsBucket bucket after [] = ⊥
 SendsBucket bucket after (e ∷ []) = (message : Message) × IsSend bucket after message e × (length (entries_in message) < MAX_ENTRIES)

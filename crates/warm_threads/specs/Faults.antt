@@ -1,4 +1,4 @@
--- Which fault of a crew comes of a fault below, and which fault of a play comes of that.
+-- The fault of a crew for a fault of a lower layer, and the fault of a play for that.
 use Rattle.crossbeam_channel.specs.declared.err.SendError.{SendError}
 use Rattle.crossbeam_channel.specs.declared.err.SendError.TheVariants as send
 use Rattle.warm_play_fault.specs.declared.PlayFault.{PlayFault}
@@ -8,18 +8,20 @@ use Rattle.warm_replica.specs.declared.fault.RunFault.TheVariants as run
 use Rattle.warm_threads.specs.declared.fault.CrewFault.{CrewFault}
 use Rattle.warm_threads.specs.declared.fault.CrewFault.TheVariants as crew
 
--- a message that a channel did not take: the channel is closed, or it has no memory for the message
+-- the fault for a message that a channel did not take: the channel is closed, or an allocation
+-- failed
 abbrev pub crew_fault_of_send : {T : Type 0} → SendError T → CrewFault
 crew_fault_of_send (send.Disconnected _) = crew.Closed
 crew_fault_of_send (send.OutOfMemory _) = crew.Memory
 
--- workers that did not run; jobs of the setup's capacity are never refused for it
+-- the fault for workers that did not run; jobs of the setup's capacity are never refused for their
+-- capacity
 abbrev pub crew_fault_of_run : RunFault → CrewFault
 crew_fault_of_run run.Memory = crew.Memory
 crew_fault_of_run run.NoThread = crew.NoThread
 crew_fault_of_run run.BadCapacity = crew.Memory
 
--- a closed channel is that of a worker that ended early
+-- the play's fault; a closed channel means that a replica ended early
 abbrev pub play_fault_of : CrewFault → PlayFault
 play_fault_of crew.Memory = play.Memory
 play_fault_of crew.NoThread = play.NoThread

@@ -1,7 +1,7 @@
 -- Lists whose items have numbers.
 use Rattle.std.specs.Prelude.{ℕ, ◌+◌, List, [], ◌∷◌}
 
--- what holds of each item of a list by its number, where the first has this number
+-- a property of each item of a list and its number, where the first has this number
 abbrev pub NumberedFrom : {A : Type 0} → ℕ → (ℕ → A → Type 0) → List A → Type 0
 NumberedFrom n P [] = Unit {0}
 NumberedFrom n P (x ∷ xs) = P n x × NumberedFrom (n + 1) P xs

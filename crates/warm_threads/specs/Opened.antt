@@ -1,4 +1,4 @@
--- Nodes that were given nothing.
+-- Nodes without references.
 use Rattle.std.specs.Prelude.{ℕ, ◌+◌, List, [], ◌∷◌}
 use Rattle.warm_devices.specs.Device.{DeviceState}
 use Rattle.warm_pool.specs.State.{opened}
@@ -16,6 +16,7 @@ abbrev pub opened_nodes : Sizes → ℕ → List (List DeviceState) → List Nod
 opened_nodes s i [] = []
 opened_nodes s i (devices ∷ rest) = opened_node s i devices ∷ opened_nodes s (i + 1) rest
 
--- what nodes of these sizes are made over: as many lists as there are replicas, with pages of the size, none longer than a page can name
+-- valid devices for nodes of these sizes: a list for each replica, with pages of the size, none
+-- with more devices than a page can name
 abbrev pub AreUsable : Sizes → List (List DeviceState) → Type 0
 AreUsable s devices = AreFitting s devices × AreFew devices

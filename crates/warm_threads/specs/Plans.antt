@@ -1,4 +1,4 @@
--- The steps by which a worker does what is asked of it.
+-- The steps by which a worker carries out its requests.
 use Rattle.std.specs.Prelude.{◌≡◌, ℕ, ◌+◌, List, [], ◌∷◌, ◌++◌, Bool, true, false, ◌&&◌, ◌==◌, filter, length, map, nat_lt, Option, Some, None}
 use Rattle.std.specs.Global.{Vec}
 use Rattle.std.specs.List.{All}
@@ -25,15 +25,15 @@ abbrev pub plan_asks : ℕ → Planned → List (Option Reference) → Planned
 plan_asks capacity p [] = p
 plan_asks capacity p (a ∷ rest) = plan_asks capacity (plan_ask capacity p a) rest
 
--- something is asked of this worker of this replica
+-- the request is to this worker of this replica
 abbrev pub is_of : ℕ → ℕ → Ask → Bool
 is_of i w a = (a.replica == i) && (a.worker == w)
 
--- what is asked of the worker of the replica, in its order
+-- the requests to the worker of the replica, in their order
 abbrev pub asked_of : ℕ → ℕ → List Ask → List (Option Reference)
 asked_of i w asks = map (λ a. a.reference) (filter (is_of i w) asks)
 
--- what the worker is to do by then
+-- the worker's plan after these requests
 abbrev pub plan_of : Sizes → List Ask → ℕ → ℕ → Planned
 plan_of s asks i w = plan_asks s.buffer nothing_planned (asked_of i w asks)
 
@@ -42,11 +42,11 @@ pub record IsShaped (s : Sizes) (plans : List (Vec Planned)) : Type 0 where
   pub replicas : length plans ≡ s.replicas
   pub workers : All (λ list. length list.items ≡ s.workers) plans
 
--- they are what was asked of each worker of each replica
+-- they are the plans for the requests to each worker of each replica
 abbrev pub ArePlansOf : Sizes → List Ask → List (Vec Planned) → Type 0
 ArePlansOf s asks plans = Numbered (λ i list. Numbered (λ w plan. plan ≡ plan_of s asks i w) list.items) plans
 
--- a job that does what is planned, and flushes last
+-- a job that carries out the plan, and flushes last
 pub record DoesPlan (capacity : ℕ) (plan : Planned) (job : Job) : Type 0 where
   pub cap_is : job.capacity ≡ capacity
   pub steps : job.steps.items ≡ plan.steps ++ Flush ∷ []
@@ -55,8 +55,9 @@ pub record DoesPlan (capacity : ℕ) (plan : Planned) (job : Job) : Type 0 where
 abbrev pub DoPlans : ℕ → List (Vec Planned) → List (Vec Job) → Type 0
 DoPlans capacity plans jobs = Pairs (λ ps js. Pairs (DoesPlan capacity) ps.items js.items) plans jobs
 
--- The job of a worker of a replica: its buffer is as large as the setup says. It does what is asked of the worker, in its order, where a
--- full buffer is flushed before a further reference, and it flushes last.
+-- The job of a worker of a replica: its buffer is as large as the setup says. It carries out the
+-- worker's requests, in their order, where a full buffer is flushed before a further reference, and
+-- it flushes last.
 pub record IsJobOf (s : Sizes) (asks : List Ask) (i w : ℕ) (job : Job) : Type 0 where
   pub capacity : job.capacity ≡ s.buffer
   pub steps : job.steps.items ≡ (plan_of s asks i w).steps ++ Flush ∷ []

@@ -1,4 +1,4 @@
--- What was played of a schedule over devices, and what is printed then.
+-- The play of a schedule over devices, and its output.
 use Rattle.std.specs.Prelude.{◌≡◌, ℕ, List, map}
 use Rattle.std.specs.Global.{Vec}
 use Rattle.warm_devices.specs.Device.{DeviceState}
@@ -13,8 +13,8 @@ use Rattle.warm_threads.specs.Plans.{AreJobsOf}
 use Rattle.warm_threads.specs.Shown.{replicas_text}
 use Rattle.warm_threads.specs.Works.{Went}
 
--- The workers of each replica did what the lines of the text ask of them. The replicas, opened over these devices, went from there to
--- where their histories print this.
+-- The workers of each replica carried out the requests of the lines of the text. The replicas,
+-- opened over these devices, reached states whose histories print this.
 pub record Played (s : Sizes) (devices : List (List DeviceState)) (text out : List ℕ) : Type 0 where
   pub jobs : List (Vec Job)
   pub ends : List NodeView

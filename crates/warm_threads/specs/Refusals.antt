@@ -6,26 +6,27 @@ use Rattle.warm_play_fault.specs.declared.PlayFault.TheVariants.{Memory, ReadFau
 use Rattle.warm_world.specs.Sizes.{Sizes}
 use Rattle.warm_threads.specs.Opened.{AreUsable}
 
--- what stops the threads of a play: want of memory, of a thread, or of a replica that takes mail
+-- what stops the threads of a play: an allocation failure, a thread that can't be started, or a
+-- replica that takes no mail
 abbrev pub StopsCrews : PlayFault → Type 0
 StopsCrews Memory = Unit {0}
 StopsCrews NoThread = Unit {0}
 StopsCrews why = ⊥
 
--- what stops a play that has begun: the same, the reader, the writer, or a line that threads can't play
+-- what stops a running play: the same, the reader, the writer, or a line that threads can't play
 abbrev pub StopsThreads : PlayFault → Type 0
 StopsThreads ReadFault = Unit {0}
 StopsThreads WriteFault = Unit {0}
 StopsThreads (BadLine number) = Unit {0}
 StopsThreads why = StopsCrews why
 
--- why no play begins: the devices can't be used; or they can, and there is no memory
+-- why a play does not begin: the devices can't be used; or they can, and an allocation failed
 abbrev pub OpenRefused : Sizes → List (List DeviceState) → PlayFault → Type 0
 OpenRefused s devices BadDevices = AreUsable s devices → ⊥
 OpenRefused s devices Memory = AreUsable s devices
 OpenRefused s devices why = ⊥
 
--- why a play does not come to its end: the devices can't be used; or they can, and it was stopped
+-- why a play does not reach its end: the devices can't be used; or they can, and it was stopped
 abbrev pub ThreadsRefused : Sizes → List (List DeviceState) → PlayFault → Type 0
 ThreadsRefused s devices BadDevices = AreUsable s devices → ⊥
 ThreadsRefused s devices why = AreUsable s devices × StopsThreads why

@@ -1,4 +1,4 @@
--- What is printed of replicas whose workers have ended and which have sent each other what they know.
+-- The text printed for replicas whose workers have ended and which have exchanged their histories.
 use Rattle.std.specs.Prelude.{ℕ, ◌+◌, List, [], ◌∷◌, ◌++◌, codes, decimal}
 use Rattle.warm_history.specs.Histories.{HistoryView, entries_of}
 use Rattle.warm_gossip.specs.State.{NodeView}

@@ -1,4 +1,4 @@
--- What a machine has gone through while its workers ran, and while mail was exchanged.
+-- The calls of a machine while its workers ran, and while mail was exchanged.
 use Rattle.std.specs.Prelude.{◌≡◌, ℕ, List}
 use Rattle.std.specs.Global.{Vec}
 use Rattle.std.specs.List.{All}
@@ -19,8 +19,9 @@ module _ {X : Type 0} (goes : X → Call → Reply → X → Type 0) where
   abbrev pub LeadsBy : (Calls → Type 0) → X → X → Type 0
   LeadsBy Kind x z = (calls : Calls) × Runs goes x calls z × Kind calls
 
-  -- A legal list of calls leads from one state to the other in which the calls of each job's own number are just the flushes of that job's
-  -- steps, all of them taken; no two jobs have one number
+  -- A legal list of calls leads from one state to the other in which the calls of each job's own
+  -- number are exactly the flushes of that job's steps, all of them successful; no two jobs have
+  -- the same number
   pub record Works (jobs : List Job) (x z : X) : Type 0 where
     pub calls : Calls
     pub runs : Runs goes x calls z
@@ -31,7 +32,8 @@ module _ {X : Type 0} (goes : X → Call → Reply → X → Type 0) where
     pub stand : (k : ℕ) (e : Ended Call Reply) → get_elem? workers k ≡ some e → calls_by e.number calls ≡ e.calls
     pub apart : NoRepeat workers
 
-  -- The workers of a machine have ended; then it has sent every bucket whole, by these calls alone; and then it has received messages, and answered each
+  -- The workers of a machine have ended; then it has sent every bucket whole, by exactly these
+  -- calls; and then it has received messages, and answered each
   pub record WentOn (jobs : List Job) (x z : X) : Type 0 where
     pub worked : X
     pub shared : X
@@ -39,6 +41,7 @@ module _ {X : Type 0} (goes : X → Call → Reply → X → Type 0) where
     pub sends : LeadsBy SendsAll worked shared
     pub receives : LeadsBy (All IsReceipt) shared z
 
-  -- the same of machines place by place: where they were, the jobs of their workers, and where they are
+  -- the same, for machines place by place: their old states, the jobs of their workers, and their
+  -- new states
   abbrev pub Went : List X → List (Vec Job) → List X → Type 0
   Went = Triples (λ x list z. WentOn list.items x z)

@@ -1,4 +1,4 @@
-//! What a line asks of a worker.
+//! The requests of lines to workers.
 ghost use Rattle.std.specs.Prelude.{◌≡◌, Some, option_map};
 ghost use Rattle.warm_world.specs.Sizes.{IsSetup};
 ghost use Rattle.warm_threads.specs.Asks.{asked, asked_in, has_worker, is_number};
@@ -7,7 +7,8 @@ use warm_schedule::{WorkerLine, parse_worker_line};
 use warm_stamps::{Reference, ReplicaId, Stamp};
 use warm_world::Setup;
 
-/// What a line asks of a worker of a replica, both numbered from 1: to make a reference, or to flush where there is none.
+/// The request of a line to a worker of a replica, both numbered from 1: to make a reference, or to
+/// flush where there is none.
 #[derive(Clone, Copy)]
 pub(crate) struct Ask {
     pub(crate) replica: u16,
@@ -27,7 +28,7 @@ fn has_worker(setup: Setup, replica: u16, worker: u16) -> bool
     is_number(replica, setup.replicas()) && is_number(worker, setup.workers())
 }
 
-// What a line asks of a worker that the setup has. `None` where it has no such worker.
+// The request of a line to a worker. `None` where the setup has no such worker.
 fn asked_of(setup: Setup, line: WorkerLine) -> Option<Ask>
     ensures { option_map Some result ≡ asked_in setup (Some (Some line)) }
 {
@@ -51,8 +52,8 @@ fn asked_of(setup: Setup, line: WorkerLine) -> Option<Ask>
     })
 }
 
-/// What a line asks, or nothing. `None` where threads cannot play it: it is no line of the language, or of another kind, or
-/// the setup has no such worker.
+/// The request of a line, or nothing. `None` where threads cannot play it: it is not a line of the
+/// language, or of another kind, or the setup has no such worker.
 pub(crate) fn asked(setup: Setup, line: &[u8]) -> Option<Option<Ask>>
     ensures { result ≡ asked setup line.now }
 {

@@ -17,7 +17,8 @@ use std::thread;
 use std::thread::Threads;
 use warm_replica::{Absorbing, Job};
 
-// A machine, the jobs of its workers, where it sends what it knows, and where it hears of others.
+// A machine, the jobs of its workers, the channels to which it sends its history, and the channel
+// of its mail.
 #[derive(Drop)]
 struct Crew<M> {
     machine: M,
@@ -26,7 +27,7 @@ struct Crew<M> {
     receiver: Receiver<Parcel>,
 }
 
-// The same, when the workers have ended.
+// The same, after the workers have ended.
 #[derive(Drop)]
 struct Knowing<M> {
     machine: M,
@@ -34,7 +35,7 @@ struct Knowing<M> {
     receiver: Receiver<Parcel>,
 }
 
-// The same, when all was sent: `stops` Stops are to come.
+// The same, after all was sent: `stops` Stops will be received.
 #[derive(Drop)]
 struct Hearing<M> {
     machine: M,
@@ -102,7 +103,8 @@ fn hear_one<M: Absorbing + Drop, R: Wait>(
     hear_all(rt, alloc, machine, receiver, stops)
 }
 
-// Why crews failed: the first fault other than `Closed`. A crew meets a closed channel only after another crew has failed.
+// Why crews failed: the first fault other than `Closed`. A crew finds a closed channel only after
+// another crew has failed.
 fn cause_of<T>(results: &[Result<T, CrewFault>]) -> Option<CrewFault>
     ensures cause { IfSome result (λ why. why ≢ Closed) }
     ensures none { IsNone result ↔ All (λ r. IfErr r (λ why. why ≡ Closed)) results.now }
@@ -116,7 +118,7 @@ fn cause_of<T>(results: &[Result<T, CrewFault>]) -> Option<CrewFault>
     None
 }
 
-// What was made, where all of it was. The fault is `Closed` only where no crew has another.
+// The results, where all crews succeeded. The fault is `Closed` only where no crew has another.
 fn gathered<T: Drop>(alloc: Global, results: Vec<Result<T, CrewFault>>) -> Result<Vec<T>, CrewFault>
     ensures whole { IfOk result (λ v. Pairs (λ r t. r ≡ Ok t) results.items v.items) }
     ensures closed { result ≡ Err Closed → All (λ r. IfErr r (λ why. why ≡ Closed)) results.items }
@@ -150,7 +152,7 @@ fn all_work<M: Absorbing + Send + Drop, R: Threads + Wait + Sync>(
     gathered(alloc, done)
 }
 
-// Each sends all that it knows.
+// Each sends its whole history.
 fn all_send<M: Absorbing + Send + Drop, R: Threads + Wait + Sync>(
     rt: &R,
     alloc: Global,
@@ -252,8 +254,9 @@ fn crews_of<M: Drop>(
 /// other, and receive what was sent to it.
 ///
 /// # Errors
-/// `Memory`: an allocation failed, of a worker, of a machine or of a channel too. `NoThread`: a worker had no thread, or left a
-/// call behind. `Closed`: a replica ended before all was sent to it, and none has another fault. All machines are dropped.
+/// `Memory`: an allocation failed, including one of a worker, of a machine or of a channel.
+/// `NoThread`: a worker's thread could not be started, or left a call unfinished. `Closed`: a
+/// replica ended before all was sent to it, and none has another fault. All machines are dropped.
 pub(crate) fn run_all<M: Absorbing + Send + Drop, R: Threads + Wait + Sync>(
     rt: &R,
     alloc: Global,

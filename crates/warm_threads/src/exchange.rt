@@ -1,4 +1,4 @@
-//! What replicas send each other when their workers have ended.
+//! The exchange between replicas after their workers have ended.
 ghost use Rattle.std.specs.Prelude.{◌≡◌, ◌<◌, ◌≤◌, List, length, IfOk, IfSome, IsNone, OnOk, Some, None};
 ghost use Rattle.std.specs.List.{All};
 ghost use Rattle.warm_frames.specs.declared.layout.TheConstants.{MAX_ENTRIES};
@@ -19,7 +19,7 @@ use warm_gossip::{Call, Reply};
 use warm_stamps::{BUCKETS, Bucket, ByteList, PageId};
 use warm_turn::Machine;
 
-/// How many items of mail a replica takes at most.
+/// The maximum number of items of mail that a replica takes.
 pub(crate) const MOST_MAIL: u64 = 1_000_000;
 
 /// One item of mail: what a channel carries to the replica whose mail it is.
@@ -27,7 +27,7 @@ pub(crate) const MOST_MAIL: u64 = 1_000_000;
 pub(crate) enum Parcel {
     /// Bytes that spell a message. All replicas that it is sent to share them: they are freed when the last has received it.
     Bytes(Arc<ByteList, Global>),
-    /// A sign that a sender is done.
+    /// The sign that a sender is done.
     Stop,
 }
 
@@ -71,7 +71,7 @@ fn next_after(message: &Message) -> Option<PageId>
     }
 }
 
-// Asks for a message of a bucket's entries, after a page where there is one.
+// Requests a message of a bucket's entries, after a page where one is given.
 fn asked_message<M: Machine<Call = Call, Reply = Reply>>(
     machine: &mut M,
     bucket: Bucket,
@@ -115,7 +115,8 @@ fn send_bucket<M: Machine<Call = Call, Reply = Reply>, R: Wait>(
 /// Has the machine send every bucket whole to each of the channels, and then a Stop.
 ///
 /// # Errors
-/// `Memory`: an allocation failed, of the machine or of a channel too. `Closed`: a channel was closed.
+/// `Memory`: an allocation failed, including one of the machine or of a channel. `Closed`: a
+/// channel was closed.
 pub(crate) fn send_all<M: Machine<Call = Call, Reply = Reply> + Drop, R: Wait>(
     rt: &R,
     alloc: Global,
@@ -156,10 +157,12 @@ fn receive<M: Machine<Call = Call, Reply = Reply>>(
     }
 }
 
-/// Has the machine receive the messages of a channel, until `stops` Stops or [`MOST_MAIL`] items came.
+/// Has the machine receive the messages of a channel, until `stops` Stops or [`MOST_MAIL`] items
+/// were received.
 ///
 /// # Errors
-/// `Memory`: an allocation failed, of the machine too, or bytes spelled no message. What else came is dropped.
+/// `Memory`: an allocation failed, including one of the machine, or bytes spelled no message. The
+/// remaining mail is dropped.
 pub(crate) fn hear_all<M: Machine<Call = Call, Reply = Reply> + Drop, R: Wait>(
     rt: &R,
     alloc: Global,

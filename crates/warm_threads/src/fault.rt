@@ -1,4 +1,5 @@
-//! Why a crew, a replica and its workers, comes to no end of its work or of its exchange with the others.
+//! Why a crew, which is a replica and its workers, did not finish its work or its exchange with the
+//! others.
 use crossbeam_channel::SendError;
 use std::alloc::{AllocError, AllocFailed};
 use thiserror::Error;
@@ -6,14 +7,15 @@ use warm_play_fault::PlayFault;
 use warm_replica::RunFault;
 use warm_turn::{Busy, Memory};
 
-/// Why a crew came to no end. Each fault is displayed as its name.
+/// Why a crew did not finish. Each fault is displayed as its name.
 #[derive(Clone, Copy, Debug, Error)]
 pub(crate) enum CrewFault {
-    /// An allocation failed: the crew's own, a channel's, or the machine's, which then refuses a call. A worker's call for which no
-    /// ticket is left counts as refused too, and mail that spells no message, which no crew sends.
+    /// An allocation failed: the crew's own, a channel's, or the machine's, which then refuses a
+    /// call. A worker's call for which no ticket is left also counts as this fault, and so does
+    /// mail that spells no message, which no crew sends.
     #[error("Memory")]
     Memory,
-    /// A worker's thread could not be started, or left a call behind.
+    /// A worker's thread could not be started, or left a call unfinished.
     #[error("NoThread")]
     NoThread,
     /// A channel was closed: the crew that was to take its mail ended early.
@@ -43,7 +45,7 @@ impl<T: Drop> From<AllocFailed<T>> for CrewFault {
     }
 }
 
-// The machine for which there was no turn is dropped.
+// The machine for which no turn was made is dropped.
 impl<M: Drop> From<Memory<M>> for CrewFault {
     ghost use Rattle.std.specs.Prelude.{◌≡◌};
     ghost use Rattle.warm_threads.specs.declared.fault.CrewFault.TheVariants.{Memory};
@@ -81,7 +83,7 @@ impl From<Busy> for CrewFault {
     }
 }
 
-// The jobs of a crew have the setup's capacity, which a buffer can have: they are never refused for it.
+// The jobs of a crew have the setup's capacity, which is valid: they are never refused for it.
 impl From<RunFault> for CrewFault {
     ghost use Rattle.std.specs.Prelude.{◌≡◌};
     ghost use Rattle.warm_threads.specs.Faults.{crew_fault_of_run};

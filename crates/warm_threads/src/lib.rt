@@ -1,8 +1,8 @@
 //! Schedules played by threads: a thread for each worker, and then an exchange between all replicas.
 //!
-//! [`play_threads`] reads a schedule of references and flushes whole, has a thread for each worker of each replica do that worker's
-//! lines, has the replicas send each other all that they know, and prints what each of them has heard of. docs/FORMATS.md says which
-//! lines there may be, and what is printed.
+//! [`play_threads`] reads a schedule of references and flushes whole, has a thread for each worker
+//! of each replica carry out that worker's lines, has the replicas exchange their whole histories,
+//! and prints the history of each. docs/FORMATS.md defines the lines and the output.
 //!
 //! - `reading` reads a schedule whole, `ask` a line of it, and `plan` makes the jobs of the workers.
 //! - `work` runs the workers' jobs, over a machine behind a turn; `exchange` has a replica send and receive, and calls the machine

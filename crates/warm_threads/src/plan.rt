@@ -83,7 +83,7 @@ fn add_to(
     Ok(())
 }
 
-// Plans what is asked of a worker that the setup has.
+// Plans a request to a worker of the setup.
 fn add_ask(plans: &mut Vec<Vec<Plan>>, setup: Setup, ask: Ask) -> Result<(), AllocError>
     requires there { has_worker setup ask.replica ask.worker ≡ true }
     requires shape { IsShaped setup plans.old.items }
@@ -98,7 +98,7 @@ fn add_ask(plans: &mut Vec<Vec<Plan>>, setup: Setup, ask: Ask) -> Result<(), All
     Ok(())
 }
 
-// Plans of this many workers, of whom nothing is asked.
+// Empty plans for this many workers.
 fn plans_for(alloc: Global, workers: u16) -> Result<Vec<Plan>, AllocError>
     ensures { IfOk result (λ v. v.items ≡ replicate workers nothing_planned) }
 {
@@ -121,7 +121,7 @@ fn empty_plans(alloc: Global, setup: Setup) -> Result<Vec<Vec<Plan>>, AllocError
     Ok(plans)
 }
 
-// Plans what the line of this number asks.
+// Plans the request of the line of this number.
 fn take_line(
     setup: Setup,
     line: &[u8],
@@ -147,7 +147,7 @@ fn take_line(
     Ok(())
 }
 
-// Plans what the lines of a text ask.
+// Plans the requests of the lines of a text.
 fn plan_text(alloc: Global, setup: Setup, text: &[u8]) -> Result<Vec<Vec<Plan>>, PlayFault>
     requires countable { length text.now + 1 < 2 ^ 64 }
     ensures shape { IfOk result (λ v. IsShaped setup v.items) }
@@ -203,8 +203,9 @@ fn jobs_of_all(
     Ok(all)
 }
 
-/// The jobs of the workers of each replica, by replica and then by worker, that do what the text's lines ask: each worker's
-/// lines in their order, each full buffer flushed before a further reference, and each flushed last.
+/// The jobs of the workers of each replica, by replica and then by worker, that carry out the
+/// requests of the text's lines: each worker's lines in their order, each full buffer flushed
+/// before a further reference, and each flushed last.
 ///
 /// # Errors
 /// `BadLine` with the number of the first line that threads cannot play. `Memory`.

@@ -37,7 +37,7 @@ use warm_schedule::print_history;
 use warm_stamps::ReplicaId;
 use warm_world::{Setup, are_sized};
 
-// Prints what the replica of a number has heard of.
+// Prints the history of the replica of a number.
 fn print_replica<W: Write>(writer: &mut W, number: u64, history: &History) -> io::Result<()>
     ensures { Prints result (W.contents writer.old) (W.contents writer.new)
         (replica_text number history.now) }
@@ -46,7 +46,7 @@ fn print_replica<W: Write>(writer: &mut W, number: u64, history: &History) -> io
     print_history(writer, history)
 }
 
-// Whether no list is longer than a page can name.
+// Whether no list has more devices than a page can name.
 fn are_few<D: PageDevice>(devices: &[Vec<D>]) -> bool
     ensures { IsTrue result
         ↔ All (λ list. length list.items ≤ MAX_DEVICES) devices.now }
@@ -138,8 +138,8 @@ fn nodes_over<D: PageDevice>(
     nodes_of(alloc, setup, devices)
 }
 
-// Prints `replica I` and what `show I` prints for each replica in turn, counted from 1, and flushes the writer. The error is
-// `WriteFault` alone. Nothing is said of how much was written by then.
+// Prints `replica I` and what `show I` prints for each replica in turn, counted from 1, and flushes
+// the writer. The only error is `WriteFault`. It is unspecified how much was written before.
 fn print_replicas<D: PageDevice, W: Write>(
     writer: &mut W,
     nodes: &[Node<D>],
@@ -187,28 +187,34 @@ fn play_over<M: Absorbing + Send + Drop, T: Threads + Wait + Sync, R: Read>(
     Ok(machines)
 }
 
-/// Plays a schedule by threads over the devices of each replica, and prints what each replica knows in the end: `replica I` and
-/// what `show I` prints, for each in turn, counted from 1. The writer is flushed.
+/// Plays a schedule by threads over the devices of each replica, and prints the final history of
+/// each replica: `replica I` and what `show I` prints, for each in turn, counted from 1. The writer
+/// is flushed.
 ///
-/// The schedule is read whole, and may hold `ref` and `flush` lines of the setup's replicas and workers; blank lines and comments
-/// are passed over. Each worker has a thread that does its own lines in their order: a full buffer is flushed before a further
-/// reference, and what a buffer holds at the end is flushed last. When all have ended, each replica sends every bucket whole to each
-/// other, and then a Stop. When all have sent, each receives what was sent to it, until a Stop of each other replica or 1,000,000 items
-/// came. Replicas do so in threads of their own where these can be made. It may wait. A message is encoded once, and all that it is
-/// sent to share its bytes: beside the histories, the sent messages take the bytes of one encoded copy of each history.
+/// The schedule is read whole, and may hold `ref` and `flush` lines of the setup's replicas and
+/// workers; blank lines and comments are skipped. Each worker has a thread that carries out its own
+/// lines in their order: a full buffer is flushed before a further reference, and each buffer is
+/// flushed at the end. After all have ended, each replica sends every bucket whole to each other,
+/// and then a Stop. After all have sent, each receives what was sent to it, until it has received a
+/// Stop of each other replica or 1,000,000 items. Replicas do so in threads of their own where
+/// these can be started. It may wait. A message is encoded once, and all its receivers share its
+/// bytes: beside the histories, the sent messages take the memory of one encoded copy of each
+/// history.
 ///
 /// # Errors
 /// - `BadDevices`: the devices are not one list for each replica, each of at most [`warm_pool::MAX_DEVICES`], with pages of the
 ///   setup's size. Nothing was read or written.
-/// - `ReadFault`: the reader failed, or 2^40 reads came to no end.
-/// - `BadLine` with the number of the first line that is none of these. No thread was started.
-/// - `Memory`: an allocation failed, of a worker, of a replica or of a channel too.
-/// - `NoThread`: a worker had no thread, for want of memory too, or left a call behind; or a channel was closed, since its replica
-///   ended before all was sent to it, and no replica has another fault.
+/// - `ReadFault`: the reader failed, or 2^40 reads did not reach the end.
+/// - `BadLine` with the number of the first line of another kind. No thread was started.
+/// - `Memory`: an allocation failed, including one of a worker, of a replica or of a channel.
+/// - `NoThread`: a worker's thread could not be started, for an allocation failure or another
+///   reason, or left a call unfinished; or a channel was closed, since its replica ended before all
+///   was sent to it, and no replica has another fault.
 /// - `WriteFault`: the writer failed.
 ///
-/// Of the faults of the threads (`CrewFault`), `Memory` comes out as `Memory`, and `NoThread` and `Closed` as `NoThread`. In each
-/// case all devices are dropped. Nothing was written but where it is `WriteFault`, and then nothing is said of how much.
+/// Of the faults of the threads (`CrewFault`), `Memory` is returned as `Memory`, and `NoThread` and
+/// `Closed` as `NoThread`. In each case all devices are dropped. Nothing was written, except for
+/// `WriteFault`, where it is unspecified how much was.
 pub fn play_threads<D, T, R, W>(
     rt: &T,
     alloc: Global,

@@ -8,7 +8,8 @@ use std::io::{ErrorKind, Read};
 use warm_play_fault::PlayFault;
 use warm_schedule::{MAX_READS, READ_SIZE};
 
-// Reads once, and puts what was read after the text. `false` at the end of the input. A read that was interrupted has read nothing.
+// Reads once, and appends the bytes read to the text. `false` at the end of the input. An
+// interrupted read counts as reading nothing.
 fn read_some<R: Read>(
     reader: &mut R,
     buffer: &mut [u8],

@@ -12,7 +12,7 @@ use std::thread::Threads;
 use warm_replica::{Absorbing, Gate, Job, Replies, run_workers};
 use warm_turn::Turn;
 
-// Nobody is held back.
+// A gate that holds nothing back.
 #[derive(Clone, Copy)]
 struct Open;
 
@@ -29,11 +29,12 @@ fn all_taken(replies: &[Replies]) -> bool
     replies.iter().all(|list| list.are_taken())
 }
 
-/// Has the machine's workers do their jobs, each in a thread of its own, and gives the machine back when all have ended.
+/// Has the machine's workers do their jobs, each in a thread of its own, and returns the machine
+/// after all have ended.
 ///
 /// # Errors
-/// `Memory`: an allocation failed, of a worker or of the machine too. `NoThread`: a thread could not be started, or left a call
-/// behind.
+/// `Memory`: an allocation failed, including one of a worker or of the machine. `NoThread`: a
+/// thread could not be started, or left a call unfinished.
 pub(crate) fn work<M: Absorbing + Send + Drop, R: Threads + Wait + Sync>(
     rt: &R,
     alloc: Global,

@@ -1,4 +1,5 @@
--- Worked rows of the definitions, computed: a machine that adds, from 0, to which pass 0 adds 5 and pass 1 then 2.
+-- Worked examples of the definitions, computed: a machine that adds, from 0, to which pass 0 adds 5
+-- and pass 1 then 2.
 use Rattle.std.proofs.Common.{◌≡◌, ℕ, ◌+◌, List, [], ◌∷◌, refl, arith}
 use Rattle.warm_turn.specs.declared.board.Entry.{Entry}
 use Rattle.warm_turn.specs.Turns.{entry, calls_by, Runs}

@@ -1,4 +1,5 @@
--- The second pass of the rule: each step keeps one legal history, in which the calls of each pass stand once.
+-- The second pass of the rule: each step keeps one legal history, which contains the calls of each
+-- pass once.
 use Rattle.std.proofs.Common.{◌≡◌, ◌≢◌, ℕ, zero, suc, ◌+◌, ◌≤◌, eqb, List, [], ◌∷◌, ◌++◌, length, set, Option, Some, true, false, refl, sym, ap, ◌∙◌, subst, ⊎_elim, arith, length-set, eq-eqb, ne_eqb, length-append, append-nil}
 use mathlib.Core.Option.{some, some-injective, some-ne-none}
 use mathlib.Core.Option as maybe
@@ -27,7 +28,7 @@ module _ {X C R : Type 0} where
   gone_longer : (vs ws : List (View X C R)) (n : ℕ) → IsGone vs n → IsGone (vs ++ ws) n
   gone_longer vs ws n g = (g.0, at_longer vs ws n g.0 g.1, g.2, g.3)
 
-  -- where more seats are spent, what the history says of a seat stays
+  -- where more seats are used up, what the history says of a seat is unchanged
   more_gone : (o : X) (log : List (Entry C R)) (x : X) (owner : ℕ → ℕ) (vs vs' : List (View X C R)) (j : ℕ) (u : View X C R)
       → ((m : ℕ) → IsGone vs m → IsGone vs' m) → IsRecorded o log x owner vs j u → IsRecorded o log x owner vs' j u
   more_gone o log x owner vs vs' j u more f = record {
@@ -39,7 +40,7 @@ module _ {X C R : Type 0} where
     serving = f.serving;
   }
 
-  -- what the history says of a spent seat
+  -- what the history says of a used-up seat
   nobody_recorded : (o : X) (log : List (Entry C R)) (x : X) (owner : ℕ → ℕ) (vs : List (View X C R)) (j : ℕ) → IsRecorded o log x owner vs j nobody
   nobody_recorded o log x owner vs j = record {
     sight = λ h. off h refl;
@@ -50,7 +51,7 @@ module _ {X C R : Type 0} where
     serving = λ h. off h refl;
   }
 
-  -- what the history says of a seat does not rest on its ticket or its marks
+  -- what the history says of a seat does not depend on its ticket or its marks
   pub same_recorded : (o : X) (log : List (Entry C R)) (x : X) (owner : ℕ → ℕ) (vs : List (View X C R)) (me : ℕ) (v w : View X C R)
       → get_elem? vs me ≡ some v → v.sees ≡ true → w.sees ≡ v.sees → w.owns ≡ v.owns → w.serves ≡ v.serves → w.number ≡ v.number → w.opening ≡ v.opening → w.state ≡ v.state → w.seen ≡ v.seen → w.also ≡ v.also → w.also_opening ≡ v.also_opening → w.mine ≡ v.mine → w.ended ≡ v.ended
       → IsRecorded o log x owner vs me v → IsRecorded o log x owner (set vs me w) me w

@@ -250,7 +250,7 @@ module _ {M X C R : Type 0} (view_of : M → X) (goes : X → C → R → X → 
       let below = (tickets.away_below s r.turns (r.turns.taker (serving_word s)) a.0 a.2 a.3).0 in absurd (omega arith))
       r.turns.home
 
-  -- at the end a mark is that of the last number
+  -- at the end a mark implies that the last number was reached
   pub mark_at_end : (me : ℕ) (v : V) (ws : List ℕ) (xs : List (Option H)) → Final (Seen Rule me v) ws xs → v.found_last ≡ true → get_or ws 0 0 + 1 ≡ 2 ^ 64
   mark_at_end me v ws xs last mark = ap (λ l. get_or l 0 0 + 1) (sym last.2) ∙ (last.1.0.turns.each me v last.1.1).full mark
 

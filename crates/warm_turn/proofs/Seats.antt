@@ -67,7 +67,7 @@ module _ {M X C R : Type 0} (view_of : M → X) (goes : X → C → R → X → 
   second_or d [] = d
   second_or d (x ∷ xs) = x.1
 
-  -- what comes out of the slot is what the seat has
+  -- the value taken from the slot is what the seat has
   pub taken_out : (me : S) (h : H) (out : Option H) → me.1 ≡ (0, Some h) ∷ [] → me.1 ≡ (0, out) ∷ rest me.1 → out ≡ Some h
   taken_out me h out p q = ap (second_or out) (sym q ∙ p)
 

@@ -25,7 +25,7 @@ module _ {X C R : Type 0} where
     full = λ h. off h unmarked;
   }
 
-  -- what the words say of a seat rests on its ticket and its marks alone
+  -- what the words say of a seat depends only on its ticket and its marks
   pub same_queued : (t n : ℕ) (taker : ℕ → ℕ) (j : ℕ) (v w : View X C R) → v.owns ≡ w.owns → v.waits ≡ w.waits → v.serves ≡ w.serves → v.found_last ≡ w.found_last → v.ticket ≡ w.ticket
       → IsQueued t n taker j v → IsQueued t n taker j w
   same_queued t n taker j v w owns waits serves found ticket q = record {
@@ -204,7 +204,8 @@ module _ {M X C R : Type 0} where
             (at_end s.views w u j e);
       }
 
-  -- a seat that has not the machine is spent, and another changes no more than what it has learned
+  -- a seat that does not have the machine is used up, and another seat changes only what it has
+  -- learned
   pub merges : (s : State (Option (Held M C R)) (View X C R)) (r : InTurn s) (me other : ℕ) (v u w : View X C R) → get_elem? s.views me ≡ some v → get_elem? (set s.views me w) other ≡ some u → u.serves ≡ false → (v.serves ≡ true → w.serves ≡ true)
       → IsQueued (ticket_word s) (serving_word s) r.taker me w → InTurn record { words = s.words; homes = s.homes; views = set (set s.views me w) other nobody }
   merges s r me other v u w at there rests serves mine =

@@ -34,13 +34,14 @@ module _ {X C R : Type 0} where
     pub full : v.found_last ≡ true → next + 1 ≡ 2 ^ 64
 
 module _ {M X C R : Type 0} where
-  -- the machine is at home, or out with this seat
+  -- the machine is in the slot, or taken by this seat
   abbrev pub HomeOrOut : ℕ → List (maybe.Option (Option (Held M C R))) → List (View X C R) → Type 0
   HomeOrOut seat homes views =
       ((h : Held M C R) × (get_elem? homes 0 ≡ some (some (Some h))))
       ⊎ ((v : View X C R) × (get_elem? homes 0 ≡ some maybe.none) × (get_elem? views seat ≡ some v) × (v.serves ≡ true))
 
-  -- tickets are served in the order in which they were taken, and the machine is out only with the holder of the served ticket
+  -- tickets are served in the order in which they were taken, and only the holder of the served
+  -- ticket can have taken the machine
   pub record InTurn (s : State (Option (Held M C R)) (View X C R)) : Type 0 where
     pub taker : ℕ → ℕ
     pub two : length s.words ≡ 2
@@ -50,14 +51,15 @@ module _ {M X C R : Type 0} where
     pub home : HomeOrOut (taker (serving_word s)) s.homes s.views
     pub each : (j : ℕ) (v : View X C R) → get_elem? s.views j ≡ some v → IsQueued (ticket_word s) (serving_word s) taker j v
 
--- The second pass: entries, old lists, numbers and own calls
+-- The second pass: entries, known prefixes, numbers and own calls
 
 module _ {X C R : Type 0} where
-  -- the seat of this number is spent
+  -- the seat of this number is used up
   abbrev pub IsGone : List (View X C R) → ℕ → Type 0
   IsGone views n = (u : View X C R) × (get_elem? views n ≡ some u) × (u.sees ≡ false) × (u.owns ≡ false)
 
-  -- what the history says of the seat j with the view v, where `owner` is the pass that each ended pass was ended into
+  -- what the history says of the seat j with the view v, where `owner` gives the pass into which
+  -- each ended pass was ended
   pub record IsRecorded (opening : X) (log : List (Entry C R)) (state : X) (owner : ℕ → ℕ) (views : List (View X C R)) (j : ℕ) (v : View X C R) : Type 0 where
     pub sight : v.sees ≡ true → (v.opening ≡ Some opening) × IsPrefix v.seen log × IsPrefix v.also log × (v.also_opening ≡ Some opening)
     pub unused : v.sees ≡ true → v.owns ≡ false → calls_by j log ≡ []
@@ -66,7 +68,8 @@ module _ {X C R : Type 0} where
     pub apart : v.owns ≡ true → NoRepeat v.ended
     pub serving : v.serves ≡ true → (v.seen ≡ log) × (v.state ≡ Some state)
 
--- there is one legal history, of as many calls as tickets were served, in which the calls of each pass stand once. A machine at home is in the state that it reaches
+-- there is one legal history, with one call for each served ticket, which contains the calls of
+-- each pass once. A machine in the slot is in the state that this history reaches
 pub record OneHistory {M X C R : Type 0} (view_of : M → X) (goes : X → C → R → X → Type 0) (opening : X) (served : ℕ) (homes : List (maybe.Option (Option (Held M C R)))) (views : List (View X C R)) : Type 0 where
   pub log : List (Entry C R)
   pub state : X
@@ -86,7 +89,8 @@ pub record Kept {M X C R : Type 0} (view_of : M → X) (goes : X → C → R →
 abbrev pub MarkShows : {X C R : Type 0} → View X C R → Busy → Type 0
 MarkShows v found = v.found_last ≡ true → found.ticket + 1 ≡ 2 ^ 64
 
--- What the words of a refused close are: those of a state that the rule allows, in which a seat has this view
+-- The words of a refused close: those of a state that the rule allows, in which a seat has this
+-- view
 pub record AreWords {M X C R : Type 0} (view_of : M → X) (goes : X → C → R → X → Type 0) (opening : X) (v : View X C R) (found : Busy) : Type 0 where
   pub state : State (Option (Held M C R)) (View X C R)
   pub kept : Kept view_of goes opening state

@@ -29,11 +29,11 @@ module _ {X C R : Type 0} where
   after_call v e = record v { waits = false; serves = false; ticket = 0; state = None; seen = v.seen ++ e ∷ []; mine = v.mine ++ e ∷ [] }
 
 module _ {M X C R : Type 0} where
-  -- the seat took this ticket, which it can only where it had not found the last number
+  -- the seat took this ticket, which is possible only where it had not found the last number
   abbrev pub HasTicket : Sat M X C R → ℕ → Sat M X C R → Type 0
   HasTicket m k m' = (m.0.found_last ≡ false) × (m' ≡ (waiting m.0 k, m.1))
 
-  -- the entry of this call was added to the history, and the machine is at home
+  -- the entry of this call was added to the history, and the machine is in the slot
   abbrev pub HasPassedOn : (X → C → R → X → Type 0) → Sat M X C R → C → R → Sat M X C R → Type 0
   HasPassedOn goes m c r m' = (m' ≡ (after_call m.0 (entry m.0.number c r), [])) × IsPass goes m'.0
 
@@ -50,18 +50,19 @@ module _ {M X C R : Type 0} where
       (found ≢ m.0.ticket → m' ≡ m)
       × (found ≡ m.0.ticket → (log : List (Entry C R)) × (h : Held M C R) × (m' ≡ (server m.0 log (view_of h.machine), (0, Some h) ∷ m.1)) × IsPrefix m.0.seen log)
 
-  -- the call that the slot names was added to the history, and the machine is at home
+  -- the call that the slot names was added to the history, and the machine is in the slot
   abbrev pub passed : (X → C → R → X → Type 0) → At M C R → Sat M X C R → ℕ → Sat M X C R → Type 0
   passed goes st m found m' =
       (h : Held M C R) (d : Made C R) → m.1 ≡ (0, Some h) ∷ [] → h.made ≡ Some d
       → HasPassedOn goes m d.call.value d.reply.value m'
 
-  -- the seat has seen the history so far, in which what it knew stands, and the state that it learned is that with which the turn opened
+  -- the seat has seen the history so far, which contains what it knew, and the state that it
+  -- learned is the turn's opening state
   abbrev pub caught_up : (X → C → R → X → Type 0) → At M C R → Sat M X C R → ℕ → Sat M X C R → Type 0
   caught_up goes st m found m' =
       (log : List (Entry C R)) × (m' ≡ (settled m.0 log, m.1)) × IsPrefix m.0.seen log × IsPrefix m.0.also log × IsPass goes (settled m.0 log) × (m.0.opening ≡ m.0.also_opening)
 
-  -- a new seat knows with which state the turn opened, as the first pass did
+  -- a new seat knows the turn's opening state, as the first pass did
   abbrev pub came : At M C R → Sat M X C R → ℕ → Sat M X C R → Type 0
   came st m found m' = m' ≡ (note_of m.0, [])
 
@@ -73,13 +74,13 @@ module _ {M X C R : Type 0} where
   abbrev pub HasMachine : (M → X) → View X C R → Sat M X C R → Type 0
   HasMachine view_of v m' = (log : List (Entry C R)) × (h : Held M C R) × (m' ≡ (server v log (view_of h.machine), (0, Some h) ∷ [])) × IsPrefix v.seen log
 
-  -- the machine answered this call, and the slot says so
+  -- the machine answered this call, and the slot records it
   abbrev pub Served : (M → X) → (X → C → R → X → Type 0) → Sat M X C R → C → R → Sat M X C R → Type 0
   Served view_of goes m c r m' =
       (h : Held M C R) → m.1 ≡ (0, Some h) ∷ []
       → (k : Held M C R) × (d : Made C R) × (m' ≡ (m.0, (0, Some k) ∷ [])) × (k.made ≡ Some d) × (d.call.value ≡ c) × (d.reply.value ≡ r) × goes (view_of h.machine) c r (view_of k.machine)
 
-  -- the slot says which call the machine answered, and the history may be gone on with it
+  -- the slot records which call the machine answered, and the history may be extended with it
   abbrev pub IsMade : (M → X) → (X → C → R → X → Type 0) → Sat M X C R → C → R → Type 0
   IsMade view_of goes m c r =
       (h : Held M C R) × (d : Made C R) × (x : X) × (m.1 ≡ (0, Some h) ∷ []) × (m.0.serves ≡ true) × (m.0.also ≡ []) × (m.0.state ≡ Some x) × (h.made ≡ Some d)

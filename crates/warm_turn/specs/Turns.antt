@@ -1,4 +1,4 @@
--- Histories, and what clauses see of a turn, a pass and a note.
+-- Histories, and what contracts see of a turn, a pass and a note.
 use Rattle.std.specs.Prelude.{◌≡◌, ◌≢◌, ℕ, List, [], ◌∷◌, ◌++◌, true, false, Option, Some, None, if◌then◌else◌, ◌==◌}
 use mathlib.Core.Option.{some}
 use mathlib.Core.List.{IsPrefix}
@@ -17,7 +17,7 @@ module _ {C R : Type 0} where
   calls_by n [] = []
   calls_by n (e ∷ es) = if e.by == n then e ∷ calls_by n es else calls_by n es
 
-  -- no number stands twice
+  -- no number occurs twice
   abbrev pub NoRepeat : List (Ended C R) → Type 0
   NoRepeat es = (a b : ℕ) (e f : Ended C R) → get_elem? es a ≡ some e → get_elem? es b ≡ some f → e.number ≡ f.number → a ≡ b
 
@@ -35,7 +35,7 @@ module _ {X C R : Type 0} where
   abbrev pub IsStep : (X → C → R → X → Type 0) → C → R → Type 0
   IsStep goes c r = (x : X) × (y : X) × goes x c r y
 
-  -- a spent seat, which knows nothing
+  -- a used-up seat, which knows nothing
   abbrev pub nobody : View X C R
   nobody = record {
     sees = false;
@@ -54,7 +54,7 @@ module _ {X C R : Type 0} where
     ended = [];
   }
 
-  -- the pass that a turn begins with: it has seen nothing, and made no call
+  -- the first pass of a turn: it has seen nothing, and made no call
   abbrev pub first_pass : X → View X C R
   first_pass o = record nobody { sees = true; owns = true; opening = Some o; also_opening = Some o }
 
@@ -70,7 +70,7 @@ module _ {X C R : Type 0} where
   abbrev pub marked : View X C R → View X C R
   marked v = record v { found_last = true }
 
-  -- the pass learned of the list that the other has seen, and with which state the turn opened
+  -- the pass learned the list that the other has seen, and the turn's opening state
   abbrev pub learned : View X C R → View X C R → View X C R
   learned v w = record v { also = w.seen; also_opening = w.opening }
 
@@ -78,7 +78,8 @@ module _ {X C R : Type 0} where
   abbrev pub as_ended : View X C R → Ended C R
   as_ended w = record { number = w.number; calls = w.mine }
 
-  -- the pass learned of the list that the other has seen, and holds its number and calls, and those that it held
+  -- the pass learned the list that the other has seen, and holds the other's number and calls, and
+  -- those that the other held
   abbrev pub joined : View X C R → View X C R → View X C R
   joined v w = record v { also = w.seen; also_opening = w.opening; ended = v.ended ++ as_ended w ∷ w.ended }
 
@@ -86,7 +87,8 @@ module _ {X C R : Type 0} where
   abbrev pub settled : View X C R → List (Entry C R) → View X C R
   settled v log = record v { seen = log; also = []; also_opening = v.opening }
 
-  -- What a pass knows between two calls: its list is legal, and the entries of each number that it holds are just that pass's calls, each once, in their order. The numbers differ
+  -- What a pass knows between two calls: its list is legal, and the entries of each number that it
+  -- holds are exactly that pass's calls, each once, in their order. The numbers differ
   pub record IsPass (goes : X → C → R → X → Type 0) (v : View X C R) : Type 0 where
     pub alive : (v.sees ≡ true) × (v.owns ≡ true)
     pub idle : (v.waits ≡ false) × (v.serves ≡ false) × (v.also ≡ [])
@@ -99,7 +101,8 @@ module _ {X C R : Type 0} where
   abbrev pub IsNote : View X C R → Type 0
   IsNote v = (v.sees ≡ true) × (v.owns ≡ false) × (v.serves ≡ false)
 
-  -- What an answered call says: the list begins with the list that the pass had and ends with the call, which is one more of its own. The pass had no mark, and nothing else of it changed
+  -- What an answered call says: the list begins with the list that the pass had and ends with the
+  -- call, which is added to its own calls. The pass had no mark, and nothing else of it changed
   pub record Called (goes : X → C → R → X → Type 0) (v : View X C R) (c : C) (r : R) (w : View X C R) : Type 0 where
     pub between : List (Entry C R)
     pub seen : w.seen ≡ (v.seen ++ between) ++ entry v.number c r ∷ []
@@ -120,7 +123,8 @@ module _ {X C R : Type 0} where
   Joined goes v u w =
       (log : List (Entry C R)) × (w ≡ settled (joined v u) log) × IsPrefix v.seen log × IsPrefix u.seen log × IsPass goes w × (v.opening ≡ u.opening)
 
-  -- the pass has seen more, and these calls are more of its own. Else it is as before, but that it may have a mark, which then stays
+  -- the pass has seen more, and these calls were added to its own. Otherwise it is unchanged,
+  -- except that it may have a mark, which then stays
   pub record Extended (v : View X C R) (more : List (Entry C R)) (w : View X C R) : Type 0 where
     pub seen : IsPrefix v.seen w.seen
     pub mine : w.mine ≡ v.mine ++ more
@@ -129,7 +133,7 @@ module _ {X C R : Type 0} where
     pub opening : w.opening ≡ v.opening
     pub mark : v.found_last ≡ true → w.found_last ≡ true
 
-  -- the pass has seen more, and holds these passes besides. Else it is as before
+  -- the pass has seen more, and holds these passes in addition. Otherwise it is unchanged
   pub record Widened (v : View X C R) (more : List (Ended C R)) (w : View X C R) : Type 0 where
     pub seen : IsPrefix v.seen w.seen
     pub mine : w.mine ≡ v.mine
@@ -138,7 +142,9 @@ module _ {X C R : Type 0} where
     pub opening : w.opening ≡ v.opening
     pub mark : w.found_last ≡ v.found_last
 
--- What a closed turn gives: the machine is in a state that a history which is legal from the opening state reaches. The history begins with the list of the pass, and has no further entry of any number that the pass holds
+-- The result of closing a turn: the machine is in a state that some history, legal from the opening
+-- state, reaches. The history begins with the list of the pass, and has no further entry of any
+-- number that the pass holds
 pub record IsLast {X C R : Type 0} (goes : X → C → R → X → Type 0) (opening : X) (v : View X C R) (x : X) : Type 0 where
   pub history : List (Entry C R)
   pub begins : IsPrefix v.seen history
@@ -148,7 +154,7 @@ pub record IsLast {X C R : Type 0} (goes : X → C → R → X → Type 0) (open
   pub opens : v.opening ≡ Some opening
   pub legal : IsPass goes v
 
--- what clauses see of a turn: which table it is, and the state that it opened with
+-- what contracts see of a turn: its table, and its opening state
 pub record Shape (X : Type 0) : Type 0 where
   pub table : TableId
   pub opening : X
@@ -156,7 +162,7 @@ pub record Shape (X : Type 0) : Type 0 where
 abbrev pub turn_at : {X : Type 0} → TableId → X → Shape X
 turn_at table opening = record { table = table; opening = opening }
 
--- what clauses see of a pass or a note: whose table it is at, and what it knows
+-- what contracts see of a pass or a note: its table, and what it knows
 pub record Sight (X C R : Type 0) : Type 0 where
   pub table : TableId
   pub view : View X C R

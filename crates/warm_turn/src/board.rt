@@ -11,17 +11,17 @@ use std::collections::LinkedList;
 use std::marker::Model;
 use std::snapshot::Snapshot;
 
-/// One entry of a history. No value of it is made.
+/// One entry of a history. It exists only in contracts.
 pub struct Entry<C, R> {
     /// The number of the pass that called.
     pub by: u64,
-    /// What it asked.
+    /// The call.
     pub call: C,
-    /// What the machine answered.
+    /// The reply of the machine.
     pub reply: R,
 }
 
-/// What is kept of a pass that was ended. No value of it is made.
+/// What is kept of an ended pass. It exists only in contracts.
 pub struct Ended<C, R> {
     /// Its number.
     pub number: u64,
@@ -29,15 +29,15 @@ pub struct Ended<C, R> {
     pub calls: LinkedList<Entry<C, R>>,
 }
 
-/// What a seat at the table knows. No value of it is made.
+/// What a seat at the table knows. It exists only in contracts.
 pub struct View<X, C, R> {
-    /// False for a seat that was spent.
+    /// False for a used-up seat.
     pub sees: bool,
     /// True for a pass, and false for a note.
     pub owns: bool,
-    /// A ticket was taken and is not passed on yet.
+    /// A ticket was taken and the turn is not passed on yet.
     pub waits: bool,
-    /// The machine is out with this seat.
+    /// This seat has taken the machine out of the slot.
     pub serves: bool,
     /// The last number, `u64::MAX`, was found in the ticket word.
     pub found_last: bool,
@@ -45,15 +45,15 @@ pub struct View<X, C, R> {
     pub number: u64,
     /// The ticket, where one was taken.
     pub ticket: u64,
-    /// The state that the turn opened with.
+    /// The turn's opening state.
     pub opening: Option<X>,
-    /// The state of the machine that is out with this seat.
+    /// The state of the machine that this seat has taken.
     pub state: Option<X>,
-    /// A beginning of the history, as it was seen.
+    /// A prefix of the history, as this seat has seen it.
     pub seen: LinkedList<Entry<C, R>>,
-    /// A beginning that was learned, and is not looked up yet.
+    /// A prefix that was learned from another seat, and is not looked up yet.
     pub also: LinkedList<Entry<C, R>>,
-    /// The state that the turn opened with, as it was learned.
+    /// The turn's opening state, as it was learned.
     pub also_opening: Option<X>,
     /// The pass's own calls, in their order.
     pub mine: LinkedList<Entry<C, R>>,
@@ -61,17 +61,17 @@ pub struct View<X, C, R> {
     pub ended: LinkedList<Ended<C, R>>,
 }
 
-/// A call and its reply, as clauses see them. It has no bytes.
+/// A call and its reply, as contracts see them. It has no bytes.
 #[derive(Drop)]
 pub struct Made<C, R> {
-    /// What was asked.
+    /// The call.
     pub call: Snapshot<C>,
-    /// What was answered.
+    /// The reply.
     pub reply: Snapshot<R>,
 }
 
-/// A machine in memory of its own: each turn takes it out of the slot and puts it back, and so
-/// moves a pointer. Contracts see the machine.
+/// A machine in a heap box: each turn takes it out of the slot and puts it back, which moves only a
+/// pointer. Contracts see the machine.
 #[derive(Drop)]
 pub struct BoxedMachine<M> {
     machine: Box<M>,
@@ -95,7 +95,7 @@ impl<M> BoxedMachine<M> {
         }
     }
 
-    // The machine. Takes no memory, and gives back that of the box.
+    // The machine. Allocation-free; the box is freed.
     pub(crate) fn into_machine(self) -> M
         ensures { result ≡ self }
     {
@@ -112,12 +112,12 @@ impl<M: Machine> BoxedMachine<M> {
     }
 }
 
-/// What lies in the slot.
+/// The contents of the slot.
 #[derive(Drop)]
 pub struct Held<M, C, R> {
     /// The machine.
     pub machine: BoxedMachine<M>,
-    /// The last call that it answered.
+    /// The last call that it answered, with the reply.
     pub made: Option<Made<C, R>>,
 }
 
@@ -138,7 +138,7 @@ impl<M: Machine> TableRule<
     ghost first = { λ key. first_pass (M.view key.value) };
 }
 
-/// What the slot of a turn over `M` has.
+/// The slot of a turn over `M`.
 pub type Slot<M> = Option<Held<M, <M as Machine>::Call, <M as Machine>::Reply>>;
 
 /// What a seat of a turn over `M` knows.
@@ -147,7 +147,7 @@ pub type ViewOf<M> = View<<M as Machine>::State, <M as Machine>::Call, <M as Mac
 /// A seat at the table of a turn over `M`.
 pub type Place<M> = Seat<Slot<M>, ViewOf<M>>;
 
-/// What all threads reach of the table of a turn over `M`.
+/// The part of the table of a turn over `M` that all threads share.
 pub type Top<M> = Shared<Slot<M>, ViewOf<M>, Snapshot<M>, Turns>;
 
 /// The table of a turn over `M`.

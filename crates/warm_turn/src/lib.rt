@@ -1,26 +1,27 @@
-//! A machine that threads share by tickets, so that every call has its place in one history.
+//! A machine that threads share by tickets; its calls form one history.
 //!
 //! A [`Machine`] answers calls one after the other. A [`Turn`] lets any number of threads call one
-//! machine: each call takes the next ticket, waits until it is served, has the machine alone, and
-//! passes the turn on. It takes a ticket when that is served at once, or when it has looked often
-//! enough for such a moment. A thread calls with a [`Pass`] of its own, in which contracts see what it
-//! knows: a list of calls and replies that some run of the machine has from the opening state, in
-//! which the pass's own calls stand once each, in their order, with the replies that were given.
+//! machine: each call takes the next ticket, waits until it is served, has exclusive use of the
+//! machine, and passes the turn on. A call takes a ticket when the ticket will be served at once,
+//! or after it has polled for such a moment a bounded number of times. A thread calls with a
+//! [`Pass`] of its own, in which contracts see what it knows: a list of calls and replies that some
+//! run of the machine has from the opening state, which contains the pass's own calls once each, in
+//! their order, with the replies that were given.
 //!
 //! - [`Turn::new`] gives the turn and its first pass, and [`Turn::pass`] splits a pass off another.
 //! - [`Turn::call`] makes a call. Its list begins with all that the pass had seen and ends with it.
 //! - By [`Turn::note`] and [`Turn::learn`] one pass learns what another has seen, and [`Turn::end`] ends
 //!   a pass into another. Both lists begin the new one.
-//! - [`Turn::opening_note`] is for code that was given a turn and a pass: a pass that learns it is
-//!   seen to have opened with the turn's state.
+//! - [`Turn::opening_note`] is for code that was given a turn and a pass: contracts then know that
+//!   the pass that learns it has the turn's opening state.
 //! - [`Turn::close`] gives the machine back, in a state that such a history reaches.
 //!
 //! It is a ticket lock (D. P. Reed and R. K. Kanodia, "Synchronization with Eventcounts and
 //! Sequencers", CACM 1979; J. M. Mellor-Crummey and M. L. Scott, "Algorithms for Scalable
-//! Synchronization on Shared-Memory Multiprocessors", ACM TOCS 1991), proved for any machine. What
-//! is promised is linearizability as one legal history (M. P. Herlihy and J. M. Wing, ACM TOPLAS
-//! 1990) without the order in time between callers that never met. Nothing is said of progress,
-//! fairness or how long a call waits, and an entry is no proof that its caller still runs.
+//! Synchronization on Shared-Memory Multiprocessors", ACM TOCS 1991), proved for any machine. The
+//! promise is linearizability as one legal history (M. P. Herlihy and J. M. Wing, ACM TOPLAS 1990)
+//! without the real-time order between callers that did not communicate. Progress, fairness and
+//! waiting times are not specified, and an entry does not prove that its caller still runs.
 //!
 //! Passes, notes and turns may cross threads where the machine may: for a function that is generic
 //! in `M: Machine + Send` the lemmas are in `proofs/Sent.antt`. Lemmas on what calls, notes and

@@ -42,7 +42,7 @@ impl<M: Machine> Play<Option<Held<M, M::Call, M::Reply>>, View<M::State, M::Call
     ghost then = { caught_up M.goes };
 }
 
-// Sits down at the table, and sees nothing but with which state the turn opened.
+// Takes a seat at the table, and learns only the turn's opening state.
 pub(crate) struct Come;
 
 impl<M, X, C, R> Play<Option<Held<M, C, R>>, View<X, C, R>> for Come {
@@ -51,7 +51,7 @@ impl<M, X, C, R> Play<Option<Held<M, C, R>>, View<X, C, R>> for Come {
     ghost then = { came };
 }
 
-// Looks at the table, and makes a note a pass with a number of its own.
+// Looks at the table, and turns a note into a pass with a number of its own.
 pub(crate) struct Become;
 
 impl<M: Machine> Play<Option<Held<M, M::Call, M::Reply>>, View<M::State, M::Call, M::Reply>>

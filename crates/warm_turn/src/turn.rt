@@ -21,10 +21,10 @@ use std::time::Duration;
 
 /// A machine that threads share: they call it through a `&`, each with a [`Pass`] of its own.
 ///
-/// Contracts see which table it is (`table`), and the state that it opened with (`opening`). A pass
-/// or a note belongs to the turn whose table it has, and each call asks for that.
+/// Contracts see its table (`table`), and its opening state (`opening`). A pass or a note belongs
+/// to the turn whose table it has; each call requires that.
 ///
-/// A turn that is dropped drops the machine that is at home in it. [`Turn::close`] gives it back.
+/// A turn that is dropped drops the machine in its slot. [`Turn::close`] gives it back.
 #[derive(Drop)]
 pub struct Turn<M: Machine> {
     table: Board<M>,
@@ -45,15 +45,15 @@ impl<M: Machine> Model for Turn<M> {
 /// The right of one caller to call, of no bytes. It belongs to the turn that made it (`table`), and
 /// may go to another thread.
 ///
-/// Contracts see what it knows (`view`): the list `seen`, a beginning of the turn's history that is
+/// Contracts see what it knows (`view`): the list `seen`, a prefix of the turn's history that is
 /// legal from the `opening` state; its `number`; its own calls, `mine`; and the numbers and calls
 /// of the passes that were ended into it, `ended`. The entries that `seen` has of each of these
-/// numbers are just that pass's calls, each once, in their order, and no number stands twice.
+/// numbers are exactly that pass's calls, each once, in their order, and no number occurs twice.
 ///
 /// Its mark, `found_last`, says that it was refused with [`TurnsSpent`]. It stays, and a pass that
 /// has it is never answered again. It may still learn, be ended and close the turn.
 ///
-/// A pass that is dropped leaves its calls in the history, and its number to nobody.
+/// A pass that is dropped leaves its calls in the history, and its number is not used again.
 #[derive(Drop)]
 pub struct Pass<M: Machine> {
     place: Place<M>,
@@ -71,7 +71,7 @@ impl<M: Machine> Model for Pass<M> {
 }
 
 /// What a pass had seen, for another pass of the same turn to learn, of no bytes. It has no number
-/// and no calls, cannot call, and may go to another thread. To drop it loses nothing.
+/// and no calls, cannot call, and may go to another thread. Dropping it loses nothing.
 #[derive(Drop)]
 pub struct Note<M: Machine> {
     place: Place<M>,
@@ -88,23 +88,25 @@ impl<M: Machine> Model for Note<M> {
     ghost invariant = { λ p. (p.place.me.1 ≡ []) × IsNote p.place.me.0 };
 }
 
-// How often a caller that waits looks before it sleeps between two looks. It spins in between, twice as long each time, 255 hints to the
-// processor in all, which is less than a change of threads takes: a look takes the words' cache line from whoever is served, so one that
-// comes often would slow down short calls.
+// How often a waiting caller polls before it sleeps between polls. It spins in between, twice as
+// long each time, 255 spin hints in all, which is less than a context switch takes: a poll takes
+// the words' cache line from the caller that is served, so frequent polls would slow down short
+// calls.
 const SPINS: u32 = 8;
 
-// How often a caller sleeps before it takes a ticket that is not served at once, so that it is not passed over for long: with naps of
-// 50 to 800 microseconds after 6.8 ms.
+// How often a caller sleeps before it takes a ticket that is not served at once, so that it does
+// not starve: with naps of 50 to 800 microseconds, after 6.8 ms.
 const NAPS: u32 = 16;
 
-// How often a caller without a ticket looks. Then it takes one all the same.
+// How often a caller without a ticket polls. Then it takes one anyway.
 const LOOKS: u32 = SPINS + NAPS;
 
-// How long a caller sleeps between two looks at first, in microseconds, where the serving word stays as it was.
+// The first sleep of a caller between two polls, in microseconds, where the serving word has not
+// changed.
 const NAP: u64 = 50;
 
-// How long a caller without a ticket sleeps after this many looks, in microseconds: a little longer each time, so that many
-// who wait at once do not wake too often.
+// The sleep of a caller without a ticket after this many polls, in microseconds: a little longer
+// each time, so that many waiting callers do not wake too often.
 fn longer_nap(looks: u32) -> u64 {
     let naps = looks.saturating_sub(SPINS);
     if naps < NAPS {
@@ -114,8 +116,8 @@ fn longer_nap(looks: u32) -> u64 {
     }
 }
 
-// Waits a little between two looks, of which this many were made, and sleeps no longer than this. The last one found that this
-// ticket is served.
+// Waits between two polls; `looks` polls were made, and `nap` bounds the sleep. The last poll found
+// that the ticket `served` is served.
 fn pause<M: Machine, R: Wait>(rt: &R, top: &Top<M>, served: u64, looks: u32, nap: u64)
     requires { IsBoard top.now.table_id }
 {
@@ -129,18 +131,18 @@ fn pause<M: Machine, R: Wait>(rt: &R, top: &Top<M>, served: u64, looks: u32, nap
     }
 }
 
-// A ticket to try for where this one was seen to be the next. The last number is none.
+// The ticket to try for, where this one was seen to be the next. The last number is not a ticket.
 fn tried_for(next: u64) -> u64
     ensures { result + 1 < 2 ^ 64 }
 {
     if next == u64::MAX { 0 } else { next }
 }
 
-// Takes a ticket, or finds that the last number stands in the ticket word.
+// Takes a ticket, or finds the last number in the ticket word.
 //
-// It waits before it takes one, rather than with one: whoever has a ticket and is not running holds up all that have
-// later ones, and whoever has none holds up nobody. After many looks it takes one all the same, so that it is not
-// passed over for ever.
+// It waits before it takes a ticket rather than after: a descheduled caller with a ticket delays
+// all callers with later ones, and a caller without a ticket delays nobody. After many polls it
+// takes one anyway, so that it does not starve.
 fn take_ticket<M: Machine, R: Wait>(rt: &R, top: &Top<M>, place: &mut Place<M>) -> Option<u64>
     requires table { (place.old.table_id ≡ top.now.table_id) × IsBoard top.now.table_id }
     requires idle { IsPass M.goes place.old.me.0 }
@@ -169,8 +171,9 @@ fn take_ticket<M: Machine, R: Wait>(rt: &R, top: &Top<M>, place: &mut Place<M>) 
     unreachable!()
 }
 
-// Waits until the ticket is served. Then the seat has the machine. Whoever is next sleeps as the others do, and does not yield: on busy
-// processors a yield gives a whole slice of time away, for which all behind it would wait too.
+// Waits until the ticket is served. Then the seat has the machine. The next caller sleeps as the
+// others do, and does not yield: on busy processors a yield gives up a whole time slice, for which
+// all callers behind it would wait too.
 fn wait_turn<M: Machine, R: Wait>(rt: &R, top: &Top<M>, place: &mut Place<M>, ticket: u64)
     requires table { (place.old.table_id ≡ top.now.table_id) × IsBoard top.now.table_id }
     requires waits { (place.old.me.1 ≡ []) × (place.old.me.0.waits ≡ true)
@@ -213,7 +216,7 @@ fn serve<M: Machine>(top: &Top<M>, place: &mut Place<M>, call: M::Call) -> M::Re
     reply
 }
 
-// Adds the call to the history, and puts the machine home for the next ticket.
+// Adds the call to the history, and puts the machine back into the slot for the next ticket.
 fn pass_on<M: Machine>(top: &Top<M>, place: &mut Place<M>)
     requires table { (place.old.table_id ≡ top.now.table_id) × IsBoard top.now.table_id }
     requires made { (c : M.Call) × (r : M.Reply) × IsMade M.view M.goes place.old.me c r }
@@ -249,7 +252,7 @@ fn make_call<M: Machine, R: Wait>(
     Ok(reply)
 }
 
-// The machine in what came out of the slot.
+// The machine in the contents of the slot.
 fn machine_of<M: Machine>(slot: Option<Held<M, M::Call, M::Reply>>) -> M
     requires { (h : Held M M.Call M.Reply) × (slot ≡ Some h) }
     ensures { (h : Held M M.Call M.Reply) → slot ≡ Some h → result ≡ h.machine }
@@ -259,8 +262,9 @@ fn machine_of<M: Machine>(slot: Option<Held<M, M::Call, M::Reply>>) -> M
     machine.into_machine()
 }
 
-// What a closed turn gives, by the two words of its table and what lay in the slot: the machine where each ticket that was taken
-// was served, and else these words. A machine that is at home is then dropped.
+// The result of closing a turn, from the two words of its table and the contents of the slot: the
+// machine where each taken ticket was served, and otherwise these words. A machine in the slot is
+// then dropped.
 fn opened<M: Machine + Drop>(ticket: u64, serving: u64, slot: Slot<M>) -> Result<M, Busy>
     requires home { ticket ≡ serving → (h : Held M M.Call M.Reply) × (slot ≡ Some h) }
     ensures machine { IfOk result (λ m. (h : Held M M.Call M.Reply)
@@ -277,19 +281,21 @@ fn opened<M: Machine + Drop>(ticket: u64, serving: u64, slot: Slot<M>) -> Result
 
 impl<M: Machine> Pass<M> {
     /// A theorem, for a caller that needs it later: the pass's list is legal from the opening
-    /// state, and has of each number that the pass holds just that pass's calls. Nothing is done.
+    /// state, and has, of each number that the pass holds, exactly that pass's calls. It does
+    /// nothing at run time.
     pub fn is_legal(&self)
         ensures { IsPass M.goes self.now.view }
     {
-        // It names the field, since only then the checker knows the invariant of the type. It reads nothing.
+        // It names the field, since only then does the checker know the invariant of the type. It
+        // reads nothing.
         let _ = &self.place;
     }
 }
 
 impl<M: Machine> Turn<M> {
     /// A turn over the machine, and its first pass, which has seen nothing and made no call. The
-    /// turn opens with the machine's state. `Memory`, which comes only where an allocation
-    /// failed, gives the machine back unchanged.
+    /// turn opens with the machine's state. `Memory`, which occurs only where an allocation failed,
+    /// gives the machine back unchanged.
     pub fn new(alloc: Global, machine: M) -> Result<(Turn<M>, Pass<M>), Memory<M>>
         ensures table { IfOk result (λ t. t.1.table ≡ t.0.table) }
         ensures opening { IfOk result (λ t. t.0.opening ≡ M.view machine) }
@@ -325,7 +331,7 @@ impl<M: Machine> Turn<M> {
     }
 
     /// A new pass, which has seen what this one has. It has a number of its own, of which that list
-    /// has no entry, and no calls, and no pass was ended into it. This pass stays as it was.
+    /// has no entry, and no calls, and no pass was ended into it. This pass is unchanged.
     pub fn pass(&self, pass: &mut Pass<M>) -> Pass<M>
         requires { pass.old.table ≡ self.now.table }
         ensures same { pass.new ≡ pass.old }
@@ -339,7 +345,7 @@ impl<M: Machine> Turn<M> {
         Pass { place }
     }
 
-    /// What the pass has seen, for another to learn. The pass stays as it was.
+    /// What the pass has seen, for another to learn. The pass is unchanged.
     pub fn note(&self, pass: &mut Pass<M>) -> Note<M>
         requires { pass.old.table ≡ self.now.table }
         ensures same { pass.new ≡ pass.old }
@@ -350,8 +356,8 @@ impl<M: Machine> Turn<M> {
         Note { place }
     }
 
-    /// A note that has seen nothing, and opened with the turn's state. It is for code that was
-    /// given a turn and a pass: a pass that learns this note is seen to have opened with that
+    /// A note that has seen nothing, with the turn's opening state. It is for code that was given a
+    /// turn and a pass: contracts then know that a pass that learns this note has that opening
     /// state.
     pub fn opening_note(&self) -> Note<M>
         ensures table { result.table ≡ self.now.table }
@@ -361,9 +367,9 @@ impl<M: Machine> Turn<M> {
         Note { place }
     }
 
-    /// Learns what the note says. From now on the pass's list begins with what it had seen and with
-    /// what the note says, and may have further entries of other passes. Both opened with the same
-    /// state. Its own calls, those that it holds and its mark stay.
+    /// Learns what the note has seen. Afterwards both the pass's earlier list and the note's list
+    /// are prefixes of the pass's list, which may have further entries of other passes. Both have
+    /// the same opening state. Its own calls, those that it holds and its mark stay.
     pub fn learn(&self, pass: &mut Pass<M>, note: Note<M>)
         requires { (pass.old.table ≡ self.now.table) × (note.table ≡ self.now.table) }
         ensures table { pass.new.table ≡ self.now.table }
@@ -376,8 +382,8 @@ impl<M: Machine> Turn<M> {
 
     /// Ends the other pass into this one. This pass's list then begins with what both had seen, and
     /// it holds the other's number and calls, and those that the other held. All these numbers
-    /// differ. Both opened with the same state. Its own calls and its mark stay, and the other's
-    /// mark goes.
+    /// differ. Both have the same opening state. Its own calls and its mark stay, and the other's
+    /// mark is dropped.
     pub fn end(&self, pass: &mut Pass<M>, other: Pass<M>)
         requires { (pass.old.table ≡ self.now.table) × (other.table ≡ self.now.table) }
         ensures table { pass.new.table ≡ self.now.table }
@@ -388,17 +394,17 @@ impl<M: Machine> Turn<M> {
         self.table.shared.load::<CatchUp>(&mut pass.place, 0);
     }
 
-    /// Takes the next ticket, waits until it is served, calls the machine and passes the turn on. Most
-    /// of its waiting it does before it takes the ticket: then it holds up nobody.
+    /// Takes the next ticket, waits until it is served, calls the machine and passes the turn on.
+    /// It does most of its waiting before it takes the ticket, when it delays nobody.
     ///
     /// The reply is the machine's at this point of the history: the pass's list begins with the
-    /// list that it had and ends with the call and its reply, which is one more of its own calls. A
+    /// list that it had and ends with the call and its reply, which is added to its own calls. A
     /// pass that is answered had no mark, and has none.
     ///
-    /// `TurnsSpent`, which comes only where this pass found `u64::MAX` in the ticket word, gives
-    /// the call back, adds no entry and leaves the pass as it was, but for the mark. Nothing says
-    /// how long a call waits: it may be forever, as where an earlier call of the machine never
-    /// returns.
+    /// `TurnsSpent`, which occurs only where this pass found `u64::MAX` in the ticket word, gives
+    /// the call back, adds no entry and leaves the pass unchanged except for the mark. The waiting
+    /// time is not specified: a call may wait forever, for example where an earlier call of the
+    /// machine never returns.
     pub fn call<R: Wait>(
         &self,
         rt: &R,
@@ -417,12 +423,12 @@ impl<M: Machine> Turn<M> {
 
     /// Gives the machine back. Its state is one that a legal history reaches from the opening
     /// state. That history begins with the pass's list, and has no further entry of any number that
-    /// the pass holds: the calls of the passes that were ended into it are all there.
+    /// the pass holds: it contains all calls of the passes that were ended into it.
     ///
-    /// `Busy` comes only where fewer tickets were served than were taken. Its words are those of a
-    /// state that the rule of the turn allows, in which a pass knows what this one does: as many
-    /// calls are in the history as tickets were served. The turn and the pass are used up, and a
-    /// machine that is at home is dropped.
+    /// `Busy` occurs only where fewer tickets were served than were taken. Its words are those of a
+    /// state that the rule of the turn allows, in which a pass knows what this one does: the
+    /// history has one call for each served ticket. The turn and the pass are consumed, and a
+    /// machine in the slot is dropped.
     pub fn close(self, pass: Pass<M>) -> Result<M, Busy>
     where
         M: Drop,

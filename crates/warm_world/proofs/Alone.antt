@@ -43,7 +43,7 @@ replies_alone old new (WarmStep i) (Loaded (Some p)) step = step.1.0
 replies_alone old new event (Refused (Node why)) step = refused_alone old new (call_of event) why step
 replies_alone old new event answer step = absurd step
 
--- a call of the history is refused for memory alone
+-- a call of the history is refused only because of an allocation failure
 pub send_refused : (old new : NodeView) (bucket : ℕ) (after : Option PageId) (why : NodeFault) → Refuses old (call.Send bucket after) why new → why ≡ Memory
 send_refused old new bucket after Memory r = refl
 send_refused old new bucket after why r = absurd r

@@ -1,4 +1,4 @@
--- A message comes to a replica.
+-- A replica receives a message.
 use Rattle.std.proofs.Common.{◌≡◌, ℕ, ◌+◌, ◌-◌, List, [], Some, None, length, get_or, set, refl, sym, ◌∙◌, ap, subst, arith}
 use Rattle.std.specs.Prelude.{◌==◌, if◌then◌else◌}
 use Rattle.std.proofs.lemmas.List.{length-append, length-map, set-set}
@@ -112,7 +112,7 @@ module _ {A : Type 0} (f : A → ReplicaView) (xs : List A) (messages : List (Li
       let kept : Takes messages answers (Took count first) messages' = subst (λ a. Takes messages answers a messages') took takes in
       rw (set-set xs (place j) y z, took) (delivered m j k count first x z message answers n messages' st named is spelled answered refl shows kept.0 kept.1 kept.2)
 
-  -- there is no memory for the answers, and nothing has changed
+  -- the allocation of the answers failed, and nothing has changed
   pub unkept : (m : ModelState) (j k : ℕ) (x y : A) (messages' : List (List ℕ)) (answers : List Message) (answer : Answer)
       → StandsFor (world f xs messages xs) m → IsNamed (view_shape (world f xs messages xs)) (Deliver j k) → x ≡ get_or xs (place j) x → f y ≡ f x
       → ((count first : ℕ) → answer ≡ Took count first → ⊥) → Takes messages answers answer messages'

@@ -51,7 +51,7 @@ module _ {A : Type 0} (g : A → NodeState) (xs : List A) (k : ℕ) (y : A) wher
   settled_if (Ok done) lt before here = subst (AreSettledBefore (k + 1)) (sym (map-set g xs k y)) (settled_next lt before here)
   settled_if (Err why) lt before here = tt
 
--- nodes at other places are as they were
+-- nodes at other places are unchanged
 pub others_same : {A : Type 0} (g : A → NodeState) (xs : List A) (k : ℕ) (y : A) (j : ℕ) (other : NodeState) → j ≢ k → get_or (map g (set xs k y)) j other ≡ get_or (map g xs) j other
 others_same g xs k y j other apart = ap (λ nodes. get_or nodes j other) (map-set g xs k y) ∙ get_or-set_other (map g xs) k j (g y) other apart
 

@@ -1,4 +1,4 @@
--- Worked rows: what events do to the lists of references, computed.
+-- Worked examples: the effect of events on the lists of references, computed.
 use Rattle.std.proofs.Common.{◌≡◌, ℕ, [], ◌∷◌, List, Option, None, refl}
 use Rattle.warm_stamps.specs.declared.Reference.{Reference}
 use Rattle.warm_history.specs.declared.hist.Entry.{Entry}
@@ -57,7 +57,7 @@ second_hears : history (heard (one_worker (at 15 2 ∷ at 30 2 ∷ []) []).reach
 unfolding history
 second_hears = refl
 
--- after a restart a replica hears again what it had sent
+-- after a restart a replica receives again what it had sent
 hears_again : history (heard (restarted no_pool (one_worker (at 10 1 ∷ []) (at 20 1 ∷ []))).reach (References 2 (these (at 10 1 ∷ [])))) ≡ holding ((let e : Entry = record { page = record { dev = 0; no = 1 }; hist = Once (at 10 1).stamp } in e) ∷ [])
 unfolding history
 hears_again = refl
@@ -120,7 +120,7 @@ request_raises : history (heard (these (at 10 1 ∷ [])) (Request 2 50 2)) ≡ s
 unfolding history
 request_raises = refl
 
--- ---- events of a pool: each row of an effect and of a refusal, as the node's step
+-- ---- events of a pool: each case of an effect and of a refusal, as the node's step
 
 module _ (old new : ModelState) (i : ℕ) where
   pin_row : (page : PageId) (slot : Slot) → Effect old (Pin i page) (Pinned slot) new ≡ Asked old i (call.Pin page) (reply.Pinned slot) new

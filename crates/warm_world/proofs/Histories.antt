@@ -28,7 +28,7 @@ use Rattle.warm_world.specs.Stands.{message_kept}
 own_history : (S : ReferenceSet) → history (refs (history S)) ≡ history S
 own_history S = same_hists (refs (history S)) S (horizon-history S) (hist_refs-history S)
 
--- of what a history holds is carried what is carried of the references for which it stands
+-- what is carried of a history is what is carried of the references for which it stands
 carried_alike : (S : ReferenceSet) (bucket : ℕ) (after : Option PageId) (limit : ℕ) → entries_of (history (carried (refs (history S)) bucket after limit)) ≡ entries_of (history (carried S bucket after limit))
 carried_alike S bucket after limit = sym (history-carried (refs (history S)) bucket after limit) ∙ rw (own_history S) (history-carried S bucket after limit)
 
@@ -69,7 +69,7 @@ buckets_kept i S (b ∷ bs) =
 pub wanted_kept : (i : ℕ) (S : ReferenceSet) (request : ℕ) → requested_messages i (history S) request ≡ map message_kept (requested_records i S request)
 wanted_kept i S request = buckets_kept i S (buckets_in request)
 
--- what a replica's history is once a record's message came
+-- the history of a replica after it received a record's message
 pub taught_heard : (S : ReferenceSet) (kept : MessageRecord) → taught (history S) (message_kept kept) ≡ history (heard S kept)
 taught_heard S (References sender rs) = entries_teach sender S rs
 taught_heard S (Digests sender horizon digests) = history_first S (record { horizon = horizon; told = [] })

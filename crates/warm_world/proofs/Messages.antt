@@ -1,4 +1,4 @@
--- Messages that are kept, and the records that they spell.
+-- Stored messages, and the records that they spell.
 use Rattle.std.proofs.Common.{◌≡◌, ℕ, ◌+◌, ◌<◌, ◌++◌, List, [], ◌∷◌, length, map, take, get_or, Result, Ok, Err, inl, inr, refl, sym, ◌∙◌, ap, subst, arith}
 use Rattle.std.proofs.lemmas.List.{get_or-map, length-append, map-append, take_more, length-map}
 use Rattle.std.specs.Global.{Vec}
@@ -52,7 +52,7 @@ decoded_is w m k vs v bytes result message st are number is same finds found =
       | inr refused ↦ let never : Ok message ≡ Err FrameMemory = sym found ∙ refused.0 in absurd (cc)
     ]
 
--- the message of a record is kept after the others, or refused
+-- the message of a record is stored after the others, or refused
 pub kept_one : (w w' : WorldView) (m : ModelState) (event : Event) (message : Message) (answer : Answer) (kept : MessageRecord) → StandsFor w m → message ≡ message_kept kept → Keeps w message answer w'
     → ((k : ℕ) (new : ModelState) → k ≡ length new.records → new ≡ add_records m (kept ∷ []) → Next m event (FrameNo k) new)
     → Next m event (Refused (Node Memory)) m → Stepped m event answer w'

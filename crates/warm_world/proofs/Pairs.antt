@@ -48,7 +48,7 @@ Pairwise-map {A} {B} R f g (x ∷ xs) (y ∷ ys) same all =
 pub Pairwise-nil : {A B : Type 0} (R : ℕ → A → B → Type 0) → Pairwise R [] []
 Pairwise-nil R = record { same_length = refl; each = λ i a b lt. absurd (omega (arith, lt)) }
 
--- one list related after another, where the relation does not speak of the place
+-- one list related after another, where the relation does not depend on the place
 pub Pairwise-append : {A B : Type 0} (R : A → B → Type 0) (xs ys' : List A) (ys zs : List B) → Pairwise (λ _ a b. R a b) xs ys → Pairwise (λ _ a b. R a b) ys' zs → Pairwise (λ _ a b. R a b) (xs ++ ys') (ys ++ zs)
 Pairwise-append R xs ys' ys zs first second = record {
   same_length = omega (arith, length-append xs ys', length-append ys zs, first.same_length, second.same_length);

@@ -50,7 +50,7 @@ took_one b b' x result done is full = elim (cases_lt (length b.refs) b.capacity)
   | inr many ↦ let never : is_ok result ≡ false = ap is_ok (full many).0 in let ok : is_ok result ≡ true = ap is_ok is in absurd (cc)
 ]
 
--- and one that gave a reference back was full, and is as it was
+-- and one that gave a reference back was full, and is unchanged
 pub gave_back : (b b' : Buffered) (x y : Reference) (result : Result Unit Full) → result ≡ Err (record { 0 = y })
     → (length b.refs < b.capacity → IsOk result × (b' ≡ with_last b x)) → (b.capacity ≤ length b.refs → (result ≡ Err (record { 0 = x })) × (b' ≡ b))
     → (b.capacity ≤ length b.refs) × (b' ≡ b) × (y ≡ x)
@@ -86,7 +86,7 @@ pub empty_buffers_are : (capacity n : ℕ) → map (buffered capacity) (replicat
 empty_buffers_are capacity zero = refl
 empty_buffers_are capacity (suc n) = ap (λ bs. buffered capacity [] ∷ bs) (empty_buffers_are capacity n)
 
--- ---- what a replica stands for once it has changed
+-- ---- what a replica stands for after it has changed
 
 -- what waits in a buffer reaches the replica
 pub flushes : (capacity place k : ℕ) (old new : ReplicaView) (m : ReplicaState) (batch : List Reference) → ReplicaStands capacity place old m

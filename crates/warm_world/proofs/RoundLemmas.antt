@@ -1,4 +1,4 @@
--- Deliveries of a world are messages that a node hears.
+-- Deliveries of a world are messages that a node receives.
 use Rattle.std.proofs.Common.{◌≡◌, ◌≢◌, ◌⊎◌, inl, inr, ℕ, ◌+◌, ◌-◌, List, [], ◌∷◌, ◌++◌, length, map, refl, sym, ap, subst, ◌∙◌, append_assoc, arith}
 use Rattle.std.specs.Prelude.{◌==◌, slice_index_or}
 use Rattle.std.specs.List.{AllByRecursion}
@@ -88,7 +88,8 @@ is_heard old j k kept new d is =
 
 -- ---- deliveries one after the other
 
--- the replica j has heard these records, its answers were kept, and nothing else reached a replica
+-- the replica j has received these records, its answers were stored, and nothing else reached a
+-- replica
 record HeardAll (j : ℕ) (heard_ones : List MessageRecord) (old new : ModelState) : Type 0 where
   added : List MessageRecord
   records : new.records ≡ old.records ++ added
@@ -131,7 +132,7 @@ hears_run j (f ∷ fs) before after old new (answer ∷ answers) is run taken =
       others = λ i other. rest.others i other ∙ one.others i other;
     }
 
--- what was kept between two states comes to the replica j
+-- the replica j receives what was stored between two states
 hears_new : (j : ℕ) (fs : List MessageRecord) (before after new : ModelState) → after.records ≡ before.records ++ fs → NoneRefused after (new_messages_to j before after) new → HeardAll j fs after new
 hears_new j fs before after new is come =
     let many : length after.records - length before.records ≡ length fs = omega (arith, ap length is, length-append before.records fs) in
@@ -156,14 +157,14 @@ none_mapped : (rs : List MessageRecord) → map message_kept rs ≡ [] → rs �
 none_mapped [] is = refl
 none_mapped (r ∷ rs) is = absurd (cc)
 
--- who hears nothing answers nothing, and knows what it knew
+-- a replica that receives nothing answers nothing, and its history is unchanged
 hears_nothing : (j : ℕ) (fs : List MessageRecord) (old new : ModelState) → fs ≡ [] → (all : HeardAll j fs old new) → (all.added ≡ []) × (known_to new j ≡ known_to old j)
 hears_nothing j fs old new none all =
     let hears : Hears j (known_to old j) [] (map message_kept all.added) (known_to new j) =
     subst (λ (rs : List MessageRecord). Hears j (known_to old j) (map message_kept rs) (map message_kept all.added) (known_to new j)) none all.hears in
     (none_mapped all.added hears.0, hears.1)
 
--- what the second replica knows once the offer came
+-- the history of the second replica after it received the offer
 abbrev pub raised_by : ℕ → ℕ → ModelState → HistoryView
 raised_by i j m = history (since (reach_of m i).horizon (reach_of m j))
 
@@ -204,13 +205,13 @@ round_joins i j old new fits others round = elim (cases_eq (place i) (place j)) 
     no_more : first.added ≡ [] → round.asked.records ≡ round.offered.records
     no_more none = first.records ∙ ap (λ (rs : List MessageRecord). round.offered.records ++ rs) none ∙ append-nil round.offered.records
 
-    -- what j hears of the offer
+    -- what j receives of the offer
     offer_heard : Hears j g (offer i h ∷ []) (map message_kept first.added) (known_to round.asked j)
     offer_heard =
         subst (λ (k : HistoryView). Hears j k (offer i h ∷ []) (map message_kept first.added) (known_to round.asked j)) (knew j)
         (subst (λ (f : Message). Hears j (known_to round.offered j) (f ∷ []) (map message_kept first.added) (known_to round.asked j)) (sym (offered_kept i (reach_of old i))) first.hears)
 
-    -- what j answers to the digests of h, and that these taught it their horizon alone
+    -- the answer of j to the digests of h, and that these brought it only their horizon
     answered : IsAnswer j g (offer i h) (map message_kept first.added)
     answered =
         let whole : offer_heard.0 ≡ map message_kept first.added = sym (offer_heard.4 ∙ ap (λ (fs : List Message). offer_heard.0 ++ fs) offer_heard.3.0 ∙ append-nil offer_heard.0) in
@@ -237,7 +238,7 @@ round_joins i j old new fits others round = elim (cases_eq (place i) (place j)) 
           back = subst (λ (k : HistoryView). Hears j k (map message_kept second.added) (map message_kept third.added) (known_to new j)) kept third.hears;
         }
 
-    -- a replica that gossips with itself hears of nothing
+    -- a replica that gossips with itself receives nothing
     own : place i ≡ place j → AreJoined round
     own same =
         let one : (m : ModelState) → known_to m i ≡ known_to m j = λ m. ap (λ (k : ℕ). history (replica m k).reach) same in

@@ -1,4 +1,4 @@
--- A run goes on by one event.
+-- A run is extended by one event.
 use Rattle.std.proofs.Common.{List, [], ◌∷◌, ◌++◌, refl, subst}
 use Rattle.warm_world.specs.Views.{WorldView}
 use Rattle.warm_world.specs.declared.event.Event.{Event}

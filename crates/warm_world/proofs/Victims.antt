@@ -1,4 +1,4 @@
--- The page that leaves is one of greatest backward 2-distance.
+-- The evicted page is one of greatest backward 2-distance.
 use Rattle.std.proofs.Common.{◌≡◌, ◌≢◌, ◌⊎◌, ℕ, ◌<◌, length, Option, Some, None, refl, ◌∙◌, ap, subst, inl, inr}
 use Rattle.std.proofs.lemmas.List.{get_or-set_same}
 use Rattle.warm_stamps.specs.declared.PageId.{PageId}

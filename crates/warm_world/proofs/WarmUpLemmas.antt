@@ -69,13 +69,13 @@ warm_up_loads i old new differ unfixed steps p warm_page =
     node_warm_ups.warm_up_loads (reach_of old i) (node_of old i) (node_of new i) refl (differ i) unfixed
     (steps_run i (length (pool_of old i).frames) old new steps.answers steps.run steps.taken) p warm_page
 
--- ---- what a world that is one shows
+-- ---- what the invariant of worlds gives
 
 -- a pool without frames
 bare_differs : PagesDiffer no_pool
 bare_differs i j p first second = absurd (let never : None ≡ Some p = first in cc)
 
--- what a reader beyond the last node or replica is given
+-- what a reader beyond the last node or replica gets
 no_node : NodeState
 no_node = opened 0 (opened_pool 0 0 [])
 

@@ -82,7 +82,7 @@ all_mapped : {A B : Type 0} (P : A → Type 0) (Q : B → Type 0) (f : A → B) 
 all_mapped P Q f [] each all = tt
 all_mapped P Q f (x ∷ xs) each all = (each x all.0, all_mapped P Q f xs each all.1)
 
--- the stamps of a page's history, if it has one, are stamps that there are
+-- the stamps of a page's history, if it has one, are valid
 abbrev FitsIfAny : Option PageHist → Type 0
 FitsIfAny None = Unit {0}
 FitsIfAny (Some h) = IsHist h

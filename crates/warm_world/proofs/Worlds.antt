@@ -36,7 +36,7 @@ same_shape w m st =
 pub named_too : (w : WorldView) (m : ModelState) (event : Event) → StandsFor w m → IsNamed (view_shape w) event → IsNamed (shape m) event
 named_too w m event st named = let P : Shape → Type 0 = λ s. IsNamed s event in subst P (same_shape w m st) named
 
--- what is named is not there: the event is refused, and nothing changes
+-- what is named does not exist: the event is refused, and nothing changes
 pub missing_too : (w : WorldView) (m : ModelState) (event : Event) (fault : WorldFault) → StandsFor w m → IsMissing (view_shape w) event fault → Stepped m event (Refused fault) w
 missing_too w m event (Node why) st missing = absurd missing
 missing_too w m event NoSuchReplica st missing = let P : Shape → Type 0 = λ s. IsMissing s event NoSuchReplica in record { new = m; next = (subst P (same_shape w m st) missing, refl); stands = st }
@@ -119,11 +119,11 @@ module _ {A : Type 0} (f : A → ReplicaView) (xs : List A) (messages : List (Li
         stands = replica_changes m k y r st lt (becomes (stands_at m k x st lt is));
       }
 
-  -- an event that leaves the replica as it was
+  -- an event that leaves the replica unchanged
   pub replica_stays : (m : ModelState) (event : Event) (x y : A) → StandsFor (world xs) m → IsNamed (view_shape (world xs)) event → x ≡ get_or xs (place (replica_of event)) x → f y ≡ f x → StandsFor (world (set xs (place (replica_of event)) y)) m
   replica_stays m event x y st named is same = rw (world_stays (place (replica_of event)) x y (place_in event named) is same) st
 
-  -- an event for which an allocation failed, and that leaves the replica as it was
+  -- an event for which an allocation failed, and that leaves the replica unchanged
   pub no_memory : (m : ModelState) (event : Event) (x y : A) (why : NodeFault) → StandsFor (world xs) m → IsNamed (view_shape (world xs)) event → x ≡ get_or xs (place (replica_of event)) x → f y ≡ f x → why ≡ Memory
       → (IsNamed (shape m) event → ReplicaStands m.capacity (place (replica_of event)) (f x) (replica m (place (replica_of event))) → Next m event (Refused (Node Memory)) m)
       → Stepped m event (Refused (Node why)) (world (set xs (place (replica_of event)) y))
@@ -132,7 +132,8 @@ module _ {A : Type 0} (f : A → ReplicaView) (xs : List A) (messages : List (Li
       no_memory_still (world (set xs k y)) m event why (replica_stays m event x y st named is same) fault
       (next (named_too (world xs) m event st named) (stands_at m k x st (place_in event named) is))
 
-  -- The node answers the call so, and nothing but its pool is changed; the buffers are as they were.
+  -- The node gives this reply to the call, and nothing but its pool is changed; the buffers are
+  -- unchanged.
   pub asked : (m : ModelState) (event : Event) (call : Call) (reply : Reply) (answer : Answer) (x y : A)
       → StandsFor (world xs) m → IsNamed (view_shape (world xs)) event → x ≡ get_or xs (place (replica_of event)) x
       → (f y).buffers ≡ (f x).buffers → IsAlone (f x).node (f y).node → Step (f x).node call reply (f y).node

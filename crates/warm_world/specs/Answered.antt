@@ -1,4 +1,4 @@
--- What a replica answers to a message, as the references that the answered messages bring.
+-- The answer of a replica to a message, as the references that the answering messages bring.
 use Rattle.std.specs.Prelude.{◌≡◌, ◌^◌, ℕ, ◌<◌, ◌==◌, List, [], ◌∷◌, ◌++◌, Option, None, if◌then◌else◌}
 use Rattle.std.specs.List.{flat_map}
 use Rattle.warm_stamps.specs.declared.PageId.{PageId}
@@ -17,12 +17,12 @@ records_of i S bucket after [] = []
 records_of i S bucket after (piece ∷ others) =
     References i (carried S bucket after MAX_ENTRIES) ∷ records_of i S bucket (last_page piece) others
 
--- what a replica that S reached sends of a bucket, in messages that are as full as can be
+-- what a replica that S reached sends of a bucket, in messages that are all full but the last
 abbrev pub bucket_records : ℕ → ReferenceSet → ℕ → List MessageRecord
 bucket_records i S bucket =
     records_of i S bucket None (pieces MAX_ENTRIES (bucket_entries bucket (entries_of (history S))))
 
--- the same of the buckets whose bit is set, one after the other
+-- the same, for the buckets whose bit is set, one after the other
 abbrev pub requested_records : ℕ → ReferenceSet → ℕ → List MessageRecord
 requested_records i S request = flat_map (bucket_records i S) (buckets_in request)
 
@@ -32,12 +32,13 @@ refs_of (References sender refs) = refs
 refs_of (Digests sender horizon digests) = record { horizon = horizon; told = [] }
 refs_of (Request sender horizon request) = record { horizon = horizon; told = [] }
 
--- what has reached a replica once a message came: its horizon is then the greater one
+-- what has reached a replica after it received a message: its horizon is then the greater one
 abbrev pub heard : ReferenceSet → MessageRecord → ReferenceSet
 heard S kept = S ∪ refs_of kept
 
--- What replica i answers to a message, where S has reached it once the message came: nothing to references; to a request its
--- references of these buckets; to digests those of the buckets whose digests differ, and then a request for these.
+-- The answer of replica i to a message, where S has reached it after it received the message:
+-- nothing to references; to a request its references of these buckets; to digests those of the
+-- buckets whose digests differ, and then a request for these.
 abbrev pub AreAnswers : ℕ → ReferenceSet → MessageRecord → List MessageRecord → Type 0
 AreAnswers i S (References sender refs) added = added ≡ []
 AreAnswers i S (Request sender horizon request) added = added ≡ requested_records i S request

@@ -1,4 +1,4 @@
--- The number and the name of each refusal: of an event, and of a world that is to be made.
+-- The number and the name of each refusal: of an event, and of the making of a world.
 use Rattle.std.specs.Prelude.{ℕ, List, codes}
 use Rattle.warm_gossip.specs.Faults as node_faults
 use Rattle.warm_world.specs.declared.event.WorldFault.{WorldFault}

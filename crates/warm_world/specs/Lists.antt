@@ -6,11 +6,11 @@ pub record IsNumber (number count : ℕ) : Type 0 where
   pub from_one : 0 < number
   pub in_range : number ≤ count
 
--- where the item of a number stands
+-- the index of the item of a number
 abbrev pub place : ℕ → ℕ
 place number = number - 1
 
--- as many items, related place by place; the relation may speak of the place
+-- two lists of one length, related place by place; the relation may depend on the place
 pub record Pairwise {A B : Type 0} (R : ℕ → A → B → Type 0) (xs : List A) (ys : List B) : Type 0 where
   pub same_length : length xs ≡ length ys
   pub each : (i : ℕ) (a : A) (b : B) → i < length xs → R i (slice_index_or xs i a) (slice_index_or ys i b)

@@ -1,4 +1,4 @@
--- What an event does to the lists of references and to the pools, and how it is answered.
+-- The effect of an event on the lists of references and on the pools, and its answer.
 use Rattle.std.specs.Prelude.{◌≡◌, ℕ, ◌+◌, ◌==◌, ◌≤◌, List, [], ◌∷◌, length, Option, Some, None, MatchOption, map, if◌then◌else◌, slice_index_or}
 use Rattle.warm_stamps.specs.declared.PageId.{PageId}
 use Rattle.warm_stamps.specs.declared.Reference.{Reference}
@@ -55,7 +55,7 @@ abbrev pub message_of : Event → Option ℕ
 message_of (Deliver j k) = Some k
 message_of _ = None
 
--- how many workers each replica has, and how many messages were sent
+-- the number of workers of each replica, and the number of messages sent
 pub record Shape : Type 0 where
   pub workers : List ℕ
   pub messages : ℕ
@@ -63,7 +63,7 @@ pub record Shape : Type 0 where
 abbrev pub shape : ModelState → Shape
 shape m = record { workers = map (λ r. length r.pending) m.replicas; messages = length m.records }
 
--- the replica, worker or message that an event names is there
+-- the replica, worker or message that an event names exists
 abbrev pub HasReplica : Shape → Event → Type 0
 HasReplica s event = IsNumber (replica_of event) (length s.workers)
 
@@ -73,20 +73,21 @@ IsWorker s event w = IsNumber w (slice_index_or s.workers (place (replica_of eve
 abbrev pub IsMessage : Shape → ℕ → Type 0
 IsMessage s k = IsNumber k s.messages
 
--- all that an event names is there
+-- everything that an event names exists
 pub record IsNamed (s : Shape) (event : Event) : Type 0 where
   pub replica_there : HasReplica s event
   pub worker_there : MatchOption (worker_of event) (Unit {0}) (IsWorker s event)
   pub message_there : MatchOption (message_of event) (Unit {0}) (IsMessage s)
 
--- what the fault names is not there; the replica is looked for first
+-- what the fault names does not exist; the replica is checked first
 abbrev pub IsMissing : Shape → Event → WorldFault → Type 0
 IsMissing s event NoSuchReplica = ¬ HasReplica s event
 IsMissing s event NoSuchWorker = HasReplica s event × MatchOption (worker_of event) ⊥ (λ w. ¬ IsWorker s event w)
 IsMissing s event NoSuchFrame = HasReplica s event × MatchOption (message_of event) ⊥ (λ k. ¬ IsMessage s k)
 IsMissing s event (Node why) = ⊥
 
--- the node of the replica i answers the call so, and of the world nothing but that replica's pool may have changed
+-- the node of the replica i gives this reply to the call, and of the world nothing but that
+-- replica's pool may have changed
 abbrev pub Asked : ModelState → ℕ → Call → Reply → ModelState → Type 0
 Asked old i call reply new =
     (pool : PoolView) × Step (node_of old i) call reply (record (node_of old i) { pool = pool }) × (new ≡ set_pool old i pool)
@@ -113,12 +114,13 @@ reply_of (Loaded page) = Some (reply.Loaded page)
 reply_of (Refused (Node why)) = Some (reply.Refused why)
 reply_of answer = None
 
--- there is a call and a reply, and the node of the replica i answers the call so
+-- there is a call and a reply, and the node of the replica i gives this reply to the call
 abbrev pub Replied : ModelState → ℕ → Option Call → Option Reply → ModelState → Type 0
 Replied old i (Some call) (Some reply) new = Asked old i call reply new
 Replied old i call reply new = ⊥
 
--- why an event is refused though all that it names is there, and what that leaves: no memory, or what the node says to its call
+-- why an event is refused though everything that it names exists, and what has then changed: an
+-- allocation failed, or the node refuses the call
 abbrev pub Refuses : ModelState → Event → NodeFault → ModelState → Type 0
 Refuses old (Restart i) why new = Asked old i call.Restart (reply.Refused why) new
 Refuses old (Refer i w page time) Memory new = (old.capacity ≤ length (pending (replica old (place i)) (place w))) × (new ≡ old)
@@ -130,12 +132,14 @@ Refuses old (Warm i n) Memory new = new ≡ old
 Refuses old (Show i) Memory new = new ≡ old
 Refuses old event why new = Replied old (replica_of event) (call_of event) (Some (reply.Refused why)) new
 
--- when an event is refused so, and what that leaves: what is not there comes before all else
+-- when an event is refused with this fault, and what has then changed: a missing replica, worker or
+-- message comes before all other faults
 abbrev pub IsRefused : ModelState → Event → WorldFault → ModelState → Type 0
 IsRefused old event (Node why) new = IsNamed (shape old) event × Refuses old event why new
 IsRefused old event fault new = IsMissing (shape old) event fault × (new ≡ old)
 
--- a message comes to the replica j: it takes in what the message brings, and its answers to that are numbered on from the messages so far
+-- the replica j receives a message: it takes in the message's references, and its answers are
+-- numbered after the messages so far
 pub record Delivered (old : ModelState) (j : ℕ) (kept : MessageRecord) (count first : ℕ) (new : ModelState) : Type 0 where
   pub added : List MessageRecord
   pub answers : AreAnswers j (heard (reach_of old j) kept) kept added
@@ -143,12 +147,12 @@ pub record Delivered (old : ModelState) (j : ℕ) (kept : MessageRecord) (count 
   pub from : first ≡ if count == 0 then 0 else length old.records + 1
   pub becomes : new ≡ add_records (set_replica old (place j) (record (replica old (place j)) { reach = heard (reach_of old j) kept })) added
 
--- what worker w of replica i references: the page, stamped with the time and the replica
+-- the reference that a worker of replica i makes: the page, stamped with the time and the replica
 abbrev pub stamped : ℕ → PageId → ℕ → Reference
 stamped i page time = record { page = page; stamp = record { time = time; replica = i } }
 
--- What an event does where it is not refused; an event of a pool does what its call does. The warm-up list is said over all references
--- that reached the replica.
+-- The effect of an event that is not refused; an event of a pool has the effect of its call. The
+-- warm-up list is over all references that reached the replica.
 abbrev pub Effect : ModelState → Event → Answer → ModelState → Type 0
 Effect old (Refer i w page time) Done new =
     new ≡ set_replica old (place i) (referred old.capacity (place w) (stamped i page time) (replica old (place i)))
@@ -170,12 +174,12 @@ Effect old (Show i) (Shown shown) new =
     (shown ≡ history (reach_of old i)) × (new ≡ old)
 Effect old event answer new = Replied old (replica_of event) (call_of event) (reply_of answer) new
 
--- From old, the event may be answered so, and lead to new.
+-- The transition relation: from old, the event may get this answer and lead to new.
 abbrev pub Next : ModelState → Event → Answer → ModelState → Type 0
 Next old event (Refused fault) new = IsRefused old event fault new
 Next old event answer new = IsNamed (shape old) event × Effect old event answer new
 
--- From old, the events may be answered so, one after another, and lead to new.
+-- From old, the events, one after another, may get these answers and lead to new.
 abbrev pub Run : ModelState → List Event → List Answer → ModelState → Type 0
 Run old [] [] new = new ≡ old
 Run old (event ∷ events) (answer ∷ answers) new = (mid : ModelState) × Next old event answer mid × Run mid events answers new

@@ -26,11 +26,11 @@ AreSized size devices = (k : ℕ) → k < length devices → AreOfSize size (len
 abbrev pub AreFew : List (List DeviceState) → Type 0
 AreFew devices = (k : ℕ) → k < length devices → length (devices_at devices k) ≤ MAX_DEVICES
 
--- what a world of these sizes is made over: devices for each replica, all with pages of its size
+-- valid devices for a world of these sizes: a list for each replica, all with pages of its size
 abbrev pub AreFitting : Sizes → List (List DeviceState) → Type 0
 AreFitting s devices = (length devices ≡ s.replicas) × AreSized s.page_size devices
 
--- why no world is made: memory comes last
+-- why a world is not made: an allocation failure comes last
 abbrev pub NewRefused : Sizes → List (List DeviceState) → BadWorld → Type 0
 NewRefused s devices DevicesDiffer = length devices ≢ s.replicas
 NewRefused s devices SizeDiffers = (length devices ≡ s.replicas) × (AreSized s.page_size devices → ⊥)
@@ -40,7 +40,8 @@ NewRefused s devices Memory = AreFitting s devices
 abbrev pub with_pool : ReplicaView → PoolView → ReplicaView
 with_pool r pool = record r { node = record r.node { pool = pool } }
 
--- a write or a flush has failed, which may fail: of one replica's pool a count of failures has grown, and nothing else has changed
+-- a write or a flush, which may fail, has failed: of one replica's pool a count of failures has
+-- increased, and nothing else has changed
 pub record FailsOf (old : WorldView) (new : WorldView) : Type 0 where
   pub replica : ℕ
   pub there : replica < length old.replicas
@@ -51,11 +52,12 @@ pub record FailsOf (old : WorldView) (new : WorldView) : Type 0 where
 abbrev pub FinishFails : WorldView → NodeFault → WorldView → Type 0
 FinishFails old why new = (why ≡ Pool Fault) × FailsOf old new
 
--- it has for the replica at this place
+-- the same, for the replica at this place
 abbrev pub FailsAtPlace : ℕ → WorldView → WorldView → Type 0
 FailsAtPlace k old new = (fails : FailsOf old new) × (fails.replica ≡ k)
 
--- The pools are written back in the order of replicas: those before the one that fails are settled, and those after it are as they were.
+-- The pools are written back in the order of replicas: those before the one that fails are settled,
+-- and those after it are unchanged.
 pub record StopsInOrder {D : Type 0} (old new : World D) : Type 0 where
   pub fails : FailsOf (world_view old) (world_view new)
   pub before : IsSettledBefore fails.replica new

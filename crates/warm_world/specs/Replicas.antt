@@ -1,4 +1,4 @@
--- What becomes of a replica, and of the messages that are kept.
+-- The changes of a replica, and of the stored messages.
 use Rattle.std.specs.Prelude.{◌≡◌, ◌≢◌, ◌==◌, ◌+◌, ◌-◌, if◌then◌else◌, ℕ, List, [], ◌∷◌, ◌++◌, length, map, Option, Some, None, Result, Ok, Err}
 use Rattle.warm_history.specs.Histories.{holding}
 use Rattle.warm_refbuffer.specs.Buffered.{cleared}
@@ -21,46 +21,48 @@ use Rattle.warm_world.specs.declared.event.WorldFault.TheVariants.{Node}
 use Rattle.warm_world.specs.Lists.{Pairwise}
 use Rattle.warm_world.specs.Views.{ReplicaView, WorldView}
 
--- the replica has restarted, or its node has refused to
+-- the replica has restarted, or its node has refused the restart
 abbrev pub Restarts : ReplicaView → Result Unit NodeFault → ReplicaView → Type 0
 Restarts old (Ok done) new =
     (pool : PoolView) × Emptied old.node.pool pool
     × (new ≡ record { node = record old.node { history = holding []; pool = pool }; buffers = map cleared old.buffers })
 Restarts old (Err why) new = Step old.node call.Restart (reply.Refused why) new.node × (new.buffers ≡ old.buffers)
 
--- what is answered for the result of a node's call
+-- the answer for the result of a node's call
 abbrev pub answered : Result Answer NodeFault → Answer
 answered (Ok answer) = answer
 answered (Err why) = Refused (Node why)
 
--- there is a call and a reply, and a node answers the call so
+-- there is a call and a reply, and a node gives this reply to the call
 abbrev pub Replies : NodeView → Option Call → Option Reply → NodeView → Type 0
 Replies old (Some call) (Some reply) new = Step old call reply new
 Replies old call reply new = ⊥
 
--- the horizon to which digests or a request raise a replica; none for entries, which bring theirs along
+-- the horizon to which digests or a request raise a replica; none for entries, whose horizon is
+-- taken in with them
 abbrev pub raised_to : Message → Option ℕ
 raised_to (Entries sender horizon entries) = None
 raised_to (Digest sender horizon digests) = Some horizon
 raised_to (Want sender horizon request) = Some horizon
 
--- the bytes are the spelling of the message, and can be read so
+-- the bytes spell the message, and decoding them gives it
 pub record Encodes (bytes : List ℕ) (message : Message) : Type 0 where
   pub spells : Spells bytes message
   pub exact : bytes ≡ spelling message
 
--- the message is kept after the others, and its number answered; or there is no memory for it
+-- the message is stored after the others, and its number is the answer; or its allocation failed
 abbrev pub Keeps : WorldView → Message → Answer → WorldView → Type 0
 Keeps old message (FrameNo k) new =
     (bytes : List ℕ) × Encodes bytes message × (k ≡ length new.messages) × (new ≡ record old { messages = old.messages ++ bytes ∷ [] })
 Keeps old message (Refused (Node Memory)) new = new ≡ old
 Keeps old message answer new = ⊥
 
--- the messages are kept after the others
+-- the messages are stored after the others
 abbrev pub KeepsAll : List (List ℕ) → List Message → List (List ℕ) → Type 0
 KeepsAll old messages new = (added : List (List ℕ)) × Pairwise (λ _ bytes message. Encodes bytes message) added messages × (new ≡ old ++ added)
 
--- The messages that answer a delivered one are kept after the others, and counted on from these; or there is no memory for them.
+-- The messages that answer a delivered one are stored after the others, and numbered after these;
+-- or their allocation failed.
 abbrev pub Takes : List (List ℕ) → List Message → Answer → List (List ℕ) → Type 0
 Takes old messages (Took count first) new =
     KeepsAll old messages new × (count ≡ length messages) × (first ≡ if count == 0 then 0 else length new - count + 1)

@@ -1,4 +1,4 @@
--- A round of gossip in a world, and what it comes to.
+-- A round of gossip in a world, and its result.
 use Rattle.std.specs.Prelude.{◌≡◌, ◌≢◌, ◌⊎◌, ℕ, ◌+◌, ◌-◌, List, [], ◌∷◌, length, map}
 use Rattle.std.specs.List.{AllByRecursion, range_with_len}
 use Rattle.warm_history.specs.Histories.{HistoryView, entries_of, history, join}
@@ -23,15 +23,16 @@ pub record NoneRefused (old : ModelState) (events : List Event) (new : ModelStat
   pub run : Run old events answers new
   pub taken : AllByRecursion IsTaken answers
 
--- messages come to the replica j one after the other: as many as `many`, those after the first `from`
+-- the replica j receives messages one after the other: `many` of them, those after the first `from`
 abbrev pub deliveries : ℕ → ℕ → ℕ → List Event
 deliveries j from many = map (λ k. Deliver j (k + 1)) (range_with_len from many)
 
--- those kept in the second state and not yet in the first come to the replica j
+-- the replica j receives those stored in the second state and not in the first
 abbrev pub new_messages_to : ℕ → ModelState → ModelState → List Event
 new_messages_to j before after = deliveries j (length before.records) (length after.records - length before.records)
 
--- A round: i offers its digests, and they come to j; all that this answered comes to i; all that those answered comes to j.
+-- A round: i offers its digests, and j receives them; i receives all answers to them; j receives
+-- all answers to those.
 pub record GossipRound (i j : ℕ) (old new : ModelState) : Type 0 where
   pub offered : ModelState
   pub asked : ModelState
@@ -56,8 +57,9 @@ pub record AreJoined {i j : ℕ} {old new : ModelState} (round : GossipRound i j
   pub second : known_to new j ≡ joined i j old
   pub raised : round.asked.records ≢ round.offered.records → known_to new i ≡ joined i j old
 
--- After a round both histories are the join of the two before, or two different texts of one bucket have one SHA-256: one text of the
--- first replica, and one of the second at the greater horizon.
+-- After a round both histories are the join of the two before, or two different texts of one bucket
+-- have the same SHA-256 digest: one text of the first replica, and one of the second at the greater
+-- horizon.
 abbrev pub GossipRoundJoins : Type 0
 GossipRoundJoins = (i j : ℕ) (old new : ModelState) → ModelFits old → (round : GossipRound i j old new)
     → AreJoined round ⊎ IsCollision (known_to old i) (history (since (reach_of old i).horizon (reach_of old j)))

@@ -8,15 +8,15 @@ use Rattle.warm_world.specs.declared.TheConstants.{MAX_WORKERS}
 use Rattle.warm_world.specs.Limits.{IsWithin}
 
 pub record Sizes : Type 0 where
-  -- how many replicas there are
+  -- the number of replicas
   pub replicas : ℕ
-  -- how many workers each of them has
+  -- the number of workers of each of them
   pub workers : ℕ
-  -- how many references the buffer of a worker holds
+  -- the capacity of a worker's buffer, in references
   pub buffer : ℕ
-  -- how many frames the pool of a replica has
+  -- the number of frames of a replica's pool
   pub frames : ℕ
-  -- how many bytes a page has
+  -- the page size in bytes
   pub page_size : ℕ
 
 -- each number is within its limits

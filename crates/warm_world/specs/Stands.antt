@@ -23,18 +23,20 @@ use Rattle.warm_world.specs.Next.{Next, Run, Shape}
 abbrev pub buffered : ℕ → List Reference → Buffered
 buffered capacity refs = record { refs = refs; capacity = capacity }
 
--- a replica, by its place, has the history of what reached it, the pool of the model, and in its buffers what waits
+-- a replica, by its place, has the history of the references that reached it, the pool of the
+-- model, and the pending references in its buffers
 pub record ReplicaStands (capacity place : ℕ) (r : ReplicaView) (m : ReplicaState) : Type 0 where
   pub has_capacity : 0 < capacity
   pub node_is : r.node ≡ record { id = place + 1; history = history m.reach; pool = m.pool }
   pub buffers_are : r.buffers ≡ map (buffered capacity) m.pending
 
--- whatever a replica with this capacity stood for, it now stands for what the change makes of that
+-- for every model state that a replica with this capacity stood for, it now stands for the changed
+-- state
 abbrev pub Becomes : ℕ → ReplicaView → ReplicaView → (ReplicaState → ReplicaState) → Type 0
 Becomes capacity old new change =
     (place : ℕ) (m : ReplicaState) → ReplicaStands capacity place old m → ReplicaStands capacity place new (change m)
 
--- whatever a replica stands for, the buffer of the worker is full
+-- in every model state that a replica stands for, the buffer of the worker is full
 abbrev pub IsFull : ReplicaView → ℕ → Type 0
 IsFull r worker =
     (capacity place : ℕ) (m : ReplicaState) → ReplicaStands capacity place r m → capacity ≤ length (pending m worker)
@@ -46,7 +48,7 @@ message_kept (References sender refs) = Entries sender refs.horizon (entries_of 
 message_kept (Digests sender horizon digests) = Digest sender horizon digests
 message_kept (Request sender horizon request) = Want sender horizon request
 
--- the bytes of a kept message are the spelling of its record's message, and can be read so
+-- the bytes of a stored message spell its record's message, and decoding them gives it
 pub record SpellsRecord (bytes : List ℕ) (kept : MessageRecord) : Type 0 where
   pub spells : Spells bytes (message_kept kept)
   pub exact : bytes ≡ spelling (message_kept kept)
@@ -56,7 +58,7 @@ pub record StandsFor (w : WorldView) (m : ModelState) : Type 0 where
   pub replicas : Pairwise (ReplicaStands m.capacity) w.replicas m.replicas
   pub messages : Pairwise (λ _ bytes kept. SpellsRecord bytes kept) w.messages m.records
 
--- what there is to be named in a world
+-- what an event can name in a world
 abbrev pub view_shape : WorldView → Shape
 view_shape w = record {
   workers = map (λ r. length r.buffers) w.replicas;
@@ -69,7 +71,8 @@ pub record Stepped (old : ModelState) (event : Event) (answer : Answer) (w : Wor
   pub next : Next old event answer new
   pub stands : StandsFor w new
 
--- whatever the world stood for, the event leads from there, so answered, to what it now stands for
+-- for every model state that the world stood for, the event with this answer leads from it to one
+-- that the world now stands for
 abbrev pub Steps : WorldView → Event → Answer → WorldView → Type 0
 Steps old event answer new = (m : ModelState) → StandsFor old m → Stepped m event answer new
 
@@ -98,23 +101,24 @@ pub record Leaves (i : ℕ) (old new : ModelState) (page : PageId) : Type 0 wher
   pub before : IsResident (pool_of old i) page
   pub after : IsAbsent (pool_of new i) page
 
--- the event may bring a page into the replica's pool: a pin, or a step of the warm-up
+-- the event may load a page into the replica's pool: a pin, or a step of the warm-up
 abbrev pub MayLoad : ℕ → Event → Type 0
 MayLoad i (Pin j page) = j ≡ i
 MayLoad i (WarmStep j) = j ≡ i
 MayLoad i event = ⊥
 
--- of the replica's resident pages without a fix, none has a greater backward 2-distance over all references that reached it
+-- the page is an unpinned resident page of the replica, and none of these has a greater backward
+-- 2-distance over all references that reached the replica
 abbrev pub IsRightVictim : ℕ → ModelState → PageId → Type 0
 IsRightVictim i m page = IsFarthest (reach_of m i) (unfixed_pages (pool_of m i)) page
 
--- The page that Victim names, and each page that leaves for one that is pinned or warmed up, is an unfixed resident page of
--- greatest backward 2-distance.
+-- The page that Victim names, and each page that is evicted for one that is pinned or warmed up, is
+-- an unpinned resident page of greatest backward 2-distance.
 pub record VictimsAreFarthest (old : ModelState) (event : Event) (answer : Answer) (new : ModelState) : Type 0 where
   pub named : (i : ℕ) (page : PageId) → event ≡ Victim i → answer ≡ Page (Some page) → IsRightVictim i old page
   pub left : (i : ℕ) (page : PageId) → MayLoad i event → Leaves i old new page → IsRightVictim i old page
 
--- the same of each event of a run
+-- the same, for each event of a run
 abbrev pub EachVictim : (old : ModelState) (events : List Event) (answers : List Answer) (new : ModelState) → Run old events answers new → Type 0
 EachVictim old [] [] new run = Unit {0}
 EachVictim old (event ∷ events) (answer ∷ answers) new run =
@@ -122,8 +126,9 @@ EachVictim old (event ∷ events) (answer ∷ answers) new run =
 EachVictim old [] (answer ∷ answers) new run = ⊥
 EachVictim old (event ∷ events) [] new run = ⊥
 
--- The events were answered so, one after another, and led to a state that the world stands for; so each history is
--- exact, replicas that keep the same references agree, and each victim is a page of greatest backward 2-distance.
+-- The events, one after another, got these answers and led to a state that the world stands for; so
+-- each history is exact, replicas that keep the same references agree, and each victim is a page of
+-- greatest backward 2-distance.
 pub record Ran (old : ModelState) (events : List Event) (answers : List Answer) (w : WorldView) : Type 0 where
   pub new : ModelState
   pub run : Run old events answers new
@@ -132,7 +137,8 @@ pub record Ran (old : ModelState) (events : List Event) (answers : List Answer) 
   pub agree : ReplicasAgree w new
   pub victims : EachVictim old events answers new run
 
--- whatever the world stood for, the events lead from there, so answered, to what it now stands for
+-- for every model state that the world stood for, the events with these answers lead from it to one
+-- that the world now stands for
 abbrev pub Runs : WorldView → List Event → List Answer → WorldView → Type 0
 Runs old events answers new = (m : ModelState) → StandsFor old m → Ran m events answers new
 

@@ -1,4 +1,5 @@
--- Every reference that reached each replica, for good, in plain lists. Beside it what each replica's pool shows.
+-- The model: every reference that reached each replica, kept permanently in plain lists, and what a
+-- caller sees of each replica's pool.
 use Rattle.std.specs.Prelude.{ℕ, List, [], ◌∷◌, ◌++◌, length, map, nat_le, replicate, if◌then◌else◌, slice_index_or, slice_set}
 use Rattle.warm_stamps.specs.declared.Reference.{Reference}
 use Rattle.warm_history.specs.ReferenceSets.{ReferenceSet, these, since, ◌∪◌}
@@ -10,20 +11,21 @@ use Rattle.warm_gossip.specs.State.{NodeView}
 use Rattle.warm_world.specs.Lists.{place}
 use Rattle.warm_world.specs.Sizes.{Sizes}
 
--- of one replica: the references that reached it since its restart, and its horizon; for each worker those that wait in its buffer, and its pool
+-- of one replica: the references that reached it since its restart, and its horizon; for each
+-- worker the references pending in its buffer; and its pool
 pub record ReplicaState : Type 0 where
   pub reach : ReferenceSet
   pub pending : List (List Reference)
   pub pool : PoolView
 
--- what a kept message stands for: its sender and the sender's horizon, with the references that it brings, or the digests of the
--- sender's buckets, or which buckets the sender requests
+-- what a stored message stands for: its sender and the sender's horizon, with the references that
+-- it brings, or the digests of the sender's buckets, or which buckets the sender requests
 pub data MessageRecord : Type 0 where
   References : (sender : ℕ) (refs : ReferenceSet) → MessageRecord
   Digests : (sender horizon : ℕ) (digests : List (List ℕ)) → MessageRecord
   Request : (sender horizon request : ℕ) → MessageRecord
 
--- of all replicas; capacity is how many references a buffer holds
+-- the state of all replicas; capacity is that of a buffer, in references
 pub record ModelState : Type 0 where
   pub capacity : ℕ
   pub replicas : List ReplicaState
@@ -43,11 +45,11 @@ replica m k = slice_index_or m.replicas k nobody
 abbrev pub reach_of : ModelState → ℕ → ReferenceSet
 reach_of m i = (replica m (place i)).reach
 
--- what the pool of the replica of a number shows
+-- the view of the pool of the replica of a number
 abbrev pub pool_of : ModelState → ℕ → PoolView
 pool_of m i = (replica m (place i)).pool
 
--- the node of the replica of a number: its history is that of what reached it
+-- the node of the replica of a number: its history is that of the references that reached it
 abbrev pub node_of : ModelState → ℕ → NodeView
 node_of m i = record { id = i; history = history (reach_of m i); pool = pool_of m i }
 
@@ -55,7 +57,7 @@ node_of m i = record { id = i; history = history (reach_of m i); pool = pool_of 
 abbrev pub set_replica : ModelState → ℕ → ReplicaState → ModelState
 set_replica m k r = record m { replicas = slice_set m.replicas k r }
 
--- of the replica of a number the pool is changed, and nothing else
+-- only the pool of the replica of a number is changed
 abbrev pub set_pool : ModelState → ℕ → PoolView → ModelState
 set_pool m i pool = set_replica m (place i) (record (replica m (place i)) { pool = pool })
 
@@ -63,35 +65,35 @@ set_pool m i pool = set_replica m (place i) (record (replica m (place i)) { pool
 abbrev pub record_at : ModelState → ℕ → MessageRecord
 record_at m k = slice_index_or m.records k (References 0 (these []))
 
--- records are kept after the others
+-- the records with these appended
 abbrev pub add_records : ModelState → List MessageRecord → ModelState
 add_records m rs = record m { records = m.records ++ rs }
 
--- what waits in the buffer of the worker at a place
+-- the references pending in the buffer of the worker at a place
 abbrev pub pending : ReplicaState → ℕ → List Reference
 pending r k = slice_index_or r.pending k []
 
--- that buffer moves to the end of what reached the replica
+-- the replica after that buffer was flushed: its references have reached the replica
 abbrev pub flushed : ℕ → ReplicaState → ReplicaState
 flushed k r = record r { reach = r.reach ∪ these (pending r k); pending = slice_set r.pending k [] }
 
--- a reference is put last in that buffer
+-- the replica after a reference was appended to that buffer
 abbrev pub put_last : ℕ → Reference → ReplicaState → ReplicaState
 put_last k x r = record r { pending = slice_set r.pending k (pending r k ++ x ∷ []) }
 
--- the same, where a full buffer moves first
+-- the same, where a full buffer is flushed first
 abbrev pub referred : ℕ → ℕ → Reference → ReplicaState → ReplicaState
 referred capacity k x r = put_last k x (if nat_le capacity (length (pending r k)) then flushed k r else r)
 
--- its horizon rises to this time, or stays
+-- the replica with its horizon raised to this time, unless it is later already
 abbrev pub raised : ℕ → ReplicaState → ReplicaState
 raised time r = record r { reach = since time r.reach }
 
--- nothing reached it since, and nothing waits; its pool is left so
+-- the replica after a restart: no references, empty buffers, and this pool
 abbrev pub restarted : PoolView → ReplicaState → ReplicaState
 restarted pool r = record { reach = these []; pending = map (λ _. []) r.pending; pool = pool }
 
--- a replica that nothing reached
+-- a replica that no reference has reached
 abbrev pub fresh : ℕ → PoolView → ReplicaState
 fresh workers pool = record { reach = these []; pending = replicate workers []; pool = pool }
 

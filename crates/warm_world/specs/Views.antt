@@ -13,12 +13,12 @@ pub record ReplicaView : Type 0 where
   pub node : NodeView
   pub buffers : List Buffered
 
--- replicas, and the bytes of each kept message
+-- the replicas, and the bytes of each stored message
 pub record WorldView : Type 0 where
   pub replicas : List ReplicaView
   pub messages : List (List ℕ)
 
--- How it is read off a world.
+-- How it follows from a world.
 
 abbrev pub replica_view : {D : Type 0} → Replica D → ReplicaView
 replica_view r = record { node = node_view r.node; buffers = r.buffers.items }
@@ -29,18 +29,18 @@ world_view w = record {
   messages = map (λ f. f.items) w.messages.items;
 }
 
--- the devices of each list, by what is read off each
+-- the states of the devices of each list
 abbrev pub listed : {D : Type 0} → (D → DeviceState) → List (Vec D) → List (List DeviceState)
 listed state lists = map (λ ds. map state ds.items) lists
 
--- of the nodes before a place no frame is dirty, and nothing waits on a device for a flush
+-- of the nodes before a place no frame is dirty, and no device is unflushed
 abbrev pub AreSettledBefore : ℕ → List NodeState → Type 0
 AreSettledBefore k nodes = (j : ℕ) (other : NodeState) → j < k → IsSettled (slice_index_or nodes j other).pool
 
 abbrev pub IsSettledBefore : {D : Type 0} → ℕ → World D → Type 0
 IsSettledBefore k w = AreSettledBefore k (map (λ r. r.node) w.replicas.items)
 
--- the same of all nodes of the world
+-- the same, for all nodes of the world
 abbrev pub IsAtRest : {D : Type 0} → World D → Type 0
 IsAtRest w = IsSettledBefore (length w.replicas.items) w
 
@@ -48,7 +48,7 @@ IsAtRest w = IsSettledBefore (length w.replicas.items) w
 abbrev pub node_at : {D : Type 0} → World D → ℕ → NodeState → NodeState
 node_at w j other = slice_index_or (map (λ r. r.node) w.replicas.items) j other
 
--- the nodes from this place on are as they were; all nodes but that at this place are
+-- the nodes from this place on are unchanged; all nodes but that at this place are unchanged
 abbrev pub AreSameFrom : {D : Type 0} → ℕ → World D → World D → Type 0
 AreSameFrom k old new = (j : ℕ) (other : NodeState) → k ≤ j → node_at new j other ≡ node_at old j other
 

@@ -1,4 +1,4 @@
--- Warming up a replica of a world, and what it comes to.
+-- Warming up a replica of a world, and its result.
 use Rattle.std.specs.Prelude.{ℕ, ◌<◌, List, length, replicate, slice_index_or}
 use Rattle.warm_stamps.specs.declared.PageId.{PageId}
 use Rattle.warm_pool.specs.State.{IsPool}
@@ -12,11 +12,11 @@ use Rattle.warm_world.specs.Views.{WorldView}
 use Rattle.warm_world.specs.Stands.{StandsFor}
 use Rattle.warm_world.specs.Rounds.{NoneRefused}
 
--- as many steps of the warm-up of a replica as its pool has frames
+-- the warm-up of a replica: as many steps as its pool has frames
 abbrev pub warm_up : ModelState → ℕ → List Event
 warm_up m i = replicate (length (pool_of m i).frames) (WarmStep i)
 
--- each of the nodes has a pool that is one
+-- the pool of each of the nodes satisfies the invariant of pools
 abbrev pub ArePools : List NodeState → Type 0
 ArePools nodes = (k : ℕ) (other : NodeState) → k < length nodes → IsPool (slice_index_or nodes k other).pool
 
@@ -24,12 +24,12 @@ ArePools nodes = (k : ℕ) (other : NodeState) → k < length nodes → IsPool (
 abbrev pub PoolsDiffer : ModelState → Type 0
 PoolsDiffer m = (i : ℕ) → PagesDiffer (pool_of m i)
 
--- so it is in each state that the world stands for
+-- this holds in each state that the world stands for
 abbrev pub ShowsPoolsDiffer : WorldView → Type 0
 ShowsPoolsDiffer w = (m : ModelState) → StandsFor w m → PoolsDiffer m
 
--- No page of the replica is fixed: after a warm-up, none of it refused, every page of the warm-up list, cut to the frames of
--- the pool, that a device has is resident.
+-- Where no page of the replica is pinned: after a warm-up without a refusal, every page of the
+-- warm-up list, cut to the frames of the pool, that a device has is resident.
 abbrev pub WarmUpLoads : Type 0
 WarmUpLoads = (i : ℕ) (old new : ModelState) → PoolsDiffer old → IsUnfixed (pool_of old i) → NoneRefused old (warm_up old i) new
     → (p : PageId) → IsWarm (reach_of old i) (pool_of old i) p → IsResident (pool_of new i) p

@@ -16,7 +16,7 @@ use Rattle.warm_world.specs.States.{ModelState, ReplicaState, MessageRecord, rea
 use Rattle.warm_world.specs.Answered.{refs_of}
 use Rattle.warm_world.specs.Next.{Run}
 
--- a page that there is, with a stamp that there is
+-- a valid page with a valid stamp
 pub record IsReference (r : Reference) : Type 0 where
   pub page : IsPage r.page
   pub stamp : IsStamp r.stamp
@@ -30,21 +30,21 @@ EventFits (Refer i w page time) = IsPage page × (time < 2 ^ 64)
 EventFits (Horizon i time) = time < 2 ^ 64
 EventFits event = Unit {0}
 
--- a horizon is, and all references that are not older
+-- a horizon is within its width, and all references that are not older are valid
 pub record ReachFits (S : ReferenceSet) : Type 0 where
   pub horizon : S.horizon < 2 ^ 64
   pub references : AreReferences (references S)
 
--- so are all references that reached a replica, and all that wait
+-- so are all references that reached a replica, and all pending ones
 pub record ReplicaFits (r : ReplicaState) : Type 0 where
   pub reached : ReachFits r.reach
   pub waiting : AllByRecursion AreReferences r.pending
 
--- and all that a kept message brings
+-- and all that a stored message brings
 abbrev pub RecordFits : MessageRecord → Type 0
 RecordFits kept = ReachFits (refs_of kept)
 
--- and there are no more replicas than have numbers
+-- and there are at most MAX_REPLICAS replicas
 pub record ModelFits (m : ModelState) : Type 0 where
   pub few : length m.replicas ≤ MAX_REPLICAS
   pub replicas : AllByRecursion ReplicaFits m.replicas
@@ -54,11 +54,11 @@ pub record ModelFits (m : ModelState) : Type 0 where
 abbrev pub OpeningFits : Type 0
 OpeningFits = (s : Sizes) (devices : List (List DeviceState)) → length devices ≤ MAX_REPLICAS → ModelFits (opening s devices)
 
--- events whose numbers are within their widths lead to nothing else
+-- events whose numbers are within their widths keep all numbers within their widths
 abbrev pub RunsFit : Type 0
 RunsFit = (old : ModelState) (events : List Event) (answers : List Answer) (new : ModelState)
     → ModelFits old → AllByRecursion EventFits events → Run old events answers new → ModelFits new
 
--- and the entries of each history are ones that there are
+-- and the entries of each history are valid
 abbrev pub HistoriesFit : Type 0
 HistoriesFit = (m : ModelState) (i : ℕ) → ModelFits m → Fits (history (reach_of m i))

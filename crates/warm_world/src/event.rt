@@ -1,4 +1,4 @@
-//! Events, and how they are answered.
+//! Events, and their answers.
 ghost use Rattle.std.specs.Prelude.{◌≡◌};
 ghost use Rattle.warm_world.specs.Faults.{bad_code_of, bad_name_of, code_of, name_of};
 ghost use Rattle.warm_gossip.specs.declared.fault.NodeFault.TheVariants as node;
@@ -13,85 +13,86 @@ use warm_gossip::NodeFault;
 use warm_pool::Slot;
 use warm_stamps::{Bucket, ByteList, PageId, PageList};
 
-/// What happens to a world. Replicas, workers and messages are numbered from 1.
+/// An event of a world. Replicas, workers and messages are numbered from 1.
 #[derive(Debug, Drop)]
 pub enum Event {
-    /// A worker of a replica references a page at a time: replica, worker, page, time. The reference
-    /// waits in the worker's buffer, which moves to the replica's history first if it is full.
+    /// A worker of a replica references a page at a time: replica, worker, page, time. The
+    /// reference is added to the worker's buffer, which is flushed first if it is full.
     Refer(u16, u16, PageId, u64),
-    /// What waits in a worker's buffer reaches the replica's history: replica, worker.
+    /// A worker's buffer is flushed into the replica's history: replica, worker.
     Flush(u16, u16),
-    /// A replica sends its first [`warm_frames::MAX_ENTRIES`] entries of a bucket, of those on pages after
-    /// the one given, as a message: replica, bucket, page.
+    /// A replica sends its first [`warm_frames::MAX_ENTRIES`] entries of a bucket, of those on
+    /// pages after the given one, as a message: replica, bucket, page.
     Send(u16, Bucket, Option<PageId>),
     /// A replica sends the digests of all its buckets as a message.
     Offer(u16),
-    /// A kept message comes to a replica, its sender or another: replica, number of the message. The replica's
-    /// horizon becomes the message's if that is greater. Entries are joined into the replica's history, all of
-    /// them or none. Digests and a request are answered by messages, which are kept after the others, all of them or
-    /// none.
+    /// A replica, the sender or another, receives a stored message: replica, number of the message.
+    /// The replica's horizon becomes the message's if that is greater. Entries are joined into the
+    /// replica's history, all of them or none. Digests and a request are answered by messages,
+    /// which are stored after the others, all of them or none.
     Deliver(u16, u64),
-    /// A replica's page is given a fix, and put into a frame of its pool where it is in none: replica,
-    /// page. It is no reference.
+    /// A page is pinned in a replica's pool, and loaded into a frame where it isn't resident:
+    /// replica, page. It is not a reference.
     Pin(u16, PageId),
-    /// A fix is taken from a slot's page: replica, slot.
+    /// A pin is removed from a slot's page: replica, slot.
     Unpin(u16, Slot),
-    /// Bytes are written into a slot's page: replica, slot, place of the first byte, bytes.
+    /// Bytes are written into a slot's page: replica, slot, offset of the first byte, bytes.
     Put(u16, Slot, u32, ByteList),
-    /// Bytes of a slot's page are asked for: replica, slot, place of the first byte, how many.
+    /// Bytes of a slot's page are requested: replica, slot, offset of the first byte, number of
+    /// bytes.
     Get(u16, Slot, u32, u32),
-    /// The page that would leave a replica's pool next is asked for.
+    /// The page that would be evicted next from a replica's pool is requested.
     Victim(u16),
-    /// A replica's warm-up list is asked for, cut to its first pages: replica, how many pages.
+    /// A replica's warm-up list is requested, cut to its first pages: replica, number of pages.
     Warm(u16, u32),
     /// A replica loads the first page of its warm-up list, cut to the frames of its pool, that is
     /// not resident and that its devices have.
     WarmStep(u16),
-    /// A replica writes its pages back, and then forgets its history, what waits in its buffers, and which
-    /// pages were resident. Its horizon is 0 again.
+    /// A replica writes back its pages, and then forgets its history, the references in its
+    /// buffers, and which pages were resident. Its horizon is 0 again.
     Restart(u16),
     /// A replica forgets all stamps before a time, and keeps that time as its horizon: replica, time. A time
     /// that is not greater than its horizon changes nothing.
     Horizon(u16, u64),
-    /// A replica's history is asked for.
+    /// A replica's history is requested.
     Show(u16),
 }
 
-/// How an event is answered.
+/// The answer to an event.
 #[derive(Debug, Drop)]
 pub enum Answer {
-    /// Refer, Flush, Unpin, Put or Restart happened.
+    /// Refer, Flush, Unpin, Put or Restart succeeded.
     Done,
-    /// Show: a copy of the history, in memory of its own.
+    /// Show: a copy of the history.
     Shown(ShownHistory),
     /// Send and Offer: the number of the message, counted from 1 over all messages of the world.
     FrameNo(u64),
-    /// Deliver: how many messages it was answered by, and the number of the first of them; 0 and 0 where
-    /// there is none.
+    /// Deliver: the number of answering messages, and the message number of the first of them; 0
+    /// and 0 where there is none.
     Took { count: u64, first: u64 },
-    /// Pin: where the page is.
+    /// Pin: the slot of the page.
     Pinned(Slot),
     /// Get: the bytes.
     Bytes(ByteList),
-    /// Victim: the page that would leave next; none where no resident page is without a fix.
+    /// Victim: the page that would be evicted next; none where no resident page is unpinned.
     Page(Option<PageId>),
     /// Warm: the pages that leave last, the hottest first.
     Pages(PageList),
-    /// WarmStep: the page that was loaded; none where there was none to load.
+    /// WarmStep: the page that was loaded, if any.
     Loaded(Option<PageId>),
     /// Horizon: the replica's horizon afterwards.
     Kept(u64),
-    /// The event was refused, and changed nothing but counts of devices' failures.
+    /// The event was refused; nothing has changed but counts of devices' failures.
     Refused(WorldFault),
 }
 
-/// Why an event was refused. The first that applies is answered: what is not there before what the node
-/// says.
+/// Why an event was refused. The first fault that applies is returned: a missing replica, worker or
+/// message before a refusal of the node.
 #[derive(Clone, Copy, Debug, PartialEq, Eq, Error)]
 pub enum WorldFault {
-    /// 1 and 4 to 13: what the replica's node says. `Memory`, which is 1, also where a message could not be
-    /// kept or a copy of a history not made; of Refer only where the buffer is full, and of Pin, Unpin, Put, Victim,
-    /// Restart and Horizon never.
+    /// 1 and 4 to 13: the refusal of the replica's node. `Memory`, which is 1, also occurs where
+    /// the allocation of a message or of a copy of a history fails; for Refer only where the buffer
+    /// is full, and never for Pin, Unpin, Put, Victim, Restart and Horizon.
     #[error(transparent)]
     Node(NodeFault),
     /// 14: no replica has the number.
@@ -118,7 +119,7 @@ impl WorldFault {
         }
     }
 
-    /// Its name, as the variant is written, of the node's where it is one of those.
+    /// Its name, as the variant is written; for `Node`, the name of the node's fault.
     pub fn name(self) -> &'static str
         ensures { result.now ≡ name_of self }
     {
@@ -147,16 +148,16 @@ impl From<AllocError> for WorldFault {
     }
 }
 
-/// Why no world was made.
+/// Why a world was not made.
 #[derive(Clone, Copy, Debug, PartialEq, Eq, Error)]
 pub enum BadWorld {
-    /// 1: there was no memory.
+    /// 1: an allocation failed.
     #[error("Memory")]
     Memory,
-    /// 3: the pages of a device have another size than the setup says.
+    /// 3: the page size of a device is not that of the setup.
     #[error("SizeDiffers")]
     SizeDiffers,
-    /// 17: there is another number of lists of devices than of replicas.
+    /// 17: the number of device lists is not the number of replicas.
     #[error("DevicesDiffer")]
     DevicesDiffer,
 }

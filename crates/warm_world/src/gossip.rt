@@ -1,4 +1,4 @@
-//! Events of a replica's history: what it sends, and what comes to it.
+//! Events of a replica's history: what it sends and what it receives.
 ghost use Rattle.std.specs.Prelude.{◌≡◌, [], map, OnOk, OnErr, IfOk, IsOk};
 ghost use Rattle.warm_world.specs.Next.{IsNamed};
 ghost use Rattle.warm_world.specs.Lists.{Pairwise};
@@ -27,7 +27,7 @@ fn encoded(alloc: Global, messages: &[Message]) -> Result<Vec<Vec<u8>>, AllocErr
     Ok(all)
 }
 
-// Keeps the messages after the others, all of them or none; no messages need no memory.
+// Stores the messages after the others, all of them or none; for no messages it is allocation-free.
 fn keep_all(alloc: Global, kept: &mut Vec<Vec<u8>>, messages: &[Message]) -> Result<(), AllocError>
     ensures ok { OnOk result (KeepsAll (map (λ f. f.items) kept.old.items) messages.now
         (map (λ f. f.items) kept.new.items)) }
@@ -42,7 +42,7 @@ fn keep_all(alloc: Global, kept: &mut Vec<Vec<u8>>, messages: &[Message]) -> Res
     Ok(())
 }
 
-// Keeps the messages that answer a delivered one, and numbers them on.
+// Stores the messages that answer a delivered one, numbered after the others.
 fn took(alloc: Global, kept: &mut Vec<Vec<u8>>, messages: &[Message]) -> Answer
     ensures { Takes (map (λ f. f.items) kept.old.items) messages.now result
         (map (λ f. f.items) kept.new.items) }
@@ -61,7 +61,8 @@ fn took(alloc: Global, kept: &mut Vec<Vec<u8>>, messages: &[Message]) -> Answer
     }
 }
 
-// The horizon to which digests or a request raise who receives them; none for entries, which bring theirs along.
+// The horizon to which digests or a request raise the replica that receives them; none for entries,
+// whose horizon is taken in with them.
 fn horizon_raised(message: &Message) -> Option<u64>
     ensures { result ≡ raised_to message.now }
 {
@@ -73,7 +74,7 @@ fn horizon_raised(message: &Message) -> Option<u64>
 }
 
 impl<D: PageDevice> World<D> {
-    // Keeps a message after the others.
+    // Stores a message after the others.
     fn keep(&mut self, message: &Message) -> Answer
         ensures { Keeps (world_view self.old) message.now result (world_view self.new) }
     {
@@ -117,7 +118,7 @@ impl<D: PageDevice> World<D> {
             return Answer::Refused(WorldFault::Node(NodeFault::Memory));
         };
         let Some(horizon) = horizon_raised(&message) else {
-            // Entries are answered by nothing, so there is nothing to keep.
+            // Entries are not answered, so there is nothing to store.
             return match self.replicas[j as usize - 1].node.receive(message) {
                 Ok(answers) => took(self.alloc, &mut self.messages, answers.as_slice()),
                 Err(why) => Answer::Refused(why.into()),
@@ -127,7 +128,8 @@ impl<D: PageDevice> World<D> {
             Ok(answers) => answers,
             Err(why) => return Answer::Refused(why.into()),
         };
-        // The horizon rises only after the answers are kept, so nothing has happened where one cannot be.
+        // The horizon rises only after the answers are stored, so nothing has happened where
+        // storing one fails.
         let answer = took(self.alloc, &mut self.messages, answers.as_slice());
         let Answer::Took { .. } = &answer else {
             return answer;
@@ -136,7 +138,7 @@ impl<D: PageDevice> World<D> {
         answer
     }
 
-    /// A replica's horizon rises to a time, or stays.
+    /// Raises a replica's horizon to a time, unless it is later already.
     pub(crate) fn horizon(&mut self, i: u16, time: u64) -> Answer
         requires named { IsNamed (view_shape (world_view self.old)) (Event.Horizon i time) }
         ensures { Steps (world_view self.old) (Event.Horizon i time) result (world_view self.new) }

@@ -1,7 +1,8 @@
 //! Theorems over all runs of a world, over the definitions alone.
 //!
-//! Each function does nothing. What it ensures is a theorem, for the crates above to cite and for a reader to look up:
-//! `specs/Stands.antt`, `specs/Rounds.antt`, `specs/Widths.antt` and `specs/WarmUps.antt` say them in full.
+//! Each function does nothing. Its contract is a theorem, which the crates above cite and a reader
+//! can look up: `specs/Stands.antt`, `specs/Rounds.antt`, `specs/Widths.antt` and
+//! `specs/WarmUps.antt` state them in full.
 ghost use Rattle.std.specs.Prelude.{◌<◌, ◌^◌, map};
 ghost use Rattle.std.specs.List.{AllByRecursion};
 ghost use Rattle.warm_stamps.specs.Bytes.{IsPage};
@@ -16,17 +17,19 @@ use crate::{Event, World};
 use warm_devices::PageDevice;
 use warm_stamps::PageId;
 
-/// Of every run of events, from whatever state: each page that is named as a victim, or leaves for another, is an unfixed resident
-/// page of greatest backward 2-distance over all references that reached the replica; and in the state that the run leads to, the
-/// references of replicas that keep the same ones have the same two latest stamps of each page, and rank pages alike.
+/// For every run of events, from any state: each page that is named as a victim, or is evicted for
+/// another, is an unpinned resident page of greatest backward 2-distance over all references that
+/// reached the replica; and in the state that the run leads to, the references of replicas that
+/// keep the same ones have the same two latest stamps of each page, and rank pages alike.
 pub fn runs_are_right()
     ensures { RunsAreRight }
 {}
 
-/// A round of gossip: a replica offers its digests to another, and all that is answered comes to whom it answers, with no
-/// event refused. Afterwards the histories of both are the join of the two that were; or two different texts of one
-/// bucket, one of each replica, have one SHA-256. It holds in each state whose numbers are within their widths, and
-/// so, by the three laws below, after whatever events.
+/// A round of gossip: a replica offers its digests to another, and each receives all answers of the
+/// other, with no event refused. Afterwards the histories of both are the join of the two before;
+/// or two different texts of one bucket, one of each replica, have the same SHA-256 digest. It
+/// holds in each state whose numbers are within their widths, and so, by the three laws below,
+/// after any events.
 pub fn gossip_round_joins()
     ensures { GossipRoundJoins }
 {}
@@ -41,12 +44,13 @@ pub fn runs_fit()
     ensures { RunsFit }
 {}
 
-/// In such a state each history holds nothing but entries that there are.
+/// In such a state each history has only valid entries.
 pub fn histories_fit()
     ensures { HistoriesFit }
 {}
 
-/// The numbers of events are within their widths: so their types say. Nothing is done.
+/// The numbers of events are within their widths, as their types imply. It does nothing at run
+/// time.
 pub fn events_fit(events: &[Event])
     ensures { AllByRecursion EventFits events.now }
 {
@@ -73,21 +77,22 @@ fn time_fits(time: u64)
     ensures { time < 2 ^ 64 }
 {}
 
-/// As many steps of a replica's warm-up as its pool has frames, none of them refused and no page of the replica fixed
-/// before: afterwards every page of its warm-up list, cut to the frames, that a device has is resident. It holds in each
-/// state in which no pool has a page in two frames, and so, by the law below, in each that a world stands for.
+/// As many steps of a replica's warm-up as its pool has frames, none of them refused and no page of
+/// the replica pinned before: afterwards every page of its warm-up list, cut to the frames, that a
+/// device has is resident. It holds in each state in which no pool has a page in two frames, and
+/// so, by the law below, in each that a world stands for.
 pub fn warm_up_loads()
     ensures { WarmUpLoads }
 {}
 
-/// No pool of a world has a page in two frames. Nothing is done.
+/// No pool of a world has a page in two frames. It does nothing at run time.
 pub fn pools_differ<D: PageDevice>(world: &World<D>)
     ensures { ShowsPoolsDiffer (world_view world.now) }
 {
     are_pools(&world.replicas);
 }
 
-// Each of the pools is one: so its type says.
+// Each of the pools satisfies the invariant of pools, as its type implies.
 fn are_pools<D: PageDevice>(replicas: &[Replica<D>])
     ensures { ArePools (map (λ r. r.node) replicas.now) }
 {

@@ -8,10 +8,10 @@ use crate::event::{Answer, Event};
 use warm_devices::PageDevice;
 use warm_gossip::{Node, NodeFault};
 
-/// Asks the node the call that the event makes of it, and answers what it replies, or why it refuses.
+/// Makes the node's call of the event, and returns its reply as an answer, or its refusal.
 ///
-/// Each call is made by its method, not as a value: a `Call` and a `Reply` have space for a message's digests, 2 KB, which each
-/// function on the way of a pin would clear.
+/// Each call is made by its method, not as a value: a `Call` and a `Reply` have space for a
+/// message's digests, 2 KB, which each function on the path of a pin would clear.
 pub(crate) fn ask<D: PageDevice>(node: &mut Node<D>, event: Event) -> Result<Answer, NodeFault>
     requires calls { IsSome (call_of event) }
     ensures { Replies (node_view node.old) (call_of event) (reply_of (answered result))

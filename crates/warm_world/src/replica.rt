@@ -20,7 +20,7 @@ use warm_pool::Pool;
 use warm_refbuffer::{BufferFault, RefBuffer};
 use warm_stamps::{PageId, Reference, ReplicaId, Stamp};
 
-/// A node, and its workers' buffers: references that have not reached it yet.
+/// A node, and its workers' buffers: the references that have not reached it yet.
 #[derive(Drop)]
 pub(crate) struct Replica<D: PageDevice> {
     pub(crate) node: Node<D>,
@@ -54,7 +54,7 @@ impl<D: PageDevice> Replica<D> {
     /// A replica that no reference has reached, over a pool without a page. The devices' pages have the
     /// setup's size.
     ///
-    /// Fails where there is no memory.
+    /// Fails where an allocation fails.
     pub(crate) fn new(
         alloc: Global,
         id: ReplicaId,
@@ -78,7 +78,7 @@ impl<D: PageDevice> Replica<D> {
         })
     }
 
-    /// What waits in a worker's buffer reaches the node.
+    /// Flushes a worker's buffer into the node.
     pub(crate) fn flush(&mut self, worker: usize) -> Result<(), NodeFault>
         requires there { worker < length self.old.buffers.items }
         ensures ok { (capacity : ℕ) → OnOk result (Becomes capacity (replica_view self.old)
@@ -114,7 +114,7 @@ impl<D: PageDevice> Replica<D> {
         Ok(())
     }
 
-    /// The node restarts, and nothing waits any more.
+    /// Restarts the node and empties the buffers.
     pub(crate) fn restart(&mut self) -> Result<(), NodeFault>
         ensures { Restarts (replica_view self.old) result
             (replica_view self.new) }

@@ -1,4 +1,4 @@
-//! How large a world is.
+//! The sizes of a world.
 ghost use Rattle.std.specs.Prelude.{◌≡◌, ◌↔◌, IsOk, IfOk, IsTrue};
 ghost use Rattle.warm_stamps.specs.declared.TheConstants.{MAX_REPLICAS};
 ghost use Rattle.warm_rank.specs.declared.TheConstants.{MAX_SLOTS};
@@ -16,7 +16,7 @@ use warm_rank::MAX_SLOTS;
 use warm_refbuffer::MAX_CAPACITY;
 use warm_stamps::MAX_REPLICAS;
 
-/// How large a world is. Contracts see `Sizes`, the five numbers, each within its limits.
+/// The sizes of a world. Contracts see `Sizes`, the five numbers, each within its limits.
 #[derive(Clone, Copy, Debug, PartialEq, Eq)]
 pub struct Setup {
     replicas: u16,
@@ -68,10 +68,11 @@ fn is_within(most: usize, n: usize) -> bool
 }
 
 impl Setup {
-    /// A setup of `replicas` (1 to [`MAX_REPLICAS`]), `workers` of each (1 to [`MAX_WORKERS`]), references
-    /// that the `buffer` of a worker holds (1 to [`MAX_CAPACITY`]), `frames` of each replica's pool (1 to
-    /// [`MAX_SLOTS`]), and bytes of a page (`page_size`, 1 to [`MAX_PAGE_SIZE`]). `BadSetup` exactly where
-    /// one of them is outside these limits.
+    /// A setup of the numbers of `replicas` (1 to [`MAX_REPLICAS`]), of `workers` of each (1 to
+    /// [`MAX_WORKERS`]), of references that the `buffer` of a worker holds (1 to [`MAX_CAPACITY`]),
+    /// of `frames` of each replica's pool (1 to [`MAX_SLOTS`]), and of bytes of a page
+    /// (`page_size`, 1 to [`MAX_PAGE_SIZE`]). `BadSetup` occurs exactly where one of them is
+    /// outside these limits.
     pub fn new(
         replicas: u16,
         workers: u16,

@@ -1,11 +1,11 @@
-//! A history as an answer holds it.
+//! The history in an answer.
 ghost use Rattle.std.specs.Prelude.{◌≡◌, IfOk};
 
 use std::alloc::{AllocError, Global};
 use std::marker::Model;
 use warm_history::History;
 
-/// A history in memory of its own: a pointer, where a [`History`] has the roots of its 64 maps in itself, which are
+/// A history in a heap box: a pointer, whereas a [`History`] contains the roots of its 64 maps,
 /// some 1.5 KB. Contracts see the history.
 #[derive(Debug, Drop)]
 pub struct ShownHistory {
@@ -21,9 +21,9 @@ impl Model for ShownHistory {
 }
 
 impl ShownHistory {
-    /// The history, moved to memory that is taken here.
+    /// The history, moved to a box that is allocated here.
     ///
-    /// `AllocError` comes only where that memory was refused. The history is then dropped.
+    /// `AllocError` occurs only where that allocation fails. The history is then dropped.
     pub fn new(alloc: Global, history: History) -> Result<ShownHistory, AllocError>
         ensures { IfOk result (λ shown. shown ≡ history) }
     {
@@ -31,7 +31,7 @@ impl ShownHistory {
         Ok(ShownHistory { history })
     }
 
-    /// The history. Takes no memory.
+    /// The history. Allocation-free.
     pub fn as_history(&self) -> &History
         ensures { result.now ≡ self.now }
     {

@@ -25,17 +25,17 @@ use warm_stamps::{PageId, ReplicaId};
 /// Replicas, their workers' buffers, and every message that was sent.
 ///
 /// Contracts describe a world by the model states that it stands for (`StandsFor`): lists of all
-/// references that reached each replica, that wait in each buffer, and that each kept message brings, and
-/// what each replica's pool shows.
+/// references that reached each replica, that are pending in each buffer, and that each stored
+/// message brings, and the view of each replica's pool.
 ///
-/// A kept message stays for as long as the world does, so memory grows with what is sent.
+/// A message is stored for as long as the world lives, so memory use grows with the messages sent.
 pub struct World<D: PageDevice> {
     pub(crate) alloc: Global,
     pub(crate) replicas: Vec<Replica<D>>,
     pub(crate) messages: Vec<Vec<u8>>,
 }
 
-// By hand, so that an owner makes one call at each way out (see `History`).
+// Written by hand, so that an owner makes one call on each exit path (see `History`).
 impl<D: PageDevice> Drop for World<D> {
     fn drop(mut self) {
         let Self {
@@ -54,7 +54,8 @@ fn is_number(number: u64, count: usize) -> bool
     0 < number && number <= count as u64
 }
 
-/// Whether each device of each list has pages of this size: what [`World::new`] asks of its devices. Takes no memory.
+/// Whether each device of each list has pages of this size: what [`World::new`] requires of its
+/// devices. Allocation-free.
 pub fn are_sized<D: PageDevice>(devices: &[Vec<D>], page_size: usize) -> bool
     ensures { IsTrue result ↔ AreSized page_size (listed D.state devices.now) }
 {
@@ -90,15 +91,16 @@ fn replicas_over<D: PageDevice>(
 }
 
 impl<D: PageDevice> World<D> {
-    /// A world in which nothing has happened, with a replica over each list of devices: no replica has
-    /// heard of a page or has one in its pool, nothing waits, and no message was sent. The memory of every
-    /// buffer and pool is taken here.
+    /// A world in which nothing has happened, with a replica over each list of devices: no replica
+    /// has a reference or a resident page, no reference is pending, and no message was sent. The
+    /// memory of every buffer and pool is allocated here.
     ///
-    /// No list has more devices than [`warm_pool::MAX_DEVICES`].
+    /// Each list has at most [`warm_pool::MAX_DEVICES`] devices.
     ///
     /// # Errors
-    /// `DevicesDiffer`: there is another number of lists than of replicas. `SizeDiffers`: the pages of a
-    /// device have another size than the setup says. `Memory`. All devices are dropped.
+    /// `DevicesDiffer`: the number of lists is not the number of replicas. `SizeDiffers`: the page
+    /// size of a device is not that of the setup. `Memory`: an allocation failed. All devices are
+    /// dropped.
     pub fn new(alloc: Global, setup: Setup, devices: Vec<Vec<D>>) -> Result<World<D>, BadWorld>
         requires few { AreFew (listed D.state devices.items) }
         ensures stands { IfOk result (λ world. StandsFor (world_view world)
@@ -121,14 +123,14 @@ impl<D: PageDevice> World<D> {
         })
     }
 
-    // How many replicas there are.
+    // The number of replicas.
     fn replica_count(&self) -> usize
         ensures { result ≡ length (view_shape (world_view self.now)).workers }
     {
         self.replicas.len()
     }
 
-    // How many workers the replica of a number has.
+    // The number of workers of the replica of a number.
     fn worker_count(&self, i: u16) -> usize
         requires { IsNumber i (length (view_shape (world_view self.now)).workers) }
         ensures { result ≡ slice_index_or (view_shape (world_view self.now)).workers (place i) 0 }
@@ -136,14 +138,14 @@ impl<D: PageDevice> World<D> {
         self.replicas[i as usize - 1].buffers.len()
     }
 
-    // How many messages were sent.
+    // The number of messages sent.
     fn message_count(&self) -> usize
         ensures { result ≡ (view_shape (world_view self.now)).messages }
     {
         self.messages.len()
     }
 
-    // Whether all that an event names is there.
+    // Checks that everything that an event names exists.
     fn check(&self, event: &Event) -> Result<(), WorldFault>
         ensures named { OnOk result (IsNamed (view_shape (world_view self.now)) event.now) }
         ensures missing { IfErr result (λ fault.
@@ -199,9 +201,9 @@ impl<D: PageDevice> World<D> {
         }
     }
 
-    /// Answers one event. Whatever model state the world stands for, `Next` leads from it, by the event
-    /// and its answer, to one that the world stands for afterwards. A refused event changes nothing but
-    /// counts of devices' failures.
+    /// Answers one event. For every model state that the world stands for, `Next` leads from it, by
+    /// the event and its answer, to one that the world stands for afterwards. A refused event
+    /// changes nothing but counts of devices' failures.
     pub fn step(&mut self, event: Event) -> Answer
         ensures { Steps (world_view self.old) event result (world_view self.new) }
     {
@@ -227,17 +229,19 @@ impl<D: PageDevice> World<D> {
         }
     }
 
-    /// Answers a list of events, one after another. Whatever model state the world stands for, `Run` leads
-    /// from it, by the events and their answers, to one that the world stands for afterwards. In words:
+    /// Answers a list of events, one after another. For every model state that the world stands
+    /// for, `Run` leads from it, by the events and their answers, to one that the world stands for
+    /// afterwards. In words:
     ///
-    /// After any list of references, buffer flushes, gossip sends, losses, repeats, reorderings, horizons
-    /// and restarts, each replica's history is exactly the two latest stamps, not older than its horizon, of
-    /// every page among all references that reached it, directly or through others, since its restart;
-    /// replicas that keep the same references agree on history, ranking and warm-up list, and each victim is
-    /// an unfixed resident page of greatest backward 2-distance.
+    /// After any list of references, buffer flushes, gossip sends, losses, repeats, reorderings,
+    /// horizons and restarts, each replica's history is exactly the two latest stamps, not older
+    /// than its horizon, of every page among all references that reached it, directly or through
+    /// others, since its restart; replicas that keep the same references agree on history, ranking
+    /// and warm-up list, and each victim is an unpinned resident page of greatest backward
+    /// 2-distance.
     ///
-    /// The memory for the answers is taken before the first event. Where that fails the events come back,
-    /// and nothing has happened.
+    /// The memory for the answers is allocated before the first event. Where that fails, the events
+    /// are given back, and nothing has happened.
     pub fn run(&mut self, events: Vec<Event>) -> Result<Vec<Answer>, Vec<Event>>
         ensures ran { IfOk result (λ answers.
             Runs (world_view self.old) events.items answers.items (world_view self.new)) }
@@ -253,12 +257,13 @@ impl<D: PageDevice> World<D> {
         Ok(answers)
     }
 
-    /// Writes all pages back to their devices, and flushes these, one replica after the other. Takes no
-    /// memory.
+    /// Writes back all pages to their devices, and flushes the devices, one replica after the
+    /// other. Allocation-free.
     ///
     /// # Errors
-    /// `Pool(Fault)` at the first write or flush that fails. Of what the world shows, one count of failures
-    /// alone has changed. The pools of replicas before the one that fails are settled, those after it are as they were.
+    /// `Pool(Fault)` at the first write or flush that fails. Of the world's view, only one count of
+    /// failures has changed. The pools of replicas before the one that fails are settled, those
+    /// after it are unchanged.
     pub fn finish(&mut self) -> Result<(), NodeFault>
         ensures same { OnOk result (world_view self.new ≡ world_view self.old) }
         ensures settled { OnOk result (IsAtRest self.new) }
@@ -272,7 +277,7 @@ impl<D: PageDevice> World<D> {
         Ok(())
     }
 
-    // Writes the pages of the replica at a place back.
+    // Writes back the pages of the replica at a place.
     fn write_back(&mut self, k: usize) -> Result<(), NodeFault>
         requires there { k < length self.old.replicas.items }
         ensures same { OnOk result (world_view self.new ≡ world_view self.old) }

@@ -20,10 +20,10 @@ use warm_setup::{
 use warm_threads::play_threads;
 use warm_world::Setup;
 
-// How many bytes of answers are gathered before they are written.
+// The size of the output buffer for answers, in bytes.
 const GATHERED: usize = 65536;
 
-// The command of the program's own words.
+// The command of the program's arguments.
 fn asked(rt: &HostRuntime) -> Result<Cmd, ProgramFault> {
     let args = match env::args(rt) {
         Ok(args) => args,
@@ -60,7 +60,7 @@ fn setup_in(
     }
 }
 
-// A device of a replica, in a box of its own kind.
+// A device of a replica, in a box.
 #[derive(Drop)]
 enum Made {
     Memory(Box<MemDevice>),
@@ -219,7 +219,8 @@ fn run<T: Threads + Wait + Sync>(rt: &HostRuntime, threads: &T) -> Result<(), Pr
     }
 }
 
-// Prints clap's own text where there is one: `true` where help was asked for, and could not be written.
+// Prints clap's own text where there is one: `true` where help was requested and could not be
+// written.
 fn is_help_lost(rt: &HostRuntime, ended: &Result<(), ProgramFault>) -> bool {
     match ended {
         Err(ProgramFault::Command(CmdFault::Refused(error))) => {
@@ -235,7 +236,7 @@ fn main(rt: HostRuntime) -> ExitCode {
         ended = Err(ProgramFault::Play(PlayFault::WriteFault));
     }
     let outcome = outcome_of(&ended);
-    // Where standard error takes nothing, the status is all that is left to say.
+    // Where writing to standard error fails, only the status reports the fault.
     let _ = outcome.line.write_to(&mut rt.stderr());
     ExitCode::from(outcome.status)
 }

@@ -1,9 +1,9 @@
-//! What a device holds once a node over it is dropped.
+//! The contents of a device after a node over it is dropped.
 
 use super::{Row, Said, over, runs};
 use test_kit::noting;
 
-// Page 1 is written back by the restart, and then written to once more in its frame alone.
+// Page 1 is written back by the restart, and then written again in its frame only.
 const WRITTEN_ONCE: &[Row] = &[
     Row::Absorbs(&[(0, 1, 1, 1)]),
     Row::Pins(1, Said::Pinned(0, 1)),

@@ -1,4 +1,4 @@
-//! Messages that come to a node in either format, and those of pages that no device has.
+//! Messages that a node receives in either format, and messages of pages that no device has.
 
 use super::{NO_PAGE, Row, Said, answers, fresh, runs};
 use std::alloc::Global;
@@ -13,7 +13,7 @@ fn wide(number: [u8; 8]) -> [u8; 54] {
     bytes
 }
 
-// An empty node receives these bytes, and then lives through the rows.
+// An empty node receives these bytes, and then runs the test cases.
 fn takes(rt: &impl Abort, alloc: Global, bytes: &[u8], rows: &[Row]) {
     let mut node = fresh(rt, alloc, 2);
     let message = decode(alloc, bytes)

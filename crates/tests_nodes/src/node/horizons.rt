@@ -1,4 +1,5 @@
-//! What a horizon does to a node: to its history, to what it answers and keeps, and to what leaves its pool.
+//! The effect of a horizon on a node: on its history, on its answers and cached results, and on its
+//! victims.
 
 use super::{Row, Said, Sent, lives};
 
@@ -22,7 +23,7 @@ const RISING: &[Row] = &[
     Row::Forgets(0, LAST),
     Row::Absorbs(&[(0, 4, LAST - 1, 1), (0, 5, LAST, 1)]),
     Row::Knows(LAST, &[(5, LAST, 0)]),
-    // A restart takes the horizon back to 0, and then takes in what was forgotten.
+    // A restart resets the horizon to 0; then forgotten references are absorbed again.
     Row::Restarts,
     Row::Absorbs(&[(0, 2, 5, 1)]),
     Row::Knows(0, &[(2, 5, 0)]),
@@ -46,7 +47,7 @@ const BY_ENTRIES: &[Row] = &[
         &[],
     ),
     Row::Knows(50, &[]),
-    // A message of a lesser horizon brings what is not older than the node's.
+    // A message of a lesser horizon brings only stamps that are not older than the node's horizon.
     Row::Receives(Sent::Entries(10, &[(0, 6, 20, 1), (0, 6, 60, 1)]), &[]),
     Row::Knows(50, &[(6, 60, 0)]),
 ];
@@ -60,7 +61,8 @@ const PAGE_1: Sent = Sent::Entries(15, &[(0, 1, 20, 1)]);
 
 const DIFFERING: &[Sent] = &[PAGE_1, Sent::Request(15, 0b10)];
 
-// What a node would answer is what it answers when the message comes, and changes nothing.
+// The answers that a node would give are those that it gives when it receives the message, and
+// asking for them changes nothing.
 const BY_DIGESTS_AND_REQUESTS: &[Row] = &[
     Row::Absorbs(&[(0, 1, 10, 1), (0, 1, 20, 1), (0, 2, 5, 1)]),
     // At 15 bucket 1 alone differs from nothing.
@@ -78,7 +80,8 @@ const BY_DIGESTS_AND_REQUESTS: &[Row] = &[
         &[Sent::Entries(35, &[(0, 2, 40, 1)])],
     ),
     Row::Knows(35, &[(2, 40, 0)]),
-    // The digests of a lesser horizon are of what the node has forgotten: of bucket 5 it has nothing to send.
+    // The digests of a lesser horizon include stamps that the node has forgotten: of bucket 5 it
+    // has nothing to send.
     Row::Receives(
         Sent::Digests(4, &[(0, 2, 40, 1), (0, 5, 6, 1)]),
         &[Sent::Request(35, 0b100000)],

@@ -1,4 +1,4 @@
-//! Calls of a node with nothing, and with as much as there may be.
+//! Calls of a node with no data, and with the greatest sizes.
 
 use super::{
     Row, Said, Sent, answer, answers, fresh, has_bytes, lives, message_of, over, says, slot,
@@ -52,7 +52,8 @@ fn a_page_is_read_and_written_whole(rt: HostRuntime) {
     assert!(rt; has_bytes(read, wanted.as_slice()));
 }
 
-// Node 1, which knows of this many pages: their numbers rise by `spread` from 0 on, and each was referenced at its place in the list.
+// Node 1 with a history of this many pages: their numbers rise by `spread` from 0 on, and each was
+// referenced at the time of its place in the list.
 fn knowing(rt: &impl Abort, alloc: Global, count: u64, spread: u64) -> Node<MemDevice> {
     let mut batch = Vec::new(alloc);
     for place in 0..count {
@@ -64,8 +65,8 @@ fn knowing(rt: &impl Abort, alloc: Global, count: u64, spread: u64) -> Node<MemD
     node
 }
 
-// How many entries each message brings that is given to a node. Nothing is answered to these, and as many messages to the request that
-// comes after them.
+// The number of entries of each message that a node receives. These get no answer, and the request
+// after them gets as many messages.
 fn brought(
     rt: &impl Abort,
     alloc: Global,
@@ -85,8 +86,9 @@ fn brought(
     sizes
 }
 
-// How many pages a node knows, how far apart their numbers are, and how many messages answer the digests of nothing, and how many
-// entries each brings but the request, which is the last.
+// A test case: the number of pages of a node's history, the distance between their numbers, the
+// number of messages that answer the digests of an empty history, and the number of entries of each
+// but the request, which is the last.
 const ANSWERS: [(u64, u64, usize, &[usize]); 5] = [
     (0, 64, 0, &[]),
     (999, 64, 2, &[999]),

@@ -1,6 +1,8 @@
-//! Steps of a warm-up between pins and other calls, on a node of four frames: what each loads, and which page it puts out.
+//! Steps of a warm-up between pins and other calls, on a node of four frames: what each loads, and
+//! which page it evicts.
 //!
-//! Page n is ranked by its second latest reference: pages of later ones are hotter. A page without a reference leaves first.
+//! Page n is ranked by its second latest reference: pages of later ones are hotter. A page without
+//! a reference is evicted first.
 
 use super::{NO_PAGE, Row, Said, Sent, lives};
 
@@ -18,8 +20,8 @@ const FOUR: Row = Row::Absorbs(&[
     (0, 4, 8, 1),
 ]);
 
-// Page 9 takes a frame and keeps it, so that of pages 1 and 2 the one that is loaded puts the other out, until 9 may leave. Then
-// page 10 does the same.
+// Page 9 takes a frame and keeps it, so that loading one of pages 1 and 2 evicts the other, until 9
+// may be evicted. Then page 10 does the same.
 const BETWEEN_PINS: &[Row] = &[
     FOUR,
     Row::Loads(Said::Loaded(Some(4))),
@@ -45,7 +47,7 @@ const BETWEEN_PINS: &[Row] = &[
     NONE_LEFT,
 ];
 
-// A pin puts out the hottest page, which was loaded first: all other frames are fixed.
+// A pin evicts the hottest page, which was loaded first: all other pages are pinned.
 const HOTTEST_PUT_OUT: &[Row] = &[
     FOUR,
     Row::Loads(Said::Loaded(Some(4))),
@@ -64,7 +66,8 @@ const HOTTEST_PUT_OUT: &[Row] = &[
     NONE_LEFT,
 ];
 
-// The frames are full of pages without a reference, which leave in the order of their numbers.
+// The frames are full of pages without a reference, which are evicted in the order of their
+// numbers.
 const OVER_COLD_PAGES: &[Row] = &[
     Row::Pins(14, Said::Pinned(0, 1)),
     Row::Unpins(0, 1),
@@ -87,7 +90,8 @@ const OVER_COLD_PAGES: &[Row] = &[
     NONE_LEFT,
 ];
 
-// Of the four hottest pages one is on a device that is not there, and one is none of its device's: their places in the list are lost.
+// Of the four hottest pages one is on a missing device, and one is missing on its device: their
+// places in the list are not filled by others.
 const NOT_THERE: &[Row] = &[
     FOUR,
     Row::Absorbs(&[
@@ -105,7 +109,8 @@ const NOT_THERE: &[Row] = &[
     NONE_LEFT,
 ];
 
-// What the node takes in, by each of three calls, is ranked and loaded, also where a warm-up has passed all pages.
+// The references that the node takes in, by each of three calls, are ranked and loaded, also after
+// a warm-up has passed all pages.
 const TAKEN_IN: &[Row] = &[
     FOUR,
     Row::Loads(Said::Loaded(Some(4))),

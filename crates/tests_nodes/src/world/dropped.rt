@@ -1,4 +1,4 @@
-//! What devices hold once a world over them is dropped.
+//! The contents of devices after a world over them is dropped.
 
 use super::{answers, done_in, each_alone};
 use std::alloc::Global;
@@ -13,7 +13,7 @@ fn is_kept(note: &Note, writes: u64, byte: u8) -> bool {
     note.has(0, &[0; 16]) && note.has(1, &[byte; 16]) && note.counts() == (writes, 1)
 }
 
-// Page 1 of replica 2 is filled and written back, and then filled once more in its frame alone.
+// Page 1 of replica 2 is filled and written back, and then filled again in its frame only.
 fn written_once(rt: &impl Abort, alloc: Global) -> Vec<Event> {
     let mut events = Vec::new(alloc);
     for (generation, byte) in [(1, 0xAA), (2, 0xBB)] {

@@ -1,4 +1,5 @@
-//! What a device holds as the pool lets it go: all that was written, and nothing waits. A pool that is dropped writes nothing.
+//! The contents of a device when the pool drops it: all writes, flushed. A pool that is dropped
+//! writes nothing.
 ghost use Rattle.warm_pool.specs.State.{RankedBy};
 
 use super::{
@@ -13,10 +14,10 @@ use warm_devices::{MemDevice, PageDevice};
 use warm_history::History;
 use warm_pool::{Pool, PoolFault, Slot};
 
-// What a device of eight pages holds before the pool writes to it.
+// The contents of a device of eight pages before the pool writes to it.
 const STORED: [u8; 16] = [0x55; 16];
 
-// A device that notes what its drop finds, and the note.
+// A device that records what its drop finds, and the note.
 fn witness(rt: &impl Abort, alloc: Global) -> (Noting, Arc<Note, Global>) {
     let note = Note::blank(alloc, 8, 16).expect(rt, AMPLE);
     let mut device = MemDevice::new(alloc, 8, 16).expect(rt, AMPLE);
@@ -31,17 +32,18 @@ fn witness(rt: &impl Abort, alloc: Global) -> (Noting, Arc<Note, Global>) {
     (device, note)
 }
 
-// Whether nothing waited on the device as its drop began, and its pages from this one on were as they had been stored.
+// Whether the device was flushed when its drop began, and its pages from this one on were as stored
+// before.
 fn has_stored(note: &Note, from: u64) -> bool {
     note.found() == Found::Settled && (from..8).all(|no| note.has(no, &STORED))
 }
 
-// Whether so it was, and page 0 was as it was written.
+// The same, and whether page 0 was as written.
 fn is_kept(note: &Note) -> bool {
     has_stored(note, 1) && note.has(0, &[0xAA; 16])
 }
 
-// A pool over such a device. Its page 0:0 is filled with AA, and went to no device yet.
+// A pool over such a device. Its page 0:0 is filled with AA, and is not written back yet.
 fn noted_pool(
     rt: &impl Abort,
     alloc: Global,
@@ -98,7 +100,7 @@ fn a_closed_pools_device_has_what_was_written(rt: HostRuntime) {
     assert!(rt; is_kept(&note));
 }
 
-// Page 0:0 is written back, and then once more to its frame alone.
+// Page 0:0 is written back, and then written again in its frame only.
 const WRITTEN_ONCE: [Row<'static>; 5] = [
     Row::Loads(1, 0, Said::At(0, 1)),
     Row::Pins(0, Said::At(1, 1)),

@@ -1,4 +1,5 @@
-//! Pools at their limits: as many frames and devices as there may be, and no device. Pages at theirs are read and written in tests_nodes.
+//! Pools at their limits: the greatest numbers of frames and devices, and no device. Pages at their
+//! limits are read and written in tests_nodes.
 
 use super::{AMPLE, Row, Said, closes, lives, pool_of, runs};
 use test_kit::memory;
@@ -6,7 +7,8 @@ use warm_devices::MemDevice;
 use warm_history::History;
 use warm_pool::PoolFault;
 
-// Each page comes into a frame of its own, and one more into that of the page of the least number.
+// Each page is loaded into a frame of its own, and one more into that of the page of the least
+// number.
 #[test]
 fn a_pool_fills_65_536_frames(rt: HostRuntime) {
     let alloc = rt.alloc();
@@ -21,8 +23,8 @@ fn a_pool_fills_65_536_frames(rt: HostRuntime) {
     lives(&rt, alloc, 65_536, device, rows.as_slice())
 }
 
-// A page names its device by 16 bits, and a pool over one device more is no call, since `new` requires that there is none: it cannot be
-// refused.
+// A page names its device in 16 bits. A pool over one device more cannot be called for, since `new`
+// requires at most this many.
 #[test]
 fn a_pool_has_up_to_65_536_devices(rt: HostRuntime) {
     let alloc = rt.alloc();

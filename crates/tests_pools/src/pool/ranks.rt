@@ -1,4 +1,4 @@
-//! Which page leaves by a history, and what a raised horizon changes in that.
+//! Which page is evicted by a history, and how a raised horizon changes that.
 ghost use Rattle.warm_pool.specs.State.{RankedBy};
 
 use super::{AMPLE, Row, Said, closes, pool_over, runs};
@@ -11,7 +11,7 @@ use warm_pool::Pool;
 // neither was.
 const BOTH: [SeenAt; 4] = [(0, 1, 1, 1), (0, 1, 100, 1), (0, 2, 50, 1), (0, 2, 60, 1)];
 
-// Raises the horizon, and then renews all ranks.
+// Raises the horizon, and then updates all ranks.
 fn forget(pool: &mut Pool<MemDevice>, history: &mut History, time: u64)
     ensures { RankedBy pool.new history.new }
 {
@@ -19,7 +19,7 @@ fn forget(pool: &mut Pool<MemDevice>, history: &mut History, time: u64)
     pool.refresh_all(history);
 }
 
-// A page with a fix doesn't leave, whatever its rank is, and has its new rank once the fix is taken away.
+// A pinned page isn't evicted, whatever its rank, and has its new rank after it is unpinned.
 #[test]
 fn all_ranks_follow_a_raised_horizon(rt: HostRuntime) {
     let alloc = rt.alloc();

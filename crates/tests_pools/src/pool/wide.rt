@@ -1,4 +1,4 @@
-//! A pool over pages whose numbers have more than 32 bits: those of a file that is one hole but for what is written.
+//! A pool over pages whose numbers have more than 32 bits: those of a sparse file.
 use super::{AMPLE, Row, Said, closes, pool_of, runs};
 use std::alloc::Global;
 use std::fs::{self, File, Files};
@@ -18,7 +18,8 @@ fn wide_file<R: Files<File = File> + Abort>(rt: &R) -> FileDevice {
     FileDevice::open(rt, PATH, FIRST_WIDE + 2, 1).expect(rt, "opened")
 }
 
-// Pages whose numbers agree in their low 32 bits are apart, and leave in the order of their whole numbers.
+// Pages whose numbers agree in their low 32 bits are different pages, and are evicted in the order
+// of their whole numbers.
 const ROWS: [Row<'static>; 16] = [
     Row::Has(FIRST_WIDE + 1, true),
     Row::Has(FIRST_WIDE + 2, false),
@@ -38,7 +39,7 @@ const ROWS: [Row<'static>; 16] = [
     Row::Resident(0, FIRST_WIDE + 1, true),
 ];
 
-// A pool of three frames over the device lives through the rows.
+// A pool of three frames over the device runs the test cases.
 fn lives_wide<D: PageDevice>(rt: &impl Abort, alloc: Global, device: D) {
     let history = History::new(alloc);
     let devices = alone(alloc, device).expect(rt, AMPLE);

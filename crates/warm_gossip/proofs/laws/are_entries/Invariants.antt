@@ -3,7 +3,7 @@ use Rattle.std.specs.List.{AllByRecursion}
 use Rattle.warm_frames.specs.Entries.{IsEntry}
 use Rattle.warm_gossip.proofs.laws.are_entries.Given as goal
 
--- those so far are entries that there are
+-- the entries so far are valid
 abbrev pub invariant-loop-entry : goal.invariant-loop-entry
 invariant-loop-entry l = record {
   split : l.yielded ++ l.entry-iterator ≡ l.fn.entries;

@@ -3,7 +3,7 @@ use Rattle.warm_history.specs.BucketMaps.{joined, pairs_of, pairs_left}
 use Rattle.warm_history.proofs.BucketParts.{whole_map}
 use Rattle.warm_history.proofs.bucket_maps.next_pair.Goals as goal
 
--- the map at hand has none left, and the next one begins
+-- the current map has no pairs left, and the next one begins
 pub loop-place-preserved : goal.loop-place-preserved
 loop-place-preserved c =
     ap (λ here. pairs_left here c.in_ok-map.later.now) (c.range.ensures.between tt ∙ whole_map c.in_ok-map.map.now.entries)

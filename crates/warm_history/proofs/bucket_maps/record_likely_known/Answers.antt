@@ -8,7 +8,7 @@ use Rattle.warm_history.specs.Tree.{Pairs}
 use Rattle.warm_history.proofs.TreeLemmas.{set-insert}
 use Rattle.warm_history.proofs.bucket_maps.record_likely_known.Goals as goal
 
--- the page is there, and what is known of it stays as it was
+-- the page is there, and its value is unchanged
 pub returns-in_default-raise-clause-ok : goal.returns-in_default-raise-clause-ok
 returns-in_default-raise-clause-ok c =
     let through = c.get_mut.follows.holds c.raise.new.known in

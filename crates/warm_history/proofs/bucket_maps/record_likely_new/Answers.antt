@@ -7,7 +7,7 @@ use Rattle.warm_history.specs.Tree.{Pairs}
 use Rattle.warm_history.proofs.RecordLemmas.{put_over, put_back_over}
 use Rattle.warm_history.proofs.bucket_maps.record_likely_new.Goals as goal
 
--- the page was known, and what is known of it stays as it was
+-- the page was known, and its value is unchanged
 pub returns-in_default-raise-clause-ok : goal.returns-in_default-raise-clause-ok
 returns-in_default-raise-clause-ok c =
     let p = c.args.place in

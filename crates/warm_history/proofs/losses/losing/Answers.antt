@@ -11,7 +11,7 @@ use Rattle.warm_history.proofs.HistoryLemmas.{IsHistory-history}
 use Rattle.warm_history.proofs.JoinLemmas.{raised_to_no_later}
 use Rattle.warm_history.proofs.losses.losing.Goals as goal
 
--- at a horizon that is not past the own one nothing is lost
+-- at a horizon that is not greater than the history's own nothing is lost
 pub returns-then-horizon : goal.returns-then-horizon
 returns-then-horizon c =
     let h = c.args.history.now in
@@ -22,7 +22,7 @@ returns-then-horizon c =
       none = λ _. ap entries_of same;
     }
 
--- what a bucket's test tells is told by the bit that is made of it
+-- what a bucket's test says is said by the bit made of it
 tells : (es fs : List Entry) (bucket : ℕ) (d : Bool) → (IsTrue d → ChangesIn bucket es fs) → (d ≡ false → StaysIn bucket es fs) → TellsChange es fs bucket (from_bool d)
 tells es fs bucket true loses keeps = ((λ one. loses refl), λ none. absurd (omega (arith, none)))
 tells es fs bucket false loses keeps = ((λ one. absurd (omega (arith, one))), λ none. keeps refl)

@@ -2,7 +2,7 @@ use Rattle.std.proofs.Common.{IsTrue, false, ◌++◌, ap, sym, ◌∙◌}
 use Rattle.warm_history.proofs.SinceLemmas.{one_of_all}
 use Rattle.warm_history.proofs.since.none_older.Goals as goal
 
--- the entry at hand has a stamp that is older, so not all have none
+-- the current entry has an older stamp, so some entry has one
 pub returns-then-not-is_since : goal.returns-then-not-is_since
 returns-then-not-is_since c =
     let so_far = c.loop-entry.yielded in

@@ -3,7 +3,7 @@ use Rattle.warm_pool.specs.Chains.{IsFirstFrom, chain_of, chains_of}
 use Rattle.warm_pool.proofs.PlaceLemmas.{ArePassed}
 use Rattle.warm_pool.proofs.residents.find_in.Given as goal
 
--- the frame at hand is the next one of the chain, and no frame before it holds the page
+-- the current frame is the next one of the chain, and no frame before it holds the page
 abbrev pub invariant-loop-at : goal.invariant-loop-at
 invariant-loop-at l = record {
   next : (from : ℕ) × IsFirstFrom (chains_of l.pages) (chain_of (length l.pages) (Some l.page)) from l.at;

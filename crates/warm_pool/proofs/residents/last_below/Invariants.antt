@@ -2,7 +2,7 @@ use Rattle.std.proofs.Common.{◌-◌, ◌≤◌}
 use Rattle.warm_pool.specs.Chains.{IsFirstFrom, IsOf, after}
 use Rattle.warm_pool.proofs.residents.last_below.Given as goal
 
--- the frame at hand is the first one after the last that was passed
+-- the current frame is the first one after the last that was passed
 abbrev pub invariant-loop-at : goal.invariant-loop-at
 invariant-loop-at g l = record {
   first : IsFirstFrom g.frames l.chain (after l.last) l.at;

@@ -3,7 +3,7 @@ use Rattle.warm_pool.specs.Chains.{AreChains}
 use Rattle.warm_pool.proofs.RelinkLemmas.{linked_from}
 use Rattle.warm_pool.proofs.residents.link_all.Given as goal
 
--- the frames from the one at hand on are in their chains, and no other frame is in one
+-- the frames from the current one on are in their chains, and no other frame is in one
 abbrev pub invariant-loop-frame : goal.invariant-loop-frame
 invariant-loop-frame g l = record {
   high : l.frame ≤ length l.pages;
