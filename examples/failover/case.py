@@ -184,12 +184,9 @@ class Case:
 
 
 def play_case(program: Path, trace: Trace, plan: Plan, folder: Path) -> Result:
-    """Plays a case in a folder, which then has its setup, its schedule, and the devices that all cases share.
-
-    What they hold from case to case changes nothing: a hit or a miss is no matter of bytes.
-    """
+    """Plays a case in a folder, which then has its setup, its schedule and its device."""
     name = f"{plan.frames}-frames-{plan.takeover}-once-in-{plan.habit.once_in}-hold-{plan.habit.hold}"
     setup = folder / f"{name}.setup"
-    setup.write_text(plan.setup(trace.pages, folder / "device"), encoding="utf-8")
+    setup.write_text(plan.setup(trace.pages, folder / f"{name}.device"), encoding="utf-8")
     with Player(program, setup, folder / f"{name}.schedule") as player:
         return Case(player, trace, plan).play()
