@@ -1,10 +1,10 @@
 #!/usr/bin/env python3
 """What a report must say of a trace, computed from the trace alone.
 
-usage: model.py ratios|costs TRACE FRAMES INTERVAL ACCESSES HABITS TAKEOVER..
+usage: model.py TRACE FRAMES INTERVAL ACCESSES HABITS TAKEOVER..
 
-HABITS are ONCE-IN/HOLD, parted by commas. It prints ratios.csv, or costs.csv without its last column, which is a time.
-No code is shared with the report or with warmplay: histories are dictionaries of the two latest times, pools are sets,
+HABITS are ONCE-IN/HOLD, parted by commas. It prints ratios.csv, and then costs.csv without its last column, which is a
+time. No code is shared with the report or with warmplay: histories are dictionaries of the two latest times, pools are sets,
 and a victim is found by comparing all resident pages, by the definitions of docs/DEFINITIONS.md (the greatest backward
 2-distance leaves first, then the older latest reference, then the lesser page).
 """
@@ -175,11 +175,7 @@ class Takeover:
 
     def ratio_lines(self) -> list[str]:
         """The lines of ratios.csv."""
-        return [
-            f"{self.place(name)},{RATIO_OVER * place},{RATIO_OVER},{hits}"
-            for name in NAMES
-            for place, hits in enumerate(self.found[name])
-        ]
+        return [f"{self.place(name)},{' '.join(map(str, self.found[name]))}" for name in NAMES]
 
     def cost_line(self, name: str) -> str:
         """The line of costs.csv of one policy, without the time."""
@@ -212,20 +208,21 @@ def accesses_of(path: str) -> list[tuple[int, int]]:
 
 def main() -> None:
     match sys.argv[1:]:
-        case ["ratios" | "costs" as what, path, frames, interval, accesses, words, *moments] if moments:
+        case [path, frames, interval, accesses, words, *moments] if moments:
             habits = [(int(once_in), int(hold)) for once_in, hold in (word.split("/") for word in words.split(","))]
         case _:
             sys.exit(__doc__)
     trace = accesses_of(path)
-    heads = {
-        "ratios": "after,accesses,hits",
-        "costs": "near_after,near_reads,loaded,references,gossip_sent,gossip_came,steps_needed",
-    }
-    print(f"frames,takeover,once_in,hold,policy,{heads[what]}")
-    for moment in moments:
-        for habit in habits:
-            takeover = Takeover(trace, int(frames), int(interval), int(accesses), habit, int(moment))
-            print("\n".join(takeover.ratio_lines() if what == "ratios" else takeover.cost_lines()))
+    found = [
+        Takeover(trace, int(frames), int(interval), int(accesses), habit, int(moment))
+        for moment in moments
+        for habit in habits
+    ]
+    places = "frames,takeover,once_in,hold,policy"
+    print(f"{places},hits in each {RATIO_OVER} accesses")
+    print("\n".join(line for takeover in found for line in takeover.ratio_lines()))
+    print(f"{places},near_after,near_reads,loaded,references,gossip_sent,gossip_came,steps_needed")
+    print("\n".join(line for takeover in found for line in takeover.cost_lines()))
 
 
 if __name__ == "__main__":

@@ -95,19 +95,22 @@ def legend(habit: Habit) -> str:
     return "".join(parts)
 
 
-def picture(habit: Habit, results: list[Result]) -> str:
+def lowest_ratio(results: list[Result]) -> float:
+    """A tenth below every ratio that is drawn and below 1: the foot of all panels, so that pictures can be compared."""
+    least = min(hits for result in results for policy in STYLES for hits in result.outcomes[policy].hits)
+    return min(10 * least // BLOCK, 9) / 10
+
+
+def picture(habit: Habit, results: list[Result], lowest: float) -> str:
     """A panel for each case of a habit: a row for each number of frames, a column for each takeover."""
     rows = sorted({result.plan.frames for result in results})
     columns = sorted({result.plan.takeover for result in results})
-    least = min(hits for result in results for outcome in result.outcomes.values() for hits in outcome.hits)
-    # a tenth, below every ratio and below 1
-    foot = min(10 * least // BLOCK, 9) / 10
     panels = "".join(
         Panel(
             result,
             WIDTH * columns.index(result.plan.takeover),
             LEGEND + HEIGHT * rows.index(result.plan.frames),
-            foot,
+            lowest,
         ).draw()
         for result in results
     )

@@ -161,12 +161,12 @@ def csv_place(result: Result, policy: str) -> str:
 
 
 def ratios_csv(results: list[Result]) -> str:
-    """The hits of each block after each takeover."""
-    lines = ["frames,takeover,once_in,hold,policy,after,accesses,hits\n"]
+    """The hits of each block after each takeover, with a space between two blocks."""
+    lines = [f"frames,takeover,once_in,hold,policy,hits in each {BLOCK} accesses\n"]
     for result in results:
         for policy in POLICIES:
-            for block, hits in enumerate(result.outcomes[policy].hits):
-                lines.append(f"{csv_place(result, policy)},{BLOCK * block},{BLOCK},{hits}\n")
+            hits = " ".join(map(str, result.outcomes[policy].hits))
+            lines.append(f"{csv_place(result, policy)},{hits}\n")
     return "".join(lines)
 
 
