@@ -1,22 +1,25 @@
 #!/usr/bin/env python3
 """What a report must say of a trace, computed from the trace alone.
 
-usage: model.py ratios|costs TRACE FRAMES INTERVAL ACCESSES TAKEOVER..
+usage: model.py TRACE FRAMES INTERVAL ACCESSES HABITS TAKEOVER..
 
-It prints ratios.csv, or costs.csv without its last column, which is a time. No code is shared with the report or with
-warmplay: histories are dictionaries of the two latest times, pools are sets, and a victim is found by comparing all
-resident pages, by the definitions of docs/DEFINITIONS.md (the greatest backward 2-distance leaves first, then the older
-latest reference, then the lesser page).
+HABITS are ONCE-IN/HOLD, parted by commas. It prints ratios.csv, and then costs.csv without its last column, which is
+a time. No code is shared with the report or with warmplay: histories are dictionaries of the two latest times, pools
+are sets, and a victim is found by comparing all resident pages, by the definitions of docs/DEFINITIONS.md (the
+greatest backward 2-distance leaves first, then the older latest reference, then the lesser page).
 """
 
 import random
 import sys
+from collections import deque
 from typing import Callable
 
 NEVER = 0  # before every time: times are counted from 1
 RATIO_OVER = 200
-NAMES = ["primary", "cold", "history", "warmed", "last use", "1 of 2", "1 of 10"]
+NAMES = ["primary", "cold", "history", "warmed"]
+NAMES += ["restored", "restored 1", "restored 10", "last use", "1 of 2", "1 of 10"]
 
+Habit = tuple[int, int]  # accesses in which a page's references count once, and for which its page cannot leave
 Times = tuple[int, int]  # the second latest time of a page's references, and the latest; NEVER where there is none
 Known = dict[int, Times]
 
@@ -36,21 +39,36 @@ def united(known: Known, more: Known) -> Known:
 
 
 class Pool:
-    """A replica: what it knows, and which pages are in its frames."""
+    """A replica: what it knows, which pages are in its frames, and what its own worker did."""
 
-    def __init__(self, frames: int, known: Known) -> None:
+    def __init__(self, frames: int, known: Known, habit: Habit) -> None:
         self.frames, self.known, self.resident = frames, dict(known), set[int]()
-        self.loaded = 0
+        self.loaded = self.referred = 0
+        self.once_in, hold = habit
+        self.counted: dict[int, int] = {}
+        self.stays: deque[int] = deque(maxlen=hold - 1)  # the pages of the accesses before this one that still stay
 
     def refer(self, page: int, time: int) -> None:
         """A reference, later than all before it."""
         self.known[page] = (self.known.get(page, (NEVER, NEVER))[1], time)
 
+    def access(self, page: int, time: int) -> bool:
+        """An access; whether it found its page in a frame."""
+        if page not in self.counted or self.counted[page] + self.once_in <= time:
+            self.counted[page] = time
+            self.referred += 1
+            self.refer(page, time)
+        found = page in self.resident
+        if not found:
+            self.load(page)
+        self.stays.append(page)
+        return found
+
     def load(self, page: int) -> None:
         """Puts a page into a frame; where all are full one leaves first."""
         self.loaded += 1
         if len(self.resident) == self.frames:
-            self.resident.remove(min(self.resident, key=leaves_first(self.known)))
+            self.resident.remove(min(self.resident.difference(self.stays), key=leaves_first(self.known)))
         self.resident.add(page)
 
     def warm(self, steps: int) -> None:
@@ -60,14 +78,7 @@ class Pool:
 
     def hits(self, accesses: list[tuple[int, int]]) -> int:
         """Makes these accesses: how many found their page in a frame."""
-        found = 0
-        for time, page in accesses:
-            self.refer(page, time)
-            if page in self.resident:
-                found += 1
-            else:
-                self.load(page)
-        return found
+        return sum(self.access(page, time) for time, page in accesses)
 
 
 def round_of(known: Known) -> list[Known]:
@@ -85,7 +96,7 @@ def size(piece: Known) -> int:
 
 
 def heard(rounds: list[list[Known]], one_of: int) -> tuple[Known, int]:
-    """What one knows to whom one of this many pieces came, a round late and two rounds late, and the bytes that came."""
+    """What one knows to whom one of this many pieces came, a round late and two rounds late, and the bytes of it."""
     dice = random.Random(1)
     pieces = [(place, piece) for place, sent in enumerate(rounds) for piece in sent]
     known: Known = {}
@@ -102,25 +113,30 @@ def heard(rounds: list[list[Known]], one_of: int) -> tuple[Known, int]:
 class Takeover:
     """The replicas at a takeover, and what they are found to do."""
 
-    def __init__(self, trace: list[tuple[int, int]], frames: int, interval: int, accesses: int, moment: int) -> None:
-        self.frames, self.moment = frames, moment
+    def __init__(
+        self, trace: list[tuple[int, int]], frames: int, interval: int, accesses: int, habit: Habit, moment: int
+    ) -> None:
+        self.frames, self.moment, self.habit = frames, moment, habit
         following = trace[moment : moment + accesses]
         self.blocks = [following[at : at + RATIO_OVER] for at in range(0, len(following), RATIO_OVER)]
         self.blocks = [block for block in self.blocks if len(block) == RATIO_OVER]
-        primary = Pool(frames, {})
+        primary = Pool(frames, {}, habit)
         rounds = []
         for time, page in trace[:moment]:
             primary.hits([(time, page)])
             if time % interval == 0 and time < moment:
                 rounds.append(round_of(primary.known))
         primary.loaded = 0
+        self.references = primary.referred
         self.sent = sum(size(piece) for sent in rounds for piece in sent)
-        self.whole: Known = {}
-        for piece in rounds[-1] if rounds else []:
-            self.whole |= piece
+        # what the primary knew at each round; nothing before the first
+        told = [{page: times for piece in sent for page, times in piece.items()} for sent in rounds] or [{}]
+        self.whole: Known = told[-1]
         self.came = {name: heard(rounds, one_of) for name, one_of in (("1 of 2", 2), ("1 of 10", 10))}
-        self.pools = {"primary": primary, "cold": Pool(frames, {}), "history": Pool(frames, self.whole)}
+        self.pools = {"primary": primary, "cold": Pool(frames, {}, habit), "history": Pool(frames, self.whole, habit)}
         self.pools["warmed"] = self.warmed(self.whole, frames)
+        for name, age in (("restored", 0), ("restored 1", 1), ("restored 10", 10)):
+            self.pools[name] = self.warmed(told[-1 - age] if age < len(told) else told[0], frames)
         self.pools["last use"] = self.dumped(trace[: len(rounds) * interval])
         self.pools |= {name: self.warmed(known, frames) for name, (known, _came) in self.came.items()}
         self.loaded = {name: pool.loaded for name, pool in self.pools.items()}
@@ -128,13 +144,13 @@ class Takeover:
 
     def warmed(self, known: Known, steps: int) -> Pool:
         """A pool whose replica knows this, after this many warm-up steps."""
-        pool = Pool(self.frames, known)
+        pool = Pool(self.frames, known, self.habit)
         pool.warm(steps)
         return pool
 
     def dumped(self, accesses: list[tuple[int, int]]) -> Pool:
         """The pages of latest last use, each known by that use alone."""
-        pool = Pool(self.frames, {})
+        pool = Pool(self.frames, {}, self.habit)
         uses = {page: time for time, page in accesses}
         for page in sorted(uses, key=lambda page: uses[page])[-self.frames :]:
             pool.refer(page, uses[page])
@@ -152,13 +168,14 @@ class Takeover:
                 return str(steps)
         return ""
 
+    def place(self, name: str) -> str:
+        """What the lines of one policy begin with."""
+        once_in, hold = self.habit
+        return f"{self.frames},{self.moment},{once_in},{hold},{name}"
+
     def ratio_lines(self) -> list[str]:
         """The lines of ratios.csv."""
-        return [
-            f"{self.frames},{self.moment},{name},{RATIO_OVER * place},{RATIO_OVER},{hits}"
-            for name in NAMES
-            for place, hits in enumerate(self.found[name])
-        ]
+        return [f"{self.place(name)},{' '.join(map(str, self.found[name]))}" for name in NAMES]
 
     def cost_line(self, name: str) -> str:
         """The line of costs.csv of one policy, without the time."""
@@ -168,10 +185,12 @@ class Takeover:
             if self.is_near(hits, place):
                 near = f"{RATIO_OVER * (place + 1)},{reads}"
                 break
-        came = self.came[name][1] if name in self.came else self.sent if name in ("history", "warmed") else 0
+        deaf = name in ("primary", "cold", "last use")
+        came = 0 if deaf else self.came[name][1] if name in self.came else self.sent
         sent = self.sent if came else 0
+        references = self.references if name == "primary" else ""
         steps = self.steps_needed() if name == "warmed" else ""
-        return f"{self.frames},{self.moment},{name},{near or ','},{self.loaded[name]},{sent},{came},{steps}"
+        return f"{self.place(name)},{near or ','},{self.loaded[name]},{references},{sent},{came},{steps}"
 
     def cost_lines(self) -> list[str]:
         """The lines of costs.csv, without the times."""
@@ -189,20 +208,21 @@ def accesses_of(path: str) -> list[tuple[int, int]]:
 
 def main() -> None:
     match sys.argv[1:]:
-        case ["ratios" | "costs" as what, path, *numbers] if len(numbers) >= 4:
-            frames, interval, accesses, *moments = map(int, numbers)
+        case [path, frames, interval, accesses, words, *moments] if moments:
+            habits = [(int(once_in), int(hold)) for once_in, hold in (word.split("/") for word in words.split(","))]
         case _:
             sys.exit(__doc__)
     trace = accesses_of(path)
-    heads = {
-        "ratios": "frames,takeover,policy,after,accesses,hits",
-        "costs": "frames,takeover,policy,near_after,near_reads,loaded,gossip_sent,gossip_came,steps_needed",
-    }
-    print(heads[what])
-    for moment in moments:
-        takeover = Takeover(trace, frames, interval, accesses, moment)
-        lines = takeover.ratio_lines() if what == "ratios" else takeover.cost_lines()
-        print("\n".join(lines))
+    found = [
+        Takeover(trace, int(frames), int(interval), int(accesses), habit, int(moment))
+        for moment in moments
+        for habit in habits
+    ]
+    places = "frames,takeover,once_in,hold,policy"
+    print(f"{places},hits in each {RATIO_OVER} accesses")
+    print("\n".join(line for takeover in found for line in takeover.ratio_lines()))
+    print(f"{places},near_after,near_reads,loaded,references,gossip_sent,gossip_came,steps_needed")
+    print("\n".join(line for takeover in found for line in takeover.cost_lines()))
 
 
 if __name__ == "__main__":

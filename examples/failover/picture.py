@@ -2,22 +2,24 @@
 
 from html import escape
 
-from case import BLOCK, POLICIES, Outcome, Result
+from case import BLOCK, COLD, HALF, HISTORY, LAST_USE, PRIMARY, RESTORED_10, TENTH, WARMED, Outcome, Result
+from replicas import Habit
 
 WIDTH, HEIGHT = 250, 170  # of a panel
 LEFT, TOP, RIGHT, BOTTOM = 34, 26, 18, 22  # inside of a panel, around its lines
 LEGEND = 50  # height above the panels
 
-# Of each policy the colour, the width of its line, and its dashes.
-STYLES = dict(zip(POLICIES, [
-    ("#222222", 2.0, ""),
-    ("#7f7f7f", 1.2, ""),
-    ("#b07aa1", 1.2, "2 2"),
-    ("#d62728", 2.0, ""),
-    ("#1f77b4", 1.4, ""),
-    ("#ff7f0e", 1.2, "5 2"),
-    ("#2ca02c", 1.2, "5 2"),
-]))  # fmt: skip
+# Of each policy that is drawn the colour, the width of its line, and its dashes. Restored would hide warmed.
+STYLES = {
+    PRIMARY: ("#222222", 2.0, ""),
+    COLD: ("#7f7f7f", 1.2, ""),
+    HISTORY: ("#b07aa1", 1.2, "2 2"),
+    WARMED: ("#d62728", 2.0, ""),
+    RESTORED_10: ("#8c564b", 1.3, "6 2 2 2"),
+    LAST_USE: ("#1f77b4", 1.4, ""),
+    HALF: ("#ff7f0e", 1.2, "5 2"),
+    TENTH: ("#2ca02c", 1.2, "5 2"),
+}
 
 
 def text(x: float, y: float, content: str, anchor: str = "start", size: int = 10) -> str:
@@ -51,7 +53,7 @@ class Panel:
         """Title, axes and a curve for each policy."""
         plan = self.result.plan
         title = text(self.left, self.top - 8, f"{plan.frames} frames, takeover after {plan.takeover:,}", size=11)
-        curves = "".join(self.curve(policy, outcome) for policy, outcome in self.result.outcomes.items())
+        curves = "".join(self.curve(policy, self.result.outcomes[policy]) for policy in STYLES)
         return title + self.axes() + curves
 
     def axes(self) -> str:
@@ -77,12 +79,14 @@ class Panel:
         return f'<polyline points="{points}" fill="none" stroke="{colour}" stroke-width="{width}"{dashed}/>\n'
 
 
-def legend() -> str:
-    """Which line is which policy's."""
-    parts = [text(LEFT, 16, f"hit ratio in each {BLOCK} accesses, by accesses after the takeover", size=12)]
-    for place, policy in enumerate(POLICIES):
+def legend(habit: Habit) -> str:
+    """What is drawn, and which line is which policy's."""
+    words = f"hit ratio in each {BLOCK} accesses, by accesses after the takeover"
+    if habit != Habit():
+        words += f" (once in {habit.once_in}, hold {habit.hold})"
+    parts = [text(LEFT, 16, words, size=12)]
+    for place, (policy, (colour, width, dashes)) in enumerate(STYLES.items()):
         left = LEFT + 110 * place
-        colour, width, dashes = STYLES[policy]
         parts.append(
             f'<line x1="{left}" y1="34" x2="{left + 24}" y2="34" stroke="{colour}" stroke-width="{width}"'
             f' stroke-dasharray="{dashes or "none"}"/>\n'
@@ -91,25 +95,28 @@ def legend() -> str:
     return "".join(parts)
 
 
-def picture(results: list[Result]) -> str:
-    """A panel for each case: a row for each number of frames, a column for each takeover."""
+def lowest_ratio(results: list[Result]) -> float:
+    """A tenth below every ratio that is drawn and below 1: the foot of all panels, so that pictures can be compared."""
+    least = min(hits for result in results for policy in STYLES for hits in result.outcomes[policy].hits)
+    return min(10 * least // BLOCK, 9) / 10
+
+
+def picture(habit: Habit, results: list[Result], lowest: float) -> str:
+    """A panel for each case of a habit: a row for each number of frames, a column for each takeover."""
     rows = sorted({result.plan.frames for result in results})
     columns = sorted({result.plan.takeover for result in results})
-    least = min(hits for result in results for outcome in result.outcomes.values() for hits in outcome.hits)
-    # a tenth, below every ratio and below 1
-    foot = min(10 * least // BLOCK, 9) / 10
     panels = "".join(
         Panel(
             result,
             WIDTH * columns.index(result.plan.takeover),
             LEGEND + HEIGHT * rows.index(result.plan.frames),
-            foot,
+            lowest,
         ).draw()
         for result in results
     )
-    width, height = max(WIDTH * len(columns), LEFT + 110 * len(POLICIES)), LEGEND + HEIGHT * len(rows)
+    width, height = max(WIDTH * len(columns), LEFT + 110 * len(STYLES)), LEGEND + HEIGHT * len(rows)
     return (
         f'<svg xmlns="http://www.w3.org/2000/svg" viewBox="0 0 {width} {height}" width="{width}" height="{height}"'
         f' font-family="sans-serif" fill="#222222">\n<rect width="{width}" height="{height}" fill="#ffffff"/>\n'
-        f"{legend()}{panels}</svg>\n"
+        f"{legend(habit)}{panels}</svg>\n"
     )

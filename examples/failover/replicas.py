@@ -3,7 +3,7 @@
 import random
 import time
 from bisect import insort
-from collections import defaultdict
+from collections import defaultdict, deque
 from dataclasses import dataclass, field
 from itertools import islice
 
@@ -17,33 +17,53 @@ ENTRY_BYTES = (21, 31)  # an entry with one stamp, and one with two
 SEED = 1  # of the draws that say which frames arrive
 
 
-class Replica:
-    """A replica whose pins are hits or misses: a slot and generation that was answered before is a hit."""
+@dataclass(frozen=True, order=True)
+class Habit:
+    """What an embedder makes of accesses to one page that come close together.
 
-    def __init__(self, player: Player, number: int) -> None:
+    Of those within `once_in` accesses the first is handed in as a reference, and the others are not. A page stays
+    pinned for `hold` accesses, the one that pinned it included.
+    """
+
+    once_in: int = 1
+    hold: int = 1
+
+
+class Replica:
+    """A replica with one worker, whose pins are hits or misses: a slot and generation answered before is a hit."""
+
+    def __init__(self, player: Player, number: int, habit: Habit) -> None:
         self.player = player
         self.number = number
+        self.habit = habit
+        self.references = 0  # that accesses handed in
         self._seen: set[str] = set()
-        self._ending: list[str] = []
+        self._handed_in: dict[int, int] = {}  # when each page's latest reference was handed in
+        self._held: deque[list[str]] = deque()  # what ends each access whose page is still pinned
 
     def access_lines(self, access: Access) -> list[str]:
-        """The last access ends; then the page is referenced, and pinned until the next access."""
-        ending, self._ending = self._ending, []
-        return [*ending, *self._reference_lines(access), f"pin {self.number} 0:{access.page}"]
+        """The oldest access ends where its page was held long enough; then the page is referenced and pinned."""
+        ending = self._held.popleft() if len(self._held) == self.habit.hold else []
+        references = self._reference_lines(access) if self._hands_in(access) else []
+        return [*ending, *references, f"pin {self.number} 0:{access.page}"]
+
+    def has_handed_in(self, access: Access) -> bool:
+        """Whether this access, which was made, was handed in as a reference."""
+        return self._handed_in[access.page] == access.time
 
     def is_hit(self, access: Access, answer: str) -> bool:
         """Whether the access found its page in a frame, by the answer to its pin."""
         slot = answer.removeprefix("slot ")
         written = [f"put {self.number} {slot} 0 01"] if access.writes else []
-        self._ending = [*written, f"unpin {self.number} {slot}"]
+        self._held.append([*written, f"unpin {self.number} {slot}"])
         hit = slot in self._seen
         self._seen.add(slot)
         return hit
 
-    def end_access(self) -> None:
-        """Lets go of the page that the last access pinned."""
-        self.player.ask(self._ending)
-        self._ending = []
+    def end_accesses(self) -> None:
+        """Lets go of all pages that are still pinned."""
+        self.player.ask([line for ending in self._held for line in ending])
+        self._held.clear()
 
     def hear(self, frames: list[int]) -> None:
         """Frames of gossip come to the replica."""
@@ -72,9 +92,20 @@ class Replica:
         return len(dump), time.perf_counter() - begin
 
     def restart(self) -> None:
-        """History and pool are empty again."""
-        self.end_access()
+        """History and pool are empty again, and the worker remembers nothing."""
+        self.end_accesses()
         self.player.ask([f"restart {self.number}"])
+        self._seen.clear()
+        self._handed_in.clear()
+
+    def _hands_in(self, access: Access) -> bool:
+        """Whether the worker hands this access in: it does unless it did so with the page too few accesses ago."""
+        earlier = self._handed_in.get(access.page)
+        if earlier is not None and access.time - earlier < self.habit.once_in:
+            return False
+        self._handed_in[access.page] = access.time
+        self.references += 1
+        return True
 
     def _reference_lines(self, access: Access) -> list[str]:
         """The reference of an access reaches the history at once."""
