@@ -1,5 +1,6 @@
 /* What is refused, and by which status: closed handles, stale slots, short buffers, damaged frames, bad descriptors, full disks. After each
- * refusal what was there before is still there. Prints each refused call with the name of its status. */
+ * refusal what was there before is still there. Prints each refused call with the name of its status. misuse [FOLDER], where FOLDER is one on
+ * an empty disk of four blocks of 4,096 bytes. */
 #define _GNU_SOURCE
 #include <fcntl.h>
 #include <signal.h>
@@ -36,12 +37,15 @@ static void must(bool is_so, const char *what) {
 }
 #define MUST(what) must(what, "not so: " #what)
 
-static int temporary(void) {
-    char path[] = "/tmp/warm-misuse-XXXXXX";
+static int temporary_in(const char *folder) {
+    char path[512];
+    snprintf(path, sizeof path, "%s/warm-misuse-XXXXXX", folder);
     int fd = mkstemp(path);
     MUST(fd >= 0 && unlink(path) == 0);
     return fd;
 }
+
+static int temporary(void) { return temporary_in("/tmp"); }
 
 static void open_over(warm *handle, int fd, size_t frames) {
     warm_device device = {.pages = 8, .fd = fd};
@@ -119,6 +123,30 @@ static void opening(void) {
     close(fd);
 }
 
+/* Slots of a handle that was closed since mean nothing to it once it is open again, nor do slots that no call wrote. */
+static void slots_of_before(void) {
+    static const warm_slot made_up[] = {{0, 0}, {1, 0}, {UINT64_MAX, 0}, {1, 2}, {1, UINT32_MAX}};
+    int fd = temporary();
+    warm handle = {0};
+    warm_slot slot;
+    uint8_t byte = 0;
+    open_over(&handle, fd, 2);
+    OK(warm_pin(&handle, (warm_page){.no = 1}, &slot));
+    warm_close(&handle);
+    EXPECT(WARM_CLOSED, warm_read(&handle, slot, 0, &byte, 1));
+    open_over(&handle, fd, 2);
+    EXPECT(WARM_STALE_SLOT, warm_read(&handle, slot, 0, &byte, 1));
+    EXPECT(WARM_STALE_SLOT, warm_write(&handle, slot, 0, &byte, 1));
+    EXPECT(WARM_STALE_SLOT, warm_unpin(&handle, slot));
+    for (size_t at = 0; at < sizeof made_up / sizeof *made_up; at++) {
+        EXPECT(WARM_STALE_SLOT, warm_read(&handle, made_up[at], 0, &byte, 1));
+        EXPECT(WARM_STALE_SLOT, warm_write(&handle, made_up[at], 0, &byte, 0)); /* also where there is no byte to write */
+        EXPECT(WARM_STALE_SLOT, warm_unpin(&handle, made_up[at]));
+    }
+    warm_close(&handle);
+    close(fd);
+}
+
 static void slots(void) {
     int fd = temporary();
     warm handle = {0};
@@ -155,13 +183,32 @@ static void answers(warm *handle) {
     OK(warm_open(&other, 2, 1, PAGE_SIZE, &none, 0));
     OK(warm_offer(&other, frame, sizeof frame, &length));
     OK(warm_receive(handle, frame, length));
-    EXPECT(WARM_BUFFER_TOO_SMALL, warm_next_answer(handle, frame, 10, &length));
+    EXPECT(WARM_BUFFER_TOO_SMALL, warm_next_answer(handle, frame, 0, &length));
+    MUST(length == 54);
+    EXPECT(WARM_BUFFER_TOO_SMALL, warm_next_answer(handle, frame, length - 1, &length));
     MUST(length == 54); /* it stays the next */
     OK(warm_next_answer(handle, frame, length, &length));
     OK(warm_receive(&other, frame, length));
     OK(warm_history_length(&other, &count));
     MUST(count == 1);
+    OK(warm_next_answer(&other, frame, 0, &length)); /* no answer needs no room */
+    MUST(length == 0);
     warm_close(&other);
+}
+
+/* A name is cut to its room, and its whole length is written. */
+static void names(void) {
+    uint8_t name[16];
+    size_t length = 0;
+    memset(name, 'x', sizeof name);
+    OK(warm_status_name(WARM_CLOSED, name, 0, &length));
+    MUST(length == 6 && name[0] == 'x');
+    OK(warm_status_name(WARM_CLOSED, name, 3, &length));
+    MUST(length == 6 && memcmp(name, "Clox", 4) == 0);
+    OK(warm_status_name(WARM_CLOSED, name, sizeof name, &length));
+    MUST(length == 6 && memcmp(name, "Closed", 7) == 0);
+    OK(warm_status_name(-1, name, sizeof name, &length));
+    MUST(length == 7 && memcmp(name, "Unknown", 8) == 0);
 }
 
 static void buffers(void) {
@@ -187,6 +234,9 @@ static void buffers(void) {
     OK(warm_offer(&handle, frame, sizeof frame, &length));
     MUST(memcmp(frame + 19 + 7 * 32, "\x57\x8d\x81\xdb\xdf\x5f\xd3\xe0", 8) == 0); /* the digest of bucket 7 begins so, docs/FORMATS.md says */
     EXPECT(WARM_BAD_BUCKET, warm_send(&handle, 64, false, page, frame, sizeof frame, &length));
+    EXPECT(WARM_BAD_BUCKET, warm_send(&handle, 255, true, page, frame, 0, &length));
+    EXPECT(WARM_BUFFER_TOO_SMALL, warm_send(&handle, 7, false, page, frame, 0, &length));
+    MUST(length == 54);
     EXPECT(WARM_BUFFER_TOO_SMALL, warm_send(&handle, 7, false, page, frame, 53, &length));
     MUST(length == 54);
     answers(&handle);
@@ -229,6 +279,34 @@ static void damaged_frames(void) {
     OK(warm_history_length(&handle, &count));
     MUST(count == 2);
     warm_close(&handle);
+}
+
+/* Descriptors that were never good: none, of a pipe, for reading alone. */
+static void wrong_descriptors(void) {
+    int fd = temporary(), ends[2];
+    char link[64];
+    warm handle = {0};
+    warm_slot slot;
+    open_over(&handle, -1, 1);
+    EXPECT(WARM_READ_FAULT, warm_pin(&handle, (warm_page){.no = 1}, &slot));
+    warm_close(&handle);
+    MUST(pipe(ends) == 0);
+    open_over(&handle, ends[0], 1);
+    EXPECT(WARM_READ_FAULT, warm_pin(&handle, (warm_page){.no = 1}, &slot));
+    warm_close(&handle);
+    snprintf(link, sizeof link, "/proc/self/fd/%d", fd);
+    int reader = open(link, O_RDONLY);
+    MUST(reader >= 0);
+    open_over(&handle, reader, 1);
+    write_one(&handle, 'r');
+    EXPECT(WARM_FAULT, warm_write_back(&handle));
+    EXPECT(WARM_WRITE_BACK, warm_pin(&handle, (warm_page){.no = 2}, &slot));
+    MUST(read_one(&handle) == 'r');
+    warm_close(&handle);
+    close(reader);
+    close(ends[0]);
+    close(ends[1]);
+    close(fd);
 }
 
 static void descriptor_closed(void) {
@@ -292,15 +370,74 @@ static void full_for_a_time(void) {
     close(fd);
 }
 
-int main(void) {
+static uint8_t read_of(warm *handle, uint64_t no) {
+    warm_slot slot;
+    uint8_t byte;
+    OK(warm_pin(handle, (warm_page){.no = no}, &slot));
+    OK(warm_read(handle, slot, 4095, &byte, 1));
+    OK(warm_unpin(handle, slot));
+    return byte;
+}
+
+static void write_all(warm *handle, uint64_t pages) {
+    warm_slot slot;
+    for (uint64_t no = 0; no < pages; no++) {
+        uint8_t byte = (uint8_t)('A' + no);
+        OK(warm_pin(handle, (warm_page){.no = no}, &slot));
+        OK(warm_write(handle, slot, 4095, &byte, 1));
+        OK(warm_unpin(handle, slot));
+    }
+}
+
+/* A disk of four blocks, of which another file has one, gets eight pages, and then more blocks: first one, by the other file. What does
+ * not fit waits in its frame, and no page that fits is lost. */
+static void disk_full(const char *folder) {
+    enum { PAGES = 8, BLOCK = 4096 };
+    static const uint8_t block[BLOCK] = {1};
+    int fd = temporary_in(folder), other = temporary_in(folder);
+    warm handle = {0};
+    warm_slot slot;
+    uint8_t byte = 0;
+    warm_device device = {.pages = PAGES + 1, .fd = fd};
+    MUST(pwrite(other, block, BLOCK, 0) == BLOCK);
+    OK(warm_open(&handle, 1, PAGES, BLOCK, &device, 1));
+    write_all(&handle, PAGES);
+    EXPECT(WARM_FAULT, warm_write_back(&handle));
+    EXPECT(WARM_FAULT, warm_write_back(&handle));
+    for (uint64_t no = 0; no < PAGES; no++) MUST(read_of(&handle, no) == 'A' + no);
+    MUST(ftruncate(other, 0) == 0);
+    EXPECT(WARM_FAULT, warm_write_back(&handle)); /* four pages fit now */
+    for (uint64_t no = 0; no < PAGES; no++) MUST(read_of(&handle, no) == 'A' + no);
+    /* The file moves to a disk with room, under the same number. */
+    int larger = temporary();
+    for (uint64_t no = 0; no < PAGES; no++) {
+        uint8_t page[BLOCK] = {0};
+        ssize_t length = pread(fd, page, BLOCK, (off_t)(no * BLOCK));
+        MUST(length >= 0 && pwrite(larger, page, (size_t)length, (off_t)(no * BLOCK)) == length);
+    }
+    MUST(dup2(larger, fd) == fd);
+    OK(warm_write_back(&handle));
+    OK(warm_pin(&handle, (warm_page){.no = PAGES}, &slot));
+    for (uint64_t no = 0; no < PAGES; no++) MUST(pread(larger, &byte, 1, (off_t)(no * BLOCK + 4095)) == 1 && byte == 'A' + no);
+    warm_close(&handle);
+    close(larger);
+    close(other);
+    close(fd);
+}
+
+int main(int count, char **words) {
     closed_handle();
     opening();
     slots();
+    slots_of_before();
     buffers();
+    names();
     damaged_frames();
+    wrong_descriptors();
     descriptor_closed();
     always_full();
     full_for_a_time();
+    if (count > 1) disk_full(words[1]);
     printf("misuse: %d calls answered as expected\n", expected_count);
     return 0;
 }
