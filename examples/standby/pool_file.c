@@ -101,41 +101,39 @@ void pool_file_close(pool_file *file) {
 
 /* A reference that finds no memory is lost: a page then ranks lower than it should, and nothing else. */
 void pool_file_absorb(pool_file *file) {
-    if (file->batched > 0 && warm_absorb(pool_file_handle(file), file->batch, file->batched) != WARM_OK)
-        file->lost_references += file->batched;
-    file->batched = 0;
+    warm_reference references[BATCH_ROOM];
+    size_t count = batch_take(&file->batch, file->replica, references);
+    if (count > 0 && warm_absorb(pool_file_handle(file), references, count) != WARM_OK) file->lost_references += count;
 }
 
-static void refer(pool_file *file, uint64_t no) {
-    file->batch[file->batched++] = (warm_reference){.time = file->time++, .no = no, .replica = file->replica};
-    if (file->batched == POOL_BATCH) pool_file_absorb(file);
+/* A page that is in no frame does not wait for its batch: victims are chosen by all references that there were, and a page that came in
+ * without one would be the next to leave. */
+static void refer(pool_file *file, uint64_t no, bool is_in) {
+    uint64_t time = file->time++;
+    if (!batch_add(&file->batch, no, time)) {
+        pool_file_absorb(file);
+        batch_add(&file->batch, no, time);
+    }
+    if (!is_in) pool_file_absorb(file);
 }
 
 /* ---- bytes ---- */
 
-static int pin(pool_file *file, uint64_t no, warm_slot *slot, bool *came_in) {
+static int pin(pool_file *file, uint64_t no, warm_slot *slot) {
     int status = warm_pin(pool_file_handle(file), (warm_page){.no = no}, slot);
     if (status != WARM_OK) return status;
-    *came_in = residents_note(&file->residents, *slot, no);
     /* A page beyond the end of the file is made of zeros, and read from no device. */
-    if (*came_in && no * file->page_size < file->size) file->device_reads++;
+    if (residents_note(&file->residents, *slot, no) && no * file->page_size < file->size) file->device_reads++;
     return WARM_OK;
-}
-
-/* A page that came in has no rank until its reference is absorbed: it would be the next to leave. So it does not wait for its batch. */
-static void refer_to_pinned(pool_file *file, uint64_t no, bool came_in) {
-    refer(file, no);
-    if (came_in) pool_file_absorb(file);
 }
 
 static int read_part(pool_file *file, uint64_t no, size_t at, uint8_t *into, size_t length, bool is_page) {
     warm_slot slot;
-    bool came_in;
-    int status = pin(file, no, &slot, &came_in);
+    if (is_page) refer(file, no, residents_have(&file->residents, no));
+    int status = pin(file, no, &slot);
     if (status != WARM_OK) return status;
     status = warm_read(pool_file_handle(file), slot, at, into, length);
     int unpinned = warm_unpin(pool_file_handle(file), slot);
-    if (is_page) refer_to_pinned(file, no, came_in);
     return status != WARM_OK ? status : unpinned;
 }
 
@@ -160,14 +158,14 @@ static int write_past_pool(pool_file *file, uint64_t no, const uint8_t *bytes) {
  */
 static int write_part(pool_file *file, uint64_t no, size_t at, const uint8_t *bytes, size_t length) {
     warm_slot slot;
-    bool came_in, is_new = no * file->page_size >= file->size;
-    if (!is_new && length == file->page_size && !residents_have(&file->residents, no)) return write_past_pool(file, no, bytes);
-    int status = pin(file, no, &slot, &came_in);
+    bool is_in = residents_have(&file->residents, no), is_new = no * file->page_size >= file->size;
+    if (!is_new && length == file->page_size && !is_in) return write_past_pool(file, no, bytes);
+    if (is_new) refer(file, no, is_in);
+    int status = pin(file, no, &slot);
     if (status != WARM_OK) return status;
     status = warm_write(pool_file_handle(file), slot, at, bytes, length);
     if (status == WARM_OK) file->is_dirty = true;
     int unpinned = warm_unpin(pool_file_handle(file), slot);
-    if (is_new) refer_to_pinned(file, no, came_in);
     return status != WARM_OK ? status : unpinned;
 }
 
@@ -177,8 +175,17 @@ static size_t first_part(const pool_file *file, uint64_t offset, size_t length) 
     return length < rest ? length : rest;
 }
 
+/* SQLite reads the change counter at the start of a transaction. pool_file_enter has just read it. */
+static bool is_counter(const pool_file *file, size_t length, uint64_t offset) {
+    return offset == COUNTER_AT && length == POOL_COUNTER && file->size >= HEADER_PART && !file->has_written;
+}
+
 int pool_file_read(pool_file *file, uint8_t *into, size_t length, uint64_t offset) {
     if (file->is_failed) return POOL_IO;
+    if (is_counter(file, length, offset)) {
+        memcpy(into, file->counter, POOL_COUNTER);
+        return WARM_OK;
+    }
     size_t there = offset >= file->size ? 0 : length;
     if (there > 0 && length > file->size - offset) there = (size_t)(file->size - offset);
     /* SQLite reads its header in fewer bytes than the smallest page has. That is no reference to the page. */

@@ -6,6 +6,7 @@
 #include <stddef.h>
 #include <stdint.h>
 
+#include "batch.h"
 #include "residents.h"
 #include "warm.h"
 
@@ -16,7 +17,7 @@ enum {
     POOL_IO = -3     /* the system refused a call on the file, or a sync of this file failed before */
 };
 
-enum { POOL_BATCH = 64, POOL_COUNTER = 16 };
+enum { POOL_COUNTER = 16 };
 
 typedef struct pool_file {
     /* One is open. The other takes the history over where the frames of the first are out of date. A handle is not copied. */
@@ -32,8 +33,7 @@ typedef struct pool_file {
     bool is_failed;   /* a sync failed: what the file holds is unknown until SQLite opens it anew and rolls its journal back */
     uint8_t counter[POOL_COUNTER]; /* the change counter and what follows it, as the file had them when a lock was last held */
     size_t header_page_size;       /* of SQLite's pages, as the header last read or written says */
-    warm_reference batch[POOL_BATCH];
-    size_t batched;
+    batch batch;
     uint64_t time;         /* of the next reference */
     residents residents;   /* of the open handle */
     uint64_t page_reads, device_reads, warmed, lost_references, reloads, direct_writes;
