@@ -8,6 +8,7 @@
 #include <stdlib.h>
 #include <string.h>
 
+#include "fnv.h"
 #include "options.h"
 
 static void refuse(const char *what) {
@@ -61,15 +62,15 @@ static uint64_t digest_of(sqlite3 *db) {
     static const char *const rows[] = {"SELECT * FROM customers ORDER BY id", "SELECT * FROM stock ORDER BY id DESC",
         "SELECT * FROM orders ORDER BY customer, id", "SELECT * FROM order_lines ORDER BY order_no, line",
         "SELECT item, sum(amount) FROM order_lines GROUP BY item ORDER BY 2 DESC, 1"};
-    uint64_t hash = 0xcbf29ce484222325u;
+    uint64_t hash = FNV_START;
     for (size_t at = 0; at < sizeof rows / sizeof *rows; at++) {
         sqlite3_stmt *statement;
         must_be_ok(sqlite3_prepare_v2(db, rows[at], -1, &statement, NULL), db, rows[at]);
         while (sqlite3_step(statement) == SQLITE_ROW)
             for (int column = 0; column < sqlite3_column_count(statement); column++) {
-                const unsigned char *text = sqlite3_column_text(statement, column);
-                for (; text != NULL && *text != 0; text++) hash = (hash ^ *text) * 0x100000001b3u;
-                hash = (hash ^ 0xff) * 0x100000001b3u;
+                const void *text = sqlite3_column_text(statement, column);
+                int length = sqlite3_column_bytes(statement, column);
+                hash = fnv_add(fnv_add(hash, &length, sizeof length), text, (size_t)length);
             }
         must_be_ok(sqlite3_finalize(statement), db, rows[at]);
     }

@@ -8,12 +8,15 @@ make_work() {
     bin=$work/bin
     broker=
     standby=
+    primary=
+    tests=()
     trap clean_up EXIT
 }
 
+# Ends what this script started. A test that runs beside the others is a process group.
 clean_up() {
-    for process in $standby $broker; do
-        kill -9 "$process" 2> /dev/null || true
+    for process in $standby $broker $primary "${tests[@]/#/-}"; do
+        kill -9 -- "$process" 2> /dev/null || true
     done
     rm -rf "$work"
 }

@@ -16,6 +16,8 @@
 #include <time.h>
 #include <unistd.h>
 
+#include "fnv.h"
+
 enum { TOPIC_ROOM = 64, KEEPALIVE = 10, RETRY_MILLISECONDS = 200 };
 
 static void state_topic(char topic[TOPIC_ROOM], unsigned replica) { snprintf(topic, TOPIC_ROOM, "warm/%u/state", replica); }
@@ -24,7 +26,7 @@ static void forget_published(gossip *g) {
     for (int at = 0; at < BUCKETS; at++) g->buckets[at].count = 0;
 }
 
-/* A broker may have come back without the messages that it retained: all is published anew. */
+/* A broker may have come back without the messages that it retained: all is published again. */
 static void on_connect(struct mosquitto *client, void *data, int code) {
     gossip *g = data;
     char topic[TOPIC_ROOM];
@@ -99,12 +101,6 @@ void gossip_poll(gossip *g, int milliseconds) {
     usleep(1000 * (unsigned)milliseconds);
 }
 
-static uint64_t hash_of(const uint8_t *bytes, size_t length) {
-    uint64_t hash = 0xcbf29ce484222325u;
-    for (size_t at = 0; at < length; at++) hash = (hash ^ bytes[at]) * 0x100000001b3u;
-    return hash;
-}
-
 /* The place of a piece's hash, or NULL where there is no memory for it: then the piece is published again next time. */
 static uint64_t *hash_place(published *bucket, size_t piece) {
     if (piece >= bucket->room) {
@@ -122,7 +118,7 @@ static uint64_t *hash_place(published *bucket, size_t piece) {
 
 static void publish_piece(gossip *g, unsigned bucket, size_t piece, const uint8_t *frame, size_t length) {
     char topic[TOPIC_ROOM];
-    uint64_t hash = hash_of(frame, length), *known = hash_place(&g->buckets[bucket], piece);
+    uint64_t hash = fnv_add(FNV_START, frame, length), *known = hash_place(&g->buckets[bucket], piece);
     if (known != NULL && *known == hash) return;
     snprintf(topic, sizeof topic, "warm/%u/%u/%zu", g->file->replica, bucket, piece);
     if (mosquitto_publish(g->client, NULL, topic, (int)length, frame, 0, true) != MOSQ_ERR_SUCCESS) {

@@ -35,7 +35,8 @@ options options_of(int count, char **words) {
     const option known[] = {{"--db", &o.db, 0, 0}, {"--from", &o.from, 0, 0}, {"--committed", &o.committed, 0, 0}, {"--mode", &o.mode, 0, 0},
         {"--host", &o.host, 0, 0}, {"--port", 0, &o.port, 0}, {"--seed", 0, &o.seed, 0}, {"--frames", 0, &o.frames, 0},
         {"--transactions", 0, &o.transactions, 0}, {"--reads", 0, &o.reads, 0}, {"--every", 0, &o.every, 0}, {"--replica", 0, &o.replica, 0},
-        {"--peer", 0, &o.peer, 0}, {"--dies", 0, 0, &o.dies}, {"--reads-only", 0, 0, &o.reads_only}, {"--unsynced", 0, 0, &o.is_unsynced}};
+        {"--peer", 0, &o.peer, 0}, {"--dies", 0, 0, &o.dies}, {"--reads-only", 0, 0, &o.reads_only}, {"--answers", 0, 0, &o.answers},
+        {"--unsynced", 0, 0, &o.is_unsynced}};
     for (int at = 1; at < count; at++) {
         if (take(known, sizeof known / sizeof *known, words, &at)) continue;
         fprintf(stderr, "%s: unknown word %s\n", words[0], words[at]);

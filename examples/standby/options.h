@@ -14,7 +14,7 @@ typedef struct options {
     const char *host;
     uint64_t port;         /* of the broker; 0: no gossip */
     uint64_t seed, frames, transactions, reads, every, replica, peer;
-    bool dies, reads_only, is_unsynced;
+    bool dies, reads_only, answers, is_unsynced;
 } options;
 
 /* Ends the program with 2 where a word is unknown. */

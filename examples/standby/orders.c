@@ -2,8 +2,9 @@
  * orders, and 1 goes over a stretch of the stock. Few customers and items are wanted often: keys are drawn with a cubic skew. */
 #include "orders.h"
 
-#include <stdbool.h>
 #include <stddef.h>
+
+#include "fnv.h"
 
 enum { BEGIN, COMMIT, ROLLBACK, NEW_ORDER, CUSTOMER, ITEM, SELL, ADD_LINE, SET_TOTAL, CHARGE, LAST_ORDER, LOW_STOCK, STRETCH };
 
@@ -50,7 +51,7 @@ int orders_create(sqlite3 *db) {
 }
 
 int orders_begin(orders *work, sqlite3 *db, uint64_t seed) {
-    *work = (orders){.db = db, .random = seed};
+    *work = (orders){.db = db, .random = seed, .answers = FNV_START};
     for (int at = 0; at < ORDER_STATEMENTS; at++) {
         int result = sqlite3_prepare_v3(db, texts[at], -1, SQLITE_PREPARE_PERSISTENT, &work->statements[at], NULL);
         if (result != SQLITE_OK) return result;
@@ -73,14 +74,26 @@ static int64_t draw_key(orders *work, uint32_t count) {
     return 1 + ((uint32_t)(part * part * part * count) + count / 3) % count;
 }
 
+/* Each column of a row, by its type and its bytes. */
+static void add_answer(orders *work, sqlite3_stmt *statement) {
+    for (int column = 0; column < sqlite3_column_count(statement); column++) {
+        int type = sqlite3_column_type(statement, column);
+        const void *bytes = sqlite3_column_text(statement, column);
+        work->answers = fnv_add(fnv_add(work->answers, &type, sizeof type), bytes, (size_t)sqlite3_column_bytes(statement, column));
+    }
+}
+
 /* Runs a statement with so many numbers, and writes the first column of its last row, where wanted. */
 static int step(orders *work, int which, int numbers, const int64_t *values, int64_t *first) {
     sqlite3_stmt *statement = work->statements[which];
     int result = SQLITE_OK;
     for (int at = 0; at < numbers && result == SQLITE_OK; at++) result = sqlite3_bind_int64(statement, at + 1, values[at]);
     if (result != SQLITE_OK) return result;
-    while ((result = sqlite3_step(statement)) == SQLITE_ROW)
+    while ((result = sqlite3_step(statement)) == SQLITE_ROW) {
         if (first != NULL) *first = sqlite3_column_int64(statement, 0);
+        if (work->keeps_answers) add_answer(work, statement);
+    }
+    if (work->keeps_answers) work->answers = fnv_add(work->answers, &result, sizeof result);
     int reset = sqlite3_reset(statement);
     return result == SQLITE_DONE ? reset : result;
 }

@@ -3,6 +3,7 @@
 #define ORDERS_H
 
 #include <sqlite3.h>
+#include <stdbool.h>
 #include <stdint.h>
 
 enum { ORDER_CUSTOMERS = 3000, ORDER_ITEMS = 8000, ORDER_STATEMENTS = 13 };
@@ -11,7 +12,9 @@ typedef struct orders {
     sqlite3 *db;
     uint64_t random;
     sqlite3_stmt *statements[ORDER_STATEMENTS];
-    int reads_only; /* no transaction writes */
+    bool reads_only;    /* no transaction writes */
+    bool keeps_answers; /* each row that a statement answers goes into the hash, and how it ended */
+    uint64_t answers;
 } orders;
 
 /* Makes the tables, and fills customers and stock, where the database is empty. Answers an SQLite result. */

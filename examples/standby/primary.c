@@ -60,12 +60,14 @@ int main(int count, char **words) {
     must_be_ok(orders_create(db), db, "create");
     must_be_ok(orders_begin(&work, db, o.seed), db, "begin");
     work.reads_only = o.reads_only;
+    work.keeps_answers = o.answers;
     pool_file *file = pool_vfs_of(db);
     bool is_heard = o.port != 0 && file != NULL;
     if (is_heard && !gossip_open(&g, file, o.host, (int)o.port, (unsigned)o.peer)) return 1;
     if (is_heard) hear_first(&g);
     work_on(&o, &work, is_heard ? &g : NULL, file, committed);
     if (o.dies) kill(getpid(), SIGKILL);
+    if (o.answers) printf("answers %016" PRIx64 "\n", work.answers);
     orders_end(&work);
     if (is_heard) {
         gossip_publish(&g);

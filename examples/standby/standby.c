@@ -100,6 +100,7 @@ static void go_on(const options *o, sqlite3 *db) {
     int64_t order;
     uint64_t asked = 0, device = 0;
     must_be_ok(orders_begin(&work, db, o->seed), db, "begin");
+    work.keeps_answers = true;
     while (asked < o->reads) {
         must_be_ok(orders_next(&work, &order), NULL, "transaction");
         count_pages(db, pool_vfs_of(db), &asked, &device);
@@ -107,6 +108,7 @@ static void go_on(const options *o, sqlite3 *db) {
     }
     printf("standby: %s: %llu pages, %llu hits, %llu device reads\n", o->mode, (unsigned long long)asked, (unsigned long long)(asked - device),
         (unsigned long long)device);
+    printf("answers %016llx\n", (unsigned long long)work.answers);
     orders_end(&work);
 }
 
