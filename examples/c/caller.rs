@@ -1,6 +1,6 @@
 //! The same in Rust: two replicas exchange what they know, one warms up, and a page goes to the file and comes back.
 use std::fs::{File, OpenOptions};
-use std::os::fd::AsRawFd;
+use std::os::unix::io::AsRawFd;
 use std::os::unix::fs::FileExt;
 use std::ptr;
 
@@ -18,7 +18,7 @@ struct Slot { generation: u64, index: u32 }
 #[repr(C)]
 struct Device { pages: u64, fd: i32 }
 
-unsafe extern "C" {
+extern "C" {
     fn warm_open(handle: *mut Warm, replica: u16, frames: usize, page_size: usize, devices: *const Device, count: usize) -> i32;
     fn warm_close(handle: *mut Warm);
     fn warm_absorb(handle: *mut Warm, references: *const Reference, count: usize) -> i32;

@@ -79,6 +79,7 @@ static uint64_t digest_of(sqlite3 *db) {
 
 int main(int count, char **words) {
     options o = options_of(count, words);
+    register_vfs(&o);
     sqlite3 *db = open_database(&o);
     if (!says(db, "PRAGMA integrity_check", "ok")) refuse("the database is damaged");
     for (size_t at = 0; at < sizeof none_of / sizeof *none_of; at++)

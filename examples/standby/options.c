@@ -57,12 +57,16 @@ void must_be_ok(int result, sqlite3 *db, const char *what) {
     exit(1);
 }
 
+void register_vfs(const options *o) {
+    if (!is_stock(o)) must_be_ok(pool_vfs_configure(), NULL, "configure");
+    must_be_ok(pool_vfs_register((uint16_t)o->replica, (size_t)o->frames), NULL, "register");
+}
+
 /* The default VFS is not called by its name: where the machine has another default, that one is compared. */
 sqlite3 *open_database(const options *o) {
     sqlite3 *db;
     char pragmas[160];
     int flags = SQLITE_OPEN_READWRITE | SQLITE_OPEN_CREATE;
-    must_be_ok(pool_vfs_register((uint16_t)o->replica, (size_t)o->frames), NULL, "register");
     must_be_ok(is_stock(o) ? sqlite3_open_v2(o->db, &db, flags, NULL) : pool_vfs_open(o->db, flags, &db), db, o->db);
     snprintf(pragmas, sizeof pragmas, "PRAGMA synchronous = %s;", o->is_unsynced ? "OFF" : "FULL");
     must_be_ok(sqlite3_exec(db, pragmas, NULL, NULL, NULL), db, pragmas);

@@ -22,6 +22,9 @@ options options_of(int count, char **words);
 
 bool is_stock(const options *o);
 
+/* Sets the VFS "warm" up, before anything else of SQLite. Ends the program where that fails. */
+void register_vfs(const options *o);
+
 /* Opens the database by the VFS of the mode, with as many pages of cache as frames either way. Ends the program where it cannot. */
 sqlite3 *open_database(const options *o);
 

@@ -55,6 +55,7 @@ int main(int count, char **words) {
     options o = options_of(count, words);
     orders work;
     gossip g;
+    register_vfs(&o);
     sqlite3 *db = open_database(&o);
     int committed = open_committed(o.committed);
     must_be_ok(orders_create(db), db, "create");

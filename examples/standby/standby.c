@@ -122,7 +122,6 @@ static void listen_to_signals(void) {
 static void wait_warm(const options *o) {
     pool_file *file;
     gossip g;
-    must_be_ok(pool_vfs_register((uint16_t)o->replica, (size_t)o->frames), NULL, "register");
     must_be_ok(pool_vfs_prepare(o->db, &file), NULL, o->db);
     must(gossip_open(&g, file, o->host, (int)o->port, (unsigned)o->peer), "gossip");
     hear(&g);
@@ -135,6 +134,7 @@ static void wait_warm(const options *o) {
 int main(int count, char **words) {
     options o = options_of(count, words);
     listen_to_signals();
+    register_vfs(&o);
     if (o.from == NULL) {
         fprintf(stderr, "standby: --from FILE is missing\n");
         return 2;

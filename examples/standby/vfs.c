@@ -394,6 +394,16 @@ static sqlite3_vfs pool_vfs = {
     .xCurrentTimeInt64 = vfs_current_time_64,
 };
 
+int pool_vfs_configure(void) {
+    enum { SMALL_PAGE = 4096, HELD_PAGES = 32 };
+    static _Alignas(16) uint8_t room[HELD_PAGES * (SMALL_PAGE + 512)];
+    int header = 0;
+    int result = sqlite3_config(SQLITE_CONFIG_PCACHE_HDRSZ, &header);
+    int size = (SMALL_PAGE + header + 7) & ~7;
+    if (result != SQLITE_OK || size > SMALL_PAGE + 512) return result;
+    return sqlite3_config(SQLITE_CONFIG_PAGECACHE, room, size, HELD_PAGES);
+}
+
 int pool_vfs_register(uint16_t replica, size_t frames) {
     own_replica = replica;
     own_frames = frames;

@@ -8,6 +8,11 @@
 
 #define POOL_VFS "warm"
 
+/* Called before anything else of SQLite, where a program uses the VFS "warm" alone: the pages of up to 4,096 bytes that SQLite holds at a time
+ * lie in memory that is set aside for them. SQLite keeps no page here that it does not use, so each page that it asks for is otherwise
+ * an allocation. Answers an SQLite result. */
+int pool_vfs_configure(void);
+
 /* Registers the VFS "warm", which is not the default one. Each main database that is opened by it has a pool of its own, of so many frames,
  * and is this replica. Called again it changes these for databases that are opened later. Answers an SQLite result. */
 int pool_vfs_register(uint16_t replica, size_t frames);
