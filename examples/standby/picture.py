@@ -24,6 +24,12 @@ def text(x: float, y: float, content: str, anchor: str = "start") -> str:
     return f'<text x="{x:g}" y="{y:g}" text-anchor="{anchor}">{content}</text>\n'
 
 
+def ticks(most: int) -> list[int]:
+    """Round numbers from 0 on, six at most."""
+    step = next(part * 10**power for power in range(12) for part in (1, 2, 5) if most <= 5 * part * 10**power)
+    return list(range(0, most + 1, step))
+
+
 class Picture:
     """Pages asked for to the right, device reads upward."""
 
@@ -40,12 +46,12 @@ class Picture:
 
     def axes(self) -> str:
         parts = []
-        for quarter in range(5):
-            reads, pages = self.most_reads * quarter / 4, self.most_pages * quarter / 4
+        for reads in ticks(self.most_reads):
             y = self.y(reads)
             parts.append(f'<line x1="{LEFT}" y1="{y:g}" x2="{WIDTH - RIGHT}" y2="{y:g}" stroke="#dddddd"/>\n')
-            parts.append(text(LEFT - 6, y + 4, f"{reads:,.0f}", "end"))
-            parts.append(text(self.x(pages), HEIGHT - BOTTOM + 16, f"{pages:,.0f}", "middle"))
+            parts.append(text(LEFT - 6, y + 4, f"{reads:,}", "end"))
+        for pages in ticks(self.most_pages):
+            parts.append(text(self.x(pages), HEIGHT - BOTTOM + 16, f"{pages:,}", "middle"))
         parts.append(text((LEFT + WIDTH - RIGHT) / 2, HEIGHT - 8, "pages that SQLite asked for since the takeover", "middle"))
         return "".join(parts)
 
