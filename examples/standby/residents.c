@@ -4,11 +4,18 @@
 #include <stdlib.h>
 #include <string.h>
 
+/* A power of two, and at least as many as frames. */
+static size_t heads_for(size_t frames) {
+    size_t heads = 1;
+    while (heads < frames) heads *= 2;
+    return heads;
+}
+
 bool residents_open(residents *r, size_t frames) {
-    *r = (residents){.frames = frames};
+    *r = (residents){.frames = frames, .head_count = heads_for(frames)};
     r->generations = calloc(frames + 1, sizeof *r->generations);
     r->pages = calloc(frames + 1, sizeof *r->pages);
-    r->heads = calloc(frames + 1, sizeof *r->heads);
+    r->heads = calloc(r->head_count, sizeof *r->heads);
     r->next = calloc(frames + 1, sizeof *r->next);
     return r->generations != NULL && r->pages != NULL && r->heads != NULL && r->next != NULL;
 }
@@ -23,10 +30,10 @@ void residents_close(residents *r) {
 
 void residents_clear(residents *r) {
     memset(r->generations, 0, r->frames * sizeof *r->generations);
-    memset(r->heads, 0, r->frames * sizeof *r->heads);
+    memset(r->heads, 0, r->head_count * sizeof *r->heads);
 }
 
-static size_t hash_of(const residents *r, uint64_t page) { return (size_t)((page * 0x9e3779b97f4a7c15u) >> 20) % r->frames; }
+static size_t hash_of(const residents *r, uint64_t page) { return (size_t)((page * 0x9e3779b97f4a7c15u) >> 40) & (r->head_count - 1); }
 
 static void unlink_frame(residents *r, uint32_t index) {
     uint32_t *link = &r->heads[hash_of(r, r->pages[index])];

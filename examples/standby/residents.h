@@ -9,7 +9,7 @@
 #include "warm.h"
 
 typedef struct residents {
-    size_t frames;
+    size_t frames, head_count;
     uint64_t *generations; /* of each frame, when it was last noted; 0: never */
     uint64_t *pages;       /* of each frame that was noted */
     uint32_t *heads;       /* of each hash: the first of its frames, counted from 1, or 0 */

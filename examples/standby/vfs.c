@@ -10,7 +10,7 @@
  *    change counter says that the other has committed.
  *  - Files of this VFS and of the default one are not mixed in one process: the system drops a process's locks on a file when any of its
  *    descriptors of that file is closed, and neither VFS knows the other's.
- *  - What the disk cannot write at a sync makes the file fail until it is closed and opened anew, which rolls the journal back.
+ *  - What the disk cannot write at a sync makes the file fail until it is closed and opened again, which rolls the journal back.
  */
 #define _GNU_SOURCE
 #include "vfs.h"

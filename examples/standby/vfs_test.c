@@ -224,7 +224,7 @@ static void random_bytes(uint64_t seed, size_t frames) {
     close(fd);
 }
 
-/* A bucket of more pages than a frame carries is handed over in pieces: as the pool is opened anew, and as gossip publishes it. */
+/* A bucket of more pages than a frame carries is handed over in pieces: as the pool is opened again, and as gossip publishes it. */
 static void many_pages(void) {
     enum { PAGES = 2 * FRAME_ENTRIES + 500 };
     static pool_file file;
@@ -332,7 +332,33 @@ static void full_disk(void) {
     sqlite3_close(db);
 }
 
-/* Writes fail beneath the pool. Where a sync finds it, all that follows is refused until the database is opened anew. Where a write past
+/* The same on a disk that is full in earnest, until another file on it goes: what was committed before is there, and it goes on. */
+static void small_disk(void) {
+    static const char insert[] = "INSERT INTO t(b) VALUES (hex(zeroblob(10000)))";
+    static const uint8_t bytes[1 << 16] = {1};
+    char wanted[32];
+    int rows = 0, result, other = open(path_of("other"), O_RDWR | O_CREAT | O_TRUNC, 0666);
+    MUST(other >= 0 && write(other, bytes, sizeof bytes) == sizeof bytes);
+    pool_vfs_register(1, 20);
+    sqlite3 *db = open_by(POOL_VFS, "full", 0);
+    MUST(done(db, "CREATE TABLE t(a INTEGER PRIMARY KEY, b)"));
+    while ((result = sqlite3_exec(db, insert, NULL, NULL, NULL)) == SQLITE_OK) MUST(++rows < 1000);
+    MUST(result == SQLITE_FULL && rows > 2);
+    snprintf(wanted, sizeof wanted, "%d|%d|\n", rows, 20000 * rows);
+    MUST(answers(db, "SELECT count(*), sum(length(b)) FROM t", wanted));
+    MUST(is_whole(db));
+    MUST(close(other) == 0 && unlink(path_of("other")) == 0);
+    MUST(done(db, insert));
+    sqlite3_close(db);
+    db = open_by("unix", "full", 0);
+    snprintf(wanted, sizeof wanted, "%d|%d|\n", rows + 1, 20000 * (rows + 1));
+    MUST(answers(db, "SELECT count(*), sum(length(b)) FROM t", wanted));
+    MUST(is_whole(db));
+    sqlite3_close(db);
+    printf("vfs_test: %d checks on a disk that was full after %d rows\n", checks, rows);
+}
+
+/* Writes fail beneath the pool. Where a sync finds it, all that follows is refused until the database is opened again. Where a write past
  * the pool finds it, SQLite rolls the transaction back, and goes on once the file can be written. */
 static void failing_device(size_t frames, bool is_at_sync) {
     pool_vfs_register(1, frames);
@@ -480,10 +506,14 @@ static void modes(void) {
 
 int main(int count, char **words) {
     if (count < 2 || count > 4) {
-        fprintf(stderr, "usage: vfs_test FOLDER [RUNS] [SEED]\n");
+        fprintf(stderr, "usage: vfs_test FOLDER [RUNS] [SEED], or vfs_test FOLDER full, where FOLDER is on an empty disk of 512 KB\n");
         return 2;
     }
     folder = words[1];
+    if (count == 3 && strcmp(words[2], "full") == 0) {
+        small_disk();
+        return 0;
+    }
     int runs = count > 2 ? atoi(words[2]) : 12;
     uint64_t seed = count > 3 ? strtoull(words[3], NULL, 10) : 1;
     static const size_t frames[] = {1, 2, 5, 20, 100, 1000};
