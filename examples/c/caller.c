@@ -1,0 +1,99 @@
+/* Two replicas over a file each: they exchange what they know, one warms up, and a page goes to the file and comes back. */
+#define _GNU_SOURCE /* mkstemp */
+#include <stdio.h>
+#include <stdlib.h>
+#include <string.h>
+#include <unistd.h>
+
+#include "warm.h"
+
+enum { FRAMES = 4, PAGE_SIZE = 512, PAGES = 32 };
+
+/* Ends the program with the name of a status that is not Ok, and with the call that answered it. */
+static void check(int status, const char *call) {
+    char name[32] = "";
+    size_t length;
+    if (status == WARM_OK) return;
+    warm_status_name(status, (uint8_t *)name, sizeof name - 1, &length);
+    fprintf(stderr, "%s: %s\n", call, name);
+    exit(1);
+}
+#define DO(call) check(call, #call)
+
+static int open_replica(warm *handle, uint16_t number) {
+    char path[] = "/tmp/warm-caller-XXXXXX";
+    int fd = mkstemp(path);
+    warm_device device = {.pages = PAGES, .fd = fd};
+    if (fd < 0 || unlink(path) != 0) exit(1);
+    DO(warm_open(handle, number, FRAMES, PAGE_SIZE, &device, 1));
+    return fd;
+}
+
+/* Carries every answer that waits at one replica to another. The transport is yours: here it is a buffer. */
+static void carry_answers(warm *from, warm *to, uint8_t *frame, size_t room) {
+    size_t length;
+    for (;;) {
+        DO(warm_next_answer(from, frame, room, &length));
+        if (length == 0) return;
+        DO(warm_receive(to, frame, length));
+    }
+}
+
+/* One round of gossip: the first offers its digests, the second answers with what differs and a request, the first answers that. */
+static void gossip(warm *first, warm *second) {
+    static uint8_t frame[32768]; /* no frame is larger than 31,023 bytes */
+    size_t length;
+    DO(warm_offer(first, frame, sizeof frame, &length));
+    DO(warm_receive(second, frame, length));
+    carry_answers(second, first, frame, sizeof frame); /* the last of these is the request, and its answers wait at first */
+    carry_answers(first, second, frame, sizeof frame);
+}
+
+static void must_be_equal(warm *first, warm *second) {
+    uint8_t frame[4096];
+    size_t length;
+    DO(warm_offer(first, frame, sizeof frame, &length));
+    DO(warm_receive(second, frame, length));
+    DO(warm_next_answer(second, frame, sizeof frame, &length));
+    if (length != 0) exit(1); /* equal digests get no answer */
+}
+
+static void warm_up(warm *standby) {
+    warm_page page;
+    bool found = true;
+    while (found) {
+        DO(warm_step(standby, &found, &page));
+        if (found) printf("loaded page %llu\n", (unsigned long long)page.no);
+    }
+}
+
+/* Writes to a page through the pool, and looks for it in the file. */
+static void write_a_page(warm *handle, int fd) {
+    static const char text[] = "written through the pool";
+    char back[sizeof text];
+    warm_slot slot;
+    DO(warm_pin(handle, (warm_page){.no = 7}, &slot));
+    DO(warm_write(handle, slot, 100, (const uint8_t *)text, sizeof text));
+    DO(warm_read(handle, slot, 100, (uint8_t *)back, sizeof back));
+    DO(warm_unpin(handle, slot));
+    DO(warm_write_back(handle));
+    printf("%s\n", back);
+    if (pread(fd, back, sizeof back, 7 * PAGE_SIZE + 100) != sizeof back || memcmp(back, text, sizeof text) != 0) exit(1);
+}
+
+int main(void) {
+    warm first = {0}, second = {0};
+    /* A pin is no reference: whoever pins a page also absorbs one. dev is 0 throughout. */
+    const warm_reference at_first[] = {{.time = 10, .no = 7, .replica = 1}, {.time = 20, .no = 7, .replica = 1}, {.time = 30, .no = 3, .replica = 1}};
+    const warm_reference at_second[] = {{.time = 15, .no = 9, .replica = 2}, {.time = 25, .no = 9, .replica = 2}};
+    int first_fd = open_replica(&first, 1), second_fd = open_replica(&second, 2);
+    DO(warm_absorb(&first, at_first, 3));
+    DO(warm_absorb(&second, at_second, 2));
+    gossip(&first, &second);
+    must_be_equal(&first, &second);
+    warm_up(&second);
+    write_a_page(&second, second_fd);
+    warm_close(&first);
+    warm_close(&second);
+    return close(first_fd) != 0 || close(second_fd) != 0;
+}

@@ -1,0 +1,443 @@
+/* What is refused, and by which status: closed handles, stale slots, short buffers, damaged frames, bad descriptors, full disks. After each
+ * refusal what was there before is still there. Prints each refused call with the name of its status. misuse [FOLDER], where FOLDER is one on
+ * an empty disk of four blocks of 4,096 bytes. */
+#define _GNU_SOURCE
+#include <fcntl.h>
+#include <signal.h>
+#include <stdio.h>
+#include <stdlib.h>
+#include <string.h>
+#include <sys/resource.h>
+#include <unistd.h>
+
+#include "warm.h"
+
+enum { PAGE_SIZE = 512 };
+
+static int expected_count;
+
+static void expect(int wanted, int status, const char *call) {
+    uint8_t name[32] = {0};
+    size_t length;
+    warm_status_name(status, name, sizeof name - 1, &length);
+    if (status != wanted) {
+        fprintf(stderr, "misuse: %s answered %d %s, not %d\n", call, status, name, wanted);
+        exit(1);
+    }
+    if (status != WARM_OK) printf("%-14s %.70s\n", (const char *)name, call);
+    expected_count++;
+}
+#define EXPECT(wanted, call) expect(wanted, call, #call)
+#define OK(call) expect(WARM_OK, call, #call)
+
+static void must(bool is_so, const char *what) {
+    if (is_so) return;
+    fprintf(stderr, "misuse: %s\n", what);
+    exit(1);
+}
+#define MUST(what) must(what, "not so: " #what)
+
+static int temporary_in(const char *folder) {
+    char path[512];
+    snprintf(path, sizeof path, "%s/warm-misuse-XXXXXX", folder);
+    int fd = mkstemp(path);
+    MUST(fd >= 0 && unlink(path) == 0);
+    return fd;
+}
+
+static int temporary(void) { return temporary_in("/tmp"); }
+
+static void open_over(warm *handle, int fd, size_t frames) {
+    warm_device device = {.pages = 8, .fd = fd};
+    OK(warm_open(handle, 1, frames, PAGE_SIZE, &device, 1));
+}
+
+/* Page 1 gets a byte at its start. */
+static void write_one(warm *handle, uint8_t byte) {
+    warm_slot slot;
+    OK(warm_pin(handle, (warm_page){.no = 1}, &slot));
+    OK(warm_write(handle, slot, 0, &byte, 1));
+    OK(warm_unpin(handle, slot));
+}
+
+static uint8_t read_one(warm *handle) {
+    warm_slot slot;
+    uint8_t byte;
+    OK(warm_pin(handle, (warm_page){.no = 1}, &slot));
+    OK(warm_read(handle, slot, 0, &byte, 1));
+    OK(warm_unpin(handle, slot));
+    return byte;
+}
+
+static void closed_handle(void) {
+    warm handle = {0};
+    warm_slot slot = {0};
+    warm_page page = {0};
+    warm_reference reference = {.time = 1, .replica = 1};
+    uint8_t byte = 0;
+    bool found = false;
+    size_t length;
+    uint64_t horizon;
+    EXPECT(WARM_CLOSED, warm_absorb(&handle, &reference, 1));
+    EXPECT(WARM_CLOSED, warm_pin(&handle, page, &slot));
+    EXPECT(WARM_CLOSED, warm_unpin(&handle, slot));
+    EXPECT(WARM_CLOSED, warm_read(&handle, slot, 0, &byte, 1));
+    EXPECT(WARM_CLOSED, warm_write(&handle, slot, 0, &byte, 1));
+    EXPECT(WARM_CLOSED, warm_victim(&handle, &found, &page));
+    EXPECT(WARM_CLOSED, warm_list(&handle, &page, 1, &length));
+    EXPECT(WARM_CLOSED, warm_step(&handle, &found, &page));
+    EXPECT(WARM_CLOSED, warm_offer(&handle, &byte, 1, &length));
+    EXPECT(WARM_CLOSED, warm_send(&handle, 0, false, page, &byte, 1, &length));
+    EXPECT(WARM_CLOSED, warm_receive(&handle, &byte, 1));
+    EXPECT(WARM_CLOSED, warm_next_answer(&handle, &byte, 1, &length));
+    EXPECT(WARM_CLOSED, warm_horizon(&handle, 1, &horizon));
+    EXPECT(WARM_CLOSED, warm_write_back(&handle));
+    EXPECT(WARM_CLOSED, warm_history_length(&handle, &length));
+    warm_close(&handle);
+    warm_close(&handle);
+}
+
+static void opening(void) {
+    int fd = temporary();
+    warm_device device = {.pages = 8, .fd = fd}, too_large = {.pages = UINT64_MAX / PAGE_SIZE, .fd = fd};
+    warm handle = {0};
+    EXPECT(WARM_BAD_REPLICA, warm_open(&handle, 0, 1, PAGE_SIZE, &device, 1));
+    EXPECT(WARM_BAD_REPLICA, warm_open(&handle, 65, 1, PAGE_SIZE, &device, 1));
+    EXPECT(WARM_BAD_FRAMES, warm_open(&handle, 1, 0, PAGE_SIZE, &device, 1));
+    EXPECT(WARM_BAD_FRAMES, warm_open(&handle, 1, 65537, PAGE_SIZE, &device, 1));
+    EXPECT(WARM_SIZE_DIFFERS, warm_open(&handle, 1, 1, 0, &device, 1));
+    EXPECT(WARM_SIZE_DIFFERS, warm_open(&handle, 1, 1, 65537, &device, 1));
+    EXPECT(WARM_NO_DEVICE, warm_open(&handle, 1, 1, PAGE_SIZE, &too_large, 1));
+    MUST(!handle.is_open);
+    OK(warm_open(&handle, 1, 2, PAGE_SIZE, &device, 1));
+    write_one(&handle, 'a');
+    EXPECT(WARM_ALREADY_OPEN, warm_open(&handle, 1, 2, PAGE_SIZE, &device, 1));
+    MUST(read_one(&handle) == 'a'); /* the second open took nothing from the first */
+    warm_close(&handle);
+    MUST(!handle.is_open);
+    OK(warm_open(&handle, 1, 1, PAGE_SIZE, &device, 0)); /* a node without a device: a history alone */
+    warm_slot slot;
+    EXPECT(WARM_NO_DEVICE, warm_pin(&handle, (warm_page){0}, &slot));
+    OK(warm_write_back(&handle));
+    warm_close(&handle);
+    close(fd);
+}
+
+/* Slots of a handle that was closed since mean nothing to it once it is open again, nor do slots that no call wrote. */
+static void slots_of_before(void) {
+    static const warm_slot made_up[] = {{0, 0}, {1, 0}, {UINT64_MAX, 0}, {1, 2}, {1, UINT32_MAX}};
+    int fd = temporary();
+    warm handle = {0};
+    warm_slot slot;
+    uint8_t byte = 0;
+    open_over(&handle, fd, 2);
+    OK(warm_pin(&handle, (warm_page){.no = 1}, &slot));
+    warm_close(&handle);
+    EXPECT(WARM_CLOSED, warm_read(&handle, slot, 0, &byte, 1));
+    open_over(&handle, fd, 2);
+    EXPECT(WARM_STALE_SLOT, warm_read(&handle, slot, 0, &byte, 1));
+    EXPECT(WARM_STALE_SLOT, warm_write(&handle, slot, 0, &byte, 1));
+    EXPECT(WARM_STALE_SLOT, warm_unpin(&handle, slot));
+    for (size_t at = 0; at < sizeof made_up / sizeof *made_up; at++) {
+        EXPECT(WARM_STALE_SLOT, warm_read(&handle, made_up[at], 0, &byte, 1));
+        EXPECT(WARM_STALE_SLOT, warm_write(&handle, made_up[at], 0, &byte, 0)); /* also where there is no byte to write */
+        EXPECT(WARM_STALE_SLOT, warm_unpin(&handle, made_up[at]));
+    }
+    warm_close(&handle);
+    close(fd);
+}
+
+static void slots(void) {
+    int fd = temporary();
+    warm handle = {0};
+    warm_slot slot, other;
+    uint8_t bytes[PAGE_SIZE + 1] = {0};
+    open_over(&handle, fd, 1);
+    EXPECT(WARM_NO_DEVICE, warm_pin(&handle, (warm_page){.dev = 1}, &slot));
+    EXPECT(WARM_NO_PAGE, warm_pin(&handle, (warm_page){.no = 8}, &slot));
+    OK(warm_pin(&handle, (warm_page){.no = 1}, &slot));
+    EXPECT(WARM_ALL_FIXED, warm_pin(&handle, (warm_page){.no = 2}, &other));
+    EXPECT(WARM_OUT_OF_PAGE, warm_read(&handle, slot, 0, bytes, PAGE_SIZE + 1));
+    EXPECT(WARM_OUT_OF_PAGE, warm_read(&handle, slot, PAGE_SIZE + 1, bytes, 0));
+    EXPECT(WARM_OUT_OF_PAGE, warm_write(&handle, slot, PAGE_SIZE, bytes, 1));
+    EXPECT(WARM_OUT_OF_PAGE, warm_write(&handle, slot, SIZE_MAX, bytes, 2));
+    OK(warm_read(&handle, slot, PAGE_SIZE, bytes, 0)); /* no bytes, at the very end */
+    OK(warm_write(&handle, slot, 0, bytes, 0));
+    OK(warm_unpin(&handle, slot));
+    EXPECT(WARM_STALE_SLOT, warm_unpin(&handle, slot)); /* its page has no fix */
+    OK(warm_pin(&handle, (warm_page){.no = 2}, &other));
+    EXPECT(WARM_STALE_SLOT, warm_read(&handle, slot, 0, bytes, 1)); /* another page is in the frame */
+    EXPECT(WARM_STALE_SLOT, warm_write(&handle, slot, 0, bytes, 1));
+    EXPECT(WARM_STALE_SLOT, warm_write(&handle, (warm_slot){.index = 1, .generation = 1}, 0, bytes, 1)); /* no such frame */
+    OK(warm_unpin(&handle, other));
+    warm_close(&handle);
+    close(fd);
+}
+
+/* A node without references hears by digests what the other one knows: one page. */
+static void answers(warm *handle) {
+    warm other = {0};
+    warm_device none = {0};
+    uint8_t frame[4096];
+    size_t length, count;
+    OK(warm_open(&other, 2, 1, PAGE_SIZE, &none, 0));
+    OK(warm_offer(&other, frame, sizeof frame, &length));
+    OK(warm_receive(handle, frame, length));
+    EXPECT(WARM_BUFFER_TOO_SMALL, warm_next_answer(handle, frame, 0, &length));
+    MUST(length == 54);
+    EXPECT(WARM_BUFFER_TOO_SMALL, warm_next_answer(handle, frame, length - 1, &length));
+    MUST(length == 54); /* it stays the next */
+    OK(warm_next_answer(handle, frame, length, &length));
+    OK(warm_receive(&other, frame, length));
+    OK(warm_history_length(&other, &count));
+    MUST(count == 1);
+    OK(warm_next_answer(&other, frame, 0, &length)); /* no answer needs no room */
+    MUST(length == 0);
+    warm_close(&other);
+}
+
+/* A name is cut to its room, and its whole length is written. */
+static void names(void) {
+    uint8_t name[16];
+    size_t length = 0;
+    memset(name, 'x', sizeof name);
+    OK(warm_status_name(WARM_CLOSED, name, 0, &length));
+    MUST(length == 6 && name[0] == 'x');
+    OK(warm_status_name(WARM_CLOSED, name, 3, &length));
+    MUST(length == 6 && memcmp(name, "Clox", 4) == 0);
+    OK(warm_status_name(WARM_CLOSED, name, sizeof name, &length));
+    MUST(length == 6 && memcmp(name, "Closed", 7) == 0);
+    OK(warm_status_name(-1, name, sizeof name, &length));
+    MUST(length == 7 && memcmp(name, "Unknown", 8) == 0);
+}
+
+static void buffers(void) {
+    int fd = temporary();
+    warm handle = {0};
+    const warm_reference good[] = {{.time = 20, .no = 7, .replica = 1}, {.time = 10, .no = 7, .replica = 1}};
+    const warm_reference bad[] = {{.time = 30, .no = 8, .replica = 1}, {.time = 30, .no = 8, .replica = 65}};
+    uint8_t frame[4096];
+    warm_page page = {0};
+    size_t length = 0, count;
+    uint64_t horizon;
+    open_over(&handle, fd, 2);
+    OK(warm_absorb(&handle, good, 0));
+    OK(warm_absorb(&handle, good, 2));
+    EXPECT(WARM_BAD_REPLICA, warm_absorb(&handle, bad, 2));
+    OK(warm_history_length(&handle, &count));
+    MUST(count == 1); /* all or none: the first of the refused references is not there */
+    OK(warm_list(&handle, &page, 0, &count));
+    MUST(count == 0);
+    EXPECT(WARM_BUFFER_TOO_SMALL, warm_offer(&handle, frame, 0, &length));
+    MUST(length == 2067);
+    EXPECT(WARM_BUFFER_TOO_SMALL, warm_offer(&handle, frame, length - 1, &length));
+    OK(warm_offer(&handle, frame, sizeof frame, &length));
+    MUST(memcmp(frame + 19 + 7 * 32, "\x57\x8d\x81\xdb\xdf\x5f\xd3\xe0", 8) == 0); /* the digest of bucket 7 begins so, docs/FORMATS.md says */
+    EXPECT(WARM_BAD_BUCKET, warm_send(&handle, 64, false, page, frame, sizeof frame, &length));
+    EXPECT(WARM_BAD_BUCKET, warm_send(&handle, 255, true, page, frame, 0, &length));
+    EXPECT(WARM_BUFFER_TOO_SMALL, warm_send(&handle, 7, false, page, frame, 0, &length));
+    MUST(length == 54);
+    EXPECT(WARM_BUFFER_TOO_SMALL, warm_send(&handle, 7, false, page, frame, 53, &length));
+    MUST(length == 54);
+    answers(&handle);
+    OK(warm_horizon(&handle, 15, &horizon));
+    OK(warm_horizon(&handle, 3, &horizon));
+    MUST(horizon == 15); /* a horizon does not fall */
+    warm_close(&handle);
+    close(fd);
+}
+
+/* The frame of page 0:7 with 20@1 and 10@1 from replica 1, with the horizon 12: an example of docs/FORMATS.md. Each case changes one byte. */
+static void damaged_frames(void) {
+    static const uint8_t good[54] = {'L', '2', 'G', '2', 1, 0, 1, 0, 0, 0, 0, 0, 0, 0, 12, 0, 0, 0, 0x23, 0, 0, 0, 1, 0, 0,
+        0, 0, 0, 0, 0, 0, 0, 7, 2, 0, 0, 0, 0, 0, 0, 0, 20, 0, 1, 0, 0, 0, 0, 0, 0, 0, 10, 0, 1};
+    static const struct {
+        int status;
+        uint8_t at, byte;
+    } cases[] = {{WARM_BAD_MAGIC, 0, 'M'}, {WARM_BAD_MAGIC, 3, '3'}, {WARM_BAD_KIND, 4, 4}, {WARM_BAD_SENDER, 6, 65}, {WARM_TRUNCATED, 18, 0x24},
+        {WARM_BAD_LENGTH, 18, 0x22}, {WARM_BAD_LENGTH, 18, 3}, {WARM_BAD_COUNT, 21, 4}, {WARM_BAD_LENGTH, 22, 0}, {WARM_BAD_LENGTH, 22, 2},
+        {WARM_BAD_TAG, 33, 3}, {WARM_BAD_STAMP, 43, 0}, {WARM_BAD_STAMP, 51, 20}};
+    /* The same of page 0:8 in the older format, which has no horizon and four bytes of a page's number. */
+    static const uint8_t narrow[42] = {'L', '2', 'G', '1', 1, 0, 1, 0, 0, 0, 0x1f, 0, 0, 0, 1, 0, 0, 0, 0, 0, 8, 2,
+        0, 0, 0, 0, 0, 0, 0, 20, 0, 1, 0, 0, 0, 0, 0, 0, 0, 10, 0, 1};
+    uint8_t frame[sizeof good];
+    size_t count;
+    warm_device none = {0};
+    warm handle = {0};
+    OK(warm_open(&handle, 2, 1, PAGE_SIZE, &none, 0));
+    EXPECT(WARM_TRUNCATED, warm_receive(&handle, good, 0));
+    EXPECT(WARM_TRUNCATED, warm_receive(&handle, good, sizeof good - 1));
+    for (size_t at = 0; at < sizeof cases / sizeof *cases; at++) {
+        memcpy(frame, good, sizeof good);
+        frame[cases[at].at] = cases[at].byte;
+        expect(cases[at].status, warm_receive(&handle, frame, sizeof frame), "warm_receive of a damaged frame");
+        OK(warm_history_length(&handle, &count));
+        MUST(count == 0);
+    }
+    OK(warm_receive(&handle, good, sizeof good));
+    OK(warm_receive(&handle, narrow, sizeof narrow));
+    OK(warm_history_length(&handle, &count));
+    MUST(count == 2);
+    warm_close(&handle);
+}
+
+/* Descriptors that were never good: none, of a pipe, for reading alone. */
+static void wrong_descriptors(void) {
+    int fd = temporary(), ends[2];
+    char link[64];
+    warm handle = {0};
+    warm_slot slot;
+    open_over(&handle, -1, 1);
+    EXPECT(WARM_READ_FAULT, warm_pin(&handle, (warm_page){.no = 1}, &slot));
+    warm_close(&handle);
+    MUST(pipe(ends) == 0);
+    open_over(&handle, ends[0], 1);
+    EXPECT(WARM_READ_FAULT, warm_pin(&handle, (warm_page){.no = 1}, &slot));
+    warm_close(&handle);
+    snprintf(link, sizeof link, "/proc/self/fd/%d", fd);
+    int reader = open(link, O_RDONLY);
+    MUST(reader >= 0);
+    open_over(&handle, reader, 1);
+    write_one(&handle, 'r');
+    EXPECT(WARM_FAULT, warm_write_back(&handle));
+    EXPECT(WARM_WRITE_BACK, warm_pin(&handle, (warm_page){.no = 2}, &slot));
+    MUST(read_one(&handle) == 'r');
+    warm_close(&handle);
+    close(reader);
+    close(ends[0]);
+    close(ends[1]);
+    close(fd);
+}
+
+static void descriptor_closed(void) {
+    int fd = temporary(), kept = dup(fd);
+    warm handle = {0};
+    warm_slot slot;
+    uint8_t byte = 0;
+    open_over(&handle, fd, 1);
+    write_one(&handle, 'b');
+    close(fd);
+    EXPECT(WARM_READ_FAULT, warm_pin(&handle, (warm_page){.no = 2}, &slot));
+    EXPECT(WARM_FAULT, warm_write_back(&handle));
+    MUST(read_one(&handle) == 'b'); /* it is still in its frame */
+    MUST(dup2(kept, fd) == fd);     /* the same file under the same number */
+    OK(warm_write_back(&handle));
+    MUST(pread(kept, &byte, 1, PAGE_SIZE) == 1 && byte == 'b');
+    warm_close(&handle);
+    close(fd);
+    close(kept);
+}
+
+/* A device that takes no byte, as a full disk does. */
+static void always_full(void) {
+    int fd = open("/dev/full", O_RDWR);
+    if (fd < 0) {
+        puts("misuse: no /dev/full here");
+        return;
+    }
+    warm handle = {0};
+    warm_slot slot;
+    open_over(&handle, fd, 1);
+    write_one(&handle, 'c');
+    EXPECT(WARM_WRITE_BACK, warm_pin(&handle, (warm_page){.no = 2}, &slot)); /* page 1 would leave, and cannot be written */
+    EXPECT(WARM_FAULT, warm_write_back(&handle));
+    MUST(read_one(&handle) == 'c');
+    warm_close(&handle);
+    close(fd);
+}
+
+/* A file that may not grow, and then may: what waited is written. */
+static void full_for_a_time(void) {
+    int fd = temporary();
+    warm handle = {0};
+    struct rlimit old, none;
+    warm_slot slot;
+    uint8_t byte = 0;
+    open_over(&handle, fd, 1);
+    signal(SIGXFSZ, SIG_IGN);
+    write_one(&handle, 'd');
+    MUST(getrlimit(RLIMIT_FSIZE, &old) == 0);
+    none = (struct rlimit){PAGE_SIZE, old.rlim_max};
+    MUST(setrlimit(RLIMIT_FSIZE, &none) == 0);
+    int pinned = warm_pin(&handle, (warm_page){.no = 2}, &slot), written = warm_write_back(&handle);
+    MUST(setrlimit(RLIMIT_FSIZE, &old) == 0); /* before a word is printed: that is a file, too */
+    expect(WARM_WRITE_BACK, pinned, "warm_pin while the file may not grow");
+    expect(WARM_FAULT, written, "warm_write_back while the file may not grow");
+    MUST(read_one(&handle) == 'd');
+    OK(warm_write_back(&handle));
+    MUST(pread(fd, &byte, 1, PAGE_SIZE) == 1 && byte == 'd');
+    warm_close(&handle);
+    close(fd);
+}
+
+static uint8_t read_of(warm *handle, uint64_t no) {
+    warm_slot slot;
+    uint8_t byte;
+    OK(warm_pin(handle, (warm_page){.no = no}, &slot));
+    OK(warm_read(handle, slot, 4095, &byte, 1));
+    OK(warm_unpin(handle, slot));
+    return byte;
+}
+
+static void write_all(warm *handle, uint64_t pages) {
+    warm_slot slot;
+    for (uint64_t no = 0; no < pages; no++) {
+        uint8_t byte = (uint8_t)('A' + no);
+        OK(warm_pin(handle, (warm_page){.no = no}, &slot));
+        OK(warm_write(handle, slot, 4095, &byte, 1));
+        OK(warm_unpin(handle, slot));
+    }
+}
+
+/* A disk of four blocks, of which another file has one, gets eight pages, and then more blocks: first one, by the other file. What does
+ * not fit waits in its frame, and no page that fits is lost. */
+static void disk_full(const char *folder) {
+    enum { PAGES = 8, BLOCK = 4096 };
+    static const uint8_t block[BLOCK] = {1};
+    int fd = temporary_in(folder), other = temporary_in(folder);
+    warm handle = {0};
+    warm_slot slot;
+    uint8_t byte = 0;
+    warm_device device = {.pages = PAGES + 1, .fd = fd};
+    MUST(pwrite(other, block, BLOCK, 0) == BLOCK);
+    OK(warm_open(&handle, 1, PAGES, BLOCK, &device, 1));
+    write_all(&handle, PAGES);
+    EXPECT(WARM_FAULT, warm_write_back(&handle));
+    EXPECT(WARM_FAULT, warm_write_back(&handle));
+    for (uint64_t no = 0; no < PAGES; no++) MUST(read_of(&handle, no) == 'A' + no);
+    MUST(ftruncate(other, 0) == 0);
+    EXPECT(WARM_FAULT, warm_write_back(&handle)); /* four pages fit now */
+    for (uint64_t no = 0; no < PAGES; no++) MUST(read_of(&handle, no) == 'A' + no);
+    /* The file moves to a disk with room, under the same number. */
+    int larger = temporary();
+    for (uint64_t no = 0; no < PAGES; no++) {
+        uint8_t page[BLOCK] = {0};
+        ssize_t length = pread(fd, page, BLOCK, (off_t)(no * BLOCK));
+        MUST(length >= 0 && pwrite(larger, page, (size_t)length, (off_t)(no * BLOCK)) == length);
+    }
+    MUST(dup2(larger, fd) == fd);
+    OK(warm_write_back(&handle));
+    OK(warm_pin(&handle, (warm_page){.no = PAGES}, &slot));
+    for (uint64_t no = 0; no < PAGES; no++) MUST(pread(larger, &byte, 1, (off_t)(no * BLOCK + 4095)) == 1 && byte == 'A' + no);
+    warm_close(&handle);
+    close(larger);
+    close(other);
+    close(fd);
+}
+
+int main(int count, char **words) {
+    closed_handle();
+    opening();
+    slots();
+    slots_of_before();
+    buffers();
+    names();
+    damaged_frames();
+    wrong_descriptors();
+    descriptor_closed();
+    always_full();
+    full_for_a_time();
+    if (count > 1) disk_full(words[1]);
+    printf("misuse: %d calls answered as expected\n", expected_count);
+    return 0;
+}

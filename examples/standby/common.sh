@@ -1,0 +1,84 @@
+# What run, check and speed share. Sourced, with $work a folder of their own and $bin the one of the programs.
+
+# A folder for database files. kill -9 loses nothing that the system has in memory, so a file system in memory shows the same, faster.
+make_work() {
+    local parent=${TMPDIR:-/tmp}
+    [ -d /dev/shm ] && [ -w /dev/shm ] && [ -z "${TMPDIR:-}" ] && parent=/dev/shm
+    work=$(mktemp -d "$parent/warm-standby-XXXXXX")
+    bin=$work/bin
+    broker=
+    standby=
+    primary=
+    tests=()
+    trap clean_up EXIT
+}
+
+# Ends what this script started. A test that runs beside the others is a process group.
+clean_up() {
+    for process in $standby $broker $primary "${tests[@]/#/-}"; do
+        kill -9 -- "$process" 2> /dev/null || true
+    done
+    rm -rf "$work"
+}
+
+fail() {
+    echo "standby: $*" >&2
+    exit 1
+}
+
+free_port() {
+    python3 -c 'import socket; s = socket.socket(); s.bind(("127.0.0.1", 0)); print(s.getsockname()[1])'
+}
+
+# A broker that keeps nothing on disk, at $port.
+start_broker() {
+    printf 'listener %s 127.0.0.1\nallow_anonymous true\npersistence false\nlog_type error\n' "$port" > "$work/broker.conf"
+    PATH=$PATH:/usr/sbin mosquitto -c "$work/broker.conf" 2>> "$work/broker.log" &
+    broker=$!
+    # a broker that is not told of does not print its end
+    disown "$broker"
+    for _ in $(seq 100); do
+        mosquitto_pub -h 127.0.0.1 -p "$port" -t ready -m yes 2> /dev/null && return
+        sleep 0.05
+    done
+    fail "the broker did not start: $(cat "$work/broker.log")"
+}
+
+stop_broker() {
+    kill -9 "$broker"
+    broker=
+    sleep 0.1
+}
+
+# wait_for FILE PATTERN [COUNT]: until so many lines of a file have it, at most 20 seconds.
+wait_for() {
+    for _ in $(seq 400); do
+        [ "$(grep -c -- "$2" "$1" 2> /dev/null)" -ge "${3:-1}" ] && return
+        sleep 0.05
+    done
+    fail "$1 never said '$2': $(tail -n 5 "$1")"
+}
+
+start_standby() {
+    "$bin/standby" --db "$work/standby.db" --from "$work/primary.db" --port "$port" --replica 2 --peer 1 --frames "$frames" --seed 9 "$@" \
+        > "$work/warm.out" &
+    standby=$!
+}
+
+# The standby takes over, and its answer is in warm.out.
+take_over() {
+    kill -USR1 "$standby"
+    wait "$standby" || fail "the standby failed: $(tail -n 5 "$work/warm.out")"
+    standby=
+}
+
+# The same takeover without a warm history, and by stock SQLite.
+take_over_as() {
+    "$bin/standby" --db "$work/$1.db" --from "$work/primary.db" --mode "$1" --frames "$frames" --seed 9 "${@:2}" > "$work/$1.out" ||
+        fail "$1 failed"
+}
+
+# The last number of pages and of device reads of a takeover.
+last_counts() {
+    grep '^after' "$work/$1.out" | tail -n 1 | cut -d ' ' -f 2,3
+}

@@ -1,0 +1,34 @@
+/* What a sender of whole buckets needs to know of a frame's bytes (docs/FORMATS.md, section 3). */
+#ifndef FRAMES_H
+#define FRAMES_H
+
+#include <stdbool.h>
+#include <stddef.h>
+#include <stdint.h>
+
+#include "warm.h"
+
+enum { BUCKETS = 64, FRAME_ROOM = 32768, FRAME_ENTRIES = 1000 };
+
+/* The number of big-endian bytes. */
+static inline uint64_t frame_number(const uint8_t *at, int width) {
+    uint64_t value = 0;
+    for (int i = 0; i < width; i++) value = value << 8 | at[i];
+    return value;
+}
+
+/* The replica that sent a frame, or 0 where the bytes are too few for that. */
+static inline unsigned frame_sender(const uint8_t *frame, size_t length) {
+    return length < 7 ? 0 : (unsigned)frame_number(frame + 5, 2);
+}
+
+/* Whether a frame of warm_send is full, so that more entries may follow, and then its last page: the next piece is sent after it. */
+static inline bool frame_is_full(const uint8_t *frame, warm_page *last) {
+    const uint8_t *entry = frame + 23;
+    if (frame_number(frame + 19, 4) < FRAME_ENTRIES) return false;
+    for (int i = 1; i < FRAME_ENTRIES; i++) entry += entry[10] == 2 ? 31 : 21;
+    *last = (warm_page){.no = frame_number(entry + 2, 8), .dev = (uint16_t)frame_number(entry, 2)};
+    return true;
+}
+
+#endif

@@ -1,0 +1,177 @@
+/*
+ * Gossip by retained messages. A replica publishes its history bucket by bucket, in pieces of up to 1000 entries. A piece is the retained
+ * message of a topic of its own, as warm/1/17/0: replica, bucket, piece. So the broker keeps the newest state, and a subscriber that comes
+ * late, or again, gets it at once. Frames that are lost, repeated or out of order do no harm, so QoS 0 is enough.
+ *
+ * warm/1/state is "here", and by the client's last will "gone". That says that a connection ended, not that the primary is dead: a
+ * standby does not take over by it.
+ *
+ * The client runs in mosquitto_loop, in the caller's thread: a handle is used from one thread alone.
+ */
+#define _GNU_SOURCE
+#include "gossip.h"
+
+#include <stdlib.h>
+#include <string.h>
+#include <time.h>
+#include <unistd.h>
+
+#include "fnv.h"
+
+enum { TOPIC_ROOM = 64, KEEPALIVE = 10, RETRY_MILLISECONDS = 200 };
+
+static void state_topic(char topic[TOPIC_ROOM], unsigned replica) { snprintf(topic, TOPIC_ROOM, "warm/%u/state", replica); }
+
+static void forget_published(gossip *g) {
+    for (int at = 0; at < BUCKETS; at++) g->buckets[at].count = 0;
+}
+
+/* A broker may have come back without the messages that it retained: all is published again. */
+static void on_connect(struct mosquitto *client, void *data, int code) {
+    gossip *g = data;
+    char topic[TOPIC_ROOM];
+    if (code != 0) return;
+    g->is_connected = true;
+    forget_published(g);
+    state_topic(topic, g->file->replica);
+    mosquitto_publish(client, NULL, topic, 4, "here", 0, true);
+    snprintf(topic, sizeof topic, "warm/%u/#", g->peer);
+    mosquitto_subscribe(client, NULL, topic, 0);
+}
+
+static void on_disconnect(struct mosquitto *client, void *data, int code) {
+    (void)client;
+    (void)code;
+    ((gossip *)data)->is_connected = false;
+}
+
+/* A frame that is damaged, or of another format, is refused whole, and its status counted. One of the replica itself brings nothing that it
+ * does not know, or, after a restart, what it has forgotten. */
+static void on_message(struct mosquitto *client, void *data, const struct mosquitto_message *message) {
+    gossip *g = data;
+    char topic[TOPIC_ROOM];
+    (void)client;
+    state_topic(topic, g->peer);
+    size_t length = (size_t)message->payloadlen;
+    if (strcmp(message->topic, topic) == 0) {
+        g->peer_is_gone = length == 4 && memcmp(message->payload, "gone", 4) == 0;
+        return;
+    }
+    static const uint8_t no_bytes[1];
+    const uint8_t *frame = length > 0 ? message->payload : no_bytes; /* a pointer is not null, also where there is no byte */
+    int status = warm_receive(pool_file_handle(g->file), frame, length);
+    if (status >= 0 && status <= WARM_BAD_BUCKET) g->statuses[status]++;
+    if (status == WARM_OK && frame_sender(frame, length) == g->file->replica) g->own++;
+}
+
+static uint64_t milliseconds_now(void) {
+    struct timespec now;
+    clock_gettime(CLOCK_MONOTONIC, &now);
+    return (uint64_t)now.tv_sec * 1000 + (uint64_t)now.tv_nsec / 1000000;
+}
+
+/* Tries now and then: a database's transactions do not wait for a broker. */
+static void connect_to_broker(gossip *g) {
+    uint64_t now = milliseconds_now();
+    if (now < g->retry_at) return;
+    g->retry_at = now + RETRY_MILLISECONDS;
+    mosquitto_connect(g->client, g->host, g->port, KEEPALIVE);
+}
+
+bool gossip_open(gossip *g, pool_file *file, const char *host, int port, unsigned peer) {
+    char topic[TOPIC_ROOM];
+    *g = (gossip){.file = file, .host = host, .port = port, .peer = peer};
+    mosquitto_lib_init();
+    g->client = mosquitto_new(NULL, true, g);
+    if (g->client == NULL) return false;
+    state_topic(topic, file->replica);
+    mosquitto_will_set(g->client, topic, 4, "gone", 0, true);
+    mosquitto_connect_callback_set(g->client, on_connect);
+    mosquitto_disconnect_callback_set(g->client, on_disconnect);
+    mosquitto_message_callback_set(g->client, on_message);
+    connect_to_broker(g);
+    return true;
+}
+
+void gossip_poll(gossip *g, int milliseconds) {
+    int result = mosquitto_loop(g->client, milliseconds, 1);
+    if (result == MOSQ_ERR_SUCCESS) return;
+    g->is_connected = false;
+    connect_to_broker(g);
+    usleep(1000 * (unsigned)milliseconds);
+}
+
+/* The place of a piece's hash, or NULL where there is no memory for it: then the piece is published again next time. */
+static uint64_t *hash_place(published *bucket, size_t piece) {
+    if (piece >= bucket->room) {
+        uint64_t *hashes = realloc(bucket->hashes, (piece + 8) * sizeof *hashes);
+        if (hashes == NULL) return NULL;
+        bucket->hashes = hashes;
+        bucket->room = piece + 8;
+    }
+    if (piece >= bucket->count) {
+        bucket->hashes[piece] = 0;
+        bucket->count = piece + 1;
+    }
+    return &bucket->hashes[piece];
+}
+
+static void publish_piece(gossip *g, unsigned bucket, size_t piece, const uint8_t *frame, size_t length) {
+    char topic[TOPIC_ROOM];
+    uint64_t hash = fnv_add(FNV_START, frame, length), *known = hash_place(&g->buckets[bucket], piece);
+    if (known != NULL && *known == hash) return;
+    snprintf(topic, sizeof topic, "warm/%u/%u/%zu", g->file->replica, bucket, piece);
+    if (mosquitto_publish(g->client, NULL, topic, (int)length, frame, 0, true) != MOSQ_ERR_SUCCESS) {
+        g->unsent++;
+        return;
+    }
+    g->sent++;
+    if (known != NULL) *known = hash;
+}
+
+static void publish_bucket(gossip *g, uint8_t bucket, uint8_t *frame) {
+    warm_page after = {0};
+    size_t piece = 0;
+    bool is_later = false;
+    do {
+        size_t length;
+        /* Without memory the rest of the bucket is published next time. */
+        if (warm_send(pool_file_handle(g->file), bucket, is_later, after, frame, FRAME_ROOM, &length) != WARM_OK) return;
+        publish_piece(g, bucket, piece++, frame, length);
+        is_later = frame_is_full(frame, &after);
+    } while (is_later);
+}
+
+void gossip_publish(gossip *g) {
+    if (!g->is_connected) {
+        g->unsent++;
+        return;
+    }
+    uint8_t *frame = malloc(FRAME_ROOM);
+    if (frame == NULL) return;
+    pool_file_absorb(g->file);
+    for (uint8_t bucket = 0; bucket < BUCKETS; bucket++) publish_bucket(g, bucket, frame);
+    free(frame);
+    while (g->is_connected && mosquitto_want_write(g->client)) gossip_poll(g, 10);
+}
+
+void gossip_print(const gossip *g, FILE *to) {
+    uint64_t all = 0;
+    for (int status = 0; status <= WARM_BAD_BUCKET; status++) all += g->statuses[status];
+    fprintf(to, "gossip: %llu frames came", (unsigned long long)all);
+    for (int status = 0; status <= WARM_BAD_BUCKET; status++) {
+        uint8_t name[32] = {0};
+        size_t length;
+        if (g->statuses[status] == 0) continue;
+        warm_status_name(status, name, sizeof name - 1, &length);
+        fprintf(to, ", %llu %s", (unsigned long long)g->statuses[status], (const char *)name);
+    }
+    fprintf(to, ", %llu of the replica itself\n", (unsigned long long)g->own);
+    fflush(to);
+}
+
+void gossip_close(gossip *g) {
+    mosquitto_destroy(g->client);
+    for (int at = 0; at < BUCKETS; at++) free(g->buckets[at].hashes);
+    mosquitto_lib_cleanup();
+}

@@ -1,0 +1,46 @@
+/* Frames of a replica's history through an MQTT broker. */
+#ifndef GOSSIP_H
+#define GOSSIP_H
+
+#include <mosquitto.h>
+#include <stdbool.h>
+#include <stdio.h>
+
+#include "frames.h"
+#include "pool_file.h"
+
+/* What was last published of a bucket: a hash of each piece. */
+typedef struct published {
+    uint64_t *hashes;
+    size_t count, room;
+} published;
+
+typedef struct gossip {
+    struct mosquitto *client;
+    pool_file *file;
+    const char *host;
+    int port;
+    unsigned peer;
+    bool is_connected, peer_is_gone;
+    uint64_t retry_at; /* when to connect again, in milliseconds */
+    published buckets[BUCKETS];
+    uint64_t sent, unsent;                   /* frames that were given to the broker, and that were not while it was gone */
+    uint64_t statuses[WARM_BAD_BUCKET + 1];  /* of frames that came */
+    uint64_t own;                            /* of these: from this replica itself */
+} gossip;
+
+/* A replica that publishes its own history, and hears that of a peer. The broker need not be there yet. False where there is no memory. */
+bool gossip_open(gossip *g, pool_file *file, const char *host, int port, unsigned peer);
+
+/* Takes what has come, and connects again where the connection is lost. Waits for so long at most. */
+void gossip_poll(gossip *g, int milliseconds);
+
+/* Publishes each piece of the history that has changed since it was last published. */
+void gossip_publish(gossip *g);
+
+/* One line: how many frames came, by the name of their status. */
+void gossip_print(const gossip *g, FILE *to);
+
+void gossip_close(gossip *g);
+
+#endif

@@ -1,0 +1,70 @@
+/* The bytes of one database file, read and written through a buffer pool. */
+#ifndef POOL_FILE_H
+#define POOL_FILE_H
+
+#include <stdbool.h>
+#include <stddef.h>
+#include <stdint.h>
+
+#include "batch.h"
+#include "residents.h"
+#include "warm.h"
+
+/* What a call answers besides the statuses of warm.h. */
+enum {
+    POOL_FULL = -1,  /* the disk has no room for the file to grow */
+    POOL_SHORT = -2, /* the file ends before the bytes do: those that are missing read as zeros */
+    POOL_IO = -3     /* the system refused a call on the file, or a sync of this file failed before */
+};
+
+enum { POOL_COUNTER = 16 };
+
+typedef struct pool_file {
+    /* One is open. The other takes the history over where the frames of the first are out of date. A handle is not copied. */
+    warm handles[2];
+    int current;
+    int fd;
+    uint16_t replica;
+    size_t frames, page_size;
+    uint64_t size;  /* of the file, as if every dirty page were written */
+    bool is_dirty;    /* something was written into the pool since the last sync: it may be in frames or in the file by now */
+    bool is_unsynced; /* the file was written or truncated past the pool since the last sync */
+    bool has_written; /* either of both, since pool_file_enter */
+    bool is_failed;   /* a sync failed: what the file holds is unknown until SQLite opens it anew and rolls its journal back */
+    uint8_t counter[POOL_COUNTER]; /* the change counter and what follows it, as the file had them when a lock was last held */
+    size_t header_page_size;       /* of SQLite's pages, as the header last read or written says */
+    batch batch;
+    uint64_t time;         /* of the next reference */
+    residents residents;   /* of the open handle */
+    uint64_t page_reads, device_reads, warmed, lost_references, reloads, direct_writes;
+} pool_file;
+
+/* A pool of so many frames over a file that is open for reading and writing. The caller closes the descriptor after pool_file_close. */
+int pool_file_open(pool_file *file, int fd, uint16_t replica, size_t frames);
+
+/* Drops what is not synced. */
+void pool_file_close(pool_file *file);
+
+/* The open handle. */
+warm *pool_file_handle(pool_file *file);
+
+int pool_file_read(pool_file *file, uint8_t *into, size_t length, uint64_t offset);
+int pool_file_write(pool_file *file, const uint8_t *bytes, size_t length, uint64_t offset);
+int pool_file_truncate(pool_file *file, uint64_t size);
+
+/* Every dirty page is in the file, and the file is on its disk. */
+int pool_file_sync(pool_file *file);
+
+/* Looks whether another process has changed the file since pool_file_leave, and drops the frames where it has. Nothing is dirty. */
+int pool_file_enter(pool_file *file);
+
+/* Notes the state of the file in which other processes may find it. Whatever is dirty is written first. */
+int pool_file_leave(pool_file *file);
+
+/* Takes the references that wait into the history. */
+void pool_file_absorb(pool_file *file);
+
+/* Loads one page of the warm-up, and writes whether there was one. */
+int pool_file_step(pool_file *file, bool *found);
+
+#endif

@@ -1,0 +1,32 @@
+/* An SQLite VFS that reads and writes the main database through a buffer pool. */
+#ifndef VFS_H
+#define VFS_H
+
+#include <sqlite3.h>
+
+#include "pool_file.h"
+
+#define POOL_VFS "warm"
+
+/* Called before anything else of SQLite, where a program uses the VFS "warm" alone: the pages of up to 4,096 bytes that SQLite holds at a time
+ * lie in memory that is set aside for them. SQLite keeps no page here that it does not use, so each page that it asks for is otherwise
+ * an allocation. Answers an SQLite result. */
+int pool_vfs_configure(void);
+
+/* Registers the VFS "warm", which is not the default one. Each main database that is opened by it has a pool of its own, of so many frames,
+ * and is this replica. Called again it changes these for databases that are opened later. Answers an SQLite result. */
+int pool_vfs_register(uint16_t replica, size_t frames);
+
+/* Makes the pool of a database file before SQLite opens it: a standby's pool hears gossip and warms up so. The next sqlite3_open of this
+ * path by the VFS "warm" takes it over, and closes it in the end. The pool is of the calling thread, and so is the connection. Answers an
+ * SQLite result. */
+int pool_vfs_prepare(const char *path, pool_file **pool);
+
+/* The pool of a connection's main database, or NULL where it was opened by another VFS. */
+pool_file *pool_vfs_of(sqlite3 *db);
+
+/* Opens a database by the VFS "warm" with the settings that it wants: the least cache of SQLite's own, as the pool has the pages, and no
+ * spilling, so that pages reach the pool once a transaction, at its commit. Answers an SQLite result; db is to be closed in either case. */
+int pool_vfs_open(const char *path, int flags, sqlite3 **db);
+
+#endif

@@ -1,0 +1,537 @@
+/* Tests of the VFS "warm": every answer is compared with that of stock SQLite on a file of its own. vfs_test FOLDER */
+#define _GNU_SOURCE
+#include <fcntl.h>
+#include <signal.h>
+#include <stdarg.h>
+#include <stdio.h>
+#include <stdlib.h>
+#include <string.h>
+#include <sys/resource.h>
+#include <sys/stat.h>
+#include <sys/wait.h>
+#include <unistd.h>
+
+#include "frames.h"
+#include "vfs.h"
+
+static const char *folder;
+static int checks;
+
+static void must(bool is_so, const char *what, int line) {
+    checks++;
+    if (is_so) return;
+    fprintf(stderr, "vfs_test: line %d: not so: %s\n", line, what);
+    exit(1);
+}
+#define MUST(what) must(what, #what, __LINE__)
+
+static const char *path_of(const char *name) {
+    static char paths[4][512];
+    static int next;
+    next = (next + 1) % 4;
+    snprintf(paths[next], sizeof paths[next], "%s/%s", folder, name);
+    return paths[next];
+}
+
+static sqlite3 *open_by(const char *vfs, const char *name, int flags) {
+    sqlite3 *db;
+    if (flags == 0) flags = SQLITE_OPEN_READWRITE | SQLITE_OPEN_CREATE;
+    int result = strcmp(vfs, POOL_VFS) == 0 ? pool_vfs_open(path_of(name), flags, &db) : sqlite3_open_v2(path_of(name), &db, flags, vfs);
+    if (result != SQLITE_OK) fprintf(stderr, "vfs_test: %s by %s: %s\n", name, vfs, sqlite3_errmsg(db));
+    MUST(result == SQLITE_OK);
+    return db;
+}
+
+static int add_row(void *text, int count, char **values, char **names) {
+    (void)names;
+    for (int at = 0; at < count; at++) sqlite3_str_appendf(text, "%s|", values[at] != NULL ? values[at] : "NULL");
+    sqlite3_str_appendchar(text, 1, '\n');
+    return 0;
+}
+
+/* The rows of a statement, or the name of its error. The caller frees it. */
+static char *answer(sqlite3 *db, const char *sql) {
+    sqlite3_str *text = sqlite3_str_new(db);
+    int result = sqlite3_exec(db, sql, add_row, text, NULL);
+    if (result != SQLITE_OK) sqlite3_str_appendf(text, "error %d %s", result, sqlite3_errmsg(db));
+    char *all = sqlite3_str_finish(text);
+    return all != NULL ? all : sqlite3_mprintf("");
+}
+
+static bool answers(sqlite3 *db, const char *sql, const char *wanted) {
+    char *given = answer(db, sql);
+    bool is_so = strcmp(given, wanted) == 0;
+    if (!is_so) fprintf(stderr, "vfs_test: %s\n answered: %.500s\n wanted: %.500s\n", sql, given, wanted);
+    sqlite3_free(given);
+    return is_so;
+}
+
+static bool is_whole(sqlite3 *db) { return answers(db, "PRAGMA integrity_check", "ok|\n"); }
+
+static bool done(sqlite3 *db, const char *sql) { return answers(db, sql, ""); }
+
+/* ---- random statements ---- */
+
+static uint64_t random_state;
+
+static uint32_t draw(uint32_t below) {
+    random_state = random_state * 6364136223846793005u + 1442695040888963407u;
+    return (uint32_t)(random_state >> 33) % below;
+}
+
+/* One statement. Some are refused, as a COMMIT without a BEGIN: then both databases refuse it. */
+static void draw_statement(char *sql, size_t room) {
+    static const char *const fixed[] = {"BEGIN", "BEGIN", "COMMIT", "COMMIT", "ROLLBACK", "SAVEPOINT s", "ROLLBACK TO s", "RELEASE s", "VACUUM",
+        "PRAGMA page_size=1024", "PRAGMA page_size=8192", "PRAGMA page_size=512", "PRAGMA page_size=4096", "PRAGMA auto_vacuum=1",
+        "PRAGMA auto_vacuum=2", "PRAGMA auto_vacuum=0", "PRAGMA incremental_vacuum(7)", "PRAGMA journal_mode=PERSIST",
+        "PRAGMA journal_mode=TRUNCATE", "PRAGMA journal_mode=DELETE", "PRAGMA synchronous=OFF", "PRAGMA synchronous=FULL",
+        "PRAGMA cache_spill=1", "PRAGMA cache_spill=0", "CREATE INDEX i ON t(b)", "DROP INDEX i", "REINDEX", "ANALYZE",
+        "PRAGMA locking_mode=EXCLUSIVE", "PRAGMA locking_mode=NORMAL", "DELETE FROM t", "PRAGMA page_count",
+        "PRAGMA freelist_count", "PRAGMA integrity_check", "PRAGMA shrink_memory", "PRAGMA secure_delete=1"};
+    uint32_t a = draw(4000), n = 1 + draw(300);
+    switch (draw(8)) {
+        case 0:
+            snprintf(sql, room, "INSERT OR REPLACE INTO t SELECT value, value * 7919 %% 1000, hex(zeroblob(value %% 97)) FROM generate(%u, %u)", a, n);
+            break;
+        case 1: snprintf(sql, room, "UPDATE t SET b = b + 1, c = c || 'xyz' WHERE a BETWEEN %u AND %u", a, a + n); break;
+        case 2: snprintf(sql, room, "DELETE FROM t WHERE a BETWEEN %u AND %u", a, a + 2 * n); break;
+        case 3: snprintf(sql, room, "SELECT count(*), sum(b), sum(length(c)) FROM t WHERE a > %u", a); break;
+        case 4: snprintf(sql, room, "SELECT a, b, substr(c, 1, 5) FROM t WHERE b = %u ORDER BY a", draw(1000)); break;
+        case 5: snprintf(sql, room, "INSERT OR REPLACE INTO t VALUES (%u, %u, hex(zeroblob(%u)))", a, n, draw(20000)); break;
+        default: snprintf(sql, room, "%s", fixed[draw(sizeof fixed / sizeof *fixed)]); break;
+    }
+}
+
+/* generate(FIRST, COUNT) is not SQLite's own: it is put in place as a recursive query. */
+static char *with_generated(const char *sql) {
+    const char *at = strstr(sql, "generate(");
+    unsigned first, count;
+    if (at == NULL || sscanf(at, "generate(%u, %u)", &first, &count) != 2) return sqlite3_mprintf("%s", sql);
+    return sqlite3_mprintf("%.*s(WITH RECURSIVE g(value) AS (SELECT %u UNION ALL SELECT value + 1 FROM g LIMIT %u) SELECT value FROM g)",
+        (int)(at - sql), sql, first, count);
+}
+
+static void same_answer(sqlite3 *one, sqlite3 *other, const char *drawn) {
+    char *sql = with_generated(drawn), *wanted = answer(one, sql);
+    MUST(answers(other, sql, wanted));
+    sqlite3_free(wanted);
+    sqlite3_free(sql);
+}
+
+static off_t size_of(const char *name) {
+    struct stat about;
+    MUST(stat(path_of(name), &about) == 0);
+    return about.st_size;
+}
+
+static void random_run(uint64_t seed, size_t frames, int statements) {
+    char sql[256];
+    random_state = seed;
+    unlink(path_of("stock"));
+    unlink(path_of("pooled"));
+    pool_vfs_register(1, frames);
+    sqlite3 *stock = open_by("unix", "stock", 0), *pooled = open_by(POOL_VFS, "pooled", 0);
+    same_answer(stock, pooled, "CREATE TABLE t(a INTEGER PRIMARY KEY, b, c)");
+    for (int at = 0; at < statements; at++) {
+        draw_statement(sql, sizeof sql);
+        same_answer(stock, pooled, sql);
+        if (draw(40) > 0) continue;
+        sqlite3_close(stock); /* an open transaction is rolled back */
+        sqlite3_close(pooled);
+        stock = open_by("unix", "stock", 0);
+        pooled = open_by(POOL_VFS, "pooled", 0);
+    }
+    sqlite3_exec(stock, "ROLLBACK; PRAGMA locking_mode=NORMAL; SELECT 1 FROM t", NULL, NULL, NULL);
+    sqlite3_exec(pooled, "ROLLBACK", NULL, NULL, NULL);
+    MUST(is_whole(pooled));
+    MUST(pool_vfs_of(pooled)->page_size == pool_vfs_of(pooled)->header_page_size);
+    sqlite3_close(pooled);
+    MUST(size_of("pooled") == size_of("stock"));
+    pooled = open_by("unix", "pooled", 0);
+    MUST(is_whole(pooled));
+    same_answer(stock, pooled, "SELECT * FROM t ORDER BY a");
+    same_answer(stock, pooled, "PRAGMA page_count");
+    sqlite3_close(pooled);
+    sqlite3_close(stock);
+}
+
+/* ---- bytes of a file beside bytes in memory ---- */
+
+enum { MODEL_ROOM = 100000 };
+
+typedef struct model {
+    uint8_t bytes[MODEL_ROOM], read[MODEL_ROOM];
+    size_t size;
+} model;
+
+static void compare_read(pool_file *file, model *m, size_t at, size_t length) {
+    size_t there = at >= m->size ? 0 : length < m->size - at ? length : m->size - at;
+    memset(m->read, 'x', length);
+    MUST(pool_file_read(file, m->read, length, at) == (there < length ? POOL_SHORT : WARM_OK));
+    MUST(memcmp(m->read, m->bytes + at, length) == 0); /* the model has zeros behind its end */
+}
+
+static void write_both(pool_file *file, model *m, size_t at, size_t length) {
+    memset(m->bytes + at, (int)(1 + draw(255)), length);
+    MUST(pool_file_write(file, m->bytes + at, length, at) == WARM_OK);
+    if (m->size < at + length) m->size = at + length;
+}
+
+static void truncate_both(pool_file *file, model *m) {
+    size_t size = draw((uint32_t)m->size + 1);
+    memset(m->bytes + size, 0, m->size - size);
+    m->size = size;
+    MUST(pool_file_truncate(file, size) == WARM_OK);
+}
+
+/* After a sync the file has the bytes and the size of the model. */
+static void sync_both(pool_file *file, model *m) {
+    MUST(pool_file_sync(file) == WARM_OK);
+    MUST(pread(file->fd, m->read, MODEL_ROOM, 0) == (ssize_t)m->size);
+    MUST(memcmp(m->read, m->bytes, m->size) == 0);
+}
+
+/* Another process writes, and counts that in the header. */
+static void foreign_write(pool_file *file, model *m) {
+    size_t at = 512 + draw(MODEL_ROOM - 8192), length = 1 + draw(3000);
+    sync_both(file, m);
+    memset(m->bytes + at, (int)(1 + draw(255)), length);
+    m->bytes[24]++; /* the counter is another than before, as SQLite's is */
+    if (m->size < at + length) m->size = at + length;
+    MUST(pwrite(file->fd, m->bytes, m->size, 0) == (ssize_t)m->size);
+    MUST(pool_file_enter(file) == WARM_OK);
+}
+
+static void random_bytes(uint64_t seed, size_t frames) {
+    static model m;
+    static pool_file file;
+    int fd = open(path_of("bytes"), O_RDWR | O_CREAT | O_TRUNC, 0666);
+    m = (model){.size = 0};
+    random_state = seed;
+    MUST(fd >= 0 && pool_file_open(&file, fd, 1, frames) == WARM_OK);
+    for (int at = 0; at < 1000; at++) {
+        uint32_t kind = draw(10), page = 512u << draw(4), length = draw(3) == 0 ? 1 + draw(5000) : page;
+        size_t offset = draw((MODEL_ROOM - 8192) / page) * page;
+        /* Bytes 16 to 39 mean something to the pool: nothing is written there. */
+        if (kind < 4 && offset >= 512) write_both(&file, &m, offset, length);
+        else if (kind < 8) compare_read(&file, &m, draw(2) == 0 ? offset : draw(MODEL_ROOM - 8192), length);
+        else if (kind == 8 && draw(4) == 0) truncate_both(&file, &m);
+        else if (kind == 9 && draw(4) == 0) foreign_write(&file, &m);
+        else if (kind == 9) sync_both(&file, &m);
+    }
+    sync_both(&file, &m);
+    pool_file_close(&file);
+    close(fd);
+}
+
+/* A bucket of more pages than a frame carries is handed over in pieces: as the pool is opened again, and as gossip publishes it. */
+static void many_pages(void) {
+    enum { PAGES = 2 * FRAME_ENTRIES + 500 };
+    static pool_file file;
+    size_t known;
+    uint8_t header[40] = {[24] = 1};
+    int fd = open(path_of("many"), O_RDWR | O_CREAT | O_TRUNC, 0666);
+    MUST(fd >= 0 && pool_file_open(&file, fd, 1, 4) == WARM_OK);
+    for (uint64_t at = 0; at < 2 * PAGES; at++) {
+        /* each third page has one stamp, and each other one has two, so that entries differ in length */
+        warm_reference reference = {.time = at + 1, .no = BUCKETS * (at % PAGES), .replica = 1};
+        if (at < PAGES || at % 3 != 0) MUST(warm_absorb(pool_file_handle(&file), &reference, 1) == WARM_OK);
+    }
+    MUST(pwrite(fd, header, sizeof header, 0) == sizeof header);
+    MUST(pool_file_enter(&file) == WARM_OK && file.reloads == 1);
+    MUST(warm_history_length(pool_file_handle(&file), &known) == WARM_OK && known == PAGES);
+    pool_file_close(&file);
+    close(fd);
+}
+
+/* ---- other connections ---- */
+
+static void two_connections(void) {
+    pool_vfs_register(1, 20);
+    sqlite3 *one = open_by(POOL_VFS, "shared", 0), *two = open_by(POOL_VFS, "shared", 0);
+    MUST(done(one, "CREATE TABLE t(a INTEGER PRIMARY KEY, b)"));
+    for (int at = 0; at < 30; at++) {
+        sqlite3 *writer = at % 2 == 0 ? one : two, *reader = at % 2 == 0 ? two : one;
+        char sql[64], wanted[32];
+        snprintf(sql, sizeof sql, "INSERT INTO t VALUES (%d, hex(zeroblob(3000)))", at);
+        snprintf(wanted, sizeof wanted, "%d|%d|\n", at + 1, (at + 1) * 6000);
+        MUST(done(writer, sql));
+        MUST(answers(reader, "SELECT count(*), sum(length(b)) FROM t", wanted));
+    }
+    MUST(pool_vfs_of(one)->reloads > 0);
+    /* A lock that one holds stays although another connection of the process closes. */
+    MUST(done(one, "BEGIN IMMEDIATE"));
+    sqlite3_close(two);
+    char command[600];
+    snprintf(command, sizeof command, "sqlite3 %s 'DELETE FROM t' 2> %s", path_of("shared"), path_of("refused"));
+    /* Another program, and no fork, which would have SQLite's own notes of this process's locks. */
+    MUST(system(command) != 0);
+    MUST(done(one, "COMMIT"));
+    MUST(system(command) == 0);
+    MUST(answers(one, "SELECT count(*) FROM t", "0|\n"));
+    sqlite3_close(one);
+}
+
+/* Runs SQL on a file by stock SQLite in another process. */
+static void elsewhere(const char *name, const char *sql) {
+    int status;
+    if (fork() == 0) {
+        sqlite3 *db = open_by("unix", name, 0);
+        int result = sqlite3_exec(db, sql, NULL, NULL, NULL);
+        if (result != SQLITE_OK) fprintf(stderr, "vfs_test: elsewhere: %s\n", sqlite3_errmsg(db));
+        _exit(result != SQLITE_OK || sqlite3_close(db) != SQLITE_OK);
+    }
+    wait(&status);
+    MUST(status == 0);
+}
+
+static void other_process(void) {
+    size_t before, after;
+    sqlite3 *db = open_by(POOL_VFS, "foreign", 0);
+    MUST(done(db, "CREATE TABLE t(a INTEGER PRIMARY KEY, b); INSERT INTO t VALUES (1, 'x'), (2, 'y')"));
+    MUST(done(db, "INSERT INTO t VALUES (3, hex(zeroblob(50000))); DELETE FROM t WHERE a = 3")); /* references to many pages */
+    MUST(answers(db, "SELECT * FROM t", "1|x|\n2|y|\n"));
+    pool_file_absorb(pool_vfs_of(db));
+    MUST(warm_history_length(pool_file_handle(pool_vfs_of(db)), &before) == WARM_OK && before > 20);
+    elsewhere("foreign", "UPDATE t SET b = 'z' WHERE a = 2; INSERT INTO t SELECT a + 10, hex(zeroblob(2000)) FROM t");
+    MUST(answers(db, "SELECT a, substr(b, 1, 2) FROM t", "1|x|\n2|z|\n11|00|\n12|00|\n"));
+    MUST(warm_history_length(pool_file_handle(pool_vfs_of(db)), &after) == WARM_OK && after >= before); /* only the frames are dropped */
+    uint64_t reloads = pool_vfs_of(db)->reloads;
+    MUST(answers(db, "SELECT count(*) FROM t", "4|\n"));
+    MUST(pool_vfs_of(db)->reloads == reloads); /* nor are they dropped twice */
+    elsewhere("foreign", "PRAGMA page_size=1024; VACUUM");
+    MUST(answers(db, "SELECT count(*) FROM t", "4|\n"));
+    MUST(pool_vfs_of(db)->page_size == 1024);
+    elsewhere("foreign", "DELETE FROM t WHERE a > 2; VACUUM");
+    MUST(answers(db, "SELECT * FROM t", "1|x|\n2|z|\n"));
+    MUST(is_whole(db));
+    sqlite3_close(db);
+}
+
+/* ---- what fails ---- */
+
+static void full_disk(void) {
+    struct rlimit old, low;
+    pool_vfs_register(1, 4);
+    sqlite3 *db = open_by(POOL_VFS, "full", 0);
+    signal(SIGXFSZ, SIG_IGN);
+    MUST(done(db, "CREATE TABLE t(a INTEGER PRIMARY KEY, b); INSERT INTO t VALUES (1, hex(zeroblob(20000)))"));
+    MUST(getrlimit(RLIMIT_FSIZE, &old) == 0);
+    low = (struct rlimit){100000, old.rlim_max};
+    MUST(setrlimit(RLIMIT_FSIZE, &low) == 0);
+    int result = sqlite3_exec(db, "INSERT INTO t VALUES (2, hex(zeroblob(100000)))", NULL, NULL, NULL);
+    MUST(setrlimit(RLIMIT_FSIZE, &old) == 0);
+    MUST(result == SQLITE_FULL);
+    MUST(answers(db, "SELECT a, length(b) FROM t", "1|40000|\n"));
+    MUST(is_whole(db));
+    MUST(done(db, "INSERT INTO t VALUES (2, hex(zeroblob(100000)))")); /* the same connection goes on */
+    MUST(answers(db, "SELECT a, length(b) FROM t", "1|40000|\n2|200000|\n"));
+    sqlite3_close(db);
+    db = open_by("unix", "full", 0);
+    MUST(is_whole(db));
+    sqlite3_close(db);
+}
+
+/* The same on a disk that is full in earnest, until another file on it goes: what was committed before is there, and it goes on. */
+static void small_disk(void) {
+    static const char insert[] = "INSERT INTO t(b) VALUES (hex(zeroblob(10000)))";
+    static const uint8_t bytes[1 << 16] = {1};
+    char wanted[32];
+    int rows = 0, result, other = open(path_of("other"), O_RDWR | O_CREAT | O_TRUNC, 0666);
+    MUST(other >= 0 && write(other, bytes, sizeof bytes) == sizeof bytes);
+    pool_vfs_register(1, 20);
+    sqlite3 *db = open_by(POOL_VFS, "full", 0);
+    MUST(done(db, "CREATE TABLE t(a INTEGER PRIMARY KEY, b)"));
+    while ((result = sqlite3_exec(db, insert, NULL, NULL, NULL)) == SQLITE_OK) MUST(++rows < 1000);
+    MUST(result == SQLITE_FULL && rows > 2);
+    snprintf(wanted, sizeof wanted, "%d|%d|\n", rows, 20000 * rows);
+    MUST(answers(db, "SELECT count(*), sum(length(b)) FROM t", wanted));
+    MUST(is_whole(db));
+    MUST(close(other) == 0 && unlink(path_of("other")) == 0);
+    MUST(done(db, insert));
+    sqlite3_close(db);
+    db = open_by("unix", "full", 0);
+    snprintf(wanted, sizeof wanted, "%d|%d|\n", rows + 1, 20000 * (rows + 1));
+    MUST(answers(db, "SELECT count(*), sum(length(b)) FROM t", wanted));
+    MUST(is_whole(db));
+    sqlite3_close(db);
+    printf("vfs_test: %d checks on a disk that was full after %d rows\n", checks, rows);
+}
+
+/* Writes fail beneath the pool. Where a sync finds it, all that follows is refused until the database is opened again. Where a write past
+ * the pool finds it, SQLite rolls the transaction back, and goes on once the file can be written. */
+static void failing_device(size_t frames, bool is_at_sync) {
+    pool_vfs_register(1, frames);
+    unlink(path_of("failing"));
+    sqlite3 *db = open_by(POOL_VFS, "failing", 0);
+    MUST(done(db, "CREATE TABLE t(a INTEGER PRIMARY KEY, b); INSERT INTO t VALUES (1, hex(zeroblob(20000)))"));
+    int fd = pool_vfs_of(db)->fd, kept = dup(fd), reader = open(path_of("failing"), O_RDONLY);
+    MUST(dup2(reader, fd) == fd);
+    int result = sqlite3_exec(db, "UPDATE t SET b = 'new'", NULL, NULL, NULL);
+    MUST((result & 0xff) == SQLITE_IOERR);
+    MUST(dup2(kept, fd) == fd);
+    MUST((sqlite3_exec(db, "SELECT b FROM t", NULL, NULL, NULL) & 0xff) == (is_at_sync ? SQLITE_IOERR : SQLITE_OK));
+    if (!is_at_sync) MUST(answers(db, "SELECT a, length(b) FROM t", "1|40000|\n"));
+    sqlite3_close(db);
+    close(kept);
+    close(reader);
+    db = open_by(POOL_VFS, "failing", 0);
+    MUST(answers(db, "SELECT a, length(b) FROM t", "1|40000|\n"));
+    MUST(is_whole(db));
+    MUST(done(db, "UPDATE t SET b = 'new'"));
+    sqlite3_close(db);
+}
+
+/* A process that ends without a word after a commit, with synchronous=OFF, loses nothing, as with a file of the system. */
+static void killed_without_sync(void) {
+    pool_vfs_register(1, 50);
+    for (int at = 1; at <= 5; at++) {
+        char wanted[32];
+        int status;
+        if (fork() == 0) {
+            sqlite3 *db = open_by(POOL_VFS, "unsynced", 0);
+            if (at > 2) MUST(answers(db, "PRAGMA locking_mode=EXCLUSIVE", "exclusive|\n")); /* no lock is lowered then */
+            MUST(done(db, "PRAGMA synchronous=OFF; CREATE TABLE IF NOT EXISTS t(a INTEGER PRIMARY KEY, b); INSERT INTO t(b) VALUES (hex(zeroblob(9000)))"));
+            kill(getpid(), SIGKILL);
+        }
+        wait(&status);
+        MUST(WIFSIGNALED(status));
+        sqlite3 *db = open_by("unix", "unsynced", 0);
+        snprintf(wanted, sizeof wanted, "%d|\n", at);
+        MUST(answers(db, "SELECT count(*) FROM t", wanted));
+        MUST(is_whole(db));
+        sqlite3_close(db);
+    }
+}
+
+/* ---- refused memory ---- */
+
+/* Of the allocations of this program and of the pool, not of SQLite's library, the one at which the countdown ends is refused. */
+static long countdown;
+
+static bool is_refused(void) { return countdown > 0 && --countdown == 0; }
+
+void *__real_malloc(size_t size);
+void *__real_calloc(size_t count, size_t size);
+void *__real_realloc(void *old, size_t size);
+void *__wrap_malloc(size_t size);
+void *__wrap_calloc(size_t count, size_t size);
+void *__wrap_realloc(void *old, size_t size);
+
+void *__wrap_malloc(size_t size) { return is_refused() ? NULL : __real_malloc(size); }
+void *__wrap_calloc(size_t count, size_t size) { return is_refused() ? NULL : __real_calloc(count, size); }
+void *__wrap_realloc(void *old, size_t size) { return is_refused() ? NULL : __real_realloc(old, size); }
+
+/* Whether SQL was done. Where it was not, memory is the reason. */
+static bool done_or_refused(sqlite3 *db, const char *sql) {
+    int result = sqlite3_exec(db, sql, NULL, NULL, NULL);
+    if (result == SQLITE_OK) return true;
+    int extended = sqlite3_extended_errcode(db);
+    MUST(result == SQLITE_NOMEM || result == SQLITE_CANTOPEN || extended == SQLITE_IOERR_NOMEM);
+    return false;
+}
+
+/* One connection commits, reads, sees that another has committed, and commits again. Gives how many rows must be there. */
+static int rows_of_a_run(long refused) {
+    sqlite3 *db;
+    int rows = 0;
+    countdown = refused;
+    if (pool_vfs_open(path_of("refused"), SQLITE_OPEN_READWRITE, &db) == SQLITE_OK) {
+        rows += done_or_refused(db, "INSERT INTO t(b) VALUES (hex(zeroblob(3000)))");
+        done_or_refused(db, "SELECT sum(length(b)) FROM t");
+        long left = countdown;
+        countdown = 0;
+        sqlite3 *other = open_by(POOL_VFS, "refused", 0);
+        MUST(done(other, "INSERT INTO t(b) VALUES ('other')"));
+        sqlite3_close(other);
+        rows++;
+        countdown = left;
+        done_or_refused(db, "SELECT count(*) FROM t");
+        rows += done_or_refused(db, "INSERT INTO t(b) VALUES (hex(zeroblob(5000)))");
+    }
+    sqlite3_close(db);
+    return rows;
+}
+
+/* Each of the first allocations is refused in a run of its own, and of the later ones those that are each by a part further. */
+static long next_refused(long refused, long part) { return refused + 1 + refused / part; }
+
+static void refused_memory(long part) {
+    int rows = 0;
+    long refused, tried = 0;
+    bool is_over = false;
+    pool_vfs_register(1, 3);
+    unlink(path_of("refused"));
+    sqlite3 *db = open_by(POOL_VFS, "refused", 0);
+    MUST(done(db, "CREATE TABLE t(a INTEGER PRIMARY KEY, b)"));
+    sqlite3_close(db);
+    for (refused = 1; !is_over; refused = next_refused(refused, part), tried++) {
+        char wanted[32];
+        rows += rows_of_a_run(refused);
+        is_over = countdown > 0; /* there were fewer allocations */
+        countdown = 0;
+        db = open_by(POOL_VFS, "refused", 0);
+        snprintf(wanted, sizeof wanted, "%d|\n", rows);
+        MUST(answers(db, "SELECT count(*) FROM t", wanted));
+        MUST(is_whole(db));
+        MUST(done(db, "DELETE FROM t WHERE a % 3 > 0 OR a < (SELECT max(a) FROM t) - 9")); /* a few stay */
+        sqlite3_close(db);
+        db = open_by("unix", "refused", 0);
+        MUST(is_whole(db));
+        char *left = answer(db, "SELECT count(*) FROM t");
+        rows = atoi(left);
+        sqlite3_free(left);
+        sqlite3_close(db);
+    }
+    printf("vfs_test: one allocation was refused in each of %ld runs\n", tried - 1);
+}
+
+static void modes(void) {
+    sqlite3 *db = open_by(POOL_VFS, "modes", 0);
+    MUST(answers(db, "PRAGMA journal_mode=WAL", "delete|\n"));
+    MUST(done(db, "CREATE TABLE t(a); INSERT INTO t VALUES (5)"));
+    MUST(answers(db, "PRAGMA journal_mode=MEMORY", "memory|\n"));
+    MUST(done(db, "INSERT INTO t VALUES (6)"));
+    MUST(pool_vfs_of(db)->reloads == 0); /* its own commits do not drop its frames */
+    MUST(done(db, "ATTACH ':memory:' AS m; CREATE TABLE m.u(a); INSERT INTO m.u SELECT a FROM t; CREATE TEMP TABLE v AS SELECT a FROM m.u"));
+    MUST(answers(db, "SELECT sum(a) FROM v", "11|\n"));
+    MUST(done(db, "DETACH m"));
+    sqlite3_close(db);
+    db = open_by(POOL_VFS, "modes", SQLITE_OPEN_READONLY);
+    MUST(answers(db, "SELECT sum(a) FROM t", "11|\n"));
+    MUST((sqlite3_exec(db, "DELETE FROM t", NULL, NULL, NULL) & 0xff) == SQLITE_READONLY);
+    sqlite3 *writer = open_by(POOL_VFS, "modes", 0); /* it shares the descriptor */
+    MUST(done(writer, "INSERT INTO t VALUES (7)"));
+    sqlite3_close(writer);
+    MUST(answers(db, "SELECT sum(a) FROM t", "18|\n"));
+    sqlite3_close(db);
+}
+
+int main(int count, char **words) {
+    if (count < 2 || count > 4) {
+        fprintf(stderr, "usage: vfs_test FOLDER [RUNS] [SEED], or vfs_test FOLDER full, where FOLDER is on an empty disk of 512 KB\n");
+        return 2;
+    }
+    folder = words[1];
+    if (count == 3 && strcmp(words[2], "full") == 0) {
+        small_disk();
+        return 0;
+    }
+    int runs = count > 2 ? atoi(words[2]) : 12;
+    uint64_t seed = count > 3 ? strtoull(words[3], NULL, 10) : 1;
+    static const size_t frames[] = {1, 2, 5, 20, 100, 1000};
+    pool_vfs_register(1, 20);
+    two_connections();
+    other_process();
+    full_disk();
+    failing_device(100, true);
+    failing_device(1, false);
+    killed_without_sync();
+    refused_memory(runs > 12 ? 1000 : 50);
+    modes();
+    many_pages();
+    for (int at = 0; at < runs; at++) random_bytes(seed + (uint64_t)at, frames[at % 6]);
+    for (int at = 0; at < runs; at++) random_run(seed + (uint64_t)at, frames[at % 6], 400);
+    printf("vfs_test: %d checks\n", checks);
+    return 0;
+}
