@@ -1,0 +1,4 @@
+pub mod DumpLemmas
+pub mod ReadLemmas
+pub mod EndLemmas
+pub mod StopLemmas
