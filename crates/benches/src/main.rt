@@ -1,11 +1,12 @@
 //! The measurements of `docs/PERFORMANCE.md`, run by the scripts in `bench/`: turn, history, pool,
-//! frames, gossip and replica.
+//! frames, files, gossip and replica.
 //!
 //! `benches NAME WORDS..` runs the bench of that name with these arguments, and prints nanoseconds;
 //! its module documents the arguments. `benches NAME` does a little of all that the bench measures,
 //! and prints the results. `benches` does so for each bench, one after the other, under its name.
 #![tactic(auto)]
 
+mod files;
 mod frames;
 mod gossip;
 mod history;
@@ -29,16 +30,18 @@ enum Bench {
     History,
     Pool,
     Frames,
+    Files,
     Gossip,
     Replica,
 }
 
 // In the order in which they run.
-const BENCHES: [Bench; 6] = [
+const BENCHES: [Bench; 7] = [
     Bench::Turn,
     Bench::History,
     Bench::Pool,
     Bench::Frames,
+    Bench::Files,
     Bench::Gossip,
     Bench::Replica,
 ];
@@ -50,9 +53,10 @@ impl Bench {
             "history" => Ok(Bench::History),
             "pool" => Ok(Bench::Pool),
             "frames" => Ok(Bench::Frames),
+            "files" => Ok(Bench::Files),
             "gossip" => Ok(Bench::Gossip),
             "replica" => Ok(Bench::Replica),
-            _ => bail!("what is measured: turn, history, pool, frames, gossip or replica"),
+            _ => bail!("what is measured: turn, history, pool, frames, files, gossip or replica"),
         }
     }
 
@@ -62,6 +66,7 @@ impl Bench {
             Bench::History => "history",
             Bench::Pool => "pool",
             Bench::Frames => "frames",
+            Bench::Files => "files",
             Bench::Gossip => "gossip",
             Bench::Replica => "replica",
         }
@@ -80,6 +85,7 @@ fn play<T: Threads + Wait + Clock + Print + AllocGlobal + Sync>(
         Bench::History => history::play(rt, words),
         Bench::Pool => pool::play(rt, words),
         Bench::Frames => frames::play(rt, words),
+        Bench::Files => files::play(rt, words),
         Bench::Gossip => gossip::play(rt, words),
         Bench::Replica => replica::play(threads, words),
     }

@@ -1,0 +1,25 @@
+//! The laws of dumps, over the definitions alone.
+//!
+//! Each function does nothing. What it ensures is a theorem, for the crates above to cite and for a reader to look up:
+//! `specs/Laws.antt` says each in full.
+ghost use Rattle.warm_files.specs.Laws.{DumpReadsBack, OneHistory, DumpIsTaken, ChangedDumpIsSeen};
+
+/// What is written of a history is a dump of it.
+pub fn dump_reads_back()
+    ensures { DumpReadsBack }
+{}
+
+/// No bytes are dumps of two histories.
+pub fn one_history()
+    ensures { OneHistory }
+{}
+
+/// A dump is refused for want of memory alone, or where its reader fails.
+pub fn dump_is_taken()
+    ensures { DumpIsTaken }
+{}
+
+/// Two dumps with one horizon and the same digests are of one history, or two texts of one bucket have one SHA-256.
+pub fn changed_dump_is_seen()
+    ensures { ChangedDumpIsSeen }
+{}

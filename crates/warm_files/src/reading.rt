@@ -1,0 +1,309 @@
+//! Reading a dump.
+ghost use Rattle.std.specs.Prelude.{◌≡◌, ◌≢◌, ◌⊎◌, ◌↔◌, ◌+◌, ◌≤◌, ◌<◌, ◌++◌, [], true, false, length, take, List, ℕ, IfOk, IfErr, IfSome, IsTrue, OnOk, Some};
+ghost use Rattle.std.specs.Io.KnownBytes.{Consumes, IsAtEnd};
+ghost use Rattle.warm_frames.specs.declared.fault.FrameFault.TheVariants as frame_faults;
+ghost use Rattle.warm_history.specs.Histories.{entries_of, holding_since, refs, StandsFor, TakesIn};
+ghost use Rattle.warm_history.specs.Losses.{raised};
+ghost use Rattle.warm_history.specs.ReferenceSets.{ReferenceSet, since};
+ghost use Rattle.warm_digest.specs.BucketDigests.{digests_of};
+ghost use Rattle.warm_files.specs.declared.fault.DumpFault.TheVariants.{Frame, DigestsDiffer, HorizonsDiffer, ReadFault};
+ghost use Rattle.warm_files.specs.Gathering.{Agrees, Gathers, HasRead, IsRefusedForGood, Rejects, Takes};
+ghost use Rattle.warm_files.specs.Reading.{EndsWithDigests, IsDump, IsRefused};
+
+use crate::fault::{DumpError, DumpFault};
+use std::alloc::Global;
+use std::io::{ErrorKind, Read};
+use warm_digest::digests;
+use warm_frames::{Decoder, DigestTable, EntryList, Fed, FrameFault, Message};
+use warm_history::History;
+
+/// How often the input is read at most. One that does not end by then is a [`DumpFault::ReadFault`].
+pub const MAX_READS: u64 = 1 << 40;
+
+/// How many bytes are read at a time.
+pub const READ_SIZE: usize = 65536;
+
+// What was read of a dump so far.
+#[derive(Drop)]
+struct Gathered {
+    alloc: Global,
+    decoder: Decoder,
+    history: History,
+    // That of the frames, once one has come.
+    horizon: Option<u64>,
+    // The digests came.
+    whole: bool,
+    // How many bytes were taken.
+    seen: u64,
+    // How many of them are those of whole frames.
+    at: u64,
+}
+
+// Whether the horizon is that of the frames before, if there was one.
+fn agrees(known: Option<u64>, horizon: u64) -> bool
+    ensures { IsTrue result ↔ Agrees known horizon }
+{
+    match known {
+        Some(known) => known == horizon,
+        None => true,
+    }
+}
+
+// Whether these are the digests of the history.
+fn has_digests(alloc: Global, history: &History, table: &DigestTable) -> Result<bool, DumpFault>
+    ensures same { IfOk result (λ same.
+        IsTrue same ↔ (table.now ≡ digests_of (entries_of history.now))) }
+    ensures stopped { IfErr result (λ why. why ≡ Frame frame_faults.Memory) }
+{
+    let own = digests(alloc, history)?;
+    Ok(own == *table)
+}
+
+// How many bytes were taken with these.
+fn count(seen: u64, taken: usize) -> Result<u64, DumpFault>
+    ensures count { IfOk result (λ count. count ≡ seen + taken) }
+    ensures stopped { IfErr result (λ why. why ≡ ReadFault) }
+{
+    match seen.checked_add(taken as u64) {
+        Some(count) => Ok(count),
+        None => Err(DumpFault::ReadFault),
+    }
+}
+
+impl Gathered {
+    // Nothing was read.
+    fn new(alloc: Global) -> Gathered
+        ensures { HasRead [] result }
+    {
+        Gathered {
+            alloc,
+            decoder: Decoder::new(alloc),
+            history: History::new(alloc),
+            horizon: None,
+            whole: false,
+            seen: 0,
+            at: 0,
+        }
+    }
+
+    // Takes in the entries of a frame.
+    fn gather(&mut self, horizon: u64, entries: &EntryList) -> Result<(), DumpFault>
+        ensures agrees { OnOk result (Agrees self.old.horizon horizon) }
+        ensures horizon { OnOk result (self.new.horizon ≡ Some horizon) }
+        ensures history { OnOk result
+            (TakesIn self.old.history (refs (holding_since horizon entries.now)) self.new.history) }
+        ensures whole { self.new.whole ≡ self.old.whole }
+        ensures decoder { self.new.decoder ≡ self.old.decoder }
+        ensures counts { (self.new.seen ≡ self.old.seen) × (self.new.at ≡ self.old.at) }
+        ensures refused { IfErr result (λ why. (why ≡ Frame frame_faults.Memory)
+            ⊎ ((why ≡ HorizonsDiffer) × (Agrees self.old.horizon horizon → ⊥))) }
+    {
+        if !agrees(self.horizon, horizon) {
+            return Err(DumpFault::HorizonsDiffer);
+        }
+        let _changed = self.history.join_entries(horizon, entries.as_slice())?;
+        self.horizon = Some(horizon);
+        Ok(())
+    }
+
+    // Ends with the digests of a frame, if they are those of the history.
+    fn close(&mut self, horizon: u64, table: &DigestTable) -> Result<(), DumpFault>
+        ensures agrees { OnOk result (Agrees self.old.horizon horizon) }
+        ensures history { OnOk result ((S : ReferenceSet) → StandsFor self.old.history S
+            → StandsFor self.new.history (since horizon S)) }
+        ensures digests { OnOk result (table.now ≡ digests_of (entries_of self.new.history)) }
+        ensures whole { OnOk result (self.new.whole ≡ true) }
+        ensures decoder { self.new.decoder ≡ self.old.decoder }
+        ensures counts { (self.new.seen ≡ self.old.seen) × (self.new.at ≡ self.old.at) }
+        ensures refused { IfErr result (λ why. (why ≡ Frame frame_faults.Memory)
+            ⊎ ((why ≡ HorizonsDiffer) × (Agrees self.old.horizon horizon → ⊥))
+            ⊎ ((why ≡ DigestsDiffer) × Agrees self.old.horizon horizon
+            × (table.now ≢ digests_of (entries_of (raised horizon self.old.history))))) }
+    {
+        if !agrees(self.horizon, horizon) {
+            return Err(DumpFault::HorizonsDiffer);
+        }
+        self.history.raise(horizon);
+        if !has_digests(self.alloc, &self.history, table)? {
+            return Err(DumpFault::DigestsDiffer);
+        }
+        self.whole = true;
+        Ok(())
+    }
+
+    // Takes a frame.
+    fn take_frame(&mut self, frame: &Message) -> Result<(), DumpFault>
+        requires { self.old.whole ≡ false }
+        ensures takes { OnOk result (Takes self.old frame.now self.new) }
+        ensures decoder { self.new.decoder ≡ self.old.decoder }
+        ensures counts { (self.new.seen ≡ self.old.seen) × (self.new.at ≡ self.old.at) }
+        ensures refused { IfErr result (λ why. Rejects self.old frame.now why) }
+    {
+        match frame {
+            Message::Entries {
+                sender: _,
+                horizon,
+                entries,
+            } => self.gather(*horizon, entries),
+            Message::Digest {
+                sender: _,
+                horizon,
+                digests,
+            } => self.close(*horizon, digests),
+            Message::Want { .. } => Err(DumpFault::Frame(FrameFault::BadKind)),
+        }
+    }
+
+    // Takes bytes of the piece, up to the end of the frame that has begun, and says how many.
+    fn take(&mut self, piece: &[u8]) -> Result<usize, DumpFault>
+        requires reads { (seen : List ℕ) × Gathers seen self.old }
+        requires whole { self.old.whole ≡ false }
+        requires some { 0 < length piece.now }
+        ensures some { IfOk result (λ n. 0 < n) }
+        ensures most { IfOk result (λ n. n ≤ length piece.now) }
+        ensures read { IfOk result (λ n. (seen : List ℕ) → Gathers seen self.old
+            → HasRead (seen ++ take n piece.now) self.new) }
+        ensures refused { IfErr result (λ why. (seen : List ℕ) → Gathers seen self.old
+            → IsRefusedForGood (seen ++ piece.now) self.new.at why) }
+    {
+        match self.decoder.feed(piece) {
+            Ok(fed) => {
+                let Fed { taken, frame } = fed;
+                let seen = count(self.seen, taken)?;
+                self.seen = seen;
+                match frame {
+                    Some(frame) => self.take_frame(frame.as_frame())?,
+                    None => return Ok(taken),
+                }
+                self.at = seen;
+                Ok(taken)
+            }
+            Err(fault) => Err(DumpFault::Frame(fault)),
+        }
+    }
+
+    // Takes these bytes, all of them.
+    fn take_all(&mut self, bytes: &[u8]) -> Result<(), DumpFault>
+        requires { (seen : List ℕ) × HasRead seen self.old }
+        ensures read { OnOk result ((seen : List ℕ) → HasRead seen self.old
+            → HasRead (seen ++ bytes.now) self.new) }
+        ensures refused { IfErr result (λ why. (seen : List ℕ) → HasRead seen self.old
+            → IsRefusedForGood (seen ++ bytes.now) self.new.at why) }
+    {
+        let mut rest = bytes;
+        while !rest.is_empty() {
+            if self.whole {
+                return Err(DumpFault::MoreFollows);
+            }
+            let taken = self.take(rest)?;
+            rest = &rest[taken..];
+        }
+        Ok(())
+    }
+
+    // Reads once. `false` at the end of the input. A read that was interrupted has read nothing.
+    fn read_some<R: Read>(&mut self, reader: &mut R, buffer: &mut [u8]) -> Result<bool, DumpFault>
+        requires reads { (seen : List ℕ) × HasRead seen self.old }
+        requires capacity { 0 < length buffer.old }
+        ensures read { OnOk result ((bytes : List ℕ)
+            × Consumes (R.remaining reader.old) (R.remaining reader.new) bytes
+            × ((seen : List ℕ) → HasRead seen self.old → HasRead (seen ++ bytes) self.new)) }
+        ensures end { IfOk result (λ more. more ≡ false → IsAtEnd (R.remaining reader.new)) }
+        ensures refused { IfErr result (λ why. (why ≡ ReadFault) ⊎ ((bytes : List ℕ)
+            × Consumes (R.remaining reader.old) (R.remaining reader.new) bytes
+            × ((seen : List ℕ) → HasRead seen self.old
+            → IsRefusedForGood (seen ++ bytes) self.new.at why))) }
+    {
+        match reader.read(buffer) {
+            Ok(0) => Ok(false),
+            Ok(n) => {
+                self.take_all(&buffer[..n])?;
+                Ok(true)
+            }
+            Err(e) => {
+                if e.kind() != ErrorKind::Interrupted {
+                    return Err(DumpFault::ReadFault);
+                }
+                Ok(true)
+            }
+        }
+    }
+
+    // Reads to the end of the input.
+    fn read_all<R: Read>(&mut self, reader: &mut R) -> Result<(), DumpFault>
+        requires { HasRead [] self.old }
+        ensures end { OnOk result (IsAtEnd (R.remaining reader.new)) }
+        ensures read { OnOk result (IfSome (R.remaining reader.old) (λ text. HasRead text self.new)) }
+        ensures refused { IfErr result (λ why. IfSome (R.remaining reader.old)
+            (λ text. IsRefused text self.new.at why)) }
+    {
+        let mut buffer = vec![in self.alloc; 0u8; READ_SIZE]?;
+        for _ in 0..MAX_READS {
+            if !self.read_some(reader, buffer.as_mut_slice())? {
+                return Ok(());
+            }
+        }
+        Err(DumpFault::ReadFault)
+    }
+
+    // The history, where the digests came.
+    #[tactic(auto, using(crate::proofs::ReadLemmas::ended_dump, crate::proofs::ReadLemmas::ended_short))]
+    fn finish(self) -> Result<History, DumpError>
+        ensures dump { IfOk result (λ h. (seen : List ℕ) → HasRead seen self → IsDump seen h) }
+        ensures cut { IfErr result (λ error. (seen : List ℕ) → HasRead seen self
+            → IsRefused seen error.at error.fault) }
+    {
+        let Gathered {
+            alloc: _,
+            decoder: _,
+            history,
+            horizon: _,
+            whole,
+            seen: _,
+            at,
+        } = self;
+        if !whole {
+            return Err(DumpError {
+                at,
+                fault: DumpFault::CutShort,
+            });
+        }
+        Ok(history)
+    }
+}
+
+/// Reads a dump to the end of the reader, and gives its history. The frames may be in either format, and their senders
+/// any. The digests in the file are those of the history.
+///
+/// It takes memory for the history that it gives, for one frame, its bytes and its entries, and for [`READ_SIZE`] bytes
+/// that are read at a time. It is all or nothing: after a fault no memory is kept. A read that is interrupted is made again.
+///
+/// Refused by the first fault that the bytes show, from left to right:
+/// - `Frame`: a frame's own fault, as [`warm_frames::decode`] has it, or `BadKind` for a request;
+/// - `HorizonsDiffer`: a frame has another horizon than those before it;
+/// - `DigestsDiffer`: the digests are not those of the history that the entries give;
+/// - `MoreFollows`: bytes follow the digests;
+/// - `CutShort`: the bytes end before the digests do.
+///
+/// The error says behind how many bytes of whole frames, which is where the frame that shows the fault begins.
+///
+/// And, at any point: `Frame(Memory)`, where memory was refused; `ReadFault`, where the reader failed, or where
+/// [`MAX_READS`] reads or 2^64 bytes did not reach its end.
+pub fn read_dump<R: Read>(alloc: Global, reader: &mut R) -> Result<History, DumpError>
+    ensures end { OnOk result (IsAtEnd (R.remaining reader.new)) }
+    ensures dump { IfOk result (λ history. IfSome (R.remaining reader.old)
+        (λ text. IsDump text history)) }
+    ensures digests { IfOk result (λ history. IfSome (R.remaining reader.old)
+        (λ text. EndsWithDigests text (digests_of (entries_of history)))) }
+    ensures refused { IfErr result (λ error. IfSome (R.remaining reader.old)
+        (λ text. IsRefused text error.at error.fault)) }
+{
+    let mut gathered = Gathered::new(alloc);
+    match gathered.read_all(reader) {
+        Ok(()) => gathered.finish(),
+        Err(fault) => Err(DumpError {
+            at: gathered.at,
+            fault,
+        }),
+    }
+}

@@ -1,0 +1,140 @@
+//! Writing a history as a dump, a frame at a time.
+ghost use Rattle.std.specs.Prelude.{◌≡◌, take, drop, OnOk, IfOk, IfErr};
+ghost use Rattle.std.specs.Io.KnownBytes.{Appends};
+ghost use Rattle.warm_frames.specs.declared.layout.TheConstants.{MAX_ENTRIES};
+ghost use Rattle.warm_frames.specs.Spelling.{spelling};
+ghost use Rattle.warm_history.specs.Histories.{PagesRise};
+ghost use Rattle.warm_files.specs.Dumps.{dump_of, entry_frames, frames_of, last_frame, text_of};
+ghost use Rattle.warm_files.specs.Writing.{StopsWriting};
+
+use crate::fault::DumpFault;
+use std::alloc::{AllocError, Global};
+use std::io::Write;
+use warm_digest::digests;
+use warm_frames::{EntryList, MAX_ENTRIES, Message, encode};
+use warm_history::laws::is_history;
+use warm_history::{BucketEntries, Entry, History};
+use warm_stamps::{BUCKETS, Bucket, ReplicaId};
+
+// Writes a frame.
+fn write_frame<W: Write>(alloc: Global, writer: &mut W, frame: &Message) -> Result<(), DumpFault>
+    ensures written { OnOk result
+        (Appends (W.contents writer.old) (W.contents writer.new) (spelling frame.now)) }
+    ensures stopped { IfErr result StopsWriting }
+{
+    let text = encode(alloc, frame)?;
+    writer.write_all(&text).map_err(|_| DumpFault::WriteFault)?;
+    Ok(())
+}
+
+// Takes the next entries of a bucket, as many as a frame carries.
+fn next_piece(alloc: Global, left: &mut BucketEntries<'_>) -> Result<Vec<Entry>, AllocError>
+    ensures piece { IfOk result (λ es. es.items ≡ take MAX_ENTRIES left.old) }
+    ensures left { OnOk result (left.new ≡ drop MAX_ENTRIES left.old) }
+{
+    let mut piece = Vec::with_capacity(alloc, MAX_ENTRIES)?;
+    while piece.len() < MAX_ENTRIES {
+        match left.next() {
+            Some(entry) => piece.push(entry)?,
+            None => return Ok(piece),
+        }
+    }
+    Ok(piece)
+}
+
+// Writes the entries that are left of a bucket, in frames that are as full as can be.
+fn write_bucket<W: Write>(
+    alloc: Global,
+    writer: &mut W,
+    sender: ReplicaId,
+    horizon: u64,
+    mut left: BucketEntries<'_>,
+) -> Result<(), DumpFault>
+    requires { PagesRise left }
+    ensures written { OnOk result (Appends (W.contents writer.old) (W.contents writer.new)
+        (text_of (frames_of sender horizon left.entry))) }
+    ensures stopped { IfErr result StopsWriting }
+{
+    loop {
+        let piece = next_piece(alloc, &mut left)?;
+        if piece.is_empty() {
+            return Ok(());
+        }
+        let entries = EntryList::holding(piece);
+        let frame = Message::Entries {
+            sender,
+            horizon,
+            entries,
+        };
+        write_frame(alloc, writer, &frame)?;
+    }
+}
+
+// Writes the frames of all entries, bucket by bucket.
+fn write_entries<W: Write>(
+    alloc: Global,
+    writer: &mut W,
+    sender: ReplicaId,
+    history: &History,
+) -> Result<(), DumpFault>
+    ensures written { OnOk result (Appends (W.contents writer.old) (W.contents writer.new)
+        (text_of (entry_frames sender history.now))) }
+    ensures stopped { IfErr result StopsWriting }
+{
+    is_history(history);
+    let horizon = history.horizon();
+    for index in 0..BUCKETS {
+        let Some(bucket) = Bucket::new(index) else {
+            unreachable!()
+        };
+        write_bucket(alloc, writer, sender, horizon, history.bucket(bucket))?;
+    }
+    Ok(())
+}
+
+// Writes the frame of the digests.
+fn write_digests<W: Write>(
+    alloc: Global,
+    writer: &mut W,
+    sender: ReplicaId,
+    history: &History,
+) -> Result<(), DumpFault>
+    ensures written { OnOk result (Appends (W.contents writer.old) (W.contents writer.new)
+        (spelling (last_frame sender history.now))) }
+    ensures stopped { IfErr result StopsWriting }
+{
+    let digests = digests(alloc, history)?;
+    let frame = Message::Digest {
+        sender,
+        horizon: history.horizon(),
+        digests,
+    };
+    write_frame(alloc, writer, &frame)
+}
+
+/// Writes the history as a dump: the frames of its entries, bucket by bucket and each in page order, up to
+/// [`MAX_ENTRIES`] to a frame, and then the frame of its digests. Each has this sender and the history's horizon. The
+/// writer is flushed last.
+///
+/// A dump that was written reads back equal ([`crate::laws::dump_reads_back`]).
+///
+/// It takes memory for one frame at a time, its entries and its bytes: some 110 KB. Refused:
+/// - `Frame(Memory)`: memory for a frame was refused;
+/// - `WriteFault`: the writer failed, or could not be flushed.
+///
+/// After a fault nothing is said of how much was written; the history is as before in any case.
+pub fn write_dump<W: Write>(
+    alloc: Global,
+    writer: &mut W,
+    sender: ReplicaId,
+    history: &History,
+) -> Result<(), DumpFault>
+    ensures written { OnOk result (Appends (W.contents writer.old) (W.contents writer.new)
+        (dump_of sender history.now)) }
+    ensures stopped { IfErr result StopsWriting }
+{
+    write_entries(alloc, writer, sender, history)?;
+    write_digests(alloc, writer, sender, history)?;
+    writer.flush().map_err(|_| DumpFault::WriteFault)?;
+    Ok(())
+}
