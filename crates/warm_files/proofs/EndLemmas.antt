@@ -22,3 +22,7 @@ any_text (Some t) P f = f t
 pub on_ok : {T E : Type 0} (r : Result T E) (P : Type 0) → P → OnOk r P
 on_ok (Ok x) P p = p
 on_ok (Err e) P p = tt
+
+pub some_map : (a : Option (List ℕ)) (P Q : List ℕ → Type 0) → ((t : List ℕ) → P t → Q t) → IfSome a P → IfSome a Q
+some_map None P Q f p = tt
+some_map (Some t) P Q f p = f t p

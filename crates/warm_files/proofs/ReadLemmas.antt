@@ -3,7 +3,7 @@ use Rattle.std.proofs.Common.{◌≡◌, ◌≢◌, ◌⊎◌, inl, inr, ℕ, ze
 use Rattle.std.specs.Prelude.{IsErrAnd, IfErr}
 use Rattle.std.specs.List.{AllByRecursion}
 use Rattle.std.proofs.lemmas.List.Concat.{flat_map-append}
-use Rattle.std.proofs.lemmas.List.{take_all, take-append-drop, length-append}
+use Rattle.std.proofs.lemmas.List.{take_all, take-append-drop, length-append, length-take}
 use Rattle.std.proofs.Math.Nat.{max_comm, max-eq_left}
 use Rattle.warm_stamps.proofs.DistinctLemmas.{all_append}
 use Rattle.warm_history.specs.declared.hist.Entry.{Entry}
@@ -29,7 +29,7 @@ use Rattle.warm_files.specs.declared.fault.DumpFault.{DumpFault}
 use Rattle.warm_files.specs.declared.fault.DumpFault.TheVariants.{Frame, CutShort, DigestsDiffer, HorizonsDiffer, MoreFollows}
 use Rattle.warm_files.specs.declared.reading.Gathered.{Gathered}
 use Rattle.warm_files.specs.Gathering.{Agrees, AreAt, references_at, Gathers, HasRead, Takes, Rejects, IsRefusedForGood}
-use Rattle.warm_files.specs.Reading.{IsEntriesAt, AreEntriesAt, IsPartAt, brought, entries_in, references_in, told_by, Begins, IsDump, ShowsFrameFault, IsRefused}
+use Rattle.warm_files.specs.Reading.{IsEntriesAt, AreEntriesAt, IsPartAt, brought, entries_in, references_in, told_by, Begins, IsDump, EndsWithDigests, EndsAt, ShowsFrameFault, IsRefused}
 
 -- ---- texts one after the other
 
@@ -106,10 +106,27 @@ all_at : (known : Option ℕ) (frames : List Message) → AreAt known frames →
 all_at None frames none = (0, some_at None 0 frames none tt)
 all_at (Some known) frames some = (known, some.1)
 
+-- ---- where the frames end
+
+-- the frames of what was read end there too with more behind it
+ends_before : (seen more : List ℕ) (old : Gathered) (g : Gathers seen old) → EndsAt (seen ++ more) g.frames old.at
+ends_before seen more old g =
+    let T = texts_of g.front.texts in
+    (g.begun ++ more,
+      record { texts = g.front.texts; whole = ap (λ (w : List ℕ). w ++ more) g.front.whole ∙ append_assoc T g.begun more; each = g.front.each },
+      omega (arith, length-append g.begun more, length-append seen more, g.at))
+
+ends_in : (seen piece later : List ℕ) (old : Gathered) (g : Gathers seen old) → EndsAt ((seen ++ piece) ++ later) g.frames old.at
+ends_in seen piece later old g = subst (λ (w : List ℕ). EndsAt w g.frames old.at) (sym (append_assoc seen piece later)) (ends_before seen (piece ++ later) old g)
+
+-- the bytes that were taken are counted
+counted : (seen piece : List ℕ) (n a b : ℕ) → a ≡ length seen → b ≡ a + n → n ≤ length piece → b ≡ length (seen ++ take n piece)
+counted seen piece n a b before more few = omega (arith, before, more, few, length-append seen (take n piece), length-take n piece)
+
 -- ---- nothing was read
 
-pub nothing_read : (g : Gathered) → g.whole ≡ false → g.decoder ≡ Inside [] → g.horizon ≡ None → StandsFor g.history (these []) → HasRead [] g
-nothing_read g unclosed inside none stands = inr (unclosed, record {
+pub nothing_read : (g : Gathered) → g.whole ≡ false → g.decoder ≡ Inside [] → g.horizon ≡ None → StandsFor g.history (these []) → g.seen ≡ 0 → g.at ≡ 0 → HasRead [] g
+nothing_read g unclosed inside none stands seen at = inr (unclosed, record {
   frames = [];
   begun = [];
   front = record { texts = []; whole = refl; each = tt };
@@ -117,6 +134,8 @@ nothing_read g unclosed inside none stands = inr (unclosed, record {
   held = inside;
   horizon = subst (λ (o : Option ℕ). AreAt o []) (sym none) refl;
   stands = subst (λ (o : Option ℕ). StandsFor g.history (references_at o [])) (sym none) stands;
+  seen = seen;
+  at = omega (arith, at);
 })
 
 -- ---- a piece
@@ -133,8 +152,9 @@ inside_is b c e = cc
 
 -- all of it is a part of the frame that has begun
 pub took_part : (seen piece : List ℕ) (n : ℕ) (old new : Gathered) → Gathers seen old → n ≡ length piece → ((begun : List ℕ) → old.decoder ≡ Inside begun → IsPart (begun ++ piece) × (new.decoder ≡ Inside (begun ++ piece)))
-    → new.history ≡ old.history → new.horizon ≡ old.horizon → new.whole ≡ false → HasRead (seen ++ take n piece) new
-took_part seen piece n old new g all feeds history horizon unclosed =
+    → new.history ≡ old.history → new.horizon ≡ old.horizon → new.whole ≡ false → new.seen ≡ old.seen + n → new.at ≡ old.at → HasRead (seen ++ take n piece) new
+took_part seen piece n old new g all feeds history horizon unclosed more same =
+    let whole : new.seen ≡ length (seen ++ take n piece) = counted seen piece n old.seen new.seen g.seen more (omega (arith, all)) in
     let next = feeds g.begun g.held in
     let T = texts_of g.front.texts in
     inr (unclosed, record {
@@ -149,6 +169,8 @@ took_part seen piece n old new g all feeds history horizon unclosed =
       held = next.1;
       horizon = subst (λ (o : Option ℕ). AreAt o g.frames) (sym horizon) g.horizon;
       stands = subst (λ (o : Option ℕ). StandsFor new.history (references_at o g.frames)) (sym horizon) (history ∙ g.stands);
+      seen = whole;
+      at = omega (arith, whole, more, same, g.seen, g.at, all, length-append g.begun piece);
     })
 
 -- ---- a frame
@@ -158,8 +180,9 @@ taken_text seen piece n = ap (λ (w : List ℕ). seen ++ w) (append-nil (take n 
 
 -- of entries
 took_entries : (seen piece : List ℕ) (n sender horizon : ℕ) (es : List Entry) (old new : Gathered) (g : Gathers seen old) → Spells (g.begun ++ take n piece) (Entries sender horizon es) → new.decoder ≡ Inside []
-    → Agrees old.horizon horizon → new.horizon ≡ Some horizon → TakesIn old.history (refs (holding_since horizon es)) new.history → new.whole ≡ false → HasRead (seen ++ take n piece) new
-took_entries seen piece n sender horizon es old new g spelt inside agrees known takes unclosed =
+    → Agrees old.horizon horizon → new.horizon ≡ Some horizon → TakesIn old.history (refs (holding_since horizon es)) new.history → new.whole ≡ false
+    → new.seen ≡ length (seen ++ take n piece) → new.at ≡ length (seen ++ take n piece) → HasRead (seen ++ take n piece) new
+took_entries seen piece n sender horizon es old new g spelt inside agrees known takes unclosed all here =
     let frames = g.frames ++ Entries sender horizon es ∷ [] in
     let at : AreEntriesAt horizon frames = all_append (IsEntriesAt horizon) g.frames (Entries sender horizon es ∷ []) (some_at old.horizon horizon g.frames g.horizon agrees) (refl, tt) in
     let some : 0 < length frames = omega (arith, length-append g.frames (Entries sender horizon es ∷ [])) in
@@ -173,6 +196,8 @@ took_entries seen piece n sender horizon es old new g spelt inside agrees known 
       held = inside;
       horizon = subst (λ (o : Option ℕ). AreAt o frames) (sym known) (some, at);
       stands = subst (λ (o : Option ℕ). StandsFor new.history (references_at o frames)) (sym known) stands;
+      seen = all;
+      at = omega (arith, here);
     })
 
 -- of digests
@@ -196,16 +221,17 @@ took_digests seen piece n sender horizon digests old new g spelt agrees takes sa
 -- either
 pub took_frame : (seen piece : List ℕ) (n : ℕ) (frame : Message) (old mid new : Gathered) → Gathers seen old
     → ((begun : List ℕ) → old.decoder ≡ Inside begun → Spells (begun ++ take n piece) frame × (new.decoder ≡ Inside []))
-    → mid.history ≡ old.history → mid.horizon ≡ old.horizon → Takes mid frame new → HasRead (seen ++ take n piece) new
-took_frame seen piece n (Entries sender horizon es) old mid new g feeds history known takes =
+    → mid.history ≡ old.history → mid.horizon ≡ old.horizon → Takes mid frame new
+    → new.seen ≡ length (seen ++ take n piece) → new.at ≡ length (seen ++ take n piece) → HasRead (seen ++ take n piece) new
+took_frame seen piece n (Entries sender horizon es) old mid new g feeds history known takes all here =
     let fed = feeds g.begun g.held in
     took_entries seen piece n sender horizon es old new g fed.0 fed.1 (subst (λ (o : Option ℕ). Agrees o horizon) known takes.0) takes.1
-    (subst (λ (h : HistoryView). TakesIn h (refs (holding_since horizon es)) new.history) history takes.2) takes.3
-took_frame seen piece n (Digest sender horizon digests) old mid new g feeds history known takes =
+    (subst (λ (h : HistoryView). TakesIn h (refs (holding_since horizon es)) new.history) history takes.2) takes.3 all here
+took_frame seen piece n (Digest sender horizon digests) old mid new g feeds history known takes all here =
     let fed = feeds g.begun g.held in
-    inl (takes.3, took_digests seen piece n sender horizon digests old new g fed.0 (subst (λ (o : Option ℕ). Agrees o horizon) known takes.0)
+    inl (takes.3, here, took_digests seen piece n sender horizon digests old new g fed.0 (subst (λ (o : Option ℕ). Agrees o horizon) known takes.0)
     (subst (λ (h : HistoryView). (S : ReferenceSet) → StandsFor h S → StandsFor new.history (since horizon S)) history takes.1) takes.2)
-took_frame seen piece n (Want sender horizon request) old mid new g feeds history known takes = absurd takes
+took_frame seen piece n (Want sender horizon request) old mid new g feeds history known takes all here = absurd takes
 
 -- what a feed did, of a decoder inside a frame
 fed_inside : (piece : List ℕ) (fed : Fed) (frame : Option Message) (old next : DecoderState) → Feeds old piece (Ok fed) next → fed.frame ≡ frame → (b : List ℕ) → old ≡ Inside b → TakesBytes b piece fed.taken frame next
@@ -213,16 +239,18 @@ fed_inside piece fed frame old next feeds is b inside =
     subst (λ (o : Option Message). TakesBytes b piece fed.taken o next) is (subst (λ (d : DecoderState). Feeds d piece (Ok fed) next) inside feeds)
 
 pub part_read : (seen piece : List ℕ) (fed : Fed) (old new : Gathered) → Gathers seen old → Feeds old.decoder piece (Ok fed) new.decoder → fed.frame ≡ None
-    → new.history ≡ old.history → new.horizon ≡ old.horizon → new.whole ≡ false → HasRead (seen ++ take fed.taken piece) new
-part_read seen piece fed old new g feeds none history horizon unclosed =
+    → new.history ≡ old.history → new.horizon ≡ old.horizon → new.whole ≡ false → new.seen ≡ old.seen + fed.taken → new.at ≡ old.at → HasRead (seen ++ take fed.taken piece) new
+part_read seen piece fed old new g feeds none history horizon unclosed more same =
     let f = fed_inside piece fed None old.decoder new.decoder feeds none in
-    took_part seen piece fed.taken old new g (f g.begun g.held).0 (λ b is. ((f b is).1, (f b is).2)) history horizon unclosed
+    took_part seen piece fed.taken old new g (f g.begun g.held).0 (λ b is. ((f b is).1, (f b is).2)) history horizon unclosed more same
 
 pub whole_read : (seen piece : List ℕ) (fed : Fed) (frame : Message) (old mid new : Gathered) → Gathers seen old → Feeds old.decoder piece (Ok fed) mid.decoder → fed.frame ≡ Some frame
-    → mid.history ≡ old.history → mid.horizon ≡ old.horizon → new.decoder ≡ mid.decoder → Takes mid frame new → HasRead (seen ++ take fed.taken piece) new
-whole_read seen piece fed frame old mid new g feeds some history horizon same takes =
+    → mid.history ≡ old.history → mid.horizon ≡ old.horizon → new.decoder ≡ mid.decoder → Takes mid frame new
+    → new.seen ≡ old.seen + fed.taken → new.at ≡ new.seen → HasRead (seen ++ take fed.taken piece) new
+whole_read seen piece fed frame old mid new g feeds some history horizon same takes more here =
     let f = fed_inside piece fed (Some frame) old.decoder mid.decoder feeds some in
-    took_frame seen piece fed.taken frame old mid new g (λ b is. ((f b is).1, same ∙ (f b is).2)) history horizon takes
+    let all : new.seen ≡ length (seen ++ take fed.taken piece) = counted seen piece fed.taken old.seen new.seen g.seen more (f g.begun g.held).0 in
+    took_frame seen piece fed.taken frame old mid new g (λ b is. ((f b is).1, same ∙ (f b is).2)) history horizon takes all (here ∙ all)
 
 -- a frame has a byte that the part before it hasn't
 pub some_taken : (seen piece : List ℕ) (n : ℕ) (frame : Message) (old : Gathered) → Gathers seen old → ((begun : List ℕ) → old.decoder ≡ Inside begun → Spells (begun ++ take n piece) frame) → 0 < n
@@ -238,31 +266,31 @@ some_fed seen piece fed frame old next g feeds some = some_taken seen piece fed.
 -- ---- refusals
 
 -- a fault of a frame
-frame_refused : (text : List ℕ) (fault : FrameFault) → ShowsFrameFault text fault → IsRefused text (Frame fault)
-frame_refused text frame_faults.Memory shown = tt
-frame_refused text frame_faults.Truncated shown = shown
-frame_refused text frame_faults.BadMagic shown = shown
-frame_refused text frame_faults.BadKind shown = inl shown
-frame_refused text frame_faults.BadSender shown = shown
-frame_refused text frame_faults.BadLength shown = shown
-frame_refused text frame_faults.BadCount shown = shown
-frame_refused text frame_faults.BadTag shown = shown
-frame_refused text frame_faults.BadStamp shown = shown
-frame_refused text frame_faults.BadOrder shown = shown
-frame_refused text frame_faults.Failed shown = shown
+frame_refused : (text : List ℕ) (at : ℕ) (fault : FrameFault) → ShowsFrameFault text at fault → IsRefused text at (Frame fault)
+frame_refused text at frame_faults.Memory shown = tt
+frame_refused text at frame_faults.Truncated shown = shown
+frame_refused text at frame_faults.BadMagic shown = shown
+frame_refused text at frame_faults.BadKind shown = inl shown
+frame_refused text at frame_faults.BadSender shown = shown
+frame_refused text at frame_faults.BadLength shown = shown
+frame_refused text at frame_faults.BadCount shown = shown
+frame_refused text at frame_faults.BadTag shown = shown
+frame_refused text at frame_faults.BadStamp shown = shown
+frame_refused text at frame_faults.BadOrder shown = shown
+frame_refused text at frame_faults.Failed shown = shown
 
-pub fault_refused : (seen piece : List ℕ) (fault : FrameFault) (old : Gathered) (next : DecoderState) → Gathers seen old → Feeds old.decoder piece (Err fault) next → IsRefusedForGood (seen ++ piece) (Frame fault)
+pub fault_refused : (seen piece : List ℕ) (fault : FrameFault) (old : Gathered) (next : DecoderState) → Gathers seen old → Feeds old.decoder piece (Err fault) next → IsRefusedForGood (seen ++ piece) old.at (Frame fault)
 fault_refused seen piece fault old next g feeds later = cases (subst (λ (d : DecoderState). Feeds d piece (Err fault) next) g.held feeds)
   where
-    cases : ((fault ≡ frame_faults.Memory) × (next ≡ Inside g.begun)) ⊎ Breaks g.begun piece fault next → IsRefused ((seen ++ piece) ++ later) (Frame fault)
-    cases (inl none) = subst (λ (f : FrameFault). IsRefused ((seen ++ piece) ++ later) (Frame f)) (sym none.0) tt
+    cases : ((fault ≡ frame_faults.Memory) × (next ≡ Inside g.begun)) ⊎ Breaks g.begun piece fault next → IsRefused ((seen ++ piece) ++ later) old.at (Frame fault)
+    cases (inl none) = subst (λ (f : FrameFault). IsRefused ((seen ++ piece) ++ later) old.at (Frame f)) (sym none.0) tt
     cases (inr b) =
         let n = b.0 in
         let T = texts_of g.front.texts in
         let at = all_at old.horizon g.frames g.horizon in
         let bad = g.begun ++ take n piece in
         let rest = drop n piece ++ later in
-        frame_refused ((seen ++ piece) ++ later) fault (at.0, g.frames, at.1, record {
+        frame_refused ((seen ++ piece) ++ later) old.at fault (at.0, g.frames, at.1, ends_in seen piece later old g, record {
           texts = g.front.texts;
           bad = bad;
           later = rest;
@@ -272,42 +300,42 @@ fault_refused seen piece fault old next g feeds later = cases (subst (λ (d : De
           shown = b.2;
         })
 
-memory_refused : (text : List ℕ) (why : DumpFault) → why ≡ Frame frame_faults.Memory → IsRefused text why
-memory_refused text why is = subst (IsRefused text) (sym is) tt
+memory_refused : (text : List ℕ) (at : ℕ) (why : DumpFault) → why ≡ Frame frame_faults.Memory → IsRefused text at why
+memory_refused text at why is = subst (IsRefused text at) (sym is) tt
 
 -- a frame with another horizon
-other_horizon : (seen piece later : List ℕ) (n : ℕ) (known : Option ℕ) (horizon : ℕ) (frame : Message) (frames : List Message) (begun : List ℕ) → Begins seen frames begun → Spells (begun ++ take n piece) frame → AreAt known frames → IsPartAt horizon frame → (Agrees known horizon → ⊥)
-    → IsRefused ((seen ++ piece) ++ later) HorizonsDiffer
-other_horizon seen piece later n None horizon frame frames begun front spelt at is differ = absurd (differ tt)
-other_horizon seen piece later n (Some known) horizon frame frames begun front spelt at is differ =
-    (known, horizon, frames, frame, drop n piece ++ later, at.0, at.1, is, (λ e. differ (sym e)),
+other_horizon : (seen piece later : List ℕ) (n : ℕ) (known : Option ℕ) (horizon : ℕ) (frame : Message) (frames : List Message) (begun : List ℕ) (end : ℕ) → Begins seen frames begun → Spells (begun ++ take n piece) frame → AreAt known frames → IsPartAt horizon frame → (Agrees known horizon → ⊥)
+    → EndsAt ((seen ++ piece) ++ later) frames end → IsRefused ((seen ++ piece) ++ later) end HorizonsDiffer
+other_horizon seen piece later n None horizon frame frames begun end front spelt at is differ ends = absurd (differ tt)
+other_horizon seen piece later n (Some known) horizon frame frames begun end front spelt at is differ ends =
+    (known, horizon, frames, frame, drop n piece ++ later, at.0, at.1, is, (λ e. differ (sym e)), ends,
       subst (λ (w : List ℕ). Begins w (frames ++ frame ∷ []) (drop n piece ++ later)) (cut n seen piece later) (begins_more seen begun (take n piece) (drop n piece ++ later) frames frame front spelt))
 
 -- digests of another history
 other_digests : (seen piece later : List ℕ) (n sender horizon : ℕ) (digests : List (List ℕ)) (old : Gathered) (g : Gathers seen old) → Spells (g.begun ++ take n piece) (Digest sender horizon digests)
-    → Agrees old.horizon horizon → (digests ≢ digests_of (entries_of (raised horizon old.history))) → IsRefused ((seen ++ piece) ++ later) DigestsDiffer
+    → Agrees old.horizon horizon → (digests ≢ digests_of (entries_of (raised horizon old.history))) → IsRefused ((seen ++ piece) ++ later) old.at DigestsDiffer
 other_digests seen piece later n sender horizon digests old g spelt agrees differ =
     let S = references_at old.horizon g.frames in
     let told : raised horizon old.history ≡ told_by horizon g.frames =
     ap (raised horizon) g.stands ∙ history_first S (record { horizon = horizon; told = [] }) ∙ ap history (references_closed old.horizon horizon g.frames g.horizon agrees) in
     (horizon, g.frames, sender, digests, drop n piece ++ later, some_at old.horizon horizon g.frames g.horizon agrees,
-      (λ same. differ (same ∙ ap (λ (h : HistoryView). digests_of (entries_of h)) (sym told))),
+      (λ same. differ (same ∙ ap (λ (h : HistoryView). digests_of (entries_of h)) (sym told))), ends_in seen piece later old g,
       subst (λ (w : List ℕ). Begins w (g.frames ++ Digest sender horizon digests ∷ []) (drop n piece ++ later)) (cut n seen piece later)
       (begins_more seen g.begun (take n piece) (drop n piece ++ later) g.frames (Digest sender horizon digests) g.front spelt))
 
-rejects_refused : (seen piece later : List ℕ) (n : ℕ) (frame : Message) (why : DumpFault) (old : Gathered) (g : Gathers seen old) → Spells (g.begun ++ take n piece) frame → Rejects old frame why → IsRefused ((seen ++ piece) ++ later) why
-rejects_refused seen piece later n (Entries sender horizon es) why old g spelt (inl none) = memory_refused ((seen ++ piece) ++ later) why none
+rejects_refused : (seen piece later : List ℕ) (n : ℕ) (frame : Message) (why : DumpFault) (old : Gathered) (g : Gathers seen old) → Spells (g.begun ++ take n piece) frame → Rejects old frame why → IsRefused ((seen ++ piece) ++ later) old.at why
+rejects_refused seen piece later n (Entries sender horizon es) why old g spelt (inl none) = memory_refused ((seen ++ piece) ++ later) old.at why none
 rejects_refused seen piece later n (Entries sender horizon es) why old g spelt (inr x) =
-    subst (IsRefused ((seen ++ piece) ++ later)) (sym x.0) (other_horizon seen piece later n old.horizon horizon (Entries sender horizon es) g.frames g.begun g.front spelt g.horizon refl x.1)
-rejects_refused seen piece later n (Digest sender horizon digests) why old g spelt (inl none) = memory_refused ((seen ++ piece) ++ later) why none
+    subst (IsRefused ((seen ++ piece) ++ later) old.at) (sym x.0) (other_horizon seen piece later n old.horizon horizon (Entries sender horizon es) g.frames g.begun old.at g.front spelt g.horizon refl x.1 (ends_in seen piece later old g))
+rejects_refused seen piece later n (Digest sender horizon digests) why old g spelt (inl none) = memory_refused ((seen ++ piece) ++ later) old.at why none
 rejects_refused seen piece later n (Digest sender horizon digests) why old g spelt (inr (inl x)) =
-    subst (IsRefused ((seen ++ piece) ++ later)) (sym x.0) (other_horizon seen piece later n old.horizon horizon (Digest sender horizon digests) g.frames g.begun g.front spelt g.horizon refl x.1)
+    subst (IsRefused ((seen ++ piece) ++ later) old.at) (sym x.0) (other_horizon seen piece later n old.horizon horizon (Digest sender horizon digests) g.frames g.begun old.at g.front spelt g.horizon refl x.1 (ends_in seen piece later old g))
 rejects_refused seen piece later n (Digest sender horizon digests) why old g spelt (inr (inr x)) =
-    subst (IsRefused ((seen ++ piece) ++ later)) (sym x.0) (other_digests seen piece later n sender horizon digests old g spelt x.1 x.2)
+    subst (IsRefused ((seen ++ piece) ++ later) old.at) (sym x.0) (other_digests seen piece later n sender horizon digests old g spelt x.1 x.2)
 rejects_refused seen piece later n (Want sender own request) why old g spelt is =
     let at = all_at old.horizon g.frames g.horizon in
-    subst (IsRefused ((seen ++ piece) ++ later)) (sym is)
-    (inr (at.0, g.frames, sender, own, request, drop n piece ++ later, at.1,
+    subst (IsRefused ((seen ++ piece) ++ later) old.at) (sym is)
+    (inr (at.0, g.frames, sender, own, request, drop n piece ++ later, at.1, ends_in seen piece later old g,
       subst (λ (w : List ℕ). Begins w (g.frames ++ Want sender own request ∷ []) (drop n piece ++ later)) (cut n seen piece later)
       (begins_more seen g.begun (take n piece) (drop n piece ++ later) g.frames (Want sender own request) g.front spelt)))
 
@@ -319,12 +347,12 @@ rejects_same (Digest sender horizon digests) why old mid history known x =
 rejects_same (Want sender own request) why old mid history known x = x
 
 pub frame_rejected : (seen piece : List ℕ) (n : ℕ) (frame : Message) (why : DumpFault) (old mid : Gathered) → Gathers seen old → ((begun : List ℕ) → old.decoder ≡ Inside begun → Spells (begun ++ take n piece) frame)
-    → mid.history ≡ old.history → mid.horizon ≡ old.horizon → Rejects mid frame why → IsRefusedForGood (seen ++ piece) why
+    → mid.history ≡ old.history → mid.horizon ≡ old.horizon → Rejects mid frame why → IsRefusedForGood (seen ++ piece) old.at why
 frame_rejected seen piece n frame why old mid g feeds history known x later =
     rejects_refused seen piece later n frame why old g (feeds g.begun g.held) (rejects_same frame why old mid history known x)
 
 pub whole_rejected : (seen piece : List ℕ) (fed : Fed) (frame : Message) (why : DumpFault) (old mid : Gathered) (next : DecoderState) → Gathers seen old → Feeds old.decoder piece (Ok fed) next → fed.frame ≡ Some frame
-    → mid.history ≡ old.history → mid.horizon ≡ old.horizon → Rejects mid frame why → IsRefusedForGood (seen ++ piece) why
+    → mid.history ≡ old.history → mid.horizon ≡ old.horizon → Rejects mid frame why → IsRefusedForGood (seen ++ piece) old.at why
 whole_rejected seen piece fed frame why old mid next g feeds some history known x =
     frame_rejected seen piece fed.taken frame why old mid g (λ b is. (fed_inside piece fed (Some frame) old.decoder next feeds some b is).1) history known x
 
@@ -336,14 +364,14 @@ passed_on (Err y) e P is p = subst P (sym is) p
 -- ---- pieces one after the other
 
 -- bytes behind a dump
-pub more_refused : (seen piece : List ℕ) (g : Gathered) → g.whole ≡ true → 0 < length piece → HasRead seen g → IsRefusedForGood (seen ++ piece) MoreFollows
-more_refused seen piece g whole some (inl x) later = (seen, piece ++ later, g.history, append_assoc seen piece later, omega (arith, some, length-append piece later), x.1)
+pub more_refused : (seen piece : List ℕ) (g : Gathered) → g.whole ≡ true → 0 < length piece → HasRead seen g → IsRefusedForGood (seen ++ piece) g.at MoreFollows
+more_refused seen piece g whole some (inl x) later = (seen, piece ++ later, g.history, append_assoc seen piece later, omega (arith, some, length-append piece later), x.1, x.2)
 more_refused seen piece g whole some (inr x) later = (let never : false ≡ true = sym x.0 ∙ whole in absurd (cc))
 
 -- what is refused with the bytes of a piece is so with those before it
-pub refused_behind : (seen taken rest bytes : List ℕ) (why : DumpFault) → bytes ≡ taken ++ rest → IsRefusedForGood ((seen ++ taken) ++ rest) why → IsRefusedForGood (seen ++ bytes) why
-refused_behind seen taken rest bytes why is refused =
-    subst (λ (w : List ℕ). IsRefusedForGood w why) (append_assoc seen taken rest ∙ ap (λ (w : List ℕ). seen ++ w) (sym is)) refused
+pub refused_behind : (seen taken rest bytes : List ℕ) (at : ℕ) (why : DumpFault) → bytes ≡ taken ++ rest → IsRefusedForGood ((seen ++ taken) ++ rest) at why → IsRefusedForGood (seen ++ bytes) at why
+refused_behind seen taken rest bytes at why is refused =
+    subst (λ (w : List ℕ). IsRefusedForGood w at why) (append_assoc seen taken rest ∙ ap (λ (w : List ℕ). seen ++ w) (sym is)) refused
 
 pub read_behind : (seen first more both : List ℕ) (g : Gathered) → both ≡ first ++ more → HasRead ((seen ++ first) ++ more) g → HasRead (seen ++ both) g
 read_behind seen first more both g is read = subst (λ (w : List ℕ). HasRead w g) (append_assoc seen first more ∙ ap (λ (w : List ℕ). seen ++ w) (sym is)) read
@@ -351,11 +379,14 @@ read_behind seen first more both g is read = subst (λ (w : List ℕ). HasRead w
 -- ---- the end
 
 pub ended_dump : (seen : List ℕ) (g : Gathered) → g.whole ≡ true → HasRead seen g → IsDump seen g.history
-ended_dump seen g whole (inl x) = x.1
+ended_dump seen g whole (inl x) = x.2
 ended_dump seen g whole (inr x) = (let never : false ≡ true = sym x.0 ∙ whole in absurd (cc))
 
-pub ended_short : (seen : List ℕ) (g : Gathered) → g.whole ≡ false → HasRead seen g → IsRefused seen CutShort
+pub ends_with_digests : (text : List ℕ) (h : HistoryView) → IsDump text h → EndsWithDigests text (digests_of (entries_of h))
+ends_with_digests text h d = (d.frames, d.sender, h.horizon, subst (λ (digests : List (List ℕ)). Begins text (d.frames ++ Digest d.sender h.horizon digests ∷ []) []) d.same_digests d.whole)
+
+pub ended_short : (seen : List ℕ) (g : Gathered) → g.whole ≡ false → HasRead seen g → IsRefused seen g.at CutShort
 ended_short seen g unclosed read =
     let s = is_open seen g unclosed read in
     let at = all_at g.horizon s.frames s.horizon in
-    (at.0, s.frames, s.begun, at.1, record { texts = s.front.texts; whole = s.front.whole; each = s.front.each; part = s.part })
+    (at.0, s.frames, s.begun, at.1, (s.begun, s.front, s.at), record { texts = s.front.texts; whole = s.front.whole; each = s.front.each; part = s.part })

@@ -14,7 +14,7 @@ front_text None b bs P p f = tt
 front_text (Some t) None bs P p f = absurd p
 front_text (Some t) (Some y) bs P p f = subst P (sym p) (f y)
 
-pub read_refused : (a b c : Option (List ℕ)) (seen : List ℕ) (why : DumpFault) (now : Gathered) → Consumes a b seen → HasRead seen now
-    → ((why ≡ ReadFault) ⊎ ((bytes : List ℕ) × Consumes b c bytes × ((s : List ℕ) → HasRead s now → IsRefusedForGood (s ++ bytes) why))) → IfSome a (λ text. IsRefused text why)
-read_refused a b c seen why now p read (inl is) = any_text a (λ text. IsRefused text why) (λ t. subst (IsRefused t) (sym is) tt)
-read_refused a b c seen why now p read (inr x) = front_text a c (seen ++ x.0) (λ text. IsRefused text why) (Consumes-trans a b c seen x.0 p x.1) (x.2 seen read)
+pub read_refused : (a b c : Option (List ℕ)) (seen : List ℕ) (at : ℕ) (why : DumpFault) (now : Gathered) → Consumes a b seen → HasRead seen now
+    → ((why ≡ ReadFault) ⊎ ((bytes : List ℕ) × Consumes b c bytes × ((s : List ℕ) → HasRead s now → IsRefusedForGood (s ++ bytes) at why))) → IfSome a (λ text. IsRefused text at why)
+read_refused a b c seen at why now p read (inl is) = any_text a (λ text. IsRefused text at why) (λ t. subst (IsRefused t at) (sym is) tt)
+read_refused a b c seen at why now p read (inr x) = front_text a c (seen ++ x.0) (λ text. IsRefused text at why) (Consumes-trans a b c seen x.0 p x.1) (x.2 seen read)

@@ -1,5 +1,5 @@
 -- What a reader has gathered while it reads, and what a frame adds.
-use Rattle.std.specs.Prelude.{◌≡◌, ◌≢◌, ◌⊎◌, ℕ, ◌<◌, Bool, true, false, List, [], ◌++◌, length, take, ⊤, Option, Some, None, Result, Ok, Err}
+use Rattle.std.specs.Prelude.{◌≡◌, ◌≢◌, ◌⊎◌, ℕ, ◌+◌, ◌<◌, Bool, true, false, List, [], ◌++◌, length, take, ⊤, Option, Some, None, Result, Ok, Err}
 use Rattle.warm_history.specs.ReferenceSets.{ReferenceSet, these, since}
 use Rattle.warm_history.specs.Histories.{HistoryView, entries_of, holding_since, history, refs, StandsFor, TakesIn}
 use Rattle.warm_history.specs.Losses.{raised}
@@ -29,7 +29,7 @@ references_at None frames = these []
 references_at (Some horizon) frames = references_in horizon frames
 
 -- Of the text spellings of frames of entries came, and then a part of the next frame, which the decoder holds. The history is
--- that of the frames.
+-- that of the frames. All bytes are counted, and those of the frames.
 pub record Gathers (text : List ℕ) (g : Gathered) : Type 0 where
   pub frames : List Message
   pub begun : List ℕ
@@ -38,10 +38,12 @@ pub record Gathers (text : List ℕ) (g : Gathered) : Type 0 where
   pub held : g.decoder ≡ Inside begun
   pub horizon : AreAt g.horizon frames
   pub stands : StandsFor g.history (references_at g.horizon frames)
+  pub seen : g.seen ≡ length text
+  pub at : g.at + length begun ≡ length text
 
 -- the text is what a reader got through: a dump, where the digests came, or the beginning of one
 abbrev pub HasRead : List ℕ → Gathered → Type 0
-HasRead text g = ((g.whole ≡ true) × IsDump text g.history) ⊎ ((g.whole ≡ false) × Gathers text g)
+HasRead text g = ((g.whole ≡ true) × (g.at ≡ length text) × IsDump text g.history) ⊎ ((g.whole ≡ false) × Gathers text g)
 
 -- what a frame makes of what was gathered
 abbrev pub Takes : Gathered → Message → Gathered → Type 0
@@ -60,5 +62,5 @@ Rejects old (Digest sender horizon digests) why = (why ≡ Frame Memory) ⊎ ((w
 Rejects old (Want sender horizon request) why = why ≡ Frame BadKind
 
 -- the text is refused, whatever follows it
-abbrev pub IsRefusedForGood : List ℕ → DumpFault → Type 0
-IsRefusedForGood text why = (later : List ℕ) → IsRefused (text ++ later) why
+abbrev pub IsRefusedForGood : List ℕ → ℕ → DumpFault → Type 0
+IsRefusedForGood text at why = (later : List ℕ) → IsRefused (text ++ later) at why

@@ -19,7 +19,7 @@ OneHistory = (text : List ℕ) (h g : HistoryView) → IsDump text h → IsDump 
 
 -- a dump is refused for want of memory alone, or where its reader fails
 abbrev pub DumpIsTaken : Type 0
-DumpIsTaken = (text : List ℕ) (h : HistoryView) (why : DumpFault) → IsDump text h → IsRefused text why → (why ≡ Frame Memory) ⊎ (why ≡ ReadFault)
+DumpIsTaken = (text : List ℕ) (h : HistoryView) (at : ℕ) (why : DumpFault) → IsDump text h → IsRefused text at why → (why ≡ Frame Memory) ⊎ (why ≡ ReadFault)
 
 -- two dumps with one horizon and the same digests are of one history, or there is a collision
 abbrev pub ChangedDumpIsSeen : Type 0

@@ -1,5 +1,5 @@
 -- What a reader makes of bytes.
-use Rattle.std.specs.Prelude.{◌≡◌, ◌≢◌, ◌⊎◌, ℕ, ◌<◌, List, [], ◌∷◌, ◌++◌, length, ⊤}
+use Rattle.std.specs.Prelude.{◌≡◌, ◌≢◌, ◌⊎◌, ℕ, ◌+◌, ◌<◌, List, [], ◌∷◌, ◌++◌, length, ⊤}
 use Rattle.std.specs.List.{AllByRecursion, flat_map}
 use Rattle.warm_history.specs.declared.hist.Entry.{Entry}
 use Rattle.warm_history.specs.ReferenceSets.{ReferenceSet}
@@ -61,20 +61,28 @@ pub record IsDump (text : List ℕ) (h : HistoryView) : Type 0 where
   pub told : h ≡ told_by h.horizon frames
   pub same_digests : digests ≡ digests_of (entries_of h)
 
--- ---- why a text is no dump
+-- the last frame of the text has these digests
+abbrev pub EndsWithDigests : List ℕ → List (List ℕ) → Type 0
+EndsWithDigests text digests = (frames : List Message) × (sender horizon : ℕ) × Begins text (frames ++ Digest sender horizon digests ∷ []) []
 
--- behind frames of entries come bytes that show a fault of frames
-abbrev pub ShowsFrameFault : List ℕ → FrameFault → Type 0
-ShowsFrameFault text fault = (horizon : ℕ) × (frames : List Message) × AreEntriesAt horizon frames × Fails text frames fault
+-- ---- why a text is no dump, and where
 
--- behind frames of entries comes a request, which no dump has
-abbrev pub HasRequest : List ℕ → Type 0
-HasRequest text = (horizon : ℕ) × (frames : List Message) × (sender own request : ℕ) × (rest : List ℕ)
-    × AreEntriesAt horizon frames × Begins text (frames ++ Want sender own request ∷ []) rest
+-- the text begins with spellings of these frames, one each, and they end behind this number of bytes
+abbrev pub EndsAt : List ℕ → List Message → ℕ → Type 0
+EndsAt text frames at = (rest : List ℕ) × Begins text frames rest × (at + length rest ≡ length text)
 
--- the digests never come: the text ends behind a frame of entries, or inside a frame
-abbrev pub IsCutShort : List ℕ → Type 0
-IsCutShort text = (horizon : ℕ) × (frames : List Message) × (rest : List ℕ) × AreEntriesAt horizon frames × Splits text frames rest
+-- behind frames of entries, which end here, come bytes that show a fault of frames
+abbrev pub ShowsFrameFault : List ℕ → ℕ → FrameFault → Type 0
+ShowsFrameFault text at fault = (horizon : ℕ) × (frames : List Message) × AreEntriesAt horizon frames × EndsAt text frames at × Fails text frames fault
+
+-- behind frames of entries, which end here, comes a request, which no dump has
+abbrev pub HasRequest : List ℕ → ℕ → Type 0
+HasRequest text at = (horizon : ℕ) × (frames : List Message) × (sender own request : ℕ) × (rest : List ℕ)
+    × AreEntriesAt horizon frames × EndsAt text frames at × Begins text (frames ++ Want sender own request ∷ []) rest
+
+-- the digests never come: the text ends behind frames of entries, which end here, or inside the next frame
+abbrev pub IsCutShort : List ℕ → ℕ → Type 0
+IsCutShort text at = (horizon : ℕ) × (frames : List Message) × (rest : List ℕ) × AreEntriesAt horizon frames × EndsAt text frames at × Splits text frames rest
 
 -- a frame of entries or of digests, with this horizon
 abbrev pub IsPartAt : ℕ → Message → Type 0
@@ -82,29 +90,30 @@ IsPartAt horizon (Entries sender own es) = own ≡ horizon
 IsPartAt horizon (Digest sender own digests) = own ≡ horizon
 IsPartAt horizon (Want sender own request) = ⊥
 
--- behind frames of entries with one horizon, one at least, comes a frame of entries or of digests with another
-abbrev pub HasTwoHorizons : List ℕ → Type 0
-HasTwoHorizons text = (horizon other : ℕ) × (frames : List Message) × (frame : Message) × (rest : List ℕ) × (0 < length frames)
-    × AreEntriesAt horizon frames × IsPartAt other frame × (other ≢ horizon) × Begins text (frames ++ frame ∷ []) rest
+-- behind frames of entries with one horizon, one at least, which end here, comes a frame of entries or of digests with another
+abbrev pub HasTwoHorizons : List ℕ → ℕ → Type 0
+HasTwoHorizons text at = (horizon other : ℕ) × (frames : List Message) × (frame : Message) × (rest : List ℕ) × (0 < length frames)
+    × AreEntriesAt horizon frames × IsPartAt other frame × (other ≢ horizon) × EndsAt text frames at × Begins text (frames ++ frame ∷ []) rest
 
--- behind frames of entries comes a frame of digests that are not those of the history that the frames tell
-abbrev pub HasOtherDigests : List ℕ → Type 0
-HasOtherDigests text = (horizon : ℕ) × (frames : List Message) × (sender : ℕ) × (digests : List (List ℕ)) × (rest : List ℕ)
+-- behind frames of entries, which end here, comes a frame of digests that are not those of the history that the frames tell
+abbrev pub HasOtherDigests : List ℕ → ℕ → Type 0
+HasOtherDigests text at = (horizon : ℕ) × (frames : List Message) × (sender : ℕ) × (digests : List (List ℕ)) × (rest : List ℕ)
     × AreEntriesAt horizon frames × (digests ≢ digests_of (entries_of (told_by horizon frames)))
-    × Begins text (frames ++ Digest sender horizon digests ∷ []) rest
+    × EndsAt text frames at × Begins text (frames ++ Digest sender horizon digests ∷ []) rest
 
--- behind a dump comes a byte at least
-abbrev pub HasMore : List ℕ → Type 0
-HasMore text = (dump more : List ℕ) × (h : HistoryView) × (text ≡ dump ++ more) × (0 < length more) × IsDump dump h
+-- behind a dump, which ends here, comes a byte at least
+abbrev pub HasMore : List ℕ → ℕ → Type 0
+HasMore text at = (dump more : List ℕ) × (h : HistoryView) × (text ≡ dump ++ more) × (0 < length more) × (at ≡ length dump) × IsDump dump h
 
--- Why a text is refused. Want of memory, and a reader that fails, say nothing of the text. A reader answers no WriteFault.
-abbrev pub IsRefused : List ℕ → DumpFault → Type 0
-IsRefused text (Frame frame_faults.Memory) = ⊤
-IsRefused text (Frame frame_faults.BadKind) = ShowsFrameFault text frame_faults.BadKind ⊎ HasRequest text
-IsRefused text (Frame fault) = ShowsFrameFault text fault
-IsRefused text CutShort = IsCutShort text
-IsRefused text DigestsDiffer = HasOtherDigests text
-IsRefused text HorizonsDiffer = HasTwoHorizons text
-IsRefused text MoreFollows = HasMore text
-IsRefused text ReadFault = ⊤
-IsRefused text WriteFault = ⊥
+-- Why a text is refused, and behind how many bytes of whole frames. Want of memory, and a reader that fails, say nothing of the text.
+-- A reader answers no WriteFault.
+abbrev pub IsRefused : List ℕ → ℕ → DumpFault → Type 0
+IsRefused text at (Frame frame_faults.Memory) = ⊤
+IsRefused text at (Frame frame_faults.BadKind) = ShowsFrameFault text at frame_faults.BadKind ⊎ HasRequest text at
+IsRefused text at (Frame fault) = ShowsFrameFault text at fault
+IsRefused text at CutShort = IsCutShort text at
+IsRefused text at DigestsDiffer = HasOtherDigests text at
+IsRefused text at HorizonsDiffer = HasTwoHorizons text at
+IsRefused text at MoreFollows = HasMore text at
+IsRefused text at ReadFault = ⊤
+IsRefused text at WriteFault = ⊥

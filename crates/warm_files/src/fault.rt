@@ -76,3 +76,14 @@ impl DumpFault {
         }
     }
 }
+
+/// Why a dump was not read, and where. As an error it shows both.
+#[derive(Clone, Copy, Debug, PartialEq, Eq, Error)]
+#[error("{fault} at byte {at}")]
+pub struct DumpError {
+    /// Where the whole frames before the fault end: so many bytes were taken in, and the frame that shows the fault, or
+    /// what follows the dump, begins here. Of want of memory and of a reader that fails no contract says it.
+    pub at: u64,
+    /// Why.
+    pub fault: DumpFault,
+}

@@ -10,6 +10,6 @@ pub mod laws;
 mod reading;
 mod writing;
 
-pub use fault::DumpFault;
+pub use fault::{DumpError, DumpFault};
 pub use reading::{MAX_READS, READ_SIZE, read_dump};
 pub use writing::write_dump;

@@ -1,5 +1,5 @@
 //! Reading a dump.
-ghost use Rattle.std.specs.Prelude.{◌≡◌, ◌≢◌, ◌⊎◌, ◌↔◌, ◌≤◌, ◌<◌, ◌++◌, [], true, false, length, take, List, ℕ, IfOk, IfErr, IfSome, IsTrue, OnOk, Some};
+ghost use Rattle.std.specs.Prelude.{◌≡◌, ◌≢◌, ◌⊎◌, ◌↔◌, ◌+◌, ◌≤◌, ◌<◌, ◌++◌, [], true, false, length, take, List, ℕ, IfOk, IfErr, IfSome, IsTrue, OnOk, Some};
 ghost use Rattle.std.specs.Io.KnownBytes.{Consumes, IsAtEnd};
 ghost use Rattle.warm_frames.specs.declared.fault.FrameFault.TheVariants as frame_faults;
 ghost use Rattle.warm_history.specs.Histories.{entries_of, holding_since, refs, StandsFor, TakesIn};
@@ -8,9 +8,9 @@ ghost use Rattle.warm_history.specs.ReferenceSets.{ReferenceSet, since};
 ghost use Rattle.warm_digest.specs.BucketDigests.{digests_of};
 ghost use Rattle.warm_files.specs.declared.fault.DumpFault.TheVariants.{Frame, DigestsDiffer, HorizonsDiffer, ReadFault};
 ghost use Rattle.warm_files.specs.Gathering.{Agrees, Gathers, HasRead, IsRefusedForGood, Rejects, Takes};
-ghost use Rattle.warm_files.specs.Reading.{IsDump, IsRefused};
+ghost use Rattle.warm_files.specs.Reading.{EndsWithDigests, IsDump, IsRefused};
 
-use crate::fault::DumpFault;
+use crate::fault::{DumpError, DumpFault};
 use std::alloc::Global;
 use std::io::{ErrorKind, Read};
 use warm_digest::digests;
@@ -21,7 +21,7 @@ use warm_history::History;
 pub const MAX_READS: u64 = 1 << 40;
 
 /// How many bytes are read at a time.
-pub const READ_SIZE: usize = 4096;
+pub const READ_SIZE: usize = 65536;
 
 // What was read of a dump so far.
 #[derive(Drop)]
@@ -33,6 +33,10 @@ struct Gathered {
     horizon: Option<u64>,
     // The digests came.
     whole: bool,
+    // How many bytes were taken.
+    seen: u64,
+    // How many of them are those of whole frames.
+    at: u64,
 }
 
 // Whether the horizon is that of the frames before, if there was one.
@@ -55,6 +59,17 @@ fn has_digests(alloc: Global, history: &History, table: &DigestTable) -> Result<
     Ok(own == *table)
 }
 
+// How many bytes were taken with these.
+fn count(seen: u64, taken: usize) -> Result<u64, DumpFault>
+    ensures count { IfOk result (λ count. count ≡ seen + taken) }
+    ensures stopped { IfErr result (λ why. why ≡ ReadFault) }
+{
+    match seen.checked_add(taken as u64) {
+        Some(count) => Ok(count),
+        None => Err(DumpFault::ReadFault),
+    }
+}
+
 impl Gathered {
     // Nothing was read.
     fn new(alloc: Global) -> Gathered
@@ -66,6 +81,8 @@ impl Gathered {
             history: History::new(alloc),
             horizon: None,
             whole: false,
+            seen: 0,
+            at: 0,
         }
     }
 
@@ -77,6 +94,7 @@ impl Gathered {
             (TakesIn self.old.history (refs (holding_since horizon entries.now)) self.new.history) }
         ensures whole { self.new.whole ≡ self.old.whole }
         ensures decoder { self.new.decoder ≡ self.old.decoder }
+        ensures counts { (self.new.seen ≡ self.old.seen) × (self.new.at ≡ self.old.at) }
         ensures refused { IfErr result (λ why. (why ≡ Frame frame_faults.Memory)
             ⊎ ((why ≡ HorizonsDiffer) × (Agrees self.old.horizon horizon → ⊥))) }
     {
@@ -96,6 +114,7 @@ impl Gathered {
         ensures digests { OnOk result (table.now ≡ digests_of (entries_of self.new.history)) }
         ensures whole { OnOk result (self.new.whole ≡ true) }
         ensures decoder { self.new.decoder ≡ self.old.decoder }
+        ensures counts { (self.new.seen ≡ self.old.seen) × (self.new.at ≡ self.old.at) }
         ensures refused { IfErr result (λ why. (why ≡ Frame frame_faults.Memory)
             ⊎ ((why ≡ HorizonsDiffer) × (Agrees self.old.horizon horizon → ⊥))
             ⊎ ((why ≡ DigestsDiffer) × Agrees self.old.horizon horizon
@@ -117,6 +136,7 @@ impl Gathered {
         requires { self.old.whole ≡ false }
         ensures takes { OnOk result (Takes self.old frame.now self.new) }
         ensures decoder { self.new.decoder ≡ self.old.decoder }
+        ensures counts { (self.new.seen ≡ self.old.seen) × (self.new.at ≡ self.old.at) }
         ensures refused { IfErr result (λ why. Rejects self.old frame.now why) }
     {
         match frame {
@@ -144,15 +164,18 @@ impl Gathered {
         ensures read { IfOk result (λ n. (seen : List ℕ) → Gathers seen self.old
             → HasRead (seen ++ take n piece.now) self.new) }
         ensures refused { IfErr result (λ why. (seen : List ℕ) → Gathers seen self.old
-            → IsRefusedForGood (seen ++ piece.now) why) }
+            → IsRefusedForGood (seen ++ piece.now) self.new.at why) }
     {
         match self.decoder.feed(piece) {
             Ok(fed) => {
                 let Fed { taken, frame } = fed;
+                let seen = count(self.seen, taken)?;
+                self.seen = seen;
                 match frame {
                     Some(frame) => self.take_frame(frame.as_frame())?,
                     None => return Ok(taken),
                 }
+                self.at = seen;
                 Ok(taken)
             }
             Err(fault) => Err(DumpFault::Frame(fault)),
@@ -165,7 +188,7 @@ impl Gathered {
         ensures read { OnOk result ((seen : List ℕ) → HasRead seen self.old
             → HasRead (seen ++ bytes.now) self.new) }
         ensures refused { IfErr result (λ why. (seen : List ℕ) → HasRead seen self.old
-            → IsRefusedForGood (seen ++ bytes.now) why) }
+            → IsRefusedForGood (seen ++ bytes.now) self.new.at why) }
     {
         let mut rest = bytes;
         while !rest.is_empty() {
@@ -192,7 +215,8 @@ impl Gathered {
         ensures end { IfOk result (λ more. more ≡ false → IsAtEnd (R.remaining reader.new)) }
         ensures refused { IfErr result (λ why. (why ≡ ReadFault) ⊎ ((bytes : List ℕ)
             × Consumes (R.remaining reader.old) (R.remaining reader.new) bytes
-            × ((seen : List ℕ) → HasRead seen self.old → IsRefusedForGood (seen ++ bytes) why))) }
+            × ((seen : List ℕ) → HasRead seen self.old 
+                → IsRefusedForGood (seen ++ bytes) self.new.at why))) }
     {
         match reader.read(buffer) {
             Ok(0) => Ok(false),
@@ -209,12 +233,29 @@ impl Gathered {
         }
     }
 
+    // Reads to the end of the input.
+    fn read_all<R: Read>(&mut self, reader: &mut R) -> Result<(), DumpFault>
+        requires { HasRead [] self.old }
+        ensures end { OnOk result (IsAtEnd (R.remaining reader.new)) }
+        ensures read { OnOk result (IfSome (R.remaining reader.old) (λ text. HasRead text self.new)) }
+        ensures refused { IfErr result (λ why. IfSome (R.remaining reader.old)
+            (λ text. IsRefused text self.new.at why)) }
+    {
+        let mut buffer = vec![in self.alloc; 0u8; READ_SIZE]?;
+        for _ in 0..MAX_READS {
+            if !self.read_some(reader, buffer.as_mut_slice())? {
+                return Ok(());
+            }
+        }
+        Err(DumpFault::ReadFault)
+    }
+
     // The history, where the digests came.
     #[tactic(auto, using(crate::proofs::ReadLemmas::ended_dump, crate::proofs::ReadLemmas::ended_short))]
-    fn finish(self) -> Result<History, DumpFault>
+    fn finish(self) -> Result<History, DumpError>
         ensures dump { IfOk result (λ h. (seen : List ℕ) → HasRead seen self → IsDump seen h) }
-        ensures cut { IfErr result (λ why. (seen : List ℕ) → HasRead seen self
-            → IsRefused seen why) }
+        ensures cut { IfErr result (λ error. (seen : List ℕ) → HasRead seen self
+            → IsRefused seen error.at error.fault) }
     {
         let Gathered {
             alloc: _,
@@ -222,19 +263,24 @@ impl Gathered {
             history,
             horizon: _,
             whole,
+            seen: _,
+            at,
         } = self;
         if !whole {
-            return Err(DumpFault::CutShort);
+            return Err(DumpError {
+                at,
+                fault: DumpFault::CutShort,
+            });
         }
         Ok(history)
     }
 }
 
 /// Reads a dump to the end of the reader, and gives its history. The frames may be in either format, and their senders
-/// any.
+/// any. The digests in the file are those of the history.
 ///
-/// It takes memory for the history that it gives, for one frame, its bytes and its entries, and for 4096 bytes that
-/// are read at a time. It is all or nothing: after a fault no memory is kept. A read that is interrupted is made again.
+/// It takes memory for the history that it gives, for one frame, its bytes and its entries, and for [`READ_SIZE`] bytes
+/// that are read at a time. It is all or nothing: after a fault no memory is kept. A read that is interrupted is made again.
 ///
 /// Refused by the first fault that the bytes show, from left to right:
 /// - `Frame`: a frame's own fault, as [`warm_frames::decode`] has it, or `BadKind` for a request;
@@ -243,21 +289,25 @@ impl Gathered {
 /// - `MoreFollows`: bytes follow the digests;
 /// - `CutShort`: the bytes end before the digests do.
 ///
+/// The error says behind how many bytes of whole frames, which is where the frame that shows the fault begins.
+///
 /// And, at any point: `Frame(Memory)`, where memory was refused; `ReadFault`, where the reader failed, or where
-/// [`MAX_READS`] reads did not reach its end. After a fault nothing is said of how much was read.
-pub fn read_dump<R: Read>(alloc: Global, reader: &mut R) -> Result<History, DumpFault>
+/// [`MAX_READS`] reads or 2^64 bytes did not reach its end.
+pub fn read_dump<R: Read>(alloc: Global, reader: &mut R) -> Result<History, DumpError>
     ensures end { OnOk result (IsAtEnd (R.remaining reader.new)) }
     ensures dump { IfOk result (λ history. IfSome (R.remaining reader.old)
         (λ text. IsDump text history)) }
-    ensures refused { IfErr result (λ why. IfSome (R.remaining reader.old)
-        (λ text. IsRefused text why)) }
+    ensures digests { IfOk result (λ history. IfSome (R.remaining reader.old)
+        (λ text. EndsWithDigests text (digests_of (entries_of history)))) }
+    ensures refused { IfErr result (λ error. IfSome (R.remaining reader.old)
+        (λ text. IsRefused text error.at error.fault)) }
 {
     let mut gathered = Gathered::new(alloc);
-    let mut buffer = vec![in alloc; 0u8; READ_SIZE]?;
-    for _ in 0..MAX_READS {
-        if !gathered.read_some(reader, buffer.as_mut_slice())? {
-            return gathered.finish();
-        }
+    match gathered.read_all(reader) {
+        Ok(()) => gathered.finish(),
+        Err(fault) => Err(DumpError {
+            at: gathered.at,
+            fault,
+        }),
     }
-    Err(DumpFault::ReadFault)
 }

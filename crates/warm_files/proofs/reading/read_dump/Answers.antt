@@ -1,46 +1,20 @@
-use Rattle.std.proofs.Common.{[], ◌++◌}
-use Rattle.warm_files.proofs.ReadLemmas.{passed_on}
-use Rattle.warm_files.proofs.StopLemmas.{read_refused}
-use Rattle.warm_files.specs.Reading.{IsDump, IsRefused}
-use Rattle.std.proofs.KnownBytes.{Consumes-nil, Consumes-trans}
-use Rattle.warm_files.proofs.EndLemmas.{whole_text, if_ok_map, if_err_map, any_text, on_ok}
+use Rattle.warm_files.specs.Reading.{IsDump, IsRefused, EndsWithDigests}
+use Rattle.warm_history.specs.Histories.{entries_of}
+use Rattle.warm_digest.specs.BucketDigests.{digests_of}
+use Rattle.warm_files.proofs.EndLemmas.{if_ok_map, if_err_map, on_ok, some_map}
+use Rattle.warm_files.proofs.ReadLemmas.{ends_with_digests}
 use Rattle.warm_files.proofs.reading.read_dump.Goals as goal
 
-pub loop-init : goal.loop-init
-loop-init g c = record { goes = ([], Consumes-nil _, c.new-gathered.ensures); size = c.in_ok-buffer.ensures.len }
+pub returns-in-Ok-clause-end : goal.returns-in-Ok-clause-end
+returns-in-Ok-clause-end g c = on_ok c.finish.result _ c.in-Ok.ensures.end
 
-pub loop-preserved : goal.loop-preserved
-loop-preserved g c =
-    let so_far = c.loop.invariant.goes in
-    let next = c.in_ok-read_some.ensures.read in
-    record {
-      goes = (so_far.0 ++ next.0, Consumes-trans _ _ _ so_far.0 next.0 so_far.1 next.1, next.2 so_far.0 so_far.2);
-      size = c.loop.invariant.size;
-    }
+pub returns-in-Ok-clause-dump : goal.returns-in-Ok-clause-dump
+returns-in-Ok-clause-dump g c = if_ok_map c.finish.result _ _ (λ h x. some_map _ _ (λ text. IsDump text h) (λ text read. x text read) c.in-Ok.ensures.read) c.finish.ensures.dump
 
-pub returns-then-not-branch-clause-end : goal.returns-then-not-branch-clause-end
-returns-then-not-branch-clause-end g c = on_ok c.finish.result _ (c.in_ok-read_some.ensures.end c.if-not-branch.true)
+pub returns-in-Ok-clause-digests : goal.returns-in-Ok-clause-digests
+returns-in-Ok-clause-digests g c =
+    if_ok_map c.finish.result _ _ (λ h x. some_map _ _ (λ text. EndsWithDigests text (digests_of (entries_of h))) (λ text read. ends_with_digests text h (x text read)) c.in-Ok.ensures.read) c.finish.ensures.dump
 
-pub returns-then-not-branch-clause-dump : goal.returns-then-not-branch-clause-dump
-returns-then-not-branch-clause-dump g c =
-    let so_far = c.loop.invariant.goes in
-    let next = c.in_ok-read_some.ensures.read in
-    if_ok_map c.finish.result _ _ (λ h x. whole_text _ _ (so_far.0 ++ next.0) (λ text. IsDump text h) (Consumes-trans _ _ _ so_far.0 next.0 so_far.1 next.1)
-    (c.in_ok-read_some.ensures.end c.if-not-branch.true) (x (so_far.0 ++ next.0) (next.2 so_far.0 so_far.2))) c.finish.ensures.dump
-
-pub returns-then-not-branch-clause-refused : goal.returns-then-not-branch-clause-refused
-returns-then-not-branch-clause-refused g c =
-    let so_far = c.loop.invariant.goes in
-    let next = c.in_ok-read_some.ensures.read in
-    if_err_map c.finish.result _ _ (λ why x. whole_text _ _ (so_far.0 ++ next.0) (λ text. IsRefused text why) (Consumes-trans _ _ _ so_far.0 next.0 so_far.1 next.1)
-    (c.in_ok-read_some.ensures.end c.if-not-branch.true) (x (so_far.0 ++ next.0) (next.2 so_far.0 so_far.2))) c.finish.ensures.cut
-
-pub returns-clause-refused : goal.returns-clause-refused
-returns-clause-refused g c = any_text _ _ (λ t. tt)
-
-pub returns-in_err-read_some-clause-refused : goal.returns-in_err-read_some-clause-refused
-returns-in_err-read_some-clause-refused g c =
-    let so_far = c.loop.invariant.goes in
-    let why = c.in_err-read_some.field-0.0 in
-    passed_on c.from_residual-in_err-read_some.result why _ c.from_residual-in_err-read_some.ensures.1
-    (read_refused (g.R.Read.remaining c.args.reader.now) (g.R.Read.remaining c.loop.reader) (g.R.Read.remaining c.read_some.new.reader) so_far.0 why _ so_far.1 so_far.2 c.in_err-read_some.ensures.refused)
+pub returns-in-Ok-clause-refused : goal.returns-in-Ok-clause-refused
+returns-in-Ok-clause-refused g c =
+    if_err_map c.finish.result _ _ (λ error x. some_map _ _ (λ text. IsRefused text error.at error.fault) (λ text read. x text read) c.in-Ok.ensures.read) c.finish.ensures.cut

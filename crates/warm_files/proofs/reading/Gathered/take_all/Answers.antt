@@ -22,7 +22,7 @@ pub returns-then-self-clause-refused : goal.returns-then-self-clause-refused
 returns-then-self-clause-refused c = λ seen read.
     let goes = c.loop-rest.invariant.goes in
     let some : 0 < length c.loop-rest.rest.now = omega (arith, eqb-false (length c.loop-rest.rest.now) 0 (sym c.is_empty.ensures ∙ c.loop-rest-test.true)) in
-    refused_behind seen goes.0 c.loop-rest.rest.now c.args.bytes.now MoreFollows goes.1 (more_refused (seen ++ goes.0) c.loop-rest.rest.now _ c.if-self.true some (goes.2 seen read))
+    refused_behind seen goes.0 c.loop-rest.rest.now c.args.bytes.now _ MoreFollows goes.1 (more_refused (seen ++ goes.0) c.loop-rest.rest.now _ c.if-self.true some (goes.2 seen read))
 
 pub loop-rest-preserved : goal.loop-rest-preserved
 loop-rest-preserved c =
@@ -45,7 +45,7 @@ returns-in_err-taken-clause-refused c =
     let goes = c.loop-rest.invariant.goes in
     let why = c.in_err-taken.field-0.0 in
     passed_on c.from_residual.result why _ c.from_residual.ensures.1 (λ seen read.
-    refused_behind seen goes.0 c.loop-rest.rest.now c.args.bytes.now why goes.1 (c.in_err-taken.ensures.refused (seen ++ goes.0) (open_read (seen ++ goes.0) _ c.if-self.false (goes.2 seen read))))
+    refused_behind seen goes.0 c.loop-rest.rest.now c.args.bytes.now _ why goes.1 (c.in_err-taken.ensures.refused (seen ++ goes.0) (open_read (seen ++ goes.0) _ c.if-self.false (goes.2 seen read))))
 
 pub returns-clause-read : goal.returns-clause-read
 returns-clause-read c = λ seen read.
