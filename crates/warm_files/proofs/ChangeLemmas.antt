@@ -1,12 +1,10 @@
 -- Dumps with the same digests.
 use Rattle.std.proofs.Common.{◌≡◌, ◌⊎◌, inl, inr, ℕ, max, List, [], ◌∷◌, ◌++◌, filter, refl, sym, ap, ◌∙◌, append-nil, arith}
-use Rattle.std.specs.Prelude.{◌<◌, ◌==◌}
+use Rattle.std.specs.Prelude.{◌==◌}
 use Rattle.std.specs.Int.{bit_at}
 use Rattle.std.proofs.lemmas.Nat.Bits.{bit_at-zero}
 use Rattle.std.proofs.Math.Nat.{max-eq_left}
-use Rattle.sha2.specs.Sha256.{sha256}
 use Rattle.warm_stamps.specs.declared.Reference.{Reference}
-use Rattle.warm_stamps.specs.declared.TheConstants.{BUCKETS}
 use Rattle.warm_stamps.specs.Buckets.{page_bucket}
 use Rattle.warm_history.specs.ReferenceSets.{ReferenceSet, ◌∪◌}
 use Rattle.warm_history.specs.Histories.{HistoryView, entries_of, history}
@@ -17,7 +15,7 @@ use Rattle.warm_digest.specs.Exchange.{IsCollision, IsDifferenceOf, Fits, in_buc
 use Rattle.warm_digest.proofs.ExchangeLemmas.{exchange_joins}
 use Rattle.warm_digest.proofs.KeptLemmas.{digest_is}
 use Rattle.warm_files.specs.Laws.{ChangedDumpIsSeen}
-use Rattle.warm_files.specs.Reading.{references_in, IsDump}
+use Rattle.warm_files.specs.Reading.{references_in}
 use Rattle.warm_files.proofs.FitLemmas.{dump_fits}
 
 -- no bucket is in the request 0

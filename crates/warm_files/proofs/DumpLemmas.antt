@@ -1,5 +1,5 @@
 -- Pieces of lists, and the frames that are made of them.
-use Rattle.std.proofs.Common.{◌≡◌, ℕ, zero, suc, ◌+◌, ◌-◌, ◌<◌, ◌≤◌, min, List, [], ◌∷◌, ◌++◌, length, take, drop, map, Option, refl, sym, ap, subst, ◌∙◌, append_assoc, append-nil, map-id, arith, flat_map}
+use Rattle.std.proofs.Common.{◌≡◌, ℕ, zero, suc, ◌+◌, ◌-◌, ◌<◌, ◌≤◌, List, [], ◌∷◌, ◌++◌, length, take, drop, map, Option, refl, sym, ap, subst, ◌∙◌, append_assoc, append-nil, map-id, arith, flat_map}
 use Rattle.std.specs.Io.KnownBytes.{Appends}
 use Rattle.std.specs.List.{range_with_len}
 use Rattle.std.specs.Ordering.{on}
@@ -91,22 +91,23 @@ pub left_shorter : (piece left next : List Entry) → piece ≡ take MAX_ENTRIES
 left_shorter piece left next first later some =
     omega (arith, some, ap (λ (es : List Entry). length es) first, length-take MAX_ENTRIES left, ap (λ (es : List Entry). length es) later, length-drop MAX_ENTRIES left)
 
-rising_drop : {A : Type 0} (cmp : A → A → Ordering) (n : ℕ) (xs : List A) → IsRising cmp xs → IsRising cmp (drop n xs)
+pub rising_drop : {A : Type 0} (cmp : A → A → Ordering) (n : ℕ) (xs : List A) → IsRising cmp xs → IsRising cmp (drop n xs)
 rising_drop cmp zero xs rising = rising
 rising_drop cmp (suc n) [] rising = tt
 rising_drop cmp (suc n) (x ∷ xs) rising = rising_drop cmp n xs rising.1
 
 pub piece_fits : (piece left : List Entry) → piece ≡ take MAX_ENTRIES left → PagesRise left → FitsInFrame piece
-piece_fits piece left first rise =
-    (subst PagesRise (sym first) (rising_take (on (λ e. e.page) page_cmp) MAX_ENTRIES left rise),
-      omega (arith, ap (λ (es : List Entry). length es) first, length-take MAX_ENTRIES left))
+piece_fits piece left first rise = (
+  subst PagesRise (sym first) (rising_take (on (λ e. e.page) page_cmp) MAX_ENTRIES left rise),
+  omega (arith, ap (λ (es : List Entry). length es) first, length-take MAX_ENTRIES left),
+)
 
 pub rest_rises : (left next : List Entry) → next ≡ drop MAX_ENTRIES left → PagesRise left → PagesRise next
 rest_rises left next later rise = subst PagesRise (sym later) (rising_drop (on (λ e. e.page) page_cmp) MAX_ENTRIES left rise)
 
 -- ---- bucket after bucket
 
-range_more : (n : ℕ) → range_with_len 0 (n + 1) ≡ range_with_len 0 n ++ n ∷ []
+pub range_more : (n : ℕ) → range_with_len 0 (n + 1) ≡ range_with_len 0 n ++ n ∷ []
 range_more n = sym (map-id (range_with_len 0 (n + 1))) ∙ map-range_with_len_more (λ k. k) 0 n n (omega arith) ∙ ap (λ (ks : List ℕ). ks ++ n ∷ []) (map-id (range_with_len 0 n))
 
 frames_more : (sender n : ℕ) (h : HistoryView) → frames_below sender h (n + 1) ≡ frames_below sender h n ++ bucket_frames sender h n

@@ -1,5 +1,5 @@
 -- The history of a dump has entries that there are, since its frames have none but such.
-use Rattle.std.proofs.Common.{◌≡◌, ℕ, true, false, List, [], ◌∷◌, ◌++◌, map, Option, Some, None, sym, subst, flat_map}
+use Rattle.std.proofs.Common.{ℕ, List, [], ◌∷◌, ◌++◌, map, Option, Some, None, sym, subst}
 use Rattle.std.specs.List.{AllByRecursion, cons_option}
 use Rattle.std.specs.Option.{option_map}
 use Rattle.std.specs.Ordering.{is_eq, flip_args}
@@ -18,7 +18,7 @@ use Rattle.warm_history.specs.declared.hist.PageHist.TheVariants.{Once, Twice}
 use Rattle.warm_history.specs.declared.hist.Entry.{Entry}
 use Rattle.warm_history.specs.ListHistories as list
 use Rattle.warm_history.specs.ReferenceSets.{ReferenceSet, is_kept, references}
-use Rattle.warm_history.specs.Histories.{HistoryView, entries_of, held_by, references_to, stamps, first_two, hist, pages, history}
+use Rattle.warm_history.specs.Histories.{HistoryView, held_by, references_to, stamps, first_two, hist, pages, history}
 use Rattle.warm_history.proofs.ListHistoryLemmas.{entries}
 use Rattle.warm_frames.specs.declared.message.Message.{Message}
 use Rattle.warm_frames.specs.declared.message.Message.TheVariants.{Entries, Digest, Want}
@@ -26,7 +26,7 @@ use Rattle.warm_frames.specs.Entries.{IsEntry, IsHist}
 use Rattle.warm_frames.specs.Pieces.{SpellAll}
 use Rattle.warm_frames.specs.Spelling.{IsFrame}
 use Rattle.warm_digest.specs.Exchange.{Fits}
-use Rattle.warm_files.specs.Reading.{brought, entries_in, references_in, told_by, IsDump}
+use Rattle.warm_files.specs.Reading.{brought, entries_in, references_in, IsDump}
 
 -- a reference of a page and a stamp that there are
 pub record IsReference (r : Reference) : Type 0 where
@@ -85,7 +85,7 @@ history_fits S all = entries_fit (hist S) (pages S) (λ p. hist_fits S p all) (a
 
 entry_held : (page : _) (h : PageHist) → IsPage page → IsHist h → AreReferences (list.entry_refs (record { page = page; hist = h }))
 entry_held page (Once last) own is = (record { page = own; stamp = is }, tt)
-entry_held page (Twice two) own is = (record { page = own; stamp = is.0 }, record { page = own; stamp = is.1 }, tt)
+entry_held page (Twice two) own is = (record { page = own; stamp = is.0 }, (record { page = own; stamp = is.1 }, tt))
 
 all_held : (es : List Entry) → AllByRecursion IsEntry es → AreReferences (held_by es)
 all_held [] all = tt

@@ -1,5 +1,5 @@
 -- The laws of dumps: one history, and no refusal.
-use Rattle.std.proofs.Common.{◌≡◌, ◌≢◌, ◌⊎◌, inl, inr, ℕ, ◌<◌, List, [], ◌∷◌, ◌++◌, length, refl, sym, ap, subst, ◌∙◌, append_assoc, append-nil, arith}
+use Rattle.std.proofs.Common.{◌≡◌, inl, inr, ℕ, List, [], ◌∷◌, ◌++◌, length, refl, sym, ap, subst, ◌∙◌, append_assoc, append-nil, arith}
 use Rattle.std.specs.List.{AllByRecursion}
 use Rattle.warm_history.specs.Histories.{HistoryView, entries_of}
 use Rattle.warm_frames.specs.declared.fault.FrameFault.{FrameFault}
@@ -9,18 +9,17 @@ use Rattle.warm_frames.specs.declared.message.Message.TheVariants.{Entries, Dige
 use Rattle.warm_frames.specs.Pieces.{SpellAll, texts_of}
 use Rattle.warm_frames.proofs.StreamLemmas.{one_reading, part_or_fault}
 use Rattle.warm_digest.specs.BucketDigests.{digests_of}
-use Rattle.warm_files.specs.declared.fault.DumpFault.{DumpFault}
 use Rattle.warm_files.specs.declared.fault.DumpFault.TheVariants.{Frame, CutShort, DigestsDiffer, HorizonsDiffer, MoreFollows, ReadFault, WriteFault}
 use Rattle.warm_files.specs.Laws.{OneHistory, DumpIsTaken}
-use Rattle.warm_files.specs.Reading.{IsEntriesAt, AreEntriesAt, IsPartAt, told_by, Begins, IsDump, ShowsFrameFault, HasRequest, IsCutShort, HasTwoHorizons, HasOtherDigests, HasMore, IsRefused}
-use Rattle.warm_files.proofs.FrontLemmas.{dump_splits, begins_dump, never_both, one_front, all_parts, dump_parts, one_horizon, first_horizon}
+use Rattle.warm_files.specs.Reading.{IsEntriesAt, AreEntriesAt, IsPartAt, told_by, Begins, IsDump, ShowsFrameFault, HasRequest, IsCutShort, HasTwoHorizons, HasOtherDigests, HasMore}
+use Rattle.warm_files.proofs.FrontLemmas.{dump_splits, begins_dump, one_front, all_parts, dump_parts, one_horizon, first_horizon}
 
-horizon_of : Message → ℕ
+abbrev horizon_of : Message → ℕ
 horizon_of (Entries sender own es) = own
 horizon_of (Digest sender own digests) = own
 horizon_of (Want sender own request) = own
 
-digests_in : Message → List (List ℕ)
+abbrev digests_in : Message → List (List ℕ)
 digests_in (Entries sender own es) = []
 digests_in (Digest sender own digests) = digests
 digests_in (Want sender own request) = []

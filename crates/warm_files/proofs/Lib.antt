@@ -6,3 +6,4 @@ pub mod FrontLemmas
 pub mod LawLemmas
 pub mod FitLemmas
 pub mod ChangeLemmas
+pub mod SavedLemmas

@@ -1,7 +1,6 @@
 -- What was read of a dump, frame by frame.
-use Rattle.std.proofs.Common.{◌≡◌, ◌≢◌, ◌⊎◌, inl, inr, ℕ, zero, suc, ◌+◌, ◌<◌, ◌≤◌, Bool, true, false, max, List, [], ◌∷◌, ◌++◌, length, take, drop, Option, Some, None, Result, Ok, Err, refl, sym, ap, subst, ◌∙◌, append_assoc, append-nil, arith, flat_map}
+use Rattle.std.proofs.Common.{◌≡◌, ◌≢◌, ◌⊎◌, inl, inr, ℕ, zero, suc, ◌+◌, ◌<◌, ◌≤◌, true, false, max, List, [], ◌∷◌, ◌++◌, length, take, drop, Option, Some, None, Result, Ok, Err, refl, sym, ap, subst, ◌∙◌, append_assoc, append-nil, arith}
 use Rattle.std.specs.Prelude.{IsErrAnd, IfErr}
-use Rattle.std.specs.List.{AllByRecursion}
 use Rattle.std.proofs.lemmas.List.Concat.{flat_map-append}
 use Rattle.std.proofs.lemmas.List.{take_all, take-append-drop, length-append, length-take}
 use Rattle.std.proofs.Math.Nat.{max_comm, max-eq_left}
@@ -18,7 +17,7 @@ use Rattle.warm_frames.specs.declared.fault.FrameFault.{FrameFault}
 use Rattle.warm_frames.specs.declared.fault.FrameFault.TheVariants as frame_faults
 use Rattle.warm_frames.specs.declared.message.Message.{Message}
 use Rattle.warm_frames.specs.declared.message.Message.TheVariants.{Entries, Digest, Want}
-use Rattle.warm_frames.specs.Pieces.{DecoderState, Inside, Broken, IsPart, ShowsFault, Breaks, Feeds, SpellAll, texts_of, Fails}
+use Rattle.warm_frames.specs.Pieces.{DecoderState, Inside, IsPart, Breaks, Feeds, SpellAll, texts_of}
 use Rattle.warm_frames.specs.Pieces.{Takes as TakesBytes}
 use Rattle.warm_frames.specs.Reading.{read_frame}
 use Rattle.warm_frames.specs.Spelling.{Spells}
@@ -63,7 +62,7 @@ cut n seen piece later =
 
 -- ---- what frames hold
 
-held-append : (es fs : List Entry) → held_by (es ++ fs) ≡ held_by es ++ held_by fs
+pub held-append : (es fs : List Entry) → held_by (es ++ fs) ≡ held_by es ++ held_by fs
 held-append [] fs = refl
 held-append (e ∷ es) fs = ap (λ rs. list.entry_refs e ++ rs) (held-append es fs) ∙ sym (append_assoc (list.entry_refs e) (held_by es) (held_by fs))
 
@@ -111,10 +110,11 @@ all_at (Some known) frames some = (known, some.1)
 -- the frames of what was read end there too with more behind it
 ends_before : (seen more : List ℕ) (old : Gathered) (g : Gathers seen old) → EndsAt (seen ++ more) g.frames old.at
 ends_before seen more old g =
-    let T = texts_of g.front.texts in
-    (g.begun ++ more,
+    let T = texts_of g.front.texts in (
+      g.begun ++ more,
       record { texts = g.front.texts; whole = ap (λ (w : List ℕ). w ++ more) g.front.whole ∙ append_assoc T g.begun more; each = g.front.each },
-      omega (arith, length-append g.begun more, length-append seen more, g.at))
+      omega (arith, length-append g.begun more, length-append seen more, g.at),
+    )
 
 ends_in : (seen piece later : List ℕ) (old : Gathered) (g : Gathers seen old) → EndsAt ((seen ++ piece) ++ later) g.frames old.at
 ends_in seen piece later old g = subst (λ (w : List ℕ). EndsAt w g.frames old.at) (sym (append_assoc seen piece later)) (ends_before seen (piece ++ later) old g)
@@ -126,17 +126,20 @@ counted seen piece n a b before more few = omega (arith, before, more, few, leng
 -- ---- nothing was read
 
 pub nothing_read : (g : Gathered) → g.whole ≡ false → g.decoder ≡ Inside [] → g.horizon ≡ None → StandsFor g.history (these []) → g.seen ≡ 0 → g.at ≡ 0 → HasRead [] g
-nothing_read g unclosed inside none stands seen at = inr (unclosed, record {
-  frames = [];
-  begun = [];
-  front = record { texts = []; whole = refl; each = tt };
-  part = part_without_header [] (nothing_short [] refl);
-  held = inside;
-  horizon = subst (λ (o : Option ℕ). AreAt o []) (sym none) refl;
-  stands = subst (λ (o : Option ℕ). StandsFor g.history (references_at o [])) (sym none) stands;
-  seen = seen;
-  at = omega (arith, at);
-})
+nothing_read g unclosed inside none stands seen at = inr (
+  unclosed,
+  record {
+    frames = [];
+    begun = [];
+    front = record { texts = []; whole = refl; each = tt };
+    part = part_without_header [] (nothing_short [] refl);
+    held = inside;
+    horizon = subst (λ (o : Option ℕ). AreAt o []) (sym none) refl;
+    stands = subst (λ (o : Option ℕ). StandsFor g.history (references_at o [])) (sym none) stands;
+    seen = seen;
+    at = omega (arith, at);
+  },
+)
 
 -- ---- a piece
 
@@ -157,21 +160,24 @@ took_part seen piece n old new g all feeds history horizon unclosed more same =
     let whole : new.seen ≡ length (seen ++ take n piece) = counted seen piece n old.seen new.seen g.seen more (omega (arith, all)) in
     let next = feeds g.begun g.held in
     let T = texts_of g.front.texts in
-    inr (unclosed, record {
-      frames = g.frames;
-      begun = g.begun ++ piece;
-      front = record {
-        texts = g.front.texts;
-        whole = ap (λ (w : List ℕ). seen ++ w) (take_all n piece (omega (arith, all))) ∙ ap (λ (w : List ℕ). w ++ piece) g.front.whole ∙ append_assoc T g.begun piece;
-        each = g.front.each;
-      };
-      part = next.0;
-      held = next.1;
-      horizon = subst (λ (o : Option ℕ). AreAt o g.frames) (sym horizon) g.horizon;
-      stands = subst (λ (o : Option ℕ). StandsFor new.history (references_at o g.frames)) (sym horizon) (history ∙ g.stands);
-      seen = whole;
-      at = omega (arith, whole, more, same, g.seen, g.at, all, length-append g.begun piece);
-    })
+    inr (
+      unclosed,
+      record {
+        frames = g.frames;
+        begun = g.begun ++ piece;
+        front = record {
+          texts = g.front.texts;
+          whole = ap (λ (w : List ℕ). seen ++ w) (take_all n piece (omega (arith, all))) ∙ ap (λ (w : List ℕ). w ++ piece) g.front.whole ∙ append_assoc T g.begun piece;
+          each = g.front.each;
+        };
+        part = next.0;
+        held = next.1;
+        horizon = subst (λ (o : Option ℕ). AreAt o g.frames) (sym horizon) g.horizon;
+        stands = subst (λ (o : Option ℕ). StandsFor new.history (references_at o g.frames)) (sym horizon) (history ∙ g.stands);
+        seen = whole;
+        at = omega (arith, whole, more, same, g.seen, g.at, all, length-append g.begun piece);
+      },
+    )
 
 -- ---- a frame
 
@@ -188,17 +194,20 @@ took_entries seen piece n sender horizon es old new g spelt inside agrees known 
     let some : 0 < length frames = omega (arith, length-append g.frames (Entries sender horizon es ∷ [])) in
     let stands : StandsFor new.history (references_in horizon frames) =
     takes (references_at old.horizon g.frames) g.stands ∙ ap history (references_more old.horizon horizon sender es g.frames g.horizon agrees) in
-    inr (unclosed, record {
-      frames = frames;
-      begun = [];
-      front = subst (λ (w : List ℕ). Begins w frames []) (taken_text seen piece n) (begins_more seen g.begun (take n piece) [] g.frames (Entries sender horizon es) g.front spelt);
-      part = part_without_header [] (nothing_short [] refl);
-      held = inside;
-      horizon = subst (λ (o : Option ℕ). AreAt o frames) (sym known) (some, at);
-      stands = subst (λ (o : Option ℕ). StandsFor new.history (references_at o frames)) (sym known) stands;
-      seen = all;
-      at = omega (arith, here);
-    })
+    inr (
+      unclosed,
+      record {
+        frames = frames;
+        begun = [];
+        front = subst (λ (w : List ℕ). Begins w frames []) (taken_text seen piece n) (begins_more seen g.begun (take n piece) [] g.frames (Entries sender horizon es) g.front spelt);
+        part = part_without_header [] (nothing_short [] refl);
+        held = inside;
+        horizon = subst (λ (o : Option ℕ). AreAt o frames) (sym known) (some, at);
+        stands = subst (λ (o : Option ℕ). StandsFor new.history (references_at o frames)) (sym known) stands;
+        seen = all;
+        at = omega (arith, here);
+      },
+    )
 
 -- of digests
 took_digests : (seen piece : List ℕ) (n sender horizon : ℕ) (digests : List (List ℕ)) (old new : Gathered) (g : Gathers seen old) → Spells (g.begun ++ take n piece) (Digest sender horizon digests)
@@ -229,9 +238,19 @@ took_frame seen piece n (Entries sender horizon es) old mid new g feeds history 
     (subst (λ (h : HistoryView). TakesIn h (refs (holding_since horizon es)) new.history) history takes.2) takes.3 all here
 took_frame seen piece n (Digest sender horizon digests) old mid new g feeds history known takes all here =
     let fed = feeds g.begun g.held in
-    inl (takes.3, here, took_digests seen piece n sender horizon digests old new g fed.0 (subst (λ (o : Option ℕ). Agrees o horizon) known takes.0)
-    (subst (λ (h : HistoryView). (S : ReferenceSet) → StandsFor h S → StandsFor new.history (since horizon S)) history takes.1) takes.2)
+    inl (
+      takes.3,
+      here,
+      took_digests seen piece n sender horizon digests old new g fed.0 (subst (λ (o : Option ℕ). Agrees o horizon) known takes.0)
+          (subst (λ (h : HistoryView). (S : ReferenceSet) → StandsFor h S → StandsFor new.history (since horizon S)) history takes.1) takes.2,
+    )
 took_frame seen piece n (Want sender horizon request) old mid new g feeds history known takes all here = absurd takes
+
+-- where the frames end is no part of what a frame adds
+pub takes_placed : (frame : Message) (old new : Gathered) (at : ℕ) → Takes old frame new → Takes old frame (record new { at = at })
+takes_placed (Entries sender horizon es) old new at takes = takes
+takes_placed (Digest sender horizon digests) old new at takes = takes
+takes_placed (Want sender horizon request) old new at takes = takes
 
 -- what a feed did, of a decoder inside a frame
 fed_inside : (piece : List ℕ) (fed : Fed) (frame : Option Message) (old next : DecoderState) → Feeds old piece (Ok fed) next → fed.frame ≡ frame → (b : List ℕ) → old ≡ Inside b → TakesBytes b piece fed.taken frame next
@@ -290,15 +309,21 @@ fault_refused seen piece fault old next g feeds later = cases (subst (λ (d : De
         let at = all_at old.horizon g.frames g.horizon in
         let bad = g.begun ++ take n piece in
         let rest = drop n piece ++ later in
-        frame_refused ((seen ++ piece) ++ later) old.at fault (at.0, g.frames, at.1, ends_in seen piece later old g, record {
-          texts = g.front.texts;
-          bad = bad;
-          later = rest;
-          whole = sym (cut n seen piece later) ∙ ap (λ (w : List ℕ). w ++ (take n piece ++ rest)) g.front.whole ∙ append_assoc T g.begun (take n piece ++ rest)
-              ∙ ap (λ (w : List ℕ). T ++ w) (sym (append_assoc g.begun (take n piece) rest));
-          each = g.front.each;
-          shown = b.2;
-        })
+        frame_refused ((seen ++ piece) ++ later) old.at fault (
+          at.0,
+          g.frames,
+          at.1,
+          ends_in seen piece later old g,
+          record {
+            texts = g.front.texts;
+            bad = bad;
+            later = rest;
+            whole = sym (cut n seen piece later) ∙ ap (λ (w : List ℕ). w ++ (take n piece ++ rest)) g.front.whole ∙ append_assoc T g.begun (take n piece ++ rest)
+                ∙ ap (λ (w : List ℕ). T ++ w) (sym (append_assoc g.begun (take n piece) rest));
+            each = g.front.each;
+            shown = b.2;
+          },
+        )
 
 memory_refused : (text : List ℕ) (at : ℕ) (why : DumpFault) → why ≡ Frame frame_faults.Memory → IsRefused text at why
 memory_refused text at why is = subst (IsRefused text at) (sym is) tt
@@ -307,9 +332,19 @@ memory_refused text at why is = subst (IsRefused text at) (sym is) tt
 other_horizon : (seen piece later : List ℕ) (n : ℕ) (known : Option ℕ) (horizon : ℕ) (frame : Message) (frames : List Message) (begun : List ℕ) (end : ℕ) → Begins seen frames begun → Spells (begun ++ take n piece) frame → AreAt known frames → IsPartAt horizon frame → (Agrees known horizon → ⊥)
     → EndsAt ((seen ++ piece) ++ later) frames end → IsRefused ((seen ++ piece) ++ later) end HorizonsDiffer
 other_horizon seen piece later n None horizon frame frames begun end front spelt at is differ ends = absurd (differ tt)
-other_horizon seen piece later n (Some known) horizon frame frames begun end front spelt at is differ ends =
-    (known, horizon, frames, frame, drop n piece ++ later, at.0, at.1, is, (λ e. differ (sym e)), ends,
-      subst (λ (w : List ℕ). Begins w (frames ++ frame ∷ []) (drop n piece ++ later)) (cut n seen piece later) (begins_more seen begun (take n piece) (drop n piece ++ later) frames frame front spelt))
+other_horizon seen piece later n (Some known) horizon frame frames begun end front spelt at is differ ends = (
+  known,
+  horizon,
+  frames,
+  frame,
+  drop n piece ++ later,
+  at.0,
+  at.1,
+  is,
+  (λ e. differ (sym e)),
+  ends,
+  subst (λ (w : List ℕ). Begins w (frames ++ frame ∷ []) (drop n piece ++ later)) (cut n seen piece later) (begins_more seen begun (take n piece) (drop n piece ++ later) frames frame front spelt),
+)
 
 -- digests of another history
 other_digests : (seen piece later : List ℕ) (n sender horizon : ℕ) (digests : List (List ℕ)) (old : Gathered) (g : Gathers seen old) → Spells (g.begun ++ take n piece) (Digest sender horizon digests)
@@ -317,11 +352,18 @@ other_digests : (seen piece later : List ℕ) (n sender horizon : ℕ) (digests 
 other_digests seen piece later n sender horizon digests old g spelt agrees differ =
     let S = references_at old.horizon g.frames in
     let told : raised horizon old.history ≡ told_by horizon g.frames =
-    ap (raised horizon) g.stands ∙ history_first S (record { horizon = horizon; told = [] }) ∙ ap history (references_closed old.horizon horizon g.frames g.horizon agrees) in
-    (horizon, g.frames, sender, digests, drop n piece ++ later, some_at old.horizon horizon g.frames g.horizon agrees,
-      (λ same. differ (same ∙ ap (λ (h : HistoryView). digests_of (entries_of h)) (sym told))), ends_in seen piece later old g,
+    ap (raised horizon) g.stands ∙ history_first S (record { horizon = horizon; told = [] }) ∙ ap history (references_closed old.horizon horizon g.frames g.horizon agrees) in (
+      horizon,
+      g.frames,
+      sender,
+      digests,
+      drop n piece ++ later,
+      some_at old.horizon horizon g.frames g.horizon agrees,
+      (λ same. differ (same ∙ ap (λ (h : HistoryView). digests_of (entries_of h)) (sym told))),
+      ends_in seen piece later old g,
       subst (λ (w : List ℕ). Begins w (g.frames ++ Digest sender horizon digests ∷ []) (drop n piece ++ later)) (cut n seen piece later)
-      (begins_more seen g.begun (take n piece) (drop n piece ++ later) g.frames (Digest sender horizon digests) g.front spelt))
+          (begins_more seen g.begun (take n piece) (drop n piece ++ later) g.frames (Digest sender horizon digests) g.front spelt),
+    )
 
 rejects_refused : (seen piece later : List ℕ) (n : ℕ) (frame : Message) (why : DumpFault) (old : Gathered) (g : Gathers seen old) → Spells (g.begun ++ take n piece) frame → Rejects old frame why → IsRefused ((seen ++ piece) ++ later) old.at why
 rejects_refused seen piece later n (Entries sender horizon es) why old g spelt (inl none) = memory_refused ((seen ++ piece) ++ later) old.at why none
@@ -335,9 +377,18 @@ rejects_refused seen piece later n (Digest sender horizon digests) why old g spe
 rejects_refused seen piece later n (Want sender own request) why old g spelt is =
     let at = all_at old.horizon g.frames g.horizon in
     subst (IsRefused ((seen ++ piece) ++ later) old.at) (sym is)
-    (inr (at.0, g.frames, sender, own, request, drop n piece ++ later, at.1, ends_in seen piece later old g,
+    (inr (
+      at.0,
+      g.frames,
+      sender,
+      own,
+      request,
+      drop n piece ++ later,
+      at.1,
+      ends_in seen piece later old g,
       subst (λ (w : List ℕ). Begins w (g.frames ++ Want sender own request ∷ []) (drop n piece ++ later)) (cut n seen piece later)
-      (begins_more seen g.begun (take n piece) (drop n piece ++ later) g.frames (Want sender own request) g.front spelt)))
+          (begins_more seen g.begun (take n piece) (drop n piece ++ later) g.frames (Want sender own request) g.front spelt),
+    ))
 
 rejects_same : (frame : Message) (why : DumpFault) (old mid : Gathered) → mid.history ≡ old.history → mid.horizon ≡ old.horizon → Rejects mid frame why → Rejects old frame why
 rejects_same (Entries sender horizon es) why old mid history known x = subst (λ (o : Option ℕ). (why ≡ Frame frame_faults.Memory) ⊎ ((why ≡ HorizonsDiffer) × (Agrees o horizon → ⊥))) known x

@@ -1,12 +1,12 @@
 -- What a reader has gathered while it reads, and what a frame adds.
-use Rattle.std.specs.Prelude.{◌≡◌, ◌≢◌, ◌⊎◌, ℕ, ◌+◌, ◌<◌, Bool, true, false, List, [], ◌++◌, length, take, ⊤, Option, Some, None, Result, Ok, Err}
+use Rattle.std.specs.Prelude.{◌≡◌, ◌≢◌, ◌⊎◌, ℕ, ◌+◌, ◌<◌, true, false, List, [], ◌++◌, length, ⊤, Option, Some, None}
 use Rattle.warm_history.specs.ReferenceSets.{ReferenceSet, these, since}
-use Rattle.warm_history.specs.Histories.{HistoryView, entries_of, holding_since, history, refs, StandsFor, TakesIn}
+use Rattle.warm_history.specs.Histories.{entries_of, holding_since, refs, StandsFor, TakesIn}
 use Rattle.warm_history.specs.Losses.{raised}
 use Rattle.warm_frames.specs.declared.fault.FrameFault.TheVariants.{Memory, BadKind}
 use Rattle.warm_frames.specs.declared.message.Message.{Message}
 use Rattle.warm_frames.specs.declared.message.Message.TheVariants.{Entries, Digest, Want}
-use Rattle.warm_frames.specs.Pieces.{DecoderState, Inside, IsPart}
+use Rattle.warm_frames.specs.Pieces.{Inside, IsPart}
 use Rattle.warm_digest.specs.BucketDigests.{digests_of}
 use Rattle.warm_files.specs.declared.fault.DumpFault.{DumpFault}
 use Rattle.warm_files.specs.declared.fault.DumpFault.TheVariants.{Frame, DigestsDiffer, HorizonsDiffer}

@@ -118,7 +118,7 @@ impl Gathered {
         ensures refused { IfErr result (λ why. (why ≡ Frame frame_faults.Memory)
             ⊎ ((why ≡ HorizonsDiffer) × (Agrees self.old.horizon horizon → ⊥))
             ⊎ ((why ≡ DigestsDiffer) × Agrees self.old.horizon horizon
-                × (table.now ≢ digests_of (entries_of (raised horizon self.old.history))))) }
+            × (table.now ≢ digests_of (entries_of (raised horizon self.old.history))))) }
     {
         if !agrees(self.horizon, horizon) {
             return Err(DumpFault::HorizonsDiffer);
@@ -202,11 +202,7 @@ impl Gathered {
     }
 
     // Reads once. `false` at the end of the input. A read that was interrupted has read nothing.
-    fn read_some<R: Read>(
-        &mut self,
-        reader: &mut R,
-        buffer: &mut [u8],
-    ) -> Result<bool, DumpFault>
+    fn read_some<R: Read>(&mut self, reader: &mut R, buffer: &mut [u8]) -> Result<bool, DumpFault>
         requires reads { (seen : List ℕ) × HasRead seen self.old }
         requires capacity { 0 < length buffer.old }
         ensures read { OnOk result ((bytes : List ℕ)
@@ -215,8 +211,8 @@ impl Gathered {
         ensures end { IfOk result (λ more. more ≡ false → IsAtEnd (R.remaining reader.new)) }
         ensures refused { IfErr result (λ why. (why ≡ ReadFault) ⊎ ((bytes : List ℕ)
             × Consumes (R.remaining reader.old) (R.remaining reader.new) bytes
-            × ((seen : List ℕ) → HasRead seen self.old 
-                → IsRefusedForGood (seen ++ bytes) self.new.at why))) }
+            × ((seen : List ℕ) → HasRead seen self.old
+            → IsRefusedForGood (seen ++ bytes) self.new.at why))) }
     {
         match reader.read(buffer) {
             Ok(0) => Ok(false),

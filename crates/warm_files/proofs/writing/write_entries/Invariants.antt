@@ -1,4 +1,3 @@
-use Rattle.std.proofs.Common.{◌≡◌, ℕ, List}
 use Rattle.std.specs.Io.KnownBytes.{Appends}
 use Rattle.warm_files.specs.Dumps.{text_of}
 use Rattle.warm_files.proofs.DumpLemmas.{frames_below}

@@ -1,11 +1,15 @@
-use Rattle.std.proofs.Common.{◌≡◌, inl, inr, true, false, refl, sym, ap, ◌∙◌}
+use Rattle.std.proofs.Common.{◌≡◌, inr, true, false, refl, sym, ap, ◌∙◌}
 use Rattle.warm_history.specs.Histories.{HistoryView, entries_of}
 use Rattle.warm_digest.specs.BucketDigests.{digests_of}
 use Rattle.warm_files.proofs.reading.Gathered.close.Goals as goal
 
 pub returns-then-not-branch-clause-refused : goal.returns-then-not-branch-clause-refused
 returns-then-not-branch-clause-refused c =
-    inr (inr (refl, c.agrees.ensures.0 c.if-not-agrees.false, (λ same.
-    let yes = c.in_ok-has_digests.ensures.same.1 (same ∙ ap (λ (h : HistoryView). digests_of (entries_of h)) (sym c.raise.ensures.exact)) in
-    let never : true ≡ false = sym yes ∙ c.if-not-branch.true in
-    absurd (cc))))
+    inr (inr (
+      refl,
+      c.agrees.ensures.0 c.if-not-agrees.false,
+      (λ same.
+          let yes = c.in_ok-has_digests.ensures.same.1 (same ∙ ap (λ (h : HistoryView). digests_of (entries_of h)) (sym c.raise.ensures.exact)) in
+          let never : true ≡ false = sym yes ∙ c.if-not-branch.true in
+          absurd (cc)),
+    ))
