@@ -69,7 +69,7 @@ def check_words(program):
     program.expect(["hot", "-n", "x", "a"], 2, error="invalid value 'x'")
     program.expect(["hot", "-n", str(2**64), "a"], 2, error="invalid value")
     program.expect(["join", "a", "-o", "b", "--sender", "65"], 2, error="invalid value '65'")
-    program.expect(["show", b"\xff"], 2, error="warmhist: ") if False else None
+    program.expect(["show", os.fsdecode(b"\xff")], 2, error="warmhist: the command line: ")
     for words in [["diff", "-", "-"], ["join", "-", "a", "-", "-o", "b"]]:
         program.expect(words, 2, error="warmhist: standard input can be read once\n", given=small_dump())
     status, out, error = program.run("--help")
@@ -121,6 +121,7 @@ def check_unwritable(program):
     (locked / "old").write_bytes(old)
     locked.chmod(0o555)
     program.expect([*join, "locked/old"], 1, error="warmhist: locked/old: cannot make a new file in its folder: ", **as_nobody())
+    locked.chmod(0o755)
     if (folder / "old").read_bytes() != old or (locked / "old").read_bytes() != old:
         raise Wrong("a join that failed changed the old file")
     program.expect_no_draft("joins that failed")

@@ -11,6 +11,8 @@
 mod draft;
 mod fault;
 mod place;
+#[cfg(test)]
+mod tests;
 
 pub use draft::{Draft, MAX_NAMES};
 pub use fault::{Step, StoreFault};

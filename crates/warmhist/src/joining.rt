@@ -1,6 +1,7 @@
 //! Joining dumps, and writing the dump of the join.
 
 use crate::failure::Failure;
+use crate::progress::Progress;
 use crate::reading::read_file;
 use crate::words::{DASH, Joining};
 use std::io::{self, BufWriter, ErrorKind, Write};
@@ -11,16 +12,22 @@ use warm_history::History;
 use warm_stamps::ReplicaId;
 use warm_store::Draft;
 
-// A writer that notes why it failed.
-struct Noted<'a, W: Write> {
+// A writer that notes why it failed, and says on a terminal how far it is.
+struct Noted<'a, 'b, W: Write> {
+    progress: Progress<'b>,
     to: &'a mut W,
+    bytes: u64,
     error: Option<ErrorKind>,
 }
 
-impl<'a, W: Write> Write for Noted<'a, W> {
+impl<'a, 'b, W: Write> Write for Noted<'a, 'b, W> {
     fn write(&mut self, buf: &[u8]) -> io::Result<usize> {
         match self.to.write(buf) {
-            Ok(n) => Ok(n),
+            Ok(n) => {
+                self.bytes = self.bytes.saturating_add(n as u64);
+                self.progress.show(self.bytes);
+                Ok(n)
+            }
             Err(error) => {
                 self.error = Some(error.kind());
                 Err(error)
@@ -47,9 +54,20 @@ fn put_dump<'a, W: Write>(
     sender: ReplicaId,
     history: &History,
 ) -> Result<(), Failure<'a>> {
-    let mut noted = Noted { to, error: None };
+    let mut noted = Noted {
+        progress: Progress::new(rt, name),
+        to,
+        bytes: 0,
+        error: None,
+    };
     let written = write_dump(rt.alloc(), &mut noted, sender, history);
-    let Noted { to: _, error } = noted;
+    let Noted {
+        progress,
+        to: _,
+        bytes: _,
+        error,
+    } = noted;
+    progress.clear();
     match written {
         Ok(()) => Ok(()),
         Err(DumpFault::Frame(FrameFault::Memory)) => Err(Failure::Memory),

@@ -7,6 +7,7 @@ mod failure;
 mod headers;
 mod joining;
 mod printing;
+mod progress;
 mod reading;
 mod words;
 

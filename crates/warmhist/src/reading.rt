@@ -2,17 +2,13 @@
 
 use crate::failure::{Failure, Unread};
 use crate::headers::Headers;
+use crate::progress::Progress;
 use crate::words::DASH;
 use std::fs::File;
-use std::io::{self, ErrorKind, IsTerminal, Read};
+use std::io::{self, ErrorKind, Read};
 use warm_files::{DumpError, DumpFault, read_dump};
 use warm_frames::FrameFault;
 use warm_history::History;
-
-// How many bytes are read between two lines of progress.
-const STEP: u64 = 1 << 24;
-
-const MEGABYTE: u64 = 1_000_000;
 
 /// A dump that was read: its history, and what the headers of its frames say.
 #[derive(Drop)]
@@ -24,36 +20,10 @@ pub struct Dump {
 // A reader that looks at the headers, and says on a terminal how far it is.
 #[derive(Drop)]
 struct Watched<'a, S: Read + Drop> {
-    rt: &'a HostRuntime,
-    name: &'a str,
-    // Standard error is a terminal.
-    is_shown: bool,
-    // At how many bytes the next line of progress is due.
-    due: u64,
+    progress: Progress<'a>,
     source: S,
     headers: Headers,
     error: Option<ErrorKind>,
-}
-
-impl<'a, S: Read + Drop> Watched<'a, S> {
-    // A line of progress, where one is due.
-    fn show(&mut self) {
-        let bytes = self.headers.bytes();
-        if !self.is_shown || bytes < self.due {
-            return;
-        }
-        self.due = bytes.saturating_add(STEP);
-        let name = self.name;
-        // Nothing is lost where it cannot be shown.
-        let _ = eprint!(self.rt; "\rwarmhist: {name}: {} MB", bytes / MEGABYTE);
-    }
-
-    // Takes the line of progress away, where there is one.
-    fn clear(&self) {
-        if self.is_shown && self.due > STEP {
-            let _ = eprint!(self.rt; "\r\x1b[K");
-        }
-    }
 }
 
 impl<'a, S: Read + Drop> Read for Watched<'a, S> {
@@ -61,7 +31,7 @@ impl<'a, S: Read + Drop> Read for Watched<'a, S> {
         match self.source.read(buf) {
             Ok(n) => {
                 self.headers.pass(&buf[..n]);
-                self.show();
+                self.progress.show(self.headers.bytes());
                 Ok(n)
             }
             Err(error) => {
@@ -81,31 +51,27 @@ fn read_from<'a, S: Read + Drop>(
     source: S,
 ) -> Result<Dump, Failure<'a>> {
     let mut watched = Watched {
-        rt,
-        name,
-        is_shown: rt.stderr().is_terminal(),
-        due: STEP,
+        progress: Progress::new(rt, name),
         source,
         headers: Headers::new(),
         error: None,
     };
     let ended = read_dump(rt.alloc(), &mut watched);
-    watched.clear();
+    watched.progress.clear();
     let Watched {
-        rt: _,
-        name,
-        is_shown: _,
-        due: _,
+        progress: _,
         source: _,
         headers,
         error,
     } = watched;
     match ended {
         Ok(history) => Ok(Dump { history, headers }),
-        Err(DumpError {
-            at: _,
-            fault: DumpFault::Frame(FrameFault::Memory),
-        }) => Err(Failure::Memory),
+        Err(
+            DumpError {
+                at: _,
+                fault: DumpFault::Frame(FrameFault::Memory),
+            },
+        ) => Err(Failure::Memory),
         Err(why) => Err(Failure::Unread(Unread { name, why, error })),
     }
 }
