@@ -6,17 +6,17 @@ use std::io::{self, Write};
 use warm_history::{Entry, History, PageHist};
 use warm_stamps::{PageId, Stamp};
 
-// Whether these are among the known stamps.
-fn has(known: Option<PageHist>, stamp: Stamp) -> bool {
+// Whether the stamp is known.
+fn has(known: &Option<PageHist>, stamp: Stamp) -> bool {
     match known {
         None => false,
         Some(known) => has_one(known, stamp),
     }
 }
 
-fn has_one(known: PageHist, stamp: Stamp) -> bool {
+fn has_one(known: &PageHist, stamp: Stamp) -> bool {
     match known {
-        PageHist::Once(last) => last == stamp,
+        PageHist::Once(last) => *last == stamp,
         PageHist::Twice(two) => has_two(two.last(), two.prev(), stamp),
     }
 }
@@ -25,23 +25,28 @@ fn has_two(last: Stamp, prev: Stamp, stamp: Stamp) -> bool {
     last == stamp || prev == stamp
 }
 
-// The stamps of the join that are not known.
-fn unknown_in(joined: PageHist, known: Option<PageHist>) -> (Option<Stamp>, Option<Stamp>) {
+// The stamp, where it is not known.
+fn unknown(known: &Option<PageHist>, stamp: Stamp) -> Option<Stamp> {
+    if has(known, stamp) {
+        return None;
+    }
+    Some(stamp)
+}
+
+// The latest stamp of the join, where it is not known.
+fn unknown_last(joined: &PageHist, known: &Option<PageHist>) -> Option<Stamp> {
     match joined {
-        PageHist::Once(last) => (unless(has(known, last), last), None),
-        PageHist::Twice(two) => {
-            let last = two.last();
-            let prev = two.prev();
-            (
-                unless(has(known, last), last),
-                unless(has(known, prev), prev),
-            )
-        }
+        PageHist::Once(last) => unknown(known, *last),
+        PageHist::Twice(two) => unknown(known, two.last()),
     }
 }
 
-fn unless(is_known: bool, stamp: Stamp) -> Option<Stamp> {
-    if is_known { None } else { Some(stamp) }
+// The second latest, where there is one and it is not known.
+fn unknown_prev(joined: &PageHist, known: &Option<PageHist>) -> Option<Stamp> {
+    match joined {
+        PageHist::Once(_) => None,
+        PageHist::Twice(two) => unknown(known, two.prev()),
+    }
 }
 
 fn put_next<W: Write>(writer: &mut W, stamp: Option<Stamp>) -> io::Result<()> {
@@ -57,10 +62,11 @@ fn put_unknown<W: Write>(
     writer: &mut W,
     sign: char,
     page: PageId,
-    joined: PageHist,
-    known: Option<PageHist>,
+    joined: &PageHist,
+    known: &Option<PageHist>,
 ) -> io::Result<bool> {
-    let (last, prev) = unknown_in(joined, known);
+    let last = unknown_last(joined, known);
+    let prev = unknown_prev(joined, known);
     if last.is_none() && prev.is_none() {
         return Ok(false);
     }
@@ -94,8 +100,8 @@ pub fn put_difference<'a, W: Write>(
     differ |= put_horizon(writer, '>', second.horizon(), first.horizon())?;
     for entry in joined.iter() {
         let Entry { page, hist } = entry;
-        differ |= put_unknown(writer, '<', page, hist, second.get(page))?;
-        differ |= put_unknown(writer, '>', page, hist, first.get(page))?;
+        differ |= put_unknown(writer, '<', page, &hist, &second.get(page))?;
+        differ |= put_unknown(writer, '>', page, &hist, &first.get(page))?;
     }
     Ok(differ)
 }

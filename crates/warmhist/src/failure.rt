@@ -49,10 +49,11 @@ impl<'a> From<io::Error> for Failure<'a> {
 
 fn report_unread(rt: &impl Eprint, unread: &Unread<'_>) -> io::Result<()> {
     let name = unread.name;
-    let why = unread.why;
+    let DumpError { at, fault } = unread.why;
+    let fault = fault.name();
     match unread.error {
-        Some(error) => eprintln!(rt; "warmhist: {name}: {why}: {error}"),
-        None => eprintln!(rt; "warmhist: {name}: {why}"),
+        Some(error) => eprintln!(rt; "warmhist: {name}: {fault} at byte {at}: {error}"),
+        None => eprintln!(rt; "warmhist: {name}: {fault} at byte {at}"),
     }
 }
 
