@@ -7,54 +7,53 @@ use warm_history::{Entry, History, PageHist};
 use warm_stamps::{PageId, Stamp};
 
 // Whether the stamp is known.
-fn has(known: &Option<PageHist>, stamp: Stamp) -> bool {
+fn has(known: &Option<PageHist>, stamp: &Stamp) -> bool {
     match known {
         None => false,
         Some(known) => has_one(known, stamp),
     }
 }
 
-fn has_one(known: &PageHist, stamp: Stamp) -> bool {
+fn has_one(known: &PageHist, stamp: &Stamp) -> bool {
     match known {
-        PageHist::Once(last) => *last == stamp,
-        PageHist::Twice(two) => has_two(two.last(), two.prev(), stamp),
+        PageHist::Once(last) => *last == *stamp,
+        PageHist::Twice(two) => has_two(&two.last(), &two.prev(), stamp),
     }
 }
 
-fn has_two(last: Stamp, prev: Stamp, stamp: Stamp) -> bool {
-    last == stamp || prev == stamp
+fn has_two(last: &Stamp, prev: &Stamp, stamp: &Stamp) -> bool {
+    *last == *stamp || *prev == *stamp
 }
 
-// The stamp, where it is not known.
-fn unknown(known: &Option<PageHist>, stamp: Stamp) -> Option<Stamp> {
+// Whether all stamps of the join are known.
+fn has_all(known: &Option<PageHist>, joined: &PageHist) -> bool {
+    match joined {
+        PageHist::Once(last) => has(known, last),
+        PageHist::Twice(two) => has_both(known, &two.last(), &two.prev()),
+    }
+}
+
+fn has_both(known: &Option<PageHist>, last: &Stamp, prev: &Stamp) -> bool {
+    has(known, last) && has(known, prev)
+}
+
+// Writes the stamp, where it is not known.
+fn put_next<W: Write>(writer: &mut W, stamp: &Stamp, known: &Option<PageHist>) -> io::Result<()> {
     if has(known, stamp) {
-        return None;
+        return Ok(());
     }
-    Some(stamp)
+    write!(writer, " ")?;
+    put_stamp(writer, *stamp)
 }
 
-// The latest stamp of the join, where it is not known.
-fn unknown_last(joined: &PageHist, known: &Option<PageHist>) -> Option<Stamp> {
-    match joined {
-        PageHist::Once(last) => unknown(known, *last),
-        PageHist::Twice(two) => unknown(known, two.last()),
-    }
-}
-
-// The second latest, where there is one and it is not known.
-fn unknown_prev(joined: &PageHist, known: &Option<PageHist>) -> Option<Stamp> {
-    match joined {
-        PageHist::Once(_) => None,
-        PageHist::Twice(two) => unknown(known, two.prev()),
-    }
-}
-
-fn put_next<W: Write>(writer: &mut W, stamp: Option<Stamp>) -> io::Result<()> {
-    if let Some(stamp) = stamp {
-        write!(writer, " ")?;
-        put_stamp(writer, stamp)?;
-    }
-    Ok(())
+fn put_both<W: Write>(
+    writer: &mut W,
+    last: &Stamp,
+    prev: &Stamp,
+    known: &Option<PageHist>,
+) -> io::Result<()> {
+    put_next(writer, last, known)?;
+    put_next(writer, prev, known)
 }
 
 // The line of a page of the join, where the history that is `known` lacks a stamp of it. `false` where it lacks none.
@@ -65,15 +64,15 @@ fn put_unknown<W: Write>(
     joined: &PageHist,
     known: &Option<PageHist>,
 ) -> io::Result<bool> {
-    let last = unknown_last(joined, known);
-    let prev = unknown_prev(joined, known);
-    if last.is_none() && prev.is_none() {
+    if has_all(known, joined) {
         return Ok(false);
     }
     write!(writer, "{sign} ")?;
     put_page(writer, page)?;
-    put_next(writer, last)?;
-    put_next(writer, prev)?;
+    match joined {
+        PageHist::Once(last) => put_next(writer, last, known)?,
+        PageHist::Twice(two) => put_both(writer, &two.last(), &two.prev(), known)?,
+    }
     writeln!(writer)?;
     Ok(true)
 }
