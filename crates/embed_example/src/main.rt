@@ -2,16 +2,17 @@
 //! memory.
 //!
 //! The primary absorbs references to pages. Messages, sent as bytes, bring them to the standby,
-//! until both histories are equal. The standby loads the hottest pages before it takes over; then a
-//! page is pinned, written to and unpinned, and the standby shuts down in an orderly way. Each
-//! refusal is an error, and `?` returns it.
+//! until both histories are equal. The standby is restarted from a dump of its history. It loads the
+//! hottest pages before it takes over; then a page is pinned, written to and unpinned, and the
+//! standby shuts down in an orderly way. Each refusal is an error, and `?` returns it.
 #![tactic(auto)]
 
-use anyhow::{Result, bail};
+use anyhow::{Result, bail, ensure};
 use std::alloc::Global;
 use std::io::Print;
 use warm_devices::MemDevice;
-use warm_frames::{decode, encode};
+use warm_files::{read_dump, write_dump};
+use warm_frames::{Decoder, Fed, decode, encode};
 use warm_gossip::Node;
 use warm_pool::Pool;
 use warm_stamps::{PageId, Reference, ReplicaId, Stamp};
@@ -100,6 +101,39 @@ fn make_equal(
     bail!("the histories still differ")
 }
 
+// The dump of a node's history. A program writes it to a file through `warm_store::Draft`, which
+// replaces the old dump whole.
+fn dumped(alloc: Global, node: &Node<MemDevice>) -> Result<Vec<u8>> {
+    let mut bytes = Vec::new(alloc);
+    write_dump(alloc, &mut bytes, node.id(), node.history())?;
+    Ok(bytes)
+}
+
+// Gives a node the history of a dump: each of its frames is a message. To the last one, of digests,
+// a node that knows no more answers nothing.
+fn restore(alloc: Global, node: &mut Node<MemDevice>, dump: &[u8]) -> Result<()> {
+    // The node receives nothing before the whole dump was read and its digests were compared.
+    let mut reader = dump;
+    let _history = read_dump(alloc, &mut reader)?;
+    let mut decoder = Decoder::new(alloc);
+    let mut rest = dump;
+    for _ in 0..dump.len() {
+        if rest.is_empty() {
+            break;
+        }
+        let Fed { taken, frame } = decoder.feed(rest)?;
+        if let Some(frame) = frame {
+            let answers = node.receive(frame.into_frame())?;
+            ensure!(
+                answers.as_slice().is_empty(),
+                "the dump was not taken whole"
+            );
+        }
+        rest = rest.get(taken..).unwrap_or(&[]);
+    }
+    Ok(())
+}
+
 // Loads the hottest pages, and prints which.
 fn warm(rt: &impl Print, node: &mut Node<MemDevice>) -> Result<()> {
     for _ in 0..FRAMES {
@@ -120,24 +154,36 @@ fn change(node: &mut Node<MemDevice>, no: u32, text: &[u8]) -> Result<Vec<u8>> {
     Ok(bytes.into_vec())
 }
 
-// The life of the two replicas, up to the orderly shutdown of the standby.
-fn live(
-    rt: &impl Print,
-    alloc: Global,
-    primary: &mut Node<MemDevice>,
-    standby: &mut Node<MemDevice>,
-) -> Result<()> {
-    refer(alloc, primary, 1, &[3, 5, 3, 9, 5, 7])?;
-    let rounds = make_equal(alloc, primary, standby)?;
+// The primary is used, and gossips with the standby. Returns the dump of the standby's history; both
+// nodes are dropped.
+fn live(rt: &impl Print, alloc: Global) -> Result<Vec<u8>> {
+    let mut primary = opened(alloc, 1)?;
+    let mut standby = opened(alloc, 2)?;
+    refer(alloc, &mut primary, 1, &[3, 5, 3, 9, 5, 7])?;
+    let rounds = make_equal(alloc, &mut primary, &mut standby)?;
     println!(rt;
         "{} pages known after round {}",
         standby.history().len(),
         rounds
     )?;
-    warm(rt, standby)?;
+    dumped(alloc, &standby)
+}
 
-    // The primary is gone, and the standby takes over. A pin is not a reference, so it also absorbs
-    // one.
+// The standby is restarted: a new node receives the dump.
+fn restarted(rt: &impl Print, alloc: Global, dump: &[u8]) -> Result<Node<MemDevice>> {
+    let mut standby = opened(alloc, 2)?;
+    restore(alloc, &mut standby, dump)?;
+    println!(rt;
+        "{} pages known of a dump of {} bytes",
+        standby.history().len(),
+        dump.len()
+    )?;
+    Ok(standby)
+}
+
+// The primary is gone, and the standby takes over. A pin is not a reference, so it also absorbs one.
+fn take_over(rt: &impl Print, alloc: Global, standby: &mut Node<MemDevice>) -> Result<()> {
+    warm(rt, standby)?;
     refer(alloc, standby, 7, &[5])?;
     let bytes = change(standby, 5, b"warm")?;
     println!(rt; "wrote {} bytes", bytes.len())?;
@@ -146,9 +192,9 @@ fn live(
 
 fn main(rt: HostRuntime) -> Result<()> {
     let alloc = rt.alloc();
-    let mut primary = opened(alloc, 1)?;
-    let mut standby = opened(alloc, 2)?;
-    live(&rt, alloc, &mut primary, &mut standby)?;
+    let dump = live(&rt, alloc)?;
+    let mut standby = restarted(&rt, alloc, &dump)?;
+    take_over(&rt, alloc, &mut standby)?;
     standby.into_pool().close()?;
     println!(rt; "closed")?;
     Ok(())

@@ -1,0 +1,148 @@
+//! `warmhist` inspects, compares and joins dumps of histories. docs/FORMATS.md has its command line, what it prints, and its exit
+//! statuses.
+#![tactic(auto)]
+
+mod difference;
+mod failure;
+mod headers;
+mod joining;
+mod printing;
+mod progress;
+mod reading;
+mod words;
+
+use crate::difference::put_difference;
+use crate::failure::{Failure, report};
+use crate::joining::join_files;
+use crate::printing::{put_check, put_history, put_hottest};
+use crate::reading::read_file;
+use crate::words::{Asked, asked_in, matches_of, reads_twice};
+use std::env;
+use std::io::{BufWriter, Stdout, Write};
+use std::process::ExitCode;
+
+const DONE: u8 = 0;
+
+// The dumps differ, or the command failed.
+const DIFFERENT: u8 = 1;
+
+const FAILED: u8 = 1;
+
+const REFUSED: u8 = 2;
+
+fn buffered<'a>(rt: &'a HostRuntime) -> Result<BufWriter<Stdout>, Failure<'a>> {
+    Ok(BufWriter::new(rt.alloc(), rt.stdout())?)
+}
+
+fn show<'a>(rt: &'a HostRuntime, file: &'a str) -> Result<u8, Failure<'a>> {
+    let dump = read_file(rt, file)?;
+    let mut writer = buffered(rt)?;
+    put_history(&mut writer, &dump.history)?;
+    writer.flush()?;
+    Ok(DONE)
+}
+
+fn hot<'a>(rt: &'a HostRuntime, file: &'a str, count: usize) -> Result<u8, Failure<'a>> {
+    let dump = read_file(rt, file)?;
+    let mut writer = buffered(rt)?;
+    put_hottest(rt.alloc(), &mut writer, &dump.history, count)?;
+    writer.flush()?;
+    Ok(DONE)
+}
+
+fn check<'a>(rt: &'a HostRuntime, file: &'a str) -> Result<u8, Failure<'a>> {
+    let dump = read_file(rt, file)?;
+    let mut writer = buffered(rt)?;
+    put_check(&mut writer, &dump)?;
+    writer.flush()?;
+    Ok(DONE)
+}
+
+fn diff<'a>(rt: &'a HostRuntime, first: &'a str, second: &'a str) -> Result<u8, Failure<'a>> {
+    let first = read_file(rt, first)?;
+    let second = read_file(rt, second)?;
+    let mut writer = buffered(rt)?;
+    let differ = put_difference(&mut writer, &first.history, &second.history)?;
+    writer.flush()?;
+    Ok(if differ { DIFFERENT } else { DONE })
+}
+
+fn done<'a>(rt: &'a HostRuntime, asked: &Asked<'a>) -> Result<u8, Failure<'a>> {
+    match asked {
+        Asked::Show(file) => show(rt, *file),
+        Asked::Hot(file, count) => hot(rt, *file, *count),
+        Asked::Check(file) => check(rt, *file),
+        Asked::Diff(first, second) => diff(rt, *first, *second),
+        Asked::Join(joining) => {
+            join_files(rt, joining)?;
+            Ok(DONE)
+        }
+    }
+}
+
+// Does what is asked for, and gives the status.
+fn status_of(rt: &HostRuntime, asked: &Asked<'_>) -> u8 {
+    if reads_twice(asked) {
+        let _ = eprintln!(rt; "warmhist: standard input can be read once");
+        return REFUSED;
+    }
+    match done(rt, asked) {
+        Ok(status) => status,
+        Err(failure) => {
+            // Where standard error takes nothing, the status is all that is left to say.
+            let _ = report(rt, &failure);
+            FAILED
+        }
+    }
+}
+
+fn no_memory(rt: &HostRuntime) -> u8 {
+    let _ = report(rt, &Failure::Memory);
+    FAILED
+}
+
+// clap's text, and the status: that of help is 0 where it could be written.
+fn print_clap(rt: &HostRuntime, error: &clap::Error) -> u8 {
+    if error.kind() == clap::error::ErrorKind::OutOfMemory {
+        return no_memory(rt);
+    }
+    let printed = error.print(rt);
+    if error.use_stderr() {
+        return REFUSED;
+    }
+    match printed {
+        Ok(()) => DONE,
+        Err(error) => {
+            let _ = report(rt, &Failure::Unprinted(error));
+            FAILED
+        }
+    }
+}
+
+// What comes of these words.
+fn status_of_words(rt: &HostRuntime, words: &[String]) -> u8 {
+    let matches = match matches_of(rt.alloc(), words) {
+        Ok(matches) => matches,
+        Err(error) => return print_clap(rt, &error),
+    };
+    match asked_in(rt.alloc(), &matches) {
+        Ok(Some(asked)) => status_of(rt, &asked),
+        Ok(None) => REFUSED,
+        Err(_) => no_memory(rt),
+    }
+}
+
+fn main(rt: HostRuntime) -> ExitCode {
+    let args = match env::args(&rt) {
+        Ok(args) => args,
+        Err(error) => {
+            let _ = eprintln!(rt; "warmhist: the command line: {error}");
+            return ExitCode::from(REFUSED);
+        }
+    };
+    let words: Vec<String> = match args.collect(rt.alloc()) {
+        Ok(words) => words,
+        Err(_) => return ExitCode::from(no_memory(&rt)),
+    };
+    ExitCode::from(status_of_words(&rt, words.as_slice()))
+}
