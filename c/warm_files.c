@@ -84,18 +84,15 @@ static ssize_t start_request(int fd, const uint8_t *bytes, size_t length) {
     return WARM_FILES_REQUEST;
 }
 
-/* Whether these bytes have a place in a file: their end is no more than an offset can say. */
-static int has_place(size_t length, off_t at) { return length <= (uint64_t)(INT64_MAX - at); }
-
 ssize_t warm_files_read(int fd, void *into, size_t length) {
     request asked = take_request();
-    if (asked.kind != WARM_FILES_READ || asked.fd != fd || !has_place(length, asked.at)) return invalid();
+    if (asked.kind != WARM_FILES_READ || asked.fd != fd) return invalid();
     return read_file(fd, into, length, asked.at);
 }
 
 ssize_t warm_files_write(int fd, const void *from, size_t length) {
     request asked = take_request();
     if (asked.kind == 0) return start_request(fd, from, length);
-    if (asked.kind != WARM_FILES_WRITE || asked.fd != fd || !has_place(length, asked.at)) return invalid();
+    if (asked.kind != WARM_FILES_WRITE || asked.fd != fd) return invalid();
     return write_file(fd, from, length, asked.at);
 }

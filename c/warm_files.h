@@ -8,9 +8,11 @@
  *  - WARM_FILES_WRITE: the next call is a write to the same descriptor. It puts its bytes at that place.
  *  - WARM_FILES_FLUSH: the file is synced while the request is written. Its place is 0.
  *
- * A call does all that it was asked for and answers its length, or answers -1 with errno. A call that is no request, and has none
- * before it to which it belongs, is EINVAL. Each call ends the request before it, also a call that fails. Requests of one thread are
- * unknown to another.
+ * A call does all that is asked of it and returns its length, or returns -1 with errno. A call that is no request, and that does not
+ * belong to the one before it, fails with EINVAL. Each call ends the request before it, also a call that fails. Each thread has
+ * requests of its own.
+ *
+ * The proof assumes less, and what C says of read and write: a call returns -1 or at most its length, and touches nothing but its buffer.
  */
 #ifndef WARM_FILES_H
 #define WARM_FILES_H

@@ -36,7 +36,7 @@
  *    elements, any other to one element. Each is aligned for its type, and no two arguments of a call overlap.
  *  - A call returns before anything else happens in its thread: it is not made in a signal handler, no signal handler leaves it by
  *    longjmp, and its thread is not cancelled in it.
- *  - malloc, realloc and free are of one allocator.
+ *  - malloc, realloc and free are of one allocator, and align a block to each power of two up to 16 that divides its size.
  * "Caller" at a function says what else it asks, and which elements its pointers have.
  */
 #ifndef WARM_H
@@ -201,7 +201,7 @@ int warm_next_answer(warm *handle, uint8_t *frame, size_t room, size_t *length);
 int warm_horizon(warm *handle, uint64_t time, uint64_t *horizon);
 
 /* Writes each page that was written to and not written back to its device, and flushes (fsync) each device that waits for it.
- * Refused: WARM_FAULT at the first write or flush that fails. What is not on its device is still in the pool; but after a flush that failed,
+ * Refused: WARM_FAULT at the first write or flush that fails. A page that was not written is still in the pool. After a flush that failed,
  * do not trust the file: the system may have dropped what it held.
  * Caller: nothing more. */
 int warm_write_back(warm *handle);
