@@ -47,11 +47,11 @@ RefusedByNode call old why new = ⊥
 abbrev pub HasBadReplica : List WarmReference → Type 0
 HasBadReplica batch = (r : WarmReference) × Contains batch r × (IsReplica r.replica → ⊥)
 
--- why the references are none that a node knows
-abbrev pub IsUntold : List WarmReference → Refusal → Type 0
-IsUntold batch (Node Memory) = Unit {0}
-IsUntold batch BadReplica = HasBadReplica batch
-IsUntold batch why = ⊥
+-- why the references are not those of a node
+abbrev pub BatchRefused : List WarmReference → Refusal → Type 0
+BatchRefused batch (Node Memory) = Unit {0}
+BatchRefused batch BadReplica = HasBadReplica batch
+BatchRefused batch why = ⊥
 
 abbrev pub Absorbs : List WarmReference → Held → Ending → Held → Type 0
 Absorbs batch old (Ok given) new = Replies (Absorb (map reference_of batch)) old Done new
@@ -82,9 +82,10 @@ abbrev pub Unpins : WarmSlot → Held → Ending → Held → Type 0
 Unpins slot old (Ok given) new = Replies (Unpin (slot_of slot)) old Done new
 Unpins slot old (Err why) new = RefusedByNode (Unpin (slot_of slot)) old why new
 
--- as many bytes as the buffer has room for
+-- as many bytes as the buffer has room for; never refused for memory
 abbrev pub Reads : WarmSlot → ℕ → List ℕ → List ℕ → Held → Ending → Held → Type 0
 Reads slot at before after old (Ok given) new = Replies (Read (slot_of slot) at (length before)) old (Bytes after) new
+Reads slot at before after old (Err (Node Memory)) new = ⊥
 Reads slot at before after old (Err why) new = RefusedByNode (Read (slot_of slot) at (length before)) old why new × (after ≡ before)
 
 abbrev pub Writes : WarmSlot → ℕ → List ℕ → Held → Ending → Held → Type 0

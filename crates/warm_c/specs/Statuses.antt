@@ -8,7 +8,7 @@ use Rattle.warm_gossip.specs.Faults as node_faults
 use Rattle.warm_c.specs.declared.status.Refusal.{Refusal}
 use Rattle.warm_c.specs.declared.status.Refusal.TheVariants.{Node, NewPool, Frame, Closed, AlreadyOpen, BufferTooSmall, BadReplica, BadBucket}
 
--- want of memory is 1, wherever it comes; of another fault of a frame it is the fault's own number and 32
+-- an allocation failure is 1, wherever it comes; of another fault of a frame it is the fault's own number and 32
 abbrev pub frame_code_of : FrameFault → ℕ
 frame_code_of frame.Memory = 1
 frame_code_of fault = 32 + frame_faults.fault_code fault

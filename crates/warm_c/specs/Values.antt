@@ -14,7 +14,7 @@ page_of p = record { dev = p.dev; no = p.no }
 abbrev pub c_page : PageId → WarmPage
 c_page p = record { no = p.no; dev = p.dev }
 
--- the page, where one is told of
+-- the page, where there is one
 abbrev pub page_if : Bool → WarmPage → Option PageId
 page_if true p = Some (page_of p)
 page_if false p = None

@@ -1,6 +1,6 @@
 //! The calls on the history of an open handle.
 ghost use Rattle.std.specs.Prelude.{◌≡◌, ◌≤◌, length, map, IfErr, IfOk};
-ghost use Rattle.warm_c.specs.Calls.{Absorbs, Counts, IsUntold, Lists, Raises};
+ghost use Rattle.warm_c.specs.Calls.{Absorbs, BatchRefused, Counts, Lists, Raises};
 ghost use Rattle.warm_c.specs.Values.{c_page, reference_of, with_start};
 
 use crate::held::Held;
@@ -11,8 +11,8 @@ use warm_stamps::{PageId, Reference, ReplicaId, Stamp};
 
 // The references, as the node knows them.
 fn references_of(alloc: Global, batch: &[WarmReference]) -> Result<Vec<Reference>, Refusal>
-    ensures told { IfOk result (λ references. references.items ≡ map reference_of batch.now) }
-    ensures refused { IfErr result (IsUntold batch.now) }
+    ensures made { IfOk result (λ references. references.items ≡ map reference_of batch.now) }
+    ensures refused { IfErr result (BatchRefused batch.now) }
 {
     let mut references = Vec::with_capacity(alloc, batch.len())?;
     for reference in batch {
@@ -35,13 +35,13 @@ fn references_of(alloc: Global, batch: &[WarmReference]) -> Result<Vec<Reference
 
 // The pages, as C knows them.
 fn c_pages(alloc: Global, pages: &[PageId]) -> Result<Vec<WarmPage>, AllocError>
-    ensures { IfOk result (λ told. told.items ≡ map c_page pages.now) }
+    ensures { IfOk result (λ made. made.items ≡ map c_page pages.now) }
 {
-    let mut told = Vec::with_capacity(alloc, pages.len())?;
+    let mut listed = Vec::with_capacity(alloc, pages.len())?;
     for page in pages {
-        told.push_reserved(WarmPage::of(*page));
+        listed.push_reserved(WarmPage::of(*page));
     }
-    Ok(told)
+    Ok(listed)
 }
 
 // Puts pages at the start of a buffer.
@@ -85,10 +85,10 @@ impl Held {
     ) -> Result<(), Refusal>
         ensures { Lists pages.old count.old pages.new count.new self.old result self.new }
     {
-        let listed = self.node.warm_list(pages.len())?;
-        let told = c_pages(alloc, listed.as_slice())?;
-        put_pages(&told, pages);
-        *count = told.len();
+        let hottest = self.node.warm_list(pages.len())?;
+        let listed = c_pages(alloc, hottest.as_slice())?;
+        put_pages(&listed, pages);
+        *count = listed.len();
         Ok(())
     }
 

@@ -1,11 +1,10 @@
 //! A replica's node for C and C++: a static library over `Node<FdDevice>`. Its header is include/warm.h.
 //!
 //! A handle holds a node over the caller's file descriptors, and the answers to the frame that it received last. All zeros is a closed
-//! handle. Each function but `warm_open_served`, `warm_close_served` and `warm_status_name` is the node's call of its name on an open
-//! handle; on a closed one it answers 64 and changes nothing. A function answers a status: 0, or the number of why it is refused.
+//! handle. Each function but `warm_open`, `warm_close` and `warm_status_name` is the node's call of its name on an open handle; on a
+//! closed one it answers 64 and changes nothing. A function answers a status: 0, or the number of why it is refused.
 //!
-//! c/warm_files.c has what is not proved: `warm_open` and `warm_close` of the header, which call `warm_open_served` and
-//! `warm_close_served` here, and the file server, which makes the calls of the system.
+//! c/warm_files.c has what is not proved: the calls of the system on the descriptors, which `descriptor` asks for.
 //!
 //! Nothing is undefined for any handle, slot or length, as long as the caller keeps what the header asks: a handle that was all zeros
 //! before its first call, and that only these functions change; one call at a time on one thread; and pointers to as much as their
@@ -39,24 +38,22 @@ use crate::values::{WarmDevice, WarmPage, WarmReference, WarmSlot, page_if};
 use std::alloc::Global;
 use warm_gossip::NodeFault;
 
-/// Opens a closed handle: a node of this replica, with a pool of so many empty frames over these devices, and an empty history.
+/// Opens a closed handle: a node of this replica, with a pool of `frames` empty frames over these devices, and an empty history.
 ///
-/// `replica` is 1 to 64, `frames` 1 to 65,536, `page_size` 1 to 65,536 bytes. There are 65,536 devices at most. The file server is at the
-/// other end of `stream`, until the handle is closed.
+/// `replica` is 1 to 64, `frames` 1 to 65,536, `page_size` 1 to 65,536 bytes. There are 65,536 devices at most.
 ///
 /// # Errors
 /// 65, and the handle is as it was, where it is open. Else it stays closed: 67 where the replica's number is none; 4 where there are
 /// too many devices, or the pages of one exceed 2^63 - 1 bytes; 2 and 3 where there are too many frames or none, or bytes of a page; 1
 /// where an allocation failed.
 #[unsafe(no_mangle)]
-pub extern "C" fn warm_open_served(
+pub extern "C" fn warm_open(
     alloc: Global,
     handle: &mut Handle,
     replica: u16,
     frames: usize,
     page_size: usize,
     devices: &[WarmDevice],
-    stream: i32,
 ) -> i32
     ensures { Opens (asked replica frames page_size devices.now) handle.old.slot.held result
         handle.new.slot.held }
@@ -65,7 +62,7 @@ pub extern "C" fn warm_open_served(
         *handle = Handle::of(held);
         return status_of(Err(Refusal::AlreadyOpen));
     }
-    let held = match open(alloc, replica, frames, page_size, devices, stream) {
+    let held = match open(alloc, replica, frames, page_size, devices) {
         Ok(held) => held,
         Err(why) => return status_of(Err(why)),
     };
@@ -80,7 +77,7 @@ pub extern "C" fn warm_open_served(
 
 /// Closes a handle, and ends what it holds; a closed one stays closed. Pages that were written to and not written back are lost.
 #[unsafe(no_mangle)]
-pub extern "C" fn warm_close_served(alloc: Global, handle: &mut Handle)
+pub extern "C" fn warm_close(alloc: Global, handle: &mut Handle)
     ensures { handle.new.slot.held ≡ None }
 {
     let _ = handle.take(alloc);
@@ -148,7 +145,7 @@ pub extern "C" fn warm_unpin(alloc: Global, handle: &mut Handle, slot: WarmSlot)
 /// Copies as many bytes of the slot's page as `into` has room for, from byte `at` on.
 ///
 /// # Errors
-/// 13 where the slot does not hold its page; 10 where the bytes reach beyond its end; 1 where an allocation failed. `into` is as it was.
+/// 13 where the slot does not hold its page; 10 where the bytes reach beyond its end. `into` is as it was. It is allocation-free.
 #[unsafe(no_mangle)]
 pub extern "C" fn warm_read(
     alloc: Global,

@@ -19,7 +19,6 @@ fn devices_of(
     alloc: Global,
     page_size: usize,
     devices: &[WarmDevice],
-    stream: i32,
 ) -> Result<Vec<FdDevice>, Refusal>
     ensures made { IfOk result (λ made.
         map fd_state made.items ≡ devices_of page_size devices.now) }
@@ -31,7 +30,7 @@ fn devices_of(
     }
     let mut made = Vec::with_capacity(alloc, devices.len())?;
     for device in devices {
-        let descriptor = Descriptor::new(stream, device.fd);
+        let descriptor = Descriptor::new(device.fd);
         let Some(device) = FdDevice::new(descriptor, device.pages, page_size) else {
             return Err(Refusal::Node(NodeFault::Pool(PoolFault::NoDevice)));
         };
@@ -51,7 +50,6 @@ pub fn open(
     frames: usize,
     page_size: usize,
     devices: &[WarmDevice],
-    stream: i32,
 ) -> Result<Held, Refusal>
     ensures opened { IfOk result (λ held.
         held ≡ opened (asked replica frames page_size devices.now)) }
@@ -60,7 +58,7 @@ pub fn open(
     let Ok(replica) = ReplicaId::new(replica) else {
         return Err(Refusal::BadReplica);
     };
-    let devices = devices_of(alloc, page_size, devices, stream)?;
+    let devices = devices_of(alloc, page_size, devices)?;
     match Pool::new(alloc, frames, page_size, devices) {
         Ok(pool) => Ok(Held {
             node: Node::new(alloc, replica, pool),

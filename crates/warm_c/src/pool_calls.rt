@@ -8,9 +8,9 @@ use crate::status::Refusal;
 use crate::values::{WarmPage, WarmSlot};
 use warm_stamps::PageId;
 
-// Tells C of a page, if there is one; else `page` stays.
-fn tell(given: Option<PageId>, found: &mut bool, page: &mut WarmPage)
-    ensures told { page_if found.new page.new ≡ given }
+// Writes whether there is a page, and which; `page` is as it was where there is none.
+fn put_page(given: Option<PageId>, found: &mut bool, page: &mut WarmPage)
+    ensures put { page_if found.new page.new ≡ given }
     ensures none { found.new ≡ false → page.new ≡ page.old }
 {
     match given {
@@ -46,15 +46,14 @@ impl Held {
         Ok(())
     }
 
-    /// The node's [`warm_gossip::Node::read`] of as many bytes as `into` has room for.
+    /// The node's [`warm_gossip::Node::read_into`].
     ///
     /// # Errors
     /// The node's own. `into` is then as it was.
     pub fn read(&mut self, slot: WarmSlot, at: usize, into: &mut [u8]) -> Result<(), Refusal>
         ensures { Reads slot at into.old into.new self.old result self.new }
     {
-        let bytes = self.node.read(slot.slot(), at, into.len())?;
-        into.copy_from_slice(bytes.as_slice());
+        self.node.read_into(slot.slot(), at, into)?;
         Ok(())
     }
 
@@ -74,7 +73,7 @@ impl Held {
         ensures named { Names found.new page.new self.old self.new }
         ensures none { found.new ≡ false → page.new ≡ page.old }
     {
-        tell(self.node.victim(), found, page);
+        put_page(self.node.victim(), found, page);
     }
 
     /// The node's [`warm_gossip::Node::warm_step`]: whether a page was loaded is written, and which.
@@ -85,7 +84,7 @@ impl Held {
         ensures { Steps found.old page.old found.new page.new self.old result self.new }
     {
         let loaded = self.node.warm_step()?;
-        tell(loaded, found, page);
+        put_page(loaded, found, page);
         Ok(())
     }
 

@@ -12,7 +12,7 @@ use warm_pool::NewPoolFault;
 /// Why a call is refused. Each has a number, which is its status, and a name.
 #[derive(Clone, Copy)]
 pub enum Refusal {
-    /// 1, or 4 to 13: why the node refuses; 1 is want of memory, wherever it comes.
+    /// 1, or 4 to 13: why the node refuses; 1 is an allocation failure, wherever it comes.
     Node(NodeFault),
     /// 1 to 3: why no pool is made.
     NewPool(NewPoolFault),

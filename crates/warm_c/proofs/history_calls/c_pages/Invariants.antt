@@ -5,7 +5,7 @@ use Rattle.warm_c.proofs.history_calls.c_pages.Given as goal
 -- the pages so far, and capacity for all
 abbrev pub invariant-loop-page : goal.invariant-loop-page
 invariant-loop-page l = record {
-  told : l.told.items ≡ map c_page (take l.page-index l.pages);
-  count : length l.told.items ≡ l.page-index;
-  room : length l.pages ≤ vec_capacity l.told;
+  made : l.listed.items ≡ map c_page (take l.page-index l.pages);
+  count : length l.listed.items ≡ l.page-index;
+  room : length l.pages ≤ vec_capacity l.listed;
 }

@@ -22,7 +22,7 @@ use Rattle.std.proofs.raw_atomic.Walks.{proved_at, leaves}
 use Rattle.std.proofs.alloc.Global.TheLaws as heap_laws
 use Rattle.std.specs.contracts.alloc.Global as heap
 use Rattle.std.specs.Prelude.{Option, Some, IsSome}
-use Rattle.warm_c.proofs.Erased.{first, word, told, typed, bits_typed, opens}
+use Rattle.warm_c.proofs.Erased.{first, word, word_of, typed, bits_typed, opens}
 use Rattle.warm_c.specs.declared.held.Held.{Held}
 use Rattle.warm_c.specs.contracts.slot.Slot as slot
 use Rattle.warm_c.specs.contracts.slot.Slot.into_loose.{ended, clauses, signature}
@@ -48,7 +48,7 @@ into_loose_spec 𝓤 𝓛 𝓜 𝓡 wired =
     let p = v.at in
     let a = v.alloc in
     let w = word p a in
-    let ws = told p a z.0.4.0 are.0.0 in
+    let ws = word_of p a z.0.4.0 are.0.0 in
     qed 𝓛 ((raw (alive 𝓛 signature z.0.0 z.0.1) ⊛ ‵ (owns (types_at signature.params z.0.0) z.0.3 z.0.4)) ∷ raw (fact 𝓤 (IsSome v.held)) ∷ []) ∵
     move ! (1 ∷ []) $ heard ! (IsSome v.held) (λ is. split ! $ move ! (1 ∷ []) $ fsplit ! $
     let got = opens v.held is in

@@ -23,7 +23,7 @@ use Rattle.std.proofs.raw_atomic.Walks.{proved_at, leaves}
 use Rattle.std.proofs.alloc.Global.TheLaws as heap_laws
 use Rattle.std.specs.contracts.alloc.Global as heap
 use Rattle.std.specs.Prelude.{Some}
-use Rattle.warm_c.proofs.Erased.{first, word, told, typed, bits_typed}
+use Rattle.warm_c.proofs.Erased.{first, word, word_of, typed, bits_typed}
 use Rattle.warm_c.specs.contracts.slot.Slot as slot
 use Rattle.warm_c.specs.contracts.slot.Slot.of_loose.{ended, clauses, signature}
 use Rattle.warm_c.specs.contracts.slot.Slot.of_loose.Key.{name as #self}
@@ -48,7 +48,7 @@ of_loose_spec 𝓤 𝓛 𝓜 𝓡 wired =
     let p = v.pointer in
     let a = v.allocator in
     let w = word p a in
-    let ws = told p a z.0.4.0 are.0.0 in
+    let ws = word_of p a z.0.4.0 are.0.0 in
     let made : To.Denot = record { at = p; alloc = a; held = Some v.content } in
     let Said : Type 0 = made.held ≡ Some v.content in
     qed 𝓛 ((raw (alive 𝓛 signature z.0.0 z.0.1) ⊛ ‵ (owns (types_at signature.params z.0.0) z.0.3 z.0.4)) ∷ ‵ ftrue ∷ []) ∵
