@@ -25,6 +25,9 @@
  * statuses in the order in which they are checked. Each function that takes a handle, but warm_open and warm_close, also returns
  * WARM_CLOSED on a closed handle. A call may change errno, which means nothing.
  *
+ * The library needs the C library alone, starts no thread, handles no signal and ends no process: a program that is out of memory gets
+ * WARM_MEMORY.
+ *
  * What a call checks: whatever slot, page, bucket, number, length, frame bytes or descriptor a caller passes, nothing is undefined. It is
  * refused, or does what its description says.
  *
@@ -34,8 +37,8 @@
  *  - One call at a time uses a handle, and all calls of a handle are made by one thread. Different handles are independent.
  *  - No pointer is null, also where its length is 0: it may then point to anything. A pointer with a length points to that many
  *    elements, any other to one element. Each is aligned for its type, and no two arguments of a call overlap.
- *  - A call returns before anything else happens in its thread: it is not made in a signal handler, no signal handler leaves it by
- *    longjmp, and its thread is not cancelled in it.
+ *  - No call is made in a signal handler, nor in the forked child of a process with other threads. No signal handler leaves a call by
+ *    longjmp, and no thread is cancelled in one.
  *  - malloc, realloc and free are of one allocator, and align a block to each power of two up to 16 that divides its size.
  * "Caller" at a function says what else it asks, and which elements its pointers have.
  */
