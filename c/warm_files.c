@@ -5,13 +5,24 @@
 #define _FILE_OFFSET_BITS 64
 #define _POSIX_C_SOURCE 200809L /* pread, pwrite */
 #include "warm_files.h"
+#include "warm.h"
 
 #include <errno.h>
-#include <stdint.h>
 #include <string.h>
 #include <unistd.h>
 
 _Static_assert(sizeof(off_t) == 8, "a place in a file has 64 bits");
+
+/* The layouts that the proved part has (crates/warm_c/src/values.rt and handle.rt). */
+_Static_assert(sizeof(size_t) == 8 && sizeof(bool) == 1, "lengths have 64 bits");
+_Static_assert(sizeof(warm) == 16 && offsetof(warm, at) == 8, "a handle");
+_Static_assert(sizeof(warm_page) == 16 && offsetof(warm_page, dev) == 8, "a page");
+_Static_assert(sizeof(warm_reference) == 24 && offsetof(warm_reference, dev) == 16, "a reference");
+_Static_assert(offsetof(warm_reference, replica) == 18, "a reference's replica");
+_Static_assert(sizeof(warm_slot) == 16 && offsetof(warm_slot, index) == 8, "a slot");
+_Static_assert(sizeof(warm_device) == 16 && offsetof(warm_device, fd) == 8, "a device");
+/* warm_pin writes the index of a slot and the four bytes after it as one number. */
+_Static_assert(__BYTE_ORDER__ == __ORDER_LITTLE_ENDIAN__, "the lowest byte of a number is first");
 
 typedef struct request {
     uint8_t kind; /* 0: there is none */

@@ -1,4 +1,4 @@
-//! What `docs/PERFORMANCE.md` measures, by the scripts in `bench/`: turn, history, pool, frames, gossip and replica.
+//! What `docs/PERFORMANCE.md` measures, by the scripts in `bench/`: turn, history, pool, frames, gossip, replica and hits.
 //!
 //! `benches NAME WORDS..` measures what the words ask the bench of that name for, and prints nanoseconds; its module says what the
 //! words are. `benches NAME` does a little of all that the bench measures, and prints what came out. `benches` does so for each
@@ -8,6 +8,7 @@
 mod frames;
 mod gossip;
 mod history;
+mod hits;
 mod parts;
 mod pool;
 mod replica;
@@ -30,16 +31,18 @@ enum Bench {
     Frames,
     Gossip,
     Replica,
+    Hits,
 }
 
 // In the order in which they are played one after the other.
-const BENCHES: [Bench; 6] = [
+const BENCHES: [Bench; 7] = [
     Bench::Turn,
     Bench::History,
     Bench::Pool,
     Bench::Frames,
     Bench::Gossip,
     Bench::Replica,
+    Bench::Hits,
 ];
 
 impl Bench {
@@ -51,7 +54,8 @@ impl Bench {
             "frames" => Ok(Bench::Frames),
             "gossip" => Ok(Bench::Gossip),
             "replica" => Ok(Bench::Replica),
-            _ => bail!("what is measured: turn, history, pool, frames, gossip or replica"),
+            "hits" => Ok(Bench::Hits),
+            _ => bail!("what is measured: turn, history, pool, frames, gossip, replica or hits"),
         }
     }
 
@@ -63,6 +67,7 @@ impl Bench {
             Bench::Frames => "frames",
             Bench::Gossip => "gossip",
             Bench::Replica => "replica",
+            Bench::Hits => "hits",
         }
     }
 }
@@ -81,6 +86,7 @@ fn play<T: Threads + Wait + Clock + Print + AllocGlobal + Sync>(
         Bench::Frames => frames::play(rt, words),
         Bench::Gossip => gossip::play(rt, words),
         Bench::Replica => replica::play(threads, words),
+        Bench::Hits => hits::play(rt, words),
     }
 }
 

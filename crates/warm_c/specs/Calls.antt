@@ -18,10 +18,11 @@ use Rattle.warm_gossip.specs.Clauses.{Goes, SameView, WriteBackFails}
 use Rattle.warm_c.specs.declared.held.Held.{Held}
 use Rattle.warm_c.specs.declared.status.Refusal.{Refusal}
 use Rattle.warm_c.specs.declared.status.Refusal.TheVariants.{Node, Frame, BufferTooSmall, BadReplica, BadBucket}
+use Rattle.warm_c.specs.declared.values.PinnedSlot.{PinnedSlot}
 use Rattle.warm_c.specs.declared.values.WarmPage.{WarmPage}
 use Rattle.warm_c.specs.declared.values.WarmReference.{WarmReference}
 use Rattle.warm_c.specs.declared.values.WarmSlot.{WarmSlot}
-use Rattle.warm_c.specs.Values.{c_page, page_if, page_of, reference_of, slot_of, with_start}
+use Rattle.warm_c.specs.Values.{c_page, page_if, page_of, pinned_slot, reference_of, slot_of, with_start}
 
 -- what a call of the library ends with
 abbrev pub Ending : Type 0
@@ -74,8 +75,8 @@ Counts number old new = (number ≡ length (entries_of old.node.history)) × (ne
 
 -- The pool
 
-abbrev pub Pins : WarmPage → WarmSlot → WarmSlot → Held → Ending → Held → Type 0
-Pins page before after old (Ok given) new = Replies (Pin (page_of page)) old (Pinned (slot_of after)) new
+abbrev pub Pins : WarmPage → PinnedSlot → PinnedSlot → Held → Ending → Held → Type 0
+Pins page before after old (Ok given) new = Replies (Pin (page_of page)) old (Pinned (pinned_slot after)) new
 Pins page before after old (Err why) new = RefusedByNode (Pin (page_of page)) old why new × (after ≡ before)
 
 abbrev pub Unpins : WarmSlot → Held → Ending → Held → Type 0

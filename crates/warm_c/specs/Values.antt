@@ -3,6 +3,7 @@ use Rattle.std.specs.Prelude.{Bool, true, false, List, [], ◌∷◌, ◌++◌, 
 use Rattle.warm_stamps.specs.declared.PageId.{PageId}
 use Rattle.warm_stamps.specs.declared.Reference.{Reference}
 use Rattle.warm_pool.specs.declared.slot.Slot.{Slot}
+use Rattle.warm_c.specs.declared.values.PinnedSlot.{PinnedSlot}
 use Rattle.warm_c.specs.declared.values.WarmPage.{WarmPage}
 use Rattle.warm_c.specs.declared.values.WarmReference.{WarmReference}
 use Rattle.warm_c.specs.declared.values.WarmSlot.{WarmSlot}
@@ -23,12 +24,17 @@ page_if false p = None
 abbrev pub reference_of : WarmReference → Reference
 reference_of r = record { page = record { dev = r.dev; no = r.no }; stamp = record { time = r.time; replica = r.replica } }
 
--- a slot as the node knows it, and as C does
+-- a slot that C passes, as the node knows it
 abbrev pub slot_of : WarmSlot → Slot
 slot_of s = record { index = s.index; generation = s.generation }
 
-abbrev pub c_slot : Slot → WarmSlot
+-- a slot as a pin gives it to C
+abbrev pub c_slot : Slot → PinnedSlot
 c_slot s = record { generation = s.generation; index = s.index }
+
+-- the slot that a pin gave
+abbrev pub pinned_slot : PinnedSlot → Slot
+pinned_slot s = record { index = s.index; generation = s.generation }
 
 -- the buffer with these items at its start
 abbrev pub with_start : {A : Type 0} → List A → List A → List A

@@ -34,7 +34,7 @@ pub mod values;
 use crate::handle::Handle;
 use crate::opening::open;
 use crate::status::{Refusal, name_of_status, put_text, status_of};
-use crate::values::{WarmDevice, WarmPage, WarmReference, WarmSlot, page_if};
+use crate::values::{PinnedSlot, WarmDevice, WarmPage, WarmReference, WarmSlot, page_if};
 use std::alloc::Global;
 use warm_gossip::NodeFault;
 
@@ -112,7 +112,7 @@ pub extern "C" fn warm_pin(
     alloc: Global,
     handle: &mut Handle,
     page: WarmPage,
-    slot: &mut WarmSlot,
+    slot: &mut PinnedSlot,
 ) -> i32
     ensures called { Called (Pins page slot.old slot.new) handle.old.slot.held result
         handle.new.slot.held }

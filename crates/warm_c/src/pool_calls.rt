@@ -5,7 +5,7 @@ ghost use Rattle.warm_c.specs.Values.{page_if};
 
 use crate::held::Held;
 use crate::status::Refusal;
-use crate::values::{WarmPage, WarmSlot};
+use crate::values::{PinnedSlot, WarmPage, WarmSlot};
 use warm_stamps::PageId;
 
 // Writes whether there is a page, and which; `page` is as it was where there is none.
@@ -27,11 +27,11 @@ impl Held {
     ///
     /// # Errors
     /// The node's own. The slot is then as it was.
-    pub fn pin(&mut self, page: WarmPage, slot: &mut WarmSlot) -> Result<(), Refusal>
+    pub fn pin(&mut self, page: WarmPage, slot: &mut PinnedSlot) -> Result<(), Refusal>
         ensures { Pins page slot.old slot.new self.old result self.new }
     {
         let given = self.node.pin(page.page())?;
-        *slot = WarmSlot::of(given);
+        *slot = PinnedSlot::of(given);
         Ok(())
     }
 

@@ -39,6 +39,18 @@ pub struct WarmSlot {
     pub index: u32,
 }
 
+/// A slot as `warm_pin` writes it: to C it is a `WarmSlot`, whose index is the lower half of the index here.
+///
+/// C passes a slot on by reads of eight bytes. A processor serves such a read at once from one write of eight, and not from two of four.
+#[repr(C)]
+#[derive(Clone, Copy)]
+pub struct PinnedSlot {
+    /// The frame's generation.
+    pub generation: u64,
+    /// The frame's number, from 0, in four bytes; and four zeros.
+    pub index: u64,
+}
+
 /// A device: a file descriptor that is open for reading and writing, and how many pages its file may have.
 #[repr(C)]
 #[derive(Clone, Copy)]
@@ -71,17 +83,19 @@ impl WarmPage {
     }
 }
 
-impl WarmSlot {
+impl PinnedSlot {
     /// The slot, for C.
-    pub fn of(slot: Slot) -> WarmSlot
+    pub fn of(slot: Slot) -> PinnedSlot
         ensures { result ≡ c_slot slot }
     {
-        WarmSlot {
+        PinnedSlot {
             generation: slot.generation,
-            index: slot.index,
+            index: u64::from(slot.index),
         }
     }
+}
 
+impl WarmSlot {
     /// The slot, for the node.
     pub fn slot(self) -> Slot
         ensures { result ≡ slot_of self }
