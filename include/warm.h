@@ -1,22 +1,46 @@
 /*
  * warm.h: a replica's buffer pool and reference history for C and C++.
  *
- * A handle holds one node: a pool of frames over the caller's file descriptors, replaced by LRU-2 (O'Neil, O'Neil, Weikum, 1993),
- * and the history of references that ranks its pages. Replicas exchange their histories as frames, which are bytes: the caller
- * carries them, by any transport. Frames that are lost, repeated or reordered do no harm.
+ * A handle holds one node: a buffer pool over the caller's file descriptors, with LRU-2 replacement (O'Neil, O'Neil, Weikum, 1993),
+ * and the history of page references that ranks its pages. Replicas exchange their histories as frames: a frame is the bytes of one
+ * message, and the caller carries it, by any transport. Frames that are lost, repeated or reordered do no harm. (A frame of the pool is
+ * another thing: memory for one page.)
  *
- * Every function that answers an int answers a status: WARM_OK, or why it is refused. A refused call changes nothing but counts
- * of device failures, unless its description says otherwise.
+ *     warm handle = {0};
+ *     warm_device device = {.pages = 1000, .fd = fd};
+ *     warm_page page = {.no = 7};
+ *     warm_reference reference = {.time = 1, .no = 7, .replica = 1};
+ *     warm_slot slot;
+ *     if (warm_open(&handle, 1, 64, 4096, &device, 1) != WARM_OK) return -1;
+ *     warm_absorb(&handle, &reference, 1);                    // page 7 was referenced at time 1
+ *     if (warm_pin(&handle, page, &slot) == WARM_OK) {        // it is in memory until it is unpinned
+ *         warm_read(&handle, slot, 0, bytes, sizeof bytes);
+ *         warm_unpin(&handle, slot);
+ *     }
+ *     warm_write_back(&handle);
+ *     warm_close(&handle);
  *
- * Whatever the caller passes beyond what is asked of it below, nothing is undefined: a wrong slot, page, bucket, status or length is
- * refused. What no function checks, the caller guarantees, for every function:
- *  - a handle was all zeros before its first call, and since then only these functions have changed it; it is not copied;
- *  - one call at a time uses a handle, and all calls of a handle come from one thread;
- *  - a pointer with a length points to that many elements, any other to one; what two arguments point to does not overlap; and no
- *    pointer is null, also where its length is 0: it may then point to anything;
- *  - no call is made in a signal handler, nor in the forked child of a process with threads;
- *  - malloc, realloc and free are of one allocator.
- * "Caller:" at a function names what it asks of these, and what it asks beyond them.
+ * Statuses. Every function that returns an int returns WARM_OK or why the call is refused. A refused call changes nothing but counts of
+ * device failures, and writes nothing through its pointers, unless its description says otherwise. "Refused" at a function lists its
+ * statuses in the order in which they are checked. Each function that takes a handle, but warm_open and warm_close, also returns
+ * WARM_CLOSED on a closed handle. A call may change errno, which means nothing.
+ *
+ * The library needs the C library alone, starts no thread, handles no signal and ends no process: a program that is out of memory gets
+ * WARM_MEMORY.
+ *
+ * What a call checks: whatever slot, page, bucket, number, length, frame bytes or descriptor a caller passes, nothing is undefined. It is
+ * refused, or does what its description says.
+ *
+ * What no call checks, and the caller guarantees for every function:
+ *  - A handle is all zeros before its first call, and after that only these functions change it. It is neither copied nor moved while
+ *    it is open. After a fork, one of the two processes alone uses it.
+ *  - One call at a time uses a handle, and all calls of a handle are made by one thread. Different handles are independent.
+ *  - No pointer is null, also where its length is 0: it may then point to anything. A pointer with a length points to that many
+ *    elements, any other to one element. Each is aligned for its type, and no two arguments of a call overlap.
+ *  - No call is made in a signal handler, nor in the forked child of a process with other threads. No signal handler leaves a call by
+ *    longjmp, and no thread is cancelled in one.
+ *  - malloc, realloc and free are of one allocator, and align a block to each power of two up to 16 that divides its size.
+ * "Caller" at a function says what else it asks, and which elements its pointers have.
  */
 #ifndef WARM_H
 #define WARM_H
@@ -29,13 +53,13 @@
 extern "C" {
 #endif
 
-/* A node. All zeros is a closed handle. */
+/* A handle. All zeros is a closed one. Its fields are the library's. */
 typedef struct warm {
     bool is_open;
     void *at;
 } warm;
 
-/* A page: a device, numbered from 0 in the order of the descriptors, and a page of it, counted from 0. */
+/* A page: its device, numbered from 0 in the order that warm_open was given, and its number on that device, from 0. */
 typedef struct warm_page {
     uint64_t no;
     uint16_t dev;
@@ -46,23 +70,23 @@ typedef struct warm_reference {
     uint64_t time;
     uint64_t no;
     uint16_t dev;
-    uint16_t replica;
+    uint16_t replica; /* 1 to 64 */
 } warm_reference;
 
-/* Where a pinned page is: a frame of the pool, and how many pages were put into it so far. */
+/* Where a pinned page is: a frame of the pool, and how many pages were put into that frame so far. */
 typedef struct warm_slot {
     uint64_t generation;
     uint32_t index;
 } warm_slot;
 
-/* A device: a file descriptor that is open for reading and writing, and how many pages its file may have. Pages beyond the end of
- * the file read as zeros, and a write of one extends the file. The caller keeps the descriptor open until warm_close, and closes it. */
+/* A device: a descriptor of a file, and how many pages the file may have. Page n is at byte n * page_size. Pages past the end of the file
+ * read as zeros, and a write of one extends the file. */
 typedef struct warm_device {
     uint64_t pages;
     int32_t fd;
 } warm_device;
 
-/* Why a call is refused. 1 to 13 are the numbers of the pool and the node, 34 to 42 those of a frame's faults plus 32. */
+/* The statuses. 1 to 13 are those of the pool and the node, 34 to 42 say why bytes are no frame, 64 to 68 are the library's own. */
 enum {
     WARM_OK = 0,
     WARM_MEMORY = 1,        /* an allocation failed */
@@ -70,98 +94,128 @@ enum {
     WARM_SIZE_DIFFERS = 3,  /* a page has 1 to 65,536 bytes */
     WARM_NO_DEVICE = 4,     /* there is no such device; of warm_open: there are too many, or one is too large */
     WARM_NO_PAGE = 5,       /* the device has no such page */
-    WARM_ALL_FIXED = 6,     /* each frame has a page with a fix */
+    WARM_ALL_FIXED = 6,     /* each frame of the pool has a pinned page */
     WARM_READ_FAULT = 7,    /* the page could not be read */
     WARM_WRITE_BACK = 8,    /* the page that would leave could not be written */
-    WARM_FIXES_FULL = 9,    /* the page has as many fixes as it can */
+    WARM_FIXES_FULL = 9,    /* the page has 2^32 - 1 pins, or 2^64 - 1 pages were put into the frame */
     WARM_OUT_OF_PAGE = 10,  /* the bytes reach beyond the end of the page */
-    WARM_FIXED = 11,        /* a page has a fix */
+    WARM_FIXED = 11,        /* a page is pinned; no function of this header returns it */
     WARM_FAULT = 12,        /* a page could not be written, or a device not flushed */
-    WARM_STALE_SLOT = 13,   /* the slot does not hold its page */
+    WARM_STALE_SLOT = 13,   /* the slot holds no pinned page, or another than it was given for */
     WARM_TRUNCATED = 34,    /* of a frame: its bytes end too early */
-    WARM_BAD_MAGIC = 35,
-    WARM_BAD_KIND = 36,
-    WARM_BAD_SENDER = 37,
-    WARM_BAD_LENGTH = 38,
-    WARM_BAD_COUNT = 39,
-    WARM_BAD_TAG = 40,
-    WARM_BAD_STAMP = 41,
-    WARM_BAD_ORDER = 42,
+    WARM_BAD_MAGIC = 35,    /* its first bytes are no frame's */
+    WARM_BAD_KIND = 36,     /* it is of no kind of message */
+    WARM_BAD_SENDER = 37,   /* its sender is no replica */
+    WARM_BAD_LENGTH = 38,   /* its length is not that of its content */
+    WARM_BAD_COUNT = 39,    /* it has too many entries */
+    WARM_BAD_TAG = 40,      /* an entry begins with no tag */
+    WARM_BAD_STAMP = 41,    /* an entry has a stamp of no replica, or two in the wrong order */
+    WARM_BAD_ORDER = 42,    /* its entries are not in the order of their pages */
     WARM_CLOSED = 64,           /* the handle is closed */
     WARM_ALREADY_OPEN = 65,     /* the handle is open already */
-    WARM_BUFFER_TOO_SMALL = 66, /* the answer does not fit; the size that it needs was written */
+    WARM_BUFFER_TOO_SMALL = 66, /* the frame does not fit; the length that it needs was written */
     WARM_BAD_REPLICA = 67,      /* a replica's number is 1 to 64 */
     WARM_BAD_BUCKET = 68        /* a bucket's number is 0 to 63 */
 };
 
-/* Opens a closed handle: a node of this replica, with a pool of so many empty frames over these devices, and an empty history. A pool
- * has at most 65,536 devices, and the pages of each fit into 2^63 - 1 bytes: else WARM_NO_DEVICE.
- * Caller: devices points to device_count elements, and is not kept; each descriptor stays open until warm_close, does not
- * append, and nothing else writes to its file meanwhile. One that is not open for reading and writing makes reads or writes fail. */
+/* Opens a closed handle: a node of this replica (1 to 64), with a pool of empty frames (1 to 65,536) for pages of page_size bytes (1 to
+ * 65,536) over these devices, and an empty history. All memory of the pool is allocated here, frames * page_size bytes and more.
+ * A pool has at most 65,536 devices, and the pages of each fit into 2^63 - 1 bytes. The descriptors are neither used here nor closed later.
+ * Refused: WARM_ALREADY_OPEN, and the handle is as it was; then, with the handle closed, WARM_BAD_REPLICA, WARM_NO_DEVICE,
+ * WARM_BAD_FRAMES, WARM_SIZE_DIFFERS; WARM_MEMORY at any point.
+ * Caller: devices points to device_count elements, which are not kept. Until warm_close, each descriptor stays open and is of the same
+ * file, has no O_APPEND, and nothing else writes to the pages of its file. (A descriptor that is closed or negative, that is of a
+ * pipe, or that may not be read or written does no harm: reads, writes and flushes fail. A write beyond the file size limit of the
+ * process raises SIGXFSZ, and fails where that is ignored.) */
 int warm_open(warm *handle, uint16_t replica, size_t frames, size_t page_size, const warm_device *devices, size_t device_count);
 
-/* Ends the node of a handle, and closes the handle; a closed one stays closed. Dirty pages that were not written back are lost:
- * call warm_write_back first. Caller: the handle alone. */
+/* Closes a handle and frees what it holds; a closed one stays closed. What was written to pages and not written back is lost: call
+ * warm_write_back first. Devices are flushed to which pages went since their last flush, and a failure of that is not reported.
+ * Caller: the descriptors are still open. */
 void warm_close(warm *handle);
 
-/* Takes references into the history, all or none. Their order counts for nothing, and a repeated one changes nothing.
+/* Adds references to the history, all or none. Their order does not matter, and one that is repeated changes nothing.
+ * Refused: WARM_BAD_REPLICA where one of them has a replica that is not 1 to 64; WARM_MEMORY.
  * Caller: references points to count elements. */
 int warm_absorb(warm *handle, const warm_reference *references, size_t count);
 
-/* Gives a page a fix, reads it into a frame where it is in none, and writes its slot. A page with a fix does not leave its frame.
- * A pin is no reference: whoever pins also absorbs a reference. Caller: slot points to one element. */
+/* Pins a page: reads it into a frame of the pool where it is in none, and writes its slot. A page may be pinned more than once; while it
+ * is pinned it stays in its frame. A pin is no reference: whoever pins a page also absorbs a reference to it. Allocation-free.
+ * Refused: WARM_NO_DEVICE, WARM_NO_PAGE; of a page that is in a frame, WARM_FIXES_FULL; else WARM_ALL_FIXED, WARM_FIXES_FULL,
+ * WARM_READ_FAULT, WARM_WRITE_BACK.
+ * Caller: slot points to one element. */
 int warm_pin(warm *handle, warm_page page, warm_slot *slot);
 
-/* Takes a fix from the slot's page. Caller: any slot may be passed; one that holds no page is refused. */
+/* Takes one pin from the slot's page. Allocation-free.
+ * Refused: WARM_STALE_SLOT.
+ * Caller: unpins a page as often as it pinned it. A slot whose page another part of the program still pins is not stale. */
 int warm_unpin(warm *handle, warm_slot slot);
 
-/* Copies length bytes of the slot's page, from byte at on. Caller: into points to length bytes. */
+/* Copies length bytes of the slot's page, from byte at on. Allocation-free.
+ * Refused: WARM_STALE_SLOT, WARM_OUT_OF_PAGE.
+ * Caller: into points to length bytes. */
 int warm_read(warm *handle, warm_slot slot, size_t at, uint8_t *into, size_t length);
 
-/* Writes bytes into the slot's page, from byte at on. They reach the device when the page leaves, or at warm_write_back.
+/* Writes bytes into the slot's page, from byte at on. They reach the device when the page leaves its frame, or at warm_write_back.
+ * Allocation-free.
+ * Refused: WARM_STALE_SLOT, WARM_OUT_OF_PAGE.
  * Caller: bytes points to length bytes. */
 int warm_write(warm *handle, warm_slot slot, size_t at, const uint8_t *bytes, size_t length);
 
-/* Writes whether a page would leave the pool next, and which; page stays where none would.
- * Caller: found and page point to one element each, and found is false or true before. */
+/* Writes whether there is a page that would leave the pool next, and which; page is as it was where there is none. Allocation-free.
+ * Caller: found and page point to one element each, and found is false or true before the call. */
 int warm_victim(warm *handle, bool *found, warm_page *page);
 
-/* Writes the hottest pages, hottest first: as many as there is room for, or all, and their number.
+/* Writes the hottest pages of the history, hottest first, and their number: as many as there is room for, or all.
+ * Refused: WARM_MEMORY.
  * Caller: pages points to room elements, count to one. */
 int warm_list(warm *handle, warm_page *pages, size_t room, size_t *count);
 
-/* Loads the hottest page that is in no frame, of as many as the pool has frames, and writes whether there was one, and which; page
- * stays where there was none. Caller: as of warm_victim. */
+/* Reads into a frame of the pool the hottest page that is in none, of as many of the hottest pages as the pool has frames; writes whether
+ * there was one, and which. page is as it was where there was none: the pool is then warm.
+ * Refused: WARM_MEMORY, WARM_ALL_FIXED, WARM_FIXES_FULL, WARM_READ_FAULT, WARM_WRITE_BACK.
+ * Caller: found and page point to one element each, and found is false or true before the call. */
 int warm_step(warm *handle, bool *found, warm_page *page);
 
-/* Writes the frame with the digests of the history. At WARM_BUFFER_TOO_SMALL length is the room that it needs.
+/* Writes the frame with the digests of the history, and its length.
+ * Refused: WARM_MEMORY; WARM_BUFFER_TOO_SMALL, where length is the room that it needs.
  * Caller: frame points to room bytes, length to one element. */
 int warm_offer(warm *handle, uint8_t *frame, size_t room, size_t *length);
 
-/* Writes the frame with the first 1000 entries of a bucket, or, where has_after, of those whose page is greater than after; where not,
- * after means nothing. Caller: has_after is false or true; frame points to room bytes, length to one element. */
+/* Writes the frame with the first 1000 entries of a bucket (0 to 63), or, where has_after, of its entries whose page is greater than
+ * after; and its length. Where has_after is false, after means nothing.
+ * Refused: WARM_BAD_BUCKET, WARM_MEMORY; WARM_BUFFER_TOO_SMALL, where length is the room that it needs.
+ * Caller: has_after is false or true; frame points to room bytes, length to one element. */
 int warm_send(warm *handle, uint8_t bucket, bool has_after, warm_page after, uint8_t *frame, size_t room, size_t *length);
 
-/* Takes in one whole frame that another replica sent. Its answers wait for warm_next_answer; those of the frame before are dropped,
- * unless the call is refused. Caller: frame points to length bytes, of any content. */
+/* Takes in one whole frame that another replica sent. Its answers wait for warm_next_answer; those of the frame before are dropped.
+ * Refused: WARM_TRUNCATED to WARM_BAD_ORDER, by the first fault from left to right; WARM_MEMORY. The answers of the frame before then
+ * still wait.
+ * Caller: frame points to length bytes, of any content. */
 int warm_receive(warm *handle, const uint8_t *frame, size_t length);
 
-/* Writes the next answer to the frame that was received last. A length of 0 means that there is none. At WARM_BUFFER_TOO_SMALL it
- * stays the next. Caller: frame points to room bytes, length to one element. */
+/* Writes the frame of the next answer to what was received last, and its length. A length of 0 means that there are no more.
+ * Refused: WARM_MEMORY; WARM_BUFFER_TOO_SMALL, where length is the room that it needs. The answer is then still the next.
+ * Caller: frame points to room bytes, length to one element. */
 int warm_next_answer(warm *handle, uint8_t *frame, size_t room, size_t *length);
 
-/* Forgets all stamps before this time, unless the horizon is later already, and writes the horizon.
+/* Forgets all stamps before this time, unless the horizon is later already, and writes the horizon from then on.
  * Caller: horizon points to one element. */
 int warm_horizon(warm *handle, uint64_t time, uint64_t *horizon);
 
-/* Writes every dirty page to its device, and flushes each device. Caller: the handle alone. */
+/* Writes each page that was written to and not written back to its device, and flushes (fsync) each device that waits for it.
+ * Refused: WARM_FAULT at the first write or flush that fails. A page that was not written is still in the pool. After a flush that failed,
+ * do not trust the file: the system may have dropped what it held.
+ * Caller: nothing more. */
 int warm_write_back(warm *handle);
 
-/* Writes how many pages the history knows. Caller: length points to one element. */
+/* Writes how many pages the history knows.
+ * Caller: length points to one element. */
 int warm_history_length(warm *handle, size_t *length);
 
-/* The name of a status, ended by a zero byte: as many bytes of it as there is room for. Writes the whole length, without the zero, and
- * answers WARM_OK. What is no status is called Unknown. Caller: name points to room bytes, length to one element. */
+/* Writes the name of a status and a zero byte after it, as many bytes of both as there is room for, and the length of the name without
+ * the zero byte. Returns WARM_OK. A number that is no status has the name Unknown.
+ * Caller: name points to room bytes, length to one element. */
 int warm_status_name(int status, uint8_t *name, size_t room, size_t *length);
 
 #ifdef __cplusplus

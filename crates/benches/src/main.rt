@@ -1,5 +1,5 @@
 //! The measurements of `docs/PERFORMANCE.md`, run by the scripts in `bench/`: turn, history, pool,
-//! frames, files, gossip and replica.
+//! frames, files, gossip, replica and hits.
 //!
 //! `benches NAME WORDS..` runs the bench of that name with these arguments, and prints nanoseconds;
 //! its module documents the arguments. `benches NAME` does a little of all that the bench measures,
@@ -10,6 +10,7 @@ mod files;
 mod frames;
 mod gossip;
 mod history;
+mod hits;
 mod parts;
 mod pool;
 mod replica;
@@ -33,10 +34,11 @@ enum Bench {
     Files,
     Gossip,
     Replica,
+    Hits,
 }
 
 // In the order in which they run.
-const BENCHES: [Bench; 7] = [
+const BENCHES: [Bench; 8] = [
     Bench::Turn,
     Bench::History,
     Bench::Pool,
@@ -44,6 +46,7 @@ const BENCHES: [Bench; 7] = [
     Bench::Files,
     Bench::Gossip,
     Bench::Replica,
+    Bench::Hits,
 ];
 
 impl Bench {
@@ -56,7 +59,10 @@ impl Bench {
             "files" => Ok(Bench::Files),
             "gossip" => Ok(Bench::Gossip),
             "replica" => Ok(Bench::Replica),
-            _ => bail!("what is measured: turn, history, pool, frames, files, gossip or replica"),
+            "hits" => Ok(Bench::Hits),
+            _ => bail!(
+                "what is measured: turn, history, pool, frames, files, gossip, replica or hits"
+            ),
         }
     }
 
@@ -69,6 +75,7 @@ impl Bench {
             Bench::Files => "files",
             Bench::Gossip => "gossip",
             Bench::Replica => "replica",
+            Bench::Hits => "hits",
         }
     }
 }
@@ -88,6 +95,7 @@ fn play<T: Threads + Wait + Clock + Print + AllocGlobal + Sync>(
         Bench::Files => files::play(rt, words),
         Bench::Gossip => gossip::play(rt, words),
         Bench::Replica => replica::play(threads, words),
+        Bench::Hits => hits::play(rt, words),
     }
 }
 

@@ -1,16 +1,18 @@
 -- Definitions for the contracts of nodes.
-use Rattle.std.specs.Prelude.{◌≡◌, ℕ, List, Result, Ok, Err}
+use Rattle.std.specs.Prelude.{◌≡◌, ℕ, List, length, Result, Ok, Err}
 use Rattle.warm_history.specs.declared.hist.Entry.{Entry}
 use Rattle.warm_history.specs.Histories.{holding_since, join}
 use Rattle.warm_stamps.specs.declared.PageId.{PageId}
 use Rattle.warm_pool.specs.declared.fault.PoolFault.TheVariants.{Fault}
 use Rattle.warm_pool.specs.Keeping.{KeepsFrames}
 use Rattle.warm_pool.specs.Pinning.{LeavesDevices}
+use Rattle.warm_pool.specs.declared.slot.Slot.{Slot}
 use Rattle.warm_gossip.specs.declared.call.Call.{Call}
+use Rattle.warm_gossip.specs.declared.call.Call.TheVariants.{Read}
 use Rattle.warm_gossip.specs.declared.call.Reply.{Reply}
 use Rattle.warm_gossip.specs.declared.call.Reply.TheVariants.{Done, Refused}
 use Rattle.warm_gossip.specs.declared.fault.NodeFault.{NodeFault}
-use Rattle.warm_gossip.specs.declared.fault.NodeFault.TheVariants.{Pool}
+use Rattle.warm_gossip.specs.declared.fault.NodeFault.TheVariants.{Memory, Pool}
 use Rattle.warm_gossip.specs.State.{NodeState, node_view}
 use Rattle.warm_gossip.specs.Step.{IsFailed, OnPool, Step}
 
@@ -44,3 +46,8 @@ WriteBackFails old why new = (why ≡ Pool Fault) × OnPool IsFailed (node_view 
 abbrev pub PinLeaves : NodeState → PageId → NodeFault → NodeState → Type 0
 PinLeaves old page (Pool fault) new = KeepsFrames old.pool new.pool × LeavesDevices old.history old.pool page fault new.pool
 PinLeaves old page why new = ⊥
+
+-- why no bytes were read into a buffer, which is as it was: a call that reads as many is refused so, though never for memory
+abbrev pub ReadIntoFails : NodeState → Slot → ℕ → List ℕ → NodeFault → List ℕ → Type 0
+ReadIntoFails s slot at old Memory new = ⊥
+ReadIntoFails s slot at old why new = Goes s (Read slot at (length old)) (Refused why) s × (new ≡ old)

@@ -1,12 +1,12 @@
 //! The calls on a node's pool.
-ghost use Rattle.std.specs.Prelude.{◌≡◌, ◌↔◌, IfErr, IfOk, IsTrue, OnErr, OnOk};
+ghost use Rattle.std.specs.Prelude.{◌≡◌, ◌↔◌, length, IfErr, IfOk, IsTrue, OnErr, OnOk};
 ghost use Rattle.warm_pool.specs.Keeping.{KeepsBytes};
 ghost use Rattle.warm_pool.specs.PageBytes.{MakesDirty};
 ghost use Rattle.warm_pool.specs.Pinning.{TakesFrame};
 ghost use Rattle.warm_pool.specs.State.{IsSettled};
 ghost use Rattle.warm_gossip.specs.declared.call.Call.TheVariants.{Pin, Unpin, Read, Write, Victim, Restart};
 ghost use Rattle.warm_gossip.specs.declared.call.Reply.TheVariants.{Pinned, Bytes, Page};
-ghost use Rattle.warm_gossip.specs.Clauses.{Answered, Goes, PinLeaves, SameView, WriteBackFails, done};
+ghost use Rattle.warm_gossip.specs.Clauses.{Answered, Goes, PinLeaves, ReadIntoFails, SameView, WriteBackFails, done};
 ghost use Rattle.warm_gossip.specs.State.{node_view};
 ghost use Rattle.warm_gossip.specs.Step.{IsWithin};
 
@@ -67,6 +67,24 @@ impl<D: PageDevice> Node<D> {
         let mut bytes = Vec::from_elem(self.alloc, 0, len)?;
         self.pool.read(slot, at, &mut bytes)?;
         Ok(ByteList::of(bytes))
+    }
+
+    /// Reads bytes of the slot's page, from `at` on, into the whole of `into`: the call `Read` of that length. Allocation-free.
+    ///
+    /// # Errors
+    /// In this order: `StaleSlot`, where the slot doesn't hold its page; `Pool(OutOfPage)`, where the bytes reach beyond its end.
+    /// `into` is then as it was.
+    pub fn read_into(&self, slot: Slot, at: usize, into: &mut [u8]) -> Result<(), NodeFault>
+        ensures read { OnOk result (Goes self.now (Read slot at (length into.old)) (Bytes into.new)
+            self.now) }
+        ensures refused { IfErr result (λ why. ReadIntoFails self.now slot at into.old why
+            into.new) }
+    {
+        if !self.pool.holds(slot) {
+            return Err(NodeFault::StaleSlot);
+        }
+        self.pool.read(slot, at, into)?;
+        Ok(())
     }
 
     // Whether `len` bytes from `at` on are within a page.

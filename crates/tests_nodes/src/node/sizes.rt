@@ -1,14 +1,15 @@
 //! Calls of a node with no data, and with the greatest sizes.
 
 use super::{
-    Row, Said, Sent, answer, answers, fresh, has_bytes, lives, message_of, over, says, slot,
+    Row, Said, Sent, answer, answers, fresh, has_bytes, lives, message_of, over, runs, says, slot,
 };
 use std::alloc::Global;
 use std::process::Abort;
 use test_kit::{page, seen};
 use warm_devices::MemDevice;
 use warm_frames::{Message, MessageList};
-use warm_gossip::{Call, Node};
+use warm_gossip::{Call, Node, NodeFault};
+use warm_pool::PoolFault;
 use warm_stamps::{ByteList, RefList};
 
 const NOTHING: &[Row] = &[
@@ -50,6 +51,39 @@ fn a_page_is_read_and_written_whole(rt: HostRuntime) {
     let len = 65_536;
     let read = answer(&mut node, Call::Read { slot, at, len });
     assert!(rt; has_bytes(read, wanted.as_slice()));
+}
+
+// Reads into a buffer of four bytes, which are all 9 before: the slot's generation, the first byte of
+// the page, why the read is refused, and the buffer's bytes after it. The page has 65,536 bytes, 1 to
+// 4 first and then 0.
+const READS_INTO: [(u64, usize, Option<NodeFault>, [u8; 4]); 5] = [
+    (1, 0, None, [1, 2, 3, 4]),
+    (1, 2, None, [3, 4, 0, 0]),
+    (1, 65_532, None, [0, 0, 0, 0]),
+    (
+        1,
+        65_533,
+        Some(NodeFault::Pool(PoolFault::OutOfPage)),
+        [9, 9, 9, 9],
+    ),
+    (2, 65_533, Some(NodeFault::StaleSlot), [9, 9, 9, 9]),
+];
+
+#[test]
+fn bytes_are_read_into_a_buffer(rt: HostRuntime) {
+    let alloc = rt.alloc();
+    let device = MemDevice::new(alloc, 1, 65_536).expect(&rt, "memory for a device");
+    let mut node = over(&rt, alloc, 1, 1, device);
+    let rows = [
+        Row::Pins(0, Said::Pinned(0, 1)),
+        Row::Writes(0, 1, &[1, 2, 3, 4]),
+    ];
+    runs(&rt, alloc, &mut node, &rows);
+    for (generation, at, wanted, bytes) in READS_INTO {
+        let mut into = [9u8; 4];
+        let refused = node.read_into(slot(0, generation), at, &mut into).err();
+        assert!(rt; refused == wanted && into == bytes);
+    }
 }
 
 // Node 1 with a history of this many pages: their numbers rise by `spread` from 0 on, and each was

@@ -1,0 +1,81 @@
+/*
+ * Measures hits in the pool of a handle: hits FRAMES HITS, the same as crates/benches/src/hits.rt does in Rattle. FRAMES is a power of two
+ * up to 65,536, and each frame has a page of 16 bytes. A hit pins a page that is drawn evenly, reads eight bytes of it, and unpins it.
+ * Prints a checksum of what was read, and nanoseconds.
+ */
+#define _POSIX_C_SOURCE 200809L
+#include <inttypes.h>
+#include <stdio.h>
+#include <stdlib.h>
+#include <string.h>
+#include <time.h>
+#include <unistd.h>
+#include <warm.h>
+
+enum { PAGE_SIZE = 16 };
+
+static void ok(int status, const char *call) {
+    if (status == WARM_OK) return;
+    fprintf(stderr, "hits: %s: status %d\n", call, status);
+    exit(1);
+}
+
+static void put_number(warm *pool, uint64_t no) {
+    uint8_t bytes[8];
+    warm_slot slot;
+    memcpy(bytes, &no, sizeof bytes);
+    ok(warm_pin(pool, (warm_page){.no = no}, &slot), "warm_pin");
+    ok(warm_write(pool, slot, 0, bytes, sizeof bytes), "warm_write");
+    ok(warm_unpin(pool, slot), "warm_unpin");
+}
+
+/* The number in a page. */
+static uint64_t number_in(warm *pool, uint64_t no) {
+    uint8_t bytes[8];
+    uint64_t number;
+    warm_slot slot;
+    ok(warm_pin(pool, (warm_page){.no = no}, &slot), "warm_pin");
+    ok(warm_read(pool, slot, 0, bytes, sizeof bytes), "warm_read");
+    ok(warm_unpin(pool, slot), "warm_unpin");
+    memcpy(&number, bytes, sizeof number);
+    return number;
+}
+
+static uint64_t hit_often(warm *pool, uint64_t mask, uint64_t hits) {
+    uint64_t drawn = 1, checksum = 0;
+    for (uint64_t i = 0; i < hits; i++) {
+        drawn = drawn * 6364136223846793005u + 1442695040888963407u;
+        checksum = checksum * 31 + number_in(pool, (drawn >> 48) & mask);
+    }
+    return checksum;
+}
+
+static uint64_t now(void) {
+    struct timespec time;
+    clock_gettime(CLOCK_MONOTONIC, &time);
+    return (uint64_t)time.tv_sec * 1000000000u + (uint64_t)time.tv_nsec;
+}
+
+int main(int count, char **words) {
+    if (count != 3) {
+        fprintf(stderr, "usage: hits FRAMES HITS\n");
+        return 2;
+    }
+    uint64_t frames = strtoull(words[1], NULL, 10), hits = strtoull(words[2], NULL, 10);
+    FILE *file = tmpfile();
+    if (file == NULL) {
+        perror("hits");
+        return 1;
+    }
+    warm pool = {0};
+    warm_device device = {.pages = frames, .fd = fileno(file)};
+    ok(warm_open(&pool, 1, (size_t)frames, PAGE_SIZE, &device, 1), "warm_open");
+    for (uint64_t no = 0; no < frames; no++) put_number(&pool, no);
+    uint64_t start = now();
+    uint64_t checksum = hit_often(&pool, frames - 1, hits);
+    uint64_t spent = now() - start;
+    warm_close(&pool);
+    fclose(file);
+    printf("%" PRIu64 "\n%" PRIu64 " ns\n", checksum, spent);
+    return 0;
+}

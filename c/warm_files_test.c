@@ -1,0 +1,257 @@
+/*
+ * Tests warm_files.c: in place of the proved part this program makes requests, and compares the answers with what the file holds by
+ * the system's own calls. It has the code of warm_files.c in itself, over calls of the system that can be made to do little at a time.
+ */
+#define _GNU_SOURCE /* mkstemp, pipe, ftruncate */
+#define _FILE_OFFSET_BITS 64
+#include <errno.h>
+#include <fcntl.h>
+#include <pthread.h>
+#include <signal.h>
+#include <stdbool.h>
+#include <stdint.h>
+#include <stdio.h>
+#include <stdlib.h>
+#include <string.h>
+#include <sys/resource.h>
+#include <unistd.h>
+
+/* Where most is not 0, a call moves at most that many bytes, and every other call is interrupted. Where it is to put nothing, it does. */
+static struct {
+    size_t most;
+    bool was_interrupted, puts_nothing;
+    int syncs;
+} slow;
+
+static bool interrupts(void) {
+    if (slow.most == 0) return false;
+    slow.was_interrupted = !slow.was_interrupted;
+    if (slow.was_interrupted) errno = EINTR;
+    return slow.was_interrupted;
+}
+
+static size_t part(size_t length) { return slow.most != 0 && slow.most < length ? slow.most : length; }
+
+static ssize_t slow_pread(int fd, void *into, size_t length, off_t at) {
+    return interrupts() ? -1 : pread(fd, into, part(length), at);
+}
+
+static ssize_t slow_pwrite(int fd, const void *from, size_t length, off_t at) {
+    if (slow.puts_nothing) return 0;
+    return interrupts() ? -1 : pwrite(fd, from, part(length), at);
+}
+
+static int slow_fsync(int fd) {
+    if (interrupts()) return -1;
+    slow.syncs++;
+    return fsync(fd);
+}
+
+#define pread slow_pread
+#define pwrite slow_pwrite
+#define fsync slow_fsync
+#include "warm_files.c"
+#undef pread
+#undef pwrite
+#undef fsync
+
+enum { SIZE = 65536, NO_FILE = 999 };
+
+static void must(bool holds, const char *what, int line) {
+    if (holds) return;
+    fprintf(stderr, "warm_files_test.c:%d: %s\n", line, what);
+    exit(1);
+}
+#define MUST(holds) must(holds, #holds, __LINE__)
+/* A call that must fail with this errno. */
+#define FAILS(call, why) (errno = 0, MUST((call) == -1 && errno == (why)))
+
+static uint8_t page[SIZE], got[SIZE];
+
+static ssize_t ask(int fd, uint8_t kind, uint64_t at) {
+    uint8_t request[9] = {kind};
+    for (int i = 1; i < 9; i++) request[i] = (uint8_t)(at >> (64 - 8 * i));
+    return warm_files_write(fd, request, sizeof request);
+}
+
+static ssize_t read_at(int fd, uint64_t at, size_t length) {
+    memset(got, 0xEE, sizeof got);
+    return ask(fd, 1, at) == 9 ? warm_files_read(fd, got, length) : -2;
+}
+
+static ssize_t write_at(int fd, uint64_t at, size_t length) {
+    return ask(fd, 2, at) == 9 ? warm_files_write(fd, page, length) : -2;
+}
+
+static bool is_filled(const uint8_t *bytes, size_t length, uint8_t with) {
+    for (size_t at = 0; at < length; at++)
+        if (bytes[at] != with) return false;
+    return true;
+}
+
+/* What the file holds, by the system's own call. */
+static bool holds(int fd, off_t at, const uint8_t *bytes, size_t length) {
+    static uint8_t held[SIZE];
+    return pread(fd, held, length, at) == (ssize_t)length && memcmp(held, bytes, length) == 0;
+}
+
+static int new_file(void) {
+    char path[] = "/tmp/warm-files-XXXXXX";
+    int fd = mkstemp(path);
+    MUST(fd >= 0 && unlink(path) == 0);
+    return fd;
+}
+
+static void test_file(void) {
+    int fd = new_file();
+    MUST(read_at(fd, SIZE, SIZE) == SIZE && is_filled(got, SIZE, 0)); /* an empty file */
+    MUST(lseek(fd, 0, SEEK_END) == 0);
+    MUST(write_at(fd, 3 * SIZE, SIZE) == SIZE); /* extends it, with a hole before */
+    MUST(lseek(fd, 0, SEEK_END) == 4 * SIZE && holds(fd, 3 * SIZE, page, SIZE));
+    MUST(read_at(fd, SIZE, SIZE) == SIZE && is_filled(got, SIZE, 0)); /* in the hole */
+    MUST(read_at(fd, 3 * SIZE, SIZE) == SIZE && memcmp(got, page, SIZE) == 0);
+    MUST(read_at(fd, 4 * SIZE - 10, 100) == 100); /* over the end */
+    MUST(memcmp(got, page + SIZE - 10, 10) == 0 && is_filled(got + 10, 90, 0) && got[100] == 0xEE);
+    MUST(write_at(fd, 3 * SIZE + 5, 7) == 7); /* no other byte changes */
+    MUST(holds(fd, 3 * SIZE, page, 5) && holds(fd, 3 * SIZE + 5, page, 7) && holds(fd, 3 * SIZE + 12, page + 12, SIZE - 12));
+    MUST(write_at(fd, 0, 9) == 9 && holds(fd, 0, page, 9)); /* a page as long as a request */
+    slow.syncs = 0;
+    MUST(ask(fd, 3, 0) == 9 && slow.syncs == 1);
+    close(fd);
+}
+
+/* A call of the system that is interrupted, or does a part, is made again for the rest. */
+static void test_slow_calls(void) {
+    int fd = new_file();
+    slow.most = 1000;
+    MUST(write_at(fd, 100, SIZE) == SIZE && holds(fd, 100, page, SIZE));
+    MUST(read_at(fd, 100, SIZE) == SIZE && memcmp(got, page, SIZE) == 0);
+    MUST(read_at(fd, SIZE, 2000) == 2000 && memcmp(got, page + SIZE - 100, 100) == 0 && is_filled(got + 100, 1900, 0));
+    slow.syncs = 0;
+    MUST(ask(fd, 3, 0) == 9 && slow.syncs == 1);
+    slow.most = 0;
+    slow.puts_nothing = true;
+    FAILS(write_at(fd, 0, SIZE), EIO);
+    slow.puts_nothing = false;
+    close(fd);
+}
+
+static void fails_at_each(int fd, int reading, int writing, int flushing) {
+    FAILS(read_at(fd, 0, 512), reading);
+    FAILS(write_at(fd, 0, 512), writing);
+    FAILS(ask(fd, 3, 0), flushing);
+}
+
+static void test_descriptors(void) {
+    int ends[2], fd = new_file(), full = open("/dev/full", O_RDWR), reader = open("/dev/null", O_RDONLY);
+    MUST(pipe(ends) == 0 && full >= 0 && reader >= 0);
+    fails_at_each(NO_FILE, EBADF, EBADF, EBADF);
+    fails_at_each(-1, EBADF, EBADF, EBADF);
+    fails_at_each(INT32_MIN, EBADF, EBADF, EBADF);
+    fails_at_each(ends[0], ESPIPE, ESPIPE, EINVAL);
+    fails_at_each(ends[1], ESPIPE, ESPIPE, EINVAL);
+    MUST(read_at(full, 0, 512) == 512 && is_filled(got, 512, 0));
+    FAILS(write_at(full, 0, 512), ENOSPC); /* no room on the device */
+    FAILS(write_at(reader, 0, 512), EBADF); /* not open for writing */
+    /* closed between the request and its data */
+    MUST(ask(fd, 1, 0) == 9 && close(fd) == 0);
+    FAILS(warm_files_read(fd, got, 512), EBADF);
+    close(ends[0]);
+    close(ends[1]);
+    close(full);
+    close(reader);
+}
+
+/* A file that must not grow past a limit takes a part, and then fails. */
+static void test_limit(void) {
+    struct rlimit before, limit;
+    int fd = new_file();
+    signal(SIGXFSZ, SIG_IGN);
+    MUST(getrlimit(RLIMIT_FSIZE, &before) == 0);
+    limit = before;
+    limit.rlim_cur = 1000;
+    MUST(setrlimit(RLIMIT_FSIZE, &limit) == 0);
+    FAILS(write_at(fd, 0, 4096), EFBIG);
+    MUST(setrlimit(RLIMIT_FSIZE, &before) == 0);
+    MUST(write_at(fd, 0, 4096) == 4096 && holds(fd, 0, page, 4096));
+    close(fd);
+}
+
+/* What is out of order fails, and leaves no request behind: after each, a read and a write do as ever. */
+static void is_as_ever(int fd) {
+    MUST(write_at(fd, 0, 512) == 512 && read_at(fd, 0, 512) == 512 && memcmp(got, page, 512) == 0);
+}
+
+static void test_order(void) {
+    int fd = new_file(), other = new_file();
+    FAILS(warm_files_read(fd, got, 512), EINVAL); /* no request before */
+    FAILS(warm_files_write(fd, page, 512), EINVAL);
+    FAILS(warm_files_write(fd, page, 8), EINVAL);
+    FAILS(warm_files_write(fd, page, 0), EINVAL);
+    FAILS(ask(fd, 0, 0), EINVAL); /* no such kind */
+    FAILS(ask(fd, 4, 0), EINVAL);
+    FAILS(ask(fd, 255, 0), EINVAL);
+    FAILS(ask(fd, 3, 1), EINVAL); /* a flush has no place */
+    is_as_ever(fd);
+    MUST(ask(fd, 1, 0) == 9); /* a read asked for, and a write made */
+    FAILS(warm_files_write(fd, page, 512), EINVAL);
+    FAILS(warm_files_read(fd, got, 512), EINVAL);
+    is_as_ever(fd);
+    MUST(ask(fd, 2, 0) == 9); /* a write asked for, and a read made */
+    FAILS(warm_files_read(fd, got, 512), EINVAL);
+    FAILS(warm_files_write(fd, page, 512), EINVAL);
+    is_as_ever(fd);
+    MUST(ask(fd, 1, 0) == 9); /* of another descriptor */
+    FAILS(warm_files_read(other, got, 512), EINVAL);
+    MUST(ask(fd, 2, 0) == 9);
+    FAILS(warm_files_write(other, page, 512), EINVAL);
+    MUST(lseek(other, 0, SEEK_END) == 0);
+    is_as_ever(fd);
+    MUST(ask(fd, 1, 0) == 9); /* a request before the last has its data */
+    FAILS(ask(fd, 3, 0), EINVAL);
+    is_as_ever(fd);
+    close(fd);
+    close(other);
+}
+
+/* Places whose bytes would end past what an offset can say, which is 2^63 - 1. */
+static void test_places(void) {
+    int fd = new_file();
+    FAILS(ask(fd, 1, UINT64_C(1) << 63), EINVAL);
+    FAILS(ask(fd, 2, UINT64_MAX), EINVAL);
+    FAILS(read_at(fd, INT64_MAX - 511, 512), EINVAL);
+    FAILS(write_at(fd, INT64_MAX - 511, 512), EINVAL);
+    is_as_ever(fd);
+    MUST(lseek(fd, 0, SEEK_END) == 512);
+    close(fd);
+}
+
+/* Another thread's request is not this one's. */
+static void *other_thread(void *of) {
+    int fd = *(int *)of;
+    FAILS(warm_files_write(fd, page, 512), EINVAL);
+    MUST(ask(fd, 3, 0) == 9);
+    return NULL;
+}
+
+static void test_threads(void) {
+    int fd = new_file();
+    pthread_t thread;
+    MUST(ask(fd, 2, 0) == 9);
+    MUST(pthread_create(&thread, NULL, other_thread, &fd) == 0 && pthread_join(thread, NULL) == 0);
+    MUST(warm_files_write(fd, page, 512) == 512 && holds(fd, 0, page, 512));
+    close(fd);
+}
+
+int main(void) {
+    for (size_t at = 0; at < SIZE; at++) page[at] = (uint8_t)(at % 251 + 1);
+    test_file();
+    test_slow_calls();
+    test_descriptors();
+    test_limit();
+    test_order();
+    test_places();
+    test_threads();
+    puts("warm_files_test: as expected");
+    return 0;
+}

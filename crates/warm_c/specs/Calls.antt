@@ -1,0 +1,151 @@
+-- What each call does to what an open handle holds, and what it writes.
+use Rattle.std.specs.Prelude.{ℕ, ◌+◌, ◌<◌, ◌≡◌, ◌⊎◌, Bool, List, map, length, Option, Some, None, Result, Ok, Err, Contains, slice_get}
+use Rattle.warm_stamps.specs.Replicas.{IsReplica}
+use Rattle.warm_stamps.specs.Buckets.{IsBucket}
+use Rattle.warm_stamps.specs.declared.PageId.{PageId}
+use Rattle.warm_history.specs.Histories.{entries_of}
+use Rattle.warm_frames.specs.declared.message.Message.{Message}
+use Rattle.warm_frames.specs.Reading.{Gives, read_frame, reserved_by}
+use Rattle.warm_frames.specs.Spelling.{Spells, spelling}
+use Rattle.warm_pool.specs.State.{IsSettled}
+use Rattle.warm_gossip.specs.declared.call.Call.{Call}
+use Rattle.warm_gossip.specs.declared.call.Call.TheVariants.{Absorb, Send, Receive, Horizon, Pin, Unpin, Read, Write, Victim, WarmList, WarmStep}
+use Rattle.warm_gossip.specs.declared.call.Reply.{Reply}
+use Rattle.warm_gossip.specs.declared.call.Reply.TheVariants.{Done, Sent, Answers, Kept, Pinned, Bytes, Page, Pages, Loaded, Refused}
+use Rattle.warm_gossip.specs.declared.fault.NodeFault.{NodeFault}
+use Rattle.warm_gossip.specs.declared.fault.NodeFault.TheVariants.{Memory}
+use Rattle.warm_gossip.specs.Clauses.{Goes, SameView, WriteBackFails}
+use Rattle.warm_c.specs.declared.held.Held.{Held}
+use Rattle.warm_c.specs.declared.status.Refusal.{Refusal}
+use Rattle.warm_c.specs.declared.status.Refusal.TheVariants.{Node, Frame, BufferTooSmall, BadReplica, BadBucket}
+use Rattle.warm_c.specs.declared.values.PinnedSlot.{PinnedSlot}
+use Rattle.warm_c.specs.declared.values.WarmPage.{WarmPage}
+use Rattle.warm_c.specs.declared.values.WarmReference.{WarmReference}
+use Rattle.warm_c.specs.declared.values.WarmSlot.{WarmSlot}
+use Rattle.warm_c.specs.Values.{c_page, page_if, page_of, pinned_slot, reference_of, slot_of, with_start}
+
+-- what a call of the library ends with
+abbrev pub Ending : Type 0
+Ending = Result (Unit {0}) Refusal
+
+-- the answers that wait are as they were
+pub record SameAnswers (old new : Held) : Type 0 where
+  pub answers : new.answers ≡ old.answers
+  pub given : new.given ≡ old.given
+
+-- The node has answered this call so, and the answers that wait are as they were.
+abbrev pub Replies : Call → Held → Reply → Held → Type 0
+Replies call old reply new = Goes old.node call reply new.node × SameAnswers old new
+
+-- the node refuses the call for this reason
+abbrev pub RefusedByNode : Call → Held → Refusal → Held → Type 0
+RefusedByNode call old (Node why) new = Replies call old (Refused why) new
+RefusedByNode call old why new = ⊥
+
+-- The history
+
+-- one of the references has a number that is no replica's
+abbrev pub HasBadReplica : List WarmReference → Type 0
+HasBadReplica batch = (r : WarmReference) × Contains batch r × (IsReplica r.replica → ⊥)
+
+-- why the references are not those of a node
+abbrev pub BatchRefused : List WarmReference → Refusal → Type 0
+BatchRefused batch (Node Memory) = Unit {0}
+BatchRefused batch BadReplica = HasBadReplica batch
+BatchRefused batch why = ⊥
+
+abbrev pub Absorbs : List WarmReference → Held → Ending → Held → Type 0
+Absorbs batch old (Ok given) new = Replies (Absorb (map reference_of batch)) old Done new
+Absorbs batch old (Err BadReplica) new = HasBadReplica batch × (new ≡ old)
+Absorbs batch old (Err why) new = RefusedByNode (Absorb (map reference_of batch)) old why new
+
+-- the horizon that is written is the one that the node then has
+abbrev pub Raises : ℕ → ℕ → Held → Held → Type 0
+Raises time horizon old new = Replies (Horizon time) old (Kept horizon) new
+
+-- the hottest pages stand at the start of the buffer, and their number is given
+abbrev pub Lists : List WarmPage → ℕ → List WarmPage → ℕ → Held → Ending → Held → Type 0
+Lists before count after number old (Ok given) new =
+    (pages : List PageId) × Replies (WarmList (length before)) old (Pages pages) new × (after ≡ with_start (map c_page pages) before) × (number ≡ length pages)
+Lists before count after number old (Err why) new = RefusedByNode (WarmList (length before)) old why new × (after ≡ before) × (number ≡ count)
+
+-- how many pages the history knows
+abbrev pub Counts : ℕ → Held → Held → Type 0
+Counts number old new = (number ≡ length (entries_of old.node.history)) × (new ≡ old)
+
+-- The pool
+
+abbrev pub Pins : WarmPage → PinnedSlot → PinnedSlot → Held → Ending → Held → Type 0
+Pins page before after old (Ok given) new = Replies (Pin (page_of page)) old (Pinned (pinned_slot after)) new
+Pins page before after old (Err why) new = RefusedByNode (Pin (page_of page)) old why new × (after ≡ before)
+
+abbrev pub Unpins : WarmSlot → Held → Ending → Held → Type 0
+Unpins slot old (Ok given) new = Replies (Unpin (slot_of slot)) old Done new
+Unpins slot old (Err why) new = RefusedByNode (Unpin (slot_of slot)) old why new
+
+-- as many bytes as the buffer has room for; never refused for memory
+abbrev pub Reads : WarmSlot → ℕ → List ℕ → List ℕ → Held → Ending → Held → Type 0
+Reads slot at before after old (Ok given) new = Replies (Read (slot_of slot) at (length before)) old (Bytes after) new
+Reads slot at before after old (Err (Node Memory)) new = ⊥
+Reads slot at before after old (Err why) new = RefusedByNode (Read (slot_of slot) at (length before)) old why new × (after ≡ before)
+
+abbrev pub Writes : WarmSlot → ℕ → List ℕ → Held → Ending → Held → Type 0
+Writes slot at bytes old (Ok given) new = Replies (Write (slot_of slot) at bytes) old Done new
+Writes slot at bytes old (Err why) new = RefusedByNode (Write (slot_of slot) at bytes) old why new
+
+abbrev pub Names : Bool → WarmPage → Held → Held → Type 0
+Names found page old new = Replies Victim old (Page (page_if found page)) new
+
+abbrev pub Steps : Bool → WarmPage → Bool → WarmPage → Held → Ending → Held → Type 0
+Steps found page found' page' old (Ok given) new = Replies WarmStep old (Loaded (page_if found' page')) new
+Steps found page found' page' old (Err why) new = RefusedByNode WarmStep old why new × (found' ≡ found) × (page' ≡ page)
+
+abbrev pub WritesBack : Held → Ending → Held → Type 0
+WritesBack old (Ok given) new = SameView old.node new.node × IsSettled new.node.pool × SameAnswers old new
+WritesBack old (Err (Node why)) new = WriteBackFails old.node why new.node × SameAnswers old new
+WritesBack old (Err why) new = ⊥
+
+-- Frames
+
+-- the frame of a message stands at the start of the buffer, and its length is given; the length is given too where it does not fit
+abbrev pub PutsFrame : Message → List ℕ → ℕ → List ℕ → ℕ → Ending → Type 0
+PutsFrame message before len after len' (Ok given) = (after ≡ with_start (spelling message) before) × (len' ≡ length (spelling message))
+PutsFrame message before len after len' (Err BufferTooSmall) = (length before < length (spelling message)) × (after ≡ before) × (len' ≡ length (spelling message))
+PutsFrame message before len after len' (Err (Node Memory)) = (after ≡ before) × (len' ≡ len)
+PutsFrame message before len after len' (Err why) = ⊥
+
+-- the node has given a message, whose frame is put into the buffer; or it refuses, and the buffer is as it was
+abbrev pub Sends : Call → List ℕ → ℕ → List ℕ → ℕ → Held → Ending → Held → Type 0
+Sends call before len after len' old ending new =
+    ((message : Message) × Replies call old (Sent message) new × PutsFrame message before len after len' ending)
+    ⊎ ((why : NodeFault) × (ending ≡ Err (Node why)) × Replies call old (Refused why) new × (after ≡ before) × (len' ≡ len))
+
+-- the number is no bucket's, and nothing has changed; or the same of that bucket
+abbrev pub SendsBucket : ℕ → Option PageId → List ℕ → ℕ → List ℕ → ℕ → Held → Ending → Held → Type 0
+SendsBucket bucket page before len after len' old ending new =
+    ((IsBucket bucket → ⊥) × (ending ≡ Err BadBucket) × (after ≡ before) × (len' ≡ len) × (new ≡ old))
+    ⊎ Sends (Send bucket page) before len after len' old ending new
+
+-- The bytes spell a frame, which the node has received: its answers wait, and none is given yet. Or it refuses the frame; or they spell none.
+abbrev pub Receives : List ℕ → Held → Ending → Held → Type 0
+Receives bytes old (Ok given) new = (message : Message) × Spells bytes message × Goes old.node (Receive message) (Answers new.answers) new.node × (new.given ≡ 0)
+Receives bytes old (Err (Node why)) new = (message : Message) × Spells bytes message × Replies (Receive message) old (Refused why) new
+Receives bytes old (Err (Frame fault)) new = Gives (Err fault) (read_frame bytes) (reserved_by bytes) × (new ≡ old)
+Receives bytes old (Err why) new = ⊥
+
+-- the answer that comes next, if one waits
+abbrev pub next_answer : Held → Option Message
+next_answer h = slice_get h.answers h.given
+
+-- one more answer was given, where this ended well
+abbrev pub after_answer : Held → Ending → Held
+after_answer h (Ok given) = record h { given = h.given + 1 }
+after_answer h (Err why) = h
+
+-- the frame of the next answer is put into the buffer, and it waits no more where it fitted; a length of 0 where none waits
+abbrev pub PutsNext : Option Message → List ℕ → ℕ → List ℕ → ℕ → Held → Ending → Held → Type 0
+PutsNext None before len after len' old ending new = (ending ≡ Ok tt) × (after ≡ before) × (len' ≡ 0) × (new ≡ old)
+PutsNext (Some message) before len after len' old ending new = PutsFrame message before len after len' ending × (new ≡ after_answer old ending)
+
+abbrev pub GivesNext : List ℕ → ℕ → List ℕ → ℕ → Held → Ending → Held → Type 0
+GivesNext before len after len' old ending new = PutsNext (next_answer old) before len after len' old ending new

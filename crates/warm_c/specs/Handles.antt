@@ -1,0 +1,75 @@
+-- What a call of a handle does: a closed one says so, and an open one makes the call.
+use Rattle.std.specs.Prelude.{ℕ, ℤ, pos, ◌*◌, ◌^◌, ◌<◌, ◌≤◌, ◌≡◌, List, [], map, length, Option, Some, None, Ok, Err, Contains}
+use Rattle.warm_stamps.specs.Replicas.{IsReplica}
+use Rattle.warm_devices.specs.Device.{DeviceState}
+use Rattle.warm_pool.specs.declared.TheConstants.{MAX_DEVICES}
+use Rattle.warm_pool.specs.declared.fault.PoolFault.TheVariants.{NoDevice}
+use Rattle.warm_pool.specs.State as pools
+use Rattle.warm_pool.specs.Opening.{NewRefused}
+use Rattle.warm_gossip.specs.declared.fault.NodeFault.TheVariants.{Memory, Pool}
+use Rattle.warm_gossip.specs.State as nodes
+use Rattle.warm_c.specs.declared.held.Held.{Held}
+use Rattle.warm_c.specs.declared.status.Refusal.{Refusal}
+use Rattle.warm_c.specs.declared.status.Refusal.TheVariants.{Node, NewPool, Closed, AlreadyOpen, BadReplica}
+use Rattle.warm_c.specs.declared.values.WarmDevice.{WarmDevice}
+use Rattle.warm_c.specs.FdParts.{fd_opened}
+use Rattle.warm_c.specs.Statuses.{code_of, status_of}
+use Rattle.warm_c.specs.Calls.{Ending}
+
+-- A closed handle says that it is closed, and stays so. An open one stays open; what it holds goes so, and the status is that of the ending.
+abbrev pub Called : (Held → Ending → Held → Type 0) → Option Held → ℤ → Option Held → Type 0
+Called goes None status new = (status ≡ pos (code_of Closed)) × (new ≡ None)
+Called goes (Some old) status (Some new) = (ending : Ending) × goes old ending new × (status ≡ status_of ending)
+Called goes (Some old) status None = ⊥
+
+-- a call that an open handle does not refuse
+abbrev pub Surely : (Held → Held → Type 0) → Held → Ending → Held → Type 0
+Surely goes old (Ok given) new = goes old new
+Surely goes old (Err why) new = ⊥
+
+-- Opening
+
+-- what is asked of `warm_open`
+pub record Asked : Type 0 where
+  pub replica : ℕ
+  pub frames : ℕ
+  pub page_size : ℕ
+  pub devices : List WarmDevice
+
+abbrev pub asked : ℕ → ℕ → ℕ → List WarmDevice → Asked
+asked replica frames page_size devices = record { replica = replica; frames = frames; page_size = page_size; devices = devices }
+
+-- the devices that it makes
+abbrev pub devices_of : ℕ → List WarmDevice → List DeviceState
+devices_of page_size devices = map (λ d. fd_opened d.pages page_size) devices
+
+-- there are no more devices than a pool takes, and their pages fit into what a file's offsets can name
+pub record AreDevices (page_size : ℕ) (devices : List WarmDevice) : Type 0 where
+  pub few : length devices ≤ MAX_DEVICES
+  pub fit : (d : WarmDevice) → Contains devices d → d.pages * page_size < 2 ^ 63
+
+-- a node that was given nothing, over a pool without a page, and no answer waits
+abbrev pub opened : Asked → Held
+opened a = record {
+  node = nodes.opened a.replica (pools.opened a.frames a.page_size (devices_of a.page_size a.devices));
+  answers = [];
+  given = 0;
+}
+
+-- why no devices are made
+abbrev pub IsUnmade : ℕ → List WarmDevice → Refusal → Type 0
+IsUnmade page_size devices (Node Memory) = Unit {0}
+IsUnmade page_size devices (Node (Pool NoDevice)) = AreDevices page_size devices → ⊥
+IsUnmade page_size devices why = ⊥
+
+-- why no node is made
+abbrev pub IsUnopened : Asked → Refusal → Type 0
+IsUnopened a BadReplica = IsReplica a.replica → ⊥
+IsUnopened a (NewPool fault) = NewRefused a.frames a.page_size (devices_of a.page_size a.devices) fault
+IsUnopened a why = IsUnmade a.page_size a.devices why
+
+-- An open handle says that it is open, and is as it was. A closed one is then open and holds such a node, or stays closed.
+abbrev pub Opens : Asked → Option Held → ℤ → Option Held → Type 0
+Opens a (Some old) status new = (status ≡ pos (code_of AlreadyOpen)) × (new ≡ Some old)
+Opens a None status (Some held) = (status ≡ pos 0) × (held ≡ opened a)
+Opens a None status None = (why : Refusal) × (status ≡ pos (code_of why)) × IsUnopened a why

@@ -1,0 +1,39 @@
+-- The numbers and names of the refusals, and the status of a result.
+use Rattle.std.specs.Prelude.{ℕ, ℤ, pos, ◌+◌, List, Result, Ok, Err, codes}
+use Rattle.warm_frames.specs.declared.fault.FrameFault.{FrameFault}
+use Rattle.warm_frames.specs.declared.fault.FrameFault.TheVariants as frame
+use Rattle.warm_frames.specs.Faults as frame_faults
+use Rattle.warm_pool.specs.Faults as pool_faults
+use Rattle.warm_gossip.specs.Faults as node_faults
+use Rattle.warm_c.specs.declared.status.Refusal.{Refusal}
+use Rattle.warm_c.specs.declared.status.Refusal.TheVariants.{Node, NewPool, Frame, Closed, AlreadyOpen, BufferTooSmall, BadReplica, BadBucket}
+
+-- an allocation failure is 1, wherever it comes; of another fault of a frame it is the fault's own number and 32
+abbrev pub frame_code_of : FrameFault → ℕ
+frame_code_of frame.Memory = 1
+frame_code_of fault = 32 + frame_faults.fault_code fault
+
+abbrev pub code_of : Refusal → ℕ
+code_of (Node fault) = node_faults.code_of fault
+code_of (NewPool fault) = pool_faults.new_code_of fault
+code_of (Frame fault) = frame_code_of fault
+code_of Closed = 64
+code_of AlreadyOpen = 65
+code_of BufferTooSmall = 66
+code_of BadReplica = 67
+code_of BadBucket = 68
+
+abbrev pub name_of : Refusal → List ℕ
+name_of (Node fault) = node_faults.name_of fault
+name_of (NewPool fault) = pool_faults.new_name_of fault
+name_of (Frame fault) = frame_faults.fault_name fault
+name_of Closed = codes "Closed"
+name_of AlreadyOpen = codes "AlreadyOpen"
+name_of BufferTooSmall = codes "BufferTooSmall"
+name_of BadReplica = codes "BadReplica"
+name_of BadBucket = codes "BadBucket"
+
+-- 0, or the number of the refusal
+abbrev pub status_of : {T : Type 0} → Result T Refusal → ℤ
+status_of (Ok given) = pos 0
+status_of (Err why) = pos (code_of why)

@@ -1,0 +1,47 @@
+-- What crosses to C, in the node's terms.
+use Rattle.std.specs.Prelude.{Bool, true, false, List, [], ◌∷◌, ◌++◌, length, drop, Option, Some, None}
+use Rattle.warm_stamps.specs.declared.PageId.{PageId}
+use Rattle.warm_stamps.specs.declared.Reference.{Reference}
+use Rattle.warm_pool.specs.declared.slot.Slot.{Slot}
+use Rattle.warm_c.specs.declared.values.PinnedSlot.{PinnedSlot}
+use Rattle.warm_c.specs.declared.values.WarmPage.{WarmPage}
+use Rattle.warm_c.specs.declared.values.WarmReference.{WarmReference}
+use Rattle.warm_c.specs.declared.values.WarmSlot.{WarmSlot}
+
+-- a page as the node knows it, and as C does
+abbrev pub page_of : WarmPage → PageId
+page_of p = record { dev = p.dev; no = p.no }
+
+abbrev pub c_page : PageId → WarmPage
+c_page p = record { no = p.no; dev = p.dev }
+
+-- the page, where there is one
+abbrev pub page_if : Bool → WarmPage → Option PageId
+page_if true p = Some (page_of p)
+page_if false p = None
+
+-- a reference as the node knows it
+abbrev pub reference_of : WarmReference → Reference
+reference_of r = record { page = record { dev = r.dev; no = r.no }; stamp = record { time = r.time; replica = r.replica } }
+
+-- a slot that C passes, as the node knows it
+abbrev pub slot_of : WarmSlot → Slot
+slot_of s = record { index = s.index; generation = s.generation }
+
+-- a slot as a pin gives it to C
+abbrev pub c_slot : Slot → PinnedSlot
+c_slot s = record { generation = s.generation; index = s.index }
+
+-- the slot that a pin gave
+abbrev pub pinned_slot : PinnedSlot → Slot
+pinned_slot s = record { index = s.index; generation = s.generation }
+
+-- the buffer with these items at its start
+abbrev pub with_start : {A : Type 0} → List A → List A → List A
+with_start items buffer = items ++ drop (length items) buffer
+
+-- the buffer with as many of these items at its start as there is room for
+abbrev pub with_some : {A : Type 0} → List A → List A → List A
+with_some [] buffer = buffer
+with_some (x ∷ xs) [] = []
+with_some (x ∷ xs) (b ∷ bs) = x ∷ with_some xs bs

@@ -1,0 +1,55 @@
+//! A file descriptor of the engine. Its reads, writes and flushes are asked for by what `io` calls of C, `read` and `write`.
+//!
+//! In the library for C these two symbols are functions of c/warm_files.c, which make the calls of the system at once, in the same
+//! thread. A request is nine bytes that are written to the descriptor: one for its kind (1 reads, 2 writes, 3 flushes), eight for the
+//! place in its file, highest byte first. The read that follows fills its buffer from that place on, with zeros past the end of the
+//! file; the write that follows puts its bytes there; a flush is done as it is asked for.
+
+const READ: u8 = 1;
+
+const WRITE: u8 = 2;
+
+const FLUSH: u8 = 3;
+
+/// A descriptor of the engine.
+#[derive(Clone, Copy)]
+pub struct Descriptor {
+    fd: i32,
+}
+
+// Makes a request. False where that fails.
+fn ask(fd: i32, kind: u8, at: u64) -> bool {
+    let [a0, a1, a2, a3, a4, a5, a6, a7] = at.to_be_bytes();
+    let request = [kind, a0, a1, a2, a3, a4, a5, a6, a7];
+    io::write_all(fd, &request)
+}
+
+impl Descriptor {
+    /// This descriptor. Nothing is asked of it yet.
+    pub fn new(fd: i32) -> Descriptor {
+        Descriptor { fd }
+    }
+
+    /// Fills `into` with the bytes of the file from a place on, with zeros past its end. False where that fails: `into` may then hold
+    /// any bytes.
+    pub fn read(self, at: u64, into: &mut [u8]) -> bool {
+        // `io` makes no call for no bytes, and the request would wait for one.
+        if into.is_empty() {
+            return true;
+        }
+        ask(self.fd, READ, at) && io::read_full(self.fd, into) == into.len()
+    }
+
+    /// Writes bytes to the file from a place on. False where that fails: the file may then hold any bytes there.
+    pub fn write(self, at: u64, bytes: &[u8]) -> bool {
+        if bytes.is_empty() {
+            return true;
+        }
+        ask(self.fd, WRITE, at) && io::write_all(self.fd, bytes)
+    }
+
+    /// Has what was written put down. False where that fails.
+    pub fn flush(self) -> bool {
+        ask(self.fd, FLUSH, 0)
+    }
+}

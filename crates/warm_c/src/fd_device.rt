@@ -1,0 +1,110 @@
+//! A device over a file descriptor of the engine. What its file holds is nothing that a contract can say.
+ghost use Rattle.std.specs.Prelude.{◌≡◌, ◌*◌, ◌^◌, ◌<◌, ◌≤◌, IfNone, IfSome};
+
+use crate::descriptor::Descriptor;
+use warm_devices::{DeviceFault, PageDevice};
+
+/// Pages in a file that the engine opened, one after another from its start. A flush syncs the file.
+///
+/// Pages past the end of the file read as zeros, and a write of one extends the file. The descriptor is the engine's: it is not closed
+/// here. The device is safe whatever the descriptor is and the file gives, and it counts its failures. Of the bytes it claims nothing.
+pub struct FdDevice {
+    descriptor: Descriptor,
+    pages: u64,
+    page_size: usize,
+    waiting: bool,
+    failures: u64,
+    ghost fits: { pages * page_size < 2 ^ 63 },
+}
+
+impl FdDevice {
+    ghost use Rattle.warm_c.specs.FdParts.{fd_opened, fd_state};
+
+    /// A device of `pages` pages of `page_size` bytes over this descriptor, of which nothing is asked yet. `None` comes exactly where
+    /// the pages do not fit into 2^63 - 1 bytes, which is what a file's offsets can name.
+    pub fn new(descriptor: Descriptor, pages: u64, page_size: usize) -> Option<FdDevice>
+        ensures opened { IfSome result (λ device. fd_state device ≡ fd_opened pages page_size) }
+        ensures fits { IfSome result (λ _. pages * page_size < 2 ^ 63) }
+        ensures refused { IfNone result (2 ^ 63 ≤ pages * page_size) }
+    {
+        match pages.checked_mul(page_size as u64) {
+            Some(len) if len < 1 << 63 => Some(FdDevice {
+                descriptor,
+                pages,
+                page_size,
+                waiting: false,
+                failures: 0,
+            }),
+            _ => None,
+        }
+    }
+}
+
+impl PageDevice for FdDevice {
+    ghost use Rattle.warm_c.specs.FdParts.{fd_state};
+
+    ghost state = { fd_state };
+
+    fn pages(&self) -> u64 {
+        self.pages
+    }
+
+    fn page_size(&self) -> usize {
+        self.page_size
+    }
+
+    fn waiting(&self) -> bool {
+        self.waiting
+    }
+
+    fn failures(&self) -> u64 {
+        self.failures
+    }
+
+    fn read(&mut self, no: u64, into: &mut [u8]) -> Result<(), DeviceFault> {
+        let at = no * self.page_size as u64;
+        if !self.descriptor.read(at, into) {
+            self.failures = self.failures.saturating_add(1);
+            return Err(DeviceFault::Read);
+        }
+        Ok(())
+    }
+
+    fn write(&mut self, no: u64, bytes: &[u8]) -> Result<(), DeviceFault> {
+        self.waiting = true;
+        let at = no * self.page_size as u64;
+        if !self.descriptor.write(at, bytes) {
+            self.failures = self.failures.saturating_add(1);
+            return Err(DeviceFault::Write);
+        }
+        Ok(())
+    }
+
+    fn flush(&mut self) -> Result<(), DeviceFault> {
+        if !self.descriptor.flush() {
+            self.failures = self.failures.saturating_add(1);
+            return Err(DeviceFault::Flush);
+        }
+        self.waiting = false;
+        Ok(())
+    }
+
+    fn settle(&mut self) {
+        if self.waiting {
+            let _ = self.flush();
+        }
+    }
+}
+
+impl Drop for FdDevice {
+    fn drop(mut self) {
+        self.settle();
+        let FdDevice {
+            descriptor: _,
+            pages: _,
+            page_size: _,
+            waiting: _,
+            failures: _,
+        } = self;
+    }
+}

@@ -1,0 +1,15 @@
+//! What an open handle holds.
+use crate::fd_device::FdDevice;
+use warm_frames::MessageList;
+use warm_gossip::Node;
+
+/// A node over the engine's descriptors, and the answers to the frame that it received last.
+#[derive(Drop)]
+pub struct Held {
+    /// The node.
+    pub node: Node<FdDevice>,
+    /// The answers to the frame that was received last, in their order.
+    pub answers: MessageList,
+    /// How many of them were given.
+    pub given: usize,
+}

@@ -1,0 +1,101 @@
+//! The calls on the history of an open handle.
+ghost use Rattle.std.specs.Prelude.{◌≡◌, ◌≤◌, length, map, IfErr, IfOk};
+ghost use Rattle.warm_c.specs.Calls.{Absorbs, BatchRefused, Counts, Lists, Raises};
+ghost use Rattle.warm_c.specs.Values.{c_page, reference_of, with_start};
+
+use crate::held::Held;
+use crate::status::Refusal;
+use crate::values::{WarmPage, WarmReference};
+use std::alloc::{AllocError, Global};
+use warm_stamps::{PageId, Reference, ReplicaId, Stamp};
+
+// The references, as the node knows them.
+fn references_of(alloc: Global, batch: &[WarmReference]) -> Result<Vec<Reference>, Refusal>
+    ensures made { IfOk result (λ references. references.items ≡ map reference_of batch.now) }
+    ensures refused { IfErr result (BatchRefused batch.now) }
+{
+    let mut references = Vec::with_capacity(alloc, batch.len())?;
+    for reference in batch {
+        let Ok(replica) = ReplicaId::new(reference.replica) else {
+            return Err(Refusal::BadReplica);
+        };
+        references.push_reserved(Reference {
+            page: PageId {
+                dev: reference.dev,
+                no: reference.no,
+            },
+            stamp: Stamp {
+                time: reference.time,
+                replica,
+            },
+        });
+    }
+    Ok(references)
+}
+
+// The pages, as C knows them.
+fn c_pages(alloc: Global, pages: &[PageId]) -> Result<Vec<WarmPage>, AllocError>
+    ensures { IfOk result (λ made. made.items ≡ map c_page pages.now) }
+{
+    let mut listed = Vec::with_capacity(alloc, pages.len())?;
+    for page in pages {
+        listed.push_reserved(WarmPage::of(*page));
+    }
+    Ok(listed)
+}
+
+// Puts pages at the start of a buffer.
+fn put_pages(pages: &[WarmPage], into: &mut [WarmPage])
+    requires { length pages.now ≤ length into.old }
+    ensures { into.new ≡ with_start pages.now into.old }
+{
+    into[..pages.len()].copy_from_slice(pages);
+}
+
+impl Held {
+    /// The node's [`warm_gossip::Node::absorb`].
+    ///
+    /// # Errors
+    /// `BadReplica` where the number of one is no replica's; else the node's own. Nothing has changed.
+    pub fn absorb(&mut self, alloc: Global, batch: &[WarmReference]) -> Result<(), Refusal>
+        ensures { Absorbs batch.now self.old result self.new }
+    {
+        let references = references_of(alloc, batch)?;
+        self.node.absorb(&references)?;
+        Ok(())
+    }
+
+    /// The node's [`warm_gossip::Node::raise`]: the horizon from then on is written.
+    pub fn raise(&mut self, time: u64, horizon: &mut u64)
+        ensures { Raises time horizon.new self.old self.new }
+    {
+        *horizon = self.node.raise(time);
+    }
+
+    /// The node's [`warm_gossip::Node::warm_list`] of as many pages as there is room for: they are put at the start of `pages`, and
+    /// their number is written.
+    ///
+    /// # Errors
+    /// `Memory`. `pages` and `count` are then as they were.
+    pub fn list(
+        &mut self,
+        alloc: Global,
+        pages: &mut [WarmPage],
+        count: &mut usize,
+    ) -> Result<(), Refusal>
+        ensures { Lists pages.old count.old pages.new count.new self.old result self.new }
+    {
+        let hottest = self.node.warm_list(pages.len())?;
+        let listed = c_pages(alloc, hottest.as_slice())?;
+        put_pages(&listed, pages);
+        *count = listed.len();
+        Ok(())
+    }
+
+    /// How many pages the history knows.
+    pub fn count(&mut self, number: &mut usize)
+        ensures { Counts number.new self.old self.new }
+    {
+        *number = self.node.history().len();
+    }
+}

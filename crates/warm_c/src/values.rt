@@ -1,0 +1,115 @@
+//! What crosses to C, beside numbers, bytes and a handle.
+ghost use Rattle.std.specs.Prelude.{◌≡◌};
+ghost use Rattle.warm_c.specs.Values.{c_page, c_slot, page_if, page_of, slot_of};
+
+use warm_pool::Slot;
+use warm_stamps::PageId;
+
+/// A page: a device, numbered from 0 in the order of the descriptors, and a page of it, counted from 0.
+#[repr(C)]
+#[derive(Clone, Copy)]
+pub struct WarmPage {
+    /// The page's number on its device.
+    pub no: u64,
+    /// The device's number.
+    pub dev: u16,
+}
+
+/// A reference to a page at a time by a replica, by the caller's clock.
+#[repr(C)]
+#[derive(Clone, Copy)]
+pub struct WarmReference {
+    /// When, in units of the caller's clock.
+    pub time: u64,
+    /// The page's number on its device.
+    pub no: u64,
+    /// The device's number.
+    pub dev: u16,
+    /// The number of the replica that saw it, 1 to 64. Another is refused.
+    pub replica: u16,
+}
+
+/// Where a pinned page is: a frame of the pool, and how many pages were put into it so far.
+#[repr(C)]
+#[derive(Clone, Copy)]
+pub struct WarmSlot {
+    /// The frame's generation.
+    pub generation: u64,
+    /// The frame's number, from 0.
+    pub index: u32,
+}
+
+/// A slot as `warm_pin` writes it: to C it is a `WarmSlot`, whose index is the lower half of the index here.
+///
+/// C passes a slot on by reads of eight bytes. A processor serves such a read at once from one write of eight, and not from two of four.
+#[repr(C)]
+#[derive(Clone, Copy)]
+pub struct PinnedSlot {
+    /// The frame's generation.
+    pub generation: u64,
+    /// The frame's number, from 0, in four bytes; and four zeros.
+    pub index: u64,
+}
+
+/// A device: a file descriptor that is open for reading and writing, and how many pages its file may have.
+#[repr(C)]
+#[derive(Clone, Copy)]
+pub struct WarmDevice {
+    /// How many pages.
+    pub pages: u64,
+    /// The descriptor.
+    pub fd: i32,
+}
+
+impl WarmPage {
+    /// The page, for C.
+    pub fn of(page: PageId) -> WarmPage
+        ensures { result ≡ c_page page }
+    {
+        WarmPage {
+            no: page.no,
+            dev: page.dev,
+        }
+    }
+
+    /// The page, for the node.
+    pub fn page(self) -> PageId
+        ensures { result ≡ page_of self }
+    {
+        PageId {
+            dev: self.dev,
+            no: self.no,
+        }
+    }
+}
+
+impl PinnedSlot {
+    /// The slot, for C.
+    pub fn of(slot: Slot) -> PinnedSlot
+        ensures { result ≡ c_slot slot }
+    {
+        PinnedSlot {
+            generation: slot.generation,
+            index: u64::from(slot.index),
+        }
+    }
+}
+
+impl WarmSlot {
+    /// The slot, for the node.
+    pub fn slot(self) -> Slot
+        ensures { result ≡ slot_of self }
+    {
+        Slot {
+            index: self.index,
+            generation: self.generation,
+        }
+    }
+}
+
+/// The page, where there is one: `page` means nothing where there is none.
+pub fn page_if(is_there: bool, page: WarmPage) -> Option<PageId>
+    ensures { result ≡ page_if is_there page }
+{
+    if is_there { Some(page.page()) } else { None }
+}
