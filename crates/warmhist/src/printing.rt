@@ -42,7 +42,7 @@ pub fn put_history<W: Write>(writer: &mut W, history: &History) -> io::Result<()
     writeln!(writer, "end {}", history.len())
 }
 
-/// Writes a line for each of so many pages, the hottest first, and how many there are.
+/// Writes a line for each of the first pages of the warm-up list, hottest first, and their number.
 pub fn put_hottest<'a, W: Write>(
     alloc: Global,
     writer: &mut W,
