@@ -16,8 +16,9 @@ make_work() {
 # Ends what this script started. A test that runs beside the others is a process group.
 clean_up() {
     for process in $standby $broker $primary "${tests[@]/#/-}"; do
-        kill -9 -- "$process" 2> /dev/null || true
-    done
+        kill -9 -- "$process" || true
+    done 2> /dev/null
+    [ ${#tests[@]} -eq 0 ] || disown "${tests[@]}"
     rm -rf "$work"
 }
 

@@ -224,6 +224,55 @@ static void random_bytes(uint64_t seed, size_t frames) {
     close(fd);
 }
 
+static void absorb_batch(warm *handle, batch *waiting) {
+    warm_reference references[BATCH_ROOM];
+    MUST(warm_absorb(handle, references, batch_take(waiting, 1, references)) == WARM_OK);
+}
+
+/* A history is the same whether it gets each reference, or of each batch two a page: equal digests. */
+static void batches(uint64_t seed) {
+    warm each = {0}, batched = {0};
+    warm_device none = {0};
+    batch waiting = {0};
+    static uint8_t one[4096], other[4096];
+    size_t length;
+    random_state = seed;
+    MUST(warm_open(&each, 1, 1, 512, &none, 0) == WARM_OK && warm_open(&batched, 1, 1, 512, &none, 0) == WARM_OK);
+    for (uint64_t time = 1; time < 3000; time++) {
+        warm_reference reference = {.time = time, .no = draw(3) == 0 ? draw(1000) : draw(20), .replica = 1};
+        MUST(warm_absorb(&each, &reference, 1) == WARM_OK);
+        if (draw(100) == 0) absorb_batch(&batched, &waiting);
+        if (batch_add(&waiting, reference.no, time)) continue;
+        absorb_batch(&batched, &waiting); /* it is full */
+        MUST(batch_add(&waiting, reference.no, time));
+    }
+    absorb_batch(&batched, &waiting);
+    MUST(warm_offer(&each, one, sizeof one, &length) == WARM_OK && warm_offer(&batched, other, sizeof other, &length) == WARM_OK);
+    MUST(memcmp(one, other, length) == 0);
+    warm_close(&each);
+    warm_close(&batched);
+}
+
+/* The change counter reads as it was last written, by this process or by another one. */
+static void change_counter(void) {
+    static pool_file file;
+    uint8_t page[4096] = {[16] = 16}, read[POOL_COUNTER];
+    int fd = open(path_of("counter"), O_RDWR | O_CREAT | O_TRUNC, 0666);
+    MUST(fd >= 0 && pool_file_open(&file, fd, 1, 2) == WARM_OK);
+    MUST(pool_file_read(&file, read, POOL_COUNTER, 24) == POOL_SHORT); /* there is none in an empty file */
+    for (uint8_t at = 1; at < 5; at++) {
+        memset(page + 24, at, POOL_COUNTER);
+        MUST(pool_file_enter(&file) == WARM_OK);
+        if (at % 2 == 0) MUST(pwrite(fd, page, sizeof page, 0) == sizeof page && pool_file_enter(&file) == WARM_OK);
+        else MUST(pool_file_write(&file, page, sizeof page, 0) == WARM_OK);
+        MUST(pool_file_read(&file, read, POOL_COUNTER, 24) == WARM_OK && memcmp(read, page + 24, POOL_COUNTER) == 0);
+        MUST(pool_file_leave(&file) == WARM_OK);
+        MUST(pool_file_read(&file, read, POOL_COUNTER, 24) == WARM_OK && memcmp(read, page + 24, POOL_COUNTER) == 0);
+    }
+    pool_file_close(&file);
+    close(fd);
+}
+
 /* A bucket of more pages than a frame carries is handed over in pieces: as the pool is opened again, and as gossip publishes it. */
 static void many_pages(void) {
     enum { PAGES = 2 * FRAME_ENTRIES + 500 };
@@ -391,7 +440,8 @@ static void killed_without_sync(void) {
         if (fork() == 0) {
             sqlite3 *db = open_by(POOL_VFS, "unsynced", 0);
             if (at > 2) MUST(answers(db, "PRAGMA locking_mode=EXCLUSIVE", "exclusive|\n")); /* no lock is lowered then */
-            MUST(done(db, "PRAGMA synchronous=OFF; CREATE TABLE IF NOT EXISTS t(a INTEGER PRIMARY KEY, b); INSERT INTO t(b) VALUES (hex(zeroblob(9000)))"));
+            MUST(done(db, "PRAGMA synchronous=OFF; CREATE TABLE IF NOT EXISTS t(a INTEGER PRIMARY KEY, b);"
+                          " INSERT INTO t(b) VALUES (hex(zeroblob(9000)))"));
             kill(getpid(), SIGKILL);
         }
         wait(&status);
@@ -530,6 +580,8 @@ int main(int count, char **words) {
     refused_memory(runs > 12 ? 1000 : 50);
     modes();
     many_pages();
+    change_counter();
+    for (int at = 0; at < runs; at++) batches(seed + (uint64_t)at);
     for (int at = 0; at < runs; at++) random_bytes(seed + (uint64_t)at, frames[at % 6]);
     for (int at = 0; at < runs; at++) random_run(seed + (uint64_t)at, frames[at % 6], 400);
     printf("vfs_test: %d checks\n", checks);
