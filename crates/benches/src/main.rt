@@ -1,10 +1,11 @@
-//! What `docs/PERFORMANCE.md` measures, by the scripts in `bench/`: turn, history, pool, frames, gossip and replica.
+//! What `docs/PERFORMANCE.md` measures, by the scripts in `bench/`: turn, history, pool, frames, files, gossip and replica.
 //!
 //! `benches NAME WORDS..` measures what the words ask the bench of that name for, and prints nanoseconds; its module says what the
 //! words are. `benches NAME` does a little of all that the bench measures, and prints what came out. `benches` does so for each
 //! bench, one after the other, under its name.
 #![tactic(auto)]
 
+mod files;
 mod frames;
 mod gossip;
 mod history;
@@ -28,16 +29,18 @@ enum Bench {
     History,
     Pool,
     Frames,
+    Files,
     Gossip,
     Replica,
 }
 
 // In the order in which they are played one after the other.
-const BENCHES: [Bench; 6] = [
+const BENCHES: [Bench; 7] = [
     Bench::Turn,
     Bench::History,
     Bench::Pool,
     Bench::Frames,
+    Bench::Files,
     Bench::Gossip,
     Bench::Replica,
 ];
@@ -49,9 +52,10 @@ impl Bench {
             "history" => Ok(Bench::History),
             "pool" => Ok(Bench::Pool),
             "frames" => Ok(Bench::Frames),
+            "files" => Ok(Bench::Files),
             "gossip" => Ok(Bench::Gossip),
             "replica" => Ok(Bench::Replica),
-            _ => bail!("what is measured: turn, history, pool, frames, gossip or replica"),
+            _ => bail!("what is measured: turn, history, pool, frames, files, gossip or replica"),
         }
     }
 
@@ -61,6 +65,7 @@ impl Bench {
             Bench::History => "history",
             Bench::Pool => "pool",
             Bench::Frames => "frames",
+            Bench::Files => "files",
             Bench::Gossip => "gossip",
             Bench::Replica => "replica",
         }
@@ -79,6 +84,7 @@ fn play<T: Threads + Wait + Clock + Print + AllocGlobal + Sync>(
         Bench::History => history::play(rt, words),
         Bench::Pool => pool::play(rt, words),
         Bench::Frames => frames::play(rt, words),
+        Bench::Files => files::play(rt, words),
         Bench::Gossip => gossip::play(rt, words),
         Bench::Replica => replica::play(threads, words),
     }

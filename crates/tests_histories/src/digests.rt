@@ -39,7 +39,7 @@ const OF_0_65: [u8; 32] = [
 ];
 
 // References of which bucket 1 has three pages, bucket 7 one, and no other any.
-const FOUR_PAGES: [SeenAt; 7] = [
+pub const FOUR_PAGES: [SeenAt; 7] = [
     (1, 0, 7, 1),
     (0, 65, 20, 1),
     (0, 7, 10, 1),

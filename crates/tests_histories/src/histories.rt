@@ -15,7 +15,7 @@ fn history_since(rt: &impl Abort, alloc: Global, horizon: u64, given: &[SeenAt])
 
 // Whether two histories have one horizon and the same entries: bucket by bucket, since what goes over one bucket is
 // cheaper to prove than what goes over all in page order.
-fn are_equal(a: &History, b: &History) -> bool {
+pub fn are_equal(a: &History, b: &History) -> bool {
     if a.horizon() != b.horizon() {
         return false;
     }

@@ -32,7 +32,7 @@ fn next_piece(alloc: Global, left: &mut BucketEntries<'_>) -> Result<Vec<Entry>,
     ensures piece { IfOk result (λ es. es.items ≡ take MAX_ENTRIES left.old) }
     ensures left { OnOk result (left.new ≡ drop MAX_ENTRIES left.old) }
 {
-    let mut piece = Vec::new(alloc);
+    let mut piece = Vec::with_capacity(alloc, MAX_ENTRIES)?;
     while piece.len() < MAX_ENTRIES {
         match left.next() {
             Some(entry) => piece.push(entry)?,

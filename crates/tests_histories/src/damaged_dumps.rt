@@ -1,0 +1,177 @@
+//! Dumps that are cut, changed or put together otherwise: which fault is found, and where, or that the history is the same.
+use crate::dumps::{
+    FIRST, FRAME_1, REQUEST, SECOND, WHOLE, dump_of_four, dump_with, four_pages, put, read,
+};
+use crate::histories::are_equal;
+use std::alloc::Global;
+use std::process::Abort;
+use warm_files::{DumpError, DumpFault};
+use warm_frames::FrameFault;
+use warm_history::History;
+
+// Whether bytes are refused so, behind so many bytes of whole frames.
+fn is_refused(alloc: Global, text: &[u8], at: usize, fault: DumpFault) -> bool {
+    let at = at as u64;
+    read(alloc, text).err() == Some(DumpError { at, fault })
+}
+
+// Where the frame begins in which the dump of the four pages has this place.
+fn frame_at(place: usize) -> usize {
+    if place < FIRST {
+        return 0;
+    }
+    if place < SECOND { FIRST } else { SECOND }
+}
+
+#[test]
+fn nothing_is_cut_short(rt: HostRuntime) {
+    assert!(rt; is_refused(rt.alloc(), &[], 0, DumpFault::CutShort));
+}
+
+#[test]
+fn each_beginning_is_cut_short(rt: HostRuntime) {
+    let text = dump_of_four(&rt, rt.alloc());
+    for len in 0..WHOLE {
+        let (begin, _) = text.split_at(len.min(text.len()));
+        let is_cut = is_refused(rt.alloc(), begin, frame_at(len), DumpFault::CutShort);
+        assert!(rt; is_cut, "of {len} bytes");
+    }
+}
+
+// The header of the digests ends here.
+const HEADERS: usize = SECOND + 19;
+
+// Whether a value of the byte at a place, where it changes the byte, gives the history. None gives another.
+fn is_accepted(
+    rt: &impl Abort,
+    alloc: Global,
+    text: &mut Vec<u8>,
+    place: usize,
+    value: u8,
+    history: &History,
+) -> bool {
+    let Some(byte) = text.get_mut(place) else {
+        return false;
+    };
+    let own = *byte;
+    *byte = value;
+    let read = read(alloc, text);
+    if let Some(byte) = text.get_mut(place) {
+        *byte = own;
+    }
+    let Ok(read) = read else {
+        return false;
+    };
+    assert!(rt; are_equal(&read, history), "{place} {value}");
+    value != own
+}
+
+// Each byte of the headers and of the entries is changed to each other value. Of a frame the sender alone may be another, of 63.
+#[test]
+fn no_changed_byte_gives_another_history(rt: HostRuntime) {
+    let history = four_pages(&rt, rt.alloc());
+    let mut text = dump_of_four(&rt, rt.alloc());
+    let mut count = 0u64;
+    for place in 0..HEADERS {
+        for value in 0..=255u8 {
+            let more = is_accepted(&rt, rt.alloc(), &mut text, place, value, &history);
+            count = count.wrapping_add(u64::from(more));
+        }
+    }
+    assert!(rt; count == 189);
+}
+
+// Each byte of the digests is changed to four other values.
+#[test]
+fn no_changed_digest_is_accepted(rt: HostRuntime) {
+    let history = four_pages(&rt, rt.alloc());
+    let mut text = dump_of_four(&rt, rt.alloc());
+    for place in HEADERS..WHOLE {
+        let own = text.get(place).copied().unwrap_or(0);
+        for bits in [0x01, 0x80, 0x55, 0xFF] {
+            let changed = own ^ bits;
+            let accepted = is_accepted(&rt, rt.alloc(), &mut text, place, changed, &history);
+            assert!(rt; !accepted, "{place} {bits}");
+        }
+    }
+}
+
+// A place in the dump of the four pages, the byte that is put there, where the fault is found, and the fault.
+const FAULTS: [(usize, u8, usize, DumpFault); 14] = [
+    (3, 0x33, 0, DumpFault::Frame(FrameFault::BadMagic)),
+    (4, 4, 0, DumpFault::Frame(FrameFault::BadKind)),
+    (4, 3, 0, DumpFault::Frame(FrameFault::BadLength)),
+    (6, 0, 0, DumpFault::Frame(FrameFault::BadSender)),
+    (14, 1, FIRST, DumpFault::HorizonsDiffer),
+    (20, 4, 0, DumpFault::Frame(FrameFault::BadCount)),
+    (33, 3, 0, DumpFault::Frame(FrameFault::BadTag)),
+    (41, 6, SECOND, DumpFault::DigestsDiffer),
+    (43, 0, 0, DumpFault::Frame(FrameFault::BadStamp)),
+    (53, 0, 0, DumpFault::Frame(FrameFault::BadOrder)),
+    (110, 1, FIRST, DumpFault::HorizonsDiffer),
+    (153, 0, SECOND, DumpFault::Frame(FrameFault::BadMagic)),
+    (164, 1, SECOND, DumpFault::HorizonsDiffer),
+    (2216, 0, SECOND, DumpFault::DigestsDiffer),
+];
+
+#[test]
+fn a_changed_byte_has_its_fault(rt: HostRuntime) {
+    for (place, value, at, fault) in FAULTS {
+        let mut text = dump_of_four(&rt, rt.alloc());
+        if let Some(byte) = text.get_mut(place) {
+            *byte = value;
+        }
+        let is_found = is_refused(rt.alloc(), &text, at, fault);
+        assert!(rt; is_found, "{place} {value}");
+    }
+}
+
+#[test]
+fn a_bucket_left_out_is_seen(rt: HostRuntime) {
+    let text = dump_with(&rt, rt.alloc(), &[], &[]);
+    assert!(rt; is_refused(rt.alloc(), &text, FIRST, DumpFault::DigestsDiffer));
+}
+
+#[test]
+fn a_request_is_no_part_of_a_dump(rt: HostRuntime) {
+    let text = dump_with(&rt, rt.alloc(), &[REQUEST], &[]);
+    let fault = DumpFault::Frame(FrameFault::BadKind);
+    assert!(rt; is_refused(rt.alloc(), &text, FIRST, fault));
+}
+
+#[test]
+fn bytes_behind_a_dump_are_refused(rt: HostRuntime) {
+    let mut text = dump_of_four(&rt, rt.alloc());
+    put(&rt, rt.alloc(), &mut text, &["4c"]);
+    assert!(rt; is_refused(rt.alloc(), &text, WHOLE, DumpFault::MoreFollows));
+    let mut both = dump_of_four(&rt, rt.alloc());
+    let mut second = dump_of_four(&rt, rt.alloc());
+    both.append(&mut second).expect(&rt, "memory for two dumps");
+    assert!(rt; is_refused(rt.alloc(), &both, WHOLE, DumpFault::MoreFollows));
+}
+
+#[test]
+fn entries_alone_are_cut_short(rt: HostRuntime) {
+    let mut text = Vec::new(rt.alloc());
+    put(&rt, rt.alloc(), &mut text, &FRAME_1);
+    assert!(rt; is_refused(rt.alloc(), &text, FIRST, DumpFault::CutShort));
+}
+
+// The numbers and names of the faults that are a dump's own; a frame's fault keeps its own.
+const NAMES: [(DumpFault, u8, &str); 8] = [
+    (DumpFault::Frame(FrameFault::Memory), 1, "Memory"),
+    (DumpFault::Frame(FrameFault::BadOrder), 10, "BadOrder"),
+    (DumpFault::CutShort, 13, "CutShort"),
+    (DumpFault::DigestsDiffer, 14, "DigestsDiffer"),
+    (DumpFault::HorizonsDiffer, 15, "HorizonsDiffer"),
+    (DumpFault::MoreFollows, 16, "MoreFollows"),
+    (DumpFault::ReadFault, 17, "ReadFault"),
+    (DumpFault::WriteFault, 18, "WriteFault"),
+];
+
+#[test]
+fn faults_have_numbers_and_names(rt: HostRuntime) {
+    for (fault, code, name) in NAMES {
+        assert!(rt; fault.code() == code && fault.name() == name);
+    }
+}
