@@ -1,10 +1,10 @@
 #!/usr/bin/env python3
-"""Measures a hit (pin, read eight bytes, unpin) from C beside the same from Rattle, and prints the table of docs/PERFORMANCE.md.
+"""Measures a hit (pin, read eight bytes, unpin) from C against the same from Rattle, and prints the table of docs/PERFORMANCE.md.
 
 usage: measure.py LIBRARY       LIBRARY is the folder that scripts/c-library made
 
-It wants the proved program (`rt run` in crates/benches leaves it as crates/benches/out/benches; the variable BENCHES names another) and a
-C compiler (cc, or what CC names). Each round is in a drawn order. All programs must print the same sum.
+It needs the proved program (`rt run` in crates/benches leaves it as crates/benches/out/benches; the variable BENCHES names another) and a
+C compiler (cc, or what CC names). Each round is in a drawn order. All programs must print the same checksum.
 """
 
 import os

@@ -1,9 +1,9 @@
 #!/usr/bin/env python3
-"""Measures dumps of histories beside the same in plain Rust, and prints the table of docs/PERFORMANCE.md.
+"""Measures dumps of histories against the same in plain Rust, and prints the table of docs/PERFORMANCE.md.
 
-usage: measure.py [PAGES..]     how many pages the histories have (1,000,000 and 10,000,000, where no number is given)
+usage: measure.py [PAGES..]     the numbers of pages of the histories (default: 1000000 10000000)
 
-It wants the proved program (`rt run` in crates/benches leaves it as crates/benches/out/benches; the variable BENCHES names another) and
+It needs the proved program (`rt run` in crates/benches leaves it as crates/benches/out/benches; the variable BENCHES names another) and
 `rustc`. Both programs run in turn, five times, and the fastest run of each counts. Both must print the same. The memory is the most that
 a program held: two histories and the dump.
 """
