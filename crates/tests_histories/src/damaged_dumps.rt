@@ -81,19 +81,37 @@ fn no_changed_byte_gives_another_history(rt: HostRuntime) {
     assert!(rt; count == 189);
 }
 
-// Each byte of the digests is changed to four other values.
-#[test]
-fn no_changed_digest_is_accepted(rt: HostRuntime) {
-    let history = four_pages(&rt, rt.alloc());
-    let mut text = dump_of_four(&rt, rt.alloc());
-    for place in HEADERS..WHOLE {
-        let own = text.get(place).copied().unwrap_or(0);
-        for bits in [0x01, 0x80, 0x55, 0xFF] {
-            let changed = own ^ bits;
-            let accepted = is_accepted(&rt, rt.alloc(), &mut text, place, changed, &history);
-            assert!(rt; !accepted, "{place} {bits}");
+// No byte of the digests from a place on, 512 of them, has another value with which they are accepted.
+fn none_is_accepted(rt: &impl Abort, alloc: Global, from: usize) {
+    let history = four_pages(rt, alloc);
+    let mut text = dump_of_four(rt, alloc);
+    for place in from..from.saturating_add(512) {
+        for value in 0..=255u8 {
+            let accepted = is_accepted(rt, alloc, &mut text, place, value, &history);
+            assert!(rt; !accepted, "{place} {value}");
         }
     }
+}
+
+// Each byte of the digests is changed to each other value.
+#[test]
+fn no_changed_digest_of_the_first_buckets_is_accepted(rt: HostRuntime) {
+    none_is_accepted(&rt, rt.alloc(), HEADERS);
+}
+
+#[test]
+fn no_changed_digest_from_bucket_16_on_is_accepted(rt: HostRuntime) {
+    none_is_accepted(&rt, rt.alloc(), HEADERS + 512);
+}
+
+#[test]
+fn no_changed_digest_from_bucket_32_on_is_accepted(rt: HostRuntime) {
+    none_is_accepted(&rt, rt.alloc(), HEADERS + 1024);
+}
+
+#[test]
+fn no_changed_digest_of_the_last_buckets_is_accepted(rt: HostRuntime) {
+    none_is_accepted(&rt, rt.alloc(), WHOLE - 512);
 }
 
 // A place in the dump of the four pages, the byte that is put there, where the fault is found, and the fault.
