@@ -11,7 +11,7 @@ use Rattle.warm_frames.specs.declared.message.Message.TheVariants.{Entries, Dige
 use Rattle.warm_frames.specs.Spelling.{spelling}
 use Rattle.warm_digest.specs.BucketDigests.{digests_of}
 
--- the list in pieces of `size` items, of which the last may be shorter; at most so many
+-- the list in pieces of `size` items, of which the last may be shorter; no more pieces than the second number
 abbrev pub pieces_of : {A : Type 0} → ℕ → ℕ → List A → List (List A)
 pieces_of size zero xs = []
 pieces_of size (suc n) [] = []

@@ -105,7 +105,7 @@ HasOtherDigests text at = (horizon : ℕ) × (frames : List Message) × (sender 
 abbrev pub HasMore : List ℕ → ℕ → Type 0
 HasMore text at = (dump more : List ℕ) × (h : HistoryView) × (text ≡ dump ++ more) × (0 < length more) × (at ≡ length dump) × IsDump dump h
 
--- Why a text is refused, and behind how many bytes of whole frames. Want of memory, and a reader that fails, say nothing of the text.
+-- Why a text is refused, and behind how many bytes of whole frames. A failed allocation, and a reader that fails, say nothing of the text.
 -- A reader answers no WriteFault.
 abbrev pub IsRefused : List ℕ → ℕ → DumpFault → Type 0
 IsRefused text at (Frame frame_faults.Memory) = ⊤

@@ -3,7 +3,7 @@ use Rattle.warm_frames.specs.declared.fault.FrameFault.TheVariants.{Memory}
 use Rattle.warm_files.specs.declared.fault.DumpFault.{DumpFault}
 use Rattle.warm_files.specs.declared.fault.DumpFault.TheVariants.{Frame, WriteFault}
 
--- there is no memory, or the writer fails
+-- an allocation or the writer fails
 abbrev pub StopsWriting : DumpFault → Type 0
 StopsWriting (Frame Memory) = Unit {0}
 StopsWriting WriteFault = Unit {0}

@@ -9,7 +9,7 @@ use warm_frames::FrameFault;
 /// Why a dump was not written or not read.
 #[derive(Clone, Copy, Debug, PartialEq, Eq, Error)]
 pub enum DumpFault {
-    /// The fault of a frame, with its number, 1 to 11. `Memory` is want of memory for whatever it may be. `BadKind` is also a request
+    /// The fault of a frame, with its number, 1 to 11. `Memory` is any allocation that failed. `BadKind` is also a request
     /// in the place of a frame of entries or digests. `Truncated` and `Failed` do not come.
     #[error("Frame")]
     Frame(FrameFault),
@@ -81,8 +81,8 @@ impl DumpFault {
 #[derive(Clone, Copy, Debug, PartialEq, Eq, Error)]
 #[error("{fault} at byte {at}")]
 pub struct DumpError {
-    /// Where the whole frames before the fault end: so many bytes were taken in, and the frame that shows the fault, or
-    /// what follows the dump, begins here. Of want of memory and of a reader that fails no contract says it.
+    /// How many bytes the whole frames before the fault have: the frame that shows the fault begins here or, for
+    /// `MoreFollows`, what follows the dump. For `Memory` and `ReadFault` no contract says it.
     pub at: u64,
     /// Why.
     pub fault: DumpFault,

@@ -14,7 +14,7 @@ pub fn one_history()
     ensures { OneHistory }
 {}
 
-/// A dump is refused for want of memory alone, or where its reader fails.
+/// A dump is refused only where an allocation or its reader fails.
 pub fn dump_is_taken()
     ensures { DumpIsTaken }
 {}

@@ -285,9 +285,9 @@ impl Gathered {
 /// - `MoreFollows`: bytes follow the digests;
 /// - `CutShort`: the bytes end before the digests do.
 ///
-/// The error says behind how many bytes of whole frames, which is where the frame that shows the fault begins.
+/// The error has the number of bytes of the whole frames before the fault: where the frame that shows it begins.
 ///
-/// And, at any point: `Frame(Memory)`, where memory was refused; `ReadFault`, where the reader failed, or where
+/// And, at any point: `Frame(Memory)`, where an allocation failed; `ReadFault`, where the reader failed, or where
 /// [`MAX_READS`] reads or 2^64 bytes did not reach its end.
 pub fn read_dump<R: Read>(alloc: Global, reader: &mut R) -> Result<History, DumpError>
     ensures end { OnOk result (IsAtEnd (R.remaining reader.new)) }
