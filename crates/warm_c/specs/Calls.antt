@@ -3,7 +3,8 @@ use Rattle.std.specs.Prelude.{ℕ, ◌+◌, ◌<◌, ◌≡◌, ◌⊎◌, Bool,
 use Rattle.warm_stamps.specs.Replicas.{IsReplica}
 use Rattle.warm_stamps.specs.Buckets.{IsBucket}
 use Rattle.warm_stamps.specs.declared.PageId.{PageId}
-use Rattle.warm_history.specs.Histories.{entries_of}
+use Rattle.warm_history.specs.Histories.{HistoryView, IsHistory, entries_of}
+use Rattle.warm_files.specs.Writing.{StopsWriting}
 use Rattle.warm_frames.specs.declared.message.Message.{Message}
 use Rattle.warm_frames.specs.Reading.{Gives, read_frame, reserved_by}
 use Rattle.warm_frames.specs.Spelling.{Spells, spelling}
@@ -14,10 +15,10 @@ use Rattle.warm_gossip.specs.declared.call.Reply.{Reply}
 use Rattle.warm_gossip.specs.declared.call.Reply.TheVariants.{Done, Sent, Answers, Kept, Pinned, Bytes, Page, Pages, Loaded, Refused}
 use Rattle.warm_gossip.specs.declared.fault.NodeFault.{NodeFault}
 use Rattle.warm_gossip.specs.declared.fault.NodeFault.TheVariants.{Memory}
-use Rattle.warm_gossip.specs.Clauses.{Goes, SameView, WriteBackFails}
+use Rattle.warm_gossip.specs.Clauses.{Goes, Joins, SameView, WriteBackFails}
 use Rattle.warm_c.specs.declared.held.Held.{Held}
 use Rattle.warm_c.specs.declared.status.Refusal.{Refusal}
-use Rattle.warm_c.specs.declared.status.Refusal.TheVariants.{Node, Frame, BufferTooSmall, BadReplica, BadBucket}
+use Rattle.warm_c.specs.declared.status.Refusal.TheVariants.{Node, Frame, BufferTooSmall, BadReplica, BadBucket, Dump}
 use Rattle.warm_c.specs.declared.values.PinnedSlot.{PinnedSlot}
 use Rattle.warm_c.specs.declared.values.WarmPage.{WarmPage}
 use Rattle.warm_c.specs.declared.values.WarmReference.{WarmReference}
@@ -149,3 +150,19 @@ PutsNext (Some message) before len after len' old ending new = PutsFrame message
 
 abbrev pub GivesNext : List ℕ → ℕ → List ℕ → ℕ → Held → Ending → Held → Type 0
 GivesNext before len after len' old ending new = PutsNext (next_answer old) before len after len' old ending new
+
+-- Dumps
+
+-- Of what a file then holds nothing can be said. What the handle holds is as it was; an allocation failed, or the file was not written.
+abbrev pub Saves : Held → Ending → Held → Type 0
+Saves old (Ok given) new = new ≡ old
+Saves old (Err (Dump why)) new = StopsWriting why × (new ≡ old)
+Saves old (Err why) new = ⊥
+
+-- The node has joined some history, that of the dump. Or the file was not read, or has no dump, and nothing has changed; or memory for the
+-- join was refused, and nothing has that a caller sees.
+abbrev pub Loads : Held → Ending → Held → Type 0
+Loads old (Ok given) new = ((h : HistoryView) × IsHistory h × Joins old.node h new.node) × SameAnswers old new
+Loads old (Err (Node Memory)) new = SameView old.node new.node × SameAnswers old new
+Loads old (Err (Dump why)) new = new ≡ old
+Loads old (Err why) new = ⊥
