@@ -421,7 +421,7 @@ pub extern "C" fn warm_save(alloc: Global, handle: &mut Handle, fd: i32) -> i32
 /// Takes in the history of the dump that the first `length` bytes of the descriptor's file are, all or nothing.
 ///
 /// # Errors
-/// 34 to 42 and 77 to 80 where the bytes are no dump, by the first fault from left to right; 81 where the file was not read; 1 where an
+/// 35 to 42 and 77 to 80 where the bytes are no dump, by the first fault from left to right; 81 where the file was not read; 1 where an
 /// allocation failed. Nothing has changed that a caller sees.
 #[unsafe(no_mangle)]
 pub extern "C" fn warm_load(alloc: Global, handle: &mut Handle, fd: i32, length: u64) -> i32

@@ -29,7 +29,7 @@ pub enum Refusal {
     BadReplica,
     /// 68: a bucket's number is 0 to 63.
     BadBucket,
-    /// 1, 34 to 42, or 77 to 82: why a dump is not written or not read. That of a frame in it is the frame's; others are the fault's
+    /// 1, 35 to 42, or 77 to 82: why a dump is not written or not read. That of a frame in it is the frame's; others are the fault's
     /// own number and 64.
     Dump(DumpFault),
 }
