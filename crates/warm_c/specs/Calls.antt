@@ -1,9 +1,10 @@
 -- What each call does to what an open handle holds, and what it writes.
-use Rattle.std.specs.Prelude.{ℕ, ◌+◌, ◌<◌, ◌≡◌, ◌⊎◌, Bool, List, map, length, Option, Some, None, Result, Ok, Err, Contains, slice_get}
+use Rattle.std.specs.Prelude.{ℕ, ◌+◌, ◌<◌, ◌≡◌, ◌⊎◌, Bool, List, map, length, Option, Some, None, IfSome, Result, Ok, Err, Contains, slice_get}
 use Rattle.warm_stamps.specs.Replicas.{IsReplica}
 use Rattle.warm_stamps.specs.Buckets.{IsBucket}
 use Rattle.warm_stamps.specs.declared.PageId.{PageId}
 use Rattle.warm_history.specs.Histories.{HistoryView, IsHistory, entries_of}
+use Rattle.warm_files.specs.Reading.{IsDump, IsRefused}
 use Rattle.warm_files.specs.Writing.{StopsWriting}
 use Rattle.warm_frames.specs.declared.message.Message.{Message}
 use Rattle.warm_frames.specs.Reading.{Gives, read_frame, reserved_by}
@@ -153,16 +154,20 @@ GivesNext before len after len' old ending new = PutsNext (next_answer old) befo
 
 -- Dumps
 
--- Of what a file then holds nothing can be said. What the handle holds is as it was; an allocation failed, or the file was not written.
+-- Why a dump is not written: an allocation failed, or the writer did.
+abbrev pub IsUnsaved : Refusal → Type 0
+IsUnsaved (Dump why) = StopsWriting why
+IsUnsaved why = ⊥
+
+-- What the handle holds is as it was. Of what a file then holds nothing can be said.
 abbrev pub Saves : Held → Ending → Held → Type 0
 Saves old (Ok given) new = new ≡ old
-Saves old (Err (Dump why)) new = StopsWriting why × (new ≡ old)
-Saves old (Err why) new = ⊥
+Saves old (Err why) new = IsUnsaved why × (new ≡ old)
 
--- The node has joined some history, that of the dump. Or the file was not read, or has no dump, and nothing has changed; or memory for the
--- join was refused, and nothing has that a caller sees.
-abbrev pub Loads : Held → Ending → Held → Type 0
-Loads old (Ok given) new = ((h : HistoryView) × IsHistory h × Joins old.node h new.node) × SameAnswers old new
-Loads old (Err (Node Memory)) new = SameView old.node new.node × SameAnswers old new
-Loads old (Err (Dump why)) new = new ≡ old
-Loads old (Err why) new = ⊥
+-- The node has joined a history, of which the bytes are a dump, where they are known. Or they show why they are none, or were not read, and
+-- nothing has changed; or an allocation for the join failed, and nothing has changed that a caller sees.
+abbrev pub Loads : Option (List ℕ) → Held → Ending → Held → Type 0
+Loads bytes old (Ok given) new = ((h : HistoryView) × IsHistory h × IfSome bytes (λ text. IsDump text h) × Joins old.node h new.node) × SameAnswers old new
+Loads bytes old (Err (Node Memory)) new = SameView old.node new.node × SameAnswers old new
+Loads bytes old (Err (Dump why)) new = IfSome bytes (λ text. (at : ℕ) × IsRefused text at why) × (new ≡ old)
+Loads bytes old (Err why) new = ⊥

@@ -425,7 +425,7 @@ pub extern "C" fn warm_save(alloc: Global, handle: &mut Handle, fd: i32) -> i32
 /// allocation failed. Nothing has changed that a caller sees.
 #[unsafe(no_mangle)]
 pub extern "C" fn warm_load(alloc: Global, handle: &mut Handle, fd: i32, length: u64) -> i32
-    ensures { Called Loads handle.old.slot.held result handle.new.slot.held }
+    ensures { Called (Loads None) handle.old.slot.held result handle.new.slot.held }
 {
     let Some(mut held) = handle.take(alloc) else {
         return status_of(Err(Refusal::Closed));
