@@ -210,6 +210,10 @@ static void names(void) {
     MUST(length == 6 && memcmp(name, "Clox", 4) == 0);
     OK(warm_status_name(WARM_CLOSED, name, sizeof name, &length));
     MUST(length == 6 && memcmp(name, "Closed", 7) == 0);
+    OK(warm_status_name(WARM_DIGESTS_DIFFER, name, sizeof name, &length));
+    MUST(length == 13 && memcmp(name, "DigestsDiffer", 14) == 0);
+    OK(warm_status_name(WARM_DUMP_NOT_WRITTEN + 1, name, sizeof name, &length));
+    MUST(length == 7 && memcmp(name, "Unknown", 8) == 0);
     OK(warm_status_name(-1, name, sizeof name, &length));
     MUST(length == 7 && memcmp(name, "Unknown", 8) == 0);
 }
