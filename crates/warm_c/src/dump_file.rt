@@ -3,8 +3,7 @@
 ghost use Rattle.std.specs.Prelude.{◌≡◌, ◌+◌, ◌≤◌, IfOk, OnErr};
 
 use crate::descriptor::Descriptor;
-use std::io;
-use std::io::{ErrorKind, Read, Write};
+use std::io::{Error, ErrorKind, Read, Write};
 
 /// Writes a file from its start on. A flush syncs it.
 #[derive(Drop)]
@@ -22,23 +21,23 @@ impl FileWriter {
 }
 
 impl Write for FileWriter {
-    fn write(&mut self, bytes: &[u8]) -> io::Result<usize>
+    fn write(&mut self, bytes: &[u8]) -> Result<usize, Error>
         ensures moves { IfOk result (λ n. self.new.at ≡ self.old.at + n) }
         ensures stays { OnErr result (self.new ≡ self.old) }
     {
         let Some(end) = self.at.checked_add(bytes.len() as u64) else {
-            return Err(io::Error::from(ErrorKind::FileTooLarge));
+            return Err(Error::from(ErrorKind::FileTooLarge));
         };
         if !self.descriptor.write(self.at, bytes) {
-            return Err(io::Error::from(ErrorKind::Other));
+            return Err(Error::from(ErrorKind::Other));
         }
         self.at = end;
         Ok(bytes.len())
     }
 
-    fn flush(&mut self) -> io::Result<()> {
+    fn flush(&mut self) -> Result<(), Error> {
         if !self.descriptor.flush() {
-            return Err(io::Error::from(ErrorKind::Other));
+            return Err(Error::from(ErrorKind::Other));
         }
         Ok(())
     }
@@ -66,14 +65,14 @@ impl FileReader {
 }
 
 impl Read for FileReader {
-    fn read(&mut self, into: &mut [u8]) -> io::Result<usize>
+    fn read(&mut self, into: &mut [u8]) -> Result<usize, Error>
         ensures moves { IfOk result (λ n. self.new.at ≡ self.old.at + n) }
         ensures stays { OnErr result (self.new ≡ self.old) }
     {
         let left = self.length - self.at;
         let count = left.min(into.len() as u64) as usize;
         if !self.descriptor.read(self.at, &mut into[..count]) {
-            return Err(io::Error::from(ErrorKind::Other));
+            return Err(Error::from(ErrorKind::Other));
         }
         self.at += count as u64;
         Ok(count)
