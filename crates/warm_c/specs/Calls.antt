@@ -169,5 +169,5 @@ Saves old (Err why) new = IsUnsaved why × (new ≡ old)
 abbrev pub Loads : Option (List ℕ) → Held → Ending → Held → Type 0
 Loads bytes old (Ok given) new = ((h : HistoryView) × IsHistory h × IfSome bytes (λ text. IsDump text h) × Joins old.node h new.node) × SameAnswers old new
 Loads bytes old (Err (Node Memory)) new = SameView old.node new.node × SameAnswers old new
-Loads bytes old (Err (Dump why)) new = IfSome bytes (λ text. (at : ℕ) × IsRefused text at why) × (new ≡ old)
+Loads bytes old (Err (Dump why)) new = ((at : ℕ) × IfSome bytes (λ text. IsRefused text at why)) × (new ≡ old)
 Loads bytes old (Err why) new = ⊥
