@@ -287,7 +287,7 @@ fn would_answer<D: PageDevice>(
 }
 
 // Joins the history of these references at a horizon; returns whether the node takes it.
-fn joins<D: PageDevice>(
+fn takes_history<D: PageDevice>(
     rt: &impl Abort,
     alloc: Global,
     node: &mut Node<D>,
@@ -317,7 +317,7 @@ fn meets<D: PageDevice>(rt: &impl Abort, alloc: Global, node: &mut Node<D>, row:
             let messages = would_answer(rt, node, &message_of(rt, alloc, sent));
             are_messages(rt, alloc, messages.as_slice(), wanted)
         }
-        Row::Joins(horizon, known) => joins(rt, alloc, node, horizon, known),
+        Row::Joins(horizon, known) => takes_history(rt, alloc, node, horizon, known),
         call => is_said(rt, alloc, node, call),
     }
 }
