@@ -86,7 +86,8 @@ typedef struct warm_device {
     int32_t fd;
 } warm_device;
 
-/* The statuses. 1 to 13 are those of the pool and the node, 34 to 42 say why bytes are no frame, 64 to 68 are the library's own. */
+/* The statuses. 1 to 13 are those of the pool and the node, 34 to 42 say why bytes are no frame, 64 to 68 are the library's own, and 77 to
+ * 82 say why a dump was not read or not written. */
 enum {
     WARM_OK = 0,
     WARM_MEMORY = 1,        /* an allocation failed */
@@ -115,7 +116,13 @@ enum {
     WARM_ALREADY_OPEN = 65,     /* the handle is open already */
     WARM_BUFFER_TOO_SMALL = 66, /* the frame does not fit; the length that it needs was written */
     WARM_BAD_REPLICA = 67,      /* a replica's number is 1 to 64 */
-    WARM_BAD_BUCKET = 68        /* a bucket's number is 0 to 63 */
+    WARM_BAD_BUCKET = 68,       /* a bucket's number is 0 to 63 */
+    WARM_CUT_SHORT = 77,        /* of a dump: its bytes end before the frame of the digests does */
+    WARM_DIGESTS_DIFFER = 78,   /* its digests are not those of the history that its entries give */
+    WARM_HORIZONS_DIFFER = 79,  /* its frames have different horizons */
+    WARM_MORE_FOLLOWS = 80,     /* bytes follow the frame of the digests */
+    WARM_DUMP_NOT_READ = 81,    /* its file could not be read; the name of this status is ReadFault */
+    WARM_DUMP_NOT_WRITTEN = 82  /* its file could not be written or synced; the name of this status is WriteFault */
 };
 
 /* Opens a closed handle: a node of this replica (1 to 64), with a pool of empty frames (1 to 65,536) for pages of page_size bytes (1 to
@@ -212,6 +219,26 @@ int warm_write_back(warm *handle);
 /* Writes how many pages the history knows.
  * Caller: length points to one element. */
 int warm_history_length(warm *handle, size_t *length);
+
+/* Writes a dump of the history to the file of a descriptor, from byte 0 on, and syncs it (fsync). A dump is the frames of all entries and
+ * then the frame of the digests; docs/FORMATS.md has its bytes. The history and the pool are as they were.
+ * Refused: WARM_MEMORY, WARM_DUMP_NOT_WRITTEN. The file may then hold any part of the dump, or all of it.
+ * Caller: the file is empty, is open for writing without O_APPEND, and no device of a handle; nothing else writes to it. In a file that is
+ * not empty the bytes past the dump stay, and warm_load refuses them (WARM_MORE_FOLLOWS). The descriptor is not closed.
+ *
+ * To replace a file so that after a crash it is the old one or the new one: create a new file beside it (open with O_CREAT | O_EXCL, in the
+ * same folder), call warm_save, and where that returns WARM_OK, rename the new file over the old one and fsync the folder. Where it
+ * is refused, unlink the new file. */
+int warm_save(warm *handle, int fd);
+
+/* Reads the dump that the first length bytes of a descriptor's file are, from byte 0 on, and joins its history to the handle's: afterwards
+ * the history is that of all references of both, at the later horizon of both. All or nothing. Loading a dump again changes nothing, and
+ * a dump of any replica may be loaded. The answers that wait for warm_next_answer still wait.
+ * Refused: by the first fault from left to right, WARM_BAD_MAGIC to WARM_BAD_ORDER, WARM_HORIZONS_DIFFER, WARM_DIGESTS_DIFFER,
+ * WARM_MORE_FOLLOWS, WARM_CUT_SHORT; WARM_DUMP_NOT_READ, WARM_MEMORY at any point.
+ * Caller: length is the size of the file (st_size of fstat), and the file, open for reading, does not change during the call. With a
+ * length that is too small the dump is cut short; past the end of the file are zeros, which are no dump. */
+int warm_load(warm *handle, int fd, uint64_t length);
 
 /* Writes the name of a status and a zero byte after it, as many bytes of both as there is room for, and the length of the name without
  * the zero byte. Returns WARM_OK. A number that is no status has the name Unknown.

@@ -1,8 +1,11 @@
-/* Two replicas over a file each: they exchange what they know, one warms up, and a page goes to the file and comes back. */
-#define _GNU_SOURCE /* mkstemp */
+/* Two replicas over a file each: they exchange what they know, one warms up, and a page goes to the file and comes back. Then one saves its
+ * history to a file, and a replica that starts again loads it. */
+#define _GNU_SOURCE /* mkstemp, mkdtemp, openat */
+#include <fcntl.h>
 #include <stdio.h>
 #include <stdlib.h>
 #include <string.h>
+#include <sys/stat.h>
 #include <unistd.h>
 
 #include "warm.h"
@@ -81,6 +84,42 @@ static void write_a_page(warm *handle, int fd) {
     if (pread(fd, back, sizeof back, 7 * PAGE_SIZE + 100) != sizeof back || memcmp(back, text, sizeof text) != 0) exit(1);
 }
 
+/* Replaces the file of a folder that has the history: after a crash it is the old one or the new one. */
+static void save_history(warm *handle, int folder) {
+    int fd = openat(folder, "history.new", O_WRONLY | O_CREAT | O_EXCL, 0600);
+    if (fd < 0) exit(1);
+    DO(warm_save(handle, fd));
+    if (close(fd) != 0 || renameat(folder, "history.new", folder, "history") != 0 || fsync(folder) != 0) exit(1);
+}
+
+static void load_history(warm *handle, int folder) {
+    int fd = openat(folder, "history", O_RDONLY);
+    struct stat file;
+    if (fd < 0 || fstat(fd, &file) != 0) exit(1);
+    DO(warm_load(handle, fd, (uint64_t)file.st_size));
+    close(fd);
+}
+
+/* A replica that starts again from the file knows what the one knew that wrote it. */
+static void restart(warm *handle) {
+    char path[] = "/tmp/warm-history-XXXXXX";
+    warm restarted = {0};
+    warm_device none = {0};
+    size_t pages;
+    int folder = mkdtemp(path) == NULL ? -1 : open(path, O_RDONLY | O_DIRECTORY);
+    if (folder < 0) exit(1);
+    save_history(handle, folder);
+    save_history(handle, folder);
+    DO(warm_open(&restarted, 2, FRAMES, PAGE_SIZE, &none, 0));
+    load_history(&restarted, folder);
+    must_be_equal(handle, &restarted);
+    DO(warm_history_length(&restarted, &pages));
+    printf("restored %zu pages\n", pages);
+    warm_close(&restarted);
+    if (unlinkat(folder, "history", 0) != 0 || rmdir(path) != 0) exit(1);
+    close(folder);
+}
+
 int main(void) {
     warm first = {0}, second = {0};
     /* A pin is no reference: whoever pins a page also absorbs one. dev is 0 throughout. */
@@ -93,6 +132,7 @@ int main(void) {
     must_be_equal(&first, &second);
     warm_up(&second);
     write_a_page(&second, second_fd);
+    restart(&second);
     warm_close(&first);
     warm_close(&second);
     return close(first_fd) != 0 || close(second_fd) != 0;

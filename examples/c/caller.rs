@@ -1,7 +1,9 @@
-//! The same in Rust: two replicas exchange what they know, one warms up, and a page goes to the file and comes back.
+//! The same in Rust: two replicas exchange what they know, one warms up, and a page goes to the file and comes back. Then one saves its
+//! history to a file, and a replica that starts again loads it.
 use std::fs::{File, OpenOptions};
 use std::os::unix::io::AsRawFd;
 use std::os::unix::fs::FileExt;
+use std::path::Path;
 use std::ptr;
 
 // As include/warm.h has them.
@@ -31,6 +33,9 @@ extern "C" {
     fn warm_receive(handle: *mut Warm, frame: *const u8, length: usize) -> i32;
     fn warm_next_answer(handle: *mut Warm, frame: *mut u8, room: usize, length: *mut usize) -> i32;
     fn warm_write_back(handle: *mut Warm) -> i32;
+    fn warm_save(handle: *mut Warm, fd: i32) -> i32;
+    fn warm_load(handle: *mut Warm, fd: i32, length: u64) -> i32;
+    fn warm_history_length(handle: *mut Warm, length: *mut usize) -> i32;
     fn warm_status_name(status: i32, name: *mut u8, room: usize, length: *mut usize) -> i32;
 }
 
@@ -71,6 +76,27 @@ impl Replica {
         Ok(frame)
     }
 
+    /// Replaces the file of a folder that has the history: after a crash it is the old one or the new one.
+    fn save(&mut self, folder: &Path) -> Result<(), String> {
+        let new = folder.join("history.new");
+        let file = OpenOptions::new().write(true).create_new(true).open(&new).map_err(|e| e.to_string())?;
+        ok(unsafe { warm_save(&mut self.handle, file.as_raw_fd()) })?;
+        std::fs::rename(&new, folder.join("history")).map_err(|e| e.to_string())?;
+        File::open(folder).and_then(|folder| folder.sync_all()).map_err(|e| e.to_string())
+    }
+
+    fn load(&mut self, folder: &Path) -> Result<(), String> {
+        let file = File::open(folder.join("history")).map_err(|e| e.to_string())?;
+        let length = file.metadata().map_err(|e| e.to_string())?.len();
+        ok(unsafe { warm_load(&mut self.handle, file.as_raw_fd(), length) })
+    }
+
+    fn pages(&mut self) -> Result<usize, String> {
+        let mut length = 0;
+        ok(unsafe { warm_history_length(&mut self.handle, &mut length) })?;
+        Ok(length)
+    }
+
     fn answer_to(&mut self, other: &mut Replica) -> Result<usize, String> {
         for count in 0.. {
             let frame = self.frame(warm_next_answer)?;
@@ -91,6 +117,19 @@ fn gossip(first: &mut Replica, second: &mut Replica) -> Result<usize, String> {
     let answers = second.answer_to(first)?;
     first.answer_to(second)?;
     Ok(answers)
+}
+
+/// A replica that starts again from the file knows what the one knew that wrote it.
+fn restart(replica: &mut Replica) -> Result<(), String> {
+    let folder = std::env::temp_dir().join(format!("warm-history-{}", std::process::id()));
+    std::fs::create_dir(&folder).map_err(|e| e.to_string())?;
+    replica.save(&folder)?;
+    replica.save(&folder)?;
+    let mut restarted = Replica::open(2)?;
+    restarted.load(&folder)?;
+    assert_eq!(gossip(replica, &mut restarted)?, 0);
+    println!("restored {} pages", restarted.pages()?);
+    std::fs::remove_dir_all(&folder).map_err(|e| e.to_string())
 }
 
 fn main() -> Result<(), String> {
@@ -116,5 +155,5 @@ fn main() -> Result<(), String> {
     println!("{}", String::from_utf8_lossy(&back));
     second.file.read_exact_at(&mut back, 7 * PAGE_SIZE as u64 + 100).map_err(|e| e.to_string())?;
     assert_eq!(back, text);
-    Ok(())
+    restart(&mut second)
 }

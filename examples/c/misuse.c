@@ -1,4 +1,4 @@
-/* What is refused, and by which status: closed handles, stale slots, short buffers, damaged frames, bad descriptors, full disks. After each
+/* What is refused, and by which status: closed handles, stale slots, short buffers, damaged frames and dumps, bad descriptors, full disks. After each
  * refusal what was there before is still there. Prints each refused call with the name of its status. misuse [FOLDER], where FOLDER is one on
  * an empty disk of four blocks of 4,096 bytes. */
 #define _GNU_SOURCE
@@ -8,6 +8,7 @@
 #include <stdlib.h>
 #include <string.h>
 #include <sys/resource.h>
+#include <sys/stat.h>
 #include <unistd.h>
 
 #include "warm.h"
@@ -93,6 +94,8 @@ static void closed_handle(void) {
     EXPECT(WARM_CLOSED, warm_horizon(&handle, 1, &horizon));
     EXPECT(WARM_CLOSED, warm_write_back(&handle));
     EXPECT(WARM_CLOSED, warm_history_length(&handle, &length));
+    EXPECT(WARM_CLOSED, warm_save(&handle, STDOUT_FILENO));
+    EXPECT(WARM_CLOSED, warm_load(&handle, STDIN_FILENO, 1));
     warm_close(&handle);
     warm_close(&handle);
 }
@@ -207,6 +210,10 @@ static void names(void) {
     MUST(length == 6 && memcmp(name, "Clox", 4) == 0);
     OK(warm_status_name(WARM_CLOSED, name, sizeof name, &length));
     MUST(length == 6 && memcmp(name, "Closed", 7) == 0);
+    OK(warm_status_name(WARM_DIGESTS_DIFFER, name, sizeof name, &length));
+    MUST(length == 13 && memcmp(name, "DigestsDiffer", 14) == 0);
+    OK(warm_status_name(WARM_DUMP_NOT_WRITTEN + 1, name, sizeof name, &length));
+    MUST(length == 7 && memcmp(name, "Unknown", 8) == 0);
     OK(warm_status_name(-1, name, sizeof name, &length));
     MUST(length == 7 && memcmp(name, "Unknown", 8) == 0);
 }
@@ -278,6 +285,173 @@ static void damaged_frames(void) {
     OK(warm_receive(&handle, narrow, sizeof narrow));
     OK(warm_history_length(&handle, &count));
     MUST(count == 2);
+    warm_close(&handle);
+}
+
+static size_t pages_of(warm *handle) {
+    size_t count;
+    OK(warm_history_length(handle, &count));
+    return count;
+}
+
+static void open_alone(warm *handle, uint16_t replica) {
+    warm_device none = {0};
+    OK(warm_open(handle, replica, 1, PAGE_SIZE, &none, 0));
+}
+
+/* A frame of one entry with two stamps has 54 bytes, one of digests 2,067: docs/FORMATS.md says so. */
+enum { DUMP_ENTRY = 54, DUMP_SIZE = DUMP_ENTRY + 2067 };
+
+/* The dump of page 0:7 with 20@1 and 10@1 from replica 1, in a file of its own. */
+static int dump_of_one(void) {
+    const warm_reference seen[] = {{.time = 20, .no = 7, .replica = 1}, {.time = 10, .no = 7, .replica = 1}};
+    warm handle = {0};
+    struct stat file;
+    int fd = temporary();
+    open_alone(&handle, 1);
+    OK(warm_absorb(&handle, seen, 2));
+    OK(warm_save(&handle, fd));
+    MUST(fstat(fd, &file) == 0 && file.st_size == DUMP_SIZE);
+    warm_close(&handle);
+    return fd;
+}
+
+/* Each case changes one byte of the dump, and the other handle still knows its own page alone. */
+static void damaged_dumps(void) {
+    static const struct {
+        int status;
+        int at;
+        uint8_t byte;
+    } cases[] = {{WARM_BAD_MAGIC, 0, 'M'}, {WARM_BAD_KIND, 4, 4}, {WARM_BAD_SENDER, 6, 65}, {WARM_HORIZONS_DIFFER, 14, 1}, {WARM_BAD_LENGTH, 18, 0x22},
+        {WARM_BAD_COUNT, 21, 4}, {WARM_DIGESTS_DIFFER, 32, 8}, {WARM_BAD_TAG, 33, 3}, {WARM_DIGESTS_DIFFER, 41, 21}, {WARM_BAD_STAMP, 43, 0},
+        {WARM_BAD_MAGIC, DUMP_ENTRY, 'M'}, {WARM_BAD_KIND, DUMP_ENTRY + 4, 0}, {WARM_HORIZONS_DIFFER, DUMP_ENTRY + 14, 1},
+        {WARM_DIGESTS_DIFFER, DUMP_ENTRY + 19, 0}, {WARM_DIGESTS_DIFFER, DUMP_SIZE - 1, 0}};
+    const warm_reference own = {.time = 5, .no = 3, .replica = 2};
+    int fd = dump_of_one();
+    warm handle = {0};
+    open_alone(&handle, 2);
+    OK(warm_absorb(&handle, &own, 1));
+    for (size_t at = 0; at < sizeof cases / sizeof *cases; at++) {
+        uint8_t was;
+        MUST(pread(fd, &was, 1, cases[at].at) == 1 && pwrite(fd, &cases[at].byte, 1, cases[at].at) == 1);
+        MUST(was != cases[at].byte);
+        expect(cases[at].status, warm_load(&handle, fd, DUMP_SIZE), "warm_load of a damaged dump");
+        MUST(pwrite(fd, &was, 1, cases[at].at) == 1 && pages_of(&handle) == 1);
+    }
+    OK(warm_load(&handle, fd, DUMP_SIZE));
+    MUST(pages_of(&handle) == 2);
+    warm_close(&handle);
+    close(fd);
+}
+
+/* Lengths that are not the file's, a file that was cut, and one that had more bytes before. */
+static void wrong_lengths(void) {
+    int fd = dump_of_one();
+    warm handle = {0};
+    open_alone(&handle, 2);
+    for (uint64_t length = 0; length < DUMP_SIZE; length++) MUST(warm_load(&handle, fd, length) == WARM_CUT_SHORT);
+    EXPECT(WARM_MORE_FOLLOWS, warm_load(&handle, fd, DUMP_SIZE + 1));
+    EXPECT(WARM_MORE_FOLLOWS, warm_load(&handle, fd, UINT64_MAX));
+    MUST(pages_of(&handle) == 0);
+    MUST(pwrite(fd, "", 1, DUMP_SIZE) == 1);
+    OK(warm_save(&handle, fd)); /* a file that was not empty: the dump of no page, and the rest of the old one */
+    EXPECT(WARM_MORE_FOLLOWS, warm_load(&handle, fd, DUMP_SIZE));
+    MUST(ftruncate(fd, 2067) == 0);
+    OK(warm_load(&handle, fd, 2067));
+    MUST(ftruncate(fd, 2066) == 0);
+    EXPECT(WARM_CUT_SHORT, warm_load(&handle, fd, 2066));
+    EXPECT(WARM_DIGESTS_DIFFER, warm_load(&handle, fd, 2067)); /* a zero stands where its last byte was */
+    MUST(ftruncate(fd, 0) == 0);
+    EXPECT(WARM_CUT_SHORT, warm_load(&handle, fd, 0));
+    EXPECT(WARM_BAD_MAGIC, warm_load(&handle, fd, 1 << 20));
+    warm_close(&handle);
+    close(fd);
+}
+
+/* A dump is joined: pages of both, at the later horizon of both, and answers that wait still wait. Nothing is joined twice. */
+static void joined_dumps(void) {
+    static uint8_t frame[4096], again[4096];
+    const warm_reference own = {.time = 30, .no = 8, .replica = 2};
+    int fd = dump_of_one();
+    uint64_t horizon;
+    size_t length;
+    warm handle = {0}, other = {0};
+    open_alone(&handle, 2);
+    open_alone(&other, 3);
+    OK(warm_absorb(&handle, &own, 1));
+    OK(warm_offer(&other, frame, sizeof frame, &length));
+    OK(warm_receive(&handle, frame, length));
+    OK(warm_horizon(&handle, 15, &horizon));
+    OK(warm_load(&handle, fd, DUMP_SIZE));
+    OK(warm_horizon(&handle, 0, &horizon));
+    MUST(horizon == 15 && pages_of(&handle) == 2);
+    OK(warm_next_answer(&handle, frame, sizeof frame, &length));
+    MUST(length == 44); /* page 0:8 with one stamp, as it was before the load */
+    OK(warm_send(&handle, 7, false, (warm_page){0}, frame, sizeof frame, &length));
+    MUST(length == 44 && frame[33] == 1 && frame[41] == 20); /* of page 0:7 only 20@1 is left */
+    OK(warm_load(&handle, fd, DUMP_SIZE));
+    OK(warm_send(&handle, 7, false, (warm_page){0}, again, sizeof again, &length));
+    MUST(length == 44 && memcmp(frame, again, 44) == 0 && pages_of(&handle) == 2);
+    warm_close(&handle);
+    warm_close(&other);
+    close(fd);
+}
+
+/* Descriptors from which no dump can be read, or to which none can be written. */
+static void dumps_of_wrong_descriptors(void) {
+    int fd = dump_of_one(), ends[2];
+    char link[64];
+    warm handle = {0};
+    open_alone(&handle, 2);
+    snprintf(link, sizeof link, "/proc/self/fd/%d", fd);
+    int reader = open(link, O_RDONLY), writer = open(link, O_WRONLY);
+    MUST(reader >= 0 && writer >= 0 && pipe(ends) == 0);
+    EXPECT(WARM_DUMP_NOT_WRITTEN, warm_save(&handle, -1));
+    EXPECT(WARM_DUMP_NOT_WRITTEN, warm_save(&handle, INT32_MAX));
+    EXPECT(WARM_DUMP_NOT_WRITTEN, warm_save(&handle, reader));
+    EXPECT(WARM_DUMP_NOT_WRITTEN, warm_save(&handle, ends[1]));
+    EXPECT(WARM_DUMP_NOT_READ, warm_load(&handle, -1, 1));
+    EXPECT(WARM_DUMP_NOT_READ, warm_load(&handle, INT32_MIN, UINT64_MAX));
+    EXPECT(WARM_DUMP_NOT_READ, warm_load(&handle, writer, DUMP_SIZE));
+    EXPECT(WARM_DUMP_NOT_READ, warm_load(&handle, ends[0], DUMP_SIZE));
+    EXPECT(WARM_CUT_SHORT, warm_load(&handle, -1, 0)); /* of no byte none is read */
+    MUST(pages_of(&handle) == 0);
+    OK(warm_load(&handle, reader, DUMP_SIZE));
+    OK(warm_save(&handle, writer)); /* the same history: the same length, by another sender */
+    OK(warm_load(&handle, reader, DUMP_SIZE));
+    MUST(pages_of(&handle) == 1);
+    close(writer);
+    close(reader);
+    close(ends[0]);
+    close(ends[1]);
+    warm_close(&handle);
+    close(fd);
+}
+
+/* A file that takes no byte: nothing is written, and nothing of the history is lost. */
+static void dumps_without_room(const char *folder) {
+    enum { MANY = 1000 };
+    static warm_reference seen[MANY];
+    warm handle = {0}, other = {0};
+    int full = open("/dev/full", O_RDWR), fd = folder == NULL ? -1 : temporary_in(folder);
+    open_alone(&handle, 1);
+    for (uint64_t no = 0; no < MANY; no++) seen[no] = (warm_reference){.time = no, .no = no, .replica = 1};
+    OK(warm_absorb(&handle, seen, MANY));
+    if (full >= 0) {
+        EXPECT(WARM_DUMP_NOT_WRITTEN, warm_save(&handle, full));
+        close(full);
+    }
+    if (fd >= 0) {
+        struct stat file;
+        EXPECT(WARM_DUMP_NOT_WRITTEN, warm_save(&handle, fd)); /* 16,384 bytes fit, and the dump has more */
+        MUST(fstat(fd, &file) == 0);
+        open_alone(&other, 2);
+        EXPECT(WARM_CUT_SHORT, warm_load(&other, fd, (uint64_t)file.st_size));
+        MUST(pages_of(&other) == 0);
+        warm_close(&other);
+        close(fd);
+    }
+    MUST(pages_of(&handle) == MANY);
     warm_close(&handle);
 }
 
@@ -437,6 +611,11 @@ int main(int count, char **words) {
     descriptor_closed();
     always_full();
     full_for_a_time();
+    damaged_dumps();
+    wrong_lengths();
+    joined_dumps();
+    dumps_of_wrong_descriptors();
+    dumps_without_room(count > 1 ? words[1] : NULL);
     if (count > 1) disk_full(words[1]);
     printf("misuse: %d calls answered as expected\n", expected_count);
     return 0;

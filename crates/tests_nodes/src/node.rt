@@ -7,6 +7,7 @@
 mod dropped;
 mod formats;
 mod horizons;
+mod joins;
 mod sizes;
 mod warm_ups;
 
@@ -142,6 +143,8 @@ enum Row {
     Receives(Sent, &'static [Sent]),
     // It would be answered by these.
     WouldAnswer(Sent, &'static [Sent]),
+    // The history of these references is joined, after all stamps before a time were forgotten.
+    Joins(u64, &'static [SeenAt]),
 }
 
 // All entries of a history.
@@ -283,6 +286,19 @@ fn would_answer<D: PageDevice>(
     node.answers(message).ok().expect(rt, "memory is ample")
 }
 
+// Joins the history of these references at a horizon; returns whether the node takes it.
+fn takes_history<D: PageDevice>(
+    rt: &impl Abort,
+    alloc: Global,
+    node: &mut Node<D>,
+    horizon: u64,
+    known: &[SeenAt],
+) -> bool {
+    let mut other = history_of(alloc, known).expect(rt, "memory for a history");
+    other.raise(horizon);
+    node.join(&other).is_ok()
+}
+
 // Makes the call of a test case; returns whether it gets its expected reply.
 fn meets<D: PageDevice>(rt: &impl Abort, alloc: Global, node: &mut Node<D>, row: Row) -> bool {
     match row {
@@ -301,6 +317,7 @@ fn meets<D: PageDevice>(rt: &impl Abort, alloc: Global, node: &mut Node<D>, row:
             let messages = would_answer(rt, node, &message_of(rt, alloc, sent));
             are_messages(rt, alloc, messages.as_slice(), wanted)
         }
+        Row::Joins(horizon, known) => takes_history(rt, alloc, node, horizon, known),
         call => is_said(rt, alloc, node, call),
     }
 }

@@ -1,9 +1,11 @@
 -- What each call does to what an open handle holds, and what it writes.
-use Rattle.std.specs.Prelude.{ℕ, ◌+◌, ◌<◌, ◌≡◌, ◌⊎◌, Bool, List, map, length, Option, Some, None, Result, Ok, Err, Contains, slice_get}
+use Rattle.std.specs.Prelude.{ℕ, ◌+◌, ◌<◌, ◌≡◌, ◌⊎◌, Bool, List, map, length, Option, Some, None, IfSome, Result, Ok, Err, Contains, slice_get}
 use Rattle.warm_stamps.specs.Replicas.{IsReplica}
 use Rattle.warm_stamps.specs.Buckets.{IsBucket}
 use Rattle.warm_stamps.specs.declared.PageId.{PageId}
-use Rattle.warm_history.specs.Histories.{entries_of}
+use Rattle.warm_history.specs.Histories.{HistoryView, IsHistory, entries_of}
+use Rattle.warm_files.specs.Reading.{IsDump, IsRefused}
+use Rattle.warm_files.specs.Writing.{StopsWriting}
 use Rattle.warm_frames.specs.declared.message.Message.{Message}
 use Rattle.warm_frames.specs.Reading.{Gives, read_frame, reserved_by}
 use Rattle.warm_frames.specs.Spelling.{Spells, spelling}
@@ -14,10 +16,10 @@ use Rattle.warm_gossip.specs.declared.call.Reply.{Reply}
 use Rattle.warm_gossip.specs.declared.call.Reply.TheVariants.{Done, Sent, Answers, Kept, Pinned, Bytes, Page, Pages, Loaded, Refused}
 use Rattle.warm_gossip.specs.declared.fault.NodeFault.{NodeFault}
 use Rattle.warm_gossip.specs.declared.fault.NodeFault.TheVariants.{Memory}
-use Rattle.warm_gossip.specs.Clauses.{Goes, SameView, WriteBackFails}
+use Rattle.warm_gossip.specs.Clauses.{Goes, Joins, SameView, WriteBackFails}
 use Rattle.warm_c.specs.declared.held.Held.{Held}
 use Rattle.warm_c.specs.declared.status.Refusal.{Refusal}
-use Rattle.warm_c.specs.declared.status.Refusal.TheVariants.{Node, Frame, BufferTooSmall, BadReplica, BadBucket}
+use Rattle.warm_c.specs.declared.status.Refusal.TheVariants.{Node, Frame, BufferTooSmall, BadReplica, BadBucket, Dump}
 use Rattle.warm_c.specs.declared.values.PinnedSlot.{PinnedSlot}
 use Rattle.warm_c.specs.declared.values.WarmPage.{WarmPage}
 use Rattle.warm_c.specs.declared.values.WarmReference.{WarmReference}
@@ -149,3 +151,23 @@ PutsNext (Some message) before len after len' old ending new = PutsFrame message
 
 abbrev pub GivesNext : List ℕ → ℕ → List ℕ → ℕ → Held → Ending → Held → Type 0
 GivesNext before len after len' old ending new = PutsNext (next_answer old) before len after len' old ending new
+
+-- Dumps
+
+-- Why a dump is not written: an allocation failed, or the writer did.
+abbrev pub IsUnsaved : Refusal → Type 0
+IsUnsaved (Dump why) = StopsWriting why
+IsUnsaved why = ⊥
+
+-- What the handle holds is as it was. Of what a file then holds nothing can be said.
+abbrev pub Saves : Held → Ending → Held → Type 0
+Saves old (Ok given) new = new ≡ old
+Saves old (Err why) new = IsUnsaved why × (new ≡ old)
+
+-- The node has joined a history, of which the bytes are a dump, where they are known. Or they show why they are none, or were not read, and
+-- nothing has changed; or an allocation for the join failed, and nothing has changed that a caller sees.
+abbrev pub Loads : Option (List ℕ) → Held → Ending → Held → Type 0
+Loads bytes old (Ok given) new = ((h : HistoryView) × IsHistory h × IfSome bytes (λ text. IsDump text h) × Joins old.node h new.node) × SameAnswers old new
+Loads bytes old (Err (Node Memory)) new = SameView old.node new.node × SameAnswers old new
+Loads bytes old (Err (Dump why)) new = ((at : ℕ) × IfSome bytes (λ text. IsRefused text at why)) × (new ≡ old)
+Loads bytes old (Err why) new = ⊥

@@ -18,10 +18,15 @@ frame_name_at n =
     if n == 40 then codes "BadTag" else (if n == 41 then codes "BadStamp" else (if n == 42 then codes "BadOrder" else (
     if n == 43 then codes "Failed" else codes "Unknown")))))))))
 
+abbrev pub dump_name_at : ℕ → List ℕ
+dump_name_at n =
+    if n == 77 then codes "CutShort" else (if n == 78 then codes "DigestsDiffer" else (if n == 79 then codes "HorizonsDiffer" else (
+    if n == 80 then codes "MoreFollows" else (if n == 81 then codes "ReadFault" else (if n == 82 then codes "WriteFault" else codes "Unknown")))))
+
 abbrev pub library_name_at : ℕ → List ℕ
 library_name_at n =
     if n == 64 then codes "Closed" else (if n == 65 then codes "AlreadyOpen" else (if n == 66 then codes "BufferTooSmall" else (
-    if n == 67 then codes "BadReplica" else (if n == 68 then codes "BadBucket" else codes "Unknown"))))
+    if n == 67 then codes "BadReplica" else (if n == 68 then codes "BadBucket" else dump_name_at n))))
 
 -- the name of the status with this number
 abbrev pub name_at : ℕ → List ℕ

@@ -3,15 +3,23 @@ use Rattle.std.specs.Prelude.{ℕ, ℤ, pos, ◌+◌, List, Result, Ok, Err, cod
 use Rattle.warm_frames.specs.declared.fault.FrameFault.{FrameFault}
 use Rattle.warm_frames.specs.declared.fault.FrameFault.TheVariants as frame
 use Rattle.warm_frames.specs.Faults as frame_faults
+use Rattle.warm_files.specs.declared.fault.DumpFault.{DumpFault}
+use Rattle.warm_files.specs.declared.fault.DumpFault.TheVariants as dump
+use Rattle.warm_files.specs.Faults as dump_faults
 use Rattle.warm_pool.specs.Faults as pool_faults
 use Rattle.warm_gossip.specs.Faults as node_faults
 use Rattle.warm_c.specs.declared.status.Refusal.{Refusal}
-use Rattle.warm_c.specs.declared.status.Refusal.TheVariants.{Node, NewPool, Frame, Closed, AlreadyOpen, BufferTooSmall, BadReplica, BadBucket}
+use Rattle.warm_c.specs.declared.status.Refusal.TheVariants.{Node, NewPool, Frame, Closed, AlreadyOpen, BufferTooSmall, BadReplica, BadBucket, Dump}
 
 -- an allocation failure is 1, wherever it comes; of another fault of a frame it is the fault's own number and 32
 abbrev pub frame_code_of : FrameFault → ℕ
 frame_code_of frame.Memory = 1
 frame_code_of fault = 32 + frame_faults.fault_code fault
+
+-- of a frame's fault in a dump it is the frame's; of another fault of a dump it is the fault's own number and 64
+abbrev pub dump_code_of : DumpFault → ℕ
+dump_code_of (dump.Frame fault) = frame_code_of fault
+dump_code_of fault = 64 + dump_faults.dump_fault_code fault
 
 abbrev pub code_of : Refusal → ℕ
 code_of (Node fault) = node_faults.code_of fault
@@ -22,6 +30,7 @@ code_of AlreadyOpen = 65
 code_of BufferTooSmall = 66
 code_of BadReplica = 67
 code_of BadBucket = 68
+code_of (Dump fault) = dump_code_of fault
 
 abbrev pub name_of : Refusal → List ℕ
 name_of (Node fault) = node_faults.name_of fault
@@ -32,6 +41,7 @@ name_of AlreadyOpen = codes "AlreadyOpen"
 name_of BufferTooSmall = codes "BufferTooSmall"
 name_of BadReplica = codes "BadReplica"
 name_of BadBucket = codes "BadBucket"
+name_of (Dump fault) = dump_faults.dump_fault_name fault
 
 -- 0, or the number of the refusal
 abbrev pub status_of : {T : Type 0} → Result T Refusal → ℤ

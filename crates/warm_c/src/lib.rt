@@ -13,12 +13,14 @@
 
 ghost use Rattle.std.specs.Prelude.{◌≡◌, pos, [], ◌∷◌, ◌++◌, length, None};
 ghost use Rattle.warm_gossip.specs.declared.call.Call.TheVariants.{Offer};
-ghost use Rattle.warm_c.specs.Calls.{Absorbs, Counts, GivesNext, Lists, Names, Pins, Raises, Reads, Receives, Sends, SendsBucket, Steps, Unpins, Writes, WritesBack};
+ghost use Rattle.warm_c.specs.Calls.{Absorbs, Counts, GivesNext, Lists, Loads, Names, Pins, Raises, Reads, Receives, Saves, Sends, SendsBucket, Steps, Unpins, Writes, WritesBack};
 ghost use Rattle.warm_c.specs.Handles.{Called, Opens, Surely, asked};
 ghost use Rattle.warm_c.specs.StatusNames.{status_name};
 ghost use Rattle.warm_c.specs.Values.{page_if, with_some};
 
 pub mod descriptor;
+mod dump_calls;
+pub mod dump_file;
 pub mod fd_device;
 mod frame_calls;
 pub mod handle;
@@ -31,6 +33,7 @@ pub mod slot;
 pub mod status;
 pub mod values;
 
+use crate::descriptor::Descriptor;
 use crate::handle::Handle;
 use crate::opening::open;
 use crate::status::{Refusal, name_of_status, put_text, status_of};
@@ -396,6 +399,40 @@ pub extern "C" fn warm_history_length(alloc: Global, handle: &mut Handle, number
     held.count(number);
     *handle = Handle::of(held);
     status_of(Ok(()))
+}
+
+/// Writes a dump of the history to the descriptor's file, from byte 0 on, and syncs it.
+///
+/// # Errors
+/// 82 where the file was not written or not synced; 1 where an allocation failed. The file may then hold any part of the dump. The
+/// handle is as it was in any case.
+#[unsafe(no_mangle)]
+pub extern "C" fn warm_save(alloc: Global, handle: &mut Handle, fd: i32) -> i32
+    ensures { Called Saves handle.old.slot.held result handle.new.slot.held }
+{
+    let Some(mut held) = handle.take(alloc) else {
+        return status_of(Err(Refusal::Closed));
+    };
+    let done = held.save(alloc, Descriptor::new(fd));
+    *handle = Handle::of(held);
+    status_of(done)
+}
+
+/// Takes in the history of the dump that the first `length` bytes of the descriptor's file are, all or nothing.
+///
+/// # Errors
+/// 35 to 42 and 77 to 80 where the bytes are no dump, by the first fault from left to right; 81 where the file was not read; 1 where an
+/// allocation failed. Nothing has changed that a caller sees.
+#[unsafe(no_mangle)]
+pub extern "C" fn warm_load(alloc: Global, handle: &mut Handle, fd: i32, length: u64) -> i32
+    ensures { Called (Loads None) handle.old.slot.held result handle.new.slot.held }
+{
+    let Some(mut held) = handle.take(alloc) else {
+        return status_of(Err(Refusal::Closed));
+    };
+    let done = held.load(alloc, Descriptor::new(fd), length);
+    *handle = Handle::of(held);
+    status_of(done)
 }
 
 /// Writes the name of a status, as many bytes of it as there is room for, and a zero byte after it where there is room left. Its length,

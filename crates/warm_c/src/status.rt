@@ -1,10 +1,11 @@
 //! Why a call is refused, as a number and by name.
 ghost use Rattle.std.specs.Prelude.{◌≡◌, [], ◌∷◌, ◌++◌};
-ghost use Rattle.warm_c.specs.Statuses.{code_of, frame_code_of, status_of};
-ghost use Rattle.warm_c.specs.StatusNames.{frame_name_at, library_name_at, name_at, pool_name_at, status_name, NamesRefusals};
+ghost use Rattle.warm_c.specs.Statuses.{code_of, dump_code_of, frame_code_of, status_of};
+ghost use Rattle.warm_c.specs.StatusNames.{dump_name_at, frame_name_at, library_name_at, name_at, pool_name_at, status_name, NamesRefusals};
 ghost use Rattle.warm_c.specs.Values.{with_some};
 
 use std::alloc::AllocError;
+use warm_files::DumpFault;
 use warm_frames::FrameFault;
 use warm_gossip::NodeFault;
 use warm_pool::NewPoolFault;
@@ -28,6 +29,9 @@ pub enum Refusal {
     BadReplica,
     /// 68: a bucket's number is 0 to 63.
     BadBucket,
+    /// 1, 35 to 42, or 77 to 82: why a dump is not written or not read. That of a frame in it is the frame's; others are the fault's
+    /// own number and 64.
+    Dump(DumpFault),
 }
 
 /// An allocation failure is `Memory`.
@@ -67,6 +71,18 @@ impl From<FrameFault> for Refusal {
     }
 }
 
+/// A fault of a dump is `Dump`, with which.
+impl From<DumpFault> for Refusal {
+    ghost use Rattle.std.specs.Prelude.{◌≡◌};
+    ghost use Rattle.warm_c.specs.declared.status.Refusal.TheVariants.{Dump};
+
+    ghost from_gives = { λ fault why. why ≡ Dump fault };
+
+    fn from(fault: DumpFault) -> Refusal {
+        Refusal::Dump(fault)
+    }
+}
+
 impl Refusal {
     /// Its number.
     pub fn code(self) -> u8
@@ -81,6 +97,7 @@ impl Refusal {
             Refusal::BufferTooSmall => 66,
             Refusal::BadReplica => 67,
             Refusal::BadBucket => 68,
+            Refusal::Dump(fault) => dump_code(fault),
         }
     }
 }
@@ -101,6 +118,21 @@ fn frame_code(fault: FrameFault) -> u8
         FrameFault::BadStamp => 41,
         FrameFault::BadOrder => 42,
         FrameFault::Failed => 43,
+    }
+}
+
+// The number of a dump's fault among the statuses.
+fn dump_code(fault: DumpFault) -> u8
+    ensures { result ≡ dump_code_of fault }
+{
+    match fault {
+        DumpFault::Frame(fault) => frame_code(fault),
+        DumpFault::CutShort => 77,
+        DumpFault::DigestsDiffer => 78,
+        DumpFault::HorizonsDiffer => 79,
+        DumpFault::MoreFollows => 80,
+        DumpFault::ReadFault => 81,
+        DumpFault::WriteFault => 82,
     }
 }
 
@@ -166,6 +198,21 @@ fn library_name(number: u32) -> &'static str
         66 => "BufferTooSmall",
         67 => "BadReplica",
         68 => "BadBucket",
+        _ => dump_name(number),
+    }
+}
+
+// The names of the statuses of dumps, from 77 on.
+fn dump_name(number: u32) -> &'static str
+    ensures { result.now ≡ dump_name_at number }
+{
+    match number {
+        77 => "CutShort",
+        78 => "DigestsDiffer",
+        79 => "HorizonsDiffer",
+        80 => "MoreFollows",
+        81 => "ReadFault",
+        82 => "WriteFault",
         _ => "Unknown",
     }
 }

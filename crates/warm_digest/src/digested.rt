@@ -10,6 +10,7 @@ use crate::kept::Digests;
 use std::alloc::{AllocError, Global};
 use std::marker::Model;
 use warm_frames::DigestTable;
+use warm_history::laws::is_history;
 use warm_history::{Entry, History};
 use warm_stamps::Reference;
 
@@ -105,6 +106,25 @@ impl DigestedHistory {
         ensures err { OnErr result (self.new ≡ self.old) }
     {
         let changed = self.history.join_entries(horizon, more)?;
+        self.changed |= changed;
+        Ok(changed)
+    }
+
+    /// Takes in all entries of another history, as [`History::join`] does: `AllocError` changes
+    /// nothing. It marks the buckets whose entries changed, including those that lost a stamp to the
+    /// horizon, and returns the set of them.
+    pub fn join(&mut self, other: &History) -> Result<u64, AllocError>
+        ensures exact { OnOk result (self.new.history ≡ join self.old.history other.now) }
+        ensures changed { IfOk result
+            (MarksChanged (entries_of self.old.history) (entries_of self.new.history)) }
+        ensures none { IfOk result (λ changed.
+            changed ≡ 0 → entries_of self.new.history ≡ entries_of self.old.history) }
+        ensures marks { OnOk result (MarksChanges self.old self.new) }
+        ensures err { OnErr result (self.new ≡ self.old) }
+    {
+        // Where no bucket changed, no entry did: the pages of both lists rise.
+        is_history(&self.history);
+        let changed = self.history.join(other)?;
         self.changed |= changed;
         Ok(changed)
     }

@@ -4,7 +4,7 @@ ghost use Rattle.warm_gossip.specs.declared.call.Call.TheVariants.{Absorb, Send,
 ghost use Rattle.warm_gossip.specs.declared.call.Reply.TheVariants.{Sent, Answers, Kept, Pages};
 ghost use Rattle.warm_gossip.specs.declared.fault.NodeFault.TheVariants.{Memory};
 ghost use Rattle.warm_gossip.specs.Answers.{IsAnswer};
-ghost use Rattle.warm_gossip.specs.Clauses.{Answered, Goes, Learns, SameView, done};
+ghost use Rattle.warm_gossip.specs.Clauses.{Answered, Goes, Joins, Learns, SameView, done};
 
 use crate::answers::{answer_to_digests, horizon_of, requested_messages};
 use crate::fault::NodeFault;
@@ -12,8 +12,8 @@ use crate::node::Node;
 use crate::warm_step::WarmUp;
 use warm_devices::PageDevice;
 use warm_frames::{EntryList, MAX_ENTRIES, Message, MessageList};
-use warm_history::Entry;
 use warm_history::laws::is_history;
+use warm_history::{Entry, History};
 use warm_rank::warm_list;
 use warm_stamps::{Bucket, PageId, PageList, Reference};
 
@@ -55,6 +55,31 @@ impl<D: PageDevice> Node<D> {
             return Ok(());
         }
         self.pool.refresh(self.history.history(), entries);
+        Ok(())
+    }
+
+    /// Takes in all that another history stands for: of all references of both, those are kept that
+    /// are not before the later horizon. It is what a round of gossip with the history's owner
+    /// would bring, in one step, as a restored history is brought.
+    ///
+    /// Where no entry changes, digests and the warm-up list stay cached, and no page is ranked
+    /// again; otherwise all resident pages are.
+    ///
+    /// # Errors
+    /// `Memory`: an allocation failed; nothing has changed that a caller sees.
+    pub fn join(&mut self, other: &History) -> Result<(), NodeFault>
+        ensures joined { OnOk result (Joins self.old other.now self.new) }
+        ensures refused { IfErr result (λ why. (why ≡ Memory) × SameView self.old self.new) }
+    {
+        // A history ranks pages by its entries alone.
+        is_history(self.history.history());
+        let changed = self.history.join(other)?;
+        // The same entries rank pages alike at any horizon.
+        if changed == 0 {
+            return Ok(());
+        }
+        self.warm_up = WarmUp::new();
+        self.pool.refresh_all(self.history.history());
         Ok(())
     }
 
