@@ -233,7 +233,8 @@ impl Gathered {
     fn read_all<R: Read>(&mut self, reader: &mut R) -> Result<(), DumpFault>
         requires { HasRead [] self.old }
         ensures end { OnOk result (IsAtEnd (R.remaining reader.new)) }
-        ensures read { OnOk result (IfSome (R.remaining reader.old) (λ text. HasRead text self.new)) }
+        ensures read { OnOk result (IfSome (R.remaining reader.old)
+            (λ text. HasRead text self.new)) }
         ensures refused { IfErr result (λ why. IfSome (R.remaining reader.old)
             (λ text. IsRefused text self.new.at why)) }
     {

@@ -30,9 +30,10 @@ pub fn pieces_in_turn()
 {}
 
 /// A round of gossip: a replica offers the digests of its history to another, and each receives all
-/// answers of the other, until both have answered. Afterwards both histories are the join of the
-/// two before; or two different texts of one bucket, one of each replica, have the same SHA-256
-/// digest.
+/// answers of the other, until both have answered. Afterwards both histories have the entries of the
+/// join of the two before. The second has the join's horizon, the later one; the first has it where
+/// the second answered the offer. Or two different texts of one bucket, one of each replica, have
+/// the same SHA-256 digest: that of the second replica at the later horizon.
 pub fn gossip_round_joins()
     ensures { GossipRoundJoins }
 {}
@@ -108,9 +109,8 @@ pub fn node_fits<D: PageDevice>(node: &Node<D>)
     are_entries(node.history().unordered());
 }
 
-/// [`gossip_round_joins`] for two given nodes: any round that they then have makes their histories
-/// the join of the two, or there is a collision. It scans the entries of both once, and is
-/// allocation-free.
+/// [`gossip_round_joins`] for two given nodes, of any round that they then have. It scans the
+/// entries of both once, and is allocation-free.
 pub fn nodes_join<D: PageDevice, E: PageDevice>(one: &Node<D>, other: &Node<E>)
     ensures { NodesJoin (node_view one.now) (node_view other.now) }
 {

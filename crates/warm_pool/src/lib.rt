@@ -7,8 +7,9 @@
 //! O'Neil, Weikum, "The LRU-K Page Replacement Algorithm For Database Disk Buffering", SIGMOD
 //! 1993), as a history ranks them. A dirty page is written back to its device before it is evicted.
 //! No call changes a byte of a page but [`Pool::write`], and [`Pool::retire`], which replaces all
-//! pages of a device with those of another. The pin count of a page is called its fixes, and a
-//! pinned page is fixed.
+//! pages of a device with those of another. That is proved of each page of an honest device, which
+//! gives back what was written to it, and otherwise of pages that are resident before and after a
+//! call. The pin count of a page is called its fixes, and a pinned page is fixed.
 //!
 //! Contracts see a pool as plain data, a `PoolState`, and `view_of` gives what a caller sees of it.
 //! They are defined in `specs/State.antt` and `specs/View.antt`, and the effects of the calls in

@@ -224,8 +224,9 @@ fn run_ready<M: Absorbing + Send, R: Threads + Wait + Sync, G: Gate + Sync>(
 ///
 /// # Errors
 /// - `BadCapacity`: a job requests a buffer capacity outside 1 to [`warm_refbuffer::MAX_CAPACITY`].
-///   Nothing has happened.
-/// - `Memory`: the allocation of a buffer or of replies failed. Nothing has happened.
+///   The pass is as it was, and no job was started.
+/// - `Memory`: the allocation of a buffer or of replies failed. The pass is as it was, and no job
+///   was started.
 /// - `NoThread`: a thread could not be started; this includes an allocation failure on starting it.
 ///   The jobs that were started have run to their end, and the pass has seen their calls.
 pub fn run_workers<M: Absorbing + Send, R: Threads + Wait + Sync, G: Gate + Sync>(

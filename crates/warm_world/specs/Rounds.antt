@@ -57,9 +57,9 @@ pub record AreJoined {i j : ℕ} {old new : ModelState} (round : GossipRound i j
   pub second : known_to new j ≡ joined i j old
   pub raised : round.asked.records ≢ round.offered.records → known_to new i ≡ joined i j old
 
--- After a round both histories are the join of the two before, or two different texts of one bucket
--- have the same SHA-256 digest: one text of the first replica, and one of the second at the greater
--- horizon.
+-- After a round both histories have the entries of the join of the two before (AreJoined), or two
+-- different texts of one bucket have the same SHA-256 digest: one text of the first replica, and one
+-- of the second at the greater horizon.
 abbrev pub GossipRoundJoins : Type 0
 GossipRoundJoins = (i j : ℕ) (old new : ModelState) → ModelFits old → (round : GossipRound i j old new)
     → AreJoined round ⊎ IsCollision (known_to old i) (history (since (reach_of old i).horizon (reach_of old j)))

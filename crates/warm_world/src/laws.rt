@@ -26,10 +26,11 @@ pub fn runs_are_right()
 {}
 
 /// A round of gossip: a replica offers its digests to another, and each receives all answers of the
-/// other, with no event refused. Afterwards the histories of both are the join of the two before;
-/// or two different texts of one bucket, one of each replica, have the same SHA-256 digest. It
-/// holds in each state whose numbers are within their widths, and so, by the three laws below,
-/// after any events.
+/// other, with no event refused. Afterwards the histories of both have the entries of the join of
+/// the two before. The second has the join's horizon, the later one; the first has it where the
+/// second answered the offer. Or two different texts of one bucket, one of each replica, have the
+/// same SHA-256 digest: that of the second replica at the later horizon. It holds in each state
+/// whose numbers are within their widths, and so, by the three laws below, after any events.
 pub fn gossip_round_joins()
     ensures { GossipRoundJoins }
 {}
