@@ -7,12 +7,12 @@
 //! standby shuts down in an orderly way. Each refusal is an error, and `?` returns it.
 #![tactic(auto)]
 
-use anyhow::{Result, bail, ensure};
+use anyhow::{Result, bail};
 use std::alloc::Global;
 use std::io::Print;
 use warm_devices::MemDevice;
 use warm_files::{read_dump, write_dump};
-use warm_frames::{Decoder, Fed, decode, encode};
+use warm_frames::{decode, encode};
 use warm_gossip::Node;
 use warm_pool::Pool;
 use warm_stamps::{PageId, Reference, ReplicaId, Stamp};
@@ -109,28 +109,12 @@ fn dumped(alloc: Global, node: &Node<MemDevice>) -> Result<Vec<u8>> {
     Ok(bytes)
 }
 
-// Gives a node the history of a dump: each of its frames is a message. To the last one, of digests,
-// a node that knows no more answers nothing.
+// Gives a node the history of a dump, all or nothing: the whole dump was read, and its digests were
+// compared, before the node takes anything in.
 fn restore(alloc: Global, node: &mut Node<MemDevice>, dump: &[u8]) -> Result<()> {
-    // The node receives nothing before the whole dump was read and its digests were compared.
     let mut reader = dump;
-    let _history = read_dump(alloc, &mut reader)?;
-    let mut decoder = Decoder::new(alloc);
-    let mut rest = dump;
-    for _ in 0..dump.len() {
-        if rest.is_empty() {
-            break;
-        }
-        let Fed { taken, frame } = decoder.feed(rest)?;
-        if let Some(frame) = frame {
-            let answers = node.receive(frame.into_frame())?;
-            ensure!(
-                answers.as_slice().is_empty(),
-                "the dump was not taken whole"
-            );
-        }
-        rest = rest.get(taken..).unwrap_or(&[]);
-    }
+    let history = read_dump(alloc, &mut reader)?;
+    node.join(&history)?;
     Ok(())
 }
 
@@ -169,7 +153,7 @@ fn live(rt: &impl Print, alloc: Global) -> Result<Vec<u8>> {
     dumped(alloc, &standby)
 }
 
-// The standby is restarted: a new node receives the dump.
+// The standby is restarted: a new node joins the history of the dump.
 fn restarted(rt: &impl Print, alloc: Global, dump: &[u8]) -> Result<Node<MemDevice>> {
     let mut standby = opened(alloc, 2)?;
     restore(alloc, &mut standby, dump)?;
