@@ -9,7 +9,7 @@ LIMIT = 60
 
 
 class Wrong(Exception):
-    """The program does otherwise than it should."""
+    """The program does not do what it should."""
 
 
 class Program:

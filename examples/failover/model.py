@@ -96,7 +96,7 @@ def size(piece: Known) -> int:
 
 
 def heard(rounds: list[list[Known]], one_of: int) -> tuple[Known, int]:
-    """What one knows to whom one of this many pieces came, a round late and two rounds late, and the bytes of it."""
+    """What a replica knows that receives one of this many pieces, a round late and two rounds late, and the bytes of that."""
     dice = random.Random(1)
     pieces = [(place, piece) for place, sent in enumerate(rounds) for piece in sent]
     known: Known = {}
@@ -111,7 +111,7 @@ def heard(rounds: list[list[Known]], one_of: int) -> tuple[Known, int]:
 
 
 class Takeover:
-    """The replicas at a takeover, and what they are found to do."""
+    """The replicas at a takeover, and what they do afterwards."""
 
     def __init__(
         self, trace: list[tuple[int, int]], frames: int, interval: int, accesses: int, habit: Habit, moment: int

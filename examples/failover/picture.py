@@ -42,11 +42,11 @@ class Panel:
         self.blocks = len(next(iter(result.outcomes.values())).hits)
 
     def x(self, accesses: float) -> float:
-        """Where so many accesses stand."""
+        """The place of this many accesses on the axis."""
         return round(self.left + self.width * accesses / (BLOCK * self.blocks), 1)
 
     def y(self, ratio: float) -> float:
-        """Where a ratio stands."""
+        """The place of a ratio on the axis."""
         return round(self.top + self.height * (1 - ratio) / (1 - self.lowest), 1)
 
     def draw(self) -> str:

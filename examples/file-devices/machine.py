@@ -60,7 +60,7 @@ def small_memory(target: Path, size: int) -> None:
 
 
 def read_only(file: Path) -> None:
-    """The file can be read and not written, by root neither."""
+    """The file can be read and not written, not even by root."""
     mount(str(file), file, None, MS_BIND, None)
     mount("none", file, None, MS_BIND | MS_REMOUNT | MS_RDONLY, None)
 

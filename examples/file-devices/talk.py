@@ -12,11 +12,11 @@ CLOSED = "end refused 12 Fault"
 
 
 class Fault(Exception):
-    """The program answered otherwise than it should."""
+    """The program gave another answer than it should."""
 
 
 class Gone(Exception):
-    """The program is there no more."""
+    """The program has ended."""
 
 
 def write_setup(file: Path, frames: int, page_size: int, replicas: int, devices: list[tuple[Path, int]]) -> None:
@@ -57,7 +57,7 @@ class Player:
         self._process.communicate()
 
     def kill(self) -> None:
-        """Ends the program as it stands, by its own number."""
+        """Kills the program at once, by its process number."""
         os.kill(self._process.pid, signal.SIGKILL)
 
     def send(self, line: str) -> None:

@@ -61,7 +61,7 @@ class Frame:
 
 @dataclass
 class Replica:
-    """A replica: what it heard, what waits, and its pool over a device of its own. Nothing stays fixed between accesses."""
+    """A replica: what it received, what waits, and its pool over a device of its own. Nothing stays fixed between accesses."""
 
     number: int
     horizon: int = 0
