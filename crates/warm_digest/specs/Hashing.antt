@@ -1,8 +1,10 @@
--- The input of a hasher.
-use Rattle.std.specs.Prelude.{ℕ, List, ◌++◌}
+-- The input of a hasher that is gathered in a text first.
+use Rattle.std.specs.Prelude.{◌≡◌, ℕ, List, ◌++◌}
 use Rattle.sha2.specs.Hashers.{Holds256}
 use Rattle.sha2.specs.declared.Sha256.{Sha256}
 
--- the hasher has taken these bytes after all that it had taken before
-abbrev pub TakesBytes : Sha256 → Sha256 → List ℕ → Type 0
-TakesBytes old new bytes = (before : List ℕ) → Holds256 old before → Holds256 new (before ++ bytes)
+-- these bytes are what the hasher has taken, and then the text
+pub record Gathers (hasher : Sha256) (text bytes : List ℕ) : Type 0 where
+  pub taken : List ℕ
+  pub held : Holds256 hasher taken
+  pub all : taken ++ text ≡ bytes

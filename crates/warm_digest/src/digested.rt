@@ -188,8 +188,8 @@ impl DigestedHistory {
     /// same as [`DigestedHistory::digests`]. Otherwise each bucket is scanned up to its first older
     /// stamp. Only the buckets that have such a stamp, and the marked ones, are hashed: their
     /// entries as they are read, without older stamps. A marked bucket stays marked where it has
-    /// such a stamp. `AllocError` occurs only where the allocation for the bytes of one entry
-    /// fails.
+    /// such a stamp. `AllocError` occurs only where the allocation of a buffer of 4,096 bytes and
+    /// one entry fails.
     pub fn digests_since(&mut self, horizon: u64) -> Result<DigestTable, AllocError>
         ensures table { IfOk result (λ table. table ≡ digests_since horizon self.old.history) }
         ensures same { self.new.history ≡ self.old.history }

@@ -1,13 +1,13 @@
 //! Cached digests, recomputed only for the buckets that changed. A set of buckets is a number of 64
 //! bits: bit b, of value 2^b, is set where bucket b is in the set.
-ghost use Rattle.std.specs.Prelude.{◌≡◌, [], length, IfOk, IsOk, OnOk, OnErr};
+ghost use Rattle.std.specs.Prelude.{◌≡◌, ◌++◌, ℕ, List, [], length, IfOk, IsOk, OnOk, OnErr};
 ghost use Rattle.sha2.specs.Sha256.{sha256};
 ghost use Rattle.warm_stamps.specs.declared.TheConstants.{BUCKETS};
 ghost use Rattle.warm_history.specs.Histories.{entries_of};
 ghost use Rattle.warm_history.specs.Losses.{raised};
 ghost use Rattle.warm_frames.specs.Entries.{entry_bytes, entries_bytes};
 ghost use Rattle.warm_digest.specs.BucketDigests.{digests_of};
-ghost use Rattle.warm_digest.specs.Hashing.{TakesBytes};
+ghost use Rattle.warm_digest.specs.Hashing.{Gathers};
 ghost use Rattle.warm_digest.specs.KeptDigests.{HasDigestsOf, SameDigestsOutside};
 
 use sha2::{Digest, Sha256};
@@ -17,6 +17,11 @@ use warm_frames::{DIGEST_SIZE, DigestTable, MAX_ENTRY_SIZE, put_entry};
 use warm_history::laws::is_history;
 use warm_history::{EntriesSince, Entry, History};
 use warm_stamps::{BUCKETS, Bucket};
+
+// The hasher is given the bytes of entries once they are as many as this, so that it hashes whole
+// blocks where they are: given one entry at a time, it takes a tenth longer. Twice as many gain
+// less than a hundredth.
+const HASHED_SIZE: usize = 4_096;
 
 /// The digests of a history's buckets as they were when each was last computed.
 ///
@@ -61,8 +66,8 @@ impl Digests {
     /// Bit b of `buckets`, of value 2^b, is set for bucket b.
     ///
     /// Costs a scan of the entries of these buckets, and hashing their bytes. For an empty set it
-    /// costs nothing and never fails. `AllocError` occurs only where the allocation for the bytes
-    /// of one entry fails, and changes nothing.
+    /// costs nothing and never fails. `AllocError` occurs only where the allocation of a buffer of
+    /// 4,096 bytes and one entry fails, and changes nothing.
     pub fn renew(&mut self, history: &History, buckets: u64) -> Result<(), AllocError>
         ensures wanted { OnOk result (HasDigestsOf buckets (entries_of history.now) self.new) }
         ensures others { OnOk result (SameDigestsOutside buckets self.old self.new) }
@@ -100,25 +105,34 @@ impl Digests {
     }
 }
 
-// Feeds the bytes of an entry to a hasher; the text is the buffer into which they are written.
-fn take_entry(hasher: &mut Sha256, text: &mut Vec<u8>, entry: Entry) -> Result<(), AllocError>
-    ensures { OnOk result (TakesBytes hasher.old hasher.new (entry_bytes entry)) }
+// Appends the bytes of an entry to the text. Once these are many, the hasher takes them all.
+fn gather_entry(hasher: &mut Sha256, text: &mut Vec<u8>, entry: &Entry) -> Result<(), AllocError>
+    ensures { (bytes : List ℕ) → Gathers hasher.old text.old.items bytes
+        → OnOk result (Gathers hasher.new text.new.items (bytes ++ entry_bytes entry.now)) }
 {
-    text.clear();
-    put_entry(text, &entry)?;
+    put_entry(text, entry)?;
+    if text.len() < HASHED_SIZE {
+        return Ok(());
+    }
     hasher.update(text.as_slice());
+    text.clear();
     Ok(())
 }
 
-// The digest of entries. The text is a buffer with capacity for the bytes of one of them, and is
-// overwritten.
-fn digest_of(entries: EntriesSince<'_>, text: &mut Vec<u8>) -> Result<[u8; DIGEST_SIZE], AllocError>
+// The digest of entries. The buffer is overwritten. With capacity for `HASHED_SIZE` bytes and the
+// bytes of an entry it never grows.
+fn digest_of(
+    entries: EntriesSince<'_>,
+    buffer: &mut Vec<u8>,
+) -> Result<[u8; DIGEST_SIZE], AllocError>
     ensures { IfOk result (λ digest. digest ≡ sha256 (entries_bytes entries.entry)) }
 {
+    buffer.clear();
     let mut hasher = Sha256::new();
     for entry in entries {
-        take_entry(&mut hasher, text, entry)?;
+        gather_entry(&mut hasher, buffer, &entry)?;
     }
+    hasher.update(buffer.as_slice());
     Ok(hasher.finalize())
 }
 
@@ -134,7 +148,7 @@ fn renewed(
     ensures wanted { IfOk result (HasDigestsOf buckets (entries_of (raised horizon history.now))) }
     ensures others { IfOk result (SameDigestsOutside buckets digests) }
 {
-    let mut text = Vec::with_capacity(alloc, MAX_ENTRY_SIZE)?;
+    let mut buffer = Vec::with_capacity(alloc, HASHED_SIZE + MAX_ENTRY_SIZE)?;
     for index in 0..BUCKETS {
         if (buckets >> index) % 2 == 1 {
             let Some(bucket) = Bucket::new(index) else {
@@ -142,7 +156,7 @@ fn renewed(
             };
             digests[usize::from(index)] = digest_of(
                 history.bucket_since(bucket, horizon),
-                &mut text,
+                &mut buffer,
             )?;
         }
     }
