@@ -36,7 +36,7 @@ pub length-pairs_of : (ms : List (BTreeMap ℕ PageHist)) → length (pairs_of m
 length-pairs_of [] = refl
 length-pairs_of (x ∷ ms) = ap suc (length-pairs_of ms)
 
-with_same : (ms : List Pairs) (i : ℕ) → with_map ms i (map_at ms i) ≡ ms
+pub with_same : (ms : List Pairs) (i : ℕ) → with_map ms i (map_at ms i) ≡ ms
 with_same [] i = refl
 with_same (m ∷ ms) zero = refl
 with_same (m ∷ ms) (suc i) = ap (λ t. m ∷ t) (with_same ms i)
@@ -73,7 +73,7 @@ buckets_with b i n [] are all = tt
 buckets_with b zero n (m ∷ ms) are all = (first_back b n all, are.1)
 buckets_with b (suc i) n (m ∷ ms) are all = (are.0, buckets_with (b + 1) i n ms are.1 (back b i n all))
 
-in_insert : (b p : ℕ) (h : PageHist) (m : Pairs) → LiesIn b p → AllIn b m → AllIn b (insert_entry nat_cmp m p h)
+pub in_insert : (b p : ℕ) (h : PageHist) (m : Pairs) → LiesIn b p → AllIn b m → AllIn b (insert_entry nat_cmp m p h)
 in_insert b p h [] is all = (is, tt)
 in_insert b p h (e ∷ m) is all = by_cases (nat_cmp p e.0) _
     (λ pe. rw pe (is, all))

@@ -138,7 +138,7 @@ apart q p buckets = cases (is_eq (page_cmp q p)) refl
     cases false other = refl
 
 -- an entry that is taken in changes no other bucket than that of its page
-others_stay : (old new : List Entry) (e : Entry) (bucket : ℕ) → IsHistory old → PagesRise new → new ≡ history (refs old ++ entry_refs e) → page_bucket e.page ≢ bucket → StaysIn bucket old new
+pub others_stay : (old new : List Entry) (e : Entry) (bucket : ℕ) → IsHistory old → PagesRise new → new ≡ history (refs old ++ entry_refs e) → page_bucket e.page ≢ bucket → StaysIn bucket old new
 others_stay old new e bucket whole rise is away = same_bucket bucket new old rise whole.pages_rise (λ p there.
     ap (λ es. get es p) is
     ∙ get-history (refs old ++ entry_refs e) p
@@ -146,24 +146,24 @@ others_stay old new e bucket whole rise is away = same_bucket bucket new old ris
     ∙ rw (apart e.page p (λ same. away (same ∙ there))) (hist-refs old whole p))
 
 -- a place lies in the bucket of its page
-lies_in : (bucket place : ℕ) → first_place bucket ≤ place → place < first_place (bucket + 1) → bucket ≡ place / 1208925819614629174706176
+pub lies_in : (bucket place : ℕ) → first_place bucket ≤ place → place < first_place (bucket + 1) → bucket ≡ place / 1208925819614629174706176
 lies_in bucket place from to = omega arith
 
-own_bucket : (place : ℕ) → IsPlace place → page_bucket (page_at place) ≡ place / 1208925819614629174706176
+pub own_bucket : (place : ℕ) → IsPlace place → page_bucket (page_at place) ≡ place / 1208925819614629174706176
 own_bucket place is = lies_in (page_bucket (page_at place)) place (from_first place is) (below_next place is)
 
 -- a single bucket, as code makes its set
 alone : (n b : ℕ) → bit_at (bit_or 0 n) b ≡ bit_at n b
 alone n b = omega (arith, bit_at_or 0 n b, bit_at-zero b)
 
-in_it : (i : ℕ) → i < 64 → bit_at (1 * 2 ^ i % 2 ^ 64) i ≡ 1
+pub in_it : (i : ℕ) → i < 64 → bit_at (1 * 2 ^ i % 2 ^ 64) i ≡ 1
 in_it i low = sym (alone (1 * 2 ^ i % 2 ^ 64) i) ∙ bit_at_set_same w64 0 i low
 
-not_in_it : (i b : ℕ) → i < 64 → b ≢ i → bit_at (1 * 2 ^ i % 2 ^ 64) b ≡ 0
+pub not_in_it : (i b : ℕ) → i < 64 → b ≢ i → bit_at (1 * 2 ^ i % 2 ^ 64) b ≡ 0
 not_in_it i b low other = sym (alone (1 * 2 ^ i % 2 ^ 64) b) ∙ bit_at_set_other w64 0 i low b other ∙ bit_at-zero b
 
 -- where something else is found at a place, the bucket changes in which it lies
-changes_at : (old new : Pairs) (place : ℕ) → IsPlace place → AreKept old → AreKept new → found place new ≢ found place old → bucket_entries (page_bucket (page_at place)) (kept new) ≢ bucket_entries (page_bucket (page_at place)) (kept old)
+pub changes_at : (old new : Pairs) (place : ℕ) → IsPlace place → AreKept old → AreKept new → found place new ≢ found place old → bucket_entries (page_bucket (page_at place)) (kept new) ≢ bucket_entries (page_bucket (page_at place)) (kept old)
 changes_at old new place is are_old are_new differs same =
     let p = page_at place in
     differs (

@@ -23,6 +23,8 @@ pub mod ChangeLemmas
 pub mod RecordLemmas
 pub mod BucketSteps
 pub mod BucketCounts
+pub mod RunLemmas
+pub mod RunPairs
 pub mod BucketParts
 pub mod MergedParts
 pub mod SetLemmas

@@ -64,11 +64,11 @@ removed p h (e ∷ pairs) none = cases (removed p h pairs) (nat_cmp p e.0) refl
         let rest : found p pairs ≡ None = sym (ap (λ o. cond (is_eq o) (Some e.1) (found p pairs)) pe) ∙ none in
         rw pe (rw pe (ap (λ t. e ∷ t) (later rest)))
 
-no_later : (p : ℕ) (pairs : Pairs) → AreAbove p pairs → found p pairs ≡ None
+pub no_later : (p : ℕ) (pairs : Pairs) → AreAbove p pairs → found p pairs ≡ None
 no_later p [] all = refl
 no_later p (e ∷ pairs) all = let less : nat_cmp p e.0 ≡ Less = all.0 in rw less (no_later p pairs all.1)
 
-below_all : (p q : ℕ) (pairs : Pairs) → nat_cmp p q ≡ Less → AreAbove q pairs → AreAbove p pairs
+pub below_all : (p q : ℕ) (pairs : Pairs) → nat_cmp p q ≡ Less → AreAbove q pairs → AreAbove p pairs
 below_all p q [] less all = tt
 below_all p q (e ∷ pairs) less all = (nat_order.total.trans p q e.0 less all.0, below_all p q pairs less all.1)
 

@@ -11,6 +11,7 @@ pub mod LatestTwo
 pub mod Places
 pub mod Tree
 pub mod BucketMaps
+pub mod Runs
 pub mod Merges
 pub mod Cuts
 pub mod Undo

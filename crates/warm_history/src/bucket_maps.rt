@@ -1,12 +1,14 @@
 //! A map from places, stored as one map per bucket, so that each look-up searches a small map.
 ghost use Rattle.std.specs.Iterator.{YieldsFirst};
-ghost use Rattle.std.specs.Prelude.{◌≡◌, ◌≢◌, ◌+◌, ◌<◌, ◌≤◌, ◌^◌, [], length, map, OnOk, OnErr, IfOk, IfSome, IfNone, None, Some, ◌++◌};
+ghost use Rattle.std.specs.Prelude.{◌≡◌, ◌≢◌, ◌+◌, ◌<◌, ◌≤◌, ◌^◌, [], length, map, OnOk, OnErr, IfOk, IfSome, IfNone, IsTrue, None, Some, ◌++◌};
+ghost use Rattle.std.specs.List.{AllByRecursion};
 ghost use Rattle.warm_history.specs.ListHistories.{held, latest_of, stamps_held};
 ghost use Rattle.warm_history.specs.Places.{IsPlace};
 ghost use Rattle.warm_history.specs.Cuts.{cut_at};
 ghost use Rattle.warm_stamps.specs.declared.TheConstants.{BUCKETS};
 ghost use Rattle.warm_history.specs.Tree.{AreKept, TakesStamps};
-ghost use Rattle.warm_history.specs.BucketMaps.{joined, pairs_of, pairs_left, HoldsBucket, PlacesRise, Records, TellsNote, found};
+ghost use Rattle.warm_history.specs.BucketMaps.{joined, pairs_of, pairs_left, HoldsBucket, LiesIn, PlacesRise, Records, TellsNote, found};
+ghost use Rattle.warm_history.specs.Runs.{filled};
 ghost use Rattle.warm_history.specs.Undo.{put_back, noted, Undoes};
 
 use crate::hist::{PageHist, join_hist, join_known, keep_since};
@@ -15,6 +17,7 @@ use std::alloc::{AllocError, Global};
 use std::array;
 use std::collections::BTreeMap;
 use std::collections::btree_map::Range;
+use std::iter::FromIterator;
 use std::marker::Model;
 use warm_stamps::BUCKETS;
 
@@ -128,6 +131,34 @@ impl BucketMaps {
         record_in(&mut self.maps[bucket_at(place)], place, more, likely_new)
     }
 
+    // Whether no place of the bucket of this number has a value. Allocation-free.
+    pub(crate) fn is_free(&self, number: u8) -> bool
+        requires { number < BUCKETS }
+        ensures { IsTrue result → HoldsBucket number [] self.now }
+    {
+        self.map_of(number).is_empty()
+    }
+
+    // Makes pairs at rising places the map of the bucket of this number, which has none: they are
+    // not inserted one after the other.
+    pub(crate) fn fill(
+        &mut self,
+        alloc: Global,
+        number: u8,
+        pairs: Vec<(u128, PageHist)>,
+    ) -> Result<(), AllocError>
+        requires number { number < BUCKETS }
+        requires free { HoldsBucket number [] self.old }
+        requires rise { PlacesRise pairs.items }
+        requires inside { AllByRecursion (λ e. LiesIn number e.0) pairs.items }
+        ensures ok { OnOk result (self.new ≡ filled self.old pairs.items) }
+        ensures err { OnErr result (self.new ≡ self.old) }
+    {
+        let map = map_from(alloc, pairs)?;
+        self.maps[number as usize] = map;
+        Ok(())
+    }
+
     // Restores the old value of a page. Allocation-free.
     pub(crate) fn put_back(&mut self, known: Known)
         ensures { self.new ≡ put_back known.place known.hist self.old }
@@ -206,6 +237,22 @@ fn count_all(maps: &[BTreeMap<u128, PageHist>]) -> usize
     count
 }
 
+// The map of pairs at rising places. All its nodes are full, but for the last ones.
+fn map_from(
+    alloc: Global,
+    pairs: Vec<(u128, PageHist)>,
+) -> Result<BTreeMap<u128, PageHist>, AllocError>
+    requires { PlacesRise pairs.items }
+    ensures same { IfOk result (λ map. map.entries ≡ pairs.items) }
+    ensures small { IfOk result (λ map. length map.entries < MOST) }
+{
+    if pairs.len() >= MOST {
+        return Err(AllocError);
+    }
+    let map = BTreeMap::from_iter(alloc, pairs)?;
+    Ok(map)
+}
+
 // Takes in the given stamps of the page at a place of the map's own bucket.
 fn record_in(
     map: &mut BTreeMap<u128, PageHist>,
@@ -279,7 +326,7 @@ fn record_likely_known(
 }
 
 // The two latest of these stamps, of a page that has no entry yet.
-fn alone(more: &PageHist) -> PageHist
+pub(crate) fn alone(more: &PageHist) -> PageHist
     ensures { Some result ≡ latest_of (stamps_held more.now ++ held None) }
 {
     join_known(None, *more)

@@ -19,6 +19,7 @@ mod merges;
 mod order;
 mod parts;
 mod place;
+mod runs;
 mod since;
 mod tree;
 

@@ -23,6 +23,7 @@ ghost use Rattle.warm_history.specs.Undo.{undone, LeadsBack};
 use crate::bucket_maps::{BucketMaps, Known};
 use crate::hist::{Entry, PageHist};
 use crate::place::{bucket_at, place_of};
+use crate::runs::{bucket_to_fill, take_run};
 use std::alloc::{AllocError, Global};
 use warm_stamps::{PageId, Reference};
 
@@ -69,7 +70,7 @@ pub(crate) fn take_references(
 }
 
 // Takes in all stamps of entries that are not older than the horizon or, where an allocation fails,
-// none. The entries may be in any order.
+// none. The entries may be in any order. Where they fill a bucket, its map is built at once.
 pub(crate) fn take_entries(
     alloc: Global,
     maps: &mut BucketMaps,
@@ -82,6 +83,9 @@ pub(crate) fn take_entries(
     ensures whole { AreKept maps.new }
     ensures err { OnErr result (maps.new ≡ maps.old) }
 {
+    if let Some(number) = bucket_to_fill(maps, more) {
+        return take_run(alloc, maps, horizon, number, more);
+    }
     let mut undo = Vec::new(alloc);
     match take_each_entry(maps, &mut undo, horizon, more) {
         Ok(changed) => Ok(changed),

@@ -1,0 +1,110 @@
+//! Runs: entries of one bucket at rising places, as a dump has them.
+//!
+//! Where the bucket has no entries, a run becomes its map at once: an insertion searches the map
+//! from its root for each page, and leaves its nodes half full.
+ghost use Rattle.std.specs.Prelude.{◌≡◌, [], ◌++◌, ◌<◌, IfOk, IfSome, IsTrue, OnErr, OnOk};
+ghost use Rattle.warm_history.specs.BucketMaps.{HoldsBucket};
+ghost use Rattle.warm_history.specs.Changes.{MarksChanged};
+ghost use Rattle.warm_history.specs.Runs.{IsRun, pair_left, run_pairs};
+ghost use Rattle.warm_history.specs.Tree.{AreKept, kept, TakesEntries};
+ghost use Rattle.warm_stamps.specs.declared.TheConstants.{BUCKETS};
+
+use crate::bucket_maps::{BucketMaps, alone};
+use crate::hist::{Entry, PageHist};
+use crate::place::{first_place, place_of};
+use std::alloc::{AllocError, Global};
+use warm_stamps::bucket_of;
+
+// Whether the entries are a run of the bucket of this number.
+fn is_run(number: u8, entries: &[Entry]) -> bool
+    requires { number < BUCKETS }
+    ensures { IsTrue result → IsRun number entries.now }
+{
+    let end = first_place(number + 1);
+    let mut from = first_place(number);
+    for entry in entries {
+        let place = place_of(entry.page);
+        if place < from {
+            return false;
+        }
+        if end <= place {
+            return false;
+        }
+        from = place + 1;
+    }
+    true
+}
+
+// The number of the bucket that these entries fill: they are a run of it, and it has no entries.
+// The latter is looked at first, since it costs nothing and most messages end there.
+pub(crate) fn bucket_to_fill(maps: &BucketMaps, more: &[Entry]) -> Option<u8>
+    ensures number { IfSome result (λ number. number < BUCKETS) }
+    ensures free { IfSome result (λ number. HoldsBucket number [] maps.now) }
+    ensures run { IfSome result (λ number. IsRun number more.now) }
+{
+    let first = more.first()?;
+    let number = bucket_of(first.page).get();
+    if !maps.is_free(number) {
+        return None;
+    }
+    if !is_run(number, more) {
+        return None;
+    }
+    Some(number)
+}
+
+// Takes in a run of a bucket that has no entries: all stamps that are not older than the horizon
+// or, where an allocation fails, none.
+pub(crate) fn take_run(
+    alloc: Global,
+    maps: &mut BucketMaps,
+    horizon: u64,
+    number: u8,
+    run: &[Entry],
+) -> Result<u64, AllocError>
+    requires kept { AreKept maps.old }
+    requires number { number < BUCKETS }
+    requires free { HoldsBucket number [] maps.old }
+    requires run { IsRun number run.now }
+    ensures exact { OnOk result (TakesEntries horizon maps.old run.now maps.new) }
+    ensures changed { IfOk result (MarksChanged (kept maps.old) (kept maps.new)) }
+    ensures whole { AreKept maps.new }
+    ensures err { OnErr result (maps.new ≡ maps.old) }
+{
+    let pairs = recent_pairs(alloc, horizon, run)?;
+    if pairs.is_empty() {
+        return Ok(0);
+    }
+    maps.fill(alloc, number, pairs)?;
+    Ok(1 << number)
+}
+
+// The pairs of entries, without the stamps older than the horizon.
+fn recent_pairs(
+    alloc: Global,
+    horizon: u64,
+    run: &[Entry],
+) -> Result<Vec<(u128, PageHist)>, AllocError>
+    ensures { IfOk result (λ pairs. pairs.items ≡ run_pairs horizon run.now) }
+{
+    let mut pairs = Vec::with_capacity(alloc, run.len())?;
+    for entry in run {
+        push_recent(&mut pairs, horizon, entry)?;
+    }
+    Ok(pairs)
+}
+
+// Adds the pair of an entry, if any of its stamps is left.
+fn push_recent(
+    pairs: &mut Vec<(u128, PageHist)>,
+    horizon: u64,
+    entry: &Entry,
+) -> Result<(), AllocError>
+    ensures { OnOk result (pairs.new.items ≡ pairs.old.items ++ pair_left horizon entry.now) }
+{
+    let Some(recent) = entry.hist.since(horizon) else {
+        return Ok(());
+    };
+    pairs.push((place_of(entry.page), alone(&recent)))?;
+    Ok(())
+}
