@@ -230,9 +230,11 @@ impl History {
     /// of the buckets whose entries changed, as [`History::absorb`] does: buckets that lost a stamp
     /// to the horizon are included.
     ///
-    /// The entries are scanned once, and each page is looked up in this history. `AllocError`
-    /// occurs only where the allocation of the undo list (the old values of these pages) or of a
-    /// new page fails, and changes nothing.
+    /// The entries are scanned once, and each page is looked up in this history. Entries of one
+    /// bucket, with rising pages, are not looked up where the bucket has no entries yet: they become
+    /// its entries at once. `AllocError` occurs only where the allocation of the undo list (the old
+    /// values of these pages), of a list of the new entries, or of a new page fails, and changes
+    /// nothing.
     pub fn join_entries(&mut self, horizon: u64, more: &[Entry]) -> Result<u64, AllocError>
         ensures ok { OnOk result
             (TakesIn self.old (refs (holding_since horizon more.now)) self.new) }
