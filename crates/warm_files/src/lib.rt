@@ -6,6 +6,7 @@
 #![tactic(auto)]
 
 mod fault;
+mod growing;
 pub mod laws;
 mod reading;
 mod writing;

@@ -11,9 +11,9 @@ ghost use Rattle.warm_files.specs.Gathering.{Agrees, Gathers, HasRead, IsRefused
 ghost use Rattle.warm_files.specs.Reading.{EndsWithDigests, IsDump, IsRefused};
 
 use crate::fault::{DumpError, DumpFault};
+use crate::growing::Growing;
 use std::alloc::Global;
 use std::io::{ErrorKind, Read};
-use warm_digest::digests;
 use warm_frames::{Decoder, DigestTable, EntryList, Fed, FrameFault, Message};
 use warm_history::History;
 
@@ -28,7 +28,7 @@ pub const READ_SIZE: usize = 65536;
 struct Gathered {
     alloc: Global,
     decoder: Decoder,
-    history: History,
+    history: Growing,
     // That of the frames, once one has come.
     horizon: Option<u64>,
     // The digests came.
@@ -47,16 +47,6 @@ fn agrees(known: Option<u64>, horizon: u64) -> bool
         Some(known) => known == horizon,
         None => true,
     }
-}
-
-// Whether these are the digests of the history.
-fn has_digests(alloc: Global, history: &History, table: &DigestTable) -> Result<bool, DumpFault>
-    ensures same { IfOk result (λ same.
-        IsTrue same ↔ (table.now ≡ digests_of (entries_of history.now))) }
-    ensures stopped { IfErr result (λ why. why ≡ Frame frame_faults.Memory) }
-{
-    let own = digests(alloc, history)?;
-    Ok(own == *table)
 }
 
 // How many bytes were taken with these.
@@ -78,7 +68,7 @@ impl Gathered {
         Gathered {
             alloc,
             decoder: Decoder::new(alloc),
-            history: History::new(alloc),
+            history: Growing::new(alloc),
             horizon: None,
             whole: false,
             seen: 0,
@@ -101,7 +91,7 @@ impl Gathered {
         if !agrees(self.horizon, horizon) {
             return Err(DumpFault::HorizonsDiffer);
         }
-        let _changed = self.history.join_entries(horizon, entries.as_slice())?;
+        self.history.take(horizon, entries.as_slice())?;
         self.horizon = Some(horizon);
         Ok(())
     }
@@ -123,8 +113,7 @@ impl Gathered {
         if !agrees(self.horizon, horizon) {
             return Err(DumpFault::HorizonsDiffer);
         }
-        self.history.raise(horizon);
-        if !has_digests(self.alloc, &self.history, table)? {
+        if !self.history.ends_with(self.alloc, horizon, table)? {
             return Err(DumpFault::DigestsDiffer);
         }
         self.whole = true;
@@ -269,7 +258,13 @@ impl Gathered {
                 fault: DumpFault::CutShort,
             });
         }
-        Ok(history)
+        match history.into_history() {
+            Ok(history) => Ok(history),
+            Err(_) => Err(DumpError {
+                at,
+                fault: DumpFault::Frame(FrameFault::Memory),
+            }),
+        }
     }
 }
 

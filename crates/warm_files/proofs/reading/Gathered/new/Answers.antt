@@ -3,4 +3,4 @@ use Rattle.warm_files.proofs.ReadLemmas.{nothing_read}
 use Rattle.warm_files.proofs.reading.Gathered.new.Goals as goal
 
 pub returns : goal.returns
-returns c = nothing_read _ refl c.new.ensures refl c.new-2.ensures.stands refl refl
+returns c = nothing_read _ refl c.new.ensures refl c.new-2.ensures refl refl

@@ -1,6 +1,6 @@
 use Rattle.std.proofs.Common.{sym, ◌∙◌}
 use Rattle.std.proofs.lemmas.Slice.Eq.{slice_eq-Decides, bytes_eq-Decides}
-use Rattle.warm_files.proofs.reading.has_digests.Goals as goal
+use Rattle.warm_files.proofs.growing.has_digests.Goals as goal
 
 pub returns-clause-same : goal.returns-clause-same
 returns-clause-same c =

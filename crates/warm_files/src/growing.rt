@@ -1,0 +1,193 @@
+//! A history that takes in entries frame by frame.
+ghost use Rattle.std.specs.Prelude.{◌≡◌, ◌↔◌, [], IfErr, IfOk, IsTrue, OnErr, OnOk};
+ghost use Rattle.warm_frames.specs.declared.fault.FrameFault.TheVariants as frame_faults;
+ghost use Rattle.warm_history.specs.Histories.{entries_of, holding_since, join, refs, StandsFor, TakesIn};
+ghost use Rattle.warm_history.specs.Losses.{raised};
+ghost use Rattle.warm_history.specs.ReferenceSets.{these};
+ghost use Rattle.warm_digest.specs.BucketDigests.{digests_of};
+ghost use Rattle.warm_files.specs.declared.fault.DumpFault.TheVariants.{Frame};
+
+use crate::fault::DumpFault;
+use std::alloc::{AllocError, Global};
+use std::marker::Model;
+use warm_digest::digests;
+use warm_frames::{DigestTable, MAX_ENTRIES};
+use warm_history::{Entry, History};
+use warm_stamps::bucket_of;
+
+// How many entries of a history allow one to wait.
+const SHARE: usize = 8;
+
+// A history, and entries that wait until they are joined to it together. Contracts see the history
+// of both.
+//
+// Entries of a bucket of which the history has none become its map at once, where they are joined
+// together: that is faster than frame by frame, and takes less memory. So they wait while one frame
+// goes on where the one before it ended. At most [`MAX_ENTRIES`] wait, or an eighth as many as the
+// history has.
+#[derive(Drop)]
+pub(crate) struct Growing {
+    history: History,
+    waiting: Vec<Entry>,
+}
+
+impl Model for Growing {
+    ghost use Rattle.warm_history.specs.Histories.{HistoryView, holding_since, join};
+
+    ghost Value = { HistoryView };
+
+    ghost view = { λ g. join g.history (holding_since g.history.horizon g.waiting.items) };
+}
+
+// Joins entries that are not older than the history's horizon.
+fn join_all(history: &mut History, waiting: &[Entry]) -> Result<(), AllocError>
+    ensures exact { OnOk result
+        (history.new ≡ join history.old (holding_since history.old.horizon waiting.now)) }
+    ensures err { OnErr result (history.new ≡ history.old) }
+{
+    let horizon = history.horizon();
+    let _changed = history.join_entries(horizon, waiting)?;
+    Ok(())
+}
+
+// Whether these are the digests of the history.
+fn has_digests(alloc: Global, history: &History, table: &DigestTable) -> Result<bool, DumpFault>
+    ensures same { IfOk result (λ same.
+        IsTrue same ↔ (table.now ≡ digests_of (entries_of history.now))) }
+    ensures stopped { IfErr result (λ why. why ≡ Frame frame_faults.Memory) }
+{
+    let own = digests(alloc, history)?;
+    Ok(own == *table)
+}
+
+// Whether these entries are of one bucket, where their pages rise: the first and the last one are.
+fn are_of_one_bucket(entries: &[Entry]) -> bool {
+    let Some(first) = entries.first() else {
+        return false;
+    };
+    let Some(last) = entries.last() else {
+        return false;
+    };
+    bucket_of(first.page) == bucket_of(last.page)
+}
+
+// Whether more entries go on where others ended: in their bucket, and after their pages.
+fn goes_on(entries: &[Entry], more: &[Entry]) -> bool {
+    let Some(last) = entries.last() else {
+        return true;
+    };
+    let Some(next) = more.first() else {
+        return true;
+    };
+    bucket_of(last.page) == bucket_of(next.page) && last.page < next.page
+}
+
+impl Growing {
+    // The history of no references.
+    pub(crate) fn new(alloc: Global) -> Growing
+        ensures { StandsFor result (these []) }
+    {
+        Growing {
+            history: History::new(alloc),
+            waiting: Vec::new(alloc),
+        }
+    }
+
+    // Takes in the entries of a frame.
+    pub(crate) fn take(&mut self, horizon: u64, entries: &[Entry]) -> Result<(), AllocError>
+        ensures { OnOk result
+            (TakesIn self.old (refs (holding_since horizon entries.now)) self.new) }
+    {
+        self.make_room(entries)?;
+        self.add(horizon, entries)?;
+        self.join_known()?;
+        Ok(())
+    }
+
+    // Raises the horizon of the history, and says whether these are its digests.
+    pub(crate) fn ends_with(
+        &mut self,
+        alloc: Global,
+        horizon: u64,
+        table: &DigestTable,
+    ) -> Result<bool, DumpFault>
+        ensures raised { IfOk result (λ same. self.new ≡ raised horizon self.old) }
+        ensures same { IfOk result (λ same.
+            IsTrue same ↔ (table.now ≡ digests_of (entries_of self.new))) }
+        ensures stopped { IfErr result (λ why. why ≡ Frame frame_faults.Memory) }
+    {
+        join_all(&mut self.history, self.waiting.as_slice())?;
+        self.waiting.clear();
+        self.history.raise(horizon);
+        has_digests(alloc, &self.history, table)
+    }
+
+    // The history, with all entries joined to it.
+    pub(crate) fn into_history(self) -> Result<History, AllocError>
+        ensures { IfOk result (λ history. history ≡ self) }
+    {
+        let Growing {
+            mut history,
+            waiting,
+        } = self;
+        join_all(&mut history, waiting.as_slice())?;
+        Ok(history)
+    }
+
+    // Whether more entries may wait beside those that wait.
+    fn may_add(&self, entries: &[Entry]) -> bool {
+        let most = MAX_ENTRIES.max(self.history.len() / SHARE);
+        let room = most.saturating_sub(self.waiting.len());
+        entries.len() <= room && goes_on(self.waiting.as_slice(), entries)
+    }
+
+    // Whether it is of use that the entries wait: they are of one bucket, of which the history has
+    // no entries.
+    fn may_wait(&self) -> bool {
+        let Some(first) = self.waiting.first() else {
+            return true;
+        };
+        let mut known = self.history.bucket(bucket_of(first.page));
+        are_of_one_bucket(self.waiting.as_slice()) && known.next().is_none()
+    }
+
+    // Joins those that wait, if these may not wait beside them.
+    fn make_room(&mut self, entries: &[Entry]) -> Result<(), AllocError>
+        ensures { self.new ≡ self.old }
+    {
+        if self.may_add(entries) {
+            return Ok(());
+        }
+        self.settle()?;
+        Ok(())
+    }
+
+    // Joins those that wait, if nothing is gained by waiting.
+    fn join_known(&mut self) -> Result<(), AllocError>
+        ensures { self.new ≡ self.old }
+    {
+        if self.may_wait() {
+            return Ok(());
+        }
+        self.settle()?;
+        Ok(())
+    }
+
+    // Adds entries to those that wait.
+    fn add(&mut self, horizon: u64, entries: &[Entry]) -> Result<(), AllocError>
+        ensures { OnOk result (self.new ≡ join self.old (holding_since horizon entries.now)) }
+    {
+        self.history.raise(horizon);
+        self.waiting.extend_from_slice(entries)?;
+        Ok(())
+    }
+
+    // Joins the entries that wait.
+    fn settle(&mut self) -> Result<(), AllocError>
+        ensures { self.new ≡ self.old }
+    {
+        join_all(&mut self.history, self.waiting.as_slice())?;
+        self.waiting.clear();
+        Ok(())
+    }
+}
