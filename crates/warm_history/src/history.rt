@@ -230,9 +230,11 @@ impl History {
     /// of the buckets whose entries changed, as [`History::absorb`] does: buckets that lost a stamp
     /// to the horizon are included.
     ///
-    /// The entries are scanned once, and each page is looked up in this history. `AllocError`
-    /// occurs only where the allocation of the undo list (the old values of these pages) or of a
-    /// new page fails, and changes nothing.
+    /// The entries are scanned once, and each page is looked up in this history. Where they are of
+    /// one bucket with rising pages, and the history has no entries of it, the bucket is built from
+    /// them at once instead: faster, and with less memory a page. `AllocError` occurs only where the
+    /// allocation of the undo list (the old values of these pages), of the pairs of such a bucket or
+    /// of a new page fails, and changes nothing.
     pub fn join_entries(&mut self, horizon: u64, more: &[Entry]) -> Result<u64, AllocError>
         ensures ok { OnOk result
             (TakesIn self.old (refs (holding_since horizon more.now)) self.new) }
