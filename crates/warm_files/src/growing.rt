@@ -186,7 +186,8 @@ impl Growing {
     fn settle(&mut self) -> Result<(), AllocError>
         ensures { self.new ≡ self.old }
     {
-        join_all(&mut self.history, self.waiting.as_slice())?;
+        let waiting = self.waiting.as_slice();
+        join_all(&mut self.history, waiting)?;
         self.waiting.clear();
         Ok(())
     }

@@ -272,7 +272,11 @@ impl Gathered {
 /// any. The digests in the file are those of the history.
 ///
 /// It takes memory for the history that it gives, for one frame, its bytes and its entries, and for [`READ_SIZE`] bytes
-/// that are read at a time. It is all or nothing: after a fault no memory is kept. A read that is interrupted is made again.
+/// that are read at a time. Beside these, entries wait to be joined to the history together: at most as many as a frame
+/// may have, or an eighth as many as the history has, with copies of these while they are joined. A history that was
+/// joined so takes less memory than one that takes the entries in frame by frame.
+///
+/// It is all or nothing: after a fault no memory is kept. A read that is interrupted is made again.
 ///
 /// Refused by the first fault that the bytes show, from left to right:
 /// - `Frame`: a frame's own fault, as [`warm_frames::decode`] has it, or `BadKind` for a request;
