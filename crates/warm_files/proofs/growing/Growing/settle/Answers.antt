@@ -7,5 +7,5 @@ use Rattle.warm_files.proofs.growing.Growing.settle.Goals as goal
 pub returns : goal.returns
 returns c =
     let h : HistoryView = c.self.inside.history in
-    let exact = c.in_ok-join_all.ensures.exact ∙ ap (λ (es : List Entry). join h (holding_since h.horizon es)) c.as_slice.ensures.value in
+    let exact = c.in_ok-join_all.ensures.exact ∙ ap (λ (es : List Entry). join h (holding_since h.horizon es)) c.as_slice-waiting.ensures.value in
     settled h c.join_all.new.history c.self.inside.waiting.items c.clear.new.self.items exact c.clear.ensures.items ∙ c.self.view_is
