@@ -1,3 +1,4 @@
+pub mod Examples
 pub mod DumpLemmas
 pub mod ReadLemmas
 pub mod EndLemmas
