@@ -60,7 +60,7 @@ class Refuser:
         return Ended(ran.returncode, ran.stdout, ran.stderr, is_refused)
 
     def count(self, words, folder=None):
-        """Runs the command in the folder, with a line 'allocation BYTES' in its output for each allocation."""
+        """Runs the command in the folder, with a line 'allocation BYTES beside HELD' in its output for each allocation."""
         ran = subprocess.run(
             words,
             input=b"",

@@ -2,8 +2,9 @@
  *
  * REFUSE_FIRST, REFUSE_LAST: the first and the last allocation that fails, counted from 1.
  * REFUSE_NOTE: a descriptor to which a byte is written where the first of them fails.
- * REFUSE_SIZES: a descriptor to which a line is written for each allocation, 'allocation BYTES'. For a block that is enlarged it has
- * the added bytes. Where it is that of standard output, the lines are between those of the program, in order.
+ * REFUSE_SIZES: a descriptor to which a line is written for each allocation, 'allocation BYTES beside HELD'. For a block that is
+ * enlarged BYTES are the added bytes. HELD are the bytes of all blocks before it, as the C library gives them: a block may have some
+ * more than were asked for. Where it is that of standard output, the lines are between those of the program, in order.
  *
  * It is compiled by the toolchain's own clang, without headers (scripts/allocations.py).
  */
@@ -17,10 +18,11 @@ extern void *__libc_malloc(size bytes);
 extern void *__libc_calloc(size count, size bytes);
 extern void *__libc_realloc(void *old, size bytes);
 extern void *__libc_memalign(size alignment, size bytes);
+extern void __libc_free(void *block);
 
 static const int NO_MEMORY = 12; /* ENOMEM */
 
-static size first, last, allocations;
+static size first, last, allocations, held;
 static int note = -1, sizes = -1;
 
 static size number(const char *name) {
@@ -41,14 +43,19 @@ __attribute__((constructor)) static void begin(void) {
     first = number("REFUSE_FIRST");
 }
 
+/* Writes the digits of a number before this place. */
+static void put_digits(char *end, size value) {
+    for (; value; value /= 10)
+        *--end = (char)('0' + value % 10);
+}
+
 /* Writes the line of an allocation. */
 static void note_size(size bytes) {
-    char line[] = "allocation 00000000000000000000\n";
-    char *digit = line + sizeof line - 2;
+    char line[] = "allocation 00000000000000000000 beside 00000000000000000000\n";
     if (sizes < 0)
         return;
-    for (; bytes; bytes /= 10)
-        *--digit = (char)('0' + bytes % 10);
+    put_digits(line + sizeof "allocation 00000000000000000000" - 1, bytes);
+    put_digits(line + sizeof line - 2, __atomic_load_n(&held, __ATOMIC_SEQ_CST));
     if (write(sizes, line, sizeof line - 1) != sizeof line - 1)
         sizes = -1;
 }
@@ -67,26 +74,46 @@ static int is_refused(size bytes) {
     return 1;
 }
 
+/* The size of a block, 0 of none. */
+static size size_of(void *block) {
+    return block ? malloc_usable_size(block) : 0;
+}
+
 /* How many bytes are added to a block. */
 static size added(void *old, size bytes) {
-    size held = old ? malloc_usable_size(old) : 0;
-    return held < bytes ? bytes - held : 0;
+    size own = size_of(old);
+    return own < bytes ? bytes - own : 0;
+}
+
+/* A block that was made, of which this many bytes were held before. */
+static void *hold(void *block, size before) {
+    __atomic_add_fetch(&held, size_of(block) - before, __ATOMIC_SEQ_CST);
+    return block;
 }
 
 void *malloc(size bytes) {
-    return is_refused(bytes) ? 0 : __libc_malloc(bytes);
+    return is_refused(bytes) ? 0 : hold(__libc_malloc(bytes), 0);
 }
 
 void *calloc(size count, size bytes) {
-    return is_refused(count * bytes) ? 0 : __libc_calloc(count, bytes);
+    return is_refused(count * bytes) ? 0 : hold(__libc_calloc(count, bytes), 0);
 }
 
 void *realloc(void *old, size bytes) {
-    return is_refused(added(old, bytes)) ? 0 : __libc_realloc(old, bytes);
+    size before = size_of(old);
+    if (is_refused(added(old, bytes)))
+        return 0;
+    void *made = __libc_realloc(old, bytes);
+    return made || !bytes ? hold(made, before) : 0;
+}
+
+void free(void *block) {
+    __atomic_sub_fetch(&held, size_of(block), __ATOMIC_SEQ_CST);
+    __libc_free(block);
 }
 
 void *memalign(size alignment, size bytes) {
-    return is_refused(bytes) ? 0 : __libc_memalign(alignment, bytes);
+    return is_refused(bytes) ? 0 : hold(__libc_memalign(alignment, bytes), 0);
 }
 
 void *aligned_alloc(size alignment, size bytes) {

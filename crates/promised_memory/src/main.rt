@@ -7,6 +7,7 @@
 #![tactic(auto)]
 
 mod calls;
+mod dumps;
 mod frames;
 mod kept;
 mod lines;
@@ -23,6 +24,7 @@ use warm_stamps::ByteList;
 
 fn play<P: Print>(rt: &P, met: &mut Met, alloc: Global) -> Result<(), Ended> {
     sizes::rows(rt, met, alloc)?;
+    dumps::rows(rt, met, alloc)?;
     let kept = Kept::new(rt, alloc)?;
     let mut node = calls::opened(alloc, MemDevice::new(alloc, 8, 16)?, 1)?;
     let mut bytes = Vec::new(alloc);

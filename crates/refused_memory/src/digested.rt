@@ -122,6 +122,29 @@ fn joined_later(met: &mut Met, alloc: Global, later: &DigestTable) -> Result<(),
     )
 }
 
+// A history at 20 with the horizon 15 is taken in, and older stamps are forgotten.
+fn joined_history(met: &mut Met, alloc: Global, later: &DigestTable) -> Result<(), Ended> {
+    let mut history = first_known(alloc)?;
+    let before = kept(met, &mut history)?;
+    let mut other = history_of_pages(alloc, 4, 12, 20)?;
+    other.raise(15);
+    if history.join(&other).is_err() {
+        let horizon = history.horizon();
+        let now = kept(met, &mut history)?;
+        let same = horizon == 0 && now == before;
+        met.refuse(same, "a refused join of a history changes no digest")?;
+        met.holds(
+            history.join(&other).is_ok(),
+            "a join of a history is refused again",
+        )?;
+    }
+    let now = kept(met, &mut history)?;
+    met.holds(
+        history.horizon() == 15 && now == *later,
+        "the digests are of what both horizons leave",
+    )
+}
+
 // The digests at the horizon 15, which change nothing.
 fn kept_since(met: &mut Met, history: &mut DigestedHistory) -> Result<DigestTable, Ended> {
     let len = history.history().len();
@@ -157,5 +180,6 @@ pub(crate) fn rows(met: &mut Met, alloc: Global) -> Result<(), Ended> {
     joined(met, alloc, &whole)?;
     let later = taken(met, alloc, &history_of_pages(alloc, 4, 12, 20)?)?;
     joined_later(met, alloc, &later)?;
+    joined_history(met, alloc, &later)?;
     raised(met, alloc, &later)
 }

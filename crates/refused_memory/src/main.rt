@@ -7,6 +7,7 @@
 #![tactic(auto)]
 
 mod digested;
+mod dumps;
 mod frames;
 mod histories;
 mod nodes;
@@ -38,6 +39,7 @@ fn play<R: Threads + Wait + Sync>(met: &mut Met, rt: &R, alloc: Global) -> Resul
     sizes::rows(met, alloc)?;
     frames::rows(met, alloc)?;
     digested::rows(met, alloc)?;
+    dumps::rows(met, alloc)?;
     play_nodes(met, alloc)?;
     play_turns(met, rt, alloc)
 }

@@ -1,4 +1,6 @@
 //! A pool over a device in memory, and a node over that pool, with calls of each kind.
+use crate::dumps::are_equal;
+use crate::histories::history_of_pages;
 use crate::references::{reference, references, replica};
 use refused_rows::{Ended, Met};
 use std::alloc::Global;
@@ -243,6 +245,36 @@ fn answer(met: &mut Met, node: &mut Node<MemDevice>) -> Result<(), Ended> {
     answered(met, node, &request(21)?, 0)
 }
 
+// Loads a page, and lets it be a victim.
+fn load(met: &mut Met, node: &mut Node<MemDevice>, no: u64) -> Result<(), Ended> {
+    let Reply::Pinned(slot) = node.call(Call::Pin(page(no))) else {
+        return Err(met.broken("a page is not pinned"));
+    };
+    let unpinned = matches!(node.call(Call::Unpin(slot)), Reply::Done);
+    met.holds(unpinned, "a page is not unpinned")
+}
+
+// A node that has seen six pages at 10, and holds 0:1 and 0:4, joins a history of four pages at 20
+// with the horizon 15. Then it knows that history alone, and 0:4 has no stamp left.
+fn join(met: &mut Met, alloc: Global, node: &mut Node<MemDevice>) -> Result<(), Ended> {
+    if node.absorb(&references(alloc, 0, 6, 10)?).is_err() {
+        return Err(Ended::NoMemory);
+    }
+    load(met, node, 1)?;
+    load(met, node, 4)?;
+    met.holds(node.victim() == Some(page(1)), "0:1 is the lesser page")?;
+    let mut other = history_of_pages(alloc, 0, 4, 20)?;
+    other.raise(15);
+    let before = face_of(node);
+    if let Err(fault) = node.join(&other) {
+        let same = fault == NodeFault::Memory && face_of(node) == before;
+        met.refuse(same, "a refused join of a node changes nothing")?;
+        met.holds(node.join(&other).is_ok(), "a node's join is refused again")?;
+    }
+    met.holds(are_equal(node.history(), &other), "a node joins a history")?;
+    met.holds(node.victim() == Some(page(4)), "the pages are ranked again")
+}
+
 // Makes the call of an index on a node. After the third, another node sends it a page, and its
 // answers are requested.
 fn ask_at(
@@ -260,7 +292,7 @@ fn ask_at(
     answer(met, node)
 }
 
-// All calls on one node, one after the other.
+// All calls on one node, one after the other. After the last, a restart, it joins a history.
 pub(crate) fn rows(
     met: &mut Met,
     alloc: Global,
@@ -271,5 +303,6 @@ pub(crate) fn rows(
         ask_at(met, alloc, node, other, place)?;
     }
     let is_empty = node.history().len() == 0 && node.history().horizon() == 0;
-    met.holds(is_empty, "a restart forgets all")
+    met.holds(is_empty, "a restart forgets all")?;
+    join(met, alloc, node)
 }

@@ -6,7 +6,7 @@ use crate::histories::are_equal;
 use std::alloc::Global;
 use std::process::Abort;
 use warm_files::{DumpError, DumpFault};
-use warm_frames::FrameFault;
+use warm_frames::{DIGEST_SIZE, FrameFault};
 use warm_history::History;
 
 // Whether bytes are refused so, behind so many bytes of whole frames.
@@ -81,19 +81,55 @@ fn no_changed_byte_gives_another_history(rt: HostRuntime) {
     assert!(rt; count == 189);
 }
 
-// Each byte of the digests is changed to four other values.
-#[test]
-fn no_changed_digest_is_accepted(rt: HostRuntime) {
-    let history = four_pages(&rt, rt.alloc());
-    let mut text = dump_of_four(&rt, rt.alloc());
-    for place in HEADERS..WHOLE {
-        let own = text.get(place).copied().unwrap_or(0);
-        for bits in [0x01, 0x80, 0x55, 0xFF] {
-            let changed = own ^ bits;
-            let accepted = is_accepted(&rt, rt.alloc(), &mut text, place, changed, &history);
-            assert!(rt; !accepted, "{place} {bits}");
+// How many values of the byte at a place are refused since the digests are not those of the entries.
+fn refused_at(alloc: Global, text: &mut Vec<u8>, place: usize) -> u64 {
+    let own = text.get(place).copied().unwrap_or(0);
+    let mut count = 0u64;
+    for value in 0..=255u8 {
+        if let Some(byte) = text.get_mut(place) {
+            *byte = value;
+        }
+        let more = is_refused(alloc, text, SECOND, DumpFault::DigestsDiffer);
+        count = count.wrapping_add(u64::from(more));
+    }
+    if let Some(byte) = text.get_mut(place) {
+        *byte = own;
+    }
+    count
+}
+
+// Whether each byte of the digests of 16 buckets, from one on, has one value alone that is not refused. A test has a minute, and
+// reads a dump 131,072 times for these.
+fn each_is_refused(rt: &impl Abort, alloc: Global, bucket: usize) -> bool {
+    let mut text = dump_of_four(rt, alloc);
+    let first = HEADERS.wrapping_add(bucket.wrapping_mul(DIGEST_SIZE));
+    for place in first..first.wrapping_add(16 * DIGEST_SIZE) {
+        if refused_at(alloc, &mut text, place) != 255 {
+            return false;
         }
     }
+    true
+}
+
+// Each byte of the digests is changed to each other value, and refused for that.
+#[test]
+fn changed_digests_of_buckets_0_to_15_are_refused(rt: HostRuntime) {
+    assert!(rt; each_is_refused(&rt, rt.alloc(), 0));
+}
+
+#[test]
+fn changed_digests_of_buckets_16_to_31_are_refused(rt: HostRuntime) {
+    assert!(rt; each_is_refused(&rt, rt.alloc(), 16));
+}
+
+#[test]
+fn changed_digests_of_buckets_32_to_47_are_refused(rt: HostRuntime) {
+    assert!(rt; each_is_refused(&rt, rt.alloc(), 32));
+}
+
+#[test]
+fn changed_digests_of_buckets_48_to_63_are_refused(rt: HostRuntime) {
+    assert!(rt; each_is_refused(&rt, rt.alloc(), 48));
 }
 
 // A place in the dump of the four pages, the byte that is put there, where the fault is found, and the fault.

@@ -1,3 +1,4 @@
+pub mod Examples
 pub mod GrowingLemmas
 pub mod DumpLemmas
 pub mod ReadLemmas

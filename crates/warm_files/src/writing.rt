@@ -118,7 +118,7 @@ fn write_digests<W: Write>(
 ///
 /// A dump that was written reads back equal ([`crate::laws::dump_reads_back`]).
 ///
-/// It takes memory for one frame at a time, its entries and its bytes: some 110 KB. Refused:
+/// It takes memory for one frame at a time, its entries and its bytes: some 87 KB at most. Refused:
 /// - `Frame(Memory)`: memory for a frame was refused;
 /// - `WriteFault`: the writer failed, or could not be flushed.
 ///
