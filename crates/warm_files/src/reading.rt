@@ -273,7 +273,8 @@ impl Gathered {
 ///
 /// It takes memory for the history that it gives, for one frame, its bytes and its entries, for [`READ_SIZE`] bytes that
 /// are read at a time, and for entries that wait to be joined to the history: at most as many as a frame may have, or an
-/// eighth as many as the history has, and copies of these while they are joined. It is all or nothing: after a fault no memory is kept. A read that is interrupted is made again.
+/// eighth as many as the history has. A list of these may keep room for as many again, and they are copied while they are
+/// joined. It is all or nothing: after a fault no memory is kept. A read that is interrupted is made again.
 ///
 /// Refused by the first fault that the bytes show, from left to right:
 /// - `Frame`: a frame's own fault, as [`warm_frames::decode`] has it, or `BadKind` for a request;
