@@ -39,7 +39,7 @@ impl Model for Growing {
     ghost view = { λ g. join g.history (holding_since g.history.horizon g.waiting.items) };
 }
 
-// Joins entries that are not older than the history's horizon.
+// Joins entries at the horizon of the history.
 fn join_all(history: &mut History, waiting: &[Entry]) -> Result<(), AllocError>
     ensures exact { OnOk result
         (history.new ≡ join history.old (holding_since history.old.horizon waiting.now)) }

@@ -273,8 +273,9 @@ impl Gathered {
 ///
 /// It takes memory for the history that it gives, for one frame, its bytes and its entries, and for [`READ_SIZE`] bytes
 /// that are read at a time. Beside these, entries wait to be joined to the history together: at most as many as a frame
-/// may have, or an eighth as many as the history has, with copies of these while they are joined. A history that was
-/// joined so takes less memory than one that takes the entries in frame by frame.
+/// may have, or an eighth as many as the history has. Their list may keep room for as many again, and they are copied
+/// while they are joined. A history that was joined so takes less memory than one that takes the entries in frame by
+/// frame.
 ///
 /// It is all or nothing: after a fault no memory is kept. A read that is interrupted is made again.
 ///
