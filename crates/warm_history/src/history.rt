@@ -30,6 +30,8 @@ use warm_stamps::{Bucket, PageId, Reference};
 /// The entries of a bucket lie together, so an operation on a bucket costs only that bucket's size.
 ///
 /// Calls that add are all or nothing: where an allocation fails, the history is unchanged.
+/// `AllocError` also refuses the page by which a bucket would have 2^58 pages, more than fit into
+/// any memory.
 #[derive(Debug)]
 pub struct History {
     alloc: Global,
@@ -194,8 +196,8 @@ impl History {
     /// buckets whose entries changed: bit b, of value 2^b, is set for bucket b.
     ///
     /// Time grows with the batch, and with the logarithm of the number of pages. `AllocError`
-    /// occurs only where the allocation of the undo list (the old values of the batch's pages) or
-    /// of a new page fails, and changes nothing.
+    /// occurs where the allocation of the undo list (the old values of the batch's pages) or of a
+    /// new page fails, and changes nothing.
     pub fn absorb(&mut self, batch: &[Reference]) -> Result<u64, AllocError>
         ensures ok { OnOk result (TakesIn self.old (these batch.now) self.new) }
         ensures exact { OnOk result (self.new ≡ history (refs self.old ∪ these batch.now)) }
@@ -211,12 +213,14 @@ impl History {
     /// changed, as [`History::absorb`] does.
     ///
     /// The other history is scanned once, and each of its pages is looked up in this one.
-    /// `AllocError` occurs only where the allocation of the undo list (the old values of these
-    /// pages) or of a new page fails, and changes nothing.
+    /// `AllocError` occurs where the allocation of the undo list (the old values of these pages) or
+    /// of a new page fails, and changes nothing.
     pub fn join(&mut self, other: &History) -> Result<u64, AllocError>
         ensures ok { OnOk result (TakesIn self.old (refs other.now) self.new) }
         ensures exact { OnOk result (self.new ≡ join self.old other.now) }
         ensures changed { IfOk result (MarksChanged (entries_of self.old) (entries_of self.new)) }
+        ensures none { IfOk result
+            (λ changed. changed ≡ 0 → entries_of self.new ≡ entries_of self.old) }
         ensures err { OnErr result (self.new ≡ self.old) }
     {
         let lost = self.losing(other.horizon);
@@ -232,7 +236,7 @@ impl History {
     ///
     /// The entries are scanned once, and each page is looked up in this history. Entries of one
     /// bucket, with rising pages, are not looked up where the bucket has no entries yet: they become
-    /// its entries at once. `AllocError` occurs only where the allocation of the undo list (the old
+    /// its entries at once. `AllocError` occurs where the allocation of the undo list (the old
     /// values of these pages), of a list of the new entries, or of a new page fails, and changes
     /// nothing.
     pub fn join_entries(&mut self, horizon: u64, more: &[Entry]) -> Result<u64, AllocError>
@@ -251,7 +255,7 @@ impl History {
         Ok(changed | lost)
     }
 
-    /// A second history, equal to this one. `AllocError` occurs only where its allocation fails.
+    /// A second history, equal to this one. `AllocError` occurs where its allocation fails.
     pub fn copy(&self) -> Result<History, AllocError>
         ensures { IfOk result (λ copied. copied ≡ self.now) }
     {
@@ -268,7 +272,7 @@ impl History {
     /// pages rise, and the stamps of each page fall. The page `after` may be of any bucket.
     ///
     /// It costs a look-up, and a step for each entry that is returned: no other entry is read.
-    /// `AllocError` occurs only where their allocation fails.
+    /// `AllocError` occurs where their allocation fails.
     pub fn entries(
         &self,
         bucket: Bucket,

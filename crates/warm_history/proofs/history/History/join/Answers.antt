@@ -1,4 +1,4 @@
-use Rattle.std.proofs.Common.{ap, subst, sym, ◌∙◌, arith, ◌≤◌}
+use Rattle.std.proofs.Common.{◌≡◌, ap, subst, sym, ◌∙◌, arith, ◌≤◌}
 use Rattle.std.specs.Prelude.{bit_or}
 use Rattle.warm_history.specs.Changes.{MarksChanged}
 use Rattle.warm_history.specs.Losses.{MarksLosing}
@@ -7,8 +7,9 @@ use Rattle.warm_history.specs.ListHistories as list
 use Rattle.warm_history.specs.Histories.{HistoryView, entries_of, holding_since, refs, history}
 use Rattle.warm_history.specs.Tree.{kept}
 use Rattle.warm_history.proofs.JoinLemmas.{history_first}
-use Rattle.warm_history.proofs.ChangeLemmas.{marks_cut}
+use Rattle.warm_history.proofs.ChangeLemmas.{marks_cut, nothing_changed}
 use Rattle.warm_history.proofs.RaiseLemmas.{none_taken, joined_to, none_of, whole_of}
+use Rattle.warm_history.proofs.TreeLemmas.{IsHistory-kept}
 use Rattle.warm_history.proofs.history.History.join.Goals as goal
 
 -- nothing that was taken in is older than the horizon
@@ -39,3 +40,11 @@ returns-clause-changed c =
     subst (λ (h : HistoryView). MarksChanged (entries_of h) (kept c.raise-self-inside.new.maps) (bit_or c.in_ok-changed.changed lost)) c.self.view_is
     (marks_cut a (c.other.inside.horizon) c.later-horizon.result c.raise-self-inside.result (kept old) (kept c.take_pairs.new.maps) (kept c.raise-self-inside.new.maps) (list.refs (kept c.other.inside.maps)) c.in_ok-changed.changed lost
     (whole_of a old c.self.invariant.0 c.self.invariant.1) c.later-horizon.ensures c.raise-self-inside.ensures.later c.in_ok-changed.ensures.exact c.raise-self-inside.ensures.cut c.in_ok-changed.ensures.changed loses)
+
+pub returns-clause-none : goal.returns-clause-none
+returns-clause-none c none =
+    let old = c.self.inside.maps in
+    let new = c.raise-self-inside.new.maps in
+    let marks = subst (λ (h : HistoryView). MarksChanged (entries_of h) (kept new) (bit_or c.in_ok-changed.changed c.losing-lost.result)) (sym c.self.view_is) (returns-clause-changed c) in
+    subst (λ (h : HistoryView). kept new ≡ entries_of h) c.self.view_is
+    (nothing_changed (kept old) (kept new) _ (IsHistory-kept old c.self.invariant.0).pages_rise (IsHistory-kept new c.raise-self-inside.ensures.whole).pages_rise marks none)
