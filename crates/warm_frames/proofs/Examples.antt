@@ -1,5 +1,5 @@
 -- The definitions, computed on small frames.
-use Rattle.std.proofs.Common.{◌≡◌, ℕ, ◌+◌, ◌*◌, List, [], ◌∷◌, ◌++◌, take, Ok, Err, refl}
+use Rattle.std.proofs.Common.{◌≡◌, ℕ, ◌+◌, ◌*◌, List, [], ◌∷◌, ◌++◌, take, Ok, Err, refl, arith}
 use Rattle.warm_stamps.specs.declared.Stamp.{Stamp}
 use Rattle.warm_history.specs.declared.hist.PageHist.TheVariants.{Once, Twice}
 use Rattle.warm_history.specs.declared.hist.Entry.{Entry}
@@ -9,6 +9,7 @@ use Rattle.warm_frames.specs.declared.fault.FrameFault.TheVariants.{Truncated, B
 use Rattle.warm_frames.specs.declared.message.Message.TheVariants.{Entries, Want}
 use Rattle.warm_frames.specs.Spelling.{spelling_in, spelling}
 use Rattle.warm_frames.specs.Digests.{table_size}
+use Rattle.warm_frames.specs.Limits.{SpeaksBy}
 use Rattle.warm_frames.specs.Reading.{start_at, length_at, body_at, two_in, hist_at, page_at, entry_at, entries_at, count_at, all_entries, entries_of, frame_of, read_frame}
 
 abbrev at : ℕ → ℕ → Stamp
@@ -149,3 +150,16 @@ equal_stamps = refl
 equal_pages : read_frame (entries_frame 1 0x26 2 (page 7 ++ 1 ∷ (twenty ++ page 7 ++ 1 ∷ ten))) ≡ Err BadOrder
 unfolding read_frame start_at length_at body_at frame_of entries_of count_at all_entries entries_at entry_at page_at hist_at
 equal_pages = refl
+
+-- ---- times against a limit
+
+-- the latest time of this message is 20, that of its first stamp
+speaks_by_20 : SpeaksBy 20 (Entries 1 12 (twice 7 (at 20 1) (at 10 1) ∷ []))
+speaks_by_20 = record { horizon = omega arith; stamps = ((omega arith, (omega arith, tt)), tt) }
+
+not_by_19 : SpeaksBy 19 (Entries 1 12 (twice 7 (at 20 1) (at 10 1) ∷ [])) → ⊥
+not_by_19 speaks = omega (arith, speaks.stamps.0.0)
+
+-- a request has no stamps, but a horizon
+request_not_by_11 : SpeaksBy 11 (Want 1 12 6) → ⊥
+request_not_by_11 speaks = omega (arith, speaks.horizon)

@@ -1,7 +1,9 @@
--- The numbers and names of the refusals.
+-- The numbers and names of the refusals: of bytes that are no frame, and of messages with late times.
 use Rattle.std.specs.Prelude.{ℕ, List, codes}
 use Rattle.warm_frames.specs.declared.fault.FrameFault.{FrameFault}
 use Rattle.warm_frames.specs.declared.fault.FrameFault.TheVariants.{Memory, Truncated, BadMagic, BadKind, BadSender, BadLength, BadCount, BadTag, BadStamp, BadOrder, Failed}
+use Rattle.warm_frames.specs.declared.limit.TimeFault.{TimeFault}
+use Rattle.warm_frames.specs.declared.limit.TimeFault.TheVariants.{LateHorizon, LateStamp}
 
 abbrev pub fault_code : FrameFault → ℕ
 fault_code Memory = 1
@@ -28,3 +30,11 @@ fault_name BadTag = codes "BadTag"
 fault_name BadStamp = codes "BadStamp"
 fault_name BadOrder = codes "BadOrder"
 fault_name Failed = codes "Failed"
+
+abbrev pub time_fault_code : TimeFault → ℕ
+time_fault_code LateHorizon = 1
+time_fault_code LateStamp = 2
+
+abbrev pub time_fault_name : TimeFault → List ℕ
+time_fault_name LateHorizon = codes "LateHorizon"
+time_fault_name LateStamp = codes "LateStamp"

@@ -1,6 +1,7 @@
 pub mod Entries
 pub mod Faults
 pub mod Laws
+pub mod Limits
 pub mod Pieces
 pub mod Reading
 pub mod Sizes

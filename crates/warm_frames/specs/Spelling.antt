@@ -36,7 +36,8 @@ header_bytes format kind sender horizon len = to_be_bytes w32 (magic_of format) 
 abbrev pub framed : Format → ℕ → ℕ → ℕ → List ℕ → List ℕ
 framed format kind sender horizon body = header_bytes format kind sender horizon (length body) ++ body
 
--- the body of a frame of entries: their count, and the entries
+-- The spelling of a message in a format, by its kind. The body of entries is their count and the
+-- entries, that of digests is the digests one after the other, and that of a request is its number.
 abbrev pub spelling_in : Format → Message → List ℕ
 spelling_in format (Entries sender horizon entries) = framed format 1 sender horizon (to_be_bytes w32 (length entries) ++ entries_bytes_in format entries)
 spelling_in format (Digest sender horizon digests) = framed format 2 sender horizon (flat_map (λ digest. digest) digests)

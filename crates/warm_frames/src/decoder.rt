@@ -25,13 +25,14 @@ pub struct Fed {
 
 /// Decodes the frames of a stream, however the stream is cut into pieces.
 ///
-/// It holds the bytes of the frame that has begun, never more, and returns a frame as soon as its
-/// last byte is there. Contracts see its state: inside a frame of which these bytes have come, or
-/// after a fault.
+/// It returns a frame as soon as its last byte is there. Until then it holds the bytes of the frame
+/// that has begun, and no others. After a fault it may still hold the bytes of that frame from
+/// earlier pieces, until it is dropped; it reads them no more and holds no further ones. Contracts
+/// see its state: inside a frame of which these bytes have come, or after a fault.
 #[derive(Debug, Drop)]
 pub struct Decoder {
     alloc: Global,
-    // The bytes of the frame that has begun.
+    // The bytes of the frame that has begun. After a fault they have no meaning.
     held: Vec<u8>,
     // The size of the whole frame, once its header is complete.
     size: Option<usize>,

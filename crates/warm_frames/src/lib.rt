@@ -5,7 +5,8 @@
 //! buckets. `specs/Spelling.antt` says which bytes spell a frame: each frame has one spelling in
 //! each format that can hold it, and no two frames share one. `specs/Reading.antt` says how bytes
 //! are read, and which fault is reported. A [`Decoder`] decodes frames from a stream that is given
-//! in pieces: `specs/Pieces.antt`.
+//! in pieces: `specs/Pieces.antt`. [`check_times`] refuses a message that speaks of times later than a
+//! limit.
 #![tactic(auto)]
 
 mod decoder;
@@ -15,6 +16,7 @@ mod fault;
 mod format;
 pub mod laws;
 pub mod layout;
+mod limit;
 mod message;
 mod reading;
 mod writing;
@@ -24,5 +26,6 @@ pub use digests::DigestTable;
 pub use entries::EntryList;
 pub use fault::FrameFault;
 pub use layout::{DIGEST_SIZE, MAX_ENTRIES, MAX_ENTRY_SIZE};
+pub use limit::{TimeFault, check_times};
 pub use message::{BoxedMessage, Message, MessageList, decode, encode};
 pub use writing::put_entry;
