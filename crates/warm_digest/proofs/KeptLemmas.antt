@@ -1,5 +1,5 @@
 -- Digests that are kept, and renewed bucket by bucket.
-use Rattle.std.proofs.Common.{◌≡◌, inl, inr, ℕ, ◌<◌, ◌^◌, List, [], length, min, ◌-◌, Result, Ok, Err, IfOk, sym, ap, ◌∙◌, arith}
+use Rattle.std.proofs.Common.{◌≡◌, inl, inr, ℕ, ◌<◌, ◌^◌, List, [], length, min, ◌-◌, sym, ap, ◌∙◌, arith}
 use Rattle.std.specs.Prelude.{bit_and, bit_or}
 use Rattle.std.specs.Int.{bit_at, bit_not, w64}
 use Rattle.std.proofs.lemmas.Bool.{cases_eq}
@@ -69,7 +69,7 @@ others_right changed lost h old new fits kept has same bucket low clear =
     ]
 
 -- digests of a history, with those that it would have at a horizon of the buckets that lose something there
-all_since : (changed lost horizon : ℕ) (h : HistoryView) (own table : List (List ℕ)) → length table ≡ BUCKETS → IsKept (bit_and changed lost) (entries_of h) own → MarksLosing horizon h lost
+pub all_since : (changed lost horizon : ℕ) (h : HistoryView) (own table : List (List ℕ)) → length table ≡ BUCKETS → IsKept (bit_and changed lost) (entries_of h) own → MarksLosing horizon h lost
     → HasDigestsOf lost (entries_of (raised horizon h)) table → SameDigestsOutside lost own table → table ≡ digests_since horizon h
 all_since changed lost horizon h own table count kept loses has same = all_done table (entries_of (raised horizon h)) count (λ bucket low. elim (cases_eq (bit_at lost bucket) 1) [
   | inl set ↦ has bucket low set
@@ -77,9 +77,3 @@ all_since changed lost horizon h own table count kept loses has same = all_done 
       let both : bit_at (bit_and changed lost) bucket ≡ 0 = bit_at_and changed lost bucket ∙ omega (arith, zero_is) in
       same bucket low zero_is ∙ kept bucket low both ∙ sym (ap digest_from ((loses bucket low).1 zero_is)))
 ])
-
--- the same of a table that is there where memory was
-pub right_since : {E : Type 0} (r : Result (List (List ℕ)) E) (changed lost horizon : ℕ) (h : HistoryView) (own : List (List ℕ)) → IsKept (bit_and changed lost) (entries_of h) own → MarksLosing horizon h lost
-    → IfOk r (HasDigestsOf lost (entries_of (raised horizon h))) → IfOk r (SameDigestsOutside lost own) → IfOk r (λ table. length table ≡ BUCKETS) → IfOk r (λ table. table ≡ digests_since horizon h)
-right_since (Ok table) changed lost horizon h own kept loses has same count = all_since changed lost horizon h own table count kept loses has same
-right_since (Err why) changed lost horizon h own kept loses has same count = tt

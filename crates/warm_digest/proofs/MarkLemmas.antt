@@ -6,8 +6,9 @@ use Rattle.std.proofs.lemmas.Bool.{cases_eq}
 use Rattle.std.proofs.lemmas.Nat.Bits.{bit_at-lt, bit_at-zero, bit_at_and, bit_at_or}
 use Rattle.warm_history.specs.Changes.{MarksChanged}
 use Rattle.warm_history.specs.Histories.{HistoryView, entries_of}
-use Rattle.warm_history.specs.Losses.{MarksLosing}
-use Rattle.warm_digest.specs.KeptDigests.{MarksChanges, MarkedLose, MarksNoMore}
+use Rattle.warm_history.specs.Carried.{bucket_entries}
+use Rattle.warm_history.specs.Losses.{MarksLosing, raised}
+use Rattle.warm_digest.specs.KeptDigests.{MarksChanges, StaysMarked}
 
 -- the buckets are marked whose entries change
 pub marks_changes : (h g : HistoryView) (old changed : ℕ) → MarksChanged (entries_of h) (entries_of g) changed → MarksChanges (record { history = h; marked = old }) (record { history = g; marked = bit_or old changed })
@@ -28,24 +29,28 @@ marks_changes h g old changed tells bucket low =
       ]),
     )
 
--- of the marked buckets some stay so
-pub some_stay : (old some : ℕ) → MarksNoMore old (bit_and old some)
-some_stay old some bucket now = omega (arith, bit_at_and old some bucket, now, bit_at-lt old bucket, bit_at-lt some bucket)
+-- of the marked buckets those stay so that lose something
+pub losing_stay : (horizon : ℕ) (h : HistoryView) (old lost : ℕ) → MarksLosing horizon h lost → StaysMarked horizon h old (bit_and old lost)
+losing_stay horizon h old lost loses bucket low =
+    let is = bit_at_and old lost bucket in
+    let old_lt = bit_at-lt old bucket in
+    let lost_lt = bit_at-lt lost bucket in (
+      (λ now. (omega (arith, is, now, old_lt, lost_lt), (loses bucket low).0 (omega (arith, is, now, old_lt, lost_lt)))),
+      (λ both. elim (cases_eq (bit_at lost bucket) 1) [
+        | inl set ↦ omega (arith, is, set, both.0)
+        | inr clear ↦ absurd (both.1 ((loses bucket low).1 (omega (arith, clear, lost_lt))))
+      ]),
+    )
 
--- those that lose something
-some_lose : (horizon : ℕ) (h : HistoryView) (old lost : ℕ) → MarksLosing horizon h lost → MarkedLose horizon h (bit_and old lost)
-some_lose horizon h old lost loses bucket low now = (loses bucket low).0 (omega (arith, bit_at_and old lost bucket, now, bit_at-lt old bucket, bit_at-lt lost bucket))
-
-none_lose : (horizon : ℕ) (h : HistoryView) (marked : ℕ) → marked ≡ 0 → MarkedLose horizon h marked
-none_lose horizon h marked none bucket low now =
-    let zero_is : bit_at marked bucket ≡ 0 = ap (λ (n : ℕ). bit_at n bucket) none ∙ bit_at-zero bucket in
-    absurd (omega (arith, now, zero_is))
+-- where the history is the same at the horizon nothing is lost, so no bucket stays marked
+none_stay : (horizon : ℕ) (h : HistoryView) (old new : ℕ) → raised horizon h ≡ h → new ≡ 0 → StaysMarked horizon h old new
+none_stay horizon h old new same none bucket low =
+    let zero_is : bit_at new bucket ≡ 0 = ap (λ (n : ℕ). bit_at n bucket) none ∙ bit_at-zero bucket in (
+      (λ now. absurd (omega (arith, now, zero_is))),
+      (λ both. absurd (both.1 (ap (λ (g : HistoryView). bucket_entries bucket (entries_of g)) same))),
+    )
 
 -- the same where a result is Ok
-pub some_lose_if : {A E : Type 0} (r : Result A E) (horizon : ℕ) (h : HistoryView) (old lost : ℕ) → MarksLosing horizon h lost → OnOk r (MarkedLose horizon h (bit_and old lost))
-some_lose_if (Ok a) horizon h old lost loses = some_lose horizon h old lost loses
-some_lose_if (Err why) horizon h old lost loses = tt
-
-pub none_lose_if : {A E : Type 0} (r : Result A E) (horizon : ℕ) (h : HistoryView) (marked : ℕ) → OnOk r (marked ≡ 0) → OnOk r (MarkedLose horizon h marked)
-none_lose_if (Ok a) horizon h marked none = none_lose horizon h marked none
-none_lose_if (Err why) horizon h marked none = tt
+pub none_stay_if : {A E : Type 0} (r : Result A E) (horizon : ℕ) (h : HistoryView) (old new : ℕ) → raised horizon h ≡ h → OnOk r (new ≡ 0) → OnOk r (StaysMarked horizon h old new)
+none_stay_if (Ok a) horizon h old new same none = none_stay horizon h old new same none
+none_stay_if (Err why) horizon h old new same none = tt

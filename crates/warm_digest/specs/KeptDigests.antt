@@ -32,10 +32,6 @@ abbrev pub MarksChanges : DigestedView → DigestedView → Type 0
 MarksChanges old new = (bucket : ℕ) → bucket < BUCKETS
     → (bit_at new.marked bucket ≡ 1) ↔ ((bit_at old.marked bucket ≡ 1) ⊎ ChangesIn bucket (entries_of old.history) (entries_of new.history))
 
--- a bucket that is marked now was marked before
-abbrev pub MarksNoMore : ℕ → ℕ → Type 0
-MarksNoMore old new = (bucket : ℕ) → bit_at new bucket ≡ 1 → bit_at old bucket ≡ 1
-
--- a bucket that is marked would lose a stamp at the horizon
-abbrev pub MarkedLose : ℕ → HistoryView → ℕ → Type 0
-MarkedLose horizon h marked = (bucket : ℕ) → bucket < BUCKETS → bit_at marked bucket ≡ 1 → LosesIn horizon bucket h
+-- a bucket stays marked exactly where it was marked and would lose a stamp at the horizon
+abbrev pub StaysMarked : ℕ → HistoryView → ℕ → ℕ → Type 0
+StaysMarked horizon h old new = (bucket : ℕ) → bucket < BUCKETS → (bit_at new bucket ≡ 1) ↔ ((bit_at old bucket ≡ 1) × LosesIn horizon bucket h)

@@ -4,13 +4,12 @@ ghost use Rattle.warm_history.specs.Changes.{MarksChanged};
 ghost use Rattle.warm_history.specs.ReferenceSets.{these, since, ◌∪◌};
 ghost use Rattle.warm_history.specs.Histories.{entries_of, history, holding, holding_since, join, refs};
 ghost use Rattle.warm_digest.specs.BucketDigests.{digests_of, digests_since};
-ghost use Rattle.warm_digest.specs.KeptDigests.{MarksChanges, MarkedLose, MarksNoMore};
+ghost use Rattle.warm_digest.specs.KeptDigests.{MarksChanges, StaysMarked};
 
 use crate::kept::Digests;
 use std::alloc::{AllocError, Global};
 use std::marker::Model;
 use warm_frames::DigestTable;
-use warm_history::laws::is_history;
 use warm_history::{Entry, History};
 use warm_stamps::Reference;
 
@@ -122,8 +121,6 @@ impl DigestedHistory {
         ensures marks { OnOk result (MarksChanges self.old self.new) }
         ensures err { OnErr result (self.new ≡ self.old) }
     {
-        // Where no bucket changed, no entry did: the pages of both lists rise.
-        is_history(&self.history);
         let changed = self.history.join(other)?;
         self.changed |= changed;
         Ok(changed)
@@ -187,14 +184,16 @@ impl DigestedHistory {
     /// Nothing is forgotten. Where the horizon is not greater than the history's own, it is the
     /// same as [`DigestedHistory::digests`]. Otherwise each bucket is scanned up to its first older
     /// stamp. Only the buckets that have such a stamp, and the marked ones, are hashed: their
-    /// entries as they are read, without older stamps. A marked bucket stays marked where it has
-    /// such a stamp. `AllocError` occurs only where the allocation of a buffer of 4,096 bytes and
-    /// one entry fails.
+    /// entries as they are read, without older stamps. Afterwards a bucket is marked exactly where it
+    /// was marked before and has such a stamp: its digest was computed without older stamps, and is
+    /// still to be computed with them. `AllocError` occurs only where the allocation of a buffer of
+    /// 4,096 bytes and one entry fails; the marks stay, and the next call computes the same digests.
     pub fn digests_since(&mut self, horizon: u64) -> Result<DigestTable, AllocError>
         ensures table { IfOk result (λ table. table ≡ digests_since horizon self.old.history) }
         ensures same { self.new.history ≡ self.old.history }
-        ensures marks { MarksNoMore self.old.marked self.new.marked }
-        ensures left { OnOk result (MarkedLose horizon self.old.history self.new.marked) }
+        ensures marks { OnOk result
+            (StaysMarked horizon self.old.history self.old.marked self.new.marked) }
+        ensures err { OnErr result (self.new ≡ self.old) }
         ensures free { self.old.marked ≡ 0 → horizon ≤ self.old.history.horizon → IsOk result }
     {
         if horizon <= self.history.horizon() {
@@ -202,7 +201,8 @@ impl DigestedHistory {
         }
         let lost = self.history.losing(horizon);
         self.digests.renew(&self.history, self.changed & !lost)?;
+        let table = self.digests.table_since(&self.history, horizon, lost)?;
         self.changed &= lost;
-        self.digests.table_since(&self.history, horizon, lost)
+        Ok(table)
     }
 }

@@ -17,7 +17,7 @@ DumpReadsBack = (sender : ℕ) (h : HistoryView) → IsReplica sender → h.hori
 abbrev pub OneHistory : Type 0
 OneHistory = (text : List ℕ) (h g : HistoryView) → IsDump text h → IsDump text g → h ≡ g
 
--- a dump is refused for an allocation failure alone, or where its reader fails
+-- of a dump no fault is reported but Memory and ReadFault
 abbrev pub DumpIsTaken : Type 0
 DumpIsTaken = (text : List ℕ) (h : HistoryView) (at : ℕ) (why : DumpFault) → IsDump text h → IsRefused text at why → (why ≡ Frame Memory) ⊎ (why ≡ ReadFault)
 

@@ -6,12 +6,12 @@ use std::alloc::AllocError;
 use thiserror::Error;
 use warm_frames::FrameFault;
 
-/// Why a dump was not written or not read.
+/// Why a dump was not written or not read. As an error it shows its name ([`DumpFault::name`]).
 #[derive(Clone, Copy, Debug, PartialEq, Eq, Error)]
 pub enum DumpFault {
     /// The fault of a frame, with its number, 1 to 11. `Memory` is any allocation failure. `BadKind` is also a request
     /// in the place of a frame of entries or digests. `Truncated` and `Failed` do not come.
-    #[error("Frame")]
+    #[error("{0}")]
     Frame(FrameFault),
     /// 13: the bytes end before the frame of the digests does.
     #[error("CutShort")]
@@ -77,7 +77,8 @@ impl DumpFault {
     }
 }
 
-/// Why a dump was not read, and where. As an error it shows both.
+/// Why a dump was not read, and where. As an error it shows both, as in `BadMagic at byte 54`: the fault by its name, and
+/// that of a frame by its own.
 #[derive(Clone, Copy, Debug, PartialEq, Eq, Error)]
 #[error("{fault} at byte {at}")]
 pub struct DumpError {

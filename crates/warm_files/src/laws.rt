@@ -14,7 +14,7 @@ pub fn one_history()
     ensures { OneHistory }
 {}
 
-/// A dump is refused for an allocation failure alone, or where its reader fails.
+/// Of a dump no fault is reported but `Frame(Memory)` and `ReadFault`.
 pub fn dump_is_taken()
     ensures { DumpIsTaken }
 {}

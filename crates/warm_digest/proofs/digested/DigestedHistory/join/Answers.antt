@@ -1,9 +1,7 @@
-use Rattle.std.proofs.Common.{◌≡◌, subst, sym}
+use Rattle.std.proofs.Common.{◌≡◌, subst}
 use Rattle.std.specs.Prelude.{bit_or}
 use Rattle.warm_history.specs.Changes.{MarksChanged}
-use Rattle.warm_history.specs.Histories.{IsHistory, entries_of}
-use Rattle.warm_history.proofs.ChangeLemmas.{nothing_changed}
-use Rattle.warm_history.proofs.HistoryLemmas.{IsHistory-history}
+use Rattle.warm_history.specs.Histories.{entries_of}
 use Rattle.warm_digest.specs.KeptDigests.{DigestedView, MarksChanges}
 use Rattle.warm_digest.proofs.KeptLemmas.{kept_as_marked}
 use Rattle.warm_digest.proofs.MarkLemmas.{marks_changes}
@@ -17,14 +15,8 @@ pub returns-clause-changed : goal.returns-clause-changed
 returns-clause-changed c =
     subst (λ (v : DigestedView). MarksChanged (entries_of v.history) (entries_of c.join.new.self) c.in_ok-changed.changed) c.self.view_is c.in_ok-changed.ensures.changed
 
--- both are histories, so where no bucket changed no entry did
 pub returns-clause-none : goal.returns-clause-none
-returns-clause-none c none =
-    let old = c.self.inside.history in
-    let new = c.join.new.self in
-    let later : IsHistory new = subst IsHistory (sym c.in_ok-changed.ensures.exact) (IsHistory-history _) in
-    subst (λ (v : DigestedView). entries_of new ≡ entries_of v.history) c.self.view_is
-    (nothing_changed (entries_of old) (entries_of new) _ c.is_history.ensures.pages_rise later.pages_rise c.in_ok-changed.ensures.changed none)
+returns-clause-none c none = subst (λ (v : DigestedView). entries_of c.join.new.self ≡ entries_of v.history) c.self.view_is (c.in_ok-changed.ensures.none none)
 
 pub returns-clause-marks : goal.returns-clause-marks
 returns-clause-marks c =
