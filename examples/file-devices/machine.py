@@ -6,6 +6,7 @@ import errno
 import os
 import resource
 import shutil
+import signal
 import struct
 import subprocess
 from pathlib import Path
@@ -118,13 +119,23 @@ def file_limit(size: int) -> Callable[[], None]:
 # The calls of the system that sync a file, and what the processor is called to a filter of calls.
 SYNCS = {"x86_64": (0xC000003E, [74, 75]), "aarch64": (0xC00000B7, [82, 83])}
 PR_SET_NO_NEW_PRIVS, PR_SET_SECCOMP, SECCOMP_MODE_FILTER = 38, 22, 2
-ALLOW, ANSWER_WITH = 0x7FFF0000, 0x00050000
+ALLOW, ANSWER_WITH, KILL = 0x7FFF0000, 0x00050000, 0x80000000
 LOAD, JUMP_IF_EQUAL, RETURN = 0x20, 0x15, 0x06
 
 
 def no_sync() -> Callable[[], None]:
     """What a program does before it starts, so that each sync of a file is answered by an input/output error. The files are
     written to all the same."""
+    return syncs_meet(ANSWER_WITH | errno.EIO)
+
+
+def killed_by_a_sync() -> Callable[[], None]:
+    """What a program does before it starts, so that its first sync of a file ends it by the signal SIGSYS."""
+    return syncs_meet(KILL)
+
+
+def syncs_meet(verdict: int) -> Callable[[], None]:
+    """What a program does before it starts, so that the system's filter of calls gives each sync of a file this verdict."""
     kind = os.uname().machine
     if kind not in SYNCS:
         raise Missing(f"the calls of {kind} are not known here")
@@ -132,12 +143,14 @@ def no_sync() -> Callable[[], None]:
     steps = [(LOAD, 0, 0, 4), (JUMP_IF_EQUAL, 1, 0, name), (RETURN, 0, 0, ALLOW), (LOAD, 0, 0, 0)]
     for at, call in enumerate(syncs):
         steps.append((JUMP_IF_EQUAL, len(syncs) - at, 0, call))
-    steps += [(RETURN, 0, 0, ALLOW), (RETURN, 0, 0, ANSWER_WITH | errno.EIO)]
+    steps += [(RETURN, 0, 0, ALLOW), (RETURN, 0, 0, verdict)]
     code = b"".join(struct.pack("HBBI", *step) for step in steps)
     text = ctypes.create_string_buffer(code)
     program = struct.pack("HxxxxxxP", len(steps), ctypes.addressof(text))
 
     def prepare() -> None:
+        # a program that is killed leaves no memory image behind
+        resource.setrlimit(resource.RLIMIT_CORE, (0, 0))
         for what, value in [(PR_SET_NO_NEW_PRIVS, ctypes.c_ulong(1)), (PR_SET_SECCOMP, ctypes.c_ulong(SECCOMP_MODE_FILTER))]:
             zero = ctypes.c_ulong(0)
             if libc.prctl(what, value, program if what == PR_SET_SECCOMP else zero, zero, zero) != 0:
@@ -153,6 +166,15 @@ def no_sync() -> Callable[[], None]:
             os._exit(0 if error.errno == errno.EIO else 1)
         os._exit(1)
 
-    if subprocess.run(["true"], preexec_fn=try_it).returncode != 0:
+    if has_met(try_it) != (-signal.SIGSYS if verdict == KILL else 0):
         raise Missing("the system takes no filter of calls")
     return prepare
+
+
+def has_met(try_it: Callable[[], None]) -> int:
+    """The status of a process that does this, or the negated number of the signal that ended it."""
+    child = os.fork()
+    if child == 0:
+        try_it()
+        os._exit(1)
+    return os.waitstatus_to_exitcode(os.waitpid(child, 0)[1])

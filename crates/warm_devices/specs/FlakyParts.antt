@@ -27,6 +27,10 @@ pub record FailsWhenDue {D : Type 0} {g : Ghosts D} (kind : DeviceFault) (result
   pub due : calls_left old ≡ 1 → result ≡ Err kind
   pub passed_on : calls_left old ≢ 1 → IsTrue (g.state old.inner).unfailing → IsOk result
 
+-- the call that is to fail does not reach the inner device
+abbrev pub StopsWhenDue : {D : Type 0} {g : Ghosts D} → Flaky D g → Flaky D g → Type 0
+StopsWhenDue old new = calls_left old ≡ 1 → inner_of new ≡ inner_of old
+
 -- the device, but not unfailing, and with a count of failures that fits in 64 bits
 abbrev pub may_fail : DeviceState → DeviceState
 may_fail d = record d { failures = min d.failures (2 ^ 64 - 1); unfailing = false }
@@ -37,8 +41,11 @@ TearsWhenDue {D} {g} page old new =
     calls_left old ≡ 1 → IsTrue (g.state old.inner).unfailing → IsTrue (g.state old.inner).honest
     → page_at (flaky_state new).contents page ≡ replicate (g.state old.inner).page_size 0xEE
 
--- A flush counts as a call where something is unflushed; where it is the call that is to fail, it
--- stays unflushed.
+-- A flush counts as a call where something is unflushed. Where the next call is the one that is to
+-- fail, no flush reaches the inner device, and what is unflushed stays so; over an unfailing device
+-- any other flush leaves nothing unflushed.
 pub record SettlesUnlessDue {D : Type 0} {g : Ghosts D} (old new : Flaky D g) : Type 0 where
   pub counted : calls_left new ≡ (if (flaky_state old).waiting then calls_left old - 1 else calls_left old)
   pub due : calls_left old ≡ 1 → SameWaiting (flaky_state old) (flaky_state new)
+  pub stopped : StopsWhenDue old new
+  pub passed_on : calls_left old ≢ 1 → IsTrue (g.state old.inner).unfailing → (flaky_state new).waiting ≡ false

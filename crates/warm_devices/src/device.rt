@@ -64,6 +64,10 @@ pub trait PageDevice: Drop {
     /// # Errors
     /// Only `Flush`. What was unflushed is still unflushed. The contents that reads return are
     /// unchanged, whether it fails or not.
+    ///
+    /// A later flush may succeed where the device can still make these pages durable. A device over
+    /// a file cannot know that, since the system may have dropped them: there each later flush
+    /// fails too, until the file is opened again.
     fn flush(&mut self) -> Result<(), DeviceFault>
         ensures shape { SameShape (state self.old) (state self.new) }
         ensures faults { CountsFault Flush result (state self.old) (state self.new) }

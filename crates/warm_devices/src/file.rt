@@ -12,12 +12,19 @@ use std::os::unix::fs::FileExt;
 ///
 /// The device is safe whatever the file returns, and it counts its failures. It claims nothing
 /// about the bytes.
+///
+/// Once a flush has failed, each later flush of the device fails too. The system may have dropped
+/// the pages that it could not write, and a later sync would then succeed without them. Only
+/// opening the file again gives a device that can be flushed; what was written since the last flush
+/// that succeeded may be lost.
 pub struct FileDevice {
     file: File,
     pages: u64,
     page_size: usize,
     waiting: bool,
     failures: u64,
+    /// Whether a flush has failed.
+    flush_failed: bool,
     ghost fits: { pages * page_size < 2 ^ 63 },
 }
 
@@ -34,7 +41,7 @@ fn open_sized<R: Files<File = File>>(files: &R, path: &str, len: u64) -> io::Res
 }
 
 impl FileDevice {
-    ghost use Rattle.warm_devices.specs.FileParts.{file_state};
+    ghost use Rattle.warm_devices.specs.FileParts.{file_state, flush_failed};
 
     /// Opens the file at `path` as a device of `pages` pages of `page_size` bytes, creates it where
     /// it does not exist, and extends a shorter one with zeros. A longer one keeps its length.
@@ -58,6 +65,7 @@ impl FileDevice {
           honest = false;
           unfailing = false;
         }) }
+        ensures unfailed { IfOk result (λ device. flush_failed device ≡ false) }
         ensures too_large { 2 ^ 63 ≤ pages * page_size → result ≡ Err Open }
     {
         let len = match pages.checked_mul(page_size as u64) {
@@ -71,12 +79,17 @@ impl FileDevice {
             page_size,
             waiting: false,
             failures: 0,
+            flush_failed: false,
         })
     }
 }
 
 impl PageDevice for FileDevice {
-    ghost use Rattle.warm_devices.specs.FileParts.{file_state};
+    ghost use Rattle.std.specs.Prelude.{◌≡◌, ◌<◌, IsTrue, IsOk, OnOk, OnErr, length, true, false};
+    ghost use Rattle.warm_devices.specs.Device.{DeviceState, SameShape, CountsFault, ChangesOnly, GivesPage};
+    ghost use Rattle.warm_devices.specs.Device.{TakesPage, SameWaiting, Settles, SettlesSurely};
+    ghost use Rattle.warm_devices.specs.FileParts.{file_state, flush_failed, RemembersFailure, SettlesUnlessFailed};
+    ghost use Rattle.warm_devices.specs.declared.fault.DeviceFault.TheVariants.{Read, Write, Flush};
 
     ghost state = { file_state };
 
@@ -96,7 +109,17 @@ impl PageDevice for FileDevice {
         self.failures
     }
 
-    fn read(&mut self, no: u64, into: &mut [u8]) -> Result<(), DeviceFault> {
+    fn read(&mut self, no: u64, into: &mut [u8]) -> Result<(), DeviceFault>
+        requires known { no < (file_state self.old).pages }
+        requires sized { length into.old ≡ (file_state self.old).page_size }
+        ensures shape { SameShape (file_state self.old) (file_state self.new) }
+        ensures faults { CountsFault Read result (file_state self.old) (file_state self.new) }
+        ensures unfailing { IsTrue (file_state self.old).unfailing → IsOk result }
+        ensures waiting { (file_state self.new).waiting ≡ (file_state self.old).waiting }
+        ensures contents { (file_state self.new).contents ≡ (file_state self.old).contents }
+        ensures bytes { OnOk result (GivesPage (file_state self.old) no into.new) }
+        ensures kept { flush_failed self.new ≡ flush_failed self.old }
+    {
         let at = no * self.page_size as u64;
         if self.file.read_exact_at(into, at).is_err() {
             self.failures = self.failures.saturating_add(1);
@@ -105,7 +128,18 @@ impl PageDevice for FileDevice {
         Ok(())
     }
 
-    fn write(&mut self, no: u64, bytes: &[u8]) -> Result<(), DeviceFault> {
+    fn write(&mut self, no: u64, bytes: &[u8]) -> Result<(), DeviceFault>
+        requires known { no < (file_state self.old).pages }
+        requires sized { length bytes.now ≡ (file_state self.old).page_size }
+        ensures shape { SameShape (file_state self.old) (file_state self.new) }
+        ensures faults { CountsFault Write result (file_state self.old) (file_state self.new) }
+        ensures unfailing { IsTrue (file_state self.old).unfailing → IsOk result }
+        ensures waiting { (file_state self.new).waiting ≡ true }
+        ensures others { ChangesOnly no (file_state self.old) (file_state self.new) }
+        ensures bytes { OnOk result
+            (TakesPage (file_state self.old) no bytes.now (file_state self.new)) }
+        ensures kept { flush_failed self.new ≡ flush_failed self.old }
+    {
         self.waiting = true;
         let at = no * self.page_size as u64;
         if self.file.write_all_at(bytes, at).is_err() {
@@ -115,8 +149,19 @@ impl PageDevice for FileDevice {
         Ok(())
     }
 
-    fn flush(&mut self) -> Result<(), DeviceFault> {
-        if self.file.sync_all().is_err() {
+    /// Syncs the file. It fails also where an earlier flush of this device failed.
+    fn flush(&mut self) -> Result<(), DeviceFault>
+        ensures shape { SameShape (file_state self.old) (file_state self.new) }
+        ensures faults { CountsFault Flush result (file_state self.old) (file_state self.new) }
+        ensures unfailing { IsTrue (file_state self.old).unfailing → IsOk result }
+        ensures flushed { OnOk result ((file_state self.new).waiting ≡ false) }
+        ensures failed { OnErr result (SameWaiting (file_state self.old) (file_state self.new)) }
+        ensures contents { (file_state self.new).contents ≡ (file_state self.old).contents }
+        ensures remembered { RemembersFailure result self.old self.new }
+    {
+        // The system may have dropped the pages of a failed sync: the next one says nothing of them.
+        if self.flush_failed || self.file.sync_all().is_err() {
+            self.flush_failed = true;
             self.failures = self.failures.saturating_add(1);
             return Err(DeviceFault::Flush);
         }
@@ -124,7 +169,13 @@ impl PageDevice for FileDevice {
         Ok(())
     }
 
-    fn settle(&mut self) {
+    fn settle(&mut self)
+        ensures shape { SameShape (file_state self.old) (file_state self.new) }
+        ensures settled { Settles (file_state self.old) (file_state self.new) }
+        ensures unfailing { SettlesSurely (file_state self.old) (file_state self.new) }
+        ensures contents { (file_state self.new).contents ≡ (file_state self.old).contents }
+        ensures remembered { SettlesUnlessFailed self.old self.new }
+    {
         if self.waiting {
             let _ = self.flush();
         }
@@ -140,6 +191,7 @@ impl Drop for FileDevice {
             page_size: _,
             waiting: _,
             failures: _,
+            flush_failed: _,
         } = self;
         drop(file);
     }

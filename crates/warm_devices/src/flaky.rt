@@ -62,7 +62,8 @@ impl<D: PageDevice> PageDevice for Flaky<D> {
     ghost use Rattle.std.specs.Prelude.{◌≡◌, ◌<◌, IsTrue, IsOk, OnOk, OnErr, length, true, false};
     ghost use Rattle.warm_devices.specs.Device.{DeviceState, SameShape, CountsFault, ChangesOnly, GivesPage};
     ghost use Rattle.warm_devices.specs.Device.{TakesPage, SameWaiting, Settles, SettlesSurely};
-    ghost use Rattle.warm_devices.specs.FlakyParts.{flaky_state, FailsWhenDue, TearsWhenDue, SettlesUnlessDue};
+    ghost use Rattle.warm_devices.specs.FlakyParts.{flaky_state, FailsWhenDue, StopsWhenDue, TearsWhenDue};
+    ghost use Rattle.warm_devices.specs.FlakyParts.{SettlesUnlessDue};
     ghost use Rattle.warm_devices.specs.declared.fault.DeviceFault.TheVariants.{Read, Write, Flush};
 
     ghost state = { flaky_state };
@@ -93,6 +94,7 @@ impl<D: PageDevice> PageDevice for Flaky<D> {
         ensures contents { (flaky_state self.new).contents ≡ (flaky_state self.old).contents }
         ensures bytes { OnOk result (GivesPage (flaky_state self.old) no into.new) }
         ensures chosen { FailsWhenDue Read result self.old self.new }
+        ensures stopped { StopsWhenDue self.old self.new }
     {
         if is_due(&mut self.calls_left) {
             self.failed = self.failed.saturating_add(1);
@@ -132,6 +134,7 @@ impl<D: PageDevice> PageDevice for Flaky<D> {
         ensures failed { OnErr result (SameWaiting (flaky_state self.old) (flaky_state self.new)) }
         ensures contents { (flaky_state self.new).contents ≡ (flaky_state self.old).contents }
         ensures chosen { FailsWhenDue Flush result self.old self.new }
+        ensures stopped { StopsWhenDue self.old self.new }
     {
         if is_due(&mut self.calls_left) {
             self.failed = self.failed.saturating_add(1);

@@ -14,7 +14,7 @@ use Rattle.warm_pool.specs.Frames.{FrameState, FramesState, nth_frame, fresh_fra
 use Rattle.warm_pool.specs.State.{PoolState, IsPool, RankedBy, IsNowhere}
 use Rattle.warm_pool.specs.View.{is_page, frame_view, view_of, PoolView, FrameView}
 use Rattle.warm_pool.specs.Keeping.{KeepsBytes}
-use Rattle.warm_pool.specs.Refreshing.{AgreeOutside, Renews, RenewsFrame}
+use Rattle.warm_pool.specs.Refreshing.{AgreeOutside, Renews, RenewsFrame, RenewsNamed}
 use Rattle.warm_pool.proofs.Slots.{at_set}
 use Rattle.warm_pool.proofs.Bytes.{page_found, found_page}
 use Rattle.warm_pool.proofs.KeepingLemmas.{same_bytes, more_bytes}
@@ -112,6 +112,16 @@ all_renewed {s} {t} h pages k r all g ranked agree i = of_page (nth_frame s.fram
         below : (j : ℕ) → j < length pages → j < k
         below j lt = omega arith
 
+-- after all of them each of them that is resident has its rank
+pub each_renewed : {s t : PoolState} (h : HistoryView) (pages : List PageId) (k : ℕ) → Renewed s t h pages k → length pages ≤ k → RenewsNamed pages h t
+each_renewed {s} {t} h pages k r all i p holds named = elim (r.keys i p (sym (r.held i) ∙ holds)) [
+  | inl new ↦ new
+  | inr old ↦ absurd (old.1 named.0 (below named.0 named.1) named.2)
+]
+  where
+    below : (j : ℕ) → j < length pages → j < k
+    below j lt = omega arith
+
 -- the same where items name the pages
 pub named_renewed : {A : Type 0} {s t u : PoolState} (h : HistoryView) (named : A → PageId) (items : List A) (k : ℕ) (item : A) {q : PageId} → Renewed s t h (map named items) k → k < length items
     → item ≡ get_or items k item → q ≡ named item → view_of u ≡ view_of t → KeepsBytes t u → Renews t q (rank_key q (hist (refs h) q)) u → Renewed s u h (map named items) (k + 1)
@@ -121,6 +131,9 @@ named_renewed h named items k item {q} r low is names =
 pub all_named : {A : Type 0} {s t : PoolState} (h : HistoryView) (named : A → PageId) (items : List A) (k : ℕ) → Renewed s t h (map named items) k → length items ≤ k
     → (g : HistoryView) → RankedBy s g → AgreeOutside (map named items) g h → RankedBy t h
 all_named h named items k r all = all_renewed h (map named items) k r (omega (arith, all, length-map items named))
+
+pub each_named : {A : Type 0} {s t : PoolState} (h : HistoryView) (named : A → PageId) (items : List A) (k : ℕ) → Renewed s t h (map named items) k → length items ≤ k → RenewsNamed (map named items) h t
+each_named h named items k r all = each_renewed h (map named items) k r (omega (arith, all, length-map items named))
 
 -- the pages of the first k frames were renewed
 pub record RenewedFirst (s t : PoolState) (h : HistoryView) (k : ℕ) : Type 0 where

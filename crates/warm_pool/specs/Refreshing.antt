@@ -25,6 +25,11 @@ pub record RenewsFrame (old : PoolState) (at : ℕ) (h : HistoryView) (new : Poo
   pub here : (nth_frame new.frames at).key ≡ option_map (λ p. rank_key p (hist (refs h) p)) (nth_frame new.frames at).page
   pub others : (i : ℕ) → i ≢ at → (nth_frame new.frames i).key ≡ (nth_frame old.frames i).key
 
+-- Each of these pages that is resident has the rank that the history gives it, whatever the ranks of
+-- the other pages are.
+abbrev pub RenewsNamed : List PageId → HistoryView → PoolState → Type 0
+RenewsNamed pages h new = (i : ℕ) (p : PageId) → (nth_frame new.frames i).page ≡ Some p → Contains pages p → (nth_frame new.frames i).key ≡ Some (rank_key p (hist (refs h) p))
+
 -- a history that agrees, except on these pages, with one that ranked the old pool ranks the new one
 abbrev pub RefreshesRanks : List PageId → HistoryView → PoolState → PoolState → Type 0
 RefreshesRanks pages h old new = (g : HistoryView) → RankedBy old g → AgreeOutside pages g h → RankedBy new h

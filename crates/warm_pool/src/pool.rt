@@ -12,7 +12,7 @@ ghost use Rattle.warm_pool.specs.Opening.{IsUpTo, IsSize, NewRefused};
 ghost use Rattle.warm_pool.specs.WritingBack.{Cleans, CleanFails};
 ghost use Rattle.warm_pool.specs.Pinning.{Pinned, PinRefused, Loaded, LoadRefused, PutsIn, PutRefused, unpinned, IsNextVictim, LoadsInto, LoadFails, FixesPage, FixRefused, IsNextPlace, TakesFrame, LeavesDevices};
 ghost use Rattle.warm_pool.specs.PageBytes.{IsRead, ReadRefused, Written, WriteRefused, MakesDirty};
-ghost use Rattle.warm_pool.specs.Refreshing.{Renews, RenewsFrame, RefreshesRanks, KeepsOtherRanks};
+ghost use Rattle.warm_pool.specs.Refreshing.{Renews, RenewsFrame, RenewsNamed, RefreshesRanks, KeepsOtherRanks};
 ghost use Rattle.warm_pool.specs.declared.fault.PoolFault.TheVariants.{OutOfPage, FixesFull};
 
 use crate::MAX_DEVICES;
@@ -248,8 +248,9 @@ impl<D: PageDevice> Pool<D> {
         }
     }
 
-    /// The page that would be evicted next: of the unpinned resident pages, the one of the greatest
-    /// backward 2-distance; `None` where there is none.
+    /// The page that would be evicted next, as a history ranks the pool: of the unpinned resident
+    /// pages, the one of the greatest backward 2-distance; `None` where there is none. The contract
+    /// says nothing of a pool that no history ranks, as [`Pool::refresh`] may leave it.
     pub fn victim(&self) -> Option<PageId>
         ensures { IsNextVictim self.now result }
     {
@@ -312,11 +313,12 @@ impl<D: PageDevice> Pool<D> {
         Ok(())
     }
 
-    /// Updates the ranks of those of the named pages that are resident. Other pages keep theirs.
-    /// Allocation-free.
+    /// Updates the ranks of those of the named pages that are resident, whatever the ranks of the
+    /// others are. Other pages keep theirs. Allocation-free.
     pub fn refresh<T: NamesPage>(&mut self, history: &History, items: &[T])
         ensures ranked { RefreshesRanks (map T.named items.now) history.now
             self.old self.new }
+        ensures renewed { RenewsNamed (map T.named items.now) history.now self.new }
         ensures others { KeepsOtherRanks (map T.named items.now) self.old self.new }
         ensures same { view_of self.new ≡ view_of self.old }
         ensures kept { KeepsBytes self.old self.new }

@@ -1,4 +1,4 @@
-use Rattle.warm_pool.proofs.Renewals.{none_renewed, named_renewed, all_named}
+use Rattle.warm_pool.proofs.Renewals.{none_renewed, named_renewed, all_named, each_named}
 use Rattle.warm_pool.proofs.pool.Pool.refresh.Goals as goal
 
 pub loop-item-init : goal.loop-item-init
@@ -11,3 +11,7 @@ loop-item-preserved g c =
 pub returns-clause-ranked : goal.returns-clause-ranked
 returns-clause-ranked g c history ranked agree =
     all_named _ g.T.NamesPage.named _ _ c.loop-item.invariant c.loop-item-test.false history ranked agree
+
+pub returns-clause-renewed : goal.returns-clause-renewed
+returns-clause-renewed g c i p holds named =
+    each_named _ g.T.NamesPage.named _ _ c.loop-item.invariant c.loop-item-test.false i p holds named
