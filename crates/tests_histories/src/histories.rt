@@ -181,3 +181,40 @@ fn gives_those_after_a_page_of_any_bucket(rt: HostRuntime) {
         );
     }
 }
+
+// Whether these are the first two entries of a bucket after a page.
+fn are_next_two(
+    rt: &impl Abort,
+    history: &History,
+    number: u8,
+    after: Option<PageId>,
+    want: &[Entry],
+) -> bool {
+    let found = history
+        .entries(bucket(number), after, 2)
+        .expect(rt, "memory for entries");
+    found.as_slice() == want
+}
+
+// The pages 0:1, 0:65 and 1:0 are all of bucket 1.
+#[test]
+fn entries_of_one_bucket(rt: HostRuntime) {
+    let [first, second] = [entry(page(1), once(10, 1)), entry(page(65), once(10, 1))];
+    let third = entry(page_on(1, 0), once(10, 1));
+    let mut here = History::new(rt.alloc());
+    here.join_entries(0, &[first, second, third])
+        .expect(&rt, "memory for entries");
+    assert!(rt; are_next_two(&rt, &here, 1, None, &[first, second]));
+    assert!(rt; are_next_two(&rt, &here, 1, Some(page(65)), &[third]));
+    assert!(rt; are_next_two(&rt, &here, 1, Some(page_on(1, 0)), &[]));
+    assert!(rt; are_next_two(&rt, &here, 2, None, &[]));
+}
+
+#[test]
+fn entries_come_in_any_order(rt: HostRuntime) {
+    let [first, second] = [entry(page(1), once(10, 1)), entry(page(2), once(10, 1))];
+    let mut here = History::new(rt.alloc());
+    here.join_entries(0, &[second, first])
+        .expect(&rt, "memory for entries");
+    assert!(rt; here.len() == 2 && here.at(0) == Some(first) && here.at(1) == Some(second));
+}

@@ -5,9 +5,9 @@ ghost use Rattle.warm_rank.specs.declared.TheConstants.{MAX_SLOTS};
 use std::alloc::Global;
 use std::cmp::Ordering;
 use std::process::Abort;
-use test_kit::{history_of, page, seen};
+use test_kit::{history_of, once, page, seen, twice};
 use warm_history::History;
-use warm_rank::{Contest, key_of, leaving_order, warm_list};
+use warm_rank::{Contest, RankKey, key_of, leaving_order, warm_list};
 use warm_stamps::{PageId, PageList};
 
 fn leaves_first(history: &History, first: u64, second: u64) -> bool {
@@ -76,6 +76,40 @@ fn contest_has_any_number_of_slots(rt: HostRuntime) {
     for slots in [1, 2, 3, 65_535, 65_536u32] {
         assert!(rt; rises(&rt, rt.alloc(), slots), "of {slots}");
     }
+}
+
+// Sets or clears the key of one of three slots.
+fn set_of_three(contest: &mut Contest, slot: usize, key: Option<RankKey>)
+    requires three { length contest.old ≡ 3 }
+    requires one { slot < 3 }
+    ensures { length contest.new ≡ 3 }
+{
+    contest.set(slot, key);
+}
+
+// A contest of the keys of 0:1 with stamps 2@1 and 1@1, of 0:5 with 10@1, and of 0:6 with 11@1: the least is cleared until none is
+// left. Then one key is in two slots.
+#[test]
+fn the_least_of_three_keys_is_found(rt: HostRuntime) {
+    let mut contest = Contest::new(rt.alloc(), 3).expect(&rt, "memory for slots");
+    let key = key_of(page(5), Some(once(10, 1)));
+    set_of_three(
+        &mut contest,
+        0,
+        Some(key_of(page(1), Some(twice((2, 1), (1, 1))))),
+    );
+    set_of_three(&mut contest, 1, Some(key));
+    set_of_three(&mut contest, 2, Some(key_of(page(6), Some(once(11, 1)))));
+    assert!(rt; contest.least() == Some(1));
+    set_of_three(&mut contest, 1, None);
+    assert!(rt; contest.least() == Some(2));
+    set_of_three(&mut contest, 2, None);
+    assert!(rt; contest.least() == Some(0));
+    set_of_three(&mut contest, 0, None);
+    assert!(rt; contest.least() == None);
+    set_of_three(&mut contest, 0, Some(key));
+    set_of_three(&mut contest, 2, Some(key));
+    assert!(rt; contest.least() == Some(0));
 }
 
 // The history of this number of pages from 0 on, each referenced once at the time of its number.

@@ -113,6 +113,23 @@ fn a_frame_twice_over(rt: HostRuntime) {
     }
 }
 
+// A whole frame with the first byte of the next is one piece: the byte is not taken with the frame. It is then taken as a piece of its
+// own, and the bytes after it show that no frame begins so.
+#[test]
+fn a_frame_and_a_byte_in_one_piece(rt: HostRuntime) {
+    let alloc = rt.alloc();
+    let mut decoder = Decoder::new(alloc);
+    let mut text = Vec::new(alloc);
+    let piece = joined(&rt, alloc, &[&NARROW, &[0x4D]]);
+    assert!(rt; feed_some(&rt, alloc, &mut decoder, &piece, &mut text) == 42);
+    assert!(rt; text.as_slice() == WIDENED.as_slice());
+    assert!(rt; feed_some(&rt, alloc, &mut decoder, &[0x4D], &mut text) == 1);
+    assert!(rt; text.len() == WIDENED.len());
+    assert!(rt; fault_of(&mut decoder, &[0; 3]) == Some(FrameFault::BadMagic));
+    assert!(rt; fault_of(&mut decoder, &NARROW) == Some(FrameFault::Failed));
+    assert!(rt; decoder.finish() == Err(FrameFault::Failed));
+}
+
 // Whether an empty piece is consumed and gives no frame.
 fn takes_nothing(decoder: &mut Decoder) -> bool {
     match decoder.feed(&[]) {
@@ -227,4 +244,12 @@ fn a_fault_comes_with_its_byte(rt: HostRuntime) {
         let is_found = faults_at(rt.alloc(), &narrow_changed(place, value), at, want);
         row_holds(&rt, place, is_found);
     }
+}
+
+// A header of the narrow format whose body has 27,005 bytes, one more than there may be.
+const TOO_LONG: [u8; 11] = [0x4C, 0x32, 0x47, 0x31, 1, 0, 1, 0, 0, 0x69, 0x7D];
+
+#[test]
+fn a_long_body_is_refused_at_the_last_byte_of_its_header(rt: HostRuntime) {
+    assert!(rt; faults_at(rt.alloc(), &TOO_LONG, 10, FrameFault::BadLength));
 }

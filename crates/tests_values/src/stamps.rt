@@ -1,7 +1,9 @@
-//! Numbers of replicas and buckets, and the bytes of pages.
+//! Numbers of replicas and buckets, and the bytes of pages and of stamps.
 
-use test_kit::page_on;
-use warm_stamps::{BadReplica, Bucket, ReplicaId, page_bytes, page_from, page_from_narrow};
+use test_kit::{page_on, stamp};
+use warm_stamps::{
+    BadReplica, Bucket, ReplicaId, page_bytes, page_from, page_from_narrow, stamp_bytes, stamp_from,
+};
 
 fn replica_number(number: u16) -> Result<u16, BadReplica> {
     let replica = ReplicaId::new(number)?;
@@ -47,4 +49,14 @@ fn pages_have_ten_bytes(rt: HostRuntime) {
 fn pages_had_six_bytes(rt: HostRuntime) {
     assert!(rt; page_from_narrow(&[1, 2, 3, 2, 1, 0]) == page_on(258, 50462976));
     assert!(rt; page_from_narrow(&[255; 6]) == page_on(65535, 4294967295));
+}
+
+#[test]
+fn stamps_have_ten_bytes(rt: HostRuntime) {
+    assert!(rt; stamp_from(&[0; 10]) == Err(BadReplica));
+    // Bytes 1 to 8 are those of the time.
+    let bytes = [1, 2, 3, 4, 5, 6, 7, 8, 0, 64];
+    let late = stamp(72623859790382856, 64);
+    assert!(rt; stamp_bytes(late) == bytes);
+    assert!(rt; stamp_from(&bytes) == Ok(late));
 }
