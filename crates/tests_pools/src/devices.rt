@@ -37,6 +37,18 @@ fn the_chosen_write_tears_its_page(rt: HostRuntime) {
     );
 }
 
+// The second call is the flush that `settle` makes. It fails; the next `settle` flushes again.
+#[test]
+fn a_failed_flush_of_settle_is_counted(rt: HostRuntime) {
+    let inner = MemDevice::new(rt.alloc(), 1, 1).expect(&rt, "memory for a page");
+    let mut device = Flaky::new(inner, 2);
+    assert!(rt; device.write(0, &[5]) == Ok(()) && device.failures() == 0);
+    device.settle();
+    assert!(rt; device.failures() == 1 && device.waiting());
+    device.settle();
+    assert!(rt; device.failures() == 1 && !device.waiting());
+}
+
 // Writes page 3 of a file of eight pages, whose device is then dropped.
 fn write_page<R: Files<File = File> + Abort>(rt: &R, path: &str) {
     let mut device = FileDevice::open(rt, path, 8, 16).expect(rt, "opened");

@@ -9,6 +9,8 @@
 #[cfg(test)]
 mod devices;
 #[cfg(test)]
+mod faults;
+#[cfg(test)]
 mod notes;
 #[cfg(test)]
 mod pool;
