@@ -9,8 +9,8 @@ use warm_stamps::{Bucket, ByteList, PageId, PageList, RefList};
 pub enum Call {
     /// Add these references to the history.
     Absorb(RefList),
-    /// Give the first entries of a bucket, of those whose page is greater than `after`: up to 1000,
-    /// up to MAX_ENTRIES.
+    /// Give the first entries of a bucket, of those whose page is greater than `after`: up to
+    /// MAX_ENTRIES, which is 1000.
     Send {
         /// The bucket.
         bucket: Bucket,
@@ -55,7 +55,7 @@ pub enum Call {
     /// Load the hottest page that is not resident, among as many of the hottest as the pool has
     /// frames.
     WarmStep,
-    /// Write back all pages, and then forget everything.
+    /// Write back all dirty pages and flush the devices, and then forget everything.
     Restart,
 }
 
@@ -80,6 +80,6 @@ pub enum Reply {
     Pages(PageList),
     /// The page that was loaded, if any.
     Loaded(Option<PageId>),
-    /// The call was refused; nothing has changed but counts of failures.
+    /// The call was refused; nothing that a caller sees has changed but counts of failures.
     Refused(NodeFault),
 }

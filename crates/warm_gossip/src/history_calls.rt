@@ -4,7 +4,8 @@ ghost use Rattle.warm_gossip.specs.declared.call.Call.TheVariants.{Absorb, Send,
 ghost use Rattle.warm_gossip.specs.declared.call.Reply.TheVariants.{Sent, Answers, Kept, Pages};
 ghost use Rattle.warm_gossip.specs.declared.fault.NodeFault.TheVariants.{Memory};
 ghost use Rattle.warm_gossip.specs.Answers.{IsAnswer};
-ghost use Rattle.warm_gossip.specs.Clauses.{Answered, Goes, Joins, Learns, SameView, done};
+ghost use Rattle.warm_pool.specs.Keeping.{KeepsBytes};
+ghost use Rattle.warm_gossip.specs.Clauses.{Answered, DevicesAfter, DevicesAnswered, Goes, Joins, Learns, SameView, done};
 
 use crate::answers::{answer_to_digests, horizon_of, requested_messages};
 use crate::fault::NodeFault;
@@ -26,7 +27,8 @@ impl<D: PageDevice> Node<D> {
     /// # Errors
     /// `Memory`: an allocation failed; nothing has changed.
     pub fn absorb(&mut self, batch: &[Reference]) -> Result<(), NodeFault>
-        ensures { Answered self.old (Absorb batch.now) done result self.new }
+        ensures step { Answered self.old (Absorb batch.now) done result self.new }
+        ensures devices { DevicesAnswered self.old (Absorb batch.now) done result self.new }
     {
         let changed = self.history.absorb(batch)?;
         if changed == 0 {
@@ -42,6 +44,7 @@ impl<D: PageDevice> Node<D> {
     pub(crate) fn learn(&mut self, horizon: u64, entries: &[Entry]) -> Result<(), NodeFault>
         ensures learnt { OnOk result (Learns self.old horizon entries.now self.new) }
         ensures refused { IfErr result (λ why. (why ≡ Memory) × SameView self.old self.new) }
+        ensures devices { KeepsBytes self.old.pool self.new.pool }
     {
         let own = self.history.history().horizon();
         let changed = self.history.join_entries(horizon, entries)?;
@@ -70,6 +73,7 @@ impl<D: PageDevice> Node<D> {
     pub fn join(&mut self, other: &History) -> Result<(), NodeFault>
         ensures joined { OnOk result (Joins self.old other.now self.new) }
         ensures refused { IfErr result (λ why. (why ≡ Memory) × SameView self.old self.new) }
+        ensures devices { KeepsBytes self.old.pool self.new.pool }
     {
         // A history ranks pages by its entries alone.
         is_history(self.history.history());
@@ -90,7 +94,8 @@ impl<D: PageDevice> Node<D> {
     /// Where none loses a stamp, digests and the warm-up list stay cached; otherwise all resident
     /// pages are ranked again.
     pub fn raise(&mut self, time: u64) -> u64
-        ensures { Goes self.old (Horizon time) (Kept result) self.new }
+        ensures step { Goes self.old (Horizon time) (Kept result) self.new }
+        ensures devices { DevicesAfter self.old (Horizon time) (Kept result) self.new }
     {
         let own = self.history.history().horizon();
         if time <= own {
@@ -120,6 +125,7 @@ impl<D: PageDevice> Node<D> {
         ensures same { SameView self.old self.new }
         ensures answers { IfOk result (IsAnswer self.old.id self.old.history message.now) }
         ensures refused { IfErr result (λ why. why ≡ Memory) }
+        ensures devices { KeepsBytes self.old.pool self.new.pool }
     {
         match message {
             Message::Entries { .. } => Ok(MessageList::of(Vec::new(self.alloc))),
@@ -149,10 +155,16 @@ impl<D: PageDevice> Node<D> {
     /// Digests are compared with the node's own, which are cached: having them costs what
     /// [`Node::offer`] costs.
     ///
+    /// The horizon of a message raises the node's own, and spreads with the node's messages. A
+    /// message of which only the horizon was changed is well formed, and one horizon later than all
+    /// stamps empties every history that it reaches. A caller that does not trust its senders
+    /// checks the times of a message with [`warm_frames::check_times`] before it is received.
+    ///
     /// # Errors
     /// `Memory`: an allocation failed; nothing has changed that a caller sees.
     pub fn receive(&mut self, message: Message) -> Result<MessageList, NodeFault>
-        ensures { Answered self.old (Receive message) Answers result self.new }
+        ensures step { Answered self.old (Receive message) Answers result self.new }
+        ensures devices { DevicesAnswered self.old (Receive message) Answers result self.new }
     {
         if let Message::Entries {
             horizon,
@@ -195,7 +207,8 @@ impl<D: PageDevice> Node<D> {
     /// `Memory`: an allocation failed; nothing has changed that a caller sees, and the next offer
     /// computes the same digests again.
     pub fn offer(&mut self) -> Result<Message, NodeFault>
-        ensures { Answered self.old Offer Sent result self.new }
+        ensures step { Answered self.old Offer Sent result self.new }
+        ensures devices { DevicesAnswered self.old Offer Sent result self.new }
     {
         let digests = self.history.digests()?;
         Ok(Message::Digest {

@@ -1,10 +1,8 @@
 //! The node.
-ghost use Rattle.std.specs.Prelude.{◌≡◌, OnOk};
-ghost use Rattle.warm_pool.specs.State.{IsRankedByAll, IsSettled};
-ghost use Rattle.warm_gossip.specs.declared.call.Call.TheVariants.{Restart};
-ghost use Rattle.warm_gossip.specs.declared.call.Reply.TheVariants.{Done};
+ghost use Rattle.std.specs.Prelude.{◌≡◌};
+ghost use Rattle.warm_pool.specs.State.{IsRankedByAll};
 ghost use Rattle.warm_gossip.specs.State.{opened};
-ghost use Rattle.warm_gossip.specs.Clauses.{Answered, Goes};
+ghost use Rattle.warm_gossip.specs.Clauses.{Answered, DevicesAfter, DevicesAnswered, Goes};
 
 use crate::call::{Call, Reply};
 use crate::fault::NodeFault;
@@ -106,11 +104,17 @@ impl<D: PageDevice> Node<D> {
     /// Answers a call.
     ///
     /// The definition *step* gives the effect of each call, and its refusals in their order: a
-    /// refused call changes nothing but counts of failures. `Memory` occurs only where an
-    /// allocation fails; pin, unpin, write, victim and restart are allocation-free.
+    /// refused call changes nothing that a caller sees but counts of failures. `Memory` occurs only
+    /// where an allocation fails; pin, unpin, write, victim, horizon and restart are
+    /// allocation-free.
+    ///
+    /// No call makes a page dirty but a write. Only pins, warm-up steps and restarts use the
+    /// devices: they read the page that is loaded, and write back the dirty page that is evicted;
+    /// a restart writes back all dirty pages and flushes. Any other call leaves devices and dirty
+    /// flags as they are.
     pub fn call(&mut self, call: Call) -> Reply
         ensures step { Goes self.old call result self.new }
-        ensures settled { call ≡ Restart → result ≡ Done → IsSettled self.new.pool }
+        ensures devices { DevicesAfter self.old call result self.new }
     {
         // The most frequent call is answered here: `answer` would move space for a reply's message,
         // 2 KB.
@@ -129,7 +133,7 @@ impl<D: PageDevice> Node<D> {
     // Answers a call, or returns why it is refused.
     fn answer(&mut self, call: Call) -> Result<Reply, NodeFault>
         ensures step { Answered self.old call (λ reply. reply) result self.new }
-        ensures settled { OnOk result (call ≡ Restart → IsSettled self.new.pool) }
+        ensures devices { DevicesAnswered self.old call (λ reply. reply) result self.new }
     {
         match call {
             Call::Absorb(batch) => {

@@ -1,12 +1,9 @@
 //! The calls on a node's pool.
 ghost use Rattle.std.specs.Prelude.{◌≡◌, ◌↔◌, length, IfErr, IfOk, IsTrue, OnErr, OnOk};
-ghost use Rattle.warm_pool.specs.Keeping.{KeepsBytes};
-ghost use Rattle.warm_pool.specs.PageBytes.{MakesDirty};
-ghost use Rattle.warm_pool.specs.Pinning.{TakesFrame};
 ghost use Rattle.warm_pool.specs.State.{IsSettled};
 ghost use Rattle.warm_gossip.specs.declared.call.Call.TheVariants.{Pin, Unpin, Read, Write, Victim, Restart};
 ghost use Rattle.warm_gossip.specs.declared.call.Reply.TheVariants.{Pinned, Bytes, Page};
-ghost use Rattle.warm_gossip.specs.Clauses.{Answered, Goes, PinLeaves, ReadIntoFails, SameView, WriteBackFails, done};
+ghost use Rattle.warm_gossip.specs.Clauses.{Answered, DevicesAnswered, Goes, ReadIntoFails, SameView, WriteBackFails, done};
 ghost use Rattle.warm_gossip.specs.State.{node_view};
 ghost use Rattle.warm_gossip.specs.Step.{IsWithin};
 
@@ -28,8 +25,7 @@ impl<D: PageDevice> Node<D> {
     /// Pages, pin counts and contents are unchanged.
     pub fn pin(&mut self, page: PageId) -> Result<Slot, NodeFault>
         ensures step { Answered self.old (Pin page) Pinned result self.new }
-        ensures frame { IfOk result (λ slot. TakesFrame self.old.pool page slot self.new.pool) }
-        ensures refused { IfErr result (λ why. PinLeaves self.old page why self.new) }
+        ensures devices { DevicesAnswered self.old (Pin page) Pinned result self.new }
     {
         self.warm_up.passed = passed_at_pin(&self.pool, self.warm_up.passed, page);
         Ok(self.pool.pin(page, self.history.history())?)
@@ -41,7 +37,7 @@ impl<D: PageDevice> Node<D> {
     /// `StaleSlot`: the slot doesn't hold its page; nothing has changed.
     pub fn unpin(&mut self, slot: Slot) -> Result<(), NodeFault>
         ensures step { Answered self.old (Unpin slot) done result self.new }
-        ensures kept { KeepsBytes self.old.pool self.new.pool }
+        ensures devices { DevicesAnswered self.old (Unpin slot) done result self.new }
     {
         if !self.pool.holds(slot) {
             return Err(NodeFault::StaleSlot);
@@ -102,7 +98,7 @@ impl<D: PageDevice> Node<D> {
     /// Nothing has changed.
     pub fn write(&mut self, slot: Slot, at: usize, bytes: &[u8]) -> Result<(), NodeFault>
         ensures step { Answered self.old (Write slot at bytes.now) done result self.new }
-        ensures dirty { OnOk result (MakesDirty self.old.pool slot self.new.pool) }
+        ensures devices { DevicesAnswered self.old (Write slot at bytes.now) done result self.new }
         ensures refused { OnErr result (self.new ≡ self.old) }
     {
         if !self.pool.holds(slot) {
@@ -119,16 +115,16 @@ impl<D: PageDevice> Node<D> {
         self.pool.victim()
     }
 
-    /// Writes back all pages, and then forgets the history and evicts every page: the call
-    /// `Restart`. Allocation-free.
+    /// Writes back each dirty page to its device and flushes the unflushed devices, and then
+    /// forgets the history and evicts every page: the call `Restart`. Allocation-free.
     ///
     /// # Errors
     /// `Pool(Fixed)`: a page is pinned, and nothing has changed. `Pool(Fault)`: a page could not be
-    /// written to its device, or a device could not be flushed; only counts of failures have
-    /// changed.
+    /// written to its device, or a device could not be flushed. Of what a caller sees, only one
+    /// count of failures has changed; the pages written before the failure are clean.
     pub fn restart(&mut self) -> Result<(), NodeFault>
         ensures step { Answered self.old Restart done result self.new }
-        ensures settled { OnOk result (IsSettled self.new.pool) }
+        ensures devices { DevicesAnswered self.old Restart done result self.new }
     {
         self.pool.empty()?;
         self.history.clear();
@@ -136,11 +132,12 @@ impl<D: PageDevice> Node<D> {
         Ok(())
     }
 
-    /// Writes back all pages to their devices, and flushes the devices. Allocation-free.
+    /// Writes back each dirty page to its device, and flushes the unflushed devices.
+    /// Allocation-free.
     ///
     /// # Errors
-    /// `Fault` at the first write or flush that fails. Of what a caller sees, only counts of
-    /// failures have changed.
+    /// `Pool(Fault)` at the first write or flush that fails. Of what a caller sees, only one count
+    /// of failures has changed.
     pub fn write_back(&mut self) -> Result<(), NodeFault>
         ensures same { OnOk result (SameView self.old self.new) }
         ensures settled { OnOk result (IsSettled self.new.pool) }

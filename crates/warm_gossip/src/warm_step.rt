@@ -3,7 +3,7 @@ ghost use Rattle.std.specs.Prelude.{◌≡◌, ◌↔◌, ◌<◌, length, None,
 ghost use Rattle.warm_gossip.specs.declared.call.Call.TheVariants.{WarmStep};
 ghost use Rattle.warm_gossip.specs.declared.call.Reply.TheVariants.{Loaded};
 ghost use Rattle.warm_pool.specs.View.{view_of};
-ghost use Rattle.warm_gossip.specs.Clauses.{Answered};
+ghost use Rattle.warm_gossip.specs.Clauses.{Answered, DevicesAnswered};
 ghost use Rattle.warm_gossip.specs.Step.{IsLoadable, nth_page};
 ghost use Rattle.warm_gossip.specs.WarmingUp.{IsPast, IsUnderWay, IsWarming, PassedAtLoad, PassedAtPin};
 
@@ -56,7 +56,8 @@ impl<D: PageDevice> Node<D> {
     /// `Pool`, with the fault and the order of [`warm_pool::Pool::load`]. Pages, pin counts and
     /// contents are unchanged.
     pub fn warm_step(&mut self) -> Result<Option<PageId>, NodeFault>
-        ensures { Answered self.old WarmStep Loaded result self.new }
+        ensures step { Answered self.old WarmStep Loaded result self.new }
+        ensures devices { DevicesAnswered self.old WarmStep Loaded result self.new }
     {
         // The list is over the references that the history holds: their history is this history.
         is_history(self.history.history());

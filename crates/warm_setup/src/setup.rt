@@ -368,8 +368,9 @@ fn made_from(keys: SetupKeys) -> (Setup, Vec<DeviceSpec>)
 /// device's keys in the order of their bytes, its missing `pages` last; the first fault is
 /// returned. For one key [`SetupFault::BadKey`] comes before [`SetupFault::BadValue`]. For `device`
 /// the types of the array and its elements come first, then its length, then its devices.
-/// [`SetupFault::NotToml`] is returned exactly where the text is not a TOML document (TOML 1.1,
-/// nested at most 80 deep), and [`SetupFault::Memory`] where an allocation failed.
+/// [`SetupFault::NotToml`] is returned only where the text is not a TOML document (TOML 1.1, nested
+/// at most 80 deep), and [`SetupFault::Memory`] only where an allocation failed, which can be
+/// before any fault of the text is found.
 pub fn read_setup(alloc: Global, text: &str) -> Result<(Setup, Vec<DeviceSpec>), SetupFault>
     ensures { Gives setup_and_devices (setup_in (parse_document text.now)) result }
 {

@@ -8,8 +8,8 @@ use Rattle.warm_gossip.proofs.Warmings.{same_node}
 use Rattle.warm_gossip.proofs.node.Node.raise.Goals as goal
 
 -- a time that is not past the horizon changes nothing
-pub returns-then-time-own : goal.returns-then-time-own
-returns-then-time-own g c =
+pub returns-then-time-own-clause-step : goal.returns-then-time-own-clause-step
+returns-then-time-own-clause-step g c =
     let own = c.horizon-own.ensures.value ∙ ap (λ (h : HistoryView). h.horizon) c.history.ensures in
     let same = raised_to_no_later c.self.inside.history.history c.args.time (rw c.history.ensures at c.horizon-own.ensures.whole) (omega (arith, c.if-time-own.true, own)) in
     rw (← c.self.view_is) (same_node c.self.inside.id (view_of c.self.inside.pool) _ _ (sym same), own)

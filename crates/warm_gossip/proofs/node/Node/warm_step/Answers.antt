@@ -10,8 +10,8 @@ use Rattle.warm_gossip.proofs.Passed.{first_there, loaded, none_left}
 use Rattle.warm_gossip.proofs.Warmings.{loaded_in, load_refused_in, next_warm, next_is}
 use Rattle.warm_gossip.proofs.node.Node.warm_step.Goals as goal
 
-pub returns-then-at-len : goal.returns-then-at-len
-returns-then-at-len g c =
+pub returns-then-at-len-clause-step : goal.returns-then-at-len-clause-step
+returns-then-at-len-clause-step g c =
     let v = view_of c.self.inside.pool in
     let ps = c.in_ok-pages.pages.items in
     let len : c.len.result ≡ length ps = c.len.ensures ∙ sym c.deref.ensures.len ∙ ap length c.deref.ensures.value in
@@ -20,8 +20,8 @@ returns-then-at-len g c =
     let past = subst (λ xs. IsPast xs c.first_loadable-at.result v) c.deref.ensures.value c.first_loadable-at.ensures.past in
     rw (← c.self.view_is) (next_warm v c.self.inside.history.history ps None whole under.hottest (none_left v ps c.first_loadable-at.result past (omega (arith, len, c.if-at-len.true))), refl)
 
-pub returns-in_err-load : goal.returns-in_err-load
-returns-in_err-load g c =
+pub returns-in_err-load-clause-step : goal.returns-in_err-load-clause-step
+returns-in_err-load-clause-step g c =
     let given = err_from_is_err_and c.from_residual-in_err-load.result c.from_residual-in_err-load.ensures.1 in
     let v = view_of c.self.inside.pool in
     let at = c.first_loadable-at.result in
@@ -39,8 +39,27 @@ returns-in_err-load g c =
       (refl, load_refused_in _ _ c.in_err-load.field-0.0 (subst (IsLoadable v) page_is loadable) (rw c.history-2.ensures at c.in_err-load.ensures.refused)),
     )
 
-pub returns : goal.returns
-returns g c =
+pub returns-in_err-load-clause-devices : goal.returns-in_err-load-clause-devices
+returns-in_err-load-clause-devices g c =
+    let given = err_from_is_err_and c.from_residual-in_err-load.result c.from_residual-in_err-load.ensures.1 in
+    let v = view_of c.self.inside.pool in
+    let at = c.first_loadable-at.result in
+    let ps = c.in_ok-pages.pages.items in
+    let len : c.len.result ≡ length ps = c.len.ensures ∙ sym c.deref.ensures.len ∙ ap length c.deref.ensures.value in
+    let there : at < length ps = omega (arith, len, c.if-at-len.false) in
+    let page_is : nth_page ps at ≡ c.index-page.result.now = get_or_default _ _ _ _ there ∙ sym c.index-page.ensures in
+    let whole = subst IsHistory c.history.ensures c.is_history.ensures in
+    let under = subst (λ (h : HistoryView). IsUnderWay h v ps c.take_pages.new.warm_up.passed) c.history-history.ensures c.in_ok-pages.ensures.pages in
+    let past = subst (λ xs. IsPast xs at v) c.deref.ensures.value c.first_loadable-at.ensures.past in
+    let loadable = subst (λ xs. IsLoadable v (nth_page xs at)) c.deref.ensures.value (c.first_loadable-at.ensures.there (omega (arith, there, ap length c.deref.ensures.value))) in
+    rw (given.1, given.2, ← c.self.view_is) (
+      c.index-page.result.now,
+      next_is v c.self.inside.history.history ps _ _ whole under.hottest (first_there v ps at past there loadable) page_is,
+      (c.in_err-load.ensures.frames, rw c.history-2.ensures at c.in_err-load.ensures.devices),
+    )
+
+pub returns-clause-step : goal.returns-clause-step
+returns-clause-step g c =
     let v = view_of c.self.inside.pool in
     let at = c.first_loadable-at.result in
     let ps = c.in_ok-pages.pages.items in
@@ -55,6 +74,9 @@ returns g c =
       next_is v c.self.inside.history.history ps _ _ whole under.hottest (first_there v ps at past there loadable) page_is,
       (refl, (_, loaded_in (subst (IsLoadable v) page_is loadable) (rw c.history-2.ensures at c.in_ok-load.ensures.loaded))),
     )
+
+pub returns-clause-devices : goal.returns-clause-devices
+returns-clause-devices g c = rw (← c.self.view_is) (c.in_ok-load.field-0, c.in_ok-load.ensures.frame)
 
 pub invariant_of-self-2 : goal.invariant_of-self-2
 invariant_of-self-2 g c =
