@@ -1,17 +1,20 @@
 -- One replica's pages are written back.
-use Rattle.std.proofs.Common.{◌≡◌, ◌≢◌, ℕ, ◌+◌, ◌<◌, inl, inr, arith, List, length, map, get_or, set, Result, Ok, Err, refl, sym, ◌∙◌, ap, subst}
+use Rattle.std.proofs.Common.{◌≡◌, ◌≢◌, ℕ, ◌+◌, ◌<◌, inl, inr, arith, List, [], length, map, get_or, set, Result, Ok, Err, refl, sym, ◌∙◌, ap, subst}
 use Rattle.std.specs.Prelude.{IfErr, OnOk}
 use Rattle.std.proofs.lemmas.List.{get_or-set_same, get_or-set_other, length-map, map-set}
 use Rattle.std.proofs.lemmas.Bool.{cases_eq}
 use Rattle.warm_gossip.specs.declared.fault.NodeFault.{NodeFault}
 use Rattle.warm_gossip.specs.declared.fault.NodeFault.TheVariants.{Pool}
-use Rattle.warm_gossip.specs.State.{NodeState, NodeView}
+use Rattle.warm_gossip.specs.State.{NodeState, NodeView, nobody as no_node}
 use Rattle.warm_gossip.specs.Step.{IsFailed, OnPool}
 use Rattle.warm_pool.specs.declared.fault.PoolFault.TheVariants.{Fault}
 use Rattle.warm_world.specs.Opening.{FailsAtPlace, FailsOf, FinishFails, StopsInOrder, with_pool}
 use Rattle.warm_pool.specs.State.{IsSettled}
 use Rattle.warm_world.specs.declared.world.World.{World}
 use Rattle.warm_world.specs.Views.{AreSameBut, AreSameFrom, AreSettledBefore, IsSettledBefore, ReplicaView, WorldView, world_view}
+use Rattle.warm_world.specs.States.{ReplicaState, nobody, replica, set_replica}
+use Rattle.warm_world.specs.Stands.{CountsFailure, ReplicaStands, StandsFor}
+use Rattle.warm_world.proofs.Pairs.{Pairwise-set}
 use Rattle.warm_world.proofs.Worlds.{shown_at, world, world_stays}
 
 module _ {A : Type 0} (f : A → ReplicaView) (xs : List A) (messages : List (List ℕ)) (k : ℕ) (x y : A) where
@@ -67,3 +70,24 @@ stops_in_order old mid new k same settled later kept did =
     let before : IsSettledBefore k new = λ j other low. subst (λ (n : NodeState). IsSettled n.pool) (sym (kept j other (λ e. absurd (omega (arith, low, e))))) (settled j other low) in
     let after : AreSameFrom (k + 1) old new = λ j other low. kept j other (λ e. absurd (omega (arith, low, e))) ∙ later j other (omega (arith, low)) in
     record { fails = at.0; before = subst (λ n. IsSettledBefore n new) here before; after = subst (λ n. AreSameFrom (n + 1) old new) here after }
+
+-- the world then stands for what it stood for, with that failure
+pub fails_stand : (old new : WorldView) → FailsOf old new → CountsFailure old new
+fails_stand old new fails m st =
+    let k = fails.replica in
+    let other : ReplicaView = record { node = no_node; buffers = [] } in
+    let r : ReplicaView = get_or old.replicas k other in
+    let was : ReplicaStands m.capacity k r (replica m k) = st.replicas.each k other nobody fails.there in
+    let after : ReplicaState = record (replica m k) { pool = fails.pool } in
+    let stands : ReplicaStands m.capacity k (with_pool r fails.pool) after = record {
+      has_capacity = was.has_capacity;
+      node_is = ap (λ (n : NodeView). let u : NodeView = record n { pool = fails.pool } in u) was.node_is;
+      buffers_are = was.buffers_are;
+    } in (
+      k,
+      fails.pool,
+      omega (arith, fails.there, st.replicas.same_length),
+      subst (λ v. IsFailed v fails.pool) (ap (λ (n : NodeView). n.pool) was.node_is) (fails.failed other),
+      subst (λ w. StandsFor w (set_replica m k after)) (sym (fails.becomes other))
+          (record { replicas = Pairwise-set (ReplicaStands m.capacity) old.replicas m.replicas k (with_pool r fails.pool) after st.replicas fails.there stands; messages = st.messages }),
+    )

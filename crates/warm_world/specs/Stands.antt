@@ -9,14 +9,15 @@ use Rattle.warm_frames.specs.declared.message.Message.TheVariants.{Entries, Dige
 use Rattle.warm_frames.specs.Spelling.{spelling, Spells}
 use Rattle.warm_rank.specs.Laws.{RankAlike, IsFarthest}
 use Rattle.warm_refbuffer.specs.Buffered.{Buffered}
-use Rattle.warm_pool.specs.View.{IsAbsent, IsResident, unfixed_pages}
+use Rattle.warm_pool.specs.View.{PoolView, IsAbsent, IsResident, unfixed_pages}
+use Rattle.warm_gossip.specs.Step.{IsFailed}
 use Rattle.warm_world.specs.declared.event.Event.{Event}
 use Rattle.warm_world.specs.declared.event.Event.TheVariants.{Pin, Victim, WarmStep}
 use Rattle.warm_world.specs.declared.event.Answer.{Answer}
 use Rattle.warm_world.specs.declared.event.Answer.TheVariants.{Page}
 use Rattle.warm_world.specs.Lists.{Pairwise, IsNumber, place}
 use Rattle.warm_world.specs.Views.{ReplicaView, WorldView}
-use Rattle.warm_world.specs.States.{ModelState, ReplicaState, MessageRecord, References, Digests, Request, pending, pool_of, reach_of}
+use Rattle.warm_world.specs.States.{ModelState, ReplicaState, MessageRecord, References, Digests, Request, pending, pool_of, reach_of, replica, set_replica}
 use Rattle.warm_world.specs.Next.{Next, Run, Shape}
 
 -- a buffer that holds these references
@@ -75,6 +76,12 @@ pub record Stepped (old : ModelState) (event : Event) (answer : Answer) (w : Wor
 -- that the world now stands for
 abbrev pub Steps : WorldView → Event → Answer → WorldView → Type 0
 Steps old event answer new = (m : ModelState) → StandsFor old m → Stepped m event answer new
+
+-- for every model state that the world stood for, it now stands for that state with one more failure counted at a device of one
+-- replica, and nothing else changed
+abbrev pub CountsFailure : WorldView → WorldView → Type 0
+CountsFailure old new = (m : ModelState) → StandsFor old m
+    → (k : ℕ) × (pool : PoolView) × (k < length m.replicas) × IsFailed (replica m k).pool pool × StandsFor new (set_replica m k (record (replica m k) { pool = pool }))
 
 -- the history of the replica of a number
 abbrev pub history_of : WorldView → ℕ → HistoryView

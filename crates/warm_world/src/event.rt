@@ -82,7 +82,7 @@ pub enum Answer {
     Loaded(Option<PageId>),
     /// Horizon: the replica's horizon afterwards.
     Kept(u64),
-    /// The event was refused; nothing has changed but counts of devices' failures.
+    /// The event was refused; nothing that a caller sees has changed but counts of devices' failures.
     Refused(WorldFault),
 }
 

@@ -10,7 +10,7 @@ ghost use Rattle.warm_world.specs.Opening.{AreFew, AreFitting, AreSized, FailsAt
 ghost use Rattle.warm_world.specs.Next.{IsNamed, IsMissing};
 ghost use Rattle.warm_world.specs.Views.{listed, world_view, replica_view};
 ghost use Rattle.warm_world.specs.Views.{AreSameBut, IsAtRest, IsSettledBefore};
-ghost use Rattle.warm_world.specs.Stands.{ReplicaStands, view_shape, StandsFor, Steps, Runs};
+ghost use Rattle.warm_world.specs.Stands.{CountsFailure, ReplicaStands, view_shape, StandsFor, Steps, Runs};
 
 use crate::event::{Answer, BadWorld, Event, WorldFault};
 use crate::pool_events::ask;
@@ -257,19 +257,21 @@ impl<D: PageDevice> World<D> {
         Ok(answers)
     }
 
-    /// Writes back all pages to their devices, and flushes the devices, one replica after the
-    /// other. Allocation-free.
+    /// Writes back each dirty page to its device, and flushes the unflushed devices, one replica
+    /// after the other. Allocation-free.
     ///
     /// # Errors
-    /// `Pool(Fault)` at the first write or flush that fails. Of the world's view, only one count of
-    /// failures has changed. The pools of replicas before the one that fails are settled, those
-    /// after it are unchanged.
+    /// `Pool(Fault)` at the first write or flush that fails. Of the world's view, and of each model
+    /// state that it stands for, only one count of failures has changed. The pools of replicas
+    /// before the one that fails are settled, those after it are unchanged.
     pub fn finish(&mut self) -> Result<(), NodeFault>
         ensures same { OnOk result (world_view self.new ≡ world_view self.old) }
         ensures settled { OnOk result (IsAtRest self.new) }
         ensures refused { IfErr result (λ why. FinishFails (world_view self.old) why
             (world_view self.new)) }
         ensures stops { OnErr result (StopsInOrder self.old self.new) }
+        ensures stands { OnErr result (CountsFailure (world_view self.old)
+            (world_view self.new)) }
     {
         for k in 0..self.replicas.len() {
             self.write_back(k)?;

@@ -13,4 +13,4 @@ returns-clause-ok g c = λ capacity place m st.
     let written = buffer_at capacity bs m.pending c.args.worker c.index_mut.result.now st.buffers_are c.requires.there in
     let held : c.index_mut.result.now.capacity ≡ capacity = ap (λ (b : Buffered). b.capacity) (c.index_mut.ensures.value ∙ written) in
     let emptied : c.clear.new.self ≡ buffered capacity [] = rw (c.clear.ensures, held) refl in
-    flushes capacity place c.args.worker _ _ m c.refs.result.now st c.requires.there batch c.in_ok-absorb.ensures (rw emptied refl)
+    flushes capacity place c.args.worker _ _ m c.refs.result.now st c.requires.there batch c.in_ok-absorb.ensures.step (rw emptied refl)

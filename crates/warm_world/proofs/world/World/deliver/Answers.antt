@@ -17,12 +17,12 @@ returns-in-Ok-receive g c = λ m st.
     let found = decoded_is _ m c.args.k c.args.self.now.messages.items c.index.result.now _ c.decode.result c.in-Ok.message st refl c.requires.named.message_there c.index.ensures c.deref.ensures.value c.decode.ensures.only c.in-Ok.is in
     taken _ _ _ m c.args.j c.args.k _ _ c.in-Ok.message c.as_slice.result.now _ _ c.took.result st c.requires.named c.index_mut.ensures.value found
     (sym c.horizon_raised.ensures ∙ c.in_default-horizon_raised.is)
-    (subst (λ fs. IsAnswer c.index_mut.result.now.node.id c.index_mut.result.now.node.history c.in-Ok.message fs) (sym c.as_slice.ensures) c.in-Ok-receive.ensures.0)
-    c.in-Ok-receive.ensures.1 refl c.took.ensures
+    (subst (λ fs. IsAnswer c.index_mut.result.now.node.id c.index_mut.result.now.node.history c.in-Ok.message fs) (sym c.as_slice.ensures) c.in-Ok-receive.ensures.step.0)
+    c.in-Ok-receive.ensures.step.1 refl c.took.ensures
 
 pub returns-in-Err : goal.returns-in-Err
 returns-in-Err g c = λ m st.
-    let refused = receive_refused _ _ c.in-Ok.message c.in-Err.why c.in-Err.ensures in
+    let refused = receive_refused _ _ c.in-Ok.message c.in-Err.why c.in-Err.ensures.step in
     rw c.into.ensures (no_memory _ _ _ m (Deliver c.args.j c.args.k) c.index_mut.result.now _ c.in-Err.why st c.requires.named c.index_mut.ensures.value
     (ap (λ (n : NodeView). let r : ReplicaView = record { node = n; buffers = c.index_mut.result.now.buffers.items } in r) refused.1) refused.0 (λ named here. (named, refl)))
 
@@ -43,7 +43,7 @@ returns g c = λ m st.
     let k = c.args.j - 1 in
     let found = decoded_is _ m c.args.k c.args.self.now.messages.items c.index.result.now _ c.decode.result c.in-Ok.message st refl c.requires.named.message_there c.index.ensures c.deref.ensures.value c.decode.ensures.only c.in-Ok.is in
     let again = c.index_mut-3.ensures.value ∙ get_or-set_same c.args.self.now.replicas.items k _ c.index_mut-3.result.now (place_in _ _ _ (Deliver c.args.j c.args.k) c.requires.named) in
-    let becomes = ap (λ (n : NodeView). let r : ReplicaView = record { node = n; buffers = c.index_mut-3.result.now.buffers.items } in r) c.raise.ensures.0
+    let becomes = ap (λ (n : NodeView). let r : ReplicaView = record { node = n; buffers = c.index_mut-3.result.now.buffers.items } in r) c.raise.ensures.step.0
     ∙ ap (λ (r : ReplicaView). let s : ReplicaView = record r { node = record r.node { history = history (since c.in-Some.horizon (refs r.node.history)) } } in s) (ap replica_view again) in
     raised_after _ _ _ m c.args.j c.args.k c.in-Some.horizon _ _ _ c.in-Ok.message c.as_slice-2.result.now _ c.took-answer.result c.in-Took.count c.in-Took.first
     st c.requires.named c.index_mut-2.ensures.value found (sym c.horizon_raised.ensures ∙ c.in-Some.is)

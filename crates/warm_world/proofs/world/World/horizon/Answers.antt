@@ -14,6 +14,6 @@ returns g c = λ m st.
     let event = Horizon c.args.i c.args.time in
     let r = raised c.args.time (replica m k) in
     let after = raises m.capacity k c.args.time _ _ (replica m k) (stands_at _ _ _ m k c.index_mut.result.now st (place_in _ _ _ event c.requires.named) c.index_mut.ensures.value)
-    (ap (λ (n : NodeView). let s : ReplicaView = record { node = n; buffers = c.index_mut.result.now.buffers.items } in s) c.raise.ensures.0) in
+    (ap (λ (n : NodeView). let s : ReplicaView = record { node = n; buffers = c.index_mut.result.now.buffers.items } in s) c.raise.ensures.step.0) in
     changes _ _ _ m event (Kept c.raise.result) c.index_mut.result.now _ r st c.requires.named c.index_mut.ensures.value (λ here. after)
-    (λ named. (named, (c.raise.ensures.1 ∙ horizon_seen m.capacity k _ r after ∙ ap (λ (s : ReplicaState). s.reach.horizon) (sym (replica_set_at m event r named)), refl)))
+    (λ named. (named, (c.raise.ensures.step.1 ∙ horizon_seen m.capacity k _ r after ∙ ap (λ (s : ReplicaState). s.reach.horizon) (sym (replica_set_at m event r named)), refl)))
