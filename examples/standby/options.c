@@ -67,7 +67,7 @@ sqlite3 *open_database(const options *o) {
     sqlite3 *db;
     char pragmas[160];
     int flags = SQLITE_OPEN_READWRITE | SQLITE_OPEN_CREATE;
-    must_be_ok(is_stock(o) ? sqlite3_open_v2(o->db, &db, flags, NULL) : pool_vfs_open(o->db, flags, &db), db, o->db);
+    must_be_ok(is_stock(o) ? sqlite3_open_v2(o->db, &db, flags, NULL) : pool_vfs_open(o->db, flags, false, &db), db, o->db);
     snprintf(pragmas, sizeof pragmas, "PRAGMA synchronous = %s;", o->is_unsynced ? "OFF" : "FULL");
     must_be_ok(sqlite3_exec(db, pragmas, NULL, NULL, NULL), db, pragmas);
     snprintf(pragmas, sizeof pragmas, "PRAGMA cache_size = %llu;", (unsigned long long)o->frames);

@@ -15,6 +15,14 @@
  * One thing differs from a file: what a process wrote outlives its kill -9 in the system's cache, and what is in a frame does not.
  * So even with synchronous=OFF, where SQLite does not call xSync, the pages are written back where it would have: at
  * SQLITE_FCNTL_SYNC, which comes before the journal is deleted. (Then they are also synced, since warm_write_back does both.)
+ *
+ * With a WAL a commit is in the WAL, which is no file of the pool. Pages reach the database in a checkpoint alone, and the WAL has them
+ * until it is reset: truncated, deleted, or written from its start again. In walCheckpoint of SQLite 3.40 the order is: the WAL is synced
+ * (not with OFF); pages are written; SQLITE_FCNTL_CKPT_DONE; the database is truncated to its size, and synced (not with OFF); and only
+ * then are the pages counted as being in the database, without which nothing resets the WAL. Every checkpoint is that one: PASSIVE, FULL,
+ * RESTART, TRUNCATE, the automatic one, that of a close, and that of a journal_mode that leaves WAL. So at SQLITE_FCNTL_CKPT_DONE the
+ * pages are written back. A checkpoint of a part of the WAL, which would skip the truncation, is made only where other connections
+ * still read, and with locking_mode=EXCLUSIVE there are none.
  */
 #define _GNU_SOURCE
 #include "pool_file.h"

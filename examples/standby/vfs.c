@@ -3,8 +3,8 @@
  * and all locks are those of the default VFS. Why committed transactions outlive kill -9 is said in pool_file.c.
  *
  * Limits:
- *  - The methods have version 1, without shared memory: journal_mode is DELETE, TRUNCATE or PERSIST. A database that is in WAL mode
- *    cannot be opened. There is no memory map.
+ *  - The methods have version 1, without shared memory. So journal_mode=WAL needs locking_mode=EXCLUSIVE, and stays as it was without.
+ *    To open a database that is in WAL mode EXCLUSIVE is set before anything is read, as pool_vfs_open does. There is no memory map.
  *  - A pool has one thread, so a connection is used by the thread that opened it.
  *  - Each connection has a pool of its own. Two connections to one file are right, and share no frame: each drops its frames when the
  *    change counter says that the other has committed.
@@ -243,8 +243,10 @@ static int db_check_reserved(sqlite3_file *file, int *is_reserved) {
 
 static int db_control(sqlite3_file *file, int code, void *argument) {
     switch (code) {
-        /* Comes before xSync, and in place of it with synchronous=OFF: see pool_file.c. */
-        case SQLITE_FCNTL_SYNC: return db_sync(file, 0);
+        /* Each comes before xSync, and in place of it with synchronous=OFF: see pool_file.c. SQLite does not look at the answer to the
+         * second. A failure is remembered by the file, which then refuses the truncation that ends each checkpoint. */
+        case SQLITE_FCNTL_SYNC:
+        case SQLITE_FCNTL_CKPT_DONE: return db_sync(file, 0);
         /* The default VFS would change the length of the file itself. */
         case SQLITE_FCNTL_SIZE_HINT:
         case SQLITE_FCNTL_CHUNK_SIZE: return SQLITE_OK;
@@ -423,8 +425,9 @@ pool_file *pool_vfs_of(sqlite3 *db) {
     return file->pMethods == &db_methods ? pool_of(file) : NULL;
 }
 
-int pool_vfs_open(const char *path, int flags, sqlite3 **db) {
+int pool_vfs_open(const char *path, int flags, bool is_alone, sqlite3 **db) {
     int result = sqlite3_open_v2(path, db, flags, POOL_VFS);
+    if (result == SQLITE_OK && is_alone) result = sqlite3_exec(*db, "PRAGMA locking_mode = EXCLUSIVE;", NULL, NULL, NULL);
     if (result != SQLITE_OK) return result;
     return sqlite3_exec(*db, "PRAGMA cache_size = 0; PRAGMA cache_spill = OFF;", NULL, NULL, NULL);
 }

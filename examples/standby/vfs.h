@@ -26,7 +26,9 @@ int pool_vfs_prepare(const char *path, pool_file **pool);
 pool_file *pool_vfs_of(sqlite3 *db);
 
 /* Opens a database by the VFS "warm" with the settings that it wants: the least cache of SQLite's own, as the pool has the pages, and no
- * spilling, so that pages reach the pool once a transaction, at its commit. Answers an SQLite result; db is to be closed in either case. */
-int pool_vfs_open(const char *path, int flags, sqlite3 **db);
+ * spilling, so that pages reach the pool once a transaction, at its commit. A connection that is alone has locking_mode=EXCLUSIVE: no
+ * other one reads or writes the file until it is closed, and WAL can be used. Answers an SQLite result; db is to be closed in either
+ * case. */
+int pool_vfs_open(const char *path, int flags, bool is_alone, sqlite3 **db);
 
 #endif
