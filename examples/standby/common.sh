@@ -33,8 +33,8 @@ free_port() {
 
 # A broker that keeps nothing on disk, at $port.
 start_broker() {
-    printf 'listener %s 127.0.0.1\nallow_anonymous true\npersistence false\nlog_type error\n' "$port" > "$work/broker.conf"
-    PATH=$PATH:/usr/sbin mosquitto -c "$work/broker.conf" 2>> "$work/broker.log" &
+    printf 'listener %s 127.0.0.1\nallow_anonymous true\npersistence false\nlog_type error\n' "$port" > "$work/broker-$port.conf"
+    PATH=$PATH:/usr/sbin mosquitto -c "$work/broker-$port.conf" 2>> "$work/broker-$port.log" &
     broker=$!
     # a broker that is not told of does not print its end
     disown "$broker"
@@ -42,7 +42,7 @@ start_broker() {
         mosquitto_pub -h 127.0.0.1 -p "$port" -t ready -m yes 2> /dev/null && return
         sleep 0.05
     done
-    fail "the broker did not start: $(cat "$work/broker.log")"
+    fail "the broker did not start: $(cat "$work/broker-$port.log")"
 }
 
 stop_broker() {

@@ -32,12 +32,14 @@
 #include <stdlib.h>
 #include <string.h>
 #include <sys/stat.h>
-#include <time.h>
 #include <unistd.h>
 
+#include "clock.h"
 #include "frames.h"
 
 enum { DEFAULT_PAGE_SIZE = 4096, SMALLEST_PAGE = 512, SIZE_AT = 16, COUNTER_AT = 24, HEADER_PART = COUNTER_AT + POOL_COUNTER };
+
+static const uint64_t HOUR = 3600 * (uint64_t)1000000000;
 
 /* SQLite's greatest number of pages. The pool's device is as large, since its file may grow to that. */
 static const uint64_t MOST_PAGES = 4294967294;
@@ -69,10 +71,13 @@ static bool read_size(pool_file *file) {
 
 /* The clock is read once a transaction. Times rise even where it stands still. */
 static void read_clock(pool_file *file) {
-    struct timespec now;
-    clock_gettime(CLOCK_REALTIME, &now);
-    uint64_t time = (uint64_t)now.tv_sec * 1000000000u + (uint64_t)now.tv_nsec;
+    uint64_t time = nanoseconds(CLOCK_REALTIME);
     if (time > file->time) file->time = time;
+}
+
+/* Without that the new pages of a replica whose clock is behind would rank below all of its peer's, until its clock is where the peer's was. */
+void pool_file_heard(pool_file *file, uint64_t time) {
+    if (time >= file->time && time <= nanoseconds(CLOCK_REALTIME) + HOUR) file->time = time + 1;
 }
 
 /* Opens one of the two handles, with frames that are all empty, and makes it the current one. */
@@ -372,4 +377,10 @@ int pool_file_step(pool_file *file, bool *found) {
     if (status == WARM_OK) residents_note(&file->residents, slot, page.no);
     else file->is_failed = true;
     return status;
+}
+
+void pool_file_print(const pool_file *file, FILE *to) {
+    fprintf(to, "pool: %llu page reads, %llu device reads, %llu warmed up, %llu direct writes, %llu reloads, %llu lost references\n",
+        (unsigned long long)file->page_reads, (unsigned long long)file->device_reads, (unsigned long long)file->warmed,
+        (unsigned long long)file->direct_writes, (unsigned long long)file->reloads, (unsigned long long)file->lost_references);
 }

@@ -5,6 +5,7 @@
 #include <stdbool.h>
 #include <stddef.h>
 #include <stdint.h>
+#include <stdio.h>
 
 #include "batch.h"
 #include "residents.h"
@@ -66,5 +67,11 @@ void pool_file_absorb(pool_file *file);
 
 /* Loads one page of the warm-up, and writes whether there was one. */
 int pool_file_step(pool_file *file, bool *found);
+
+/* A peer's reference has this time: those that follow here are later. A time that is more than an hour ahead of the clock is not believed. */
+void pool_file_heard(pool_file *file, uint64_t time);
+
+/* One line: what was counted. */
+void pool_file_print(const pool_file *file, FILE *to);
 
 #endif

@@ -123,7 +123,8 @@ static void wait_warm(const options *o) {
     pool_file *file;
     gossip g;
     must_be_ok(pool_vfs_prepare(o->db, &file), NULL, o->db);
-    must(gossip_open(&g, file, o->host, (int)o->port, (unsigned)o->peer), "gossip");
+    const char *wrong = gossip_open(&g, file, o->host, (int)o->port, (unsigned)o->peer);
+    must(wrong == NULL, wrong);
     hear(&g);
     gossip_close(&g);
     if (ends) exit(0);
@@ -139,7 +140,7 @@ int main(int count, char **words) {
         fprintf(stderr, "standby: --from FILE is missing\n");
         return 2;
     }
-    if (strcmp(o.mode, "warm") == 0) wait_warm(&o);
+    if (is_mode(&o, "warm")) wait_warm(&o);
     else take_files(&o);
     sqlite3 *db = open_database(&o);
     go_on(&o, db);

@@ -358,6 +358,33 @@ static void many_pages(void) {
     close(fd);
 }
 
+/* The times of a frame's entries are found in either format, and a reference is later than each that was heard, but for absurd ones. */
+static void heard_times(void) {
+    static const uint8_t two[] = "L2G2\1\0\1\0\0\0\0\0\0\0\0\0\0\0\70\0\0\0\2" /* the body has 4, 31 and 21 bytes */
+        "\0\0\0\0\0\0\0\0\0\7\2\0\0\0\0\0\0\1\4\0\1\0\0\0\0\0\0\0\12\0\1"
+        "\0\0\0\0\0\0\0\0\0\107\1\0\0\0\0\0\0\0\5\0\1";
+    static const uint8_t old[] = "L2G1\1\0\1\0\0\0\25\0\0\0\1\0\0\0\0\0\7\1\0\0\0\0\0\0\2\0\0\1";
+    static const uint8_t request[] = "L2G2\3\0\2\0\0\0\0\0\0\0\0\0\0\0\10\0\0\0\0\0\0\0\6";
+    static const uint64_t minute = 60 * (uint64_t)1000000000;
+    static pool_file file;
+    int fd = open(path_of("heard"), O_RDWR | O_CREAT | O_TRUNC, 0666);
+    MUST(fd >= 0 && pool_file_open(&file, fd, 1, 4) == WARM_OK);
+    MUST(warm_receive(pool_file_handle(&file), two, sizeof two - 1) == WARM_OK && frame_latest(two, sizeof two - 1) == 260);
+    MUST(warm_receive(pool_file_handle(&file), old, sizeof old - 1) == WARM_OK && frame_latest(old, sizeof old - 1) == 512);
+    MUST(warm_receive(pool_file_handle(&file), request, sizeof request - 1) == WARM_OK && frame_latest(request, sizeof request - 1) == 0);
+    uint64_t now = file.time;
+    pool_file_heard(&file, now - minute);
+    MUST(file.time == now);
+    pool_file_heard(&file, now + minute);
+    MUST(file.time == now + minute + 1);
+    pool_file_heard(&file, UINT64_MAX);
+    pool_file_heard(&file, now + 120 * minute);
+    MUST(file.time == now + minute + 1);
+    MUST(pool_file_enter(&file) == WARM_OK && file.time == now + minute + 1); /* the clock is behind */
+    pool_file_close(&file);
+    close(fd);
+}
+
 /* ---- other connections ---- */
 
 static void two_connections(void) {
@@ -729,6 +756,7 @@ int main(int count, char **words) {
     modes();
     many_pages();
     change_counter();
+    heard_times();
     for (int at = 0; at < runs; at++) batches(seed + (uint64_t)at);
     for (int at = 0; at < runs; at++) random_bytes(seed + (uint64_t)at, frames[at % 6]);
     for (int at = 0; at < runs; at++) random_run(seed + (uint64_t)at, frames[at % 6], 400, at % 2 == 1);
